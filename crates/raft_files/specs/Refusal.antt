@@ -1,0 +1,20 @@
+-- When a count of refusals rises.
+use Rattle.std.specs.Prelude.{◌≡◌, ℕ, ◌+◌, ◌-◌, ◌^◌, ◌≤◌, min, Result, MatchResult}
+use Rattle.raft_files.specs.declared.env.FsFault.{FsFault}
+use Rattle.raft_files.specs.declared.env.FsFault.TheVariants.{Io, Memory}
+
+-- the count rose, or it is full
+abbrev pub Rose : ℕ → ℕ → Type 0
+Rose old new = min (old + 1) (2 ^ 64 - 1) ≤ new
+
+abbrev pub CountsFault : FsFault → ℕ → ℕ → Type 0
+CountsFault (Io kind) old new = Rose old new × (old ≤ new)
+CountsFault Memory old new = new ≡ old
+
+-- the count stays at `Ok` and where memory is wanting, and rises at each other `Err`
+abbrev pub Counts : {T : Type 0} → Result T FsFault → ℕ → ℕ → Type 0
+Counts result old new = MatchResult result (λ _. new ≡ old) (λ e. CountsFault e old new)
+
+-- a saturating sum of counts
+abbrev pub added_count : ℕ → ℕ → ℕ
+added_count a b = min (a + b) (2 ^ 64 - 1)

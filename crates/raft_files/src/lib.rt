@@ -1,0 +1,6 @@
+//! Files: what they hold, what a crash may leave of them, and the log files among them.
+#![tactic(auto)]
+
+pub mod env;
+
+pub use env::{FileSystem, FsFault, Permission};
