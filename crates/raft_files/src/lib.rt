@@ -5,4 +5,4 @@ pub mod env;
 pub mod format;
 
 pub use env::{FileSystem, FsFault, Permission};
-pub use format::{FileNameExt, is_zero_padded};
+pub use format::{FileNameExt, LogFileFormat, is_zero_padded};
