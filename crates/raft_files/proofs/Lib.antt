@@ -2,3 +2,5 @@ pub mod NameLemmas
 pub mod HeaderLemmas
 pub mod ExtentLemmas
 pub mod ReadingLemmas
+pub mod DetectableLemmas
+pub mod RecordsLemmas
