@@ -1,8 +1,9 @@
 -- What keeps the records of a log file through a crash.
-use Rattle.std.proofs.Common.{◌≡◌, ◌⊎◌, ℕ, zero, suc, ◌+◌, ◌-◌, ◌<◌, ◌≤◌, ◌==◌, min, max, Bool, true, false, cond, List, [], ◌∷◌, ◌++◌, length, take, drop, replicate, slice_index, Option, Some, None, option_and_then, Contains, map, refl, ap, sym, subst, ◌∙◌, inl, inr, arith, length-drop}
+use Rattle.std.proofs.Common.{◌≡◌, ◌⊎◌, ℕ, zero, suc, ◌+◌, ◌-◌, ◌^◌, ◌<◌, ◌≤◌, ◌==◌, min, max, Bool, true, false, cond, List, [], ◌∷◌, ◌++◌, length, take, drop, replicate, slice_index, Option, Some, None, option_and_then, Contains, map, refl, ap, sym, subst, ◌∙◌, inl, inr, arith, length-drop, append_assoc}
+use Rattle.std.specs.Prelude.{◌||◌, option_map}
 use Rattle.std.proofs.lemmas.Bool.{cases_Bool, cases_lt}
 use Rattle.std.proofs.lemmas.Bool.Decides.{nat_tests}
-use Rattle.std.proofs.lemmas.List.{append-nil, take_all, take-take, take-append-le, length-append, length-take, length-take-le, length-replicate, get_or-take, get_or-drop, get_or-replicate, ext_get_or, take-map, length-map}
+use Rattle.std.proofs.lemmas.List.{append-nil, take_all, take-take, take-append-le, length-append, length-take, length-take-le, length-replicate, get_or-take, get_or-drop, get_or-replicate, ext_get_or, take-map, length-map, drop-append-le, get_or-append_right, take_at, drop_at, get_or_append_left, get_or_past, nil_from_length}
 use Rattle.std.proofs.lemmas.List.Elements.{Contains-append_right}
 use Rattle.std.specs.Int.{w64, from_be_bytes}
 use Rattle.raft_codec.specs.Number.{take_u64}
@@ -11,12 +12,12 @@ use Rattle.raft_records.specs.Item.{Batch}
 use Rattle.raft_records.specs.Record.{Header, header_in, record_header, record_of}
 use Rattle.raft_records.specs.declared.pipe_log.FileId.{FileId}
 use Rattle.raft_files.specs.declared.format.LogFileFormat.{LogFileFormat}
-use Rattle.raft_files.specs.Header.{header_len, header_of}
-use Rattle.raft_files.specs.Outcomes.{File, Change, MayLeave, is_within, is_touched, untouched_len, IsStaleAt, written, resized, synced_of, settled, padded, overlaid, IsPartOf}
+use Rattle.raft_files.specs.Header.{HasHeader, header_bytes, header_len, header_of}
+use Rattle.raft_files.specs.Outcomes.{File, Change, MayLeave, is_within, is_touched, untouched_len, IsStaleAt, written, resized, synced_of, settled, padded, overlaid, IsPartOf, IsCutOf}
 use Rattle.raft_files.specs.Directory.{Directory, Left, Path, Leaves, file_at}
 use Rattle.raft_files.specs.Reading.{Placed, record_place, record_at, placed_before, placed_by, records_from, end_of_records, Reading, records_behind, records_in, reading_behind, reading, records_of, readable_records, readable_batches}
 use Rattle.raft_files.specs.Detectable.{IsBeginningOf, format_of, signature_by, bytes_behind, HasByteOf, IsGivenBy, IsDone, AreDone, IsDetectableFile, IsDetectable}
-use Rattle.raft_files.specs.Records.{ReadsFirst, KeepsRecords, IsRefusedAt, IsEmptyFrom, HoldsRecords, IsWrittenTo, KeepsBatches}
+use Rattle.raft_files.specs.Records.{ReadsFirst, KeepsRecords, IsRefusedAt, IsEmptyFrom, HoldsRecords, IsWrittenTo, IsTornFrom, KeepsBatches}
 use Rattle.raft_files.proofs.DetectableLemmas.{beginning_itself, beginning_trans, beginning_append, beginning_take, beginning_length, beginning_is, beginning_split}
 use Rattle.raft_files.proofs.ExtentLemmas.{record_header-append, record_header_is, record_of_header, record_of-take, same_some, header_of_takes}
 use Rattle.raft_files.proofs.ReadingLemmas.{StaysBefore, end_of_placed-from, end_of_placed-within, found_record, records_stay, records_from-enough, IsReading, reading_is, header_of-kept, reading-kept, reading-append, reading-header_bytes, end_of_records-append}
@@ -137,7 +138,7 @@ pub readable-held : (id : FileId) (format : LogFileFormat) (records : List Place
 readable-held id format records at bytes holds = ap (λ read. records_of read) (reading-held id format records at bytes holds)
 
 format_of_read : (id : FileId) (bytes : List ℕ) (r : Reading) → reading id bytes ≡ Some r → format_of bytes ≡ Some r.format
-format_of_read id bytes r e = ap (λ header. Rattle.std.specs.Prelude.option_map (λ (h : LogFileFormat × List ℕ). h.0) header) ((reading_is id bytes r e).header)
+format_of_read id bytes r e = ap (λ header. option_map (λ (h : LogFileFormat × List ℕ). h.0) header) ((reading_is id bytes r e).header)
 
 pub format_of-held : (id : FileId) (format : LogFileFormat) (records : List Placed) (at : ℕ) (bytes : List ℕ) → HoldsRecords id format records at bytes → format_of bytes ≡ Some format
 format_of-held id format records at bytes holds = format_of_read id bytes _ (reading-held id format records at bytes holds)
@@ -237,3 +238,388 @@ synced_within id format records synced at bytes holds =
     let stays = records_stay format.alignment (signature_by id format) (take at bytes) in
     let before = end_of_front stays (length (take at bytes)) from (take synced records) front.0 (sym is.records ∙ front.1) in
     omega (arith, before, ap (λ rs. end_of_records from rs) front.1, is.end)
+
+-- What a crash leaves.
+
+readable_without_header : (id : FileId) (bytes : List ℕ) → format_of bytes ≡ None → readable_records id bytes ≡ []
+readable_without_header id bytes none = by_header (header_of bytes) none
+  where
+    by_header : (header : Option (LogFileFormat × List ℕ)) → option_map (λ (h : LogFileFormat × List ℕ). h.0) header ≡ None → records_of (reading_behind id bytes header) ≡ []
+    by_header None e = refl
+    by_header (Some h) e = cc
+
+-- a beginning of the records is read, with the synced ones
+pub read_of_left : (id : FileId) (format : LogFileFormat) (records : List Placed) (synced : ℕ) (file : File) (left : List ℕ) → KeepsRecords id format records synced file → IsDetectableFile id file left →
+    (count : ℕ) × (synced ≤ count) × (count ≤ length records) × (readable_records id left ≡ take count records)
+read_of_left id format records synced file left keeps detectable =
+    let read = readable_records id left in
+    let begins : IsBeginningOf read records = elim detectable.header [
+      | inl same ↦ keeps.moments detectable.newer detectable.upto detectable.moment read detectable.beginning (detectable.done format (same ∙ keeps.header))
+      | inr none ↦ subst (λ rs. IsBeginningOf rs records) (sym (readable_without_header id left none)) (records, refl)
+    ] in
+    let untouched = take (untouched_len file.synced file.changes) file.synced in
+    let synced_read : IsBeginningOf (take synced records) (readable_records id untouched) =
+    subst (λ rs. IsBeginningOf (take synced records) rs) (sym (ap (λ r. records_of r) keeps.covered.read)) keeps.covered.first in
+    let enough = beginning_length (take synced records) read (beginning_trans (take synced records) (readable_records id untouched) read synced_read detectable.untouched) in
+    let len : length (take synced records) ≡ synced = length-take-le synced records keeps.few in (
+      length read,
+      omega (arith, enough, len),
+      beginning_length read records begins,
+      beginning_is read records begins,
+    )
+
+-- .. and so for the batches of a log file
+pub keeps_batches : (path : Path) (id : FileId) (n : Directory) (file : File) (format : LogFileFormat) (records : List Placed) (synced : ℕ) (batches in_flight : List Batch) → file_at n path ≡ Some file → KeepsRecords id format records synced file →
+    map (λ (p : Placed). p.batch) records ≡ batches ++ in_flight → KeepsBatches path id batches synced in_flight n
+keeps_batches path id n file format records synced batches in_flight stands keeps same d leaves detectable =
+    let batch = λ (p : Placed). p.batch in
+    let left = read_of_left id format records synced file (d path) keeps (detectable file stands) in (
+      left.0,
+      left.1,
+      omega (arith, left.2, length-map records batch, ap length same),
+      ap (λ rs. map batch rs) left.3 ∙ sym (take-map batch left.0 records) ∙ ap (λ bs. take left.0 bs) same,
+    )
+
+-- Places of bytes.
+
+within_is : (from size i : ℕ) → from ≤ i → i < from + size → is_within from size i ≡ true
+within_is from size i above below = grind (arith, nat_tests)
+
+not_within : (from size i : ℕ) → (i < from) ⊎ (from + size ≤ i) → is_within from size i ≡ false
+not_within from size i outside = grind (arith, nat_tests)
+
+refused_here : (c : Change) (changes : List Change) (i : ℕ) → c.is_done ≡ false → c.given ≡ [] → c.from ≤ i → i < c.from + c.size → IsRefusedAt (c ∷ changes) i
+refused_here c changes i refused none above below = ([], c, changes, refl, refused, none, within_is c.from c.size i above below, refl)
+
+refused_before : (c : Change) (changes : List Change) (i : ℕ) → (i < c.from) ⊎ (c.from + c.size ≤ i) → IsRefusedAt changes i → IsRefusedAt (c ∷ changes) i
+refused_before c changes i outside q =
+    let untouched : is_touched (c ∷ q.0) i ≡ false = ap (λ b. b || is_touched q.0 i) (not_within c.from c.size i outside) ∙ q.7 in
+    (c ∷ q.0, q.1, q.2, ap (λ cs. c ∷ cs) q.3, q.4, q.5, q.6, untouched)
+
+same_front : (at : ℕ) (a b : List ℕ) → at ≤ length a → at ≤ length b → ((i : ℕ) → i < at → slice_index a i ≡ slice_index b i) → take at a ≡ take at b
+same_front at a b long_a long_b same =
+    let len_a : length (take at a) ≡ at = length-take-le at a long_a in
+    let len_b : length (take at b) ≡ at = length-take-le at b long_b in
+    ext_get_or 0 (take at a) (take at b) (omega arith)
+      (λ i within. get_or-take at a i 0 (omega arith) ∙ same i (omega arith) ∙ sym (get_or-take at b i 0 (omega arith)))
+
+holds_same : (id : FileId) (format : LogFileFormat) (records : List Placed) (at : ℕ) (a b : List ℕ) → HoldsRecords id format records at a → take at a ≡ take at b → at ≤ length b → HoldsRecords id format records at b
+holds_same id format records at a b holds same long = record { within = long; read = ap (λ bytes. reading id bytes) (sym same) ∙ holds.read }
+
+-- A change that touches nothing before the writer's place.
+
+written_to_changed : (id : FileId) (format : LogFileFormat) (records : List Placed) (synced at : ℕ) (file : File) (c : Change) (rewritten : Option (List (ℕ × ℕ))) → IsWrittenTo id format records synced at file →
+    take at file.now ≡ take at c.after → at ≤ length c.after → IsEmptyFrom at c.after (c ∷ file.changes) → at ≤ c.from → IsWrittenTo id format records synced at (changed_by c rewritten file)
+written_to_changed id format records synced at file c rewritten written same long empty behind =
+    let holds = holds_same id format records at file.now c.after written.holds same long in
+    let within = synced_within id format records synced at file.now written.holds in
+    let itself = beginning_itself records in
+    record { keeps = keeps_held id format records records records synced at file c rewritten written.keeps itself holds empty itself (omega (arith, within)); holds = holds; empty = empty }
+
+torn_changed : (id : FileId) (format : LogFileFormat) (records in_flight : List Placed) (synced at : ℕ) (file : File) (c : Change) (rewritten : Option (List (ℕ × ℕ))) → IsTornFrom id format records in_flight synced at file →
+    take at file.now ≡ take at c.after → at ≤ length c.after → IsEmptyFrom at c.after (c ∷ file.changes) → at ≤ c.from → IsTornFrom id format records in_flight synced at (changed_by c rewritten file)
+torn_changed id format records in_flight synced at file c rewritten torn same long empty behind =
+    let all = records ++ in_flight in
+    let holds = holds_same id format records at file.now c.after torn.holds same long in
+    let within = synced_within id format records synced at file.now torn.holds in
+    let front : take synced all ≡ take synced records = take-append-le synced records in_flight torn.few in
+    record {
+      keeps = keeps_held id format all records all synced at file c rewritten torn.keeps (beginning_itself all) holds empty (beginning_append records in_flight) (omega (arith, within, ap (λ rs. end_of_records (header_len format.version) rs) front));
+      few = torn.few;
+      holds = holds;
+    }
+
+-- Allocations.
+
+-- what an allocation that may be refused leaves
+record IsLengthened (is_done : Bool) (old new : List ℕ) : Type 0 where
+  pub longer : length old ≤ length new
+  pub front : (i : ℕ) → i < length old → slice_index new i ≡ slice_index old i
+  pub behind : is_done ≡ true → (i : ℕ) → length old ≤ i → i < length new → slice_index new i ≡ 0
+
+empty_lengthened : (is_done : Bool) (at : ℕ) (old new : List ℕ) (c : Change) (changes : List Change) → IsLengthened is_done old new → IsEmptyFrom at old changes → c.from ≡ length old → c.from + c.size ≡ length new → c.is_done ≡ is_done → c.given ≡ [] →
+    IsEmptyFrom at new (c ∷ changes)
+empty_lengthened is_done at old new c changes lengthened empty from to is none i behind within = elim (cases_lt i (length old)) [
+  | inl before ↦ elim (empty i behind before) [
+    | inl zero' ↦ inl (lengthened.front i before ∙ zero')
+    | inr refused ↦ inr (refused_before c changes i (inl (omega arith)) refused)
+  ]
+  | inr new_place ↦ elim (cases_Bool is_done) [
+    | inl done ↦ inl (lengthened.behind done i new_place within)
+    | inr refused ↦ inr (refused_here c changes i (is ∙ refused) none (omega arith) (omega arith))
+  ]
+]
+
+written_to_lengthened : (id : FileId) (format : LogFileFormat) (records : List Placed) (synced at : ℕ) (file : File) (is_done : Bool) (after : List ℕ) → IsWrittenTo id format records synced at file → IsLengthened is_done file.now after →
+    IsWrittenTo id format records synced at (resized is_done after file)
+written_to_lengthened id format records synced at file is_done after written lengthened =
+    let c : Change = record { from = min (length after) (length file.now); size = max (length after) (length file.now) - min (length after) (length file.now); given = []; is_done = is_done; after = after } in
+    let long = written.holds.within in
+    let longer = lengthened.longer in
+    let from : c.from ≡ length file.now = omega arith in
+    let to : c.from + c.size ≡ length after = omega arith in
+    let empty = empty_lengthened is_done at file.now after c file.changes lengthened written.empty from to refl refl in
+    written_to_changed id format records synced at file c file.rewritten written
+      (same_front at file.now after long (omega arith) (λ i within. sym (lengthened.front i (omega arith)))) (omega arith) empty (omega arith)
+
+-- an allocation that is done
+pub written_to_allocated : (id : FileId) (format : LogFileFormat) (records : List Placed) (synced at : ℕ) (file : File) (size : ℕ) → IsWrittenTo id format records synced at file → IsWrittenTo id format records synced at (resized true (padded file.now size) file)
+written_to_allocated id format records synced at file size written =
+    let zeros : List ℕ = replicate (size - length file.now) 0 in
+    let len : length (padded file.now size) ≡ length file.now + (size - length file.now) = omega (arith, length-append file.now zeros, length-replicate {A = ℕ} (size - length file.now) 0) in
+    written_to_lengthened id format records synced at file true (padded file.now size) written (record {
+      longer = omega arith;
+      front = λ i within. get_or_append_left file.now zeros 0 i within;
+      behind = λ done i behind within.
+          get_or-append_right file.now zeros (length file.now) i 0 refl behind
+          ∙ get_or-replicate {A = ℕ} (size - length file.now) (i - length file.now) 0 0 (omega arith);
+    })
+
+-- an allocation that is refused
+pub written_to_allocation_refused : (id : FileId) (format : LogFileFormat) (records : List Placed) (synced at : ℕ) (file : File) (size : ℕ) (after : List ℕ) → IsWrittenTo id format records synced at file →
+    IsPartOf (length file.now) (size - length file.now) file.now after → IsWrittenTo id format records synced at (resized false after file)
+written_to_allocation_refused id format records synced at file size after written part =
+    written_to_lengthened id format records synced at file false after written (record {
+      longer = part.no_shorter;
+      front = λ i within. part.elsewhere i within (not_within (length file.now) (size - length file.now) i (inl within));
+      behind = λ done. cc;
+    })
+
+-- Truncations to the writer's place.
+
+length_cut : (at : ℕ) (bytes : List ℕ) → at ≤ length bytes → length (take at bytes) ≡ at
+length_cut at bytes long = length-take-le at bytes long
+
+pub written_to_cut : (id : FileId) (format : LogFileFormat) (records : List Placed) (synced at : ℕ) (file : File) → IsWrittenTo id format records synced at file → IsWrittenTo id format records synced at (resized true (take at file.now) file)
+written_to_cut id format records synced at file written =
+    let after = take at file.now in
+    let len : length after ≡ at = length_cut at file.now written.holds.within in
+    let long = written.holds.within in
+    let c : Change = record { from = min (length after) (length file.now); size = max (length after) (length file.now) - min (length after) (length file.now); given = []; is_done = true; after = after } in
+    written_to_changed id format records synced at file c file.rewritten written (sym (take-take at at file.now (omega arith))) (omega arith) (λ i behind within. absurd (omega arith)) (omega arith)
+
+pub torn_cut : (id : FileId) (format : LogFileFormat) (records in_flight : List Placed) (synced at : ℕ) (file : File) → IsTornFrom id format records in_flight synced at file → IsTornFrom id format records in_flight synced at (resized true (take at file.now) file)
+torn_cut id format records in_flight synced at file torn =
+    let after = take at file.now in
+    let len : length after ≡ at = length_cut at file.now torn.holds.within in
+    let long = torn.holds.within in
+    let c : Change = record { from = min (length after) (length file.now); size = max (length after) (length file.now) - min (length after) (length file.now); given = []; is_done = true; after = after } in
+    torn_changed id format records in_flight synced at file c file.rewritten torn (sym (take-take at at file.now (omega arith))) (omega arith) (λ i behind within. absurd (omega arith)) (omega arith)
+
+-- what a truncation to a place that is refused leaves, if all behind the place counts as touched
+pub record IsCutRefused (at : ℕ) (old : List ℕ) (c : Change) : Type 0 where
+  pub from : c.from ≡ at
+  pub to : c.from + c.size ≡ length old
+  pub none : c.given ≡ []
+  pub refused : c.is_done ≡ false
+  pub part : IsCutOf at old c.after
+
+empty_cut_refused : (at : ℕ) (old : List ℕ) (c : Change) (changes : List Change) → IsCutRefused at old c → IsEmptyFrom at c.after (c ∷ changes)
+empty_cut_refused at old c changes cut i behind within = inr (refused_here c changes i cut.refused cut.none (omega (arith, cut.from)) (omega (arith, cut.to, cut.part.no_longer)))
+
+same_cut_refused : (at : ℕ) (old : List ℕ) (c : Change) → at ≤ length old → IsCutRefused at old c → take at old ≡ take at c.after
+same_cut_refused at old c long cut =
+    let least : min at (length old) ≡ at = omega arith in
+    sym (ap (λ n. take n c.after) (sym least) ∙ cut.part.kept ∙ ap (λ n. take n old) least)
+
+pub written_to_cut_refused : (id : FileId) (format : LogFileFormat) (records : List Placed) (synced at : ℕ) (file : File) (c : Change) → IsWrittenTo id format records synced at file → IsCutRefused at file.now c →
+    IsWrittenTo id format records synced at (record file { now = c.after; changes = c ∷ file.changes })
+written_to_cut_refused id format records synced at file c written cut =
+    let long = written.holds.within in
+    written_to_changed id format records synced at file c file.rewritten written (same_cut_refused at file.now c long cut) (omega (arith, cut.part.no_shorter)) (empty_cut_refused at file.now c file.changes cut) (omega (arith, cut.from))
+
+pub torn_cut_refused : (id : FileId) (format : LogFileFormat) (records in_flight : List Placed) (synced at : ℕ) (file : File) (c : Change) → IsTornFrom id format records in_flight synced at file → IsCutRefused at file.now c →
+    IsTornFrom id format records in_flight synced at (record file { now = c.after; changes = c ∷ file.changes })
+torn_cut_refused id format records in_flight synced at file c torn cut =
+    let long = torn.holds.within in
+    torn_changed id format records in_flight synced at file c file.rewritten torn (same_cut_refused at file.now c long cut) (omega (arith, cut.part.no_shorter)) (empty_cut_refused at file.now c file.changes cut) (omega (arith, cut.from))
+
+-- Writes.
+
+-- behind its range a write leaves what stood there
+record IsKeptBehind (end : ℕ) (old new : List ℕ) : Type 0 where
+  pub within : (i : ℕ) → end ≤ i → i < length new → i < length old
+  pub same : (i : ℕ) → end ≤ i → i < length new → slice_index new i ≡ slice_index old i
+
+empty_written : (at : ℕ) (old new : List ℕ) (c : Change) (changes : List Change) → IsEmptyFrom at old changes → c.from ≡ at → IsKeptBehind (at + c.size) old new → IsEmptyFrom (at + c.size) new (c ∷ changes)
+empty_written at old new c changes empty from kept i behind within =
+    elim (empty i (omega arith) (kept.within i behind within)) [
+      | inl zero' ↦ inl (kept.same i behind within ∙ zero')
+      | inr refused ↦ inr (refused_before c changes i (inr (omega arith)) refused)
+    ]
+
+kept_part : (at len : ℕ) (old new : List ℕ) → IsPartOf at len old new → IsKeptBehind (at + len) old new
+kept_part at len old new part = record {
+  within = λ i behind within. omega (arith, part.no_longer);
+  same = λ i behind within. part.elsewhere i (omega (arith, part.no_longer)) (not_within at len i (inr behind));
+}
+
+-- the record of the batch that a write gives
+abbrev record_given : ℕ → List ℕ → Batch → Placed
+record_given at given batch = record { at = at; len = length given; batch = batch }
+
+same_placed : (r : Placed) (at len : ℕ) (batch : Batch) → r.at ≡ at → batch ≡ r.batch → len ≡ r.len → r ≡ record { at = at; len = len; batch = batch }
+same_placed r at len batch stands same_batch same_len =
+    ap (λ a. record { at = a; len = r.len; batch = r.batch }) stands
+    ∙ ap (λ l. record { at = at; len = l; batch = r.batch }) (sym same_len)
+    ∙ ap (λ b. record { at = at; len = len; batch = b }) (sym same_batch)
+
+are_done_behind : (signature : Option ℕ) (changes : List Change) (front rest : List Placed) → AreDone signature changes (front ++ rest) → AreDone signature changes rest
+are_done_behind signature changes front rest done r in_rest = done r (Contains-append_right front rest r in_rest)
+
+-- behind the records a crash leaves nothing or the record that the write was to write
+behind_torn : (alignment : ℕ) (signature : Option ℕ) (bytes : List ℕ) (c : Change) (changes : List Change) (batch : Batch) → c.is_done ≡ false → c.size ≡ length c.given → record_of signature c.given ≡ Some (batch, length c.given) →
+    IsEmptyFrom (c.from + c.size) bytes (c ∷ changes) → (n : ℕ) (left : List Placed) → IsBeginningOf left (records_from n alignment signature bytes c.from) → AreDone signature (c ∷ changes) left → IsBeginningOf left (record_given c.from c.given batch ∷ [])
+behind_torn alignment signature bytes c changes batch refused size given empty n [] begins done = (record_given c.from c.given batch ∷ [], refl)
+behind_torn alignment signature bytes c changes batch refused size given empty n (r ∷ left) begins done =
+    let first = first_placed (record_place alignment bytes) (record_at signature bytes) n c.from r (left ++ begins.0) begins.1 in
+    let forward : c.from ≤ record_place alignment bytes c.from = (records_stay alignment signature bytes).forward c.from in
+    let found = found_record signature bytes r.at r.batch r.len first.is in
+    elim (cases_lt r.at (c.from + c.size)) [
+      | inr past ↦ absurd (none_done signature bytes (c ∷ changes) (c.from + c.size) empty r past first.is (done r (0, omega arith, refl)))
+      | inl here ↦
+          let is : IsGivenBy signature r c = done r (0, omega arith, refl) [] c changes refl refused (r.at, omega arith, omega (arith, found.2), within_is c.from c.size r.at (omega (arith, first.stands)) here, refl) in
+          let one = record_given c.from c.given batch in
+          let found_given = same_some (sym given ∙ is.1) in
+          let same : r ≡ one = same_placed r c.from (length c.given) batch is.0 (ap (λ (x : Batch × ℕ). x.0) found_given) (ap (λ (x : Batch × ℕ). x.1) found_given) in
+          let none : left ≡ [] = nothing_behind alignment signature bytes (c ∷ changes) (c.from + c.size) empty first.limit (r.at + r.len)
+          (omega (arith, is.0, size, ap (λ (p : Placed). p.len) same)) left (begins.0, sym first.others) (are_done_behind signature (c ∷ changes) (r ∷ []) left done) in
+          ([], ap (λ p. p ∷ []) (sym same) ∙ ap (λ rs. r ∷ rs) (sym none) ∙ sym (append-nil (r ∷ left)))
+    ]
+
+left_of_torn : (id : FileId) (format : LogFileFormat) (records : List Placed) (c : Change) (changes : List Change) (batch : Batch) → HoldsRecords id format records c.from c.after → c.is_done ≡ false → c.size ≡ length c.given →
+    record_of (signature_by id format) c.given ≡ Some (batch, length c.given) → IsEmptyFrom (c.from + c.size) c.after (c ∷ changes) →
+    (left : List Placed) → IsBeginningOf left (readable_records id c.after) → AreDone (signature_by id format) (c ∷ changes) left → IsBeginningOf left (records ++ record_given c.from c.given batch ∷ [])
+left_of_torn id format records c changes batch holds refused size given empty left begins done =
+    let behind = records_behind id format c.after c.from in
+    let signature = signature_by id format in
+    let one = record_given c.from c.given batch ∷ [] in
+    elim (beginning_split left records behind (begins.0, sym (readable-held id format records c.from c.after holds) ∙ begins.1)) [
+      | inl within ↦ beginning_trans left records (records ++ one) within (beginning_append records one)
+      | inr further ↦
+          let rest = further.0 in
+          let done_behind : AreDone signature (c ∷ changes) rest = are_done_behind signature (c ∷ changes) records rest (subst (AreDone signature (c ∷ changes)) further.1 done) in
+          let first : IsBeginningOf rest one = behind_torn format.alignment signature c.after c changes batch refused size given empty (length c.after) rest further.2 done_behind in
+          (first.0, ap (λ rs. records ++ rs) first.1 ∙ sym (append_assoc records rest first.0) ∙ ap (λ rs. rs ++ first.0) (sym further.1))
+    ]
+
+-- a write that is refused
+pub written_to_refused : (id : FileId) (format : LogFileFormat) (records : List Placed) (synced at : ℕ) (file : File) (given : List ℕ) (batch : Batch) (after : List ℕ) → IsWrittenTo id format records synced at file →
+    record_of (signature_by id format) given ≡ Some (batch, length given) → IsPartOf at (length given) file.now after → IsTornFrom id format records (record_given at given batch ∷ []) synced at (written at given false after file)
+written_to_refused id format records synced at file given batch after written_to is part =
+    let c : Change = record { from = at; size = length given; given = given; is_done = false; after = after } in
+    let one = record_given at given batch ∷ [] in
+    let long = written_to.holds.within in
+    let still : at ≤ length after = omega (arith, part.no_shorter) in
+    let same = same_front at file.now after long still (λ i within. sym (part.elsewhere i (omega arith) (not_within at (length given) i (inl within)))) in
+    let holds = holds_same id format records at file.now after written_to.holds same still in
+    let empty = empty_written at file.now after c file.changes written_to.empty refl (kept_part at (length given) file.now after part) in
+    record {
+      keeps = keeps_more id format records (records ++ one) synced file c _ written_to.keeps (beginning_append records one) (format_of-held id format records at after holds)
+      (left_of_torn id format records c file.changes batch holds refl refl is empty) (synced_within id format records synced at file.now written_to.holds);
+      few = written_to.keeps.few;
+      holds = holds;
+    }
+
+-- a write that is done
+pub written_to_written : (id : FileId) (format : LogFileFormat) (records : List Placed) (synced at : ℕ) (file : File) (given : List ℕ) (batch : Batch) → IsWrittenTo id format records synced at file →
+    record_of (signature_by id format) given ≡ Some (batch, length given) →
+    IsWrittenTo id format (records ++ record_given at given batch ∷ []) synced (at + length given) (written at given true (overlaid file.now at given) file)
+written_to_written id format records synced at file given batch written_to is =
+    let after = overlaid file.now at given in
+    let c : Change = record { from = at; size = length given; given = given; is_done = true; after = after } in
+    let end = at + length given in
+    let one = record_given at given batch in
+    let all = records ++ one ∷ [] in
+    let long = written_to.holds.within in
+    let zeros : List ℕ = replicate (end - length file.now) 0 in
+    let before = take at (padded file.now end) in
+    let rest = drop end file.now in
+    let same : before ≡ take at file.now = take-append-le at file.now zeros long in
+    let len_front : length (take at file.now) ≡ at = length-take-le at file.now long in
+    let len_before : length (before ++ given) ≡ end = omega (arith, length-append before given, ap length same) in
+    let len : length after ≡ end + (length file.now - end) = omega (arith, length-append (before ++ given) rest, length-drop end file.now) in
+    let kept : IsKeptBehind end file.now after = record {
+      within = λ i behind within. omega arith;
+      same = λ i behind within.
+          get_or-append_right (before ++ given) rest end i 0 len_before behind
+          ∙ get_or-drop end file.now (i - end) 0
+          ∙ ap (λ k. slice_index file.now k) (index_is end i behind);
+    } in
+    let front : take end after ≡ take at file.now ++ given = take_at (before ++ given) rest end len_before ∙ ap (λ b. b ++ given) same in
+    let read =
+    reading-append id (take at file.now) given batch (record { format = format; records = records; end = at }) written_to.holds.read (sym len_front) is in
+    let holds : HoldsRecords id format all end after = record {
+      within = omega arith;
+      read = ap (λ bytes. reading id bytes) front ∙ read
+          ∙ ap (λ n. Some (record { format = format; records = records ++ record_given n given batch ∷ []; end = length (take at file.now ++ given) })) len_front
+          ∙ ap (λ n. Some (record { format = format; records = all; end = n })) (length-append (take at file.now) given ∙ ap (λ n. n + length given) len_front);
+    } in
+    let empty = empty_written at file.now after c file.changes written_to.empty refl kept in
+    record {
+      keeps = keeps_held id format records all all synced end file c _ written_to.keeps (beginning_append records (one ∷ [])) holds empty (beginning_itself all) (synced_within id format records synced at file.now written_to.holds);
+      holds = holds;
+      empty = empty;
+    }
+  where
+    index_is : (end i : ℕ) → end ≤ i → end + (i - end) ≡ i
+    index_is end i behind = omega arith
+
+-- Syncs.
+
+-- a file that a crash leaves as it is
+abbrev still : List ℕ → Option (List (ℕ × ℕ)) → File
+still bytes rewritten = record { now = bytes; synced = bytes; changes = []; rewritten = rewritten }
+
+-- only zeros stand behind a place
+pub record EndsInZeros (at : ℕ) (bytes : List ℕ) : Type 0 where
+  pub zeros : (i : ℕ) → at ≤ i → i < length bytes → slice_index bytes i ≡ 0
+
+written_to_still : (id : FileId) (format : LogFileFormat) (records : List Placed) (at : ℕ) (bytes : List ℕ) (rewritten : Option (List (ℕ × ℕ))) → HoldsRecords id format records at bytes → EndsInZeros at bytes →
+    IsWrittenTo id format records (length records) at (still bytes rewritten)
+written_to_still id format records at bytes rewritten holds ends =
+    let behind = records_behind id format bytes at in
+    let empty : IsEmptyFrom at bytes [] = λ i above below. inl (ends.zeros i above below) in
+    let whole : take (length bytes) bytes ≡ bytes = take_all (length bytes) bytes (omega arith) in
+    let first : ReadsFirst id format (take (length records) records) bytes = record {
+      all = records ++ behind;
+      end = end_of_records at behind;
+      read = reading-held id format records at bytes holds;
+      first = (behind, ap (λ rs. rs ++ behind) (sym (take_all (length records) records (omega arith))));
+    } in
+    record {
+      keeps = record {
+        header = format_of-held id format records at bytes holds;
+        moments = moments empty;
+        few = omega arith;
+        covered = subst (λ b. ReadsFirst id format (take (length records) records) b) (sym whole) first;
+      };
+      holds = holds;
+      empty = empty;
+    }
+  where
+    moments : IsEmptyFrom at bytes [] → (newer upto : List Change) → [] ≡ newer ++ upto → (left : List Placed) → IsBeginningOf left (readable_records id (bytes_behind bytes upto)) → AreDone (signature_by id format) upto left → IsBeginningOf left records
+    moments empty [] [] e = left_of_held id format records at bytes [] holds empty
+    moments empty [] (x ∷ upto) e = cc
+    moments empty (x ∷ newer) upto e = cc
+
+-- a sync, where no byte of a refused call is left
+pub written_to_synced : (id : FileId) (format : LogFileFormat) (records : List Placed) (synced at : ℕ) (file : File) → IsWrittenTo id format records synced at file → EndsInZeros at file.now → IsWrittenTo id format records (length records) at (synced_of file)
+written_to_synced id format records synced at file written_to ends = written_to_still id format records at file.now file.rewritten written_to.holds ends
+
+-- a sync of a file that was cut back
+pub torn_synced : (id : FileId) (format : LogFileFormat) (records in_flight : List Placed) (synced at : ℕ) (file : File) → IsTornFrom id format records in_flight synced at file → length file.now ≡ at → IsWrittenTo id format records (length records) at (synced_of file)
+torn_synced id format records in_flight synced at file torn cut = written_to_still id format records at file.now file.rewritten torn.holds (record { zeros = λ i above below. absurd (omega arith) })
+
+-- a file as it was opened
+pub written_to_settled : (id : FileId) (format : LogFileFormat) (records : List Placed) (at : ℕ) (bytes : List ℕ) → HoldsRecords id format records at bytes → EndsInZeros at bytes → IsWrittenTo id format records (length records) at (settled bytes)
+written_to_settled id format records at bytes holds ends = written_to_still id format records at bytes None holds ends
+
+-- a file with a header alone
+pub written_to_fresh : (id : FileId) (format : LogFileFormat) → HasHeader format → format.alignment < 2 ^ 64 → IsWrittenTo id format [] 0 (length (header_bytes format)) (settled (header_bytes format))
+written_to_fresh id format has fits =
+    let bytes = header_bytes format in
+    let at = length bytes in
+    written_to_settled id format [] at bytes
+      (record { within = omega arith; read = ap (λ b. reading id b) (take_all at bytes (omega arith)) ∙ reading-header_bytes id format has fits })
+      (record { zeros = λ i above below. absurd (omega arith) })
