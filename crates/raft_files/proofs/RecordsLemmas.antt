@@ -9,14 +9,14 @@ use Rattle.std.specs.Int.{w64, from_be_bytes}
 use Rattle.raft_codec.specs.Number.{take_u64}
 use Rattle.raft_codec.proofs.NumberLemmas.{take_u64_short, take_u64_long}
 use Rattle.raft_records.specs.Item.{Batch}
-use Rattle.raft_records.specs.Record.{Header, header_in, record_header, record_of}
+use Rattle.raft_records.specs.Record.{Header, header_in, record_header, parts_by, record_parts, record_of}
 use Rattle.raft_records.specs.declared.pipe_log.FileId.{FileId}
 use Rattle.raft_files.specs.declared.format.LogFileFormat.{LogFileFormat}
 use Rattle.raft_files.specs.Header.{HasHeader, header_bytes, header_len, header_of}
 use Rattle.raft_files.specs.Outcomes.{File, Change, MayLeave, is_within, is_touched, untouched_len, IsStaleAt, written, resized, synced_of, settled, padded, overlaid, IsPartOf, IsCutOf}
 use Rattle.raft_files.specs.Directory.{Directory, Left, Path, Leaves, file_at}
 use Rattle.raft_files.specs.Reading.{Placed, record_place, record_at, placed_before, placed_by, records_from, end_of_records, Reading, records_behind, records_in, reading_behind, reading, records_of, readable_records, readable_batches}
-use Rattle.raft_files.specs.Detectable.{IsBeginningOf, format_of, signature_by, bytes_behind, HasByteOf, IsGivenBy, IsDone, AreDone, IsDetectableFile, IsDetectable}
+use Rattle.raft_files.specs.Detectable.{IsBeginningOf, format_of, signature_by, bytes_behind, HasByteOf, IsGivenBy, IsDone, AreDone, IsMarkedAt, EndsUnmarked, IsDetectableFile, IsDetectable}
 use Rattle.raft_files.specs.Records.{ReadsFirst, KeepsRecords, IsRefusedAt, IsEmptyFrom, HoldsRecords, IsWrittenTo, IsTornFrom, KeepsBatches}
 use Rattle.raft_files.proofs.DetectableLemmas.{beginning_itself, beginning_trans, beginning_append, beginning_take, beginning_length, beginning_is, beginning_split}
 use Rattle.raft_files.proofs.ExtentLemmas.{record_header-append, record_header_is, record_of_header, record_of-take, same_some, header_of_takes}
@@ -623,3 +623,121 @@ written_to_fresh id format has fits =
     written_to_settled id format [] at bytes
       (record { within = omega arith; read = ap (λ b. reading id b) (take_all at bytes (omega arith)) ∙ reading-header_bytes id format has fits })
       (record { zeros = λ i above below. absurd (omega arith) })
+
+-- The premise can be met.
+
+-- no change was refused
+pub record NoneRefused (changes : List Change) : Type 0 where
+  pub none : (later : List Change) (c : Change) (before : List Change) → changes ≡ later ++ c ∷ before → c.is_done ≡ false → ⊥
+
+-- what stands in a file goes with its changes
+pub record IsCoherent (file : File) : Type 0 where
+  pub latest : file.now ≡ bytes_behind file.synced file.changes
+  pub untouched : take (untouched_len file.synced file.changes) file.now ≡ take (untouched_len file.synced file.changes) file.synced
+
+are_done_all : (signature : Option ℕ) (changes : List Change) (records : List Placed) → NoneRefused changes → AreDone signature changes records
+are_done_all signature changes records none r has later c before e refused with_byte = absurd (none.none later c before e refused)
+
+none_refused_nil : NoneRefused []
+none_refused_nil = record { none = by_later }
+  where
+    by_later : (later : List Change) (c : Change) (before : List Change) → [] ≡ later ++ c ∷ before → c.is_done ≡ false → ⊥
+    by_later [] c before e refused = cc
+    by_later (x ∷ later) c before e refused = cc
+
+some_before : {A B : Type 0} (f : A → Option B) (o : Option A) (y : B) → option_and_then f o ≡ Some y → (x : A) × (o ≡ Some x)
+some_before f None y e = cc
+some_before f (Some x) y e = (x, refl)
+
+zeros_only : (at : ℕ) (bytes : List ℕ) (changes : List Change) → IsEmptyFrom at bytes changes → NoneRefused changes → EndsInZeros at bytes
+zeros_only at bytes changes empty none = record {
+  zeros = λ i above below. elim (empty i above below) [
+    | inl zero' ↦ zero'
+    | inr q ↦ absurd (none.none q.0 q.1 q.2 q.3 q.4)
+  ];
+}
+
+-- where zeros alone stand behind the records, the reading ends with them
+pub reading-held_alone : (id : FileId) (format : LogFileFormat) (records : List Placed) (at : ℕ) (bytes : List ℕ) → HoldsRecords id format records at bytes → EndsInZeros at bytes →
+    reading id bytes ≡ Some (record { format = format; records = records; end = at })
+reading-held_alone id format records at bytes holds ends =
+    let behind = records_behind id format bytes at in
+    let none : behind ≡ [] = nothing_behind format.alignment (signature_by id format) bytes [] at (λ i above below. inl (ends.zeros i above below)) (length bytes) at (omega arith) behind (beginning_itself behind)
+    (are_done_all (signature_by id format) [] behind none_refused_nil) in
+    reading-held id format records at bytes holds
+    ∙ ap (λ rs. Some (record { format = format; records = records ++ rs; end = end_of_records at rs })) none
+    ∙ ap (λ rs. Some (record { format = format; records = rs; end = at })) (append-nil records)
+
+-- .. and no mark of compression bars a record there
+pub unmarked_held : (id : FileId) (format : LogFileFormat) (records : List Placed) (at : ℕ) (bytes : List ℕ) → HoldsRecords id format records at bytes → EndsInZeros at bytes → EndsUnmarked id bytes
+unmarked_held id format records at bytes holds ends r e marked =
+    let read : Reading = record { format = format; records = records; end = at } in
+    let same : read ≡ r = same_some (sym (reading-held_alone id format records at bytes holds ends) ∙ e) in
+    let at_end : IsMarkedAt (signature_by id format) bytes (record_place format.alignment bytes at) =
+    subst (λ (q : Reading). IsMarkedAt (signature_by id q.format) bytes (record_place q.format.alignment bytes q.end)) (sym same) marked in
+    let place = record_place format.alignment bytes at in
+    let forward : at ≤ place = (records_stay format.alignment (signature_by id format) bytes).forward at in
+    let header = some_before (parts_by (signature_by id format) (drop place bytes)) (record_header (drop place bytes)) at_end.0 at_end.1 in
+    let has = record_header_is (drop place bytes) header.0 header.1 in
+    record_header_zeros bytes place header.0 (omega (arith, has.long, length-drop place bytes)) (λ i above below. ends.zeros i (omega arith) (omega (arith, has.long, length-drop place bytes))) header.1
+
+-- a beginning of bytes is read as a beginning of their records
+readable_records-take : (id : FileId) (n : ℕ) (bytes : List ℕ) → IsBeginningOf (readable_records id (take n bytes)) (readable_records id bytes)
+readable_records-take id n bytes = by_reading (reading id (take n bytes)) refl
+  where
+    by_reading : (read : Option Reading) → reading id (take n bytes) ≡ read → IsBeginningOf (records_of read) (readable_records id bytes)
+    by_reading None e = (readable_records id bytes, refl)
+    by_reading (Some r) e =
+        let is = reading_is id (take n bytes) r e in
+        let last = length (take n bytes) in
+        let short : last ≤ n = omega (arith, length-take n bytes) in
+        let reads : ReadsFirst id r.format r.records (take n bytes) = record { all = r.records; end = r.end; read = e; first = beginning_itself r.records } in
+        let same : take last (take n bytes) ≡ take last bytes = take-take last n bytes short in
+        let whole = reads_first-kept id r.format r.records last (take n bytes) bytes reads same (reads_first-within id r.format r.records (take n bytes) reads) in
+        subst (λ rs. IsBeginningOf r.records rs) (sym (ap (λ q. records_of q) whole.read)) whole.first
+
+none_stale_unnamed : (file : File) (i : ℕ) → file.rewritten ≡ None → IsStaleAt file i → ⊥
+none_stale_unnamed file i never stale = let some : Some stale.0 ≡ None = sym stale.1 ∙ never in absurd cc
+
+-- by the bytes now
+pub now_is_detectable : (id : FileId) (format : LogFileFormat) (records : List Placed) (synced at : ℕ) (file : File) → IsWrittenTo id format records synced at file → IsCoherent file → NoneRefused file.changes → file.rewritten ≡ None → IsDetectableFile id file file.now
+now_is_detectable id format records synced at file written_to coherent none never =
+    let len = untouched_len file.synced file.changes in
+    let read = readable_records id file.now in
+    record {
+      header = inl refl;
+      newer = [];
+      upto = file.changes;
+      moment = refl;
+      beginning = subst (λ b. IsBeginningOf read (readable_records id b)) coherent.latest (beginning_itself read);
+      done = λ other is. are_done_all (signature_by id other) file.changes read none;
+      untouched = subst (λ b. IsBeginningOf (readable_records id b) read) coherent.untouched (readable_records-take id len file.now);
+      unmarked = unmarked_held id format records at file.now written_to.holds (zeros_only at file.now file.changes written_to.empty none);
+      none_stale = λ r has. none_stale_unnamed file r.at never;
+    }
+
+synced_format : (id : FileId) (format : LogFileFormat) (records : List Placed) (synced : ℕ) (file : File) → KeepsRecords id format records synced file → format_of file.synced ≡ Some format
+synced_format id format records synced file keeps =
+    let len = untouched_len file.synced file.changes in
+    let front = take synced records in
+    let end = end_of_records (header_len format.version) front in
+    let within : end ≤ len = omega (arith, reads_first-within id format front (take len file.synced) keeps.covered, length-take len file.synced) in
+    let whole = reads_first-kept id format front end (take len file.synced) file.synced keeps.covered (take-take end len file.synced within) (omega arith) in
+    format_of_read id file.synced (record { format = format; records = whole.all; end = whole.end }) whole.read
+
+-- by the bytes at the last sync
+pub synced_is_detectable : (id : FileId) (format : LogFileFormat) (records : List Placed) (synced : ℕ) (file : File) → KeepsRecords id format records synced file → EndsUnmarked id file.synced → file.rewritten ≡ None → IsDetectableFile id file file.synced
+synced_is_detectable id format records synced file keeps unmarked never =
+    let len = untouched_len file.synced file.changes in
+    let read = readable_records id file.synced in
+    record {
+      header = inl (synced_format id format records synced file keeps ∙ sym keeps.header);
+      newer = file.changes;
+      upto = [];
+      moment = sym (append-nil file.changes);
+      beginning = beginning_itself read;
+      done = λ other is. are_done_all (signature_by id other) [] read none_refused_nil;
+      untouched = readable_records-take id len file.synced;
+      unmarked = unmarked;
+      none_stale = λ r has. none_stale_unnamed file r.at never;
+    }
