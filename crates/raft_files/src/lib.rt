@@ -2,5 +2,8 @@
 #![tactic(auto)]
 
 pub mod env;
+mod history;
+mod known;
+mod slot;
 
 pub use env::{FileSystem, FsFault, Permission};
