@@ -1,2 +1,7 @@
 pub mod Walks
 pub mod SlotLemmas
+pub mod MomentsLemmas
+pub mod DirectoryLemmas
+pub mod MemoryLemmas
+pub mod PathPartsLemmas
+pub mod ListedLemmas

@@ -4,6 +4,10 @@
 pub mod env;
 mod history;
 mod known;
+pub mod memory;
+mod paths;
 mod slot;
+mod tree;
 
-pub use env::{FileSystem, FsFault, Permission};
+pub use env::{FileSystem, FsFault, IoKind, Permission};
+pub use memory::{MemoryFileSystem, MemoryHandle, MemoryReader, MemoryWriter};
