@@ -11,8 +11,8 @@ use Rattle.std.proofs.lemmas.Bool.{false_from_ne_true}
 use Rattle.std.proofs.lemmas.Bool.Decides.{nat_tests}
 use Rattle.std.proofs.lemmas.Grind.{same_number_lists, common_steps}
 use Rattle.std.proofs.lemmas.List.{get_or-take}
-use Rattle.raft_files.specs.Outcomes.{File, Change, MayLeave, IsPartOf, is_within, is_touched, least_len, greatest_len, written, resized, overlaid, padded}
-use Rattle.raft_files.specs.Directory.{Path, Directory, file_at, placed, changed, changed_at, IsWriting, IsTruncating, IsAllocating}
+use Rattle.raft_files.specs.Outcomes.{File, Change, MayLeave, IsPartOf, is_within, is_touched, least_len, greatest_len, overlaid}
+use Rattle.raft_files.specs.Directory.{Path, Directory, file_at, placed, changed, changed_at, IsChanging}
 use Rattle.raft_files.proofs.SlotLemmas.{length-overlaid, overlaid_outside_part}
 
 pub same_path : (p : Path) → eq_by_cmp (slice_cmp nat_cmp) p p ≡ true
@@ -41,31 +41,26 @@ untouched_stays file len left may fits low apart =
 pub outside : (at len i : ℕ) → i < at → is_within at len i ≡ false
 outside at len i h = grind (arith, nat_tests)
 
--- a write is a moment of one, also where only a part of the bytes was written
-pub writing_part : (path : Path) (at : ℕ) (given kept : List ℕ) (is_done : Bool) (old new : Directory) → length kept ≤ length given → new ≡ changed path (λ f. written at given is_done (overlaid f.now at kept) f) old → IsWriting path at given old new
-writing_part path at given kept is_done old new part is = at_file (file_at old path) refl
-  where
-    at_file : (o : Option File) → file_at old path ≡ o → IsWriting path at given old new
-    at_file None e = inl (is ∙ ap (λ o. changed_at path (λ f. written at given is_done (overlaid f.now at kept) f) o old) e)
-    at_file (Some file) e = inr (file, overlaid file.now at kept, is_done, e, in_range, is ∙ ap (λ o. changed_at path (λ f. written at given is_done (overlaid f.now at kept) f) o old) e)
-      where
-        in_range : IsPartOf at (length given) file.now (overlaid file.now at kept)
-        in_range = record {
-          no_shorter = omega (arith, length-overlaid file.now at kept);
-          no_longer = omega (arith, length-overlaid file.now at kept);
-          elsewhere = λ i h out. overlaid_outside_part file.now at (length given) kept part i out;
-        }
+-- a call that is done is a moment of it
+module _ (path : Path) (step : Bool → List ℕ → File → File) (wanted : List ℕ → List ℕ) (IsPart : List ℕ → List ℕ → Type 0) (old new : Directory) where
+  pub changing_done : new ≡ changed path (λ f. step true (wanted f.now) f) old → IsChanging path step wanted IsPart old new
+  changing_done is = at_file (file_at old path) refl
+    where
+      at_file : (o : Option File) → file_at old path ≡ o → IsChanging path step wanted IsPart old new
+      at_file None e = inl (is ∙ ap (λ o. changed_at path (λ f. step true (wanted f.now) f) o old) e)
+      at_file (Some file) e = inr (file, wanted file.now, true, e, refl, is ∙ ap (λ o. changed_at path (λ f. step true (wanted f.now) f) o old) e)
 
-pub truncating_whole : (path : Path) (size : ℕ) (old new : Directory) → new ≡ changed path (λ f. resized true (take size f.now) f) old → IsTruncating path size old new
-truncating_whole path size old new is = at_file (file_at old path) refl
-  where
-    at_file : (o : Option File) → file_at old path ≡ o → IsTruncating path size old new
-    at_file None e = inl (is ∙ ap (λ o. changed_at path (λ f. resized true (take size f.now) f) o old) e)
-    at_file (Some file) e = inr (file, size, true, e, omega arith, is ∙ ap (λ o. changed_at path (λ f. resized true (take size f.now) f) o old) e)
+  -- so is one that isn't, if it leaves others in its range alone
+  pub changing_part : (part : List ℕ → List ℕ) → ((now : List ℕ) → IsPart now (part now)) → new ≡ changed path (λ f. step false (part f.now) f) old → IsChanging path step wanted IsPart old new
+  changing_part part in_range is = at_file (file_at old path) refl
+    where
+      at_file : (o : Option File) → file_at old path ≡ o → IsChanging path step wanted IsPart old new
+      at_file None e = inl (is ∙ ap (λ o. changed_at path (λ f. step false (part f.now) f) o old) e)
+      at_file (Some file) e = inr (file, part file.now, false, e, in_range file.now, is ∙ ap (λ o. changed_at path (λ f. step false (part f.now) f) o old) e)
 
-pub allocating_whole : (path : Path) (size : ℕ) (old new : Directory) → new ≡ changed path (λ f. resized true (padded f.now size) f) old → IsAllocating path size old new
-allocating_whole path size old new is = at_file (file_at old path) refl
-  where
-    at_file : (o : Option File) → file_at old path ≡ o → IsAllocating path size old new
-    at_file None e = inl (is ∙ ap (λ o. changed_at path (λ f. resized true (padded f.now size) f) o old) e)
-    at_file (Some file) e = inr (file, size, true, e, omega arith, is ∙ ap (λ o. changed_at path (λ f. resized true (padded f.now size) f) o old) e)
+pub writing_part : (at : ℕ) (given kept : List ℕ) → length kept ≤ length given → (now : List ℕ) → IsPartOf at (length given) now (overlaid now at kept)
+writing_part at given kept part now = record {
+  no_shorter = omega (arith, length-overlaid now at kept);
+  no_longer = omega (arith, length-overlaid now at kept);
+  elsewhere = λ i h out. overlaid_outside_part now at (length given) kept part i out;
+}

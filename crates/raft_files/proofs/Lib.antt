@@ -5,3 +5,4 @@ pub mod DirectoryLemmas
 pub mod MemoryLemmas
 pub mod PathPartsLemmas
 pub mod ListedLemmas
+pub mod Sent

@@ -240,3 +240,58 @@ fn copy_from(from: &[u8], at: usize, bytes: &mut [u8]) -> usize
     bytes[..count].copy_from_slice(&from[at..at + count]);
     count
 }
+
+#[cfg(test)]
+mod tests {
+    use super::*;
+    use std::test::Fail;
+
+    // Makes a file of these bytes and syncs it.
+    fn store<F: FileSystem>(fs: &mut F, path: &str, bytes: &[u8]) -> Result<F::Handle, FsFault> {
+        let handle = fs.create(path)?;
+        let mut writer = fs.new_writer(&handle)?;
+        fs.write(&mut writer, 0, bytes)?;
+        fs.sync(&mut writer)?;
+        Ok(handle)
+    }
+
+    #[test]
+    fn files_are_written_read_cut_and_listed(rt: HostRuntime) -> Result<(), Fail> {
+        let mut fs = MemoryFileSystem::new(rt.alloc());
+        fs.make_dir("log/old")?;
+        let handle = store(&mut fs, "log/b", b"first")?;
+        store(&mut fs, "log/a", b"")?;
+        store(&mut fs, "log/old/c", b"x")?;
+        let mut writer = fs.new_writer(&handle)?;
+        fs.write(&mut writer, 7, b"third")?;
+        fs.allocate(&mut writer, 12, 2)?;
+        let mut bytes = [1; 16];
+        let mut reader = fs.new_reader(&handle)?;
+        assert_eq!(rt; fs.read(&mut reader, 0, &mut bytes)?, 14);
+        assert_eq!(rt; bytes, *b"first\0\0third\0\0\x01\x01");
+        fs.truncate(&mut writer, 3)?;
+        assert_eq!(rt; fs.file_size(&handle)?, 3);
+        let names = fs.list("log")?;
+        assert_eq!(rt; names.len(), 2);
+        assert_eq!(rt; names[0].as_str(), "a");
+        assert_eq!(rt; names[1].as_str(), "b");
+        assert!(rt; fs.is_dir("log") && fs.is_dir("") && !fs.is_dir("log/b"));
+        assert!(rt; fs.is_file("log/b") && !fs.is_file("log"));
+        Ok(())
+    }
+
+    #[test]
+    fn refusals_are_counted(rt: HostRuntime) -> Result<(), Fail> {
+        let mut fs = MemoryFileSystem::new(rt.alloc());
+        let handle = fs.create("a")?;
+        assert!(rt; fs.create("b/a").is_err() && fs.create("").is_err());
+        assert!(rt; fs.make_dir("a/b").is_err() && fs.list("b").is_err());
+        assert!(rt; fs.open("b", Permission::ReadOnly).is_err());
+        let read_only = fs.open("a", Permission::ReadOnly)?;
+        assert!(rt; fs.new_writer(&read_only).is_err());
+        let mut writer = fs.new_writer(&handle)?;
+        assert!(rt; fs.write(&mut writer, usize::MAX, b"x").is_err());
+        assert_eq!(rt; fs.refusals(), 7);
+        Ok(())
+    }
+}
