@@ -260,8 +260,8 @@ mod tests {
         let mut fs = MemoryFileSystem::new(rt.alloc());
         fs.make_dir("log/old")?;
         let handle = store(&mut fs, "log/b", b"first")?;
-        store(&mut fs, "log/a", b"")?;
-        store(&mut fs, "log/old/c", b"x")?;
+        fs.create("log/a")?;
+        fs.create("log/old/c")?;
         let mut writer = fs.new_writer(&handle)?;
         fs.write(&mut writer, 7, b"third")?;
         fs.allocate(&mut writer, 12, 2)?;
