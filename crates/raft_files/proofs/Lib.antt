@@ -6,3 +6,5 @@ pub mod MemoryLemmas
 pub mod PathPartsLemmas
 pub mod ListedLemmas
 pub mod Sent
+pub mod NameLemmas
+pub mod HeaderLemmas

@@ -39,7 +39,7 @@ pub keys-directory_of : (m : Files) (is_folder : Path → Bool) → tree.IsOrder
 keys-directory_of m is_folder ordered =
     let sorted = rises m.entries ordered in
     let same = finite.same_map nat_list_cmp_total path_cmp-IsAntisymmetric (finite.from_entries (by_bytes m.entries)) (finite.from_sorted (by_bytes m.entries)) (λ q.
-        finite.get-from_entries nat_list_cmp_total (by_bytes m.entries) q ∙ sym (finite.get-from_sorted (slice_cmp nat_cmp) (by_bytes m.entries) q sorted)) in
+    finite.get-from_entries nat_list_cmp_total (by_bytes m.entries) q ∙ sym (finite.get-from_sorted (slice_cmp nat_cmp) (by_bytes m.entries) q sorted)) in
     ap (λ (x : finite.FinMap (slice_cmp nat_cmp) File). map (λ e. e.0) (finite.entries x)) same ∙ ap (λ (l : List (Path × File)). map (λ e. e.0) l) (finite.entries-from_sorted (slice_cmp nat_cmp) (by_bytes m.entries) sorted) ∙ keys_by_bytes m.entries
 
 -- a path more is a name more, or none

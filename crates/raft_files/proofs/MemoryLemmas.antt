@@ -34,8 +34,8 @@ turned p q = sym (is_eq-slice_cmp p q) ∙ (eq_by_cmp_equiv nat_list_cmp_total).
 pub placed_after : (m n : Files) (is_folder : Path → Bool) (p : Path) (w : File) → tree.UpdatesBy string_cmp (λ k. slice_cmp nat_cmp p (string_bytes k)) m n (Some w) → directory_of n is_folder ≡ placed p w (directory_of m is_folder)
 placed_after m n is_folder p w updates =
     let same = finite.same_map nat_list_cmp_total path_cmp-IsAntisymmetric (directory_of n is_folder).files (finite.insert (directory_of m is_folder).files p w) (λ q.
-        file_at-directory_of n is_folder q ∙ btree_map_updates_text p m n (Some w) updates q ∙ ap (λ b. cond b (Some w) (tree.get_by_text m q)) (turned p q) ∙ ap (cond (eq_by_cmp (slice_cmp nat_cmp) q p) (Some w)) (sym (file_at-directory_of m is_folder q))
-        ∙ sym (finite.get-insert nat_list_cmp_total (directory_of m is_folder).files p w q)) in
+    file_at-directory_of n is_folder q ∙ btree_map_updates_text p m n (Some w) updates q ∙ ap (λ b. cond b (Some w) (tree.get_by_text m q)) (turned p q) ∙ ap (cond (eq_by_cmp (slice_cmp nat_cmp) q p) (Some w)) (sym (file_at-directory_of m is_folder q))
+    ∙ sym (finite.get-insert nat_list_cmp_total (directory_of m is_folder).files p w q)) in
     λ i. record { files = same i; is_folder = is_folder }
 
 -- the same file at its path again

@@ -90,6 +90,7 @@ is_on_way_begins folder path (c ∷ rest) is = at_slash (eqb c 47) refl
   where
     longer : path ≢ folder
     longer same = omega (arith, ap length (sym is ∙ same), length-append folder (c ∷ rest))
+
     other : eqb c 47 ≡ false → is_on_way folder path ≢ true
     other apart found = elim (is_on_way_tells folder path found) [
       | inl same ↦ absurd (longer same)
@@ -99,6 +100,7 @@ is_on_way_begins folder path (c ∷ rest) is = at_slash (eqb c 47) refl
           let yes_slash : eqb c 47 ≡ true = eq-eqb c 47 slash in
           absurd cc
     ]
+
     at_slash : (b : Bool) → eqb c 47 ≡ b → is_on_way folder path ≡ eqb c 47
     at_slash true e = is_on_way_below folder path rest (is ∙ ap (λ x. folder ++ x ∷ rest) (eqb-true c 47 e)) ∙ sym e
     at_slash false e = false_from_ne_true _ (other e) ∙ sym e

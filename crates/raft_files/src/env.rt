@@ -154,6 +154,7 @@ pub trait FileSystem: Send + Sync {
     fn file_size(&mut self, handle: &Self::Handle) -> Result<usize, FsFault>
         ensures size { IfOk result (λ n. (file : File)
             × (file_at (directory self.old) (handle_path handle.now) ≡ Some file) × (n ≡ length file.now)) }
+        ensures fits { IfOk result (λ n. n < 2 ^ 63) }
         ensures unchanged { directory self.new ≡ directory self.old }
         ensures any_moment { moments self.new ≡ moments self.old }
         ensures cause { Counts result (refusals_of self.old) (refusals_of self.new) };

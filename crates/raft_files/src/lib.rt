@@ -2,6 +2,7 @@
 #![tactic(auto)]
 
 pub mod env;
+pub mod format;
 mod history;
 mod known;
 pub mod memory;
@@ -10,4 +11,5 @@ mod slot;
 mod tree;
 
 pub use env::{FileSystem, FsFault, IoKind, Permission};
+pub use format::{FileNameExt, LogFileFormat, is_zero_padded};
 pub use memory::{MemoryFileSystem, MemoryHandle, MemoryReader, MemoryWriter};

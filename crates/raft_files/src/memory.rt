@@ -29,7 +29,7 @@ pub struct MemoryHandle {
 #[derive(Drop)]
 pub struct MemoryReader {
     path: String,
-    refusals: u64,
+    refused: u64,
 }
 
 #[derive(Drop)]
@@ -75,7 +75,7 @@ impl FileSystem for MemoryFileSystem {
 
     ghost reader_path = { λ r. string_bytes r.path };
 
-    ghost reader_refusals = { λ r. r.refusals };
+    ghost reader_refusals = { λ r. r.refused };
 
     ghost writer_path = { λ w. string_bytes w.path };
 
@@ -95,7 +95,7 @@ impl FileSystem for MemoryFileSystem {
     }
 
     fn open(&mut self, path: &str, permission: Permission) -> Result<MemoryHandle, FsFault> {
-        if !self.tree.files.contains_key(path) {
+        if !self.is_file(path) {
             return Err(counted(&mut self.refusals, FsFault::Io(IoKind::NotFound)));
         }
         Ok(MemoryHandle {
@@ -107,12 +107,12 @@ impl FileSystem for MemoryFileSystem {
     fn new_reader(&mut self, handle: &MemoryHandle) -> Result<MemoryReader, FsFault> {
         Ok(MemoryReader {
             path: handle.path.clone()?,
-            refusals: 0,
+            refused: 0,
         })
     }
 
     fn end_reader(&mut self, reader: MemoryReader) {
-        self.refusals = self.refusals.saturating_add(reader.refusals);
+        self.refusals = self.refusals.saturating_add(reader.refused);
     }
 
     fn new_writer(&mut self, handle: &MemoryHandle) -> Result<MemoryWriter, FsFault> {
@@ -129,7 +129,10 @@ impl FileSystem for MemoryFileSystem {
             return Err(counted(&mut self.refusals, FsFault::Io(IoKind::NoSpace)));
         }
         let past = self.past.with(&self.tree);
-        if let Err(fault) = self.tree.write(writer.path.as_str(), at, bytes, bytes, true) {
+        if let Err(fault) = self
+            .tree
+            .write(writer.path.as_str(), at, bytes, bytes, true)
+        {
             return Err(counted(&mut self.refusals, fault));
         }
         self.past = past;
@@ -145,7 +148,12 @@ impl FileSystem for MemoryFileSystem {
         Ok(())
     }
 
-    fn allocate(&mut self, writer: &mut MemoryWriter, at: usize, size: usize) -> Result<(), FsFault> {
+    fn allocate(
+        &mut self,
+        writer: &mut MemoryWriter,
+        at: usize,
+        size: usize,
+    ) -> Result<(), FsFault> {
         if !fits(at, size) {
             return Err(counted(&mut self.refusals, FsFault::Io(IoKind::NoSpace)));
         }
@@ -166,10 +174,15 @@ impl FileSystem for MemoryFileSystem {
         Ok(())
     }
 
-    fn read(&self, reader: &mut MemoryReader, at: usize, bytes: &mut [u8]) -> Result<usize, FsFault> {
+    fn read(
+        &self,
+        reader: &mut MemoryReader,
+        at: usize,
+        bytes: &mut [u8],
+    ) -> Result<usize, FsFault> {
         match self.tree.files.get(reader.path.as_str()) {
             Some(slot) => Ok(copy_from(slot.bytes(), at, bytes)),
-            None => Err(counted(&mut reader.refusals, FsFault::Io(IoKind::NotFound))),
+            None => Err(counted(&mut reader.refused, FsFault::Io(IoKind::NotFound))),
         }
     }
 
@@ -209,7 +222,7 @@ impl FileSystem for MemoryFileSystem {
     }
 
     fn read_refusals(&self, reader: &MemoryReader) -> u64 {
-        reader.refusals
+        reader.refused
     }
 }
 
@@ -248,11 +261,11 @@ mod tests {
 
     // Makes a file of these bytes and syncs it.
     fn store<F: FileSystem>(fs: &mut F, path: &str, bytes: &[u8]) -> Result<F::Handle, FsFault> {
-        let handle = fs.create(path)?;
-        let mut writer = fs.new_writer(&handle)?;
+        let stored = fs.create(path)?;
+        let mut writer = fs.new_writer(&stored)?;
         fs.write(&mut writer, 0, bytes)?;
         fs.sync(&mut writer)?;
-        Ok(handle)
+        Ok(stored)
     }
 
     #[test]
@@ -269,6 +282,8 @@ mod tests {
         let mut reader = fs.new_reader(&handle)?;
         assert_eq!(rt; fs.read(&mut reader, 0, &mut bytes)?, 14);
         assert_eq!(rt; bytes, *b"first\0\0third\0\0\x01\x01");
+        assert_eq!(rt; fs.read_refusals(&reader), 0);
+        fs.end_reader(reader);
         fs.truncate(&mut writer, 3)?;
         assert_eq!(rt; fs.file_size(&handle)?, 3);
         let names = fs.list("log")?;

@@ -4,8 +4,7 @@ ghost use Rattle.raft_files.specs.Directory.{name_in, is_on_way};
 ghost use Rattle.raft_files.specs.PathParts.{path_below};
 
 /// The folder of a path: what stands before its last `/`, or the root.
-pub(crate) fn parent(path: &str) -> &str
-{
+pub(crate) fn parent(path: &str) -> &str {
     match path.rsplit_once('/') {
         Some((folder, _)) => folder,
         None => "",

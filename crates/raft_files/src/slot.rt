@@ -40,14 +40,21 @@ impl Slot {
     }
 
     pub(crate) fn bytes(&self) -> &[u8]
-        ensures { result.now ≡ self.now.now }
+        ensures value { result.now ≡ self.now.now }
+        ensures fits { length result.now < 2 ^ 63 }
     {
         let _known = &self.known;
         &self.bytes
     }
 
     /// A write of `given`, of which `kept` reached the file.
-    pub(crate) fn write(&mut self, at: usize, given: &[u8], kept: &[u8], is_done: bool) -> Result<(), AllocError>
+    pub(crate) fn write(
+        &mut self,
+        at: usize,
+        given: &[u8],
+        kept: &[u8],
+        is_done: bool,
+    ) -> Result<(), AllocError>
         requires fits { at + length given.now < 2 ^ 63 }
         requires part { length kept.now ≤ length given.now }
         ensures ok { OnOk result (self.new ≡ written at given.now is_done (overlaid self.old.now at kept.now) self.old) }
@@ -58,7 +65,9 @@ impl Slot {
         add_range(&mut self.ranges, at, given.len());
         self.least = self.least.min(self.bytes.len());
         self.greatest = self.greatest.max(self.bytes.len());
-        self.known = self.known.then(&Step::Write(at, given, is_done, &self.bytes));
+        self.known = self
+            .known
+            .then(&Step::Write(at, given, is_done, &self.bytes));
         Ok(())
     }
 }
@@ -84,11 +93,11 @@ impl Slot {
     {
         self.ranges.reserve(1)?;
         let from = self.bytes.len();
-        let end = size.max(from);
-        self.bytes.resize(end, 0)?;
-        add_range(&mut self.ranges, from, end - from);
-        self.least = self.least.min(end);
-        self.greatest = self.greatest.max(end);
+        let len = size.max(from);
+        self.bytes.resize(len, 0)?;
+        add_range(&mut self.ranges, from, len - from);
+        self.least = self.least.min(len);
+        self.greatest = self.greatest.max(len);
         self.known = self.known.then(&Step::Resize(true, &self.bytes));
         Ok(())
     }

@@ -33,7 +33,11 @@ impl Tree {
     pub(crate) fn has_folder(&self, path: &str) -> bool
         ensures value { result ≡ folders_of self.now.folders.items path.now }
     {
-        path.is_empty() || self.folders.iter().any(|made| is_on_way(path, made.as_str()))
+        path.is_empty()
+            || self
+                .folders
+                .iter()
+                .any(|made| is_on_way(path, made.as_str()))
     }
 
     /// A path that stands keeps its file.
@@ -50,7 +54,8 @@ impl Tree {
         if !self.has_folder(parent(path)) {
             return Err(FsFault::Io(IoKind::NotFound));
         }
-        self.files.insert(String::from_str(alloc, path)?, Slot::new(alloc))?;
+        self.files
+            .insert(String::from_str(alloc, path)?, Slot::new(alloc))?;
         Ok(())
     }
 
@@ -72,7 +77,14 @@ impl Tree {
 impl Tree {
     ghost use Rattle.raft_files.specs.Memory.{tree_directory};
 
-    pub(crate) fn write(&mut self, path: &str, at: usize, given: &[u8], kept: &[u8], is_done: bool) -> Result<(), FsFault>
+    pub(crate) fn write(
+        &mut self,
+        path: &str,
+        at: usize,
+        given: &[u8],
+        kept: &[u8],
+        is_done: bool,
+    ) -> Result<(), FsFault>
         requires fits { at + length given.now < 2 ^ 63 }
         requires part { length kept.now ≤ length given.now }
         ensures found { OnOk result (HasFile (tree_directory self.old) path.now) }

@@ -9,8 +9,10 @@ returns c =
     let cases = c.in_ok-strip_prefix.ensures.cases in
     let some : length c.args.folder.now ≡ 0 → ⊥ = λ none. grind (arith, nat_tests) in
     let split : c.args.path.now ≡ c.args.folder.now ++ c.in_ok-strip_prefix.field-0.now = cases.1.1 ∙ ap (λ l. c.args.folder.now ++ l) (sym cases.2) in
-    record { value = path_below_answer c.args.folder.now c.args.path.now c.in_ok-strip_prefix.field-0.now c.strip_prefix-2.result some split
-      (strip_prefix_char 47 c.in_ok-strip_prefix.field-0.now c.strip_prefix-2.result c.strip_prefix-2.ensures.cases (lit< tt)) }
+    record {
+      value = path_below_answer c.args.folder.now c.args.path.now c.in_ok-strip_prefix.field-0.now c.strip_prefix-2.result some split
+          (strip_prefix_char 47 c.in_ok-strip_prefix.field-0.now c.strip_prefix-2.result c.strip_prefix-2.ensures.cases (lit< tt));
+    }
 
 pub returns-in_err-strip_prefix : goal.returns-in_err-strip_prefix
 returns-in_err-strip_prefix c =

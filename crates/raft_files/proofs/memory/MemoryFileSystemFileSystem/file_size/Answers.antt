@@ -8,4 +8,4 @@ pub returns-in-Some-clause-size : goal.returns-in-Some-clause-size
 returns-in-Some-clause-size c =
     let path = string_bytes c.args.handle.now.path in
     let stands : tree.get_by_text c.args.self.now.tree.files path ≡ Some c.in-Some.slot.now = search rules in
-    (c.in-Some.slot.now, file_at-tree_directory c.args.self.now.tree path ∙ stands, ap length c.bytes.ensures)
+    (c.in-Some.slot.now, file_at-tree_directory c.args.self.now.tree path ∙ stands, ap length c.bytes.ensures.value)

@@ -9,9 +9,9 @@ use Rattle.raft_files.proofs.slot.Slot.lengthen.Goals as goal
 pub invariant_of-self-2 : goal.invariant_of-self-2
 invariant_of-self-2 c =
     let bytes = c.self.inside.bytes.items in
-    let end : c.max-end.result ≡ max c.args.size (length bytes) = search rules in
+    let end : c.max-len.result ≡ max c.args.size (length bytes) = search rules in
     let reserved : c.reserve.new.self.items ≡ c.self.inside.ranges.items = search rules in
-    let is : c.resize.new.self.items ≡ take c.max-end.result bytes ++ replicate (c.max-end.result - length bytes) 0 = grind (arith, common_steps, c.in_ok-resize.ensures.items) in
+    let is : c.resize.new.self.items ≡ take c.max-len.result bytes ++ replicate (c.max-len.result - length bytes) 0 = grind (arith, common_steps, c.in_ok-resize.ensures.items) in
     let after : c.resize.new.self.items ≡ padded bytes c.args.size = lengthened bytes c.resize.new.self.items c.args.size (rw end at is) in
     let from : c.len-from.result ≡ length bytes = search rules in
     let kept = kept_lengthened _ _ _ c.add_range.new.ranges.items _ _ _ c.self.invariant c.args.size (rw (reserved, end, from) at c.add_range.ensures) in
