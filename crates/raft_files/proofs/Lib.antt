@@ -8,3 +8,5 @@ pub mod ListedLemmas
 pub mod Sent
 pub mod NameLemmas
 pub mod HeaderLemmas
+pub mod ExtentLemmas
+pub mod ReadingLemmas
