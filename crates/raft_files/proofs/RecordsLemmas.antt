@@ -13,7 +13,7 @@ use Rattle.raft_records.specs.Record.{Header, header_in, record_header, parts_by
 use Rattle.raft_records.specs.declared.pipe_log.FileId.{FileId}
 use Rattle.raft_files.specs.declared.format.LogFileFormat.{LogFileFormat}
 use Rattle.raft_files.specs.Header.{HasHeader, header_bytes, header_len, header_of}
-use Rattle.raft_files.specs.Outcomes.{File, Change, MayLeave, is_within, is_touched, untouched_len, IsStaleAt, written, resized, synced_of, settled, padded, overlaid, IsPartOf, IsCutOf}
+use Rattle.raft_files.specs.Outcomes.{File, Change, MayLeave, is_within, is_touched, untouched_len, IsStaleAt, written, resized, synced_of, settled, padded, overlaid, Outcome, IsPartOf, IsCutOf}
 use Rattle.raft_files.specs.Directory.{Directory, Left, Path, Leaves, file_at}
 use Rattle.raft_files.specs.Reading.{Placed, record_place, record_at, placed_before, placed_by, records_from, end_of_records, Reading, records_behind, records_in, reading_behind, reading, records_of, readable_records, readable_batches}
 use Rattle.raft_files.specs.Detectable.{IsBeginningOf, format_of, signature_by, bytes_behind, HasByteOf, IsGivenBy, IsDone, AreDone, IsMarkedAt, EndsUnmarked, IsDetectableFile, IsDetectable}
@@ -741,3 +741,53 @@ synced_is_detectable id format records synced file keeps unmarked never =
       unmarked = unmarked;
       none_stale = λ r has. none_stale_unnamed file r.at never;
     }
+
+-- Moments of calls.
+
+-- more records are allowed, and fewer of them are synced
+pub keeps_weaker : (id : FileId) (format : LogFileFormat) (records all : List Placed) (synced fewer : ℕ) (file : File) → KeepsRecords id format records synced file → IsBeginningOf records all → fewer ≤ synced → KeepsRecords id format all fewer file
+keeps_weaker id format records all synced fewer file keeps more less = record {
+  header = keeps.header;
+  moments = λ newer upto e left begins done. beginning_trans left records all (keeps.moments newer upto e left begins done) more;
+  few = omega (arith, keeps.few, beginning_length records all more);
+  covered = record {
+    all = keeps.covered.all;
+    end = keeps.covered.end;
+    read = keeps.covered.read;
+    first = beginning_trans (take fewer all) (take synced records) keeps.covered.all
+      (subst (λ rs. IsBeginningOf rs (take synced records)) same (beginning_take fewer (take synced records))) keeps.covered.first;
+  };
+}
+  where
+    same : take fewer (take synced records) ≡ take fewer all
+    same = take-take fewer synced records less ∙ sym (ap (λ rs. take fewer rs) more.1 ∙ take-append-le fewer records more.0 (omega (arith, keeps.few)))
+
+-- a file at a moment of a write: as it was, written, or written in part
+pub moment_of_write : (id : FileId) (format : LogFileFormat) (records : List Placed) (synced at : ℕ) (old new : File) (given : List ℕ) (batch : Batch) → IsWrittenTo id format records synced at old → record_of (signature_by id format) given ≡ Some (batch, length given) →
+    (new ≡ old) ⊎ ((after : List ℕ) × (is_done : Bool) × Outcome is_done (overlaid old.now at given) (IsPartOf at (length given) old.now) after × (new ≡ written at given is_done after old)) →
+    KeepsRecords id format (records ++ record_given at given batch ∷ []) synced new
+moment_of_write id format records synced at old new given batch written_to is how = elim how [
+  | inl same ↦ subst (λ f. KeepsRecords id format all synced f) (sym same) (keeps_weaker id format records all synced synced old written_to.keeps (beginning_append records one) (omega arith))
+  | inr step ↦ subst (λ f. KeepsRecords id format all synced f) (sym step.3) (by_outcome step.1 step.0 step.2)
+]
+  where
+    one : List Placed
+    one = record_given at given batch ∷ []
+    all : List Placed
+    all = records ++ one
+    by_outcome : (is_done : Bool) (after : List ℕ) → Outcome is_done (overlaid old.now at given) (IsPartOf at (length given) old.now) after → KeepsRecords id format all synced (written at given is_done after old)
+    by_outcome true after done = subst (λ bytes. KeepsRecords id format all synced (written at given true bytes old)) (sym done) ((written_to_written id format records synced at old given batch written_to is).keeps)
+    by_outcome false after part = (written_to_refused id format records synced at old given batch after written_to is part).keeps
+
+-- a file at a moment of an allocation
+pub moment_of_allocation : (id : FileId) (format : LogFileFormat) (records : List Placed) (synced at size : ℕ) (old new : File) → IsWrittenTo id format records synced at old →
+    (new ≡ old) ⊎ ((after : List ℕ) × (is_done : Bool) × Outcome is_done (padded old.now size) (IsPartOf (length old.now) (size - length old.now) old.now) after × (new ≡ resized is_done after old)) →
+    IsWrittenTo id format records synced at new
+moment_of_allocation id format records synced at size old new written_to how = elim how [
+  | inl same ↦ subst (λ f. IsWrittenTo id format records synced at f) (sym same) written_to
+  | inr step ↦ subst (λ f. IsWrittenTo id format records synced at f) (sym step.3) (by_outcome step.1 step.0 step.2)
+]
+  where
+    by_outcome : (is_done : Bool) (after : List ℕ) → Outcome is_done (padded old.now size) (IsPartOf (length old.now) (size - length old.now) old.now) after → IsWrittenTo id format records synced at (resized is_done after old)
+    by_outcome true after done = subst (λ bytes. IsWrittenTo id format records synced at (resized true bytes old)) (sym done) (written_to_allocated id format records synced at old size written_to)
+    by_outcome false after part = written_to_allocation_refused id format records synced at old size after written_to part
