@@ -13,7 +13,7 @@ use Rattle.raft_records.specs.Record.{Header, header_in, record_header, parts_by
 use Rattle.raft_records.specs.declared.pipe_log.FileId.{FileId}
 use Rattle.raft_files.specs.declared.format.LogFileFormat.{LogFileFormat}
 use Rattle.raft_files.specs.Header.{HasHeader, header_bytes, header_len, header_of}
-use Rattle.raft_files.specs.Outcomes.{File, Change, MayLeave, is_within, is_touched, untouched_len, IsStaleAt, written, resized, synced_of, settled, padded, overlaid, Outcome, IsPartOf, IsCutOf}
+use Rattle.raft_files.specs.Outcomes.{File, Change, MayLeave, is_within, is_touched, untouched_len, IsStaleAt, written, resized, cut_to, synced_of, settled, padded, overlaid, Outcome, IsPartOf, IsCutOf}
 use Rattle.raft_files.specs.Directory.{Directory, Left, Path, Leaves, file_at}
 use Rattle.raft_files.specs.Reading.{Placed, record_place, record_at, placed_before, placed_by, records_from, end_of_records, Reading, records_behind, records_in, reading_behind, reading, records_of, readable_records, readable_batches}
 use Rattle.raft_files.specs.Detectable.{IsBeginningOf, format_of, signature_by, bytes_behind, HasByteOf, IsGivenBy, IsDone, AreDone, IsMarkedAt, EndsUnmarked, IsDetectableFile, IsDetectable}
@@ -203,10 +203,10 @@ covered_more id format records synced c changes reads behind =
 
 -- the file with one more change
 abbrev changed_by : Change → Option (List (ℕ × ℕ)) → File → File
-changed_by c rewritten file = record { now = c.after; synced = file.synced; changes = c ∷ file.changes; rewritten = rewritten }
+changed_by c rewritten file = record { now = c.after; synced = file.synced; changes = c ∷ file.changes; older = file.older; rewritten = rewritten }
 
 keeps_more : (id : FileId) (format : LogFileFormat) (old all : List Placed) (synced : ℕ) (file : File) (c : Change) (rewritten : Option (List (ℕ × ℕ))) → KeepsRecords id format old synced file → IsBeginningOf old all →
-    format_of c.after ≡ Some format → ((left : List Placed) → IsBeginningOf left (readable_records id c.after) → AreDone (signature_by id format) (c ∷ file.changes) left → IsBeginningOf left all) →
+    format_of c.after ≡ Some format → ((left : List Placed) → IsBeginningOf left (readable_records id c.after) → AreDone (signature_by id format) (c ∷ file.changes ++ file.older) left → IsBeginningOf left all) →
     end_of_records (header_len format.version) (take synced old) ≤ c.from → KeepsRecords id format all synced (changed_by c rewritten file)
 keeps_more id format old all synced file c rewritten keeps more header moment behind = record {
   header = header;
@@ -217,16 +217,16 @@ keeps_more id format old all synced file c rewritten keeps more header moment be
   where
     same : take synced old ≡ take synced all
     same = sym (ap (λ rs. take synced rs) more.1 ∙ take-append-le synced old more.0 keeps.few)
-    moments : (newer upto : List Change) → c ∷ file.changes ≡ newer ++ upto → (left : List Placed) → IsBeginningOf left (readable_records id (bytes_behind file.synced upto)) → AreDone (signature_by id format) upto left → IsBeginningOf left all
-    moments [] upto e = subst (λ changes. (left : List Placed) → IsBeginningOf left (readable_records id (bytes_behind file.synced changes)) → AreDone (signature_by id format) changes left → IsBeginningOf left all) e moment
+    moments : (newer upto : List Change) → c ∷ file.changes ≡ newer ++ upto → (left : List Placed) → IsBeginningOf left (readable_records id (bytes_behind file.synced upto)) → AreDone (signature_by id format) (upto ++ file.older) left → IsBeginningOf left all
+    moments [] upto e = subst (λ changes. (left : List Placed) → IsBeginningOf left (readable_records id (bytes_behind file.synced changes)) → AreDone (signature_by id format) (changes ++ file.older) left → IsBeginningOf left all) e moment
     moments (x ∷ newer) upto e = λ left begins done. beginning_trans left old all (keeps.moments newer upto (cc) left begins done) more
 
 keeps_held : (id : FileId) (format : LogFileFormat) (old new all : List Placed) (synced at : ℕ) (file : File) (c : Change) (rewritten : Option (List (ℕ × ℕ))) → KeepsRecords id format old synced file → IsBeginningOf old all →
-    HoldsRecords id format new at c.after → IsEmptyFrom at c.after (c ∷ file.changes) → IsBeginningOf new all →
+    HoldsRecords id format new at c.after → IsEmptyFrom at c.after (c ∷ file.changes ++ file.older) → IsBeginningOf new all →
     end_of_records (header_len format.version) (take synced old) ≤ c.from → KeepsRecords id format all synced (changed_by c rewritten file)
 keeps_held id format old new all synced at file c rewritten keeps more holds empty first behind =
     keeps_more id format old all synced file c rewritten keeps more (format_of-held id format new at c.after holds)
-      (λ left begins done. beginning_trans left new all (left_of_held id format new at c.after (c ∷ file.changes) holds empty left begins done) first) behind
+      (λ left begins done. beginning_trans left new all (left_of_held id format new at c.after (c ∷ file.changes ++ file.older) holds empty left begins done) first) behind
 
 -- the synced records end before the place of the writer
 synced_within : (id : FileId) (format : LogFileFormat) (records : List Placed) (synced at : ℕ) (bytes : List ℕ) → HoldsRecords id format records at bytes → end_of_records (header_len format.version) (take synced records) ≤ at
@@ -309,7 +309,7 @@ holds_same id format records at a b holds same long = record { within = long; re
 -- A change that touches nothing before the writer's place.
 
 written_to_changed : (id : FileId) (format : LogFileFormat) (records : List Placed) (synced at : ℕ) (file : File) (c : Change) (rewritten : Option (List (ℕ × ℕ))) → IsWrittenTo id format records synced at file →
-    take at file.now ≡ take at c.after → at ≤ length c.after → IsEmptyFrom at c.after (c ∷ file.changes) → at ≤ c.from → IsWrittenTo id format records synced at (changed_by c rewritten file)
+    take at file.now ≡ take at c.after → at ≤ length c.after → IsEmptyFrom at c.after (c ∷ file.changes ++ file.older) → at ≤ c.from → IsWrittenTo id format records synced at (changed_by c rewritten file)
 written_to_changed id format records synced at file c rewritten written same long empty behind =
     let holds = holds_same id format records at file.now c.after written.holds same long in
     let within = synced_within id format records synced at file.now written.holds in
@@ -317,7 +317,7 @@ written_to_changed id format records synced at file c rewritten written same lon
     record { keeps = keeps_held id format records records records synced at file c rewritten written.keeps itself holds empty itself (omega (arith, within)); holds = holds; empty = empty }
 
 torn_changed : (id : FileId) (format : LogFileFormat) (records in_flight : List Placed) (synced at : ℕ) (file : File) (c : Change) (rewritten : Option (List (ℕ × ℕ))) → IsTornFrom id format records in_flight synced at file →
-    take at file.now ≡ take at c.after → at ≤ length c.after → IsEmptyFrom at c.after (c ∷ file.changes) → at ≤ c.from → IsTornFrom id format records in_flight synced at (changed_by c rewritten file)
+    take at file.now ≡ take at c.after → at ≤ length c.after → IsEmptyFrom at c.after (c ∷ file.changes ++ file.older) → at ≤ c.from → IsTornFrom id format records in_flight synced at (changed_by c rewritten file)
 torn_changed id format records in_flight synced at file c rewritten torn same long empty behind =
     let all = records ++ in_flight in
     let holds = holds_same id format records at file.now c.after torn.holds same long in
@@ -358,7 +358,7 @@ written_to_lengthened id format records synced at file is_done after written len
     let longer = lengthened.longer in
     let from : c.from ≡ length file.now = omega arith in
     let to : c.from + c.size ≡ length after = omega arith in
-    let empty = empty_lengthened is_done at file.now after c file.changes lengthened written.empty from to refl refl in
+    let empty = empty_lengthened is_done at file.now after c (file.changes ++ file.older) lengthened written.empty from to refl refl in
     written_to_changed id format records synced at file c file.rewritten written
       (same_front at file.now after long (omega arith) (λ i within. sym (lengthened.front i (omega arith)))) (omega arith) empty (omega arith)
 
@@ -426,13 +426,13 @@ pub written_to_cut_refused : (id : FileId) (format : LogFileFormat) (records : L
     IsWrittenTo id format records synced at (record file { now = c.after; changes = c ∷ file.changes })
 written_to_cut_refused id format records synced at file c written cut =
     let long = written.holds.within in
-    written_to_changed id format records synced at file c file.rewritten written (same_cut_refused at file.now c long cut) (omega (arith, cut.part.no_shorter)) (empty_cut_refused at file.now c file.changes cut) (omega (arith, cut.from))
+    written_to_changed id format records synced at file c file.rewritten written (same_cut_refused at file.now c long cut) (omega (arith, cut.part.no_shorter)) (empty_cut_refused at file.now c (file.changes ++ file.older) cut) (omega (arith, cut.from))
 
 pub torn_cut_refused : (id : FileId) (format : LogFileFormat) (records in_flight : List Placed) (synced at : ℕ) (file : File) (c : Change) → IsTornFrom id format records in_flight synced at file → IsCutRefused at file.now c →
     IsTornFrom id format records in_flight synced at (record file { now = c.after; changes = c ∷ file.changes })
 torn_cut_refused id format records in_flight synced at file c torn cut =
     let long = torn.holds.within in
-    torn_changed id format records in_flight synced at file c file.rewritten torn (same_cut_refused at file.now c long cut) (omega (arith, cut.part.no_shorter)) (empty_cut_refused at file.now c file.changes cut) (omega (arith, cut.from))
+    torn_changed id format records in_flight synced at file c file.rewritten torn (same_cut_refused at file.now c long cut) (omega (arith, cut.part.no_shorter)) (empty_cut_refused at file.now c (file.changes ++ file.older) cut) (omega (arith, cut.from))
 
 -- Writes.
 
@@ -513,10 +513,10 @@ written_to_refused id format records synced at file given batch after written_to
     let still : at ≤ length after = omega (arith, part.no_shorter) in
     let same = same_front at file.now after long still (λ i within. sym (part.elsewhere i (omega arith) (not_within at (length given) i (inl within)))) in
     let holds = holds_same id format records at file.now after written_to.holds same still in
-    let empty = empty_written at file.now after c file.changes written_to.empty refl (kept_part at (length given) file.now after part) in
+    let empty = empty_written at file.now after c (file.changes ++ file.older) written_to.empty refl (kept_part at (length given) file.now after part) in
     record {
       keeps = keeps_more id format records (records ++ one) synced file c _ written_to.keeps (beginning_append records one) (format_of-held id format records at after holds)
-      (left_of_torn id format records c file.changes batch holds refl refl is empty) (synced_within id format records synced at file.now written_to.holds);
+      (left_of_torn id format records c (file.changes ++ file.older) batch holds refl refl is empty) (synced_within id format records synced at file.now written_to.holds);
       few = written_to.keeps.few;
       holds = holds;
     }
@@ -555,7 +555,7 @@ written_to_written id format records synced at file given batch written_to is =
           ∙ ap (λ n. Some (record { format = format; records = records ++ record_given n given batch ∷ []; end = length (take at file.now ++ given) })) len_front
           ∙ ap (λ n. Some (record { format = format; records = all; end = n })) (length-append (take at file.now) given ∙ ap (λ n. n + length given) len_front);
     } in
-    let empty = empty_written at file.now after c file.changes written_to.empty refl kept in
+    let empty = empty_written at file.now after c (file.changes ++ file.older) written_to.empty refl kept in
     record {
       keeps = keeps_held id format records all all synced end file c _ written_to.keeps (beginning_append records (one ∷ [])) holds empty (beginning_itself all) (synced_within id format records synced at file.now written_to.holds);
       holds = holds;
@@ -568,18 +568,13 @@ written_to_written id format records synced at file given batch written_to is =
 -- Syncs.
 
 -- a file that a crash leaves as it is
-abbrev still : List ℕ → Option (List (ℕ × ℕ)) → File
-still bytes rewritten = record { now = bytes; synced = bytes; changes = []; rewritten = rewritten }
+abbrev still : List ℕ → List Change → Option (List (ℕ × ℕ)) → File
+still bytes older rewritten = record { now = bytes; synced = bytes; changes = []; older = older; rewritten = rewritten }
 
--- only zeros stand behind a place
-pub record EndsInZeros (at : ℕ) (bytes : List ℕ) : Type 0 where
-  pub zeros : (i : ℕ) → at ≤ i → i < length bytes → slice_index bytes i ≡ 0
-
-written_to_still : (id : FileId) (format : LogFileFormat) (records : List Placed) (at : ℕ) (bytes : List ℕ) (rewritten : Option (List (ℕ × ℕ))) → HoldsRecords id format records at bytes → EndsInZeros at bytes →
-    IsWrittenTo id format records (length records) at (still bytes rewritten)
-written_to_still id format records at bytes rewritten holds ends =
+written_to_still : (id : FileId) (format : LogFileFormat) (records : List Placed) (at : ℕ) (bytes : List ℕ) (older : List Change) (rewritten : Option (List (ℕ × ℕ))) → HoldsRecords id format records at bytes → IsEmptyFrom at bytes older →
+    IsWrittenTo id format records (length records) at (still bytes older rewritten)
+written_to_still id format records at bytes older rewritten holds empty =
     let behind = records_behind id format bytes at in
-    let empty : IsEmptyFrom at bytes [] = λ i above below. inl (ends.zeros i above below) in
     let whole : take (length bytes) bytes ≡ bytes = take_all (length bytes) bytes (omega arith) in
     let first : ReadsFirst id format (take (length records) records) bytes = record {
       all = records ++ behind;
@@ -590,7 +585,7 @@ written_to_still id format records at bytes rewritten holds ends =
     record {
       keeps = record {
         header = format_of-held id format records at bytes holds;
-        moments = moments empty;
+        moments = moments;
         few = omega arith;
         covered = subst (λ b. ReadsFirst id format (take (length records) records) b) (sym whole) first;
       };
@@ -598,22 +593,26 @@ written_to_still id format records at bytes rewritten holds ends =
       empty = empty;
     }
   where
-    moments : IsEmptyFrom at bytes [] → (newer upto : List Change) → [] ≡ newer ++ upto → (left : List Placed) → IsBeginningOf left (readable_records id (bytes_behind bytes upto)) → AreDone (signature_by id format) upto left → IsBeginningOf left records
-    moments empty [] [] e = left_of_held id format records at bytes [] holds empty
-    moments empty [] (x ∷ upto) e = cc
-    moments empty (x ∷ newer) upto e = cc
+    moments : (newer upto : List Change) → [] ≡ newer ++ upto → (left : List Placed) → IsBeginningOf left (readable_records id (bytes_behind bytes upto)) → AreDone (signature_by id format) (upto ++ older) left → IsBeginningOf left records
+    moments [] [] e = left_of_held id format records at bytes older holds empty
+    moments [] (x ∷ upto) e = cc
+    moments (x ∷ newer) upto e = cc
 
--- a sync, where no byte of a refused call is left
-pub written_to_synced : (id : FileId) (format : LogFileFormat) (records : List Placed) (synced at : ℕ) (file : File) → IsWrittenTo id format records synced at file → EndsInZeros at file.now → IsWrittenTo id format records (length records) at (synced_of file)
-written_to_synced id format records synced at file written_to ends = written_to_still id format records at file.now file.rewritten written_to.holds ends
+-- a sync
+pub written_to_synced : (id : FileId) (format : LogFileFormat) (records : List Placed) (synced at : ℕ) (file : File) → IsWrittenTo id format records synced at file → IsWrittenTo id format records (length records) at (synced_of file)
+written_to_synced id format records synced at file written_to = written_to_still id format records at file.now (file.changes ++ file.older) file.rewritten written_to.holds written_to.empty
 
 -- a sync of a file that was cut back
 pub torn_synced : (id : FileId) (format : LogFileFormat) (records in_flight : List Placed) (synced at : ℕ) (file : File) → IsTornFrom id format records in_flight synced at file → length file.now ≡ at → IsWrittenTo id format records (length records) at (synced_of file)
-torn_synced id format records in_flight synced at file torn cut = written_to_still id format records at file.now file.rewritten torn.holds (record { zeros = λ i above below. absurd (omega arith) })
+torn_synced id format records in_flight synced at file torn cut = written_to_still id format records at file.now (file.changes ++ file.older) file.rewritten torn.holds (λ i above below. absurd (omega arith))
+
+-- only zeros stand behind a place
+pub record EndsInZeros (at : ℕ) (bytes : List ℕ) : Type 0 where
+  pub zeros : (i : ℕ) → at ≤ i → i < length bytes → slice_index bytes i ≡ 0
 
 -- a file as it was opened
 pub written_to_settled : (id : FileId) (format : LogFileFormat) (records : List Placed) (at : ℕ) (bytes : List ℕ) → HoldsRecords id format records at bytes → EndsInZeros at bytes → IsWrittenTo id format records (length records) at (settled bytes)
-written_to_settled id format records at bytes holds ends = written_to_still id format records at bytes None holds ends
+written_to_settled id format records at bytes holds ends = written_to_still id format records at bytes [] None holds (λ i above below. inl (ends.zeros i above below))
 
 -- a file with a header alone
 pub written_to_fresh : (id : FileId) (format : LogFileFormat) → HasHeader format → format.alignment < 2 ^ 64 → IsWrittenTo id format [] 0 (length (header_bytes format)) (settled (header_bytes format))
@@ -700,7 +699,7 @@ none_stale_unnamed : (file : File) (i : ℕ) → file.rewritten ≡ None → IsS
 none_stale_unnamed file i never stale = let some : Some stale.0 ≡ None = sym stale.1 ∙ never in absurd cc
 
 -- by the bytes now
-pub now_is_detectable : (id : FileId) (format : LogFileFormat) (records : List Placed) (synced at : ℕ) (file : File) → IsWrittenTo id format records synced at file → IsCoherent file → NoneRefused file.changes → file.rewritten ≡ None → IsDetectableFile id file file.now
+pub now_is_detectable : (id : FileId) (format : LogFileFormat) (records : List Placed) (synced at : ℕ) (file : File) → IsWrittenTo id format records synced at file → IsCoherent file → NoneRefused (file.changes ++ file.older) → file.rewritten ≡ None → IsDetectableFile id file file.now
 now_is_detectable id format records synced at file written_to coherent none never =
     let len = untouched_len file.synced file.changes in
     let read = readable_records id file.now in
@@ -710,9 +709,9 @@ now_is_detectable id format records synced at file written_to coherent none neve
       upto = file.changes;
       moment = refl;
       beginning = subst (λ b. IsBeginningOf read (readable_records id b)) coherent.latest (beginning_itself read);
-      done = λ other is. are_done_all (signature_by id other) file.changes read none;
+      done = λ other is. are_done_all (signature_by id other) (file.changes ++ file.older) read none;
       untouched = subst (λ b. IsBeginningOf (readable_records id b) read) coherent.untouched (readable_records-take id len file.now);
-      unmarked = unmarked_held id format records at file.now written_to.holds (zeros_only at file.now file.changes written_to.empty none);
+      unmarked = unmarked_held id format records at file.now written_to.holds (zeros_only at file.now (file.changes ++ file.older) written_to.empty none);
       none_stale = λ r has. none_stale_unnamed file r.at never;
     }
 
@@ -726,8 +725,8 @@ synced_format id format records synced file keeps =
     format_of_read id file.synced (record { format = format; records = whole.all; end = whole.end }) whole.read
 
 -- by the bytes at the last sync
-pub synced_is_detectable : (id : FileId) (format : LogFileFormat) (records : List Placed) (synced : ℕ) (file : File) → KeepsRecords id format records synced file → EndsUnmarked id file.synced → file.rewritten ≡ None → IsDetectableFile id file file.synced
-synced_is_detectable id format records synced file keeps unmarked never =
+pub synced_is_detectable : (id : FileId) (format : LogFileFormat) (records : List Placed) (synced : ℕ) (file : File) → KeepsRecords id format records synced file → EndsUnmarked id file.synced → NoneRefused file.older → file.rewritten ≡ None → IsDetectableFile id file file.synced
+synced_is_detectable id format records synced file keeps unmarked none never =
     let len = untouched_len file.synced file.changes in
     let read = readable_records id file.synced in
     record {
@@ -736,7 +735,7 @@ synced_is_detectable id format records synced file keeps unmarked never =
       upto = [];
       moment = sym (append-nil file.changes);
       beginning = beginning_itself read;
-      done = λ other is. are_done_all (signature_by id other) [] read none_refused_nil;
+      done = λ other is. are_done_all (signature_by id other) file.older read none;
       untouched = readable_records-take id len file.synced;
       unmarked = unmarked;
       none_stale = λ r has. none_stale_unnamed file r.at never;
@@ -791,3 +790,31 @@ moment_of_allocation id format records synced at size old new written_to how = e
     by_outcome : (is_done : Bool) (after : List ℕ) → Outcome is_done (padded old.now size) (IsPartOf (length old.now) (size - length old.now) old.now) after → IsWrittenTo id format records synced at (resized is_done after old)
     by_outcome true after done = subst (λ bytes. IsWrittenTo id format records synced at (resized true bytes old)) (sym done) (written_to_allocated id format records synced at old size written_to)
     by_outcome false after part = written_to_allocation_refused id format records synced at old size after written_to part
+
+cut_refused_is : (at : ℕ) (file : File) (after : List ℕ) → at ≤ length file.now → IsCutOf at file.now after →
+    IsCutRefused at file.now (record { from = min at (length file.now); size = length file.now - min at (length file.now); given = []; is_done = false; after = after })
+cut_refused_is at file after long part = record { from = omega arith; to = omega arith; none = refl; refused = refl; part = part }
+
+-- a file at a moment of a truncation to the writer's place
+pub moment_of_cut : (id : FileId) (format : LogFileFormat) (records : List Placed) (synced at : ℕ) (old new : File) → IsWrittenTo id format records synced at old →
+    (new ≡ old) ⊎ ((after : List ℕ) × (is_done : Bool) × Outcome is_done (take at old.now) (IsCutOf at old.now) after × (new ≡ cut_to at is_done after old)) → IsWrittenTo id format records synced at new
+moment_of_cut id format records synced at old new written_to how = elim how [
+  | inl same ↦ subst (λ f. IsWrittenTo id format records synced at f) (sym same) written_to
+  | inr step ↦ subst (λ f. IsWrittenTo id format records synced at f) (sym step.3) (by_outcome step.1 step.0 step.2)
+]
+  where
+    by_outcome : (is_done : Bool) (after : List ℕ) → Outcome is_done (take at old.now) (IsCutOf at old.now) after → IsWrittenTo id format records synced at (cut_to at is_done after old)
+    by_outcome true after done = subst (λ bytes. IsWrittenTo id format records synced at (resized true bytes old)) (sym done) (written_to_cut id format records synced at old written_to)
+    by_outcome false after part = written_to_cut_refused id format records synced at old _ written_to (cut_refused_is at old after written_to.holds.within part)
+
+-- .. and of one that takes a refused write back
+pub moment_of_cut_back : (id : FileId) (format : LogFileFormat) (records in_flight : List Placed) (synced at : ℕ) (old new : File) → IsTornFrom id format records in_flight synced at old →
+    (new ≡ old) ⊎ ((after : List ℕ) × (is_done : Bool) × Outcome is_done (take at old.now) (IsCutOf at old.now) after × (new ≡ cut_to at is_done after old)) → IsTornFrom id format records in_flight synced at new
+moment_of_cut_back id format records in_flight synced at old new torn how = elim how [
+  | inl same ↦ subst (λ f. IsTornFrom id format records in_flight synced at f) (sym same) torn
+  | inr step ↦ subst (λ f. IsTornFrom id format records in_flight synced at f) (sym step.3) (by_outcome step.1 step.0 step.2)
+]
+  where
+    by_outcome : (is_done : Bool) (after : List ℕ) → Outcome is_done (take at old.now) (IsCutOf at old.now) after → IsTornFrom id format records in_flight synced at (cut_to at is_done after old)
+    by_outcome true after done = subst (λ bytes. IsTornFrom id format records in_flight synced at (resized true bytes old)) (sym done) (torn_cut id format records in_flight synced at old torn)
+    by_outcome false after part = torn_cut_refused id format records in_flight synced at old _ torn (cut_refused_is at old after torn.holds.within part)

@@ -5,7 +5,7 @@ use Rattle.std.specs.Str.{bytes_eq}
 use Rattle.std.specs.Ordering.{nat_cmp}
 use Rattle.std.specs.Cmp.Lexicographic.{slice_cmp}
 use Rattle.std.specs.FinMap as map
-use Rattle.raft_files.specs.Outcomes.{File, MayLeave, IsPartOf, IsCutOf, Outcome, written, resized, settled, renamed_of, padded, overlaid}
+use Rattle.raft_files.specs.Outcomes.{File, MayLeave, IsPartOf, IsCutOf, Outcome, written, resized, cut_to, settled, renamed_of, padded, overlaid}
 
 abbrev pub Path : Type 0
 Path = List ℕ
@@ -60,7 +60,7 @@ abbrev pub IsWriting : Path → ℕ → List ℕ → Directory → Directory →
 IsWriting path at given = IsChanging path (written at given) (λ now. overlaid now at given) (IsPartOf at (length given))
 
 abbrev pub IsTruncating : Path → ℕ → Directory → Directory → Type 0
-IsTruncating path size = IsChanging path resized (take size) (IsCutOf size)
+IsTruncating path size = IsChanging path (cut_to size) (take size) (IsCutOf size)
 
 -- what an allocation lengthens a file by begins at its end
 abbrev pub IsAllocating : Path → ℕ → Directory → Directory → Type 0

@@ -19,6 +19,8 @@ pub record File : Type 0 where
   pub synced : List ℕ
   -- since the last sync, the newest first
   pub changes : List Change
+  -- the changes before that, the newest first
+  pub older : List Change
   -- for a file that was renamed, the ranges that writes touched since then
   pub rewritten : Option (List (ℕ × ℕ))
 
@@ -59,7 +61,7 @@ bytes_since_sync file = map (λ c. c.after) file.changes ++ file.synced ∷ []
 
 -- a file of these bytes, which a crash leaves as they are
 abbrev pub settled : List ℕ → File
-settled bytes = record { now = bytes; synced = bytes; changes = []; rewritten = None }
+settled bytes = record { now = bytes; synced = bytes; changes = []; older = []; rewritten = None }
 
 abbrev pub range_noted : Option (List (ℕ × ℕ)) → ℕ × ℕ → Option (List (ℕ × ℕ))
 range_noted None range = None
@@ -80,8 +82,16 @@ resized is_done after file = record file {
   changes = record { from = min (length after) (length file.now); size = max (length after) (length file.now) - min (length after) (length file.now); given = []; is_done = is_done; after = after } ∷ file.changes;
 }
 
+-- the same of a truncation, which may have touched all behind the wanted end if it is refused
+abbrev pub cut_to : ℕ → Bool → List ℕ → File → File
+cut_to size true after file = resized true after file
+cut_to size false after file = record file {
+  now = after;
+  changes = record { from = min size (length file.now); size = length file.now - min size (length file.now); given = []; is_done = false; after = after } ∷ file.changes;
+}
+
 abbrev pub synced_of : File → File
-synced_of file = record file { synced = file.now; changes = [] }
+synced_of file = record file { synced = file.now; changes = []; older = file.changes ++ file.older }
 
 abbrev pub renamed_of : File → File
 renamed_of file = record file { rewritten = Some [] }
