@@ -1,2 +1,4 @@
 pub mod NameLemmas
 pub mod HeaderLemmas
+pub mod MomentsLemmas
+pub mod WriterLemmas
