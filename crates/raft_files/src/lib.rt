@@ -7,4 +7,4 @@ pub mod log_file;
 
 pub use env::{FileSystem, FsFault, Permission};
 pub use format::{FileNameExt, LogFileFormat, is_zero_padded};
-pub use log_file::LogFileWriter;
+pub use log_file::{LogFileReader, LogFileWriter};
