@@ -14,3 +14,5 @@ pub mod ExtentLemmas
 pub mod ReadingLemmas
 pub mod DetectableLemmas
 pub mod RecordsLemmas
+
+pub mod WrittenLemmas

@@ -210,6 +210,7 @@ keeps_more : (id : FileId) (format : LogFileFormat) (old all : List Placed) (syn
     end_of_records (header_len format.version) (take synced old) ≤ c.from → KeepsRecords id format all synced (changed_by c rewritten file)
 keeps_more id format old all synced file c rewritten keeps more header moment behind = record {
   header = header;
+  latest = refl;
   moments = moments;
   few = omega (arith, keeps.few, beginning_length old all more);
   covered = subst (λ records. ReadsFirst id format records (take (untouched_len file.synced (c ∷ file.changes)) file.synced)) same (covered_more id format (take synced old) file.synced c file.changes keeps.covered behind);
@@ -455,7 +456,7 @@ kept_part at len old new part = record {
 }
 
 -- the record of the batch that a write gives
-abbrev record_given : ℕ → List ℕ → Batch → Placed
+abbrev pub record_given : ℕ → List ℕ → Batch → Placed
 record_given at given batch = record { at = at; len = length given; batch = batch }
 
 same_placed : (r : Placed) (at len : ℕ) (batch : Batch) → r.at ≡ at → batch ≡ r.batch → len ≡ r.len → r ≡ record { at = at; len = len; batch = batch }
@@ -521,6 +522,19 @@ written_to_refused id format records synced at file given batch after written_to
       holds = holds;
     }
 
+-- a write behind them leaves the records
+pub holds_written : (id : FileId) (format : LogFileFormat) (records : List Placed) (at : ℕ) (bytes given : List ℕ) → HoldsRecords id format records at bytes → HoldsRecords id format records at (overlaid bytes at given)
+holds_written id format records at bytes given holds =
+    let end = at + length given in
+    let zeros : List ℕ = replicate (end - length bytes) 0 in
+    let before = take at (padded bytes end) in
+    let rest = drop end bytes in
+    let long = holds.within in
+    let same : before ≡ take at bytes = take-append-le at bytes zeros long in
+    let len_before : length before ≡ at = ap length same ∙ length-take-le at bytes long in
+    let front : take at ((before ++ given) ++ rest) ≡ before = ap (λ b. take at b) (append_assoc before given rest) ∙ take_at before (given ++ rest) at len_before in
+    holds_same id format records at bytes (overlaid bytes at given) holds (sym (front ∙ same)) (omega (arith, length-append (before ++ given) rest, length-append before given))
+
 -- a write that is done
 pub written_to_written : (id : FileId) (format : LogFileFormat) (records : List Placed) (synced at : ℕ) (file : File) (given : List ℕ) (batch : Batch) → IsWrittenTo id format records synced at file →
     record_of (signature_by id format) given ≡ Some (batch, length given) →
@@ -585,6 +599,7 @@ written_to_still id format records at bytes older rewritten holds empty =
     record {
       keeps = record {
         header = format_of-held id format records at bytes holds;
+        latest = refl;
         moments = moments;
         few = omega arith;
         covered = subst (λ b. ReadsFirst id format (take (length records) records) b) (sym whole) first;
@@ -605,6 +620,37 @@ written_to_synced id format records synced at file written_to = written_to_still
 -- a sync of a file that was cut back
 pub torn_synced : (id : FileId) (format : LogFileFormat) (records in_flight : List Placed) (synced at : ℕ) (file : File) → IsTornFrom id format records in_flight synced at file → length file.now ≡ at → IsWrittenTo id format records (length records) at (synced_of file)
 torn_synced id format records in_flight synced at file torn cut = written_to_still id format records at file.now (file.changes ++ file.older) file.rewritten torn.holds (λ i above below. absurd (omega arith))
+
+-- a sync of a file that was not cut back
+pub torn_still_synced : (id : FileId) (format : LogFileFormat) (records in_flight : List Placed) (synced at : ℕ) (file : File) → IsTornFrom id format records in_flight synced at file → IsTornFrom id format records in_flight (length records) at (synced_of file)
+torn_still_synced id format records in_flight synced at file torn =
+    let all = records ++ in_flight in
+    let bytes = file.now in
+    let behind = records_behind id format bytes at in
+    let whole : take (length bytes) bytes ≡ bytes = take_all (length bytes) bytes (omega arith) in
+    let front : take (length records) all ≡ records = take_at records in_flight (length records) refl in
+    let first : ReadsFirst id format (take (length records) all) bytes = record {
+      all = records ++ behind;
+      end = end_of_records at behind;
+      read = reading-held id format records at bytes torn.holds;
+      first = (behind, ap (λ rs. rs ++ behind) (sym front));
+    } in
+    record {
+      keeps = record {
+        header = torn.keeps.header;
+        latest = refl;
+        moments = moments;
+        few = omega (arith, length-append records in_flight);
+        covered = subst (λ b. ReadsFirst id format (take (length records) all) b) (sym whole) first;
+      };
+      few = omega arith;
+      holds = torn.holds;
+    }
+  where
+    moments : (newer upto : List Change) → [] ≡ newer ++ upto → (left : List Placed) → IsBeginningOf left (readable_records id (bytes_behind file.now upto)) → AreDone (signature_by id format) (upto ++ (file.changes ++ file.older)) left → IsBeginningOf left (records ++ in_flight)
+    moments [] [] e left begins done = torn.keeps.moments [] file.changes refl left (subst (λ bytes. IsBeginningOf left (readable_records id bytes)) torn.keeps.latest begins) done
+    moments [] (x ∷ upto) e left begins done = cc
+    moments (x ∷ newer) upto e left begins done = cc
 
 -- only zeros stand behind a place
 pub record EndsInZeros (at : ℕ) (bytes : List ℕ) : Type 0 where
@@ -629,9 +675,8 @@ written_to_fresh id format has fits =
 pub record NoneRefused (changes : List Change) : Type 0 where
   pub none : (later : List Change) (c : Change) (before : List Change) → changes ≡ later ++ c ∷ before → c.is_done ≡ false → ⊥
 
--- what stands in a file goes with its changes
-pub record IsCoherent (file : File) : Type 0 where
-  pub latest : file.now ≡ bytes_behind file.synced file.changes
+-- the bytes of the last sync stand where no change touched the file
+pub record IsUntouched (file : File) : Type 0 where
   pub untouched : take (untouched_len file.synced file.changes) file.now ≡ take (untouched_len file.synced file.changes) file.synced
 
 are_done_all : (signature : Option ℕ) (changes : List Change) (records : List Placed) → NoneRefused changes → AreDone signature changes records
@@ -699,8 +744,8 @@ none_stale_unnamed : (file : File) (i : ℕ) → file.rewritten ≡ None → IsS
 none_stale_unnamed file i never stale = let some : Some stale.0 ≡ None = sym stale.1 ∙ never in absurd cc
 
 -- by the bytes now
-pub now_is_detectable : (id : FileId) (format : LogFileFormat) (records : List Placed) (synced at : ℕ) (file : File) → IsWrittenTo id format records synced at file → IsCoherent file → NoneRefused (file.changes ++ file.older) → file.rewritten ≡ None → IsDetectableFile id file file.now
-now_is_detectable id format records synced at file written_to coherent none never =
+pub now_is_detectable : (id : FileId) (format : LogFileFormat) (records : List Placed) (synced at : ℕ) (file : File) → IsWrittenTo id format records synced at file → IsUntouched file → NoneRefused (file.changes ++ file.older) → file.rewritten ≡ None → IsDetectableFile id file file.now
+now_is_detectable id format records synced at file written_to kept none never =
     let len = untouched_len file.synced file.changes in
     let read = readable_records id file.now in
     record {
@@ -708,9 +753,9 @@ now_is_detectable id format records synced at file written_to coherent none neve
       newer = [];
       upto = file.changes;
       moment = refl;
-      beginning = subst (λ b. IsBeginningOf read (readable_records id b)) coherent.latest (beginning_itself read);
+      beginning = subst (λ b. IsBeginningOf read (readable_records id b)) written_to.keeps.latest (beginning_itself read);
       done = λ other is. are_done_all (signature_by id other) (file.changes ++ file.older) read none;
-      untouched = subst (λ b. IsBeginningOf (readable_records id b) read) coherent.untouched (readable_records-take id len file.now);
+      untouched = subst (λ b. IsBeginningOf (readable_records id b) read) kept.untouched (readable_records-take id len file.now);
       unmarked = unmarked_held id format records at file.now written_to.holds (zeros_only at file.now (file.changes ++ file.older) written_to.empty none);
       none_stale = λ r has. none_stale_unnamed file r.at never;
     }
@@ -747,6 +792,7 @@ synced_is_detectable id format records synced file keeps unmarked none never =
 pub keeps_weaker : (id : FileId) (format : LogFileFormat) (records all : List Placed) (synced fewer : ℕ) (file : File) → KeepsRecords id format records synced file → IsBeginningOf records all → fewer ≤ synced → KeepsRecords id format all fewer file
 keeps_weaker id format records all synced fewer file keeps more less = record {
   header = keeps.header;
+  latest = keeps.latest;
   moments = λ newer upto e left begins done. beginning_trans left records all (keeps.moments newer upto e left begins done) more;
   few = omega (arith, keeps.few, beginning_length records all more);
   covered = record {

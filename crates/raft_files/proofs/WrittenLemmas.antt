@@ -1,0 +1,107 @@
+-- What a writer's calls leave of the records of a log file.
+use Rattle.std.proofs.Common.{◌≡◌, ◌⊎◌, ℕ, ◌+◌, ◌-◌, ◌<◌, ◌≤◌, max, Bool, true, false, List, [], ◌∷◌, ◌++◌, length, take, Some, refl, ap, sym, subst, ◌∙◌, inl, inr, arith}
+use Rattle.std.proofs.lemmas.List.{length-take-le, take-append-le, append-nil}
+use Rattle.raft_records.specs.Item.{Batch}
+use Rattle.raft_records.specs.Record.{record_of}
+use Rattle.raft_records.specs.declared.pipe_log.FileId.{FileId}
+use Rattle.raft_files.specs.declared.format.LogFileFormat.{LogFileFormat}
+use Rattle.raft_files.specs.Outcomes.{File, Outcome, IsPartOf, IsCutOf, overlaid, padded, written, resized, cut_to, synced_of}
+use Rattle.raft_files.specs.Reading.{Placed}
+use Rattle.raft_files.specs.Detectable.{signature_by}
+use Rattle.raft_files.specs.Records.{KeepsRecords, HoldsRecords, IsWrittenTo, IsTornFrom}
+use Rattle.raft_files.specs.Writer.{IsStep, IsLengthened, IsAppending, IsAppended, IsCutting, IsCut, IsSynced, IsSyncing, IsClosing, IsClosed}
+use Rattle.raft_files.proofs.DetectableLemmas.{beginning_itself, beginning_append}
+use Rattle.raft_files.proofs.RecordsLemmas.{record_given, keeps_weaker, holds_written, written_to_written, written_to_refused, written_to_cut, torn_cut, written_to_synced, torn_synced, torn_still_synced, moment_of_allocation, moment_of_cut, moment_of_cut_back}
+
+-- where nothing was written the file isn't torn
+pub torn_from_written : (id : FileId) (format : LogFileFormat) (records in_flight : List Placed) (synced at : ℕ) (file : File) → IsWrittenTo id format records synced at file → IsTornFrom id format records in_flight synced at file
+torn_from_written id format records in_flight synced at file w = record {
+  keeps = keeps_weaker id format records (records ++ in_flight) synced synced file w.keeps (beginning_append records in_flight) (omega arith);
+  few = w.keeps.few;
+  holds = w.holds;
+}
+
+pub lengthened : (id : FileId) (format : LogFileFormat) (records : List Placed) (synced at room new_room : ℕ) (old new : File) → IsWrittenTo id format records synced at old → IsLengthened room new_room old new → IsWrittenTo id format records synced at new
+lengthened id format records synced at room new_room old new w (inl same) = subst (λ f. IsWrittenTo id format records synced at f) (sym same) w
+lengthened id format records synced at room new_room old new w (inr step) = moment_of_allocation id format records synced at new_room old new w step.1
+
+-- an append that is done
+pub appended : (id : FileId) (format : LogFileFormat) (records : List Placed) (synced at room new_room : ℕ) (old new : File) (given : List ℕ) (batch : Batch) → IsWrittenTo id format records synced at old → record_of (signature_by id format) given ≡ Some (batch, length given) →
+    IsAppended room new_room at given old new → IsWrittenTo id format (records ++ record_given at given batch ∷ []) synced (at + length given) new
+appended id format records synced at room new_room old new given batch w is how =
+    let mid = lengthened id format records synced at room new_room old how.0 w how.1 in
+    subst (λ f. IsWrittenTo id format (records ++ record_given at given batch ∷ []) synced (at + length given) f) (sym how.2) (written_to_written id format records synced at how.0 given batch mid is)
+
+-- a moment of an append, or what a refused one leaves
+pub appending : (id : FileId) (format : LogFileFormat) (records : List Placed) (synced at room new_room : ℕ) (old new : File) (given : List ℕ) (batch : Batch) → IsWrittenTo id format records synced at old → record_of (signature_by id format) given ≡ Some (batch, length given) →
+    IsAppending room new_room at given old new → IsTornFrom id format records (record_given at given batch ∷ []) synced at new
+appending id format records synced at room new_room old new given batch w is how =
+    let mid = lengthened id format records synced at room new_room old how.0 w how.1 in
+    by_step how.0 mid how.2
+  where
+    one : List Placed
+    one = record_given at given batch ∷ []
+    by_outcome : (file : File) → IsWrittenTo id format records synced at file → (is_done : Bool) (after : List ℕ) → Outcome is_done (overlaid file.now at given) (IsPartOf at (length given) file.now) after → IsTornFrom id format records one synced at (written at given is_done after file)
+    by_outcome file mid true after done =
+        let all = written_to_written id format records synced at file given batch mid is in
+        let torn : IsTornFrom id format records one synced at (written at given true (overlaid file.now at given) file) = record {
+          keeps = all.keeps;
+          few = mid.keeps.few;
+          holds = holds_written id format records at file.now given mid.holds;
+        } in
+        subst (λ bytes. IsTornFrom id format records one synced at (written at given true bytes file)) (sym done) torn
+    by_outcome file mid false after part = written_to_refused id format records synced at file given batch after mid is part
+    by_step : (file : File) → IsWrittenTo id format records synced at file → IsStep (written at given) (λ now. overlaid now at given) (IsPartOf at (length given)) file new → IsTornFrom id format records one synced at new
+    by_step file mid (inl same) = subst (λ f. IsTornFrom id format records one synced at f) (sym same) (torn_from_written id format records one synced at file mid)
+    by_step file mid (inr step) = subst (λ f. IsTornFrom id format records one synced at f) (sym step.3) (by_outcome file mid step.1 step.0 step.2)
+
+-- a moment of a cut
+pub cutting : (id : FileId) (format : LogFileFormat) (records : List Placed) (synced at : ℕ) (old new : File) → IsWrittenTo id format records synced at old → IsCutting at old new → IsWrittenTo id format records synced at new
+cutting id format records synced at old new w how = moment_of_cut id format records synced at old new w how
+
+pub cutting_back : (id : FileId) (format : LogFileFormat) (records in_flight : List Placed) (synced at : ℕ) (old new : File) → IsTornFrom id format records in_flight synced at old → IsCutting at old new → IsTornFrom id format records in_flight synced at new
+cutting_back id format records in_flight synced at old new torn how = moment_of_cut_back id format records in_flight synced at old new torn how
+
+-- a cut that is done
+pub cut : (id : FileId) (format : LogFileFormat) (records : List Placed) (synced at : ℕ) (old new : File) → IsWrittenTo id format records synced at old → IsCut at old new → IsWrittenTo id format records synced at new
+cut id format records synced at old new w (inl same) = subst (λ f. IsWrittenTo id format records synced at f) (sym same) w
+cut id format records synced at old new w (inr is) = subst (λ f. IsWrittenTo id format records synced at f) (sym is) (written_to_cut id format records synced at old w)
+
+pub cut_back : (id : FileId) (format : LogFileFormat) (records in_flight : List Placed) (synced at : ℕ) (old new : File) → IsTornFrom id format records in_flight synced at old → IsCut at old new → IsTornFrom id format records in_flight synced at new
+cut_back id format records in_flight synced at old new torn (inl same) = subst (λ f. IsTornFrom id format records in_flight synced at f) (sym same) torn
+cut_back id format records in_flight synced at old new torn (inr is) = subst (λ f. IsTornFrom id format records in_flight synced at f) (sym is) (torn_cut id format records in_flight synced at old torn)
+
+-- a sync that is done
+pub synced : (id : FileId) (format : LogFileFormat) (records : List Placed) (count at : ℕ) (old new : File) → IsWrittenTo id format records count at old → IsSynced old new → IsWrittenTo id format records (length records) at new
+synced id format records count at old new w is = subst (λ f. IsWrittenTo id format records (length records) at f) (sym is) (written_to_synced id format records count at old w)
+
+-- .. after a cut
+pub synced_back : (id : FileId) (format : LogFileFormat) (records in_flight : List Placed) (count at : ℕ) (old new : File) → IsTornFrom id format records in_flight count at old → length old.now ≡ at → IsSynced old new → IsWrittenTo id format records (length records) at new
+synced_back id format records in_flight count at old new torn len is = subst (λ f. IsWrittenTo id format records (length records) at f) (sym is) (torn_synced id format records in_flight count at old torn len)
+
+-- a moment of a sync
+pub syncing : (id : FileId) (format : LogFileFormat) (records : List Placed) (count at : ℕ) (old new : File) → IsWrittenTo id format records count at old → IsSyncing old new → KeepsRecords id format records count new
+syncing id format records count at old new w (inl same) = subst (λ f. KeepsRecords id format records count f) (sym same) w.keeps
+syncing id format records count at old new w (inr is) = keeps_weaker id format records records (length records) count new (synced id format records count at old new w is).keeps (beginning_itself records) w.keeps.few
+
+pub syncing_back : (id : FileId) (format : LogFileFormat) (records in_flight : List Placed) (count at : ℕ) (old new : File) → IsTornFrom id format records in_flight count at old → IsSyncing old new → KeepsRecords id format (records ++ in_flight) count new
+syncing_back id format records in_flight count at old new torn (inl same) = subst (λ f. KeepsRecords id format (records ++ in_flight) count f) (sym same) torn.keeps
+syncing_back id format records in_flight count at old new torn (inr is) =
+    let all = records ++ in_flight in
+    let still = torn_still_synced id format records in_flight count at old torn in
+    keeps_weaker id format all all (length records) count new (subst (λ f. KeepsRecords id format all (length records) f) (sym is) still.keeps) (beginning_itself all) torn.few
+
+-- a moment of a closing
+pub closing : (id : FileId) (format : LogFileFormat) (records : List Placed) (count at : ℕ) (old new : File) → IsWrittenTo id format records count at old → IsClosing at old new → KeepsRecords id format records count new
+closing id format records count at old new w how = syncing id format records count at how.0 new (cutting id format records count at old how.0 w how.1) how.2
+
+pub closing_back : (id : FileId) (format : LogFileFormat) (records in_flight : List Placed) (count at : ℕ) (old new : File) → IsTornFrom id format records in_flight count at old → IsClosing at old new → KeepsRecords id format (records ++ in_flight) count new
+closing_back id format records in_flight count at old new torn how = syncing_back id format records in_flight count at how.0 new (cutting_back id format records in_flight count at old how.0 torn how.1) how.2
+
+-- a closing that is done takes back what a refused append left
+pub closed_back : (id : FileId) (format : LogFileFormat) (records in_flight : List Placed) (count at : ℕ) (old new : File) → IsTornFrom id format records in_flight count at old → IsClosed at old new → IsWrittenTo id format records (length records) at new
+closed_back id format records in_flight count at old new torn how =
+    synced_back id format records in_flight count at how.0 new (cut_back id format records in_flight count at old how.0 torn how.1) (ap length how.2 ∙ length-take-le at old.now torn.holds.within) how.3
+
+pub closed : (id : FileId) (format : LogFileFormat) (records : List Placed) (count at : ℕ) (old new : File) → IsWrittenTo id format records count at old → IsClosed at old new → IsWrittenTo id format records (length records) at new
+closed id format records count at old new w how = synced id format records count at how.0 new (cut id format records count at old how.0 w how.1) how.3
