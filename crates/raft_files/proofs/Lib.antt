@@ -14,5 +14,5 @@ pub mod ExtentLemmas
 pub mod ReadingLemmas
 pub mod DetectableLemmas
 pub mod RecordsLemmas
-
 pub mod WrittenLemmas
+pub mod FreshLemmas

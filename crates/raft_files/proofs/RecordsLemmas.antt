@@ -19,18 +19,19 @@ use Rattle.raft_files.specs.Reading.{Placed, record_place, record_at, placed_bef
 use Rattle.raft_files.specs.Detectable.{IsBeginningOf, format_of, signature_by, bytes_behind, HasByteOf, IsGivenBy, IsDone, AreDone, IsMarkedAt, EndsUnmarked, IsDetectableFile, IsDetectable}
 use Rattle.raft_files.specs.Records.{ReadsFirst, KeepsRecords, IsRefusedAt, IsEmptyFrom, HoldsRecords, IsWrittenTo, IsTornFrom, KeepsBatches}
 use Rattle.raft_files.proofs.DetectableLemmas.{beginning_itself, beginning_trans, beginning_append, beginning_take, beginning_length, beginning_is, beginning_split}
+use Rattle.raft_files.proofs.HeaderLemmas.{length-header_bytes}
 use Rattle.raft_files.proofs.ExtentLemmas.{record_header-append, record_header_is, record_of_header, record_of-take, same_some, header_of_takes}
 use Rattle.raft_files.proofs.ReadingLemmas.{StaysBefore, end_of_placed-from, end_of_placed-within, found_record, records_stay, records_from-enough, IsReading, reading_is, header_of-kept, reading-kept, reading-append, reading-header_bytes, end_of_records-append}
 
 -- The first of the records that are found.
 
-record IsFirst (place : ℕ → ℕ) (found : ℕ → Option (Batch × ℕ)) (at : ℕ) (first : Placed) (rest : List Placed) : Type 0 where
+pub record IsFirst (place : ℕ → ℕ) (found : ℕ → Option (Batch × ℕ)) (at : ℕ) (first : Placed) (rest : List Placed) : Type 0 where
   pub limit : ℕ
   pub stands : first.at ≡ place at
   pub is : found first.at ≡ Some (first.batch, first.len)
   pub others : rest ≡ placed_by limit place found (first.at + first.len)
 
-first_placed : (place : ℕ → ℕ) (found : ℕ → Option (Batch × ℕ)) (n at : ℕ) (first : Placed) (rest : List Placed) → placed_by n place found at ≡ first ∷ rest → IsFirst place found at first rest
+pub first_placed : (place : ℕ → ℕ) (found : ℕ → Option (Batch × ℕ)) (n at : ℕ) (first : Placed) (rest : List Placed) → placed_by n place found at ≡ first ∷ rest → IsFirst place found at first rest
 first_placed place found zero at first rest e = cc
 first_placed place found (suc n) at first rest e = by_found (found (place at)) refl e
   where
@@ -668,6 +669,19 @@ written_to_fresh id format has fits =
     written_to_settled id format [] at bytes
       (record { within = omega arith; read = ap (λ b. reading id b) (take_all at bytes (omega arith)) ∙ reading-header_bytes id format has fits })
       (record { zeros = λ i above below. absurd (omega arith) })
+
+-- a file with a header alone that is synced
+pub written_to_header : (id : FileId) (file : File) (format : LogFileFormat) → HasHeader format → format.alignment < 2 ^ 64 → file.now ≡ header_bytes format → IsWrittenTo id format [] 0 (header_len format.version) (synced_of file)
+written_to_header id file format has fits is =
+    let bytes = header_bytes format in
+    let at = header_len format.version in
+    let len : length bytes ≡ at = length-header_bytes format.version format.alignment in
+    let holds : HoldsRecords id format [] at bytes = record {
+      within = omega arith;
+      read = ap (λ b. reading id b) (take_all at bytes (omega arith)) ∙ reading-header_bytes id format has fits ∙ ap (λ n. Some (record { format = format; records = []; end = n })) len;
+    } in
+    let now : HoldsRecords id format [] at file.now = subst (λ b. HoldsRecords id format [] at b) (sym is) holds in
+    written_to_still id format [] at file.now (file.changes ++ file.older) file.rewritten now (λ i above below. absurd (omega (arith, ap length is)))
 
 -- The premise can be met.
 
