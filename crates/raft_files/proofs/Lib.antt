@@ -16,3 +16,4 @@ pub mod DetectableLemmas
 pub mod RecordsLemmas
 pub mod WrittenLemmas
 pub mod FreshLemmas
+pub mod LogLemmas

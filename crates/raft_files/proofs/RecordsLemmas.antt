@@ -1,7 +1,7 @@
 -- What keeps the records of a log file through a crash.
 use Rattle.std.proofs.Common.{◌≡◌, ◌⊎◌, ℕ, zero, suc, ◌+◌, ◌-◌, ◌^◌, ◌<◌, ◌≤◌, ◌==◌, min, max, Bool, true, false, cond, List, [], ◌∷◌, ◌++◌, length, take, drop, replicate, slice_index, Option, Some, None, option_and_then, Contains, map, refl, ap, sym, subst, ◌∙◌, inl, inr, arith, length-drop, append_assoc}
 use Rattle.std.specs.Prelude.{◌||◌, option_map}
-use Rattle.std.proofs.lemmas.Bool.{cases_Bool, cases_lt}
+use Rattle.std.proofs.lemmas.Bool.{cases_Bool, cases_lt, eqb-true}
 use Rattle.std.proofs.lemmas.Bool.Decides.{nat_tests}
 use Rattle.std.proofs.lemmas.List.{append-nil, take_all, take-take, take-append-le, length-append, length-take, length-take-le, length-replicate, get_or-take, get_or-drop, get_or-replicate, ext_get_or, take-map, length-map, drop-append-le, get_or-append_right, take_at, drop_at, get_or_append_left, get_or_past, nil_from_length}
 use Rattle.std.proofs.lemmas.List.Elements.{Contains-append_right}
@@ -15,7 +15,7 @@ use Rattle.raft_files.specs.declared.format.LogFileFormat.{LogFileFormat}
 use Rattle.raft_files.specs.Header.{HasHeader, header_bytes, header_len, header_of}
 use Rattle.raft_files.specs.Outcomes.{File, Change, MayLeave, is_within, is_touched, untouched_len, IsStaleAt, written, resized, cut_to, synced_of, settled, padded, overlaid, Outcome, IsPartOf, IsCutOf}
 use Rattle.raft_files.specs.Directory.{Directory, Left, Path, Leaves, file_at}
-use Rattle.raft_files.specs.Reading.{Placed, record_place, record_at, placed_before, placed_by, records_from, end_of_records, Reading, records_behind, records_in, reading_behind, reading, records_of, readable_records, readable_batches}
+use Rattle.raft_files.specs.Reading.{Placed, record_place, record_at, placed_before, placed_by, records_from, end_of_records, Reading, records_behind, records_in, reading_behind, reading, records_of, readable_records, readable_batches, ends_with, is_read_to_end}
 use Rattle.raft_files.specs.Detectable.{IsBeginningOf, format_of, signature_by, bytes_behind, HasByteOf, IsGivenBy, IsDone, AreDone, IsMarkedAt, EndsUnmarked, IsDetectableFile, IsDetectable}
 use Rattle.raft_files.specs.Records.{ReadsFirst, KeepsRecords, IsRefusedAt, IsEmptyFrom, HoldsRecords, IsWrittenTo, IsTornFrom, KeepsBatches}
 use Rattle.raft_files.proofs.DetectableLemmas.{beginning_itself, beginning_trans, beginning_append, beginning_take, beginning_length, beginning_is, beginning_split}
@@ -68,7 +68,7 @@ record_header_zeros bytes at header long zeros e =
     let second = take_u64_long (drop 8 (drop at bytes)) (omega (arith, has.long, length-drop 8 (drop at bytes))) in
     let none : front ≡ replicate 8 0 =
     ext_get_or 0 front (replicate 8 0) (omega (arith, len, length-replicate {A = ℕ} 8 0))
-      (λ i within. get_or-take 8 (drop at bytes) i 0 (omega (arith, len)) ∙ get_or-drop at bytes i 0 ∙ zeros (at + i) (omega arith) (omega (arith, len)) ∙ sym (get_or-replicate {A = ℕ} 8 i 0 0 (omega (arith, len)))) in
+    (λ i within. get_or-take 8 (drop at bytes) i 0 (omega (arith, len)) ∙ get_or-drop at bytes i 0 ∙ zeros (at + i) (omega arith) (omega (arith, len)) ∙ sym (get_or-replicate {A = ℕ} 8 i 0 0 (omega (arith, len)))) in
     let other = from_be_bytes w64 (take 8 (drop 8 (drop at bytes))) in
     let read : record_header (drop at bytes) ≡ header_in (from_be_bytes w64 front) other =
     ap (λ taken. option_and_then (λ first. option_and_then (λ second. header_in first.0 second.0) (take_u64 first.1)) taken) first
@@ -219,6 +219,7 @@ keeps_more id format old all synced file c rewritten keeps more header moment be
   where
     same : take synced old ≡ take synced all
     same = sym (ap (λ rs. take synced rs) more.1 ∙ take-append-le synced old more.0 keeps.few)
+
     moments : (newer upto : List Change) → c ∷ file.changes ≡ newer ++ upto → (left : List Placed) → IsBeginningOf left (readable_records id (bytes_behind file.synced upto)) → AreDone (signature_by id format) (upto ++ file.older) left → IsBeginningOf left all
     moments [] upto e = subst (λ changes. (left : List Placed) → IsBeginningOf left (readable_records id (bytes_behind file.synced changes)) → AreDone (signature_by id format) (changes ++ file.older) left → IsBeginningOf left all) e moment
     moments (x ∷ newer) upto e = λ left begins done. beginning_trans left old all (keeps.moments newer upto (cc) left begins done) more
@@ -228,7 +229,7 @@ keeps_held : (id : FileId) (format : LogFileFormat) (old new all : List Placed) 
     end_of_records (header_len format.version) (take synced old) ≤ c.from → KeepsRecords id format all synced (changed_by c rewritten file)
 keeps_held id format old new all synced at file c rewritten keeps more holds empty first behind =
     keeps_more id format old all synced file c rewritten keeps more (format_of-held id format new at c.after holds)
-      (λ left begins done. beginning_trans left new all (left_of_held id format new at c.after (c ∷ file.changes ++ file.older) holds empty left begins done) first) behind
+    (λ left begins done. beginning_trans left new all (left_of_held id format new at c.after (c ∷ file.changes ++ file.older) holds empty left begins done) first) behind
 
 -- the synced records end before the place of the writer
 synced_within : (id : FileId) (format : LogFileFormat) (records : List Placed) (synced at : ℕ) (bytes : List ℕ) → HoldsRecords id format records at bytes → end_of_records (header_len format.version) (take synced records) ≤ at
@@ -303,7 +304,7 @@ same_front at a b long_a long_b same =
     let len_a : length (take at a) ≡ at = length-take-le at a long_a in
     let len_b : length (take at b) ≡ at = length-take-le at b long_b in
     ext_get_or 0 (take at a) (take at b) (omega arith)
-      (λ i within. get_or-take at a i 0 (omega arith) ∙ same i (omega arith) ∙ sym (get_or-take at b i 0 (omega arith)))
+    (λ i within. get_or-take at a i 0 (omega arith) ∙ same i (omega arith) ∙ sym (get_or-take at b i 0 (omega arith)))
 
 holds_same : (id : FileId) (format : LogFileFormat) (records : List Placed) (at : ℕ) (a b : List ℕ) → HoldsRecords id format records at a → take at a ≡ take at b → at ≤ length b → HoldsRecords id format records at b
 holds_same id format records at a b holds same long = record { within = long; read = ap (λ bytes. reading id bytes) (sym same) ∙ holds.read }
@@ -362,7 +363,7 @@ written_to_lengthened id format records synced at file is_done after written len
     let to : c.from + c.size ≡ length after = omega arith in
     let empty = empty_lengthened is_done at file.now after c (file.changes ++ file.older) lengthened written.empty from to refl refl in
     written_to_changed id format records synced at file c file.rewritten written
-      (same_front at file.now after long (omega arith) (λ i within. sym (lengthened.front i (omega arith)))) (omega arith) empty (omega arith)
+    (same_front at file.now after long (omega arith) (λ i within. sym (lengthened.front i (omega arith)))) (omega arith) empty (omega arith)
 
 -- an allocation that is done
 pub written_to_allocated : (id : FileId) (format : LogFileFormat) (records : List Placed) (synced at : ℕ) (file : File) (size : ℕ) → IsWrittenTo id format records synced at file → IsWrittenTo id format records synced at (resized true (padded file.now size) file)
@@ -518,7 +519,7 @@ written_to_refused id format records synced at file given batch after written_to
     let empty = empty_written at file.now after c (file.changes ++ file.older) written_to.empty refl (kept_part at (length given) file.now after part) in
     record {
       keeps = keeps_more id format records (records ++ one) synced file c _ written_to.keeps (beginning_append records one) (format_of-held id format records at after holds)
-      (left_of_torn id format records c (file.changes ++ file.older) batch holds refl refl is empty) (synced_within id format records synced at file.now written_to.holds);
+          (left_of_torn id format records c (file.changes ++ file.older) batch holds refl refl is empty) (synced_within id format records synced at file.now written_to.holds);
       few = written_to.keeps.few;
       holds = holds;
     }
@@ -667,8 +668,8 @@ written_to_fresh id format has fits =
     let bytes = header_bytes format in
     let at = length bytes in
     written_to_settled id format [] at bytes
-      (record { within = omega arith; read = ap (λ b. reading id b) (take_all at bytes (omega arith)) ∙ reading-header_bytes id format has fits })
-      (record { zeros = λ i above below. absurd (omega arith) })
+    (record { within = omega arith; read = ap (λ b. reading id b) (take_all at bytes (omega arith)) ∙ reading-header_bytes id format has fits })
+    (record { zeros = λ i above below. absurd (omega arith) })
 
 -- a file with a header alone that is synced
 pub written_to_header : (id : FileId) (file : File) (format : LogFileFormat) → HasHeader format → format.alignment < 2 ^ 64 → file.now ≡ header_bytes format → IsWrittenTo id format [] 0 (header_len format.version) (synced_of file)
@@ -682,6 +683,25 @@ written_to_header id file format has fits is =
     } in
     let now : HoldsRecords id format [] at file.now = subst (λ b. HoldsRecords id format [] at b) (sym is) holds in
     written_to_still id format [] at file.now (file.changes ++ file.older) file.rewritten now (λ i above below. absurd (omega (arith, ap length is)))
+
+-- a file that is read to its end and synced
+pub written_to_read : (id : FileId) (file : File) (bytes : List ℕ) (format : LogFileFormat) → file.now ≡ bytes → format_of bytes ≡ Some format → is_read_to_end id bytes ≡ true →
+    IsWrittenTo id format (readable_records id bytes) (length (readable_records id bytes)) (length bytes) (synced_of file)
+written_to_read id file bytes format now header to_end =
+    let holds : HoldsRecords id format (readable_records id file.now) (length file.now) file.now =
+    record { within = omega arith; read = ap (λ b. reading id b) (take_all (length file.now) file.now (omega arith)) ∙ whole file.now (ap format_of now ∙ header) (ap (λ b. is_read_to_end id b) now ∙ to_end) } in
+    let written = written_to_still id format (readable_records id file.now) (length file.now) file.now (file.changes ++ file.older) file.rewritten holds (λ i above below. absurd (omega arith)) in
+    subst (λ b. IsWrittenTo id format (readable_records id b) (length (readable_records id b)) (length b) (synced_of file)) now written
+  where
+    whole : (b : List ℕ) → format_of b ≡ Some format → is_read_to_end id b ≡ true → reading id b ≡ Some (record { format = format; records = readable_records id b; end = length b })
+    whole b is ends = by_reading (reading id b) refl ends
+      where
+        by_reading : (read : Option Reading) → reading id b ≡ read → ends_with (length b) read ≡ true → read ≡ Some (record { format = format; records = records_of read; end = length b })
+        by_reading None e ends = cc
+        by_reading (Some r) e ends =
+            let same : r.format ≡ format = same_some (sym (format_of_read id b r e) ∙ is) in
+            ap (λ f. Some (record { format = f; records = r.records; end = r.end })) same
+            ∙ ap (λ n. Some (record { format = format; records = r.records; end = n })) (eqb-true r.end (length b) ends)
 
 -- The premise can be met.
 
@@ -814,7 +834,7 @@ keeps_weaker id format records all synced fewer file keeps more less = record {
     end = keeps.covered.end;
     read = keeps.covered.read;
     first = beginning_trans (take fewer all) (take synced records) keeps.covered.all
-      (subst (λ rs. IsBeginningOf rs (take synced records)) same (beginning_take fewer (take synced records))) keeps.covered.first;
+        (subst (λ rs. IsBeginningOf rs (take synced records)) same (beginning_take fewer (take synced records))) keeps.covered.first;
   };
 }
   where
@@ -832,8 +852,10 @@ moment_of_write id format records synced at old new given batch written_to is ho
   where
     one : List Placed
     one = record_given at given batch ∷ []
+
     all : List Placed
     all = records ++ one
+
     by_outcome : (is_done : Bool) (after : List ℕ) → Outcome is_done (overlaid old.now at given) (IsPartOf at (length given) old.now) after → KeepsRecords id format all synced (written at given is_done after old)
     by_outcome true after done = subst (λ bytes. KeepsRecords id format all synced (written at given true bytes old)) (sym done) ((written_to_written id format records synced at old given batch written_to is).keeps)
     by_outcome false after part = (written_to_refused id format records synced at old given batch after written_to is part).keeps

@@ -41,6 +41,7 @@ appending id format records synced at room new_room old new given batch w is how
   where
     one : List Placed
     one = record_given at given batch ∷ []
+
     by_outcome : (file : File) → IsWrittenTo id format records synced at file → (is_done : Bool) (after : List ℕ) → Outcome is_done (overlaid file.now at given) (IsPartOf at (length given) file.now) after → IsTornFrom id format records one synced at (written at given is_done after file)
     by_outcome file mid true after done =
         let all = written_to_written id format records synced at file given batch mid is in
@@ -51,6 +52,7 @@ appending id format records synced at room new_room old new given batch w is how
         } in
         subst (λ bytes. IsTornFrom id format records one synced at (written at given true bytes file)) (sym done) torn
     by_outcome file mid false after part = written_to_refused id format records synced at file given batch after mid is part
+
     by_step : (file : File) → IsWrittenTo id format records synced at file → IsStep (written at given) (λ now. overlaid now at given) (IsPartOf at (length given)) file new → IsTornFrom id format records one synced at new
     by_step file mid (inl same) = subst (λ f. IsTornFrom id format records one synced at f) (sym same) (torn_from_written id format records one synced at file mid)
     by_step file mid (inr step) = subst (λ f. IsTornFrom id format records one synced at f) (sym step.3) (by_outcome file mid step.1 step.0 step.2)
