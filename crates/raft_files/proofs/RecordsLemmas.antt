@@ -3,25 +3,25 @@ use Rattle.std.proofs.Common.{◌≡◌, ◌⊎◌, ℕ, zero, suc, ◌+◌, ◌
 use Rattle.std.specs.Prelude.{◌||◌, option_map}
 use Rattle.std.proofs.lemmas.Bool.{cases_Bool, cases_lt, eqb-true}
 use Rattle.std.proofs.lemmas.Bool.Decides.{nat_tests}
-use Rattle.std.proofs.lemmas.List.{append-nil, take_all, take-take, take-append-le, length-append, length-take, length-take-le, length-replicate, get_or-take, get_or-drop, get_or-replicate, ext_get_or, take-map, length-map, drop-append-le, get_or-append_right, take_at, drop_at, get_or_append_left, get_or_past, nil_from_length}
+use Rattle.std.proofs.lemmas.List.{append-nil, take_all, take-take, take-append-le, length-append, length-take, length-take-le, length-replicate, get_or-take, get_or-drop, get_or-replicate, ext_get_or, take-map, length-map, get_or-append_right, take_at, get_or_append_left}
 use Rattle.std.proofs.lemmas.List.Elements.{Contains-append_right}
 use Rattle.std.specs.Int.{w64, from_be_bytes}
 use Rattle.raft_codec.specs.Number.{take_u64}
-use Rattle.raft_codec.proofs.NumberLemmas.{take_u64_short, take_u64_long}
+use Rattle.raft_codec.proofs.NumberLemmas.{take_u64_long}
 use Rattle.raft_records.specs.Item.{Batch}
-use Rattle.raft_records.specs.Record.{Header, header_in, record_header, parts_by, record_parts, record_of}
+use Rattle.raft_records.specs.Record.{Header, header_in, record_header, parts_by, record_of}
 use Rattle.raft_records.specs.declared.pipe_log.FileId.{FileId}
 use Rattle.raft_files.specs.declared.format.LogFileFormat.{LogFileFormat}
 use Rattle.raft_files.specs.Header.{HasHeader, header_bytes, header_len, header_of}
-use Rattle.raft_files.specs.Outcomes.{File, Change, MayLeave, is_within, is_touched, untouched_len, IsStaleAt, written, resized, cut_to, synced_of, settled, padded, overlaid, Outcome, IsPartOf, IsCutOf}
-use Rattle.raft_files.specs.Directory.{Directory, Left, Path, Leaves, file_at}
-use Rattle.raft_files.specs.Reading.{Placed, record_place, record_at, placed_before, placed_by, records_from, end_of_records, Reading, records_behind, records_in, reading_behind, reading, records_of, readable_records, readable_batches, ends_with, is_read_to_end}
-use Rattle.raft_files.specs.Detectable.{IsBeginningOf, format_of, signature_by, bytes_behind, HasByteOf, IsGivenBy, IsDone, AreDone, IsMarkedAt, EndsUnmarked, IsDetectableFile, IsDetectable}
+use Rattle.raft_files.specs.Outcomes.{File, Change, is_within, is_touched, untouched_len, IsStaleAt, written, resized, cut_to, synced_of, settled, padded, overlaid, Outcome, IsPartOf, IsCutOf}
+use Rattle.raft_files.specs.Directory.{Directory, Path, file_at}
+use Rattle.raft_files.specs.Reading.{Placed, record_place, record_at, placed_before, placed_by, records_from, end_of_records, Reading, records_behind, records_in, reading_behind, reading, records_of, readable_records, ends_with, is_read_to_end}
+use Rattle.raft_files.specs.Detectable.{IsBeginningOf, format_of, signature_by, bytes_behind, IsGivenBy, IsDone, AreDone, IsMarkedAt, EndsUnmarked, IsDetectableFile}
 use Rattle.raft_files.specs.Records.{ReadsFirst, KeepsRecords, IsRefusedAt, IsEmptyFrom, HoldsRecords, IsWrittenTo, IsTornFrom, KeepsBatches}
 use Rattle.raft_files.proofs.DetectableLemmas.{beginning_itself, beginning_trans, beginning_append, beginning_take, beginning_length, beginning_is, beginning_split}
 use Rattle.raft_files.proofs.HeaderLemmas.{length-header_bytes}
-use Rattle.raft_files.proofs.ExtentLemmas.{record_header-append, record_header_is, record_of_header, record_of-take, same_some, header_of_takes}
-use Rattle.raft_files.proofs.ReadingLemmas.{StaysBefore, end_of_placed-from, end_of_placed-within, found_record, records_stay, records_from-enough, IsReading, reading_is, header_of-kept, reading-kept, reading-append, reading-header_bytes, end_of_records-append}
+use Rattle.raft_files.proofs.ExtentLemmas.{record_header_is, record_of_header, same_some, header_of_takes}
+use Rattle.raft_files.proofs.ReadingLemmas.{StaysBefore, end_of_placed-from, end_of_placed-within, found_record, records_stay, reading_is, reading-kept, reading-append, reading-header_bytes}
 
 -- The first of the records that are found.
 

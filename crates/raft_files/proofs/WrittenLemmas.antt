@@ -1,14 +1,14 @@
 -- What a writer's calls leave of the records of a log file.
-use Rattle.std.proofs.Common.{◌≡◌, ◌⊎◌, ℕ, ◌+◌, ◌-◌, ◌<◌, ◌≤◌, max, Bool, true, false, List, [], ◌∷◌, ◌++◌, length, take, Some, refl, ap, sym, subst, ◌∙◌, inl, inr, arith}
-use Rattle.std.proofs.lemmas.List.{length-take-le, take-append-le, append-nil}
+use Rattle.std.proofs.Common.{◌≡◌, ℕ, ◌+◌, ◌-◌, Bool, true, false, List, [], ◌∷◌, ◌++◌, length, Some, ap, sym, subst, ◌∙◌, inl, inr, arith}
+use Rattle.std.proofs.lemmas.List.{length-take-le}
 use Rattle.raft_records.specs.Item.{Batch}
 use Rattle.raft_records.specs.Record.{record_of}
 use Rattle.raft_records.specs.declared.pipe_log.FileId.{FileId}
 use Rattle.raft_files.specs.declared.format.LogFileFormat.{LogFileFormat}
-use Rattle.raft_files.specs.Outcomes.{File, Outcome, IsPartOf, IsCutOf, overlaid, padded, written, resized, cut_to, synced_of}
+use Rattle.raft_files.specs.Outcomes.{File, Outcome, IsPartOf, overlaid, written}
 use Rattle.raft_files.specs.Reading.{Placed}
 use Rattle.raft_files.specs.Detectable.{signature_by}
-use Rattle.raft_files.specs.Records.{KeepsRecords, HoldsRecords, IsWrittenTo, IsTornFrom}
+use Rattle.raft_files.specs.Records.{KeepsRecords, IsWrittenTo, IsTornFrom}
 use Rattle.raft_files.specs.Writer.{IsStep, IsLengthened, IsAppending, IsAppended, IsCutting, IsCut, IsSynced, IsSyncing, IsClosing, IsClosed}
 use Rattle.raft_files.proofs.DetectableLemmas.{beginning_itself, beginning_append}
 use Rattle.raft_files.proofs.RecordsLemmas.{record_given, keeps_weaker, holds_written, written_to_written, written_to_refused, written_to_cut, torn_cut, written_to_synced, torn_synced, torn_still_synced, moment_of_allocation, moment_of_cut, moment_of_cut_back}
