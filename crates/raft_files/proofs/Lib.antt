@@ -1,0 +1,4 @@
+pub mod NameLemmas
+pub mod HeaderLemmas
+pub mod ExtentLemmas
+pub mod ReadingLemmas

@@ -5,7 +5,7 @@ use Rattle.std.specs.Str.{bytes_eq}
 use Rattle.std.specs.Ordering.{nat_cmp}
 use Rattle.std.specs.Cmp.Lexicographic.{slice_cmp}
 use Rattle.std.specs.FinMap as map
-use Rattle.raft_files.specs.Outcomes.{File, MayLeave, IsPartOf, written, resized, settled, renamed_of, padded}
+use Rattle.raft_files.specs.Outcomes.{File, MayLeave, IsPartOf, IsCutOf, Outcome, written, resized, settled, renamed_of, padded, overlaid}
 
 abbrev pub Path : Type 0
 Path = List ℕ
@@ -50,20 +50,21 @@ created path n = cond (is_some (file_at n path)) n (placed path (settled []) n)
 abbrev pub HasFile : Directory → Path → Type 0
 HasFile n path = IsSome (file_at n path)
 
--- a moment of a write, whole, in part or not at all
+-- a moment of a call that changes one file: nothing has changed, or the call is done, or its range holds other bytes
+abbrev pub IsChanging : Path → (Bool → List ℕ → File → File) → (List ℕ → List ℕ) → (List ℕ → List ℕ → Type 0) → Directory → Directory → Type 0
+IsChanging path step wanted IsPart old new =
+    (new ≡ old) ⊎ ((file : File) × (after : List ℕ) × (is_done : Bool) × (file_at old path ≡ Some file)
+    × Outcome is_done (wanted file.now) (IsPart file.now) after × (new ≡ placed path (step is_done after file) old))
+
 abbrev pub IsWriting : Path → ℕ → List ℕ → Directory → Directory → Type 0
-IsWriting path at given old new =
-    (new ≡ old) ⊎ ((file : File) × (after : List ℕ) × (is_done : Bool) × (file_at old path ≡ Some file) × IsPartOf at (length given) file.now after × (new ≡ placed path (written at given is_done after file) old))
+IsWriting path at given = IsChanging path (written at given) (λ now. overlaid now at given) (IsPartOf at (length given))
 
--- a moment of a truncation: some length from the wanted one up to the old one
 abbrev pub IsTruncating : Path → ℕ → Directory → Directory → Type 0
-IsTruncating path size old new =
-    (new ≡ old) ⊎ ((file : File) × (len : ℕ) × (is_done : Bool) × (file_at old path ≡ Some file) × (min size (length file.now) ≤ len) × (new ≡ placed path (resized is_done (take len file.now) file) old))
+IsTruncating path size = IsChanging path resized (take size) (IsCutOf size)
 
--- a moment of an allocation: zeros behind the old end, up to some length at most the wanted one
+-- what an allocation lengthens a file by begins at its end
 abbrev pub IsAllocating : Path → ℕ → Directory → Directory → Type 0
-IsAllocating path size old new =
-    (new ≡ old) ⊎ ((file : File) × (len : ℕ) × (is_done : Bool) × (file_at old path ≡ Some file) × (len ≤ size) × (new ≡ placed path (resized is_done (padded file.now len) file) old))
+IsAllocating path size = IsChanging path resized (λ now. padded now size) (λ now. IsPartOf (length now) (size - length now) now)
 
 abbrev pub IsOneOf : Directory → Directory → Directory → Type 0
 IsOneOf a b n = (n ≡ a) ⊎ (n ≡ b)

@@ -1,5 +1,5 @@
 -- One file: its bytes now, and what a crash may leave of it.
-use Rattle.std.specs.Prelude.{◌≡◌, ◌⊎◌, ℕ, ◌+◌, ◌-◌, ◌<◌, ◌≤◌, min, max, Bool, true, false, ◌&&◌, ◌||◌, nat_le, nat_lt, List, [], ◌∷◌, ◌++◌, length, take, drop, replicate, slice_index, Option, Some, None, map}
+use Rattle.std.specs.Prelude.{◌≡◌, ◌⊎◌, ℕ, ◌+◌, ◌-◌, ◌<◌, ◌≤◌, min, max, Bool, true, false, ◌&&◌, ◌||◌, nat_le, nat_lt, List, [], ◌∷◌, ◌++◌, length, take, drop, replicate, slice_index, Option, Some, None, map, ◌==◌, if◌then◌else◌}
 use Rattle.std.specs.List.{list_any}
 
 -- a write, an allocation or a truncation, whole or in part
@@ -47,7 +47,7 @@ pub record MayLeave (file : File) (left : List ℕ) : Type 0 where
 -- the length of the longest beginning that no change since the last sync touched
 abbrev pub untouched_len : List ℕ → List Change → ℕ
 untouched_len synced [] = length synced
-untouched_len synced (c ∷ changes) = min c.from (untouched_len synced changes)
+untouched_len synced (c ∷ changes) = if c.size == 0 then untouched_len synced changes else min c.from (untouched_len synced changes)
 
 -- no write touched this place since the file was renamed
 abbrev pub IsStaleAt : File → ℕ → Type 0
@@ -99,3 +99,14 @@ pub record IsPartOf (at len : ℕ) (old new : List ℕ) : Type 0 where
   pub no_shorter : length old ≤ length new
   pub no_longer : length new ≤ max (length old) (at + len)
   pub elsewhere : (i : ℕ) → i < length old → is_within at len i ≡ false → slice_index new i ≡ slice_index old i
+
+-- the bytes at a moment of a truncation that is refused: some length between, and what stands before the wanted end
+pub record IsCutOf (size : ℕ) (old new : List ℕ) : Type 0 where
+  pub no_shorter : min size (length old) ≤ length new
+  pub no_longer : length new ≤ length old
+  pub kept : take (min size (length old)) new ≡ take (min size (length old)) old
+
+-- a call that is done leaves the wanted bytes, one that isn't leaves others in its range
+abbrev pub Outcome : Bool → List ℕ → (List ℕ → Type 0) → List ℕ → Type 0
+Outcome true wanted IsPart after = after ≡ wanted
+Outcome false wanted IsPart after = IsPart after

@@ -98,6 +98,7 @@ pub trait FileSystem: Send + Sync {
     /// Refused as `Other` for a handle that was opened to be read only.
     fn new_writer(&mut self, handle: &Self::Handle) -> Result<Self::Writer, FsFault>
         ensures writer { IfOk result (λ w. (writer_path w ≡ handle_path handle.now) × (may_write handle.now ≡ true)) }
+        ensures refused { may_write handle.now ≡ false → result ≡ Err (FsFault.Io IoKind.Other) }
         ensures unchanged { directory self.new ≡ directory self.old }
         ensures any_moment { moments self.new ≡ moments self.old }
         ensures cause { Counts result (refusals_of self.old) (refusals_of self.new) };
@@ -153,6 +154,7 @@ pub trait FileSystem: Send + Sync {
     fn file_size(&mut self, handle: &Self::Handle) -> Result<usize, FsFault>
         ensures size { IfOk result (λ n. (file : File)
             × (file_at (directory self.old) (handle_path handle.now) ≡ Some file) × (n ≡ length file.now)) }
+        ensures fits { IfOk result (λ n. n < 2 ^ 63) }
         ensures unchanged { directory self.new ≡ directory self.old }
         ensures any_moment { moments self.new ≡ moments self.old }
         ensures cause { Counts result (refusals_of self.old) (refusals_of self.new) };

@@ -2,5 +2,7 @@
 #![tactic(auto)]
 
 pub mod env;
+pub mod format;
 
 pub use env::{FileSystem, FsFault, Permission};
+pub use format::{FileNameExt, LogFileFormat, is_zero_padded};
