@@ -1,0 +1,6 @@
+pub mod Log
+pub mod Open
+pub mod Agrees
+pub mod Cause
+pub mod Append
+pub mod Engine
