@@ -9,7 +9,9 @@ pub mod memory;
 mod paths;
 mod slot;
 mod tree;
+pub mod log_file;
 
 pub use env::{FileSystem, FsFault, IoKind, Permission};
 pub use format::{FileNameExt, LogFileFormat, is_zero_padded};
 pub use memory::{MemoryFileSystem, MemoryHandle, MemoryReader, MemoryWriter};
+pub use log_file::LogFileWriter;
