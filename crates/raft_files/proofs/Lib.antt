@@ -2,3 +2,4 @@ pub mod NameLemmas
 pub mod HeaderLemmas
 pub mod ExtentLemmas
 pub mod ReadingLemmas
+pub mod ReaderLemmas

@@ -3,6 +3,8 @@
 
 pub mod env;
 pub mod format;
+pub mod reader;
 
 pub use env::{FileSystem, FsFault, Permission};
 pub use format::{FileNameExt, LogFileFormat, is_zero_padded};
+pub use reader::RecordReader;
