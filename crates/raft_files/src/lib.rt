@@ -3,8 +3,15 @@
 
 pub mod env;
 pub mod format;
+mod history;
+mod known;
+pub mod memory;
+mod paths;
 pub mod reader;
+mod slot;
+mod tree;
 
-pub use env::{FileSystem, FsFault, Permission};
+pub use env::{FileSystem, FsFault, IoKind, Permission};
 pub use format::{FileNameExt, LogFileFormat, is_zero_padded};
+pub use memory::{MemoryFileSystem, MemoryHandle, MemoryReader, MemoryWriter};
 pub use reader::RecordReader;

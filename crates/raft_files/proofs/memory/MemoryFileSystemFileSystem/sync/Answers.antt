@@ -1,0 +1,12 @@
+use Rattle.std.proofs.Common.{◌≡◌, inr, ◌∷◌, map, ap, rules}
+use Rattle.std.specs.String.{string_bytes}
+use Rattle.raft_files.specs.Outcomes.{synced_of}
+use Rattle.raft_files.specs.Directory.{changed}
+use Rattle.raft_files.specs.Memory.{tree_directory}
+use Rattle.raft_files.proofs.MomentsLemmas.{passes_one}
+use Rattle.raft_files.proofs.memory.MemoryFileSystemFileSystem.sync.Goals as goal
+
+pub returns-clause-any_moment : goal.returns-clause-any_moment
+returns-clause-any_moment c =
+    let is : tree_directory c.sync.new.self ≡ changed (string_bytes c.args.writer.now.path) synced_of (tree_directory c.args.self.now.tree) = search rules in
+    passes_one _ _ _ _ (ap (λ l. tree_directory c.sync.new.self ∷ map tree_directory l) c.with-past.ensures) (inr is)

@@ -1,0 +1,23 @@
+-- What a slot keeps of its file.
+use Rattle.std.specs.Prelude.{◌≡◌, ℕ, Bool, false, ◌≤◌, length, List, slice_index}
+use Rattle.std.specs.List.{list_any}
+use Rattle.raft_files.specs.Outcomes.{File, is_within, is_touched, least_len, greatest_len}
+
+-- a place is in one of the ranges, each of them a first place and a size
+abbrev pub is_covered : List (ℕ × ℕ) → ℕ → Bool
+is_covered ranges i = list_any (λ r. is_within r.0 r.1 i) ranges
+
+-- outside the ranges the bytes are those of the last sync
+pub record Agree (ranges : List (ℕ × ℕ)) (bytes synced : List ℕ) : Type 0 where
+  pub each : (i : ℕ) → is_covered ranges i ≡ false → slice_index bytes i ≡ slice_index synced i
+
+-- the bytes, the ranges and the lengths of a slot are those of the file
+pub record IsKept (bytes synced : List ℕ) (ranges : List (ℕ × ℕ)) (low high : ℕ) (file : File) : Type 0 where
+  pub now : file.now ≡ bytes
+  pub on_disk : file.synced ≡ synced
+  pub touched : (i : ℕ) → is_touched file.changes i ≡ is_covered ranges i
+  pub agree : Agree ranges bytes synced
+  pub low_is : least_len file.synced file.changes ≡ low
+  pub high_is : greatest_len file.synced file.changes ≡ high
+  pub above_low : low ≤ length bytes
+  pub below_high : length bytes ≤ high

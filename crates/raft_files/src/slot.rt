@@ -1,0 +1,192 @@
+//! A file in memory: its bytes now, those of its last sync, and the ranges that were touched since.
+ghost use Rattle.std.specs.Prelude.{◌≡◌, ◌≤◌, ◌<◌, ◌+◌, ◌++◌, ◌^◌, ◌||◌, ℕ, [], length, take, drop, slice_index, if◌then◌else◌, true, OnOk, OnErr, vec_len, vec_capacity};
+ghost use Rattle.raft_files.specs.Outcomes.{File, settled, written, resized, synced_of, overlaid, padded, is_within};
+ghost use Rattle.raft_files.specs.Kept.{IsKept, is_covered, Agree};
+
+use crate::known::{Known, Step};
+use std::alloc::{AllocError, Global};
+use std::marker::Model;
+
+#[derive(Drop)]
+pub(crate) struct Slot {
+    bytes: Vec<u8>,
+    synced: Vec<u8>,
+    ranges: Vec<(usize, usize)>,
+    least: usize,
+    greatest: usize,
+    known: Known,
+}
+
+impl Model for Slot {
+    ghost Value = { File };
+
+    ghost view = { λ s. s.known.file };
+
+    ghost invariant = { λ s. IsKept s.bytes.items s.synced.items s.ranges.items s.least s.greatest s.known.file };
+}
+
+impl Slot {
+    pub(crate) fn new(alloc: Global) -> Slot
+        ensures { result ≡ settled [] }
+    {
+        Slot {
+            bytes: Vec::new(alloc),
+            synced: Vec::new(alloc),
+            ranges: Vec::new(alloc),
+            least: 0,
+            greatest: 0,
+            known: Known::new(),
+        }
+    }
+
+    pub(crate) fn bytes(&self) -> &[u8]
+        ensures value { result.now ≡ self.now.now }
+        ensures fits { length result.now < 2 ^ 63 }
+    {
+        let _known = &self.known;
+        &self.bytes
+    }
+
+    /// A write of `given`, of which `kept` reached the file.
+    pub(crate) fn write(
+        &mut self,
+        at: usize,
+        given: &[u8],
+        kept: &[u8],
+        is_done: bool,
+    ) -> Result<(), AllocError>
+        requires fits { at + length given.now < 2 ^ 63 }
+        requires part { length kept.now ≤ length given.now }
+        ensures ok { OnOk result (self.new ≡ written at given.now is_done (overlaid self.old.now at kept.now) self.old) }
+        ensures err { OnErr result (self.new ≡ self.old) }
+    {
+        self.ranges.reserve(1)?;
+        overlay(&mut self.bytes, at, kept)?;
+        add_range(&mut self.ranges, at, given.len());
+        self.least = self.least.min(self.bytes.len());
+        self.greatest = self.greatest.max(self.bytes.len());
+        self.known = self
+            .known
+            .then(&Step::Write(at, given, is_done, &self.bytes));
+        Ok(())
+    }
+}
+
+impl Slot {
+    pub(crate) fn cut(&mut self, size: usize) -> Result<(), AllocError>
+        ensures ok { OnOk result (self.new ≡ resized true (take size self.old.now) self.old) }
+        ensures err { OnErr result (self.new ≡ self.old) }
+    {
+        self.ranges.reserve(1)?;
+        let from = size.min(self.bytes.len());
+        add_range(&mut self.ranges, from, self.bytes.len() - from);
+        self.bytes.truncate(from);
+        self.least = self.least.min(from);
+        self.greatest = self.greatest.max(from);
+        self.known = self.known.then(&Step::Resize(true, &self.bytes));
+        Ok(())
+    }
+
+    pub(crate) fn lengthen(&mut self, size: usize) -> Result<(), AllocError>
+        ensures ok { OnOk result (self.new ≡ resized true (padded self.old.now size) self.old) }
+        ensures err { OnErr result (self.new ≡ self.old) }
+    {
+        self.ranges.reserve(1)?;
+        let from = self.bytes.len();
+        let len = size.max(from);
+        self.bytes.resize(len, 0)?;
+        add_range(&mut self.ranges, from, len - from);
+        self.least = self.least.min(len);
+        self.greatest = self.greatest.max(len);
+        self.known = self.known.then(&Step::Resize(true, &self.bytes));
+        Ok(())
+    }
+
+    /// Takes time for what changed since the last sync, and no more.
+    pub(crate) fn sync(&mut self) -> Result<(), AllocError>
+        ensures ok { OnOk result (self.new ≡ synced_of self.old) }
+        ensures err { OnErr result (self.new ≡ self.old) }
+    {
+        patch(&mut self.synced, &self.bytes, &self.ranges)?;
+        self.ranges.clear();
+        self.least = self.bytes.len();
+        self.greatest = self.bytes.len();
+        self.known = self.known.then(&Step::Sync);
+        Ok(())
+    }
+}
+
+// A range that begins where the last one ends is joined to it, so appends stay one range.
+fn add_range(ranges: &mut Vec<(usize, usize)>, from: usize, size: usize)
+    requires fits { from + size < 2 ^ 64 }
+    requires room { vec_len ranges.old < vec_capacity ranges.old }
+    ensures { (i : ℕ) → is_covered ranges.new.items i ≡ (is_covered ranges.old.items i || is_within from size i) }
+{
+    let mut start = from;
+    if let Some(last) = ranges.last() {
+        if last.0 < from && from - last.0 == last.1 {
+            start = last.0;
+        }
+    }
+    if start < from {
+        ranges.pop();
+    }
+    let Ok(()) = ranges.push((start, from - start + size)) else {
+        unreachable!()
+    };
+}
+
+// Makes the bytes of the last sync those that are there now.
+fn patch(synced: &mut Vec<u8>, bytes: &[u8], ranges: &[(usize, usize)]) -> Result<(), AllocError>
+    requires { Agree ranges.now bytes.now synced.old.items }
+    ensures ok { OnOk result (synced.new.items ≡ bytes.now) }
+    ensures err { OnErr result (synced.new.items ≡ synced.old.items) }
+{
+    synced.resize(bytes.len(), 0)?;
+    copy_ranges(synced, bytes, ranges);
+    Ok(())
+}
+
+fn copy_ranges(synced: &mut [u8], bytes: &[u8], ranges: &[(usize, usize)])
+    requires agree { Agree ranges.now bytes.now synced.old }
+    requires len { length synced.old ≡ length bytes.now }
+    ensures { synced.new ≡ bytes.now }
+{
+    for range in ranges {
+        copy_range(synced, bytes, range.0, range.1);
+    }
+}
+
+fn copy_range(synced: &mut [u8], bytes: &[u8], from: usize, size: usize)
+    requires len { length synced.old ≡ length bytes.now }
+    ensures len { length synced.new ≡ length bytes.now }
+    ensures each { (i : ℕ) → slice_index synced.new i
+        ≡ (if is_within from size i then slice_index bytes.now i else slice_index synced.old i) }
+{
+    let end = from.saturating_add(size).min(bytes.len());
+    if from < end {
+        put(synced, from, &bytes[from..end]);
+    }
+}
+
+// Writes over what is there, and past the end.
+fn overlay(bytes: &mut Vec<u8>, at: usize, given: &[u8]) -> Result<(), AllocError>
+    requires { at + length given.now < 2 ^ 63 }
+    ensures ok { OnOk result (bytes.new.items ≡ overlaid bytes.old.items at given.now) }
+    ensures err { OnErr result (bytes.new.items ≡ bytes.old.items) }
+{
+    let end = at + given.len();
+    if end > bytes.len() {
+        bytes.resize(end, 0)?;
+    }
+    put(bytes, at, given);
+    Ok(())
+}
+
+fn put(bytes: &mut [u8], at: usize, given: &[u8])
+    requires { at + length given.now ≤ length bytes.old }
+    ensures len { length bytes.new ≡ length bytes.old }
+    ensures put { bytes.new ≡ take at bytes.old ++ given.now ++ drop (at + length given.now) bytes.old }
+{
+    bytes[at..at + given.len()].copy_from_slice(given);
+}
