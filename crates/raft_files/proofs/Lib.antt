@@ -12,3 +12,4 @@ pub mod ExtentLemmas
 pub mod ReadingLemmas
 pub mod MomentsLemmas
 pub mod WriterLemmas
+pub mod ReaderLemmas
