@@ -17,3 +17,4 @@ pub use format::{FileNameExt, LogFileFormat, is_zero_padded};
 pub use memory::{MemoryFileSystem, MemoryHandle, MemoryReader, MemoryWriter};
 pub use log_file::LogFileWriter;
 pub use reader::RecordReader;
+pub use log_file::{LogFileReader, LogFileWriter};
