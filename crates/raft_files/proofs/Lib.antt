@@ -10,6 +10,6 @@ pub mod NameLemmas
 pub mod HeaderLemmas
 pub mod ExtentLemmas
 pub mod ReadingLemmas
-pub mod MomentsLemmas
 pub mod WriterLemmas
 pub mod ReaderLemmas
+pub mod RecordReaderLemmas

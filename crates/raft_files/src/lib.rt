@@ -5,16 +5,15 @@ pub mod env;
 pub mod format;
 mod history;
 mod known;
+pub mod log_file;
 pub mod memory;
 mod paths;
 pub mod reader;
 mod slot;
 mod tree;
-pub mod log_file;
 
 pub use env::{FileSystem, FsFault, IoKind, Permission};
 pub use format::{FileNameExt, LogFileFormat, is_zero_padded};
 pub use memory::{MemoryFileSystem, MemoryHandle, MemoryReader, MemoryWriter};
-pub use log_file::LogFileWriter;
-pub use reader::RecordReader;
 pub use log_file::{LogFileReader, LogFileWriter};
+pub use reader::RecordReader;
