@@ -11,7 +11,7 @@ use Rattle.raft_records.specs.declared.pipe_log.Version.{Version}
 use Rattle.raft_files.specs.Directory.{Directory, Path, HasFile, file_at, placed}
 use Rattle.raft_files.specs.Header.{header_of, header_len}
 use Rattle.raft_files.specs.Outcomes.{File, synced_of}
-use Rattle.raft_files.specs.Reader.{is_put_or_delete}
+use Rattle.raft_files.specs.RecordReader.{is_put_or_delete}
 use Rattle.raft_files.specs.Reading.{readable_batches, is_read_to_end}
 use Rattle.raft_files.specs.Writer.{Writing, IsWriterOf, HasChanged, bytes_at, bytes_of}
 use Rattle.raft_files.specs.declared.format.LogFileFormat.{LogFileFormat}
