@@ -8,5 +8,7 @@ pub mod ListedLemmas
 pub mod Sent
 pub mod NameLemmas
 pub mod HeaderLemmas
+pub mod WriterLemmas
+pub mod ReaderLemmas
 pub mod ExtentLemmas
 pub mod ReadingLemmas

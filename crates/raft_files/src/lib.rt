@@ -5,6 +5,7 @@ pub mod env;
 pub mod format;
 mod history;
 mod known;
+pub mod log_file;
 pub mod memory;
 mod paths;
 mod slot;
@@ -12,4 +13,5 @@ mod tree;
 
 pub use env::{FileSystem, FsFault, IoKind, Permission};
 pub use format::{FileNameExt, LogFileFormat, is_zero_padded};
+pub use log_file::{LogFileReader, LogFileWriter};
 pub use memory::{MemoryFileSystem, MemoryHandle, MemoryReader, MemoryWriter};
