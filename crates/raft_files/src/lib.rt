@@ -5,6 +5,7 @@ pub mod env;
 pub mod format;
 mod history;
 mod known;
+pub mod laws;
 pub mod memory;
 mod paths;
 pub mod reader;
