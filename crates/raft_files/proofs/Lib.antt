@@ -8,8 +8,8 @@ pub mod ListedLemmas
 pub mod Sent
 pub mod NameLemmas
 pub mod HeaderLemmas
-pub mod ExtentLemmas
-pub mod ReadingLemmas
 pub mod WriterLemmas
 pub mod ReaderLemmas
 pub mod RecordReaderLemmas
+pub mod ExtentLemmas
+pub mod ReadingLemmas

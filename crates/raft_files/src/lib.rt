@@ -6,6 +6,7 @@ pub mod format;
 mod history;
 mod known;
 pub mod log_file;
+pub mod laws;
 pub mod memory;
 mod paths;
 pub mod reader;
@@ -14,6 +15,6 @@ mod tree;
 
 pub use env::{FileSystem, FsFault, IoKind, Permission};
 pub use format::{FileNameExt, LogFileFormat, is_zero_padded};
-pub use memory::{MemoryFileSystem, MemoryHandle, MemoryReader, MemoryWriter};
 pub use log_file::{LogFileReader, LogFileWriter};
+pub use memory::{MemoryFileSystem, MemoryHandle, MemoryReader, MemoryWriter};
 pub use reader::RecordReader;
