@@ -1,4 +1,5 @@
 pub mod Log
+pub mod Config
 pub mod Open
 pub mod Agrees
 pub mod Cause

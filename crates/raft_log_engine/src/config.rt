@@ -1,6 +1,4 @@
 //! Settings.
-ghost use Rattle.std.specs.Prelude.{◌≡◌};
-
 use raft_records::{Fresh, ReadableSize, Version};
 use std::alloc::Global;
 
@@ -42,6 +40,10 @@ pub struct Config {
 }
 
 impl Fresh for Config {
+    ghost use Rattle.raft_log_engine.specs.Config.{IsDefault};
+
+    ghost is_fresh = { IsDefault };
+
     /// The default settings.
     fn fresh(alloc: Global) -> Config {
         Config {
