@@ -102,3 +102,15 @@ agrees_appended w w' n n' v m given items a writer same found plain =
     agrees_by w' n' (bytes ++ given) v (after_batch m items) writer same (version_in-append bytes given v a.version_is)
     (record { read = more.1; plain = ap are_plain more.0 ∙ are_plain-append (readable_batches first_file bytes) items a.whole.plain plain })
     (ap (λ x. after_batch x items) a.contents ∙ sym (after_batches-append no_contents (readable_batches first_file bytes) items) ∙ ap recovered (sym more.0))
+
+-- a signed record behind a whole log is one batch more
+pub written_agrees : (w w' : Writing) (n n' : Directory) (v : Version) (m m' : Contents) (given : List ℕ) (items : Batch) (signature : Option ℕ) → Agrees w n v m → IsWriterOf w' n' → written_bytes w' n' ≡ written_bytes w n ++ given
+    → signature ≡ signature_in v 1 → given ≡ record_bytes signature items → record_of signature (record_bytes signature items) ≡ Some (items, length (record_bytes signature items))
+    → list_all (λ (item : Item). is_put_or_delete item.content) items ≡ true → m' ≡ after_batch m items → Agrees w' n' v m'
+written_agrees w w' n n' v m m' given items signature a writer same signed given_is readable plain m'_is =
+    let found : record_of (signature_in v 1) given ≡ Some (items, length given) =
+        ap (λ s. record_of s given) (sym signed) ∙ ap (λ l. record_of signature l) given_is ∙ readable ∙ ap (λ (l : List ℕ). Some (items, length l)) (sym given_is) in
+    subst (λ x. Agrees w' n' v x) (sym m'_is) (agrees_appended w w' n n' v m given items a writer same found plain)
+
+pub same_some : {A : Type 0} (x y : A) → Some x ≡ Some y → x ≡ y
+same_some x y e = cc
