@@ -1,1 +1,2 @@
 pub mod AgreesLemmas
+pub mod OpenLemmas
