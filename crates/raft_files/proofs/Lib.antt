@@ -10,5 +10,6 @@ pub mod NameLemmas
 pub mod HeaderLemmas
 pub mod WriterLemmas
 pub mod ReaderLemmas
+pub mod RecordReaderLemmas
 pub mod ExtentLemmas
 pub mod ReadingLemmas
