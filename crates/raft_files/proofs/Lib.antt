@@ -10,3 +10,5 @@ pub mod NameLemmas
 pub mod HeaderLemmas
 pub mod ExtentLemmas
 pub mod ReadingLemmas
+pub mod ChoiceLemmas
+pub mod CrashedLemmas

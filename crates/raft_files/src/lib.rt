@@ -1,6 +1,7 @@
 //! Files: what they hold, what a crash may leave of them, and the log files among them.
 #![tactic(auto)]
 
+pub mod crash;
 pub mod env;
 pub mod format;
 mod history;
@@ -10,6 +11,7 @@ mod paths;
 mod slot;
 mod tree;
 
+pub use crash::Choice;
 pub use env::{FileSystem, FsFault, IoKind, Permission};
 pub use format::{FileNameExt, LogFileFormat, is_zero_padded};
 pub use memory::{MemoryFileSystem, MemoryHandle, MemoryReader, MemoryWriter};

@@ -14,10 +14,10 @@ const MAX_LEN: usize = 1 << 62;
 /// Files by their paths, in memory. It shows its files as `memory_directory` and its moments as `memory_moments`.
 #[derive(Drop)]
 pub struct MemoryFileSystem {
-    alloc: Global,
-    tree: Tree,
-    past: History<Tree>,
-    refusals: u64,
+    pub(crate) alloc: Global,
+    pub(crate) tree: Tree,
+    pub(crate) past: History<Tree>,
+    pub(crate) refusals: u64,
 }
 
 #[derive(Drop)]
