@@ -1,5 +1,5 @@
 //! What a crash leaves of a file system in memory.
-ghost use Rattle.std.specs.Prelude.{◌≡◌, [], ◌∷◌, map, slice_index_or, IfOk, IfErr, OnOk};
+ghost use Rattle.std.specs.Prelude.{◌≡◌, [], ◌∷◌, map, slice_index_or, IfOk, IfErr, OnOk, None};
 ghost use Rattle.std.specs.String.{string_bytes};
 ghost use Rattle.raft_files.specs.Outcomes.{MayLeave, settled};
 ghost use Rattle.raft_files.specs.Directory.{Leaves, IsRestarted};
@@ -7,6 +7,7 @@ ghost use Rattle.raft_files.specs.Directory.{Leaves, IsRestarted};
 ghost use Rattle.raft_files.specs.Choice.{chosen, RefusesUnless};
 ghost use Rattle.raft_files.specs.Crashed.{Puts};
 
+use crate::armed::Armed;
 use crate::history::History;
 use crate::memory::MemoryFileSystem;
 use crate::slot::Slot;
@@ -31,7 +32,7 @@ pub enum Choice {
 
 impl MemoryFileSystem {
     ghost use Rattle.raft_files.specs.Choice.{left_by, RefusesUnless};
-    ghost use Rattle.raft_files.specs.Memory.{memory_directory, memory_moments, memory_refusals};
+    ghost use Rattle.raft_files.specs.Memory.{memory_directory, memory_moments, memory_refusals, armed_of, stop_of};
 
     /// The files after a crash now. The choices go to the files in the order of their paths' bytes, and a file that is
     /// left over keeps what was synced. Folders stay.
@@ -40,6 +41,7 @@ impl MemoryFileSystem {
             (left_by choices.now (memory_directory self.now)) (memory_directory m)) }
         ensures any_moment { IfOk result (λ m. memory_moments m ≡ memory_directory m ∷ []) }
         ensures cause { IfOk result (λ m. memory_refusals m ≡ 0) }
+        ensures others { IfOk result (λ m. (armed_of m ≡ []) × (stop_of m ≡ None)) }
         ensures value { OnOk result (Leaves (memory_directory self.now) (left_by choices.now (memory_directory self.now))) }
         ensures refused { IfErr result (RefusesUnless
             (Leaves (memory_directory self.now) (left_by choices.now (memory_directory self.now)))) }
@@ -49,6 +51,7 @@ impl MemoryFileSystem {
             tree: self.tree.crashed(self.alloc, choices)?,
             past: History::new(),
             refusals: 0,
+            armed: Armed::new(self.alloc),
         })
     }
 }

@@ -1,6 +1,7 @@
 //! Files: what they hold, what a crash may leave of them, and the log files among them.
 #![tactic(auto)]
 
+pub mod armed;
 pub mod crash;
 pub mod env;
 pub mod format;
@@ -11,6 +12,7 @@ mod paths;
 mod slot;
 mod tree;
 
+pub use armed::FsCall;
 pub use crash::Choice;
 pub use env::{FileSystem, FsFault, IoKind, Permission};
 pub use format::{FileNameExt, LogFileFormat, is_zero_padded};
