@@ -45,5 +45,5 @@ module _ (bytes synced : List ℕ) (ranges : List (ℕ × ℕ)) (low high : ℕ)
       let byte = torn_byte (is_covered ranges) kept fill bytes in
       let len : length (torn (is_covered ranges) kept fill bytes) ≡ length bytes = length-map-range_with_len byte 0 (length bytes) in
       may_leave bytes synced ranges low high file k (torn (is_covered ranges) kept fill bytes) (omega (arith, len, k.above_low)) (omega (arith, len, k.below_high)) (λ i h s apart.
-        let inside : i < length bytes = omega (arith, len) in
-        get_or-map-range_with_len byte 0 (length bytes) i i 0 inside (omega arith) ∙ ap (λ b. cond (b && leb kept (touched_before (is_covered ranges) i)) fill (get_or bytes i 0)) apart ∙ k.agree.each i apart)
+      let inside : i < length bytes = omega (arith, len) in
+      get_or-map-range_with_len byte 0 (length bytes) i i 0 inside (omega arith) ∙ ap (λ b. cond (b && leb kept (touched_before (is_covered ranges) i)) fill (get_or bytes i 0)) apart ∙ k.agree.each i apart)

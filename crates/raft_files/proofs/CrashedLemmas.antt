@@ -82,8 +82,10 @@ copied_more R es k file copy m n so_far none updates holds = record { each = λ 
   where
     read : (p : Path) → tree.get_by_text n p ≡ cond (bytes_eq (string_bytes k) p) (Some copy) (tree.get_by_text m p)
     read p = btree_map_updates_text (string_bytes k) m n (Some copy) updates p
+
     test : (p : Path) → bytes_eq (string_bytes k) p ≡ is_eq (slice_cmp nat_cmp p (string_bytes k))
     test p = sym (is_eq-slice_cmp (string_bytes k) p) ∙ turned (string_bytes k) p
+
     go : (p : Path) (b : Bool) → is_eq (slice_cmp nat_cmp p (string_bytes k)) ≡ b → Stands (R p) (at_path p (es ++ (k, file) ∷ [])) (tree.get_by_text n p)
     go p true e =
         let p_is : p ≡ string_bytes k = (bytes_eq-Decides p (string_bytes k)).0 (sym (is_eq-slice_cmp p (string_bytes k)) ∙ e) in
@@ -117,9 +119,9 @@ module _ (choices : List Choice) (t : Tree) (done rest later : List Entry) (k : 
       → MayLeave file (chosen (slice_index_or choices (length done) choice.Synced) file)
       → ((done ++ (k, file) ∷ []) ++ later ≡ t.files.entries) × Copied (IsLeft (left_by choices (tree_directory t))) (done ++ (k, file) ∷ []) n
   copied_turn m n so_far puts may = (
-      append_assoc done ((k, file) ∷ []) later ∙ split,
-      copied_more _ done k file _ m n so_far none_before puts (subst (MayLeave file) (sym left_at_turn) may, ap settled (sym left_at_turn)),
-    )
+    append_assoc done ((k, file) ∷ []) later ∙ split,
+    copied_more _ done k file _ m n so_far none_before puts (subst (MayLeave file) (sym left_at_turn) may, ap settled (sym left_at_turn)),
+  )
 
   -- what storage may not leave of this file it may not leave at all
   pub allowed_here : Leaves (tree_directory t) (left_by choices (tree_directory t)) → MayLeave file (chosen (slice_index_or choices (length done) choice.Synced) file)
@@ -137,7 +139,7 @@ any-map g (p ∷ made) = ap (λ b. g (string_bytes p) || b) (any-map g made)
 same_folders : (made copies : List (String Global)) → map string_bytes copies ≡ map string_bytes made → folders_of copies ≡ folders_of made
 same_folders made copies is =
     let same : (q : Path) → folders_of copies q ≡ folders_of made q = λ q.
-      ap (λ b. eqb (length q) 0 || b) (any-map (is_on_way q) copies ∙ ap (list_any (is_on_way q)) is ∙ sym (any-map (is_on_way q) made)) in
+    ap (λ b. eqb (length q) 0 || b) (any-map (is_on_way q) copies ∙ ap (list_any (is_on_way q)) is ∙ sym (any-map (is_on_way q) made)) in
     λ i. λ q. same q i
 
 -- at the end each file of the old tree has its copy

@@ -101,7 +101,12 @@ impl MemoryFileSystem {
             return Err(Fault::InvalidArgument("calls are counted from 1"));
         }
         let left = AtomicU64::new(nth);
-        self.armed.refusals.push(ArmedRefusal { call, nth, kind, left })?;
+        self.armed.refusals.push(ArmedRefusal {
+            call,
+            nth,
+            kind,
+            left,
+        })?;
         Ok(())
     }
 
@@ -115,5 +120,57 @@ impl MemoryFileSystem {
         ensures cause { memory_refusals self.new ≡ memory_refusals self.old }
     {
         self.armed.stop = Some(nth);
+    }
+}
+
+#[cfg(test)]
+mod tests {
+    use super::*;
+    use crate::{FileSystem, FsFault, Permission};
+    use std::test::Fail;
+
+    fn is_full<T: Drop>(answer: Result<T, FsFault>) -> bool {
+        matches!(&answer, Err(FsFault::Io(IoKind::NoSpace)))
+    }
+
+    fn is_stopped<T: Drop>(answer: Result<T, FsFault>) -> bool {
+        matches!(&answer, Err(FsFault::Io(IoKind::Other)))
+    }
+
+    #[test]
+    fn armed_calls_are_refused(rt: HostRuntime) -> Result<(), Fail> {
+        use FsCall::*;
+        let mut fs = MemoryFileSystem::new(rt.alloc());
+        let handle = fs.create("a")?;
+        let mut writer = fs.new_writer(&handle)?;
+        let mut reader = fs.new_reader(&handle)?;
+        for call in [
+            Create, Open, NewReader, NewWriter, Write, Truncate, Allocate, Sync, FileSize, MakeDir,
+            List, Read,
+        ] {
+            fs.refuse(call, 1, IoKind::NoSpace)?;
+        }
+        fs.refuse(Write, 3, IoKind::NoSpace)?;
+        assert!(rt; fs.refuse(Sync, 0, IoKind::NoSpace).is_err());
+        assert!(rt; is_full(fs.create("b")) && is_full(fs.open("a", Permission::ReadOnly)));
+        assert!(rt; is_full(fs.new_reader(&handle)) && is_full(fs.new_writer(&handle)));
+        assert!(rt;
+            is_full(fs.write(&mut writer, 0, b"abcde")) && is_full(fs.truncate(&mut writer, 0))
+        );
+        assert!(rt; is_full(fs.allocate(&mut writer, 0, 9)) && is_full(fs.sync(&mut writer)));
+        assert!(rt;
+            is_full(fs.file_size(&handle)) && is_full(fs.make_dir("d")) && is_full(fs.list(""))
+        );
+        assert!(rt; is_full(fs.read(&mut reader, 0, &mut [0])));
+        assert_eq!(rt; fs.file_size(&handle)?, 2);
+        fs.write(&mut writer, 2, b"cd")?;
+        assert!(rt; is_full(fs.write(&mut writer, 4, b"ef")));
+        fs.stop_at(2);
+        fs.write(&mut writer, 0, b"x")?;
+        assert!(rt; is_stopped(fs.sync(&mut writer)) && is_stopped(fs.create("b")));
+        assert_eq!(rt; fs.file_size(&handle)?, 5);
+        assert_eq!(rt; fs.refusals(), 14);
+        assert_eq!(rt; fs.read_refusals(&reader), 1);
+        Ok(())
     }
 }

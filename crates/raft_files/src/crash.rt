@@ -3,7 +3,6 @@ ghost use Rattle.std.specs.Prelude.{◌≡◌, [], ◌∷◌, map, slice_index_o
 ghost use Rattle.std.specs.String.{string_bytes};
 ghost use Rattle.raft_files.specs.Outcomes.{MayLeave, settled};
 ghost use Rattle.raft_files.specs.Directory.{Leaves, IsRestarted};
-
 ghost use Rattle.raft_files.specs.Choice.{chosen, RefusesUnless};
 ghost use Rattle.raft_files.specs.Crashed.{Puts};
 
@@ -72,7 +71,13 @@ impl Tree {
         let synced = Choice::Synced;
         let mut turn = 0;
         for (path, slot) in self.files.iter() {
-            put_left(alloc, &mut files, path.as_str(), slot, choice_at(choices, turn, &synced))?;
+            put_left(
+                alloc,
+                &mut files,
+                path.as_str(),
+                slot,
+                choice_at(choices, turn, &synced),
+            )?;
             turn += 1;
         }
         Ok(Tree { files, folders })
@@ -80,7 +85,13 @@ impl Tree {
 }
 
 // Puts what the choice leaves of a file at its path.
-fn put_left(alloc: Global, files: &mut Files, path: &str, slot: &Slot, choice: &Choice) -> Result<(), Fault>
+fn put_left(
+    alloc: Global,
+    files: &mut Files,
+    path: &str,
+    slot: &Slot,
+    choice: &Choice,
+) -> Result<(), Fault>
     ensures ok { OnOk result (Puts files.old files.new path.now (settled (chosen choice.now slot.now))) }
     ensures allowed { OnOk result (MayLeave slot.now (chosen choice.now slot.now)) }
     ensures refused { IfErr result (RefusesUnless (MayLeave slot.now (chosen choice.now slot.now))) }
@@ -108,4 +119,49 @@ fn copies_of(alloc: Global, texts: &[String]) -> Result<Vec<String>, AllocError>
         copies.push(text.clone()?)?;
     }
     Ok(copies)
+}
+
+#[cfg(test)]
+mod tests {
+    use super::*;
+    use crate::{FileSystem, Permission};
+    use std::process::Abort;
+    use std::test::Fail;
+
+    // The file `a` after a crash has this size and these bytes, with zeros behind them.
+    fn leaves(
+        rt: &impl Abort,
+        fs: &MemoryFileSystem,
+        choices: &[Choice],
+        size: usize,
+        bytes: [u8; 6],
+    ) -> Result<(), Fail> {
+        let mut left = fs.crash(choices)?;
+        let handle = left.open("a", Permission::ReadOnly)?;
+        let mut reader = left.new_reader(&handle)?;
+        let mut read = [0; 6];
+        assert_eq!(rt; left.read(&mut reader, 0, &mut read)?, size);
+        assert_eq!(rt; read, bytes);
+        Ok(())
+    }
+
+    #[test]
+    fn a_crash_leaves_what_was_chosen(rt: HostRuntime) -> Result<(), Fail> {
+        let alloc = rt.alloc();
+        let mut fs = MemoryFileSystem::new(alloc);
+        let handle = fs.create("a")?;
+        let mut writer = fs.new_writer(&handle)?;
+        fs.write(&mut writer, 0, b"abcd")?;
+        fs.sync(&mut writer)?;
+        fs.write(&mut writer, 2, b"xyz")?;
+        leaves(&rt, &fs, &[Choice::All], 5, *b"abxyz\0")?;
+        leaves(&rt, &fs, &[Choice::Synced], 4, *b"abcd\0\0")?;
+        leaves(&rt, &fs, &[], 4, *b"abcd\0\0")?;
+        leaves(&rt, &fs, &[Choice::Torn(1, b'?')], 5, *b"abx??\0")?;
+        let allowed = Choice::Bytes(b"abQR".to_vec(alloc)?);
+        leaves(&rt, &fs, &[allowed], 4, *b"abQR\0\0")?;
+        let other = Choice::Bytes(b"zbcd".to_vec(alloc)?);
+        assert!(rt; matches!(&fs.crash(&[other]), Err(Fault::InvalidArgument(_))));
+        Ok(())
+    }
 }

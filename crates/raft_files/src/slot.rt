@@ -146,9 +146,18 @@ impl Slot {
         match choice {
             Choice::All => Ok(self.bytes.to_vec(alloc)?),
             Choice::Synced => Ok(self.synced.to_vec(alloc)?),
-            Choice::Torn(kept, fill) => Ok(torn_bytes(alloc, &self.bytes, &self.ranges, *kept, *fill)?),
+            Choice::Torn(kept, fill) => Ok(torn_bytes(
+                alloc,
+                &self.bytes,
+                &self.ranges,
+                *kept,
+                *fill,
+            )?),
             Choice::Bytes(bytes) => {
-                if bytes.len() < self.least || bytes.len() > self.greatest || !same_outside(bytes, &self.synced, &self.ranges) {
+                if bytes.len() < self.least
+                    || bytes.len() > self.greatest
+                    || !same_outside(bytes, &self.synced, &self.ranges)
+                {
                     return Err(Fault::InvalidArgument("no crash leaves these bytes"));
                 }
                 Ok(bytes.to_vec(alloc)?)
@@ -176,7 +185,13 @@ fn covers(ranges: &[(usize, usize)], i: usize) -> bool
 }
 
 // The bytes now, of which only the first few that the ranges cover are kept.
-fn torn_bytes(alloc: Global, now: &[u8], ranges: &[(usize, usize)], kept: usize, fill: u8) -> Result<Vec<u8>, AllocError>
+fn torn_bytes(
+    alloc: Global,
+    now: &[u8],
+    ranges: &[(usize, usize)],
+    kept: usize,
+    fill: u8,
+) -> Result<Vec<u8>, AllocError>
     ensures { IfOk result (λ bytes. bytes.items ≡ torn (is_covered ranges.now) kept fill now.now) }
 {
     let mut bytes = Vec::new(alloc);
@@ -198,7 +213,11 @@ fn byte_of(is_covered: bool, left: usize, byte: u8, fill: u8) -> u8
 fn left_after(is_covered: bool, left: usize) -> usize
     ensures { result ≡ left - (if is_covered then 1 else 0) }
 {
-    if is_covered { left.saturating_sub(1) } else { left }
+    if is_covered {
+        left.saturating_sub(1)
+    } else {
+        left
+    }
 }
 
 // A range that begins where the last one ends is joined to it, so appends stay one range.
