@@ -8,6 +8,9 @@ pub mod ListedLemmas
 pub mod Sent
 pub mod NameLemmas
 pub mod HeaderLemmas
+pub mod WriterLemmas
+pub mod ReaderLemmas
+pub mod RecordReaderLemmas
 pub mod ExtentLemmas
 pub mod ReadingLemmas
 pub mod ChoiceLemmas

@@ -18,3 +18,11 @@ Counts result old new = MatchResult result (λ _. new ≡ old) (λ e. CountsFaul
 -- a saturating sum of counts
 abbrev pub added_count : ℕ → ℕ → ℕ
 added_count a b = min (a + b) (2 ^ 64 - 1)
+
+abbrev pub CausedByFault : FsFault → ℕ → ℕ → Type 0
+CausedByFault (Io kind) old new = Rose old new × (old ≤ new)
+CausedByFault Memory old new = old ≤ new
+
+-- the count may rise, and rose where storage's refusal is answered
+abbrev pub CausedBy : {T : Type 0} → Result T FsFault → ℕ → ℕ → Type 0
+CausedBy result old new = MatchResult result (λ _. old ≤ new) (λ e. CausedByFault e old new)

@@ -1,0 +1,12 @@
+//! The in-memory index: what each group holds, and the files that it stands in.
+#![tactic(auto)]
+
+pub mod memtable;
+pub mod memtables;
+pub mod stats;
+#[cfg(test)]
+mod tests;
+
+pub use memtable::MemTable;
+pub use memtables::MemTables;
+pub use stats::GlobalStats;
