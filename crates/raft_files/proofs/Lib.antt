@@ -13,3 +13,5 @@ pub mod ReaderLemmas
 pub mod RecordReaderLemmas
 pub mod ExtentLemmas
 pub mod ReadingLemmas
+pub mod ChoiceLemmas
+pub mod CrashedLemmas
