@@ -109,7 +109,7 @@ pub written_agrees : (w w' : Writing) (n n' : Directory) (v : Version) (m m' : C
     → list_all (λ (item : Item). is_put_or_delete item.content) items ≡ true → m' ≡ after_batch m items → Agrees w' n' v m'
 written_agrees w w' n n' v m m' given items signature a writer same signed given_is readable plain m'_is =
     let found : record_of (signature_in v 1) given ≡ Some (items, length given) =
-        ap (λ s. record_of s given) (sym signed) ∙ ap (λ l. record_of signature l) given_is ∙ readable ∙ ap (λ (l : List ℕ). Some (items, length l)) (sym given_is) in
+    ap (λ s. record_of s given) (sym signed) ∙ ap (λ l. record_of signature l) given_is ∙ readable ∙ ap (λ (l : List ℕ). Some (items, length l)) (sym given_is) in
     subst (λ x. Agrees w' n' v x) (sym m'_is) (agrees_appended w w' n n' v m given items a writer same found plain)
 
 pub same_some : {A : Type 0} (x y : A) → Some x ≡ Some y → x ≡ y

@@ -4,7 +4,7 @@ mod line;
 use crate::Config;
 use crate::engine::{Engine, Refused};
 use line::{Line, parse_line};
-use raft_files::MemoryFileSystem;
+use raft_files::{FileSystem, MemoryFileSystem};
 use raft_records::{Fault, Fresh, LogBatch, ReadableSize};
 use std::alloc::{AllocError, Global};
 use std::io;
@@ -106,21 +106,15 @@ fn answer_line(
     answer_opened(alloc, opened, line)
 }
 
-fn open(
-    alloc: Global,
-) -> Result<Result<MemoryEngine, Refused<MemoryFileSystem>>, AllocError> {
+fn open(alloc: Global) -> Result<Result<MemoryEngine, Refused<MemoryFileSystem>>, AllocError> {
     let mut config = Config::fresh(alloc);
     config.dir.push_str("raft")?;
     config.target_file_size = ReadableSize::kb(1);
     config.purge_threshold = ReadableSize::kb(10);
-    Ok(Engine::open_in_order(
-        alloc,
-        config,
-        MemoryFileSystem::new(alloc),
-    ))
+    Ok(Engine::open_in_order(alloc, config, MemoryFileSystem::new(alloc)))
 }
 
-fn reopen(engine: &mut Option<MemoryEngine>, opened: MemoryEngine) -> Answer {
+fn reopen<F: FileSystem + Drop>(engine: &mut Option<Engine<F>>, opened: Engine<F>) -> Answer {
     match opened.reopen() {
         Ok(opened) => {
             *engine = Some(opened);
@@ -130,9 +124,9 @@ fn reopen(engine: &mut Option<MemoryEngine>, opened: MemoryEngine) -> Answer {
     }
 }
 
-fn answer_opened(
+fn answer_opened<F: FileSystem>(
     alloc: Global,
-    engine: &mut MemoryEngine,
+    engine: &mut Engine<F>,
     line: &Line<'_>,
 ) -> Result<Answer, AllocError> {
     match line {
@@ -161,8 +155,8 @@ fn answer_opened(
 }
 
 // A batch whose building was refused is not written.
-fn written(
-    engine: &mut MemoryEngine,
+fn written<F: FileSystem>(
+    engine: &mut Engine<F>,
     built: Result<(), Fault>,
     batch: &mut LogBatch,
     sync: bool,

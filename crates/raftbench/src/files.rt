@@ -32,7 +32,13 @@ pub(crate) fn checksum<R: Host>(rt: &R, count: u64, _size: usize) -> Result<()> 
 }
 
 /// Appends to one file, each synced or none. Each tenth of them has a line of its own.
-pub(crate) fn append<R: Host>(rt: &R, name: &str, count: u64, size: usize, sync: bool) -> Result<()> {
+pub(crate) fn append<R: Host>(
+    rt: &R,
+    name: &str,
+    count: u64,
+    size: usize,
+    sync: bool,
+) -> Result<()> {
     let alloc = rt.alloc();
     let bytes = filled(alloc, size, 1)?;
     let mut files = MemoryFileSystem::new(alloc);
@@ -49,7 +55,13 @@ pub(crate) fn append<R: Host>(rt: &R, name: &str, count: u64, size: usize, sync:
             }
             end = end.saturating_add(size);
         }
-        report(rt, name, start, count / 10, (count / 10).saturating_mul(size as u64))?;
+        report(
+            rt,
+            name,
+            start,
+            count / 10,
+            (count / 10).saturating_mul(size as u64),
+        )?;
     }
     let len = files.file_size(&handle).map_err(refused)?;
     println!(rt; "{name}: {len} bytes")?;

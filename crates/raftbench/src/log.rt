@@ -10,6 +10,7 @@ use std::alloc::{AllocError, Global};
 use std::time::Instant;
 
 const GROUPS: u64 = 100;
+
 const LOG_PATH: &str = "bench/0000000000000001.raftlog";
 
 type MemoryEngine = Engine<MemoryFileSystem>;
@@ -17,11 +18,16 @@ type MemoryEngine = Engine<MemoryFileSystem>;
 fn open(alloc: Global, files: MemoryFileSystem) -> Result<MemoryEngine> {
     let mut config = Config::fresh(alloc);
     config.dir.push_str("bench")?;
-    Engine::open_in_order(alloc, config, files).map_err(|refused| anyhow!("opening: {}", refused.fault))
+    Engine::open_in_order(alloc, config, files).map_err(|refused| anyhow!(
+        "opening: {}",
+        refused.fault
+    ))
 }
 
 fn close(engine: MemoryEngine) -> Result<MemoryFileSystem> {
-    engine.close().map_err(|refused| anyhow!("closing: {}", refused.fault))
+    engine
+        .close()
+        .map_err(|refused| anyhow!("closing: {}", refused.fault))
 }
 
 fn log_len(files: &mut MemoryFileSystem) -> Result<usize> {
@@ -35,7 +41,14 @@ fn key_of(alloc: Global, number: u64) -> Result<Vec<u8>, AllocError> {
 }
 
 // Puts so many values, at as many keys at the most.
-fn fill(engine: &mut MemoryEngine, alloc: Global, value: &[u8], count: u64, keys: u64, sync: bool) -> Result<()> {
+fn fill(
+    engine: &mut MemoryEngine,
+    alloc: Global,
+    value: &[u8],
+    count: u64,
+    keys: u64,
+    sync: bool,
+) -> Result<()> {
     let mut batch = LogBatch::new(alloc);
     for number in 0..count {
         let key = number % keys.max(1);
@@ -46,7 +59,14 @@ fn fill(engine: &mut MemoryEngine, alloc: Global, value: &[u8], count: u64, keys
 }
 
 /// Puts, each in a batch of its own.
-pub(crate) fn put<R: Host>(rt: &R, name: &str, count: u64, size: usize, keys: u64, sync: bool) -> Result<()> {
+pub(crate) fn put<R: Host>(
+    rt: &R,
+    name: &str,
+    count: u64,
+    size: usize,
+    keys: u64,
+    sync: bool,
+) -> Result<()> {
     let alloc = rt.alloc();
     let value = filled(alloc, size, 1)?;
     let mut engine = open(alloc, MemoryFileSystem::new(alloc))?;

@@ -13,6 +13,7 @@ use workload::Workload;
 
 /// How many operations, and of how many bytes, each workload of a run without arguments does.
 const SMALL_COUNT: u64 = 2000;
+
 const SMALL_SIZE: usize = 100;
 
 fn main(rt: HostRuntime) -> Result<()> {

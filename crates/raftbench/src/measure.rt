@@ -11,7 +11,13 @@ pub(crate) trait Host: Print + Eprint + AllocGlobal + Clock {}
 impl<R: Print + Eprint + AllocGlobal + Clock> Host for R {}
 
 /// A line of times on standard error: operations, nanoseconds an operation, megabytes a second.
-pub(crate) fn report<R: Host>(rt: &R, name: &str, start: Instant, count: u64, bytes: u64) -> Result<()> {
+pub(crate) fn report<R: Host>(
+    rt: &R,
+    name: &str,
+    start: Instant,
+    count: u64,
+    bytes: u64,
+) -> Result<()> {
     let micros = u64::try_from(start.elapsed(rt)?.as_micros())?.max(1);
     let each = micros.saturating_mul(1000) / count.max(1);
     let rate = bytes / micros;
