@@ -7,7 +7,7 @@ use raft_files::{FileSystem, FsFault, MemoryFileSystem};
 use std::time::Instant;
 
 /// Checksums of so many blocks of 64 KB, and copies of the same bytes for comparison.
-pub(crate) fn checksum<R: Host>(rt: &R, count: u64, _size: usize) -> Result<()> {
+pub(crate) fn checksum<R: Host>(rt: &R, count: u64) -> Result<()> {
     let alloc = rt.alloc();
     let block = filled(alloc, 65536, 1)?;
     let mut copy = vec![in alloc; 0u8; 65536]?;

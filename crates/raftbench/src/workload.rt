@@ -1,8 +1,10 @@
 //! The workloads by their names.
 
+use crate::log::Load;
 use crate::measure::Host;
 use crate::{files, log};
 use anyhow::Result;
+use raft_files::{FileSystem, MemoryFileSystem};
 
 #[derive(Clone, Copy)]
 pub(crate) enum Workload {
@@ -48,14 +50,34 @@ impl Workload {
     /// Does so many operations, with values or blocks of so many bytes.
     pub(crate) fn run<R: Host>(self, rt: &R, count: u64, size: usize) -> Result<()> {
         match self {
-            Workload::Crc => files::checksum(rt, count, size),
-            Workload::Put => log::put(rt, self.name(), count, size, u64::MAX, false),
-            Workload::PutSync => log::put(rt, self.name(), count, size, u64::MAX, true),
-            Workload::Overwrite => log::put(rt, self.name(), count, size, 1000, false),
-            Workload::Get => log::get(rt, count, size),
-            Workload::Reopen => log::reopen(rt, count, size),
+            Workload::Crc => files::checksum(rt, count),
             Workload::FsAppend => files::append(rt, self.name(), count, size, false),
             Workload::FsSync => files::append(rt, self.name(), count, size, true),
+            _ => self.run_engine(rt, MemoryFileSystem::new(rt.alloc()), count, size),
+        }
+    }
+
+    fn run_engine<R: Host, F: FileSystem + Drop>(
+        self,
+        rt: &R,
+        files: F,
+        count: u64,
+        size: usize,
+    ) -> Result<()> {
+        let load = Load {
+            count,
+            keys: if let Workload::Overwrite = self {
+                1000
+            } else {
+                u64::MAX
+            },
+            size,
+            sync: matches!(self, Workload::PutSync),
+        };
+        match self {
+            Workload::Get => log::get(rt, files, load),
+            Workload::Reopen => log::reopen(rt, files, load),
+            _ => log::put(rt, self.name(), files, load),
         }
     }
 }
