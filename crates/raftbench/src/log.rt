@@ -16,16 +16,17 @@ const LOG_PATH: &str = "bench/0000000000000001.raftlog";
 fn open<F: FileSystem + Drop>(alloc: Global, files: F) -> Result<Engine<F>> {
     let mut config = Config::fresh(alloc);
     config.dir.push_str("bench")?;
-    Engine::open_in_order(alloc, config, files).map_err(|refused| anyhow!(
-        "opening: {}",
-        refused.fault
-    ))
+    match Engine::open_in_order(alloc, config, files) {
+        Ok(engine) => Ok(engine),
+        Err(refused) => Err(anyhow!("opening: {}", refused.fault)),
+    }
 }
 
 fn close<F: FileSystem + Drop>(engine: Engine<F>) -> Result<F> {
-    engine
-        .close()
-        .map_err(|refused| anyhow!("closing: {}", refused.fault))
+    match engine.close() {
+        Ok(files) => Ok(files),
+        Err(refused) => Err(anyhow!("closing: {}", refused.fault)),
+    }
 }
 
 fn log_len<F: FileSystem>(files: &mut F) -> Result<usize> {
