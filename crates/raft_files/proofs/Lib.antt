@@ -10,6 +10,7 @@ pub mod NameLemmas
 pub mod HeaderLemmas
 pub mod WriterLemmas
 pub mod ReaderLemmas
+pub mod RecordReaderLemmas
 pub mod ExtentLemmas
 pub mod ReadingLemmas
 pub mod DetectableLemmas
@@ -17,3 +18,5 @@ pub mod RecordsLemmas
 pub mod WrittenLemmas
 pub mod FreshLemmas
 pub mod LogLemmas
+pub mod ChoiceLemmas
+pub mod CrashedLemmas

@@ -1,9 +1,13 @@
 -- A file system in memory may go to another thread and be shared.
 use denote.RattleType.{RattleType}
+use denote.Struct.Declared.{shape}
 use Rattle.std.proofs.Crossing as items
 use Rattle.std.proofs.MapsCrossing as maps
-use denote.Param.Send.{IsSend, IsSync, sendable, owning_send, part_keyless, view_send, view_sync}
+use denote.Param.Send.{IsSend, IsSync, AllSend, AllSync, sendable, recorded_send, recorded_sync, struct_send, struct_sync, owning_send, part_keyless, view_send, view_sync}
 use Rattle.raft_files.specs.contracts.memory.MemoryFileSystem as fs
+use Rattle.std.specs.contracts.sync.atomic.AtomicU64 as atomic
+use Rattle.raft_files.specs.contracts.armed.ArmedRefusal as refusal
+use Rattle.raft_files.specs.contracts.armed.Armed as armed
 use Rattle.raft_files.specs.contracts.tree.Tree as tree
 use Rattle.raft_files.specs.contracts.slot.Slot as slot
 use Rattle.raft_files.specs.contracts.known.Known as known
@@ -58,8 +62,39 @@ tree_field_send = search (sendable, items.crosses, maps.crosses, slot_field_send
 tree_field_sync : IsSync (tree.the_field).row
 tree_field_sync = search (sendable, items.crosses, maps.crosses, slot_field_send, slot_field_sync) depth 20
 
+atomic_send : IsSend atomic.the_row
+atomic_send = search (sendable, items.crosses) depth 20
+
+atomic_sync : IsSync atomic.the_row
+atomic_sync = search (sendable, items.crosses) depth 20
+
+atomic_field_send : IsSend (atomic.the_field).row
+atomic_field_send = atomic_send
+
+atomic_field_sync : IsSync (atomic.the_field).row
+atomic_field_sync = atomic_sync
+
+-- an armed refusal, field by field
+refusal_parts_send : AllSend (shape refusal.the_type).fields
+refusal_parts_send = (search sendable depth 20, (search sendable, (search sendable depth 20, (atomic_field_send, tt))))
+
+refusal_parts_sync : AllSync (shape refusal.the_type).fields
+refusal_parts_sync = (search sendable depth 20, (search sendable, (search sendable depth 20, (atomic_field_sync, tt))))
+
+refusal_send : IsSend refusal.the_row
+refusal_send = recorded_send _ _ _ (refusal.the_type).to_one (struct_send (shape refusal.the_type) refusal_parts_send)
+
+refusal_sync : IsSync refusal.the_row
+refusal_sync = recorded_sync _ _ _ (refusal.the_type).to_one (struct_sync (shape refusal.the_type) refusal_parts_sync)
+
+armed_field_send : IsSend (armed.the_field).row
+armed_field_send = search (sendable, items.crosses, refusal_send) depth 20
+
+armed_field_sync : IsSync (armed.the_field).row
+armed_field_sync = search (sendable, items.crosses, refusal_send, refusal_sync) depth 20
+
 pub memory_send : IsSend fs.the_row
-memory_send = search (sendable, items.crosses, tree_send, tree_field_send, history_send) depth 20
+memory_send = search (sendable, items.crosses, tree_send, tree_field_send, armed_field_send, history_send) depth 20
 
 pub memory_sync : IsSync fs.the_row
-memory_sync = search (sendable, items.crosses, tree_send, tree_field_send, tree_sync, tree_field_sync, history_send, history_sync) depth 20
+memory_sync = search (sendable, items.crosses, tree_send, tree_field_send, tree_sync, tree_field_sync, armed_field_send, armed_field_sync, history_send, history_sync) depth 20

@@ -178,11 +178,11 @@ module _ (bytes synced given : List ℕ) (from size i : ℕ) (same_len : length 
   copied = copied_by (is_within from size i) refl
 
 -- the length at the last sync counts too
-least_synced : (synced : List ℕ) (changes : List Change) → least_len synced changes ≤ length synced
+pub least_synced : (synced : List ℕ) (changes : List Change) → least_len synced changes ≤ length synced
 least_synced synced [] = omega arith
 least_synced synced (c ∷ changes) = omega (arith, least_synced synced changes)
 
-greatest_synced : (synced : List ℕ) (changes : List Change) → length synced ≤ greatest_len synced changes
+pub greatest_synced : (synced : List ℕ) (changes : List Change) → length synced ≤ greatest_len synced changes
 greatest_synced synced [] = omega arith
 greatest_synced synced (c ∷ changes) = omega (arith, greatest_synced synced changes)
 
@@ -196,11 +196,3 @@ module _ (bytes synced : List ℕ) (ranges : List (ℕ × ℕ)) (low high : ℕ)
         let within : i < length synced = omega (arith, ap length k.on_disk) in
         same i h within (sym (k.touched i) ∙ apart) ∙ ap (λ (l : List ℕ). get_or l i 0) (sym k.on_disk);
   }
-
-  pub may_leave_now : MayLeave file bytes
-  may_leave_now = may_leave bytes k.above_low k.below_high (λ i h s apart. k.agree.each i apart)
-
-  pub may_leave_synced : MayLeave file synced
-  may_leave_synced =
-      let len : length file.synced ≡ length synced = ap length k.on_disk in
-      may_leave synced (omega (arith, least_synced file.synced file.changes, k.low_is)) (omega (arith, greatest_synced file.synced file.changes, k.high_is)) (λ i h s apart. refl)

@@ -1,5 +1,5 @@
 -- What a slot keeps of its file.
-use Rattle.std.specs.Prelude.{◌≡◌, ℕ, Bool, false, ◌≤◌, length, List, slice_index}
+use Rattle.std.specs.Prelude.{◌≡◌, ℕ, Bool, false, ◌<◌, ◌≤◌, length, List, slice_index}
 use Rattle.std.specs.List.{list_any}
 use Rattle.raft_files.specs.Outcomes.{File, is_within, is_touched, least_len, greatest_len}
 
@@ -21,3 +21,7 @@ pub record IsKept (bytes synced : List ℕ) (ranges : List (ℕ × ℕ)) (low hi
   pub high_is : greatest_len file.synced file.changes ≡ high
   pub above_low : low ≤ length bytes
   pub below_high : length bytes ≤ high
+
+-- outside the ranges the bytes are those of the last sync, as far as both go
+pub record SameOutside (ranges : List (ℕ × ℕ)) (synced bytes : List ℕ) : Type 0 where
+  pub each : (i : ℕ) → i < length bytes → i < length synced → is_covered ranges i ≡ false → slice_index bytes i ≡ slice_index synced i

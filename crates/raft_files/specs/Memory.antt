@@ -1,5 +1,5 @@
 -- What a file system in memory shows.
-use Rattle.std.specs.Prelude.{ℕ, Bool, ◌==◌, ◌||◌, List, [], ◌∷◌, length, map, String}
+use Rattle.std.specs.Prelude.{ℕ, Bool, ◌==◌, ◌||◌, List, [], ◌∷◌, length, map, String, Option}
 use Rattle.std.specs.List.{list_any}
 use Rattle.std.specs.declared.alloc.Global.{Global}
 use Rattle.std.specs.String.{string_bytes}
@@ -7,6 +7,9 @@ use Rattle.std.specs.BTreeMap.{BTreeMap}
 use Rattle.std.specs.FinMap as finite
 use Rattle.raft_files.specs.Outcomes.{File}
 use Rattle.raft_files.specs.Directory.{Directory, Path, is_on_way}
+use Rattle.raft_records.specs.declared.errors.IoKind.{IoKind}
+use Rattle.raft_files.specs.declared.armed.FsCall.{FsCall}
+use Rattle.raft_files.specs.Armed.{arms_of}
 use Rattle.raft_files.specs.declared.tree.Tree.{Tree}
 use Rattle.raft_files.specs.declared.memory.MemoryFileSystem.{MemoryFileSystem}
 
@@ -42,3 +45,11 @@ memory_refusals memory = memory.refusals
 -- no file, and only the root folder
 abbrev pub no_files : Directory
 no_files = record { files = finite.empty; is_folder = λ q. length q == 0 }
+
+-- the refusals that were armed, in that order: the sort of calls, which of them from then on, and as what it is refused
+abbrev pub armed_of : MemoryFileSystem → List (FsCall × ℕ × IoKind)
+armed_of memory = arms_of memory.armed.refusals.items
+
+-- which of the changing calls from now on is the first that is refused
+abbrev pub stop_of : MemoryFileSystem → Option ℕ
+stop_of memory = memory.armed.stop

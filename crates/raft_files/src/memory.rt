@@ -1,9 +1,11 @@
 //! A file system in memory. Its earlier states are kept for clauses alone.
-ghost use Rattle.std.specs.Prelude.{◌≡◌, ◌≤◌, ◌+◌, ◌↔◌, [], ◌∷◌, map, refl, IsTrue};
+ghost use Rattle.std.specs.Prelude.{◌≡◌, ◌≤◌, ◌+◌, ◌↔◌, [], ◌∷◌, map, refl, IsTrue, None};
 ghost use Rattle.std.specs.String.{string_bytes};
-ghost use Rattle.raft_files.specs.Directory.{IsReading};
+ghost use Rattle.raft_files.specs.Directory.{IsReading, IsWriting};
+ghost use Rattle.raft_files.specs.Moments.{Passes};
 ghost use Rattle.raft_files.specs.Refusal.{CountsFault};
 
+use crate::armed::{Armed, FsCall};
 use crate::history::History;
 use crate::tree::Tree;
 use crate::{FileSystem, FsFault, IoKind, Permission};
@@ -14,10 +16,11 @@ const MAX_LEN: usize = 1 << 62;
 /// Files by their paths, in memory. It shows its files as `memory_directory` and its moments as `memory_moments`.
 #[derive(Drop)]
 pub struct MemoryFileSystem {
-    alloc: Global,
-    tree: Tree,
-    past: History<Tree>,
-    refusals: u64,
+    pub(crate) alloc: Global,
+    pub(crate) tree: Tree,
+    pub(crate) past: History<Tree>,
+    pub(crate) refusals: u64,
+    pub(crate) armed: Armed,
 }
 
 #[derive(Drop)]
@@ -38,18 +41,40 @@ pub struct MemoryWriter {
 }
 
 impl MemoryFileSystem {
-    ghost use Rattle.raft_files.specs.Memory.{memory_directory, memory_moments, memory_refusals, no_files};
+    ghost use Rattle.raft_files.specs.Memory.{memory_directory, memory_moments, memory_refusals, armed_of, stop_of, no_files};
 
     pub fn new(alloc: Global) -> MemoryFileSystem
         ensures files { memory_directory result ≡ no_files }
         ensures any_moment { memory_moments result ≡ no_files ∷ [] }
         ensures cause { memory_refusals result ≡ 0 }
+        ensures others { (armed_of result ≡ []) × (stop_of result ≡ None) }
     {
         MemoryFileSystem {
             alloc,
             tree: Tree::new(alloc),
             past: History::new(),
             refusals: 0,
+            armed: Armed::new(alloc),
+        }
+    }
+}
+
+impl MemoryFileSystem {
+    ghost use Rattle.raft_files.specs.Memory.{memory_directory, memory_moments, memory_refusals};
+
+    // Writes the first half of the bytes, if there is room for all of them.
+    fn write_half(&mut self, path: &str, at: usize, bytes: &[u8])
+        ensures any_moment { Passes (memory_moments self.old) (memory_moments self.new) (memory_directory self.new)
+            (IsWriting path.now at bytes.now (memory_directory self.old)) }
+        ensures cause { memory_refusals self.new ≡ memory_refusals self.old }
+    {
+        if !fits(at, bytes.len()) {
+            return;
+        }
+        let past = self.past.with(&self.tree);
+        let half = &bytes[..bytes.len() / 2];
+        if self.tree.write(path, at, bytes, half, false).is_ok() {
+            self.past = past;
         }
     }
 }
@@ -82,6 +107,9 @@ impl FileSystem for MemoryFileSystem {
     ghost now_counts = { λ m. (map tree_directory m.past.items, refl) };
 
     fn create(&mut self, path: &str) -> Result<MemoryHandle, FsFault> {
+        if let Some(kind) = self.armed.due_change(FsCall::Create) {
+            return Err(counted(&mut self.refusals, FsFault::Io(kind)));
+        }
         let handle = MemoryHandle {
             path: String::from_str(self.alloc, path)?,
             may_write: true,
@@ -95,6 +123,9 @@ impl FileSystem for MemoryFileSystem {
     }
 
     fn open(&mut self, path: &str, permission: Permission) -> Result<MemoryHandle, FsFault> {
+        if let Some(kind) = self.armed.due(FsCall::Open) {
+            return Err(counted(&mut self.refusals, FsFault::Io(kind)));
+        }
         if !self.is_file(path) {
             return Err(counted(&mut self.refusals, FsFault::Io(IoKind::NotFound)));
         }
@@ -105,6 +136,9 @@ impl FileSystem for MemoryFileSystem {
     }
 
     fn new_reader(&mut self, handle: &MemoryHandle) -> Result<MemoryReader, FsFault> {
+        if let Some(kind) = self.armed.due(FsCall::NewReader) {
+            return Err(counted(&mut self.refusals, FsFault::Io(kind)));
+        }
         Ok(MemoryReader {
             path: handle.path.clone()?,
             refused: 0,
@@ -116,8 +150,12 @@ impl FileSystem for MemoryFileSystem {
     }
 
     fn new_writer(&mut self, handle: &MemoryHandle) -> Result<MemoryWriter, FsFault> {
+        let due = self.armed.due(FsCall::NewWriter);
         if !handle.may_write {
             return Err(counted(&mut self.refusals, FsFault::Io(IoKind::Other)));
+        }
+        if let Some(kind) = due {
+            return Err(counted(&mut self.refusals, FsFault::Io(kind)));
         }
         Ok(MemoryWriter {
             path: handle.path.clone()?,
@@ -125,6 +163,10 @@ impl FileSystem for MemoryFileSystem {
     }
 
     fn write(&mut self, writer: &mut MemoryWriter, at: usize, bytes: &[u8]) -> Result<(), FsFault> {
+        if let Some(kind) = self.armed.due_change(FsCall::Write) {
+            self.write_half(writer.path.as_str(), at, bytes);
+            return Err(counted(&mut self.refusals, FsFault::Io(kind)));
+        }
         if !fits(at, bytes.len()) {
             return Err(counted(&mut self.refusals, FsFault::Io(IoKind::NoSpace)));
         }
@@ -140,6 +182,9 @@ impl FileSystem for MemoryFileSystem {
     }
 
     fn truncate(&mut self, writer: &mut MemoryWriter, size: usize) -> Result<(), FsFault> {
+        if let Some(kind) = self.armed.due_change(FsCall::Truncate) {
+            return Err(counted(&mut self.refusals, FsFault::Io(kind)));
+        }
         let past = self.past.with(&self.tree);
         if let Err(fault) = self.tree.cut(writer.path.as_str(), size) {
             return Err(counted(&mut self.refusals, fault));
@@ -154,6 +199,9 @@ impl FileSystem for MemoryFileSystem {
         at: usize,
         size: usize,
     ) -> Result<(), FsFault> {
+        if let Some(kind) = self.armed.due_change(FsCall::Allocate) {
+            return Err(counted(&mut self.refusals, FsFault::Io(kind)));
+        }
         if !fits(at, size) {
             return Err(counted(&mut self.refusals, FsFault::Io(IoKind::NoSpace)));
         }
@@ -166,6 +214,9 @@ impl FileSystem for MemoryFileSystem {
     }
 
     fn sync(&mut self, writer: &mut MemoryWriter) -> Result<(), FsFault> {
+        if let Some(kind) = self.armed.due_change(FsCall::Sync) {
+            return Err(counted(&mut self.refusals, FsFault::Io(kind)));
+        }
         let past = self.past.with(&self.tree);
         if let Err(fault) = self.tree.sync(writer.path.as_str()) {
             return Err(counted(&mut self.refusals, fault));
@@ -180,6 +231,9 @@ impl FileSystem for MemoryFileSystem {
         at: usize,
         bytes: &mut [u8],
     ) -> Result<usize, FsFault> {
+        if let Some(kind) = self.armed.due(FsCall::Read) {
+            return Err(counted(&mut reader.refused, FsFault::Io(kind)));
+        }
         match self.tree.files.get(reader.path.as_str()) {
             Some(slot) => Ok(copy_from(slot.bytes(), at, bytes)),
             None => Err(counted(&mut reader.refused, FsFault::Io(IoKind::NotFound))),
@@ -187,6 +241,9 @@ impl FileSystem for MemoryFileSystem {
     }
 
     fn file_size(&mut self, handle: &MemoryHandle) -> Result<usize, FsFault> {
+        if let Some(kind) = self.armed.due(FsCall::FileSize) {
+            return Err(counted(&mut self.refusals, FsFault::Io(kind)));
+        }
         match self.tree.files.get(handle.path.as_str()) {
             Some(slot) => Ok(slot.bytes().len()),
             None => Err(counted(&mut self.refusals, FsFault::Io(IoKind::NotFound))),
@@ -194,6 +251,9 @@ impl FileSystem for MemoryFileSystem {
     }
 
     fn make_dir(&mut self, path: &str) -> Result<(), FsFault> {
+        if let Some(kind) = self.armed.due_change(FsCall::MakeDir) {
+            return Err(counted(&mut self.refusals, FsFault::Io(kind)));
+        }
         let past = self.past.with(&self.tree);
         if let Err(fault) = self.tree.make_folder(self.alloc, path) {
             return Err(counted(&mut self.refusals, fault));
@@ -203,6 +263,9 @@ impl FileSystem for MemoryFileSystem {
     }
 
     fn list(&mut self, dir: &str) -> Result<Vec<String>, FsFault> {
+        if let Some(kind) = self.armed.due(FsCall::List) {
+            return Err(counted(&mut self.refusals, FsFault::Io(kind)));
+        }
         match self.tree.names(self.alloc, dir) {
             Ok(names) => Ok(names),
             Err(fault) => Err(counted(&mut self.refusals, fault)),

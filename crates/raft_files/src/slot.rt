@@ -1,9 +1,12 @@
 //! A file in memory: its bytes now, those of its last sync, and the ranges that were touched since.
-ghost use Rattle.std.specs.Prelude.{◌≡◌, ◌≤◌, ◌<◌, ◌+◌, ◌++◌, ◌^◌, ◌||◌, ℕ, [], length, take, drop, slice_index, if◌then◌else◌, true, OnOk, OnErr, vec_len, vec_capacity};
-ghost use Rattle.raft_files.specs.Outcomes.{File, settled, written, resized, synced_of, overlaid, padded, is_within};
-ghost use Rattle.raft_files.specs.Kept.{IsKept, is_covered, Agree};
+ghost use Rattle.std.specs.Prelude.{◌≡◌, ◌≤◌, ◌<◌, ◌+◌, ◌-◌, ◌==◌, ◌&&◌, ◌++◌, ◌^◌, ◌||◌, ℕ, [], length, take, drop, slice_index, if◌then◌else◌, true, OnOk, OnErr, IfOk, IfErr, MatchBool, vec_len, vec_capacity};
+ghost use Rattle.raft_files.specs.Outcomes.{File, MayLeave, settled, written, resized, synced_of, overlaid, padded, is_within};
+ghost use Rattle.raft_files.specs.Choice.{torn};
+ghost use Rattle.raft_files.specs.Kept.{IsKept, is_covered, Agree, SameOutside};
 
+use crate::crash::Choice;
 use crate::known::{Known, Step};
+use raft_records::Fault;
 use std::alloc::{AllocError, Global};
 use std::marker::Model;
 
@@ -113,6 +116,107 @@ impl Slot {
         self.greatest = self.bytes.len();
         self.known = self.known.then(&Step::Sync);
         Ok(())
+    }
+}
+
+impl Slot {
+    ghost use Rattle.raft_files.specs.Choice.{chosen, RefusesUnless};
+
+    /// A file of these bytes, which a crash leaves as they are.
+    pub(crate) fn restarted(alloc: Global, bytes: Vec<u8>) -> Result<Slot, AllocError>
+        ensures ok { IfOk result (λ slot. slot ≡ settled bytes.items) }
+    {
+        let known = Known::new().then(&Step::Write(0, &bytes, true, &bytes));
+        Ok(Slot {
+            synced: bytes.to_vec(alloc)?,
+            ranges: Vec::new(alloc),
+            least: bytes.len(),
+            greatest: bytes.len(),
+            known: known.then(&Step::Sync),
+            bytes,
+        })
+    }
+
+    /// What the choice leaves of the file.
+    pub(crate) fn left(&self, alloc: Global, choice: &Choice) -> Result<Vec<u8>, Fault>
+        ensures ok { IfOk result (λ left. left.items ≡ chosen choice.now self.now) }
+        ensures allowed { OnOk result (MayLeave self.now (chosen choice.now self.now)) }
+        ensures refused { IfErr result (RefusesUnless (MayLeave self.now (chosen choice.now self.now))) }
+    {
+        match choice {
+            Choice::All => Ok(self.bytes.to_vec(alloc)?),
+            Choice::Synced => Ok(self.synced.to_vec(alloc)?),
+            Choice::Torn(kept, fill) => Ok(torn_bytes(
+                alloc,
+                &self.bytes,
+                &self.ranges,
+                *kept,
+                *fill,
+            )?),
+            Choice::Bytes(bytes) => {
+                if bytes.len() < self.least
+                    || bytes.len() > self.greatest
+                    || !same_outside(bytes, &self.synced, &self.ranges)
+                {
+                    return Err(Fault::InvalidArgument("no crash leaves these bytes"));
+                }
+                Ok(bytes.to_vec(alloc)?)
+            }
+        }
+    }
+}
+
+// Whether the bytes are those of the last sync but in the ranges.
+fn same_outside(bytes: &[u8], synced: &[u8], ranges: &[(usize, usize)]) -> bool
+    ensures { MatchBool result (SameOutside ranges.now synced.now bytes.now) (SameOutside ranges.now synced.now bytes.now → ⊥) }
+{
+    for (i, byte) in bytes.iter().enumerate() {
+        if i < synced.len() && *byte != synced[i] && !covers(ranges, i) {
+            return false;
+        }
+    }
+    true
+}
+
+fn covers(ranges: &[(usize, usize)], i: usize) -> bool
+    ensures { result ≡ is_covered ranges.now i }
+{
+    ranges.iter().any(|r| r.0 <= i && i - r.0 < r.1)
+}
+
+// The bytes now, of which only the first few that the ranges cover are kept.
+fn torn_bytes(
+    alloc: Global,
+    now: &[u8],
+    ranges: &[(usize, usize)],
+    kept: usize,
+    fill: u8,
+) -> Result<Vec<u8>, AllocError>
+    ensures { IfOk result (λ bytes. bytes.items ≡ torn (is_covered ranges.now) kept fill now.now) }
+{
+    let mut bytes = Vec::new(alloc);
+    let mut left = kept;
+    for (i, byte) in now.iter().enumerate() {
+        let is_covered = covers(ranges, i);
+        bytes.push(byte_of(is_covered, left, *byte, fill))?;
+        left = left_after(is_covered, left);
+    }
+    Ok(bytes)
+}
+
+fn byte_of(is_covered: bool, left: usize, byte: u8, fill: u8) -> u8
+    ensures { result ≡ (if is_covered && left == 0 then fill else byte) }
+{
+    if is_covered && left == 0 { fill } else { byte }
+}
+
+fn left_after(is_covered: bool, left: usize) -> usize
+    ensures { result ≡ left - (if is_covered then 1 else 0) }
+{
+    if is_covered {
+        left.saturating_sub(1)
+    } else {
+        left
     }
 }
 

@@ -10,12 +10,12 @@ use crate::{FsFault, IoKind};
 use std::alloc::Global;
 use std::collections::BTreeMap;
 
-type Files = BTreeMap<String, Slot>;
+pub(crate) type Files = BTreeMap<String, Slot>;
 
 #[derive(Drop)]
 pub(crate) struct Tree {
     pub(crate) files: Files,
-    folders: Vec<String>,
+    pub(crate) folders: Vec<String>,
 }
 
 impl Tree {

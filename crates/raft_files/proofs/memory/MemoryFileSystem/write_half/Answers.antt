@@ -1,0 +1,16 @@
+use Rattle.std.proofs.Common.{◌≡◌, ◌≤◌, ◌∷◌, ◌/◌, false, List, ℕ, length, take, map, ap, arith, rules}
+use Rattle.std.proofs.lemmas.Grind.{common_steps}
+use Rattle.raft_files.specs.Outcomes.{written, overlaid, IsPartOf}
+use Rattle.raft_files.specs.Directory.{changed}
+use Rattle.raft_files.specs.Memory.{tree_directory}
+use Rattle.raft_files.proofs.MomentsLemmas.{passes_one}
+use Rattle.raft_files.proofs.DirectoryLemmas.{changing_part, writing_part}
+use Rattle.raft_files.proofs.memory.MemoryFileSystem.write_half.Goals as goal
+
+pub returns-then-is_ok-clause-any_moment : goal.returns-then-is_ok-clause-any_moment
+returns-then-is_ok-clause-any_moment c =
+    let half : List ℕ = take (length c.args.bytes.now / 2) c.args.bytes.now in
+    let part : length half ≤ length c.args.bytes.now = grind (arith, common_steps) in
+    let is : tree_directory c.write.new.self ≡ changed c.args.path.now (λ f. written c.args.at c.args.bytes.now false (overlaid f.now c.args.at half) f) (tree_directory c.args.self.now.tree) = search rules in
+    passes_one _ _ _ _ (ap (λ l. tree_directory c.write.new.self ∷ map tree_directory l) c.with-past.ensures)
+    (changing_part c.args.path.now (written c.args.at c.args.bytes.now) (λ now. overlaid now c.args.at c.args.bytes.now) (IsPartOf c.args.at (length c.args.bytes.now)) _ _ (λ now. overlaid now c.args.at half) (writing_part c.args.at c.args.bytes.now half part) is)

@@ -1,0 +1,3 @@
+pub mod AgreesLemmas
+pub mod LogLemmas
+pub mod OpenLemmas

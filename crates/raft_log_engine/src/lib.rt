@@ -1,0 +1,9 @@
+//! The engine: writes batches to its log, keeps an index of what they hold, and finds it again at an opening.
+#![tactic(auto)]
+
+pub mod config;
+pub mod engine;
+pub mod script;
+
+pub use config::{Config, RecoveryMode};
+pub use engine::{Engine, Refused};

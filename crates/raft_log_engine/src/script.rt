@@ -1,0 +1,218 @@
+//! The program `raftlog` over any reader and writer.
+mod line;
+
+use crate::Config;
+use crate::engine::{Engine, Refused};
+use line::{Line, parse_line};
+use raft_files::{FileSystem, MemoryFileSystem};
+use raft_records::{Fault, Fresh, LogBatch, ReadableSize};
+use std::alloc::{AllocError, Global};
+use std::io;
+use std::io::{BufRead, BufReader, BufWriter, Read, Write};
+
+/// How a run of the program ended.
+#[derive(Clone, Copy, Debug, PartialEq, Eq)]
+pub enum Ended {
+    /// The input was read to its end.
+    Done,
+    /// A line, counted from 1, asks for nothing that the program knows.
+    BadLine(u64),
+    /// The input could not be read, or memory was refused outside the engine's calls.
+    Input,
+    /// The output could not be written.
+    Output,
+    /// The engine could not be opened or closed, and the refusal was printed.
+    Opening,
+}
+
+// What a line is answered with.
+#[derive(Drop)]
+enum Answer {
+    Nothing,
+    Done,
+    Value(Option<Vec<u8>>),
+    Refused(Fault),
+    /// The engine is gone, so that the run ends.
+    Gone(Fault),
+}
+
+type MemoryEngine = Engine<MemoryFileSystem>;
+
+/// Reads lines, does what each asks for over files in memory, and writes the answers.
+/// docs/ARCHITECTURE.md has the lines and their answers.
+pub fn serve<R: Read + Drop, W: Write + Drop>(alloc: Global, reader: R, writer: W) -> Ended {
+    let Ok(mut input) = BufReader::new(alloc, reader) else {
+        return Ended::Input;
+    };
+    let Ok(mut output) = BufWriter::new(alloc, writer) else {
+        return Ended::Input;
+    };
+    let ended = serve_lines(alloc, &mut input, &mut output);
+    if output.flush().is_err() {
+        return Ended::Output;
+    }
+    ended
+}
+
+fn serve_lines<R: BufRead, W: Write>(alloc: Global, input: &mut R, output: &mut W) -> Ended {
+    let mut engine = None;
+    let mut text = Vec::new(alloc);
+    for number in 1..u64::MAX {
+        text.clear();
+        match input.read_until(b'\n', &mut text) {
+            Ok(0) => return Ended::Done,
+            Ok(_) => {}
+            Err(_) => return Ended::Input,
+        }
+        if text.last() == Some(&b'\n') {
+            text.pop();
+        }
+        let Some(line) = parse_line(&text) else {
+            return Ended::BadLine(number);
+        };
+        let Ok(answer) = answer_line(alloc, &mut engine, &line) else {
+            return Ended::Input;
+        };
+        if print(output, &answer).is_err() {
+            return Ended::Output;
+        }
+        if let Answer::Gone(_) = answer {
+            return Ended::Opening;
+        }
+    }
+    Ended::Input
+}
+
+// The engine is opened at the first line that asks for something.
+fn answer_line(
+    alloc: Global,
+    engine: &mut Option<MemoryEngine>,
+    line: &Line<'_>,
+) -> Result<Answer, AllocError> {
+    if let Line::Nothing = line {
+        return Ok(Answer::Nothing);
+    }
+    let opened = match engine.take() {
+        Some(opened) => opened,
+        None => match open(alloc)? {
+            Ok(opened) => opened,
+            Err(refused) => return Ok(Answer::Gone(refused.fault)),
+        },
+    };
+    if let Line::Reopen = line {
+        return Ok(reopen(engine, opened));
+    }
+    let opened = engine.insert(opened);
+    answer_opened(alloc, opened, line)
+}
+
+fn open(alloc: Global) -> Result<Result<MemoryEngine, Refused<MemoryFileSystem>>, AllocError> {
+    let mut config = Config::fresh(alloc);
+    config.dir.push_str("raft")?;
+    config.target_file_size = ReadableSize::kb(1);
+    config.purge_threshold = ReadableSize::kb(10);
+    Ok(Engine::open_in_order(alloc, config, MemoryFileSystem::new(alloc)))
+}
+
+fn reopen<F: FileSystem + Drop>(engine: &mut Option<Engine<F>>, opened: Engine<F>) -> Answer {
+    match opened.reopen() {
+        Ok(opened) => {
+            *engine = Some(opened);
+            Answer::Done
+        }
+        Err(refused) => Answer::Gone(refused.fault),
+    }
+}
+
+fn answer_opened<F: FileSystem>(
+    alloc: Global,
+    engine: &mut Engine<F>,
+    line: &Line<'_>,
+) -> Result<Answer, AllocError> {
+    match line {
+        Line::Put {
+            group,
+            key,
+            value,
+            sync,
+        } => {
+            let mut batch = LogBatch::new(alloc);
+            let put = batch.put(*group, key.to_vec(alloc)?, value.to_vec(alloc)?);
+            Ok(written(engine, put, &mut batch, *sync))
+        }
+        Line::Delete { group, key, sync } => {
+            let mut batch = LogBatch::new(alloc);
+            let deleted = batch.delete(*group, key.to_vec(alloc)?);
+            Ok(written(engine, deleted, &mut batch, *sync))
+        }
+        Line::Get { group, key } => Ok(match engine.get(*group, key) {
+            Ok(value) => Answer::Value(value),
+            Err(fault) => Answer::Refused(fault),
+        }),
+        Line::Sync => Ok(done(engine.sync())),
+        Line::Nothing | Line::Reopen => Ok(Answer::Nothing),
+    }
+}
+
+// A batch whose building was refused is not written.
+fn written<F: FileSystem>(
+    engine: &mut Engine<F>,
+    built: Result<(), Fault>,
+    batch: &mut LogBatch,
+    sync: bool,
+) -> Answer {
+    if let Err(fault) = built {
+        return Answer::Refused(fault);
+    }
+    match engine.write(batch, sync) {
+        Ok(_) => Answer::Done,
+        Err(fault) => Answer::Refused(fault),
+    }
+}
+
+fn done(outcome: Result<(), Fault>) -> Answer {
+    match outcome {
+        Ok(()) => Answer::Done,
+        Err(fault) => Answer::Refused(fault),
+    }
+}
+
+fn print<W: Write>(output: &mut W, answer: &Answer) -> io::Result<()> {
+    match answer {
+        Answer::Nothing => Ok(()),
+        Answer::Done => output.write_all(b"ok\n"),
+        Answer::Value(None) => output.write_all(b"none\n"),
+        Answer::Value(Some(value)) => {
+            output.write_all(b"value ")?;
+            output.write_all(value)?;
+            output.write_all(b"\n")
+        }
+        Answer::Refused(fault) | Answer::Gone(fault) => {
+            let code = fault.code();
+            let name = fault_name(fault);
+            writeln!(output, "refused {code} {name}")
+        }
+    }
+}
+
+fn fault_name(fault: &Fault) -> &'static str {
+    match fault {
+        Fault::InvalidArgument(_) => "invalid-argument",
+        Fault::Corruption => "corruption",
+        Fault::Io(_, _) => "io",
+        Fault::TryAgain => "try-again",
+        Fault::Gap => "gap",
+        Fault::Range => "range",
+        Fault::EntryCompacted => "entry-compacted",
+        Fault::EntryNotFound => "entry-not-found",
+        Fault::WrongIndex => "wrong-index",
+        Fault::Parse => "parse",
+        Fault::Failed => "failed",
+        Fault::Memory => "memory",
+        Fault::Lz4 => "lz4",
+        Fault::FileOutOfRange => "file-out-of-range",
+        Fault::NotRecovered => "not-recovered",
+        Fault::TrailFull => "trail-full",
+        Fault::Layer => "layer",
+    }
+}

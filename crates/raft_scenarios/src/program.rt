@@ -1,0 +1,62 @@
+//! What the program prints for what it reads.
+
+use raft_log_engine::script::{Ended, serve};
+use std::alloc::Global;
+use std::io::{Result as IoResult, Write};
+use std::process::Abort;
+use std::test::Fail;
+
+/// A script, what it prints, and how it ends.
+struct Case(&'static str, &'static str, Ended);
+
+const CASES: [Case; 14] = [
+    Case(
+        "put 1 k v sync\nreopen\nget 1 k\nget 1 x\n",
+        "ok\nok\nvalue v\nnone\n",
+        Ended::Done,
+    ),
+    Case("", "", Ended::Done),
+    Case("# nothing\n\nsync\n", "ok\n", Ended::Done),
+    Case(
+        "put 1 k v\nput 1 k w\nget 1 k\ndel 1 k sync\nget 1 k",
+        "ok\nok\nvalue w\nok\nnone\n",
+        Ended::Done,
+    ),
+    Case(
+        "put 1 a 1\nput 2 a 2\nreopen\nreopen\nget 1 a\nget 2 a\nget 3 a\n",
+        "ok\nok\nok\nok\nvalue 1\nvalue 2\nnone\n",
+        Ended::Done,
+    ),
+    Case(
+        "put 1 __k v\nget 1 __k\ndel 1 __k\n",
+        "refused 1 invalid-argument\nnone\nok\n",
+        Ended::Done,
+    ),
+    Case("put 1 k sync\nget 1 k\n", "ok\nvalue sync\n", Ended::Done),
+    Case(
+        "put 18446744073709551615 k v\nget 18446744073709551615 k\n",
+        "ok\nvalue v\n",
+        Ended::Done,
+    ),
+    Case(
+        "sync\nput 18446744073709551616 k v\n",
+        "ok\n",
+        Ended::BadLine(2),
+    ),
+    Case("put +1 k v\n", "", Ended::BadLine(1)),
+    Case("put 1  k v\n", "", Ended::BadLine(1)),
+    Case("get 1 k \n", "", Ended::BadLine(1)),
+    Case("get 1\n", "", Ended::BadLine(1)),
+    Case("put 1 k v now\n", "", Ended::BadLine(1)),
+];
+
+#[test]
+fn puts_and_gets(rt: HostRuntime) -> Result<(), Fail> {
+    for Case(script, wanted, ended) in &CASES {
+        let mut printed = Vec::new(rt.alloc());
+        let how = serve(rt.alloc(), script.as_bytes(), &mut printed);
+        assert_eq!(rt; how, *ended, "at {script}");
+        assert_eq!(rt; printed.as_slice(), wanted.as_bytes(), "at {script}");
+    }
+    Ok(())
+}
