@@ -25,6 +25,8 @@ pub(crate) enum Step<'a> {
     Write(usize, &'a [u8], bool, &'a [u8]),
     Resize(bool, &'a [u8]),
     Sync,
+    /// A crash left these bytes.
+    Restart(&'a [u8]),
 }
 
 impl Known {

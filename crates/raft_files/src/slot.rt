@@ -126,13 +126,13 @@ impl Slot {
     pub(crate) fn restarted(alloc: Global, bytes: Vec<u8>) -> Result<Slot, AllocError>
         ensures ok { IfOk result (λ slot. slot ≡ settled bytes.items) }
     {
-        let known = Known::new().then(&Step::Write(0, &bytes, true, &bytes));
+        let known = Known::new().then(&Step::Restart(&bytes));
         Ok(Slot {
             synced: bytes.to_vec(alloc)?,
             ranges: Vec::new(alloc),
             least: bytes.len(),
             greatest: bytes.len(),
-            known: known.then(&Step::Sync),
+            known,
             bytes,
         })
     }
