@@ -24,7 +24,7 @@ pub(crate) fn checksum<R: Host>(rt: &R, count: u64) -> Result<()> {
         if let Some(first) = copy.first_mut() {
             *first = (number & 0xff) as u8;
         }
-        sum ^= crc32(&copy);
+        sum = sum.wrapping_mul(31).wrapping_add(crc32(&copy));
     }
     report(rt, "crc", start, count, bytes)?;
     println!(rt; "crc: {bytes} bytes, checksum {sum:08x}")?;

@@ -95,7 +95,7 @@ pub(crate) fn get<R: Host, F: FileSystem + Drop>(rt: &R, files: F, load: Load) -
         let key = (state >> 20) % load.count.max(1);
         if let Some(value) = engine.get(key % GROUPS, &key_of(alloc, key)?)? {
             found = found.saturating_add(1);
-            sum ^= crc32(&value);
+            sum = sum.wrapping_mul(31).wrapping_add(crc32(&value));
         }
     }
     report(
