@@ -18,6 +18,7 @@ pub mod RecordsLemmas
 pub mod WrittenLemmas
 pub mod FreshLemmas
 pub mod LogLemmas
+pub mod NoneLemmas
 pub mod TruncationLemmas
 pub mod KeptLemmas
 pub mod ChoiceLemmas

@@ -8,23 +8,28 @@ use Rattle.raft_records.specs.declared.pipe_log.FileId.{FileId}
 use Rattle.raft_files.specs.declared.format.LogFileFormat.{LogFileFormat}
 use Rattle.raft_files.specs.Header.{header_len}
 use Rattle.raft_files.specs.Outcomes.{File, Change, is_touched, Outcome, IsCutOf, cut_to}
-use Rattle.raft_files.specs.Reading.{Placed, record_place, record_at, placed_by, end_of_records, Reading, records_behind, records_in, reading, records_of, readable_records}
+use Rattle.raft_files.specs.Reading.{Placed, record_place, record_at, placed_by, end_of_records, Reading, records_behind, records_in, reading, records_of, readable_records, end_of, end_of_reading}
 use Rattle.raft_files.specs.Detectable.{IsBeginningOf, signature_by, bytes_behind, HasByteOf, IsDone, AreDone}
 use Rattle.raft_files.specs.Records.{ReadsFirst, KeepsRecords, IsEmptyFrom, HoldsRecords, KeepsNone}
 use Rattle.raft_files.proofs.DetectableLemmas.{beginning_itself, beginning_take}
 use Rattle.raft_files.proofs.ExtentLemmas.{header_of_takes}
 use Rattle.raft_files.proofs.ReadingLemmas.{StaysBefore, placed_by_past, end_of_placed-from, end_of_placed-within, records_stay, reading_is, reading-kept}
+use Rattle.raft_files.proofs.NoneLemmas.{nothing_of, none_more}
 use Rattle.raft_files.proofs.RecordsLemmas.{IsFirst, first_placed, end_of_front, reads_first-kept, nothing_behind, left_of_held, format_of-held, changed_by, keeps_more, not_within, refused_here, holds_same, IsCutRefused, empty_cut_refused, same_cut_refused}
 
 -- The records up to the end of the reading.
 
-end_of_read_within : (id : FileId) (bytes : List ℕ) (r : Reading) → reading id bytes ≡ Some r → r.end ≤ length bytes
+pub header_within : (id : FileId) (bytes : List ℕ) (r : Reading) → reading id bytes ≡ Some r → header_len r.format.version ≤ length bytes
+header_within id bytes r e =
+    let is = reading_is id bytes r e in
+    let header = header_of_takes bytes r.format is.rest is.header in
+    omega (arith, header.long, ap length header.whole, length-append header.front is.rest)
+
+pub end_of_read_within : (id : FileId) (bytes : List ℕ) (r : Reading) → reading id bytes ≡ Some r → r.end ≤ length bytes
 end_of_read_within id bytes r e =
     let is = reading_is id bytes r e in
     let from = header_len r.format.version in
-    let header = header_of_takes bytes r.format is.rest is.header in
-    let long : from ≤ length bytes = omega (arith, header.long, ap length header.whole, length-append header.front is.rest) in
-    let within = end_of_placed-within (records_stay r.format.alignment (signature_by id r.format) bytes) (length bytes) from long in
+    let within = end_of_placed-within (records_stay r.format.alignment (signature_by id r.format) bytes) (length bytes) from (header_within id bytes r e) in
     omega (arith, within, is.end, ap (λ rs. end_of_records from rs) is.records)
 
 -- bytes cut where the reading ends are read to their end
@@ -123,17 +128,6 @@ keeps_behind id format records synced file c keeps reads behind =
 
 -- Files of which a crash leaves no record.
 
-none_more : (id : FileId) (file : File) (c : Change) (rewritten : Option (List (ℕ × ℕ))) → KeepsNone id file →
-    ((format : LogFileFormat) (left : List Placed) → IsBeginningOf left (readable_records id c.after) → AreDone (signature_by id format) (c ∷ file.changes ++ file.older) left → left ≡ []) → KeepsNone id (changed_by c rewritten file)
-none_more id file c rewritten none moment = record { latest = refl; moments = moments }
-  where
-    Nothing : List Change → Type 0
-    Nothing upto = (format : LogFileFormat) (left : List Placed) → IsBeginningOf left (readable_records id (bytes_behind file.synced upto)) → AreDone (signature_by id format) (upto ++ file.older) left → left ≡ []
-
-    moments : (newer upto : List Change) → c ∷ file.changes ≡ newer ++ upto → Nothing upto
-    moments [] upto e = subst Nothing e moment
-    moments (x ∷ newer) upto e = none.moments newer upto (cc)
-
 none_behind : (id : FileId) (file : File) (c : Change) (r : Reading) → KeepsNone id file → reading id file.now ≡ Some r → IsBehind r.end file.now c (file.changes ++ file.older) → KeepsNone id (changed_by c file.rewritten file)
 none_behind id file c r none e behind = none_more id file c file.rewritten none (λ format left begins done.
     let old = left_before id (signature_by id format) file.now c (file.changes ++ file.older) r e behind left begins done in
@@ -144,11 +138,7 @@ nothing_read : (id : FileId) (by : Option ℕ) (bytes : List ℕ) (changes : Lis
 nothing_read id by bytes changes empty left begins done = by_reading (reading id bytes) refl begins
   where
     by_reading : (read : Option Reading) → reading id bytes ≡ read → IsBeginningOf left (records_of read) → left ≡ []
-    by_reading None e first = none_first left first
-      where
-        none_first : (left : List Placed) → IsBeginningOf left [] → left ≡ []
-        none_first [] first = refl
-        none_first (x ∷ left) first = let e : [] ≡ x ∷ (left ++ first.0) = first.1 in absurd cc
+    by_reading None e first = nothing_of [] left refl first
     by_reading (Some r) e first =
         let is = reading_is id bytes r e in
         nothing_behind r.format.alignment (signature_by id r.format) by bytes changes 0 empty (length bytes) (header_len r.format.version) (omega arith) left (first.0, sym is.records ∙ first.1) done
@@ -181,3 +171,36 @@ cut_behind size false after old changes within part =
       same = same_cut_refused size old (cut_change size false after old) within refused;
       empty = empty_cut_refused size old (cut_change size false after old) changes refused;
     }
+
+-- a truncation to the end of the reading keeps the records
+pub keeps_cut : (id : FileId) (format : LogFileFormat) (records : List Placed) (synced size : ℕ) (is_done : Bool) (after : List ℕ) (file : File) → KeepsRecords id format records synced file → ReadsFirst id format (take synced records) file.now →
+    size ≡ end_of_reading id file.now → Outcome is_done (take size file.now) (IsCutOf size file.now) after →
+    let cut = cut_to size is_done after file in KeepsRecords id format records synced cut × ReadsFirst id format (take synced records) cut.now
+keeps_cut id format records synced size is_done after file keeps reads cuts outcome =
+    let c = cut_change size is_done after file.now in
+    let size_is : size ≡ reads.end = cuts ∙ ap end_of reads.read in
+    let within = end_of_read_within id file.now _ reads.read in
+    let behind = cut_behind size is_done after file.now (file.changes ++ file.older) (omega (arith, size_is, within)) outcome in
+    subst (λ f. KeepsRecords id format records synced f × ReadsFirst id format (take synced records) f.now) (sym (cut_is size is_done after file))
+    (keeps_behind id format records synced file c keeps reads (subst (λ n. IsBehind n file.now c (file.changes ++ file.older)) size_is behind))
+
+-- .. and adds none
+pub none_cut : (id : FileId) (size : ℕ) (is_done : Bool) (after : List ℕ) (file : File) → KeepsNone id file → size ≡ end_of_reading id file.now → Outcome is_done (take size file.now) (IsCutOf size file.now) after →
+    KeepsNone id (cut_to size is_done after file)
+none_cut id size is_done after file none cuts outcome = subst (KeepsNone id) (sym (cut_is size is_done after file)) (by_reading (reading id file.now) refl)
+  where
+    c : Change
+    c = cut_change size is_done after file.now
+
+    past : List Change
+    past = file.changes ++ file.older
+
+    by_reading : (read : Option Reading) → reading id file.now ≡ read → KeepsNone id (changed_by c file.rewritten file)
+    by_reading None e =
+        let size_is : size ≡ 0 = cuts ∙ ap end_of e in
+        let behind = cut_behind size is_done after file.now past (omega (arith, size_is)) outcome in
+        none_more id file c file.rewritten none (λ format left. nothing_read id (signature_by id format) c.after (c ∷ past) (subst (λ n. IsEmptyFrom n c.after (c ∷ past)) size_is behind.empty) left)
+    by_reading (Some r) e =
+        let size_is : size ≡ r.end = cuts ∙ ap end_of e in
+        let behind = cut_behind size is_done after file.now past (omega (arith, size_is, end_of_read_within id file.now r e)) outcome in
+        none_behind id file c r none e (subst (λ n. IsBehind n file.now c past) size_is behind)
