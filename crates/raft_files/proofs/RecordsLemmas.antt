@@ -16,7 +16,7 @@ use Rattle.raft_files.specs.Header.{HasHeader, header_bytes, header_len, header_
 use Rattle.raft_files.specs.Outcomes.{File, Change, is_within, is_touched, untouched_len, IsStaleAt, written, resized, cut_to, synced_of, settled, padded, overlaid, Outcome, IsPartOf, IsCutOf}
 use Rattle.raft_files.specs.Directory.{Directory, Path, file_at}
 use Rattle.raft_files.specs.Reading.{Placed, record_place, record_at, placed_before, placed_by, records_from, end_of_records, Reading, records_behind, records_in, reading_behind, reading, records_of, readable_records, ends_with, is_read_to_end}
-use Rattle.raft_files.specs.Detectable.{IsBeginningOf, format_of, signature_by, bytes_behind, IsGivenBy, IsDone, AreDone, IsMarkedAt, EndsUnmarked, IsDetectableFile}
+use Rattle.raft_files.specs.Detectable.{IsBeginningOf, format_of, signature_by, bytes_behind, IsGivenBy, IsDone, AreDone, IsMarkedAt, EndsUnmarked, IsDetectableFile, NoneRefused}
 use Rattle.raft_files.specs.Records.{ReadsFirst, KeepsRecords, IsRefusedAt, IsEmptyFrom, HoldsRecords, IsWrittenTo, IsTornFrom, KeepsBatches}
 use Rattle.raft_files.proofs.DetectableLemmas.{beginning_itself, beginning_trans, beginning_append, beginning_take, beginning_length, beginning_is, beginning_split}
 use Rattle.raft_files.proofs.HeaderLemmas.{length-header_bytes}
@@ -299,7 +299,7 @@ refused_before c changes i outside q =
     let untouched : is_touched (c ∷ q.0) i ≡ false = ap (λ b. b || is_touched q.0 i) (not_within c.from c.size i outside) ∙ q.7 in
     (c ∷ q.0, q.1, q.2, ap (λ cs. c ∷ cs) q.3, q.4, q.5, q.6, untouched)
 
-same_front : (at : ℕ) (a b : List ℕ) → at ≤ length a → at ≤ length b → ((i : ℕ) → i < at → slice_index a i ≡ slice_index b i) → take at a ≡ take at b
+pub same_front : (at : ℕ) (a b : List ℕ) → at ≤ length a → at ≤ length b → ((i : ℕ) → i < at → slice_index a i ≡ slice_index b i) → take at a ≡ take at b
 same_front at a b long_a long_b same =
     let len_a : length (take at a) ≡ at = length-take-le at a long_a in
     let len_b : length (take at b) ≡ at = length-take-le at b long_b in
@@ -705,10 +705,6 @@ written_to_read id file bytes format now header to_end =
 
 -- The premise can be met.
 
--- no change was refused
-pub record NoneRefused (changes : List Change) : Type 0 where
-  pub none : (later : List Change) (c : Change) (before : List Change) → changes ≡ later ++ c ∷ before → c.is_done ≡ false → ⊥
-
 -- the bytes of the last sync stand where no change touched the file
 pub record IsUntouched (file : File) : Type 0 where
   pub untouched : take (untouched_len file.synced file.changes) file.now ≡ take (untouched_len file.synced file.changes) file.synced
@@ -723,11 +719,14 @@ none_refused_nil = record { none = by_later }
     by_later [] c before e refused = cc
     by_later (x ∷ later) c before e refused = cc
 
+pub none_refused_before : (newer older : List Change) → NoneRefused (newer ++ older) → NoneRefused older
+none_refused_before newer older none = record { none = λ later c before e. none.none (newer ++ later) c before (ap (λ cs. newer ++ cs) e ∙ sym (append_assoc newer later (c ∷ before))) }
+
 some_before : {A B : Type 0} (f : A → Option B) (o : Option A) (y : B) → option_and_then f o ≡ Some y → (x : A) × (o ≡ Some x)
 some_before f None y e = cc
 some_before f (Some x) y e = (x, refl)
 
-zeros_only : (at : ℕ) (bytes : List ℕ) (changes : List Change) → IsEmptyFrom at bytes changes → NoneRefused changes → EndsInZeros at bytes
+pub zeros_only : (at : ℕ) (bytes : List ℕ) (changes : List Change) → IsEmptyFrom at bytes changes → NoneRefused changes → EndsInZeros at bytes
 zeros_only at bytes changes empty none = record {
   zeros = λ i above below. elim (empty i above below) [
     | inl zero' ↦ zero'

@@ -150,7 +150,7 @@ abbrev pub cut_change : ℕ → Bool → List ℕ → List ℕ → Change
 cut_change size true after old = record { from = min (length after) (length old); size = max (length after) (length old) - min (length after) (length old); given = []; is_done = true; after = after }
 cut_change size false after old = record { from = min size (length old); size = length old - min size (length old); given = []; is_done = false; after = after }
 
-cut_is : (size : ℕ) (is_done : Bool) (after : List ℕ) (file : File) → cut_to size is_done after file ≡ changed_by (cut_change size is_done after file.now) file.rewritten file
+pub cut_is : (size : ℕ) (is_done : Bool) (after : List ℕ) (file : File) → cut_to size is_done after file ≡ changed_by (cut_change size is_done after file.now) file.rewritten file
 cut_is size true after file = refl
 cut_is size false after file = refl
 

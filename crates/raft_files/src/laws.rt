@@ -1,16 +1,20 @@
 //! What holds of the records of files, whoever writes or reads them.
-ghost use Rattle.std.specs.Prelude.{◌≡◌, ◌+◌, ◌<◌, ◌^◌, ◌++◌, ◌∷◌, ℕ, List, [], true, Some, length, take};
+ghost use Rattle.std.specs.Prelude.{◌≡◌, ◌+◌, ◌<◌, ◌^◌, ◌++◌, ◌∷◌, ℕ, List, [], true, Some, None, length, take};
 ghost use Rattle.raft_records.specs.FileId.{signature_in};
 ghost use Rattle.raft_records.specs.Item.{Batch};
 ghost use Rattle.raft_records.specs.Record.{record_bytes, record_of};
 ghost use Rattle.raft_records.specs.RecordLimits.{FitsRecord};
 ghost use Rattle.raft_records.specs.declared.pipe_log.FileId.{FileId};
-ghost use Rattle.raft_files.specs.Detectable.{IsDetectable, signature_by};
-ghost use Rattle.raft_files.specs.Directory.{Directory, IsOneOf, IsRestarted, IsTruncating, Leaves, Left, Path, created};
+ghost use Rattle.raft_files.specs.Choice.{left_by};
+ghost use Rattle.raft_files.specs.Consistent.{AreConsistent, AreWhole};
+ghost use Rattle.raft_files.specs.Detectable.{EndsUnmarked, IsDetectable, NoneRefused, signature_by};
+ghost use Rattle.raft_files.specs.Directory.{Directory, IsOneOf, IsAllocating, IsRestarted, IsTruncating, IsWriting, Leaves, Left, Path, changed, created, file_at, folder_made};
 ghost use Rattle.raft_files.specs.Header.{HasHeader, header_bytes, header_of};
+ghost use Rattle.raft_files.specs.Outcomes.{File, synced_of};
 ghost use Rattle.raft_files.specs.Reading.{Reading, end_of_reading, is_read_to_end, readable_batches, reading};
 ghost use Rattle.raft_files.specs.Records.{FirstOf, HasLog, HasTornLog, IsKept, KeepsBatches, left_bytes};
 ghost use Rattle.raft_files.specs.Writer.{HasChanged, IsAppended, IsAppending, IsClosing, IsOpening, IsSynced, IsSyncing, bytes_at};
+ghost use Rattle.raft_files.specs.declared.crash.Choice.{Choice};
 ghost use Rattle.raft_files.specs.declared.format.LogFileFormat.{LogFileFormat};
 
 /// A file with a header alone is read to its end and has no batch. A record appended to a file that is
@@ -71,4 +75,28 @@ pub fn opening_keeps_the_log()
         → IsKept path id batches synced old → bytes_at path old ≡ [] → IsOpening path format old n → IsKept path id batches synced n }
     ensures found { (path : Path) (id : FileId) (r : Reading) (old cut new : Directory)
         → let found = readable_batches id (bytes_at path old) in reading id (bytes_at path old) ≡ Some r → bytes_at path cut ≡ take r.end (bytes_at path old) → HasChanged path IsSynced cut new → HasLog path id r.format found (length found) r.end new }
+{}
+
+/// Each call keeps files consistent: outside the ranges of its changes a file holds the bytes of its last sync.
+/// What a crash left is consistent.
+pub fn calls_keep_files_consistent()
+    ensures writing { (path : Path) (at : ℕ) (given : List ℕ) (old n : Directory) → AreConsistent old → IsWriting path at given old n → AreConsistent n }
+    ensures allocating { (path : Path) (size : ℕ) (old n : Directory) → AreConsistent old → IsAllocating path size old n → AreConsistent n }
+    ensures truncating { (path : Path) (size : ℕ) (old n : Directory) → AreConsistent old → IsTruncating path size old n → AreConsistent n }
+    ensures syncing { (path : Path) (old n : Directory) → AreConsistent old → IsOneOf old (changed path synced_of old) n → AreConsistent n }
+    ensures creating { (path : Path) (old n : Directory) → AreConsistent old → IsOneOf old (created path old) n → AreConsistent n }
+    ensures folders { (path : Path) (old n : Directory) → AreConsistent old → IsOneOf old (folder_made path old) n → AreConsistent n }
+    ensures restarted { (n m : Directory) (d : Left) → IsRestarted n d m → AreConsistent m }
+{}
+
+/// The premise can be met. Storage may leave each consistent file with all its bytes now or with those of its last
+/// sync. Where no call on a log file was refused, and what its last sync found ended in no mark of compression, the
+/// damage of such a crash can be told; and without refusals a log ends in no such mark.
+pub fn damage_can_be_told()
+    ensures allowed { (choices : List Choice) (n : Directory) → AreWhole choices → AreConsistent n → Leaves n (left_by choices n) }
+    ensures detectable { (path : Path) (id : FileId) (format : LogFileFormat) (batches : List Batch) (synced at : ℕ) (n : Directory) (file : File) (choices : List Choice)
+        → AreWhole choices → AreConsistent n → HasLog path id format batches synced at n → file_at n path ≡ Some file → NoneRefused (file.changes ++ file.older)
+        → EndsUnmarked id file.synced → file.rewritten ≡ None → IsDetectable path id n (left_by choices n) }
+    ensures unmarked { (path : Path) (id : FileId) (format : LogFileFormat) (batches : List Batch) (synced at : ℕ) (n : Directory) (file : File)
+        → HasLog path id format batches synced at n → file_at n path ≡ Some file → NoneRefused (file.changes ++ file.older) → EndsUnmarked id file.now }
 {}
