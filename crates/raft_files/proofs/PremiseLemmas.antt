@@ -1,20 +1,20 @@
 -- The premise on torn and stale bytes can be met.
-use Rattle.std.proofs.Common.{◌≡◌, ◌⊎◌, ℕ, List, ◌++◌, Some, None, ap, sym, subst, ◌∙◌, inl, inr}
+use Rattle.std.proofs.Common.{◌≡◌, ◌⊎◌, ℕ, List, ◌++◌, Some, None, sym, subst, ◌∙◌, inl, inr}
 use Rattle.std.specs.FinMap as finite
 use Rattle.raft_records.specs.Item.{Batch}
 use Rattle.raft_records.specs.declared.pipe_log.FileId.{FileId}
 use Rattle.raft_files.specs.declared.format.LogFileFormat.{LogFileFormat}
 use Rattle.raft_files.specs.Outcomes.{File}
-use Rattle.raft_files.specs.Directory.{Directory, Left, Path, Leaves, file_at}
+use Rattle.raft_files.specs.Directory.{Directory, Path, file_at}
 use Rattle.raft_files.specs.Choice.{chosen, chosen_at, choice_for, left_by}
-use Rattle.raft_files.specs.Consistent.{IsConsistent, AreConsistent, AreWhole}
+use Rattle.raft_files.specs.Consistent.{IsConsistent, AreWhole}
 use Rattle.raft_files.specs.Detectable.{EndsUnmarked, IsDetectableFile, IsDetectable, NoneRefused}
 use Rattle.raft_files.specs.Records.{IsWrittenTo, HasLog}
 use Rattle.raft_files.specs.declared.crash.Choice.{Choice}
 use Rattle.raft_files.specs.declared.crash.Choice.TheVariants as choice
 use Rattle.raft_files.proofs.ExtentLemmas.{same_some}
 use Rattle.raft_files.proofs.RecordsLemmas.{now_is_detectable, synced_is_detectable, unmarked_held, zeros_only, none_refused_before}
-use Rattle.raft_files.proofs.ConsistentLemmas.{whole_choice, whole_left, untouched_of_consistent}
+use Rattle.raft_files.proofs.ConsistentLemmas.{whole_choice, untouched_of_consistent}
 
 -- where no call was refused no record that can't be read ends a log
 pub log_unmarked : (path : Path) (id : FileId) (format : LogFileFormat) (batches : List Batch) (synced at : ℕ) (n : Directory) (file : File) → HasLog path id format batches synced at n → file_at n path ≡ Some file → NoneRefused (file.changes ++ file.older) → EndsUnmarked id file.now

@@ -12,7 +12,7 @@ ghost use Rattle.raft_files.specs.Directory.{Directory, IsOneOf, IsAllocating, I
 ghost use Rattle.raft_files.specs.Header.{HasHeader, header_bytes, header_of};
 ghost use Rattle.raft_files.specs.Outcomes.{File, synced_of};
 ghost use Rattle.raft_files.specs.Reading.{Reading, end_of_reading, is_read_to_end, readable_batches, reading};
-ghost use Rattle.raft_files.specs.Records.{FirstOf, HasLog, HasTornLog, IsKept, KeepsBatches, left_bytes};
+ghost use Rattle.raft_files.specs.Records.{FirstOf, HasLog, HasTornLog, IsKept, left_bytes};
 ghost use Rattle.raft_files.specs.Writer.{HasChanged, IsAppended, IsAppending, IsClosing, IsOpening, IsSynced, IsSyncing, bytes_at};
 ghost use Rattle.raft_files.specs.declared.crash.Choice.{Choice};
 ghost use Rattle.raft_files.specs.declared.format.LogFileFormat.{LogFileFormat};
@@ -29,24 +29,11 @@ pub fn beginning_is_read()
     ensures value { (id : FileId) (bytes more : List ℕ) → (later : List Batch) × (readable_batches id (bytes ++ more) ≡ readable_batches id bytes ++ later) }
 {}
 
-/// What a crash leaves of a log file, where damage can be told: a beginning of its batches that has all
-/// synced ones, and inside an append perhaps the batch that is written. The moments of a writer's calls
-/// are those that `LogFileWriter` names.
+/// What a crash leaves of a log file, where damage can be told: the first of its batches, with all synced ones
+/// (`left`). So between two calls and while the file is synced or closed; inside an append, and after a refused one,
+/// perhaps also the batch that is written. An append adds its batch, and after a sync all are synced. What a crash
+/// left is synced. The moments of a writer's calls are those that `LogFileWriter` names.
 pub fn crash_leaves_a_beginning()
-    ensures between { (path : Path) (id : FileId) (format : LogFileFormat) (batches : List Batch) (synced at : ℕ) (n : Directory)
-        → HasLog path id format batches synced at n → KeepsBatches path id batches synced [] n }
-    ensures appending { (path : Path) (id : FileId) (format : LogFileFormat) (batches : List Batch) (synced at : ℕ) (old n : Directory) (room new_room : ℕ) (given : List ℕ) (batch : Batch)
-        → HasLog path id format batches synced at old → record_of (signature_by id format) given ≡ Some (batch, length given) → HasChanged path (IsAppending room new_room at given) old n → KeepsBatches path id batches synced (batch ∷ []) n }
-    ensures appended { (path : Path) (id : FileId) (format : LogFileFormat) (batches : List Batch) (synced at : ℕ) (old new : Directory) (room new_room : ℕ) (given : List ℕ) (batch : Batch)
-        → HasLog path id format batches synced at old → record_of (signature_by id format) given ≡ Some (batch, length given) → HasChanged path (IsAppended room new_room at given) old new → HasLog path id format (batches ++ batch ∷ []) synced (at + length given) new }
-    ensures durable { (path : Path) (id : FileId) (format : LogFileFormat) (batches : List Batch) (synced at : ℕ) (old new : Directory)
-        → HasLog path id format batches synced at old → HasChanged path IsSynced old new → HasLog path id format batches (length batches) at new }
-{}
-
-/// What `IsKept` says: each outcome of a crash whose damage can be told reads as the first of the batches, with
-/// the synced ones. A log keeps its batches between two calls and while it is synced or closed, and after a
-/// refused append those of that append may be left too. What a crash left, once it is opened, is all synced.
-pub fn crash_leaves_what_is_kept()
     ensures left { (path : Path) (id : FileId) (batches : List Batch) (synced : ℕ) (n : Directory)
         → IsKept path id batches synced n → (d : Left) → Leaves n d → IsDetectable path id n d → FirstOf batches synced (readable_batches id (left_bytes path n d)) }
     ensures between { (path : Path) (id : FileId) (format : LogFileFormat) (batches : List Batch) (synced at : ℕ) (n : Directory)
@@ -55,6 +42,10 @@ pub fn crash_leaves_what_is_kept()
         → HasTornLog path id format batches in_flight synced at n → IsKept path id (batches ++ in_flight) synced n }
     ensures appending { (path : Path) (id : FileId) (format : LogFileFormat) (batches : List Batch) (synced at : ℕ) (old n : Directory) (room new_room : ℕ) (given : List ℕ) (batch : Batch)
         → HasLog path id format batches synced at old → record_of (signature_by id format) given ≡ Some (batch, length given) → HasChanged path (IsAppending room new_room at given) old n → IsKept path id (batches ++ batch ∷ []) synced n }
+    ensures appended { (path : Path) (id : FileId) (format : LogFileFormat) (batches : List Batch) (synced at : ℕ) (old new : Directory) (room new_room : ℕ) (given : List ℕ) (batch : Batch)
+        → HasLog path id format batches synced at old → record_of (signature_by id format) given ≡ Some (batch, length given) → HasChanged path (IsAppended room new_room at given) old new → HasLog path id format (batches ++ batch ∷ []) synced (at + length given) new }
+    ensures durable { (path : Path) (id : FileId) (format : LogFileFormat) (batches : List Batch) (synced at : ℕ) (old new : Directory)
+        → HasLog path id format batches synced at old → HasChanged path IsSynced old new → HasLog path id format batches (length batches) at new }
     ensures closing { (path : Path) (id : FileId) (format : LogFileFormat) (batches : List Batch) (synced at : ℕ) (old n : Directory)
         → HasLog path id format batches synced at old → HasChanged path (IsClosing at) old n → IsKept path id batches synced n }
     ensures syncing { (path : Path) (id : FileId) (batches : List Batch) (synced : ℕ) (old n : Directory)
