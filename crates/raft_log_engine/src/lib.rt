@@ -6,4 +6,4 @@ pub mod engine;
 pub mod script;
 
 pub use config::{Config, RecoveryMode};
-pub use engine::{Engine, Refused};
+pub use engine::{Engine, GroupImage, Image, Refused};
