@@ -3,3 +3,4 @@ pub mod LogLemmas
 pub mod OpenLemmas
 pub mod ImageLemmas
 pub mod RunLemmas
+pub mod DurabilityLemmas

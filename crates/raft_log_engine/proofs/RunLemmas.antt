@@ -33,7 +33,7 @@ behind-with_first : (items : Batch) (item : Item) (rest : Option Batch) → behi
 behind-with_first items item None = refl
 behind-with_first items item (Some more) = ap Some (sym (append_assoc items (item ∷ []) more))
 
-ahead : {X : Type 0} (xs : List X) (i : ℕ) (x : X) → i < length xs → x ≡ get_or xs i x → drop i xs ≡ x ∷ drop (i + 1) xs
+pub ahead : {X : Type 0} (xs : List X) (i : ℕ) (x : X) → i < length xs → x ≡ get_or xs i x → drop i xs ≡ x ∷ drop (i + 1) xs
 ahead xs i x within is =
     let next : suc i ≡ i + 1 = omega arith in
     drop-cons xs i x within ∙ ap (λ y. y ∷ drop (suc i) xs) (sym is) ∙ ap (λ (n : ℕ). x ∷ drop n xs) next
@@ -80,7 +80,7 @@ answers_more m (p ∷ ops) (o ∷ outcomes) op outcome answers more = (
   answers_more (after_batches m (accepted_of p o)) ops outcomes op outcome answers.1 (subst (λ (n : Contents). IsAnswer n op outcome) (fold-append after_batch m (accepted_of p o) (accepted ops outcomes)) more),
 )
 
-accepted_more : (ops : List Op) (outcomes : List Outcome) (op : Op) (outcome : Outcome) → length outcomes ≡ length ops → accepted (ops ++ op ∷ []) (outcomes ++ outcome ∷ []) ≡ accepted ops outcomes ++ accepted_of op outcome
+pub accepted_more : (ops : List Op) (outcomes : List Outcome) (op : Op) (outcome : Outcome) → length outcomes ≡ length ops → accepted (ops ++ op ∷ []) (outcomes ++ outcome ∷ []) ≡ accepted ops outcomes ++ accepted_of op outcome
 accepted_more [] [] op outcome same = append-nil (accepted_of op outcome)
 accepted_more [] (o ∷ outcomes) op outcome same = absurd (omega (arith, same))
 accepted_more (p ∷ ops) [] op outcome same = absurd (omega (arith, same))

@@ -6,4 +6,6 @@ pub mod Cause
 pub mod Append
 pub mod Engine
 pub mod Image
+pub mod Crash
 pub mod Run
+pub mod Durability
