@@ -18,5 +18,6 @@ pub mod RecordsLemmas
 pub mod WrittenLemmas
 pub mod FreshLemmas
 pub mod LogLemmas
+pub mod KeptLemmas
 pub mod ChoiceLemmas
 pub mod CrashedLemmas

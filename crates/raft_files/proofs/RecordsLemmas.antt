@@ -138,7 +138,7 @@ reading-held id format records at bytes holds =
 pub readable-held : (id : FileId) (format : LogFileFormat) (records : List Placed) (at : ℕ) (bytes : List ℕ) → HoldsRecords id format records at bytes → readable_records id bytes ≡ records ++ records_behind id format bytes at
 readable-held id format records at bytes holds = ap (λ read. records_of read) (reading-held id format records at bytes holds)
 
-format_of_read : (id : FileId) (bytes : List ℕ) (r : Reading) → reading id bytes ≡ Some r → format_of bytes ≡ Some r.format
+pub format_of_read : (id : FileId) (bytes : List ℕ) (r : Reading) → reading id bytes ≡ Some r → format_of bytes ≡ Some r.format
 format_of_read id bytes r e = ap (λ header. option_map (λ (h : LogFileFormat × List ℕ). h.0) header) ((reading_is id bytes r e).header)
 
 pub format_of-held : (id : FileId) (format : LogFileFormat) (records : List Placed) (at : ℕ) (bytes : List ℕ) → HoldsRecords id format records at bytes → format_of bytes ≡ Some format
@@ -244,7 +244,7 @@ synced_within id format records synced at bytes holds =
 
 -- What a crash leaves.
 
-readable_without_header : (id : FileId) (bytes : List ℕ) → format_of bytes ≡ None → readable_records id bytes ≡ []
+pub readable_without_header : (id : FileId) (bytes : List ℕ) → format_of bytes ≡ None → readable_records id bytes ≡ []
 readable_without_header id bytes none = by_header (header_of bytes) none
   where
     by_header : (header : Option (LogFileFormat × List ℕ)) → option_map (λ (h : LogFileFormat × List ℕ). h.0) header ≡ None → records_of (reading_behind id bytes header) ≡ []
