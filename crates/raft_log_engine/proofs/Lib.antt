@@ -1,3 +1,4 @@
 pub mod AgreesLemmas
+pub mod CrashLemmas
 pub mod LogLemmas
 pub mod OpenLemmas
