@@ -1,45 +1,33 @@
 -- What a crash leaves of the log file at a path, whatever calls change it.
-use Rattle.std.proofs.Common.{◌≡◌, ℕ, ◌+◌, ◌≤◌, List, [], ◌∷◌, ◌++◌, length, take, Option, Some, None, map, refl, ap, sym, subst, ◌∙◌, inl, inr, arith}
-use Rattle.std.proofs.lemmas.List.{append-nil, map-append, length-map, take_all, take-append-le}
+use Rattle.std.proofs.Common.{◌≡◌, ℕ, ◌+◌, ◌≤◌, List, [], ◌∷◌, ◌++◌, length, take, Option, Some, None, is_some, cond, true, map, refl, ap, sym, subst, ◌∙◌, inl, inr, arith}
+use Rattle.std.specs.Prelude.{option_map}
+use Rattle.std.proofs.lemmas.List.{append-nil, map-append, take_all, take-append-le, length-take, length-take-le}
+use Rattle.std.proofs.lemmas.Bool.{eq-eqb}
 use Rattle.raft_records.specs.Item.{Batch}
 use Rattle.raft_records.specs.declared.pipe_log.FileId.{FileId}
 use Rattle.raft_files.specs.declared.format.LogFileFormat.{LogFileFormat}
-use Rattle.raft_files.specs.Outcomes.{File, Change, synced_of, settled}
-use Rattle.raft_files.specs.Directory.{Directory, Left, Path, Leaves, file_at, placed}
-use Rattle.raft_files.specs.Reading.{Placed, Reading, records_behind, end_of_records, reading, records_of, readable_records, readable_batches}
-use Rattle.raft_files.specs.Detectable.{IsBeginningOf, format_of, signature_by, bytes_behind, AreDone, IsDetectable, IsDetectableFile}
-use Rattle.raft_files.specs.Records.{ReadsFirst, KeepsRecords, HoldsRecords, HasLog, HasTornLog, left_of, left_bytes, KeepsLog, KeepsNone, HoldsNothing, IsKept}
-use Rattle.raft_files.specs.Writer.{HasChanged, IsCutting, IsSyncing, IsClosing}
-use Rattle.raft_files.proofs.DetectableLemmas.{beginning_itself, beginning_trans, beginning_append, beginning_take}
+use Rattle.raft_files.specs.Header.{header_bytes, header_len}
+use Rattle.raft_files.specs.Outcomes.{File, Change, resized, cut_to, synced_of, settled}
+use Rattle.raft_files.specs.Directory.{Directory, Left, Path, Leaves, file_at, placed, created, changed, changed_at, IsOneOf, IsTruncating, IsRestarted}
+use Rattle.raft_files.specs.Reading.{Placed, Reading, records_behind, end_of_records, reading, records_of, readable_records, readable_batches, end_of, end_of_reading, ends_with, is_read_to_end}
+use Rattle.raft_files.specs.Detectable.{IsBeginningOf, format_of, signature_by, bytes_behind, AreDone, IsDetectable}
+use Rattle.raft_files.specs.Records.{ReadsFirst, KeepsRecords, HoldsRecords, HasLog, HasTornLog, left_of, left_bytes, FirstOf, KeepsLog, KeepsNone, HoldsNothing, IsKept}
+use Rattle.raft_files.specs.Writer.{HasChanged, IsOpening, IsAppending, IsCutting, IsSynced, IsSyncing, IsClosing, capacity_for, bytes_of, bytes_at}
+use Rattle.raft_files.proofs.DetectableLemmas.{beginning_trans, beginning_append, beginning_take}
 use Rattle.raft_files.proofs.DirectoryLemmas.{file_at-placed_same}
 use Rattle.raft_files.proofs.ExtentLemmas.{same_some}
-use Rattle.raft_files.proofs.RecordsLemmas.{reading-held, format_of_read, readable_without_header, keeps_batches, keeps_weaker}
-use Rattle.raft_files.proofs.FreshLemmas.{readable_records-short}
-use Rattle.raft_files.proofs.LogLemmas.{count_of, stands_after, log_cutting, torn_log_cutting}
+use Rattle.raft_files.proofs.RecordsLemmas.{reading-held, format_of_read, keeps_batches, keeps_weaker}
+use Rattle.raft_files.proofs.FreshLemmas.{header_len_within, readable_records-short}
+use Rattle.raft_files.proofs.NoneLemmas.{none_left, only_moment, none_settled, none_synced, none_appending}
+use Rattle.raft_files.proofs.TruncationLemmas.{header_within, end_of_read_within, reading-cut, keeps_cut, none_cut}
+use Rattle.raft_files.proofs.LogLemmas.{count_of, stands_after, log_cutting, torn_log_cutting, log_found}
 
 -- What a crash then leaves.
 
--- the first batches, at least so many of them
-abbrev pub FirstOf : List Batch → ℕ → List Batch → Type 0
-FirstOf batches synced found = (count : ℕ) × (synced ≤ count) × (count ≤ length batches) × (found ≡ take count batches)
-
--- where a crash leaves no record none is read
-none_left : (id : FileId) (file : File) (left : List ℕ) → KeepsNone id file → IsDetectableFile id file left → readable_batches id left ≡ []
-none_left id file left none detectable = ap (λ rs. map (λ (p : Placed). p.batch) rs) (by_format (format_of left) refl)
-  where
-    by_format : (format : Option LogFileFormat) → format_of left ≡ format → readable_records id left ≡ []
-    by_format None e = readable_without_header id left e
-    by_format (Some format) e = none.moments detectable.newer detectable.upto detectable.moment format (readable_records id left) detectable.beginning (detectable.done format e)
-
 pub kept_left : (path : Path) (id : FileId) (batches : List Batch) (synced : ℕ) (n : Directory) → IsKept path id batches synced n → (d : Left) → Leaves n d → IsDetectable path id n d → FirstOf batches synced (readable_batches id (left_bytes path n d))
 kept_left path id batches synced n (inl log) d leaves detectable =
-    let left = keeps_batches path id n log.file log.format log.records synced batches [] log.stands log.keeps (log.holds ∙ sym (append-nil batches)) d leaves detectable in
-    let all : batches ++ [] ≡ batches = append-nil batches in (
-      left.0,
-      left.1,
-      omega (arith, left.2, ap length all),
-      ap (λ file. readable_batches id (left_of file (d path))) log.stands ∙ left.3 ∙ ap (λ bs. take left.0 bs) all,
-    )
+    subst (λ found. FirstOf batches synced (readable_batches id (left_of found (d path)))) (sym log.stands)
+    (keeps_batches path id n log.file log.format log.records synced batches log.stands log.keeps log.holds d detectable)
 kept_left path id batches synced n (inr (nothing, none_synced)) d leaves detectable =
     (0, omega (arith, none_synced), omega arith, by_file (file_at n path) refl)
   where
@@ -113,26 +101,7 @@ kept_none path id batches n none = inr (λ file stands. let no_file : None ≡ S
 
 -- A file that a crash leaves as it is.
 
-settled_moments : (bytes : List ℕ) (R : List ℕ → Type 0) → R bytes → (newer upto : List Change) → [] ≡ newer ++ upto → R (bytes_behind bytes upto)
-settled_moments bytes R holds [] [] e = holds
-settled_moments bytes R holds [] (c ∷ upto) e = cc
-settled_moments bytes R holds (c ∷ newer) upto e = cc
-
-none_upto : (newer upto : List Change) → [] ≡ newer ++ upto → upto ≡ []
-none_upto [] [] e = refl
-none_upto [] (c ∷ upto) e = cc
-none_upto (c ∷ newer) upto e = cc
-
-nothing_of : (rs left : List Placed) → rs ≡ [] → IsBeginningOf left rs → left ≡ []
-nothing_of rs [] none begins = refl
-nothing_of rs (r ∷ left) none begins = let e : [] ≡ r ∷ (left ++ begins.0) = sym none ∙ begins.1 in absurd cc
-
-none_settled : (id : FileId) (bytes : List ℕ) → readable_records id bytes ≡ [] → KeepsNone id (settled bytes)
-none_settled id bytes none = record {
-  latest = refl;
-  moments = λ newer upto e format left begins done. nothing_of _ left (settled_moments bytes (λ b. readable_records id b ≡ []) none newer upto e) begins;
-}
-
+-- all records are read first
 reads_all : (id : FileId) (bytes : List ℕ) (r : Reading) → reading id bytes ≡ Some r → ReadsFirst id r.format (take (length r.records) r.records) bytes
 reads_all id bytes r e = record { all = r.records; end = r.end; read = e; first = beginning_take (length r.records) r.records }
 
@@ -140,7 +109,7 @@ keeps_settled : (id : FileId) (bytes : List ℕ) (r : Reading) → reading id by
 keeps_settled id bytes r e = record {
   header = format_of_read id bytes r e;
   latest = refl;
-  moments = λ newer upto moment left begins done. subst (λ rs. IsBeginningOf left rs) (settled_moments bytes (λ b. readable_records id b ≡ r.records) (ap (λ q. records_of q) e) newer upto moment) begins;
+  moments = λ newer upto moment left begins done. subst (λ rs. IsBeginningOf left rs) (only_moment (λ changes. readable_records id (bytes_behind bytes changes) ≡ r.records) (ap (λ q. records_of q) e) newer upto moment) begins;
   few = omega arith;
   covered = subst (λ b. ReadsFirst id r.format (take (length r.records) r.records) b) (sym (take_all (length bytes) bytes (omega arith))) (reads_all id bytes r e);
 }
@@ -163,6 +132,20 @@ kept_settled path id bytes n stands = by_reading (reading id bytes) refl
       reads = reads_all id bytes r e;
     }))
 
+-- after a crash all that is found stays
+pub kept_restarted : (path : Path) (id : FileId) (n m : Directory) (d : Left) → IsRestarted n d m → let found = readable_batches id (left_bytes path n d) in IsKept path id found (length found) m
+kept_restarted path id n m d restarted = by_file (file_at n path) refl
+  where
+    Kept : List ℕ → Type 0
+    Kept bytes = IsKept path id (readable_batches id bytes) (length (readable_batches id bytes)) m
+
+    by_file : (found : Option File) → file_at n path ≡ found → Kept (left_of found (d path))
+    by_file None e =
+        let none : readable_batches id [] ≡ [] = ap (λ rs. map (λ (p : Placed). p.batch) rs) (readable_records-short id [] (omega arith)) in
+        let stands : file_at m path ≡ None = restarted.each path ∙ ap (λ found. option_map (λ _. settled (d path)) found) e in
+        subst (λ bs. IsKept path id bs (length bs) m) (sym none) (kept_none path id [] m stands)
+    by_file (Some file) e = kept_settled path id (d path) m (restarted.each path ∙ ap (λ found. option_map (λ _. settled (d path)) found) e)
+
 -- Syncs.
 
 -- a sync changes nothing of what a crash may leave, but for the moments before it
@@ -170,20 +153,16 @@ keeps_synced : (id : FileId) (format : LogFileFormat) (records : List Placed) (s
 keeps_synced id format records synced file keeps reads = record {
   header = keeps.header;
   latest = refl;
-  moments = λ newer upto moment left begins done. keeps.moments [] file.changes refl left
-      (subst (λ bytes. IsBeginningOf left (readable_records id bytes)) (settled_moments file.now (λ b. b ≡ file.now) refl newer upto moment ∙ keeps.latest) begins)
-      (subst (λ changes. AreDone (signature_by id format) (changes ++ (file.changes ++ file.older)) left) (none_upto newer upto moment) done);
+  moments = only_moment Allowed now;
   few = keeps.few;
   covered = subst (λ b. ReadsFirst id format (take synced records) b) (sym (take_all (length file.now) file.now (omega arith))) reads;
 }
+  where
+    Allowed : List Change → Type 0
+    Allowed upto = (left : List Placed) → IsBeginningOf left (readable_records id (bytes_behind file.now upto)) → AreDone (signature_by id format) (upto ++ (file.changes ++ file.older)) left → IsBeginningOf left records
 
-none_synced : (id : FileId) (file : File) → KeepsNone id file → KeepsNone id (synced_of file)
-none_synced id file none = record {
-  latest = refl;
-  moments = λ newer upto moment format left begins done. none.moments [] file.changes refl format left
-      (subst (λ bytes. IsBeginningOf left (readable_records id bytes)) (settled_moments file.now (λ b. b ≡ file.now) refl newer upto moment ∙ none.latest) begins)
-      (subst (λ changes. AreDone (signature_by id format) (changes ++ (file.changes ++ file.older)) left) (none_upto newer upto moment) done);
-}
+    now : Allowed []
+    now left begins done = keeps.moments [] file.changes refl left (subst (λ bytes. IsBeginningOf left (readable_records id bytes)) keeps.latest begins) done
 
 -- a moment of a sync of the file there
 module _ (path : Path) (id : FileId) (batches : List Batch) (synced : ℕ) (old new : Directory) where
@@ -241,3 +220,111 @@ module _ (path : Path) (old new : Directory) (id : FileId) (format : LogFileForm
   torn_log_closing_kept in_flight log change =
       let mid = placed path change.how.0 old in
       then_synced (batches ++ in_flight) change (torn_log_kept path id format batches in_flight synced at mid (torn_log_cutting path old mid id format batches in_flight synced at log (halfway change)))
+
+-- Moments of an opening.
+
+module _ (path : Path) (id : FileId) (batches : List Batch) (synced : ℕ) (old new : Directory) where
+  -- a moment of a truncation to the end of what is read
+  pub kept_truncating : (size : ℕ) → size ≡ end_of_reading id (bytes_at path old) → IsTruncating path size old new → IsKept path id batches synced old → IsKept path id batches synced new
+  kept_truncating size cuts (inl same) kept = subst (IsKept path id batches synced) (sym same) kept
+  kept_truncating size cuts (inr (before, after, is_done, was, outcome, is)) kept = by_kept kept
+    where
+      cut : File
+      cut = cut_to size is_done after before
+
+      stands : file_at new path ≡ Some cut
+      stands = ap (λ (n : Directory). file_at n path) is ∙ file_at-placed_same path cut old
+
+      cuts_file : size ≡ end_of_reading id before.now
+      cuts_file = cuts ∙ ap (λ file. end_of_reading id (bytes_of file)) was
+
+      by_kept : IsKept path id batches synced old → IsKept path id batches synced new
+      by_kept (inl log) =
+          let same : log.file ≡ before = same_some (sym log.stands ∙ was) in
+          let both = subst (λ f. KeepsRecords id log.format log.records synced f × ReadsFirst id log.format (take synced log.records) f.now) same (log.keeps, log.reads) in
+          let kept = keeps_cut id log.format log.records synced size is_done after before both.0 both.1 cuts_file outcome in
+          inl (record { file = cut; stands = stands; format = log.format; records = log.records; holds = log.holds; keeps = kept.0; reads = kept.1 })
+      by_kept (inr (nothing, none)) = inr (λ file stands_too. subst (KeepsNone id) (same_some (sym stands ∙ stands_too)) (none_cut id size is_done after before (nothing before was) cuts_file outcome), none)
+
+  -- a moment of the making of a file
+  pub kept_created : IsOneOf old (created path old) new → IsKept path id batches synced old → IsKept path id batches synced new
+  kept_created (inl same) kept = subst (IsKept path id batches synced) (sym same) kept
+  kept_created (inr is) kept = subst (IsKept path id batches synced) (sym is) (by_file (file_at old path) refl kept)
+    where
+      by_file : (found : Option File) → file_at old path ≡ found → IsKept path id batches synced old → IsKept path id batches synced (cond (is_some found) old (placed path (settled []) old))
+      by_file (Some file) e kept = kept
+      by_file None e (inl log) = let no_file : None ≡ Some log.file = sym e ∙ log.stands in absurd cc
+      by_file None e (inr (nothing, none)) = inr (λ file stands. subst (KeepsNone id) (same_some (sym (file_at-placed_same path (settled []) old) ∙ stands)) (none_settled id [] (readable_records-short id [] (omega arith))), none)
+
+  -- a moment of the writing of a header into a file that is no longer than that
+  pub nothing_opening : (format : LogFileFormat) → length (bytes_at path old) ≤ header_len format.version → IsOpening path format old new → HoldsNothing path id old → HoldsNothing path id new
+  nothing_opening format short (inl same) nothing = subst (HoldsNothing path id) (sym same) nothing
+  nothing_opening format short (inr change) nothing = λ file stands. subst (KeepsNone id) (same_some (sym (stands_after path old new (IsAppending (length (bytes_at path old)) (room (length (bytes_at path old))) 0 (header_bytes format)) change) ∙ stands)) none
+    where
+      room : ℕ → ℕ
+      room size = capacity_for (header_len format.version) 0 size
+
+      now : length (bytes_at path old) ≡ length change.before.now
+      now = ap (λ found. length (bytes_of found)) change.was
+
+      none : KeepsNone id change.after
+      none = none_appending id format change.before change.after (omega (arith, short, now)) (nothing change.before change.was)
+          (subst (λ size. IsAppending size (room size) 0 (header_bytes format) change.before change.after) now change.how)
+
+  -- .. where that file is empty
+  pub kept_opening : (format : LogFileFormat) → bytes_at path old ≡ [] → IsOpening path format old new → IsKept path id batches synced old → IsKept path id batches synced new
+  kept_opening format empty how (inr (nothing, none)) = inr (nothing_opening format (omega (arith, ap length empty)) how nothing, none)
+  kept_opening format empty how (inl log) =
+      let none : log.file.now ≡ [] = sym (ap bytes_of log.stands) ∙ empty in
+      let long = header_within id log.file.now (record { format = log.format; records = log.reads.all; end = log.reads.end }) log.reads.read in
+      absurd (omega (arith, long, ap length none, (header_len_within log.format.version).0))
+
+-- What is found and cut where the reading ends.
+
+-- it has the same batches
+pub readable_batches-cut : (id : FileId) (bytes : List ℕ) → readable_batches id (take (end_of_reading id bytes) bytes) ≡ readable_batches id bytes
+readable_batches-cut id bytes = by_reading (reading id bytes) refl
+  where
+    batches_of : Option Reading → List Batch
+    batches_of read = map (λ (p : Placed). p.batch) (records_of read)
+
+    by_reading : (read : Option Reading) → reading id bytes ≡ read → batches_of (reading id (take (end_of read) bytes)) ≡ batches_of read
+    by_reading None e = ap (λ rs. map (λ (p : Placed). p.batch) rs) (readable_records-short id (take 0 bytes) (omega (arith, length-take 0 bytes)))
+    by_reading (Some r) e = ap batches_of (reading-cut id bytes r e)
+
+-- .. and is read to its end
+pub read_to_end-cut : (id : FileId) (bytes : List ℕ) (r : Reading) → reading id bytes ≡ Some r → is_read_to_end id (take r.end bytes) ≡ true
+read_to_end-cut id bytes r e =
+    let len : length (take r.end bytes) ≡ r.end = length-take-le r.end bytes (end_of_read_within id bytes r e) in
+    ap (λ read. ends_with (length (take r.end bytes)) read) (reading-cut id bytes r e) ∙ eq-eqb r.end (length (take r.end bytes)) (sym len)
+
+pub bytes_truncated : (path : Path) (size : ℕ) (old new : Directory) → new ≡ changed path (λ f. resized true (take size f.now) f) old → bytes_at path new ≡ take size (bytes_at path old)
+bytes_truncated path size old new is = by_file (file_at old path) refl
+  where
+    cut : File → File
+    cut f = resized true (take size f.now) f
+
+    by_file : (found : Option File) → file_at old path ≡ found → bytes_at path new ≡ take size (bytes_of found)
+    by_file None e =
+        ap (λ n. bytes_at path n) (is ∙ ap (λ o. changed_at path cut o old) e)
+        ∙ ap bytes_of e
+        ∙ sym (take_all size [] (omega arith))
+    by_file (Some file) e =
+        ap (λ n. bytes_at path n) (is ∙ ap (λ o. changed_at path cut o old) e)
+        ∙ ap bytes_of (file_at-placed_same path (cut file) old)
+
+-- .. and once it is synced it is a log with these batches
+pub log_found_cut : (path : Path) (id : FileId) (r : Reading) (old cut new : Directory) → let bytes = bytes_at path old in let found = readable_batches id bytes in
+    reading id bytes ≡ Some r → bytes_at path cut ≡ take r.end bytes → HasChanged path IsSynced cut new → HasLog path id r.format found (length found) r.end new
+log_found_cut path id r old cut new e is change =
+    let bytes = bytes_at path old in
+    let found = readable_batches id bytes in
+    let header : format_of (bytes_at path cut) ≡ Some r.format = ap format_of is ∙ format_of_read id (take r.end bytes) r (reading-cut id bytes r e) in
+    let to_end : is_read_to_end id (bytes_at path cut) ≡ true = ap (is_read_to_end id) is ∙ read_to_end-cut id bytes r e in
+    let same : readable_batches id (bytes_at path cut) ≡ found = ap (readable_batches id) is ∙ ap (λ n. readable_batches id (take n bytes)) (sym (ap end_of e)) ∙ readable_batches-cut id bytes in
+    let len : length (bytes_at path cut) ≡ r.end = ap length is ∙ length-take-le r.end bytes (end_of_read_within id bytes r e) in
+    subst (λ at. HasLog path id r.format found (length found) at new) len
+    (subst (λ bs. HasLog path id r.format bs (length bs) (length (bytes_at path cut)) new) same (log_found path cut new id r.format header to_end change))
+
+pub bytes_synced : (path : Path) (old new : Directory) → HasChanged path IsSynced old new → bytes_at path new ≡ bytes_at path old
+bytes_synced path old new change = ap bytes_of (stands_after path old new IsSynced change) ∙ ap (λ (f : File). f.now) change.how ∙ sym (ap bytes_of change.was)
