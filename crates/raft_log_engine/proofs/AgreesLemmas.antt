@@ -1,7 +1,10 @@
 -- How the tables of an engine and its file go on agreeing.
-use Rattle.std.proofs.Common.{◌≡◌, ℕ, ◌<◌, ◌≤◌, ◌^◌, Bool, true, false, List, [], ◌∷◌, ◌++◌, length, take, Option, Some, None, refl, sym, ◌∙◌, ap, subst, arith, length-append}
+use Rattle.std.proofs.Common.{◌≡◌, ◌≢◌, inl, inr, ℕ, ◌<◌, ◌≤◌, ◌^◌, Bool, true, false, List, [], ◌∷◌, ◌++◌, length, take, Option, Some, None, refl, sym, ◌∙◌, ap, subst, arith, length-append}
 use Rattle.std.specs.Prelude.{IsSome, is_some, option_map, ◌&&◌}
 use Rattle.std.specs.List.{list_all}
+use Rattle.std.specs.Str.{bytes_eq}
+use Rattle.std.proofs.lemmas.Bool.{cases_Bool}
+use Rattle.std.proofs.lemmas.Slice.Eq.{bytes_eq-Decides}
 use Rattle.std.proofs.lemmas.List.{take-append-le}
 use Rattle.raft_records.specs.Contents.{Contents, no_contents, after_batch, after_batches}
 use Rattle.raft_records.specs.Batch.{BatchView, with_record}
@@ -16,7 +19,7 @@ use Rattle.raft_records.specs.Item.{Item, Batch, is_put_or_delete}
 use Rattle.raft_files.specs.Reading.{readable_batches}
 use Rattle.raft_files.specs.Writer.{Writing, IsWriterOf, HasChanged, bytes_at, bytes_of}
 use Rattle.raft_files.specs.declared.format.LogFileFormat.{LogFileFormat}
-use Rattle.raft_files.proofs.DirectoryLemmas.{file_at-placed_same}
+use Rattle.raft_files.proofs.DirectoryLemmas.{file_at-placed_other, file_at-placed_same}
 use Rattle.raft_files.proofs.ReadingLemmas.{readable-append, header_of-kept}
 use Rattle.raft_files.proofs.ExtentLemmas.{header_of_takes}
 use Rattle.raft_log_engine.specs.Agrees.{Agrees, written_bytes}
@@ -53,6 +56,15 @@ agrees_by w n bytes v m writer same version whole contents =
 pub bytes_at-changed : (path : Path) (R : File → File → Type 0) (old new : Directory) → ((a b : File) → R a b → b.now ≡ a.now) → HasChanged path R old new → bytes_at path new ≡ bytes_at path old
 bytes_at-changed path R old new keeps c =
     ap (λ n. bytes_at path n) c.is ∙ ap bytes_of (file_at-placed_same path c.after old) ∙ keeps c.before c.after c.how ∙ sym (ap bytes_of c.was)
+
+-- a change of a file makes no other
+pub stood_before : (path : Path) (R : File → File → Type 0) (old new : Directory) → HasChanged path R old new → (q : Path) → HasFile new q → HasFile old q
+stood_before path R old new change q found = elim (cases_Bool (bytes_eq q path)) [
+  | inl same ↦ ap (λ p. is_some (file_at old p)) ((bytes_eq-Decides q path).0 same) ∙ ap is_some change.was
+  | inr other ↦
+      let apart : q ≢ path = λ is. let e : true ≡ false = sym ((bytes_eq-Decides q path).1 is) ∙ other in absurd cc in
+      ap is_some (sym (ap (λ (n : Directory). file_at n q) change.is ∙ file_at-placed_other path change.after old q apart)) ∙ found
+]
 
 -- the same written bytes leave the agreement
 pub agrees_still : (w w' : Writing) (n n' : Directory) (v : Version) (m : Contents) → Agrees w n v m → IsWriterOf w' n' → written_bytes w' n' ≡ written_bytes w n → Agrees w' n' v m
