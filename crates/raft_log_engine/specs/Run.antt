@@ -1,5 +1,5 @@
 -- What operations are answered, and what they leave.
-use Rattle.std.specs.Prelude.{◌≡◌, ℕ, ◌+◌, Bool, true, false, ◌||◌, List, [], ◌∷◌, ◌++◌, length, Option, Some, None, option_map, Result, Ok, Err, MatchResult, if◌then◌else◌}
+use Rattle.std.specs.Prelude.{◌≡◌, ℕ, ◌+◌, Bool, true, false, ◌||◌, List, [], ◌∷◌, ◌++◌, length, Option, Some, None, option_map, Result, Ok, Err, is_ok, MatchResult, if◌then◌else◌}
 use Rattle.raft_records.specs.Batch.{is_internal_key}
 use Rattle.raft_records.specs.Contents.{Contents, after_batches}
 use Rattle.raft_records.specs.Item.{Item, Batch, Put, Delete}
@@ -50,10 +50,15 @@ abbrev pub accepted : List Op → List Outcome → List Batch
 accepted (op ∷ ops) (outcome ∷ outcomes) = accepted_of op outcome ++ accepted ops outcomes
 accepted _ _ = []
 
+-- a write that was answered made sure of what stood before it where it asked for that
+abbrev pub covers : Bool → Result ℕ Fault → Bool
+covers sync (Ok len) = sync
+covers sync (Err e) = false
+
 -- the operation made sure of all that was accepted up to it: a sync that was answered, or a write that asked for one
 abbrev pub is_covering : Op → Outcome → Bool
-is_covering (Write acts sync) (Size (Ok len)) = sync
-is_covering Sync (Done (Ok nothing)) = true
+is_covering (Write acts sync) (Size answer) = covers sync answer
+is_covering Sync (Done answer) = is_ok answer
 is_covering _ _ = false
 
 abbrev pub has_covering : List Op → List Outcome → Bool

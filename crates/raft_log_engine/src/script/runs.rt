@@ -3,8 +3,11 @@ ghost use Rattle.std.specs.Prelude.{◌≡◌, ◌⊎◌, ◌<◌, ◌++◌, [],
 ghost use Rattle.raft_records.specs.Contents.{Contents, after_batches};
 ghost use Rattle.raft_records.specs.Fault.{fault_code};
 ghost use Rattle.raft_records.specs.Item.{Item};
-ghost use Rattle.raft_log_engine.specs.Engine.{contents_of, folder_of, has_failed};
-ghost use Rattle.raft_log_engine.specs.Run.{accepted, accepted_of, AreAnswers, batch_of_acts, IsAnswer, IsWriteRefusal, IsWritten, item_of_act, written};
+ghost use Rattle.raft_files.specs.Moments.{Passes};
+ghost use Rattle.raft_log_engine.specs.Crash.{LeavesAllowed};
+ghost use Rattle.raft_log_engine.specs.Durability.{IsMomentOf, LeavesAllowedBehind, Progresses, durability_of};
+ghost use Rattle.raft_log_engine.specs.Engine.{contents_of, directory_of, durable_of, folder_of, has_failed, moments_of, unsynced_of};
+ghost use Rattle.raft_log_engine.specs.Run.{accepted, accepted_of, AreAnswers, batch_of_acts, covers, in_flight, is_covering, IsAnswer, IsWriteRefusal, IsWritten, item_of_act, with_items, written};
 
 use super::operation::{Act, Op, Outcome};
 use crate::Engine;
@@ -29,6 +32,9 @@ pub fn run<F: FileSystem>(
     ensures answers { IfOk result (λ outcomes. AreAnswers (contents_of engine.old) ops.now outcomes.items) }
     ensures contents { IfOk result (λ outcomes. has_failed engine.new ≡ false
         → contents_of engine.new ≡ after_batches (contents_of engine.old) (accepted ops.now outcomes.items)) }
+    ensures any_moment { IfOk result (λ outcomes. Passes (moments_of engine.old) (moments_of engine.new) (directory_of engine.new)
+        (IsMomentOf (folder_of engine.old) (durable_of engine.old) (unsynced_of engine.old) ops.now outcomes.items)) }
+    ensures now { IfOk result (λ outcomes. LeavesAllowedBehind (has_failed engine.new) (folder_of engine.old) (durable_of engine.old) (unsynced_of engine.old) ops.now outcomes.items (directory_of engine.new)) }
     ensures still { has_failed engine.old ≡ true → has_failed engine.new ≡ true }
     ensures folder { folder_of engine.new ≡ folder_of engine.old }
     ensures err { OnErr result (engine.new ≡ engine.old) }
@@ -47,6 +53,9 @@ pub(crate) fn run_watched<F: FileSystem>(
     ensures contents { IfOk result (λ ran. has_failed engine.new ≡ false
         → contents_of engine.new ≡ after_batches (contents_of engine.old) (accepted ops.now ran.outcomes.items)) }
     ensures still { has_failed engine.old ≡ true → has_failed engine.new ≡ true }
+    ensures any_moment { IfOk result (λ ran. Passes (moments_of engine.old) (moments_of engine.new) (directory_of engine.new)
+        (IsMomentOf (folder_of engine.old) (durable_of engine.old) (unsynced_of engine.old) ops.now ran.outcomes.items)) }
+    ensures now { IfOk result (λ ran. LeavesAllowedBehind (has_failed engine.new) (folder_of engine.old) (durable_of engine.old) (unsynced_of engine.old) ops.now ran.outcomes.items (directory_of engine.new)) }
     ensures place { IfOk result (λ ran. has_failed engine.old ≡ false
         → MatchOption ran.failed_at (has_failed engine.new ≡ false) (λ place. place < length ops.now × (has_failed engine.new ≡ true))) }
     ensures folder { folder_of engine.new ≡ folder_of engine.old }
@@ -72,6 +81,10 @@ pub(crate) fn run_watched<F: FileSystem>(
 fn step<F: FileSystem>(alloc: Global, engine: &mut Engine<F>, op: &Op) -> Outcome
     ensures answer { (m : Contents) → (has_failed engine.old ≡ false → m ≡ contents_of engine.old) → IsAnswer m op.now result }
     ensures contents { has_failed engine.new ≡ false → contents_of engine.new ≡ after_batches (contents_of engine.old) (accepted_of op.now result) }
+    ensures progress { Progresses (accepted_of op.now result) (is_covering op.now result) (in_flight op.now) (durability_of engine.old) (durability_of engine.new) }
+    ensures any_moment { has_failed engine.old ≡ false → Passes (moments_of engine.old) (moments_of engine.new) (directory_of engine.new)
+        (LeavesAllowed (folder_of engine.old) (durable_of engine.old) (unsynced_of engine.old ++ in_flight op.now)) }
+    ensures rests { has_failed engine.old ≡ true → (moments_of engine.new ≡ moments_of engine.old) × (directory_of engine.new ≡ directory_of engine.old) }
     ensures still { has_failed engine.old ≡ true → has_failed engine.new ≡ true }
     ensures folder { folder_of engine.new ≡ folder_of engine.old }
 {
@@ -91,6 +104,10 @@ fn write<F: FileSystem>(
 ) -> Result<usize, Fault>
     ensures answer { MatchResult result (IsWritten acts.now) (IsWriteRefusal acts.now) }
     ensures contents { has_failed engine.new ≡ false → contents_of engine.new ≡ after_batches (contents_of engine.old) (written acts.now result) }
+    ensures progress { Progresses (written acts.now result) (covers sync result) (with_items (batch_of_acts acts.now)) (durability_of engine.old) (durability_of engine.new) }
+    ensures any_moment { has_failed engine.old ≡ false → Passes (moments_of engine.old) (moments_of engine.new) (directory_of engine.new)
+        (LeavesAllowed (folder_of engine.old) (durable_of engine.old) (unsynced_of engine.old ++ with_items (batch_of_acts acts.now))) }
+    ensures rests { has_failed engine.old ≡ true → (moments_of engine.new ≡ moments_of engine.old) × (directory_of engine.new ≡ directory_of engine.old) }
     ensures still { has_failed engine.old ≡ true → has_failed engine.new ≡ true }
     ensures folder { folder_of engine.new ≡ folder_of engine.old }
 {

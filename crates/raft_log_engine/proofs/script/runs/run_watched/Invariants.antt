@@ -1,5 +1,8 @@
 use Rattle.std.proofs.Common.{◌≡◌, ◌≤◌, length, take, vec_len, vec_capacity}
-use Rattle.raft_log_engine.specs.Engine.{contents_of, folder_of, has_failed}
+use Rattle.raft_files.specs.Moments.{Passes}
+use Rattle.raft_log_engine.specs.Durability.{IsMomentOf, durability_of}
+use Rattle.raft_log_engine.specs.Engine.{contents_of, directory_of, durable_of, folder_of, has_failed, moments_of, unsynced_of}
+use Rattle.raft_log_engine.proofs.DurabilityLemmas.{IsUnderWay}
 use Rattle.raft_log_engine.proofs.RunLemmas.{IsRunning}
 use Rattle.raft_log_engine.proofs.script.runs.run_watched.Given as goal
 
@@ -9,3 +12,5 @@ invariant-loop-op g l =
     × (vec_len l.outcomes ≡ l.op-index)
     × (length l.ops ≤ vec_capacity l.outcomes)
     × (folder_of l.engine ≡ folder_of l.initial.engine)
+    × IsUnderWay (durable_of l.initial.engine) (unsynced_of l.initial.engine) l.ops (length l.outcomes.items) l.outcomes.items (durability_of l.engine)
+    × Passes (moments_of l.initial.engine) (moments_of l.engine) (directory_of l.engine) (IsMomentOf (folder_of l.initial.engine) (durable_of l.initial.engine) (unsynced_of l.initial.engine) l.ops l.outcomes.items)
