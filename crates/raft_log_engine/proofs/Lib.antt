@@ -1,5 +1,5 @@
 pub mod AgreesLemmas
-pub mod CrashLemmas
+pub mod WrittenLemmas
 pub mod AllowedLemmas
 pub mod LogLemmas
 pub mod OpenLemmas

@@ -6,3 +6,4 @@ pub mod Cause
 pub mod Append
 pub mod Engine
 pub mod Crash
+pub mod Written
