@@ -1,5 +1,6 @@
 -- What a crash leaves of the log file at a path, whatever calls change it.
 use Rattle.std.proofs.Common.{◌≡◌, ℕ, ◌+◌, ◌≤◌, List, [], ◌∷◌, ◌++◌, length, take, Option, Some, None, is_some, cond, true, map, refl, ap, sym, subst, ◌∙◌, inl, inr, arith}
+use Rattle.std.specs.Prelude.{option_map}
 use Rattle.std.proofs.lemmas.List.{append-nil, map-append, length-map, take_all, take-append-le, length-take, length-take-le}
 use Rattle.std.proofs.lemmas.Bool.{eq-eqb}
 use Rattle.raft_records.specs.Item.{Batch}
@@ -7,7 +8,7 @@ use Rattle.raft_records.specs.declared.pipe_log.FileId.{FileId}
 use Rattle.raft_files.specs.declared.format.LogFileFormat.{LogFileFormat}
 use Rattle.raft_files.specs.Header.{header_bytes, header_len}
 use Rattle.raft_files.specs.Outcomes.{File, Change, resized, cut_to, synced_of, settled}
-use Rattle.raft_files.specs.Directory.{Directory, Left, Path, Leaves, file_at, placed, created, changed, changed_at, IsOneOf, IsTruncating}
+use Rattle.raft_files.specs.Directory.{Directory, Left, Path, Leaves, file_at, placed, created, changed, changed_at, IsOneOf, IsTruncating, IsRestarted}
 use Rattle.raft_files.specs.Reading.{Placed, Reading, records_behind, end_of_records, reading, records_of, readable_records, readable_batches, end_of, end_of_reading, ends_with, is_read_to_end}
 use Rattle.raft_files.specs.Detectable.{IsBeginningOf, format_of, signature_by, bytes_behind, AreDone, IsDetectable, IsDetectableFile}
 use Rattle.raft_files.specs.Records.{ReadsFirst, KeepsRecords, HoldsRecords, HasLog, HasTornLog, left_of, left_bytes, FirstOf, KeepsLog, KeepsNone, HoldsNothing, IsKept}
@@ -135,6 +136,20 @@ kept_settled path id bytes n stands = by_reading (reading id bytes) refl
       keeps = keeps_settled id bytes r e;
       reads = reads_all id bytes r e;
     }))
+
+-- after a crash all that is found stays
+pub kept_restarted : (path : Path) (id : FileId) (n m : Directory) (d : Left) → IsRestarted n d m → let found = readable_batches id (left_bytes path n d) in IsKept path id found (length found) m
+kept_restarted path id n m d restarted = by_file (file_at n path) refl
+  where
+    Kept : List ℕ → Type 0
+    Kept bytes = IsKept path id (readable_batches id bytes) (length (readable_batches id bytes)) m
+
+    by_file : (found : Option File) → file_at n path ≡ found → Kept (left_of found (d path))
+    by_file None e =
+        let none : readable_batches id [] ≡ [] = ap (λ rs. map (λ (p : Placed). p.batch) rs) (readable_records-short id [] (omega arith)) in
+        let stands : file_at m path ≡ None = restarted.each path ∙ ap (λ found. option_map (λ _. settled (d path)) found) e in
+        subst (λ bs. IsKept path id bs (length bs) m) (sym none) (kept_none path id [] m stands)
+    by_file (Some file) e = kept_settled path id (d path) m (restarted.each path ∙ ap (λ found. option_map (λ _. settled (d path)) found) e)
 
 -- Syncs.
 

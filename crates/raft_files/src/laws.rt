@@ -1,16 +1,16 @@
 //! What holds of the records of files, whoever writes or reads them.
-ghost use Rattle.std.specs.Prelude.{◌≡◌, ◌+◌, ◌<◌, ◌^◌, ◌++◌, ◌∷◌, ℕ, List, [], true, Some, length};
+ghost use Rattle.std.specs.Prelude.{◌≡◌, ◌+◌, ◌<◌, ◌^◌, ◌++◌, ◌∷◌, ℕ, List, [], true, Some, length, take};
 ghost use Rattle.raft_records.specs.FileId.{signature_in};
 ghost use Rattle.raft_records.specs.Item.{Batch};
 ghost use Rattle.raft_records.specs.Record.{record_bytes, record_of};
 ghost use Rattle.raft_records.specs.RecordLimits.{FitsRecord};
 ghost use Rattle.raft_records.specs.declared.pipe_log.FileId.{FileId};
-ghost use Rattle.raft_files.specs.Detectable.{signature_by};
-ghost use Rattle.raft_files.specs.Directory.{Directory, Path};
+ghost use Rattle.raft_files.specs.Detectable.{IsDetectable, signature_by};
+ghost use Rattle.raft_files.specs.Directory.{Directory, IsOneOf, IsRestarted, IsTruncating, Leaves, Left, Path, created};
 ghost use Rattle.raft_files.specs.Header.{HasHeader, header_bytes, header_of};
-ghost use Rattle.raft_files.specs.Reading.{is_read_to_end, readable_batches};
-ghost use Rattle.raft_files.specs.Records.{HasLog, KeepsBatches};
-ghost use Rattle.raft_files.specs.Writer.{HasChanged, IsAppended, IsAppending, IsSynced};
+ghost use Rattle.raft_files.specs.Reading.{Reading, end_of_reading, is_read_to_end, readable_batches, reading};
+ghost use Rattle.raft_files.specs.Records.{FirstOf, HasLog, HasTornLog, IsKept, KeepsBatches, left_bytes};
+ghost use Rattle.raft_files.specs.Writer.{HasChanged, IsAppended, IsAppending, IsClosing, IsOpening, IsSynced, IsSyncing, bytes_at};
 ghost use Rattle.raft_files.specs.declared.format.LogFileFormat.{LogFileFormat};
 
 /// A file with a header alone is read to its end and has no batch. A record appended to a file that is
@@ -37,4 +37,38 @@ pub fn crash_leaves_a_beginning()
         → HasLog path id format batches synced at old → record_of (signature_by id format) given ≡ Some (batch, length given) → HasChanged path (IsAppended room new_room at given) old new → HasLog path id format (batches ++ batch ∷ []) synced (at + length given) new }
     ensures durable { (path : Path) (id : FileId) (format : LogFileFormat) (batches : List Batch) (synced at : ℕ) (old new : Directory)
         → HasLog path id format batches synced at old → HasChanged path IsSynced old new → HasLog path id format batches (length batches) at new }
+{}
+
+/// What `IsKept` says: each outcome of a crash whose damage can be told reads as the first of the batches, with
+/// the synced ones. A log keeps its batches between two calls and while it is synced or closed, and after a
+/// refused append those of that append may be left too. What a crash left, once it is opened, is all synced.
+pub fn crash_leaves_what_is_kept()
+    ensures left { (path : Path) (id : FileId) (batches : List Batch) (synced : ℕ) (n : Directory)
+        → IsKept path id batches synced n → (d : Left) → Leaves n d → IsDetectable path id n d → FirstOf batches synced (readable_batches id (left_bytes path n d)) }
+    ensures between { (path : Path) (id : FileId) (format : LogFileFormat) (batches : List Batch) (synced at : ℕ) (n : Directory)
+        → HasLog path id format batches synced at n → IsKept path id batches synced n }
+    ensures refused { (path : Path) (id : FileId) (format : LogFileFormat) (batches in_flight : List Batch) (synced at : ℕ) (n : Directory)
+        → HasTornLog path id format batches in_flight synced at n → IsKept path id (batches ++ in_flight) synced n }
+    ensures appending { (path : Path) (id : FileId) (format : LogFileFormat) (batches : List Batch) (synced at : ℕ) (old n : Directory) (room new_room : ℕ) (given : List ℕ) (batch : Batch)
+        → HasLog path id format batches synced at old → record_of (signature_by id format) given ≡ Some (batch, length given) → HasChanged path (IsAppending room new_room at given) old n → IsKept path id (batches ++ batch ∷ []) synced n }
+    ensures closing { (path : Path) (id : FileId) (format : LogFileFormat) (batches : List Batch) (synced at : ℕ) (old n : Directory)
+        → HasLog path id format batches synced at old → HasChanged path (IsClosing at) old n → IsKept path id batches synced n }
+    ensures syncing { (path : Path) (id : FileId) (batches : List Batch) (synced : ℕ) (old n : Directory)
+        → IsKept path id batches synced old → HasChanged path IsSyncing old n → IsKept path id batches synced n }
+    ensures restarted { (path : Path) (id : FileId) (n m : Directory) (d : Left)
+        → IsRestarted n d m → let found = readable_batches id (left_bytes path n d) in IsKept path id found (length found) m }
+{}
+
+/// An opening loses nothing of a log file: while the file is made, while it is cut where its reading ends, and
+/// while a header is written into an empty file, a crash leaves what it could leave before. Cut and synced, the
+/// file is a log with all batches that can be read of it.
+pub fn opening_keeps_the_log()
+    ensures created { (path : Path) (id : FileId) (batches : List Batch) (synced : ℕ) (old n : Directory)
+        → IsKept path id batches synced old → IsOneOf old (created path old) n → IsKept path id batches synced n }
+    ensures truncating { (path : Path) (id : FileId) (batches : List Batch) (synced : ℕ) (old n : Directory)
+        → IsKept path id batches synced old → IsTruncating path (end_of_reading id (bytes_at path old)) old n → IsKept path id batches synced n }
+    ensures header { (path : Path) (id : FileId) (format : LogFileFormat) (batches : List Batch) (synced : ℕ) (old n : Directory)
+        → IsKept path id batches synced old → bytes_at path old ≡ [] → IsOpening path format old n → IsKept path id batches synced n }
+    ensures found { (path : Path) (id : FileId) (r : Reading) (old cut new : Directory)
+        → let found = readable_batches id (bytes_at path old) in reading id (bytes_at path old) ≡ Some r → bytes_at path cut ≡ take r.end (bytes_at path old) → HasChanged path IsSynced cut new → HasLog path id r.format found (length found) r.end new }
 {}
