@@ -1,3 +1,5 @@
 pub mod AgreesLemmas
 pub mod LogLemmas
 pub mod OpenLemmas
+pub mod RecoverLemmas
+pub mod StaysLemmas
