@@ -3,4 +3,6 @@ pub mod WrittenLemmas
 pub mod AllowedLemmas
 pub mod LogLemmas
 pub mod OpenLemmas
-pub mod OpenedLemmas
+pub mod RecoverLemmas
+pub mod StaysLemmas
+pub mod ReopenLemmas
