@@ -1,17 +1,17 @@
 -- How the tables of an engine and its file go on agreeing.
-use Rattle.std.proofs.Common.{◌≡◌, ℕ, ◌+◌, ◌<◌, ◌≤◌, ◌^◌, Bool, true, false, List, [], ◌∷◌, ◌++◌, length, take, map, Option, Some, None, refl, sym, ◌∙◌, ap, subst, arith, append_assoc, length-append}
-use Rattle.std.specs.Prelude.{IsSome, is_some, fold, option_map, ◌&&◌}
+use Rattle.std.proofs.Common.{◌≡◌, ℕ, ◌<◌, ◌≤◌, ◌^◌, Bool, true, false, List, [], ◌∷◌, ◌++◌, length, take, Option, Some, None, refl, sym, ◌∙◌, ap, subst, arith, length-append}
+use Rattle.std.specs.Prelude.{IsSome, is_some, option_map, ◌&&◌}
 use Rattle.std.specs.List.{list_all}
 use Rattle.std.proofs.lemmas.List.{take-append-le}
 use Rattle.raft_records.specs.Contents.{Contents, no_contents, after_batch, after_batches}
 use Rattle.raft_records.specs.FileId.{signature_in}
 use Rattle.raft_records.specs.Record.{record_of, record_bytes}
 use Rattle.raft_records.specs.declared.pipe_log.Version.{Version}
-use Rattle.raft_files.specs.Directory.{Directory, Path, HasFile, file_at, placed}
+use Rattle.raft_files.specs.Directory.{Directory, Path, HasFile, file_at}
 use Rattle.raft_files.specs.Header.{header_of, header_len}
-use Rattle.raft_files.specs.Outcomes.{File, synced_of}
+use Rattle.raft_files.specs.Outcomes.{File}
 use Rattle.raft_records.specs.Item.{Item, Batch, is_put_or_delete}
-use Rattle.raft_files.specs.Reading.{readable_batches, is_read_to_end}
+use Rattle.raft_files.specs.Reading.{readable_batches}
 use Rattle.raft_files.specs.Writer.{Writing, IsWriterOf, HasChanged, bytes_at, bytes_of}
 use Rattle.raft_files.specs.declared.format.LogFileFormat.{LogFileFormat}
 use Rattle.raft_files.proofs.DirectoryLemmas.{file_at-placed_same}
