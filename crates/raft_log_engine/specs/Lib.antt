@@ -9,3 +9,4 @@ pub mod Image
 pub mod Crash
 pub mod Run
 pub mod Durability
+pub mod Written
