@@ -14,6 +14,7 @@ invariant_of-self c =
       agrees = rw same e.agrees;
       holds = e.holds;
       few = e.few;
+      plain = e.plain;
       logged = rw same e.logged;
       left = subst (λ n. ∥ IsKept e.writer.path first_file e.kept.batches e.kept.synced n ∥₁) (sym same) e.left;
     }
