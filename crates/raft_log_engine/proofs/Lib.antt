@@ -1,5 +1,6 @@
 pub mod AgreesLemmas
 pub mod WrittenLemmas
+pub mod OthersLemmas
 pub mod SoundLemmas
 pub mod AllowedLemmas
 pub mod LogLemmas
