@@ -1,5 +1,4 @@
-use Rattle.std.proofs.Common.{◌≡◌, ℕ, ◌+◌, ◌-◌, ◌<◌, ◌≤◌, length, take, drop, get_or, unwrap_or, List, refl, sym, ◌∙◌, ap, rules, arith}
-use Rattle.std.proofs.lemmas.Grind.{common_steps}
+use Rattle.std.proofs.Common.{◌≡◌, ℕ, ◌+◌, ◌-◌, ◌<◌, length, take, drop, get_or, unwrap_or, List, ◌∙◌, ap, rules, arith}
 use Rattle.raft_files.specs.Kept.{places_len, saved_in}
 use Rattle.raft_files.proofs.SavedLemmas.{end_before, restored_from}
 use Rattle.raft_files.proofs.saved.Saved.restore.Goals as goal

@@ -1,4 +1,4 @@
-use Rattle.std.proofs.Common.{◌≡◌, ℕ, ◌+◌, ◌-◌, ◌<◌, ◌++◌, [], ◌∷◌, length, get_or, cond, Some, None, sym, ◌∙◌, ap, rules, arith}
+use Rattle.std.proofs.Common.{◌≡◌, ℕ, ◌+◌, ◌-◌, ◌++◌, [], ◌∷◌, length, get_or, cond, Some, None, sym, ◌∙◌, ap, rules}
 use Rattle.raft_files.specs.Kept.{OldBytes, places_len, saved_at, saved_in}
 use Rattle.raft_files.specs.Outcomes.{is_within}
 use Rattle.std.specs.Option.{option_or}

@@ -1,5 +1,4 @@
-use Rattle.std.proofs.Common.{◌≡◌, ◌≤◌, List, ℕ, ◌-◌, length, take, true, min, max, rules, arith}
-use Rattle.std.proofs.lemmas.Grind.{common_steps}
+use Rattle.std.proofs.Common.{◌≡◌, ◌≤◌, length, take, true, min, max, rules}
 use Rattle.raft_files.specs.Outcomes.{resized}
 use Rattle.raft_files.proofs.SlotLemmas.{kept_cut}
 use Rattle.raft_files.proofs.SavedLemmas.{saved_cut}

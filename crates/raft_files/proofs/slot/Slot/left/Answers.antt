@@ -1,7 +1,7 @@
-use Rattle.std.proofs.Common.{◌≡◌, List, ℕ, sym, ◌∙◌, ap, subst, rules}
+use Rattle.std.proofs.Common.{◌≡◌, ◌∙◌, ap, subst}
 use Rattle.raft_files.specs.Outcomes.{File, MayLeave, is_touched}
 use Rattle.raft_files.specs.Kept.{is_covered}
-use Rattle.raft_files.specs.Choice.{torn, chosen}
+use Rattle.raft_files.specs.Choice.{torn}
 use Rattle.raft_files.proofs.ChoiceLemmas.{synced_may_be_left, torn-covered, torn_may_be_left}
 use Rattle.raft_files.proofs.slot.Slot.left.Goals as goal
 

@@ -1,8 +1,7 @@
-use Rattle.std.proofs.Common.{◌≡◌, List, ℕ, ◌-◌, ◌++◌, length, take, true, refl, sym, ◌∙◌, ap, subst, min, max, get_or, rules, arith}
+use Rattle.std.proofs.Common.{◌≡◌, ◌-◌, ◌++◌, length, take, true, ◌∙◌, ap, min, max, rules, arith}
 use Rattle.std.specs.Prelude.{replicate}
 use Rattle.std.proofs.lemmas.Grind.{common_steps}
 use Rattle.raft_files.specs.Outcomes.{resized, padded}
-use Rattle.raft_files.specs.Kept.{IsKept}
 use Rattle.raft_files.proofs.SlotLemmas.{kept_lengthened, lengthened}
 use Rattle.raft_files.proofs.SavedLemmas.{saved_lengthened}
 use Rattle.raft_files.proofs.slot.Slot.lengthen.Goals as goal

@@ -1,8 +1,8 @@
-use Rattle.std.proofs.Common.{◌≡◌, List, ℕ, ◌+◌, length, refl, sym, ◌∙◌, ap, min, max, get_or, rules}
+use Rattle.std.proofs.Common.{◌≡◌, List, ℕ, ◌+◌, length, ◌∙◌, ap, min, max, get_or, rules}
 use Rattle.raft_files.specs.Outcomes.{written}
 use Rattle.raft_files.specs.Kept.{IsSaved}
 use Rattle.raft_files.proofs.SlotLemmas.{kept_written, overlaid_outside_part}
-use Rattle.raft_files.proofs.SavedLemmas.{saved_written, saved_again}
+use Rattle.raft_files.proofs.SavedLemmas.{saved_written}
 use Rattle.raft_files.proofs.slot.Slot.write.Goals as goal
 
 pub invariant_of-self-2 : goal.invariant_of-self-2

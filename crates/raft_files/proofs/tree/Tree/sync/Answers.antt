@@ -1,4 +1,4 @@
-use Rattle.std.proofs.Common.{◌≡◌, Some, sym, ◌∙◌, ap, rules}
+use Rattle.std.proofs.Common.{◌≡◌, Some, rules}
 use Rattle.std.specs.BTreeMap as tree
 use Rattle.raft_files.specs.Outcomes.{synced_of}
 use Rattle.raft_files.proofs.MemoryLemmas.{changed_after, found_in}
