@@ -145,7 +145,7 @@ impl Tree {
     {
         match self.files.get_mut(path) {
             Some(slot) => {
-                slot.sync()?;
+                slot.sync();
                 Ok(())
             }
             None => Err(FsFault::Io(IoKind::NotFound)),
