@@ -1,7 +1,7 @@
 -- What a crash leaves of the log file at a path, whatever calls change it.
 use Rattle.std.proofs.Common.{◌≡◌, ℕ, ◌+◌, ◌≤◌, List, [], ◌∷◌, ◌++◌, length, take, Option, Some, None, is_some, cond, true, map, refl, ap, sym, subst, ◌∙◌, inl, inr, arith}
 use Rattle.std.specs.Prelude.{option_map}
-use Rattle.std.proofs.lemmas.List.{append-nil, map-append, length-map, take_all, take-append-le, length-take, length-take-le}
+use Rattle.std.proofs.lemmas.List.{append-nil, map-append, take_all, take-append-le, length-take, length-take-le}
 use Rattle.std.proofs.lemmas.Bool.{eq-eqb}
 use Rattle.raft_records.specs.Item.{Batch}
 use Rattle.raft_records.specs.declared.pipe_log.FileId.{FileId}
@@ -10,13 +10,13 @@ use Rattle.raft_files.specs.Header.{header_bytes, header_len}
 use Rattle.raft_files.specs.Outcomes.{File, Change, resized, cut_to, synced_of, settled}
 use Rattle.raft_files.specs.Directory.{Directory, Left, Path, Leaves, file_at, placed, created, changed, changed_at, IsOneOf, IsTruncating, IsRestarted}
 use Rattle.raft_files.specs.Reading.{Placed, Reading, records_behind, end_of_records, reading, records_of, readable_records, readable_batches, end_of, end_of_reading, ends_with, is_read_to_end}
-use Rattle.raft_files.specs.Detectable.{IsBeginningOf, format_of, signature_by, bytes_behind, AreDone, IsDetectable, IsDetectableFile}
+use Rattle.raft_files.specs.Detectable.{IsBeginningOf, format_of, signature_by, bytes_behind, AreDone, IsDetectable}
 use Rattle.raft_files.specs.Records.{ReadsFirst, KeepsRecords, HoldsRecords, HasLog, HasTornLog, left_of, left_bytes, FirstOf, KeepsLog, KeepsNone, HoldsNothing, IsKept}
 use Rattle.raft_files.specs.Writer.{HasChanged, IsOpening, IsAppending, IsCutting, IsSynced, IsSyncing, IsClosing, capacity_for, bytes_of, bytes_at}
-use Rattle.raft_files.proofs.DetectableLemmas.{beginning_itself, beginning_trans, beginning_append, beginning_take}
+use Rattle.raft_files.proofs.DetectableLemmas.{beginning_trans, beginning_append, beginning_take}
 use Rattle.raft_files.proofs.DirectoryLemmas.{file_at-placed_same}
 use Rattle.raft_files.proofs.ExtentLemmas.{same_some}
-use Rattle.raft_files.proofs.RecordsLemmas.{reading-held, format_of_read, readable_without_header, keeps_batches, keeps_weaker}
+use Rattle.raft_files.proofs.RecordsLemmas.{reading-held, format_of_read, keeps_batches, keeps_weaker}
 use Rattle.raft_files.proofs.FreshLemmas.{header_len_within, readable_records-short}
 use Rattle.raft_files.proofs.NoneLemmas.{none_left, only_moment, none_settled, none_synced, none_appending}
 use Rattle.raft_files.proofs.TruncationLemmas.{header_within, end_of_read_within, reading-cut, keeps_cut, none_cut}
@@ -26,13 +26,8 @@ use Rattle.raft_files.proofs.LogLemmas.{count_of, stands_after, log_cutting, tor
 
 pub kept_left : (path : Path) (id : FileId) (batches : List Batch) (synced : ℕ) (n : Directory) → IsKept path id batches synced n → (d : Left) → Leaves n d → IsDetectable path id n d → FirstOf batches synced (readable_batches id (left_bytes path n d))
 kept_left path id batches synced n (inl log) d leaves detectable =
-    let left = keeps_batches path id n log.file log.format log.records synced batches [] log.stands log.keeps (log.holds ∙ sym (append-nil batches)) d leaves detectable in
-    let all : batches ++ [] ≡ batches = append-nil batches in (
-      left.0,
-      left.1,
-      omega (arith, left.2, ap length all),
-      ap (λ file. readable_batches id (left_of file (d path))) log.stands ∙ left.3 ∙ ap (λ bs. take left.0 bs) all,
-    )
+    subst (λ found. FirstOf batches synced (readable_batches id (left_of found (d path)))) (sym log.stands)
+    (keeps_batches path id n log.file log.format log.records synced batches log.stands log.keeps log.holds d detectable)
 kept_left path id batches synced n (inr (nothing, none_synced)) d leaves detectable =
     (0, omega (arith, none_synced), omega arith, by_file (file_at n path) refl)
   where

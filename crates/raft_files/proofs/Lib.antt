@@ -21,5 +21,7 @@ pub mod LogLemmas
 pub mod NoneLemmas
 pub mod TruncationLemmas
 pub mod KeptLemmas
+pub mod ConsistentLemmas
+pub mod PremiseLemmas
 pub mod ChoiceLemmas
 pub mod CrashedLemmas

@@ -1,10 +1,10 @@
 -- Files of which a crash leaves no record.
-use Rattle.std.proofs.Common.{◌≡◌, ℕ, ◌+◌, ◌-◌, ◌<◌, ◌≤◌, Bool, true, false, List, [], ◌∷◌, ◌++◌, length, Option, Some, None, map, refl, ap, sym, subst, ◌∙◌, inl, inr, arith, ltb}
+use Rattle.std.proofs.Common.{◌≡◌, ℕ, ◌+◌, ◌-◌, ◌≤◌, true, false, List, [], ◌∷◌, ◌++◌, length, Option, Some, None, map, refl, ap, sym, subst, ◌∙◌, inl, inr, arith, ltb}
 use Rattle.std.proofs.lemmas.Bool.{cases_Bool}
 use Rattle.raft_records.specs.declared.pipe_log.FileId.{FileId}
 use Rattle.raft_files.specs.declared.format.LogFileFormat.{LogFileFormat}
 use Rattle.raft_files.specs.Header.{header_bytes, header_len}
-use Rattle.raft_files.specs.Outcomes.{File, Change, Outcome, IsPartOf, overlaid, padded, written, resized, synced_of, settled}
+use Rattle.raft_files.specs.Outcomes.{File, Change, IsPartOf, overlaid, written, synced_of, settled}
 use Rattle.raft_files.specs.Reading.{Placed, readable_records, readable_batches}
 use Rattle.raft_files.specs.Detectable.{IsBeginningOf, format_of, signature_by, bytes_behind, AreDone, IsDetectableFile}
 use Rattle.raft_files.specs.Records.{KeepsNone}

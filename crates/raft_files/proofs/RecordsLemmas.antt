@@ -14,10 +14,10 @@ use Rattle.raft_records.specs.declared.pipe_log.FileId.{FileId}
 use Rattle.raft_files.specs.declared.format.LogFileFormat.{LogFileFormat}
 use Rattle.raft_files.specs.Header.{HasHeader, header_bytes, header_len, header_of}
 use Rattle.raft_files.specs.Outcomes.{File, Change, is_within, is_touched, untouched_len, IsStaleAt, written, resized, cut_to, synced_of, settled, padded, overlaid, Outcome, IsPartOf, IsCutOf}
-use Rattle.raft_files.specs.Directory.{Directory, Path, file_at}
-use Rattle.raft_files.specs.Reading.{Placed, record_place, record_at, placed_before, placed_by, records_from, end_of_records, Reading, records_behind, records_in, reading_behind, reading, records_of, readable_records, ends_with, is_read_to_end}
-use Rattle.raft_files.specs.Detectable.{IsBeginningOf, format_of, signature_by, bytes_behind, IsGivenBy, IsDone, AreDone, IsMarkedAt, EndsUnmarked, IsDetectableFile}
-use Rattle.raft_files.specs.Records.{ReadsFirst, KeepsRecords, IsRefusedAt, IsEmptyFrom, HoldsRecords, IsWrittenTo, IsTornFrom, KeepsBatches}
+use Rattle.raft_files.specs.Directory.{Directory, Left, Path, file_at}
+use Rattle.raft_files.specs.Reading.{Placed, record_place, record_at, placed_before, placed_by, records_from, end_of_records, Reading, records_behind, records_in, reading_behind, reading, records_of, readable_records, readable_batches, ends_with, is_read_to_end}
+use Rattle.raft_files.specs.Detectable.{IsBeginningOf, format_of, signature_by, bytes_behind, IsGivenBy, IsDone, AreDone, IsMarkedAt, EndsUnmarked, IsDetectableFile, IsDetectable, NoneRefused}
+use Rattle.raft_files.specs.Records.{ReadsFirst, KeepsRecords, IsRefusedAt, IsEmptyFrom, HoldsRecords, IsWrittenTo, IsTornFrom, FirstOf}
 use Rattle.raft_files.proofs.DetectableLemmas.{beginning_itself, beginning_trans, beginning_append, beginning_take, beginning_length, beginning_is, beginning_split}
 use Rattle.raft_files.proofs.HeaderLemmas.{length-header_bytes}
 use Rattle.raft_files.proofs.ExtentLemmas.{record_header_is, record_of_header, same_some, header_of_takes}
@@ -98,7 +98,7 @@ record_of_none signature batch len e =
     let has = record_header_is [] found.0 found.1 in
     absurd (omega (arith, has.long))
 
--- what is read where zeros and bytes of refused calls stand isn't done
+-- what is read where zeros and bytes of refused calls stand isn't done, by whatever signature what these were to write is judged
 none_done : (signature by : Option ℕ) (bytes : List ℕ) (changes : List Change) (from : ℕ) → IsEmptyFrom from bytes changes → (r : Placed) → from ≤ r.at → record_at signature bytes r.at ≡ Some (r.batch, r.len) → IsDone by changes r → ⊥
 none_done signature by bytes changes from empty r behind is done =
     let found = found_record signature bytes r.at r.batch r.len is in
@@ -272,9 +272,9 @@ read_of_left id format records synced file left keeps detectable =
     )
 
 -- .. and so for the batches of a log file
-pub keeps_batches : (path : Path) (id : FileId) (n : Directory) (file : File) (format : LogFileFormat) (records : List Placed) (synced : ℕ) (batches in_flight : List Batch) → file_at n path ≡ Some file → KeepsRecords id format records synced file →
-    map (λ (p : Placed). p.batch) records ≡ batches ++ in_flight → KeepsBatches path id batches synced in_flight n
-keeps_batches path id n file format records synced batches in_flight stands keeps same d leaves detectable =
+pub keeps_batches : (path : Path) (id : FileId) (n : Directory) (file : File) (format : LogFileFormat) (records : List Placed) (synced : ℕ) (batches : List Batch) → file_at n path ≡ Some file → KeepsRecords id format records synced file →
+    map (λ (p : Placed). p.batch) records ≡ batches → (d : Left) → IsDetectable path id n d → FirstOf batches synced (readable_batches id (d path))
+keeps_batches path id n file format records synced batches stands keeps same d detectable =
     let batch = λ (p : Placed). p.batch in
     let left = read_of_left id format records synced file (d path) keeps (detectable file stands) in (
       left.0,
@@ -299,7 +299,7 @@ refused_before c changes i outside q =
     let untouched : is_touched (c ∷ q.0) i ≡ false = ap (λ b. b || is_touched q.0 i) (not_within c.from c.size i outside) ∙ q.7 in
     (c ∷ q.0, q.1, q.2, ap (λ cs. c ∷ cs) q.3, q.4, q.5, q.6, untouched)
 
-same_front : (at : ℕ) (a b : List ℕ) → at ≤ length a → at ≤ length b → ((i : ℕ) → i < at → slice_index a i ≡ slice_index b i) → take at a ≡ take at b
+pub same_front : (at : ℕ) (a b : List ℕ) → at ≤ length a → at ≤ length b → ((i : ℕ) → i < at → slice_index a i ≡ slice_index b i) → take at a ≡ take at b
 same_front at a b long_a long_b same =
     let len_a : length (take at a) ≡ at = length-take-le at a long_a in
     let len_b : length (take at b) ≡ at = length-take-le at b long_b in
@@ -623,37 +623,6 @@ written_to_synced id format records synced at file written_to = written_to_still
 pub torn_synced : (id : FileId) (format : LogFileFormat) (records in_flight : List Placed) (synced at : ℕ) (file : File) → IsTornFrom id format records in_flight synced at file → length file.now ≡ at → IsWrittenTo id format records (length records) at (synced_of file)
 torn_synced id format records in_flight synced at file torn cut = written_to_still id format records at file.now (file.changes ++ file.older) file.rewritten torn.holds (λ i above below. absurd (omega arith))
 
--- a sync of a file that was not cut back
-pub torn_still_synced : (id : FileId) (format : LogFileFormat) (records in_flight : List Placed) (synced at : ℕ) (file : File) → IsTornFrom id format records in_flight synced at file → IsTornFrom id format records in_flight (length records) at (synced_of file)
-torn_still_synced id format records in_flight synced at file torn =
-    let all = records ++ in_flight in
-    let bytes = file.now in
-    let behind = records_behind id format bytes at in
-    let whole : take (length bytes) bytes ≡ bytes = take_all (length bytes) bytes (omega arith) in
-    let front : take (length records) all ≡ records = take_at records in_flight (length records) refl in
-    let first : ReadsFirst id format (take (length records) all) bytes = record {
-      all = records ++ behind;
-      end = end_of_records at behind;
-      read = reading-held id format records at bytes torn.holds;
-      first = (behind, ap (λ rs. rs ++ behind) (sym front));
-    } in
-    record {
-      keeps = record {
-        header = torn.keeps.header;
-        latest = refl;
-        moments = moments;
-        few = omega (arith, length-append records in_flight);
-        covered = subst (λ b. ReadsFirst id format (take (length records) all) b) (sym whole) first;
-      };
-      few = omega arith;
-      holds = torn.holds;
-    }
-  where
-    moments : (newer upto : List Change) → [] ≡ newer ++ upto → (left : List Placed) → IsBeginningOf left (readable_records id (bytes_behind file.now upto)) → AreDone (signature_by id format) (upto ++ (file.changes ++ file.older)) left → IsBeginningOf left (records ++ in_flight)
-    moments [] [] e left begins done = torn.keeps.moments [] file.changes refl left (subst (λ bytes. IsBeginningOf left (readable_records id bytes)) torn.keeps.latest begins) done
-    moments [] (x ∷ upto) e left begins done = cc
-    moments (x ∷ newer) upto e left begins done = cc
-
 -- only zeros stand behind a place
 pub record EndsInZeros (at : ℕ) (bytes : List ℕ) : Type 0 where
   pub zeros : (i : ℕ) → at ≤ i → i < length bytes → slice_index bytes i ≡ 0
@@ -705,10 +674,6 @@ written_to_read id file bytes format now header to_end =
 
 -- The premise can be met.
 
--- no change was refused
-pub record NoneRefused (changes : List Change) : Type 0 where
-  pub none : (later : List Change) (c : Change) (before : List Change) → changes ≡ later ++ c ∷ before → c.is_done ≡ false → ⊥
-
 -- the bytes of the last sync stand where no change touched the file
 pub record IsUntouched (file : File) : Type 0 where
   pub untouched : take (untouched_len file.synced file.changes) file.now ≡ take (untouched_len file.synced file.changes) file.synced
@@ -723,11 +688,14 @@ none_refused_nil = record { none = by_later }
     by_later [] c before e refused = cc
     by_later (x ∷ later) c before e refused = cc
 
+pub none_refused_before : (newer older : List Change) → NoneRefused (newer ++ older) → NoneRefused older
+none_refused_before newer older none = record { none = λ later c before e. none.none (newer ++ later) c before (ap (λ cs. newer ++ cs) e ∙ sym (append_assoc newer later (c ∷ before))) }
+
 some_before : {A B : Type 0} (f : A → Option B) (o : Option A) (y : B) → option_and_then f o ≡ Some y → (x : A) × (o ≡ Some x)
 some_before f None y e = cc
 some_before f (Some x) y e = (x, refl)
 
-zeros_only : (at : ℕ) (bytes : List ℕ) (changes : List Change) → IsEmptyFrom at bytes changes → NoneRefused changes → EndsInZeros at bytes
+pub zeros_only : (at : ℕ) (bytes : List ℕ) (changes : List Change) → IsEmptyFrom at bytes changes → NoneRefused changes → EndsInZeros at bytes
 zeros_only at bytes changes empty none = record {
   zeros = λ i above below. elim (empty i above below) [
     | inl zero' ↦ zero'

@@ -1,21 +1,21 @@
 -- What a truncation to the end of what is read leaves of a file.
-use Rattle.std.proofs.Common.{◌≡◌, ◌⊎◌, ℕ, zero, suc, ◌+◌, ◌-◌, ◌<◌, ◌≤◌, min, max, Bool, true, false, List, [], ◌∷◌, ◌++◌, length, take, Option, Some, None, Contains, refl, ap, sym, subst, ◌∙◌, inl, inr, arith}
+use Rattle.std.proofs.Common.{◌≡◌, ◌⊎◌, ℕ, ◌+◌, ◌-◌, ◌≤◌, min, max, Bool, true, false, List, [], ◌∷◌, ◌++◌, length, take, Option, Some, None, Contains, refl, ap, sym, subst, ◌∙◌, inl, inr, arith}
 use Rattle.std.specs.Prelude.{◌||◌}
-use Rattle.std.proofs.lemmas.List.{append-nil, take_all, take-take, length-append, length-take-le}
+use Rattle.std.proofs.lemmas.List.{append-nil, take-take, length-append, length-take-le}
 use Rattle.std.proofs.lemmas.List.Elements.{Contains-append_left, Contains-append_cases, Contains-push_cases}
 use Rattle.raft_records.specs.Item.{Batch}
 use Rattle.raft_records.specs.declared.pipe_log.FileId.{FileId}
 use Rattle.raft_files.specs.declared.format.LogFileFormat.{LogFileFormat}
 use Rattle.raft_files.specs.Header.{header_len}
 use Rattle.raft_files.specs.Outcomes.{File, Change, is_touched, Outcome, IsCutOf, cut_to}
-use Rattle.raft_files.specs.Reading.{Placed, record_place, record_at, placed_by, end_of_records, Reading, records_behind, records_in, reading, records_of, readable_records, end_of, end_of_reading}
-use Rattle.raft_files.specs.Detectable.{IsBeginningOf, signature_by, bytes_behind, HasByteOf, IsDone, AreDone}
+use Rattle.raft_files.specs.Reading.{Placed, placed_by, end_of_records, Reading, records_behind, reading, records_of, readable_records, end_of, end_of_reading}
+use Rattle.raft_files.specs.Detectable.{IsBeginningOf, signature_by, AreDone}
 use Rattle.raft_files.specs.Records.{ReadsFirst, KeepsRecords, IsEmptyFrom, HoldsRecords, KeepsNone}
-use Rattle.raft_files.proofs.DetectableLemmas.{beginning_itself, beginning_take}
+use Rattle.raft_files.proofs.DetectableLemmas.{beginning_itself}
 use Rattle.raft_files.proofs.ExtentLemmas.{header_of_takes}
 use Rattle.raft_files.proofs.ReadingLemmas.{StaysBefore, placed_by_past, end_of_placed-from, end_of_placed-within, records_stay, reading_is, reading-kept}
 use Rattle.raft_files.proofs.NoneLemmas.{nothing_of, none_more}
-use Rattle.raft_files.proofs.RecordsLemmas.{IsFirst, first_placed, end_of_front, reads_first-kept, nothing_behind, left_of_held, format_of-held, changed_by, keeps_more, not_within, refused_here, holds_same, IsCutRefused, empty_cut_refused, same_cut_refused}
+use Rattle.raft_files.proofs.RecordsLemmas.{first_placed, end_of_front, reads_first-kept, nothing_behind, left_of_held, format_of-held, changed_by, keeps_more, not_within, holds_same, IsCutRefused, empty_cut_refused, same_cut_refused}
 
 -- The records up to the end of the reading.
 
@@ -150,7 +150,7 @@ abbrev pub cut_change : ℕ → Bool → List ℕ → List ℕ → Change
 cut_change size true after old = record { from = min (length after) (length old); size = max (length after) (length old) - min (length after) (length old); given = []; is_done = true; after = after }
 cut_change size false after old = record { from = min size (length old); size = length old - min size (length old); given = []; is_done = false; after = after }
 
-cut_is : (size : ℕ) (is_done : Bool) (after : List ℕ) (file : File) → cut_to size is_done after file ≡ changed_by (cut_change size is_done after file.now) file.rewritten file
+pub cut_is : (size : ℕ) (is_done : Bool) (after : List ℕ) (file : File) → cut_to size is_done after file ≡ changed_by (cut_change size is_done after file.now) file.rewritten file
 cut_is size true after file = refl
 cut_is size false after file = refl
 
