@@ -3,3 +3,4 @@ pub mod LogLemmas
 pub mod OpenLemmas
 pub mod RecoverLemmas
 pub mod StaysLemmas
+pub mod UnfoundedLemmas
