@@ -6,3 +6,4 @@ pub mod OpenLemmas
 pub mod RecoverLemmas
 pub mod StaysLemmas
 pub mod ReopenLemmas
+pub mod UnfoundedLemmas
