@@ -9,3 +9,4 @@ pub mod DurabilityLemmas
 pub mod RecoverLemmas
 pub mod StaysLemmas
 pub mod ReopenLemmas
+pub mod UnfoundedLemmas

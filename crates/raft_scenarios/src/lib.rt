@@ -4,4 +4,6 @@
 #[cfg(test)]
 mod durability;
 #[cfg(test)]
+mod opening;
+#[cfg(test)]
 mod program;
