@@ -1,6 +1,9 @@
 pub mod AgreesLemmas
+pub mod WrittenLemmas
+pub mod AllowedLemmas
 pub mod LogLemmas
 pub mod OpenLemmas
 pub mod RecoverLemmas
 pub mod StaysLemmas
 pub mod UnfoundedLemmas
+pub mod ReopenLemmas

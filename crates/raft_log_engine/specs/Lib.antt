@@ -5,3 +5,5 @@ pub mod Agrees
 pub mod Cause
 pub mod Append
 pub mod Engine
+pub mod Crash
+pub mod Written
