@@ -3,6 +3,9 @@ pub mod WrittenLemmas
 pub mod AllowedLemmas
 pub mod LogLemmas
 pub mod OpenLemmas
+pub mod ImageLemmas
+pub mod RunLemmas
+pub mod DurabilityLemmas
 pub mod RecoverLemmas
 pub mod StaysLemmas
 pub mod ReopenLemmas

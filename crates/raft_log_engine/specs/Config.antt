@@ -1,5 +1,5 @@
 -- The default settings.
-use Rattle.std.specs.Prelude.{◌≡◌, ◌*◌, ◌^◌, true, false, [], None}
+use Rattle.std.specs.Prelude.{◌≡◌, ◌*◌, ◌^◌, true, false, [], None, option_map}
 use Rattle.std.specs.String.{string_bytes}
 use Rattle.raft_records.specs.declared.pipe_log.Version.TheVariants.{V2}
 use Rattle.raft_log_engine.specs.declared.config.Config.{Config}
@@ -22,3 +22,9 @@ pub record IsDefault (c : Config) : Type 0 where
   pub enable_log_recycle : c.enable_log_recycle ≡ true
   pub prefill_for_recycle : c.prefill_for_recycle ≡ false
   pub prefill_limit : c.prefill_limit ≡ None
+
+-- the same settings, in texts of their own
+pub record IsCopy (c copy : Config) : Type 0 where
+  pub dir : string_bytes copy.dir ≡ string_bytes c.dir
+  pub spill_dir : option_map string_bytes copy.spill_dir ≡ option_map string_bytes c.spill_dir
+  pub others : record copy { dir = c.dir; spill_dir = c.spill_dir } ≡ c

@@ -5,5 +5,8 @@ pub mod Agrees
 pub mod Cause
 pub mod Append
 pub mod Engine
+pub mod Image
 pub mod Crash
+pub mod Run
+pub mod Durability
 pub mod Written

@@ -1,5 +1,7 @@
 //! Settings.
-use raft_records::{Fresh, ReadableSize, Version};
+ghost use Rattle.std.specs.Prelude.{◌≡◌, IfOk, IfErr};
+
+use raft_records::{Fault, Fresh, ReadableSize, Version};
 use std::alloc::Global;
 
 /// What an opening does about records that can't be read.
@@ -37,6 +39,38 @@ pub struct Config {
     pub enable_log_recycle: bool,
     pub prefill_for_recycle: bool,
     pub prefill_limit: Option<ReadableSize>,
+}
+
+impl Config {
+    ghost use Rattle.raft_log_engine.specs.Config.{IsCopy};
+
+    /// The same settings.
+    pub fn clone(&self) -> Result<Config, Fault>
+        ensures value { IfOk result (IsCopy self.now) }
+        ensures cause { IfErr result (λ e. e ≡ Fault.Memory) }
+    {
+        let spill_dir = match &self.spill_dir {
+            Some(dir) => Some(dir.clone()?),
+            None => None,
+        };
+        Ok(Config {
+            dir: self.dir.clone()?,
+            spill_dir,
+            recovery_mode: self.recovery_mode,
+            recovery_read_block_size: self.recovery_read_block_size,
+            recovery_threads: self.recovery_threads,
+            bytes_per_sync: self.bytes_per_sync,
+            format_version: self.format_version,
+            target_file_size: self.target_file_size,
+            purge_threshold: self.purge_threshold,
+            purge_rewrite_threshold: self.purge_rewrite_threshold,
+            purge_rewrite_garbage_ratio: self.purge_rewrite_garbage_ratio,
+            memory_limit: self.memory_limit,
+            enable_log_recycle: self.enable_log_recycle,
+            prefill_for_recycle: self.prefill_for_recycle,
+            prefill_limit: self.prefill_limit,
+        })
+    }
 }
 
 impl Fresh for Config {

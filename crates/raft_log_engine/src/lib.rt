@@ -7,4 +7,4 @@ pub mod laws;
 pub mod script;
 
 pub use config::{Config, RecoveryMode};
-pub use engine::{Engine, Refused};
+pub use engine::{Engine, GroupImage, Image, Refused};

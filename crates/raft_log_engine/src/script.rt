@@ -1,14 +1,20 @@
-//! The program `raftlog` over any reader and writer.
+//! Operations on an engine as a list, crashes among them, and the program `raftlog` over any reader and writer.
 mod line;
+mod operation;
+mod runs;
+mod trials;
 
 use crate::Config;
-use crate::engine::{Engine, Refused};
-use line::{Line, parse_line};
-use raft_files::{FileSystem, MemoryFileSystem};
+use crate::engine::{Engine, Refused, io_fault};
+use line::{Left, Line, parse_line};
+pub use operation::{Act, Op, Outcome, Trial};
+use raft_files::{Choice, FileSystem, MemoryFileSystem};
 use raft_records::{Fault, Fresh, LogBatch, ReadableSize};
+pub use runs::run;
 use std::alloc::{AllocError, Global};
 use std::io;
 use std::io::{BufRead, BufReader, BufWriter, Read, Write};
+pub use trials::trial;
 
 /// How a run of the program ended.
 #[derive(Clone, Copy, Debug, PartialEq, Eq)]
@@ -37,6 +43,10 @@ enum Answer {
 }
 
 type MemoryEngine = Engine<MemoryFileSystem>;
+
+type Opening = Result<MemoryEngine, Refused<MemoryFileSystem>>;
+
+const FOLDER: &str = "raft";
 
 /// Reads lines, does what each asks for over files in memory, and writes the answers.
 /// docs/ARCHITECTURE.md has the lines and their answers.
@@ -99,28 +109,92 @@ fn answer_line(
             Err(refused) => return Ok(Answer::Gone(refused.fault)),
         },
     };
-    if let Line::Reopen = line {
-        return Ok(reopen(engine, opened));
+    match line {
+        Line::Reopen => Ok(reopen(engine, opened)),
+        Line::Crash(choice) => crash(alloc, engine, opened, choice),
+        line => answer_opened(alloc, engine.insert(opened), line),
     }
-    let opened = engine.insert(opened);
-    answer_opened(alloc, opened, line)
 }
 
-fn open(alloc: Global) -> Result<Result<MemoryEngine, Refused<MemoryFileSystem>>, AllocError> {
+fn settings(alloc: Global) -> Result<Config, AllocError> {
     let mut config = Config::fresh(alloc);
-    config.dir.push_str("raft")?;
+    config.dir.push_str(FOLDER)?;
     config.target_file_size = ReadableSize::kb(1);
     config.purge_threshold = ReadableSize::kb(10);
+    Ok(config)
+}
+
+fn open(alloc: Global) -> Result<Opening, AllocError> {
+    let config = settings(alloc)?;
     Ok(Engine::open_in_order(alloc, config, MemoryFileSystem::new(alloc)))
 }
 
+// The engine goes as it is, and its files as the crash leaves them are opened again.
+fn crash(
+    alloc: Global,
+    engine: &mut Option<MemoryEngine>,
+    opened: MemoryEngine,
+    left: &Left,
+) -> Result<Answer, AllocError> {
+    let config = settings(alloc)?;
+    match crashed(alloc, opened.give_up(), left) {
+        Ok(files) => Ok(open_again(alloc, engine, config, files)),
+        Err(fault) => Ok(Answer::Gone(fault)),
+    }
+}
+
+fn open_again<F: FileSystem + Drop>(
+    alloc: Global,
+    engine: &mut Option<Engine<F>>,
+    config: Config,
+    files: F,
+) -> Answer {
+    answer_opening(engine, Engine::open_in_order(alloc, config, files))
+}
+
 fn reopen<F: FileSystem + Drop>(engine: &mut Option<Engine<F>>, opened: Engine<F>) -> Answer {
-    match opened.reopen() {
+    answer_opening(engine, opened.reopen())
+}
+
+fn answer_opening<F: FileSystem + Drop>(
+    engine: &mut Option<Engine<F>>,
+    opening: Result<Engine<F>, Refused<F>>,
+) -> Answer {
+    match opening {
         Ok(opened) => {
             *engine = Some(opened);
             Answer::Done
         }
         Err(refused) => Answer::Gone(refused.fault),
+    }
+}
+
+// What a crash leaves where it does the same to every file.
+fn crashed(
+    alloc: Global,
+    mut files: MemoryFileSystem,
+    left: &Left,
+) -> Result<MemoryFileSystem, Fault> {
+    let count = count_files(alloc, &mut files)?;
+    let mut choices = Vec::with_capacity(alloc, count)?;
+    for _ in 0..count {
+        choices.push(choice_of(left))?;
+    }
+    files.crash(&choices)
+}
+
+fn count_files<F: FileSystem>(alloc: Global, files: &mut F) -> Result<usize, Fault> {
+    match files.list(FOLDER) {
+        Ok(names) => Ok(names.len()),
+        Err(fault) => Err(io_fault(alloc, fault, FOLDER)),
+    }
+}
+
+fn choice_of(left: &Left) -> Choice {
+    match left {
+        Left::All => Choice::All,
+        Left::Synced => Choice::Synced,
+        Left::Torn(kept, fill) => Choice::Torn(*kept as usize, *fill),
     }
 }
 
@@ -150,7 +224,7 @@ fn answer_opened<F: FileSystem>(
             Err(fault) => Answer::Refused(fault),
         }),
         Line::Sync => Ok(done(engine.sync())),
-        Line::Nothing | Line::Reopen => Ok(Answer::Nothing),
+        Line::Nothing | Line::Reopen | Line::Crash(_) => Ok(Answer::Nothing),
     }
 }
 

@@ -1,2 +1,3 @@
 pub mod TableLemmas
 pub mod TablesLemmas
+pub mod ListingLemmas

@@ -2,3 +2,4 @@ pub mod Table
 pub mod Places
 pub mod Tables
 pub mod Counters
+pub mod Listing

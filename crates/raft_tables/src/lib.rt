@@ -7,6 +7,6 @@ pub mod stats;
 #[cfg(test)]
 mod tests;
 
-pub use memtable::MemTable;
+pub use memtable::{KeyAndValue, MemTable};
 pub use memtables::MemTables;
 pub use stats::GlobalStats;

@@ -22,6 +22,17 @@ pub(crate) enum Line<'a> {
     },
     Sync,
     Reopen,
+    Crash(Left),
+}
+
+/// What a crash leaves of each file.
+#[derive(Clone, Copy, Debug, PartialEq, Eq)]
+pub(crate) enum Left {
+    All,
+    Synced,
+    /// The bytes now, but of the places that were touched since the last sync only so many, the first ones, hold them;
+    /// the others hold the byte.
+    Torn(u64, u8),
 }
 
 /// `None` for a line that asks for nothing the program knows.
@@ -46,6 +57,28 @@ pub(crate) fn parse_line(text: &[u8]) -> Option<Line<'_>> {
         b"reopen" => {
             ends(rest)?;
             Some(Line::Reopen)
+        }
+        b"crash" => Some(Line::Crash(parse_left(rest)?)),
+        _ => None,
+    }
+}
+
+fn parse_left(rest: &[u8]) -> Option<Left> {
+    let (word, rest) = split_word(rest)?;
+    match word {
+        b"all" => {
+            ends(rest)?;
+            Some(Left::All)
+        }
+        b"synced" => {
+            ends(rest)?;
+            Some(Left::Synced)
+        }
+        b"torn" => {
+            let (kept, rest) = parse_number(rest)?;
+            let (fill, rest) = parse_number(rest)?;
+            ends(rest)?;
+            Some(Left::Torn(kept, u8::try_from(fill).ok()?))
         }
         _ => None,
     }

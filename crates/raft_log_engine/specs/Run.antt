@@ -1,0 +1,115 @@
+-- What operations are answered, and what they leave.
+use Rattle.std.specs.Prelude.{◌≡◌, ℕ, ◌+◌, Bool, true, false, ◌||◌, List, [], ◌∷◌, ◌++◌, length, Option, Some, None, option_map, Result, Ok, Err, is_ok, MatchResult, if◌then◌else◌}
+use Rattle.raft_records.specs.Batch.{is_internal_key}
+use Rattle.raft_records.specs.Contents.{Contents, after_batches}
+use Rattle.raft_records.specs.Item.{Item, Batch, Put, Delete}
+use Rattle.raft_records.specs.declared.errors.Fault.{Fault}
+use Rattle.raft_records.specs.declared.errors.Fault.TheVariants as fault
+use Rattle.raft_log_engine.specs.Engine.{record_len}
+use Rattle.raft_log_engine.specs.declared.script.operation.Act.{Act}
+use Rattle.raft_log_engine.specs.declared.script.operation.Act.TheVariants as act
+use Rattle.raft_log_engine.specs.declared.script.operation.Op.{Op}
+use Rattle.raft_log_engine.specs.declared.script.operation.Op.TheVariants.{Write, Sync, Get}
+use Rattle.raft_log_engine.specs.declared.script.operation.Outcome.{Outcome}
+use Rattle.raft_log_engine.specs.declared.script.operation.Outcome.TheVariants.{Size, Done, Value}
+
+-- the item of an act; a key that begins with two underscores can't be put
+abbrev pub item_of_act : Act → Option Item
+item_of_act (act.Put group key value) = if is_internal_key key.items then None else Some (record { group = group; content = Put key.items value.items })
+item_of_act (act.Delete group key) = Some (record { group = group; content = Delete key.items })
+
+-- an item before others, where there are all of them
+abbrev pub with_first : Option Item → Option Batch → Option Batch
+with_first None items = None
+with_first (Some item) None = None
+with_first (Some item) (Some items) = Some (item ∷ items)
+
+-- the batch of the acts, where none is refused
+abbrev pub batch_of_acts : List Act → Option Batch
+batch_of_acts [] = Some []
+batch_of_acts (a ∷ acts) = with_first (item_of_act a) (batch_of_acts acts)
+
+-- a batch without items is not written
+abbrev pub with_items : Option Batch → List Batch
+with_items None = []
+with_items (Some []) = []
+with_items (Some (item ∷ items)) = (item ∷ items) ∷ []
+
+-- the batch of a write that was answered
+abbrev pub written : List Act → Result ℕ Fault → List Batch
+written acts (Ok len) = with_items (batch_of_acts acts)
+written acts (Err e) = []
+
+-- the batch that the operation wrote
+abbrev pub accepted_of : Op → Outcome → List Batch
+accepted_of (Write acts sync) (Size answer) = written acts.items answer
+accepted_of _ _ = []
+
+-- the batches of the accepted writes, in order
+abbrev pub accepted : List Op → List Outcome → List Batch
+accepted (op ∷ ops) (outcome ∷ outcomes) = accepted_of op outcome ++ accepted ops outcomes
+accepted _ _ = []
+
+-- a write that was answered made sure of what stood before it where it asked for that
+abbrev pub covers : Bool → Result ℕ Fault → Bool
+covers sync (Ok len) = sync
+covers sync (Err e) = false
+
+-- the operation made sure of all that was accepted up to it: a sync that was answered, or a write that asked for one
+abbrev pub is_covering : Op → Outcome → Bool
+is_covering (Write acts sync) (Size answer) = covers sync answer
+is_covering Sync (Done answer) = is_ok answer
+is_covering _ _ = false
+
+abbrev pub has_covering : List Op → List Outcome → Bool
+has_covering (op ∷ ops) (outcome ∷ outcomes) = is_covering op outcome || has_covering ops outcomes
+has_covering _ _ = false
+
+-- how many of the accepted writes stand at or before the last operation that made sure of them
+abbrev pub covered : List Op → List Outcome → ℕ
+covered (op ∷ ops) (outcome ∷ outcomes) = if has_covering (op ∷ ops) (outcome ∷ outcomes) then length (accepted_of op outcome) + covered ops outcomes else 0
+covered _ _ = 0
+
+-- the batch that may have been written in part when a crash came in the operation
+abbrev pub in_flight : Op → List Batch
+in_flight (Write acts sync) = with_items (batch_of_acts acts.items)
+in_flight Sync = []
+in_flight (Get group key) = []
+
+-- a write that was answered had a batch, and is answered with its record's length
+abbrev pub IsWritten : List Act → ℕ → Type 0
+IsWritten acts len = (batch : Batch) × (batch_of_acts acts ≡ Some batch) × (len ≡ record_len batch)
+
+-- a write is refused for an act that can't be done, by storage, for want of memory, by a number's type, or by a failed engine
+abbrev pub IsWriteRefusal : List Act → Fault → Type 0
+IsWriteRefusal acts (fault.InvalidArgument _) = batch_of_acts acts ≡ None
+IsWriteRefusal acts (fault.Io kind path) = Unit {0}
+IsWriteRefusal acts fault.Memory = Unit {0}
+IsWriteRefusal acts fault.Range = Unit {0}
+IsWriteRefusal acts fault.Failed = Unit {0}
+IsWriteRefusal acts _ = ⊥
+
+abbrev pub IsSyncRefusal : Fault → Type 0
+IsSyncRefusal (fault.Io kind path) = Unit {0}
+IsSyncRefusal fault.Memory = Unit {0}
+IsSyncRefusal fault.Range = Unit {0}
+IsSyncRefusal fault.Failed = Unit {0}
+IsSyncRefusal _ = ⊥
+
+abbrev pub IsGetRefusal : Fault → Type 0
+IsGetRefusal fault.Memory = Unit {0}
+IsGetRefusal fault.Failed = Unit {0}
+IsGetRefusal _ = ⊥
+
+-- an operation is answered so, or refused, at these contents
+abbrev pub IsAnswer : Contents → Op → Outcome → Type 0
+IsAnswer m (Write acts sync) (Size answer) = MatchResult answer (IsWritten acts.items) (IsWriteRefusal acts.items)
+IsAnswer m Sync (Done answer) = MatchResult answer (λ _. Unit {0}) IsSyncRefusal
+IsAnswer m (Get group key) (Value answer) = MatchResult answer (λ value. option_map (λ v. v.items) value ≡ m.value group key.items) IsGetRefusal
+IsAnswer m _ _ = ⊥
+
+-- each operation is answered at the contents that those before it leave
+abbrev pub AreAnswers : Contents → List Op → List Outcome → Type 0
+AreAnswers m [] [] = Unit {0}
+AreAnswers m (op ∷ ops) (outcome ∷ outcomes) = IsAnswer m op outcome × AreAnswers (after_batches m (accepted_of op outcome)) ops outcomes
+AreAnswers m _ _ = ⊥

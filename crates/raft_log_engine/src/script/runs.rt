@@ -1,0 +1,139 @@
+//! Operations one after the other, each with its outcome.
+ghost use Rattle.std.specs.Prelude.{◌≡◌, ◌⊎◌, ◌<◌, ◌++◌, [], ◌∷◌, length, true, false, Some, None, IfOk, IfErr, OnOk, OnErr, MatchOption, MatchResult};
+ghost use Rattle.raft_records.specs.Contents.{Contents, after_batches};
+ghost use Rattle.raft_records.specs.Fault.{fault_code};
+ghost use Rattle.raft_records.specs.Item.{Item};
+ghost use Rattle.raft_files.specs.Moments.{Passes};
+ghost use Rattle.raft_log_engine.specs.Crash.{LeavesAllowed};
+ghost use Rattle.raft_log_engine.specs.Durability.{IsMomentOf, LeavesAllowedBehind, Progresses, durability_of};
+ghost use Rattle.raft_log_engine.specs.Engine.{contents_of, directory_of, durable_of, folder_of, has_failed, moments_of, unsynced_of};
+ghost use Rattle.raft_log_engine.specs.Run.{accepted, accepted_of, AreAnswers, batch_of_acts, covers, in_flight, is_covering, IsAnswer, IsWriteRefusal, IsWritten, item_of_act, with_items, written};
+
+use super::operation::{Act, Op, Outcome};
+use crate::Engine;
+use raft_files::FileSystem;
+use raft_records::{Fault, LogBatch};
+use std::alloc::Global;
+
+/// Outcomes, and the place of the operation in which the engine failed.
+#[derive(Drop)]
+pub(crate) struct Ran {
+    pub outcomes: Vec<Outcome>,
+    pub failed_at: Option<usize>,
+}
+
+/// Does the operations in order, each with its outcome. Where there is no memory for the list of outcomes, the engine
+/// is not asked.
+pub fn run<F: FileSystem>(
+    alloc: Global,
+    engine: &mut Engine<F>,
+    ops: &[Op],
+) -> Result<Vec<Outcome>, Fault>
+    ensures answers { IfOk result (λ outcomes. AreAnswers (contents_of engine.old) ops.now outcomes.items) }
+    ensures contents { IfOk result (λ outcomes. has_failed engine.new ≡ false
+        → contents_of engine.new ≡ after_batches (contents_of engine.old) (accepted ops.now outcomes.items)) }
+    ensures any_moment { IfOk result (λ outcomes. Passes (moments_of engine.old) (moments_of engine.new) (directory_of engine.new)
+        (IsMomentOf (folder_of engine.old) (durable_of engine.old) (unsynced_of engine.old) ops.now outcomes.items)) }
+    ensures now { IfOk result (λ outcomes. LeavesAllowedBehind (has_failed engine.new) (folder_of engine.old) (durable_of engine.old) (unsynced_of engine.old) ops.now outcomes.items (directory_of engine.new)) }
+    ensures still { has_failed engine.old ≡ true → has_failed engine.new ≡ true }
+    ensures folder { folder_of engine.new ≡ folder_of engine.old }
+    ensures err { OnErr result (engine.new ≡ engine.old) }
+    ensures cause { IfErr result (λ e. e ≡ Fault.Memory) }
+{
+    Ok(run_watched(alloc, engine, ops)?.outcomes)
+}
+
+/// The same, with the place of the operation in which the engine failed.
+pub(crate) fn run_watched<F: FileSystem>(
+    alloc: Global,
+    engine: &mut Engine<F>,
+    ops: &[Op],
+) -> Result<Ran, Fault>
+    ensures answers { IfOk result (λ ran. AreAnswers (contents_of engine.old) ops.now ran.outcomes.items) }
+    ensures contents { IfOk result (λ ran. has_failed engine.new ≡ false
+        → contents_of engine.new ≡ after_batches (contents_of engine.old) (accepted ops.now ran.outcomes.items)) }
+    ensures still { has_failed engine.old ≡ true → has_failed engine.new ≡ true }
+    ensures any_moment { IfOk result (λ ran. Passes (moments_of engine.old) (moments_of engine.new) (directory_of engine.new)
+        (IsMomentOf (folder_of engine.old) (durable_of engine.old) (unsynced_of engine.old) ops.now ran.outcomes.items)) }
+    ensures now { IfOk result (λ ran. LeavesAllowedBehind (has_failed engine.new) (folder_of engine.old) (durable_of engine.old) (unsynced_of engine.old) ops.now ran.outcomes.items (directory_of engine.new)) }
+    ensures place { IfOk result (λ ran. has_failed engine.old ≡ false
+        → MatchOption ran.failed_at (has_failed engine.new ≡ false) (λ place. place < length ops.now × (has_failed engine.new ≡ true))) }
+    ensures folder { folder_of engine.new ≡ folder_of engine.old }
+    ensures err { OnErr result (engine.new ≡ engine.old) }
+    ensures cause { IfErr result (λ e. e ≡ Fault.Memory) }
+{
+    let mut outcomes = Vec::with_capacity(alloc, ops.len())?;
+    let mut failed_at = None;
+    for op in ops {
+        let stood = !engine.failed();
+        let outcome = step(alloc, engine, op);
+        if stood && engine.failed() {
+            failed_at = Some(outcomes.len());
+        }
+        outcomes.push(outcome)?;
+    }
+    Ok(Ran {
+        outcomes,
+        failed_at,
+    })
+}
+
+fn step<F: FileSystem>(alloc: Global, engine: &mut Engine<F>, op: &Op) -> Outcome
+    ensures answer { (m : Contents) → (has_failed engine.old ≡ false → m ≡ contents_of engine.old) → IsAnswer m op.now result }
+    ensures contents { has_failed engine.new ≡ false → contents_of engine.new ≡ after_batches (contents_of engine.old) (accepted_of op.now result) }
+    ensures progress { Progresses (accepted_of op.now result) (is_covering op.now result) (in_flight op.now) (durability_of engine.old) (durability_of engine.new) }
+    ensures any_moment { has_failed engine.old ≡ false → Passes (moments_of engine.old) (moments_of engine.new) (directory_of engine.new)
+        (LeavesAllowed (folder_of engine.old) (durable_of engine.old) (unsynced_of engine.old ++ in_flight op.now)) }
+    ensures rests { has_failed engine.old ≡ true → (moments_of engine.new ≡ moments_of engine.old) × (directory_of engine.new ≡ directory_of engine.old) }
+    ensures still { has_failed engine.old ≡ true → has_failed engine.new ≡ true }
+    ensures folder { folder_of engine.new ≡ folder_of engine.old }
+{
+    match op {
+        Op::Write(acts, sync) => Outcome::Size(write(alloc, engine, acts, *sync)),
+        Op::Sync => Outcome::Done(engine.sync()),
+        Op::Get(group, key) => Outcome::Value(engine.get(*group, key)),
+    }
+}
+
+// What is refused while the batch is built doesn't reach the engine.
+fn write<F: FileSystem>(
+    alloc: Global,
+    engine: &mut Engine<F>,
+    acts: &[Act],
+    sync: bool,
+) -> Result<usize, Fault>
+    ensures answer { MatchResult result (IsWritten acts.now) (IsWriteRefusal acts.now) }
+    ensures contents { has_failed engine.new ≡ false → contents_of engine.new ≡ after_batches (contents_of engine.old) (written acts.now result) }
+    ensures progress { Progresses (written acts.now result) (covers sync result) (with_items (batch_of_acts acts.now)) (durability_of engine.old) (durability_of engine.new) }
+    ensures any_moment { has_failed engine.old ≡ false → Passes (moments_of engine.old) (moments_of engine.new) (directory_of engine.new)
+        (LeavesAllowed (folder_of engine.old) (durable_of engine.old) (unsynced_of engine.old ++ with_items (batch_of_acts acts.now))) }
+    ensures rests { has_failed engine.old ≡ true → (moments_of engine.new ≡ moments_of engine.old) × (directory_of engine.new ≡ directory_of engine.old) }
+    ensures still { has_failed engine.old ≡ true → has_failed engine.new ≡ true }
+    ensures folder { folder_of engine.new ≡ folder_of engine.old }
+{
+    let mut batch = build(alloc, acts)?;
+    engine.write(&mut batch, sync)
+}
+
+fn build(alloc: Global, acts: &[Act]) -> Result<LogBatch, Fault>
+    ensures ok { IfOk result (λ batch. batch_of_acts acts.now ≡ Some batch.items) }
+    ensures refused { IfErr result (λ e. (e ≡ Fault.Memory) ⊎ ((fault_code e ≡ 1) × (batch_of_acts acts.now ≡ None))) }
+{
+    let mut batch = LogBatch::new(alloc);
+    for act in acts {
+        add(alloc, &mut batch, act)?;
+    }
+    Ok(batch)
+}
+
+fn add(alloc: Global, batch: &mut LogBatch, act: &Act) -> Result<(), Fault>
+    ensures ok { OnOk result ((item : Item) × (item_of_act act.now ≡ Some item) × (batch.new.items ≡ batch.old.items ++ item ∷ [])) }
+    ensures refused { IfErr result (λ e. (e ≡ Fault.Memory) ⊎ ((fault_code e ≡ 1) × (item_of_act act.now ≡ None))) }
+{
+    match act {
+        Act::Put(group, key, value) => {
+            batch.put(*group, key.to_vec(alloc)?, value.to_vec(alloc)?)
+        }
+        Act::Delete(group, key) => batch.delete(*group, key.to_vec(alloc)?),
+    }
+}
