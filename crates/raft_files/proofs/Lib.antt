@@ -18,5 +18,10 @@ pub mod RecordsLemmas
 pub mod WrittenLemmas
 pub mod FreshLemmas
 pub mod LogLemmas
+pub mod NoneLemmas
+pub mod TruncationLemmas
+pub mod KeptLemmas
+pub mod ConsistentLemmas
+pub mod PremiseLemmas
 pub mod ChoiceLemmas
 pub mod CrashedLemmas

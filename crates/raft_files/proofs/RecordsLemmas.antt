@@ -14,10 +14,10 @@ use Rattle.raft_records.specs.declared.pipe_log.FileId.{FileId}
 use Rattle.raft_files.specs.declared.format.LogFileFormat.{LogFileFormat}
 use Rattle.raft_files.specs.Header.{HasHeader, header_bytes, header_len, header_of}
 use Rattle.raft_files.specs.Outcomes.{File, Change, is_within, is_touched, untouched_len, IsStaleAt, written, resized, cut_to, synced_of, settled, padded, overlaid, Outcome, IsPartOf, IsCutOf}
-use Rattle.raft_files.specs.Directory.{Directory, Path, file_at}
-use Rattle.raft_files.specs.Reading.{Placed, record_place, record_at, placed_before, placed_by, records_from, end_of_records, Reading, records_behind, records_in, reading_behind, reading, records_of, readable_records, ends_with, is_read_to_end}
-use Rattle.raft_files.specs.Detectable.{IsBeginningOf, format_of, signature_by, bytes_behind, IsGivenBy, IsDone, AreDone, IsMarkedAt, EndsUnmarked, IsDetectableFile}
-use Rattle.raft_files.specs.Records.{ReadsFirst, KeepsRecords, IsRefusedAt, IsEmptyFrom, HoldsRecords, IsWrittenTo, IsTornFrom, KeepsBatches}
+use Rattle.raft_files.specs.Directory.{Directory, Left, Path, file_at}
+use Rattle.raft_files.specs.Reading.{Placed, record_place, record_at, placed_before, placed_by, records_from, end_of_records, Reading, records_behind, records_in, reading_behind, reading, records_of, readable_records, readable_batches, ends_with, is_read_to_end}
+use Rattle.raft_files.specs.Detectable.{IsBeginningOf, format_of, signature_by, bytes_behind, IsGivenBy, IsDone, AreDone, IsMarkedAt, EndsUnmarked, IsDetectableFile, IsDetectable, NoneRefused}
+use Rattle.raft_files.specs.Records.{ReadsFirst, KeepsRecords, IsRefusedAt, IsEmptyFrom, HoldsRecords, IsWrittenTo, IsTornFrom, FirstOf}
 use Rattle.raft_files.proofs.DetectableLemmas.{beginning_itself, beginning_trans, beginning_append, beginning_take, beginning_length, beginning_is, beginning_split}
 use Rattle.raft_files.proofs.HeaderLemmas.{length-header_bytes}
 use Rattle.raft_files.proofs.ExtentLemmas.{record_header_is, record_of_header, same_some, header_of_takes}
@@ -44,7 +44,7 @@ first_placed place found (suc n) at first rest e = by_found (found (place at)) r
         subst (λ p. IsFirst place found at p rest) same (record { limit = n; stands = refl; is = is; others = others })
 
 -- the first records end before all do
-end_of_front : {end : ℕ} {place : ℕ → ℕ} {found : ℕ → Option (Batch × ℕ)} → StaysBefore end place found → (n at : ℕ) (xs ys : List Placed) → placed_by n place found at ≡ xs ++ ys → end_of_records at xs ≤ end_of_records at (xs ++ ys)
+pub end_of_front : {end : ℕ} {place : ℕ → ℕ} {found : ℕ → Option (Batch × ℕ)} → StaysBefore end place found → (n at : ℕ) (xs ys : List Placed) → placed_by n place found at ≡ xs ++ ys → end_of_records at xs ≤ end_of_records at (xs ++ ys)
 end_of_front {place = place} {found = found} stays n at [] ys e = subst (λ ps. at ≤ end_of_records at ps) e (end_of_placed-from stays n at)
 end_of_front {place = place} {found = found} stays n at (x ∷ xs) ys e =
     let first = first_placed place found n at x (xs ++ ys) e in
@@ -98,9 +98,9 @@ record_of_none signature batch len e =
     let has = record_header_is [] found.0 found.1 in
     absurd (omega (arith, has.long))
 
--- what is read where zeros and bytes of refused calls stand isn't done
-none_done : (signature : Option ℕ) (bytes : List ℕ) (changes : List Change) (from : ℕ) → IsEmptyFrom from bytes changes → (r : Placed) → from ≤ r.at → record_at signature bytes r.at ≡ Some (r.batch, r.len) → IsDone signature changes r → ⊥
-none_done signature bytes changes from empty r behind is done =
+-- what is read where zeros and bytes of refused calls stand isn't done, by whatever signature what these were to write is judged
+none_done : (signature by : Option ℕ) (bytes : List ℕ) (changes : List Change) (from : ℕ) → IsEmptyFrom from bytes changes → (r : Placed) → from ≤ r.at → record_at signature bytes r.at ≡ Some (r.batch, r.len) → IsDone by changes r → ⊥
+none_done signature by bytes changes from empty r behind is done =
     let found = found_record signature bytes r.at r.batch r.len is in
     elim (search_bytes (IsRefusedAt changes) bytes 8 r.at (λ i above below. empty i (omega arith) (omega (arith, found.2, found.3)))) [
       | inl zeros ↦ record_header_zeros bytes r.at found.0 (omega (arith, found.2, found.3)) zeros found.1
@@ -108,17 +108,17 @@ none_done signature bytes changes from empty r behind is done =
           let i = refused.0 in
           let q : IsRefusedAt changes i = refused.3 in
           let given = done q.0 q.1 q.2 q.3 q.4 (i, refused.1, omega (arith, refused.2, found.2), q.6, q.7) in
-          record_of_none signature r.batch r.len (sym (ap (λ b. record_of signature b) q.5) ∙ given.1)
+          record_of_none by r.batch r.len (sym (ap (λ b. record_of by b) q.5) ∙ given.1)
     ]
 
 -- .. so a crash leaves nothing of it
-nothing_behind : (alignment : ℕ) (signature : Option ℕ) (bytes : List ℕ) (changes : List Change) (from : ℕ) → IsEmptyFrom from bytes changes → (n at : ℕ) → from ≤ at → (left : List Placed) →
-    IsBeginningOf left (records_from n alignment signature bytes at) → AreDone signature changes left → left ≡ []
-nothing_behind alignment signature bytes changes from empty n at behind [] begins done = refl
-nothing_behind alignment signature bytes changes from empty n at behind (r ∷ left) begins done =
+pub nothing_behind : (alignment : ℕ) (signature by : Option ℕ) (bytes : List ℕ) (changes : List Change) (from : ℕ) → IsEmptyFrom from bytes changes → (n at : ℕ) → from ≤ at → (left : List Placed) →
+    IsBeginningOf left (records_from n alignment signature bytes at) → AreDone by changes left → left ≡ []
+nothing_behind alignment signature by bytes changes from empty n at behind [] begins done = refl
+nothing_behind alignment signature by bytes changes from empty n at behind (r ∷ left) begins done =
     let first = first_placed (record_place alignment bytes) (record_at signature bytes) n at r (left ++ begins.0) begins.1 in
     let forward : at ≤ record_place alignment bytes at = (records_stay alignment signature bytes).forward at in
-    absurd (none_done signature bytes changes from empty r (omega (arith, first.stands)) first.is (done r (0, omega arith, refl)))
+    absurd (none_done signature by bytes changes from empty r (omega (arith, first.stands)) first.is (done r (0, omega arith, refl)))
 
 -- The records up to a place, and what is read behind them.
 
@@ -138,23 +138,23 @@ reading-held id format records at bytes holds =
 pub readable-held : (id : FileId) (format : LogFileFormat) (records : List Placed) (at : ℕ) (bytes : List ℕ) → HoldsRecords id format records at bytes → readable_records id bytes ≡ records ++ records_behind id format bytes at
 readable-held id format records at bytes holds = ap (λ read. records_of read) (reading-held id format records at bytes holds)
 
-format_of_read : (id : FileId) (bytes : List ℕ) (r : Reading) → reading id bytes ≡ Some r → format_of bytes ≡ Some r.format
+pub format_of_read : (id : FileId) (bytes : List ℕ) (r : Reading) → reading id bytes ≡ Some r → format_of bytes ≡ Some r.format
 format_of_read id bytes r e = ap (λ header. option_map (λ (h : LogFileFormat × List ℕ). h.0) header) ((reading_is id bytes r e).header)
 
 pub format_of-held : (id : FileId) (format : LogFileFormat) (records : List Placed) (at : ℕ) (bytes : List ℕ) → HoldsRecords id format records at bytes → format_of bytes ≡ Some format
 format_of-held id format records at bytes holds = format_of_read id bytes _ (reading-held id format records at bytes holds)
 
 -- a crash leaves a beginning of the records of bytes that hold them alone
-pub left_of_held : (id : FileId) (format : LogFileFormat) (records : List Placed) (at : ℕ) (bytes : List ℕ) (changes : List Change) → HoldsRecords id format records at bytes → IsEmptyFrom at bytes changes →
-    (left : List Placed) → IsBeginningOf left (readable_records id bytes) → AreDone (signature_by id format) changes left → IsBeginningOf left records
-left_of_held id format records at bytes changes holds empty left begins done =
+pub left_of_held : (id : FileId) (format : LogFileFormat) (by : Option ℕ) (records : List Placed) (at : ℕ) (bytes : List ℕ) (changes : List Change) → HoldsRecords id format records at bytes → IsEmptyFrom at bytes changes →
+    (left : List Placed) → IsBeginningOf left (readable_records id bytes) → AreDone by changes left → IsBeginningOf left records
+left_of_held id format by records at bytes changes holds empty left begins done =
     let behind = records_behind id format bytes at in
     elim (beginning_split left records behind (begins.0, sym (readable-held id format records at bytes holds) ∙ begins.1)) [
       | inl within ↦ within
       | inr further ↦
           let rest = further.0 in
-          let done_behind : AreDone (signature_by id format) changes rest = λ r in_rest. done r (subst (λ all. Contains all r) (sym further.1) (Contains-append_right records rest r in_rest)) in
-          let none : rest ≡ [] = nothing_behind format.alignment (signature_by id format) bytes changes at empty (length bytes) at (omega arith) rest further.2 done_behind in
+          let done_behind : AreDone by changes rest = λ r in_rest. done r (subst (λ all. Contains all r) (sym further.1) (Contains-append_right records rest r in_rest)) in
+          let none : rest ≡ [] = nothing_behind format.alignment (signature_by id format) by bytes changes at empty (length bytes) at (omega arith) rest further.2 done_behind in
           subst (λ all. IsBeginningOf all records) (sym (further.1 ∙ ap (λ r. records ++ r) none ∙ append-nil records)) (beginning_itself records)
     ]
 
@@ -172,7 +172,7 @@ reads_first-within id format records bytes reads =
     let within = end_of_placed-within stays (length bytes) from long in
     omega (arith, front, within, ap (λ rs. end_of_records from rs) all)
 
-reads_first-kept : (id : FileId) (format : LogFileFormat) (records : List Placed) (last : ℕ) (a b : List ℕ) → ReadsFirst id format records a → take last a ≡ take last b → end_of_records (header_len format.version) records ≤ last → ReadsFirst id format records b
+pub reads_first-kept : (id : FileId) (format : LogFileFormat) (records : List Placed) (last : ℕ) (a b : List ℕ) → ReadsFirst id format records a → take last a ≡ take last b → end_of_records (header_len format.version) records ≤ last → ReadsFirst id format records b
 reads_first-kept id format records last a b reads same within =
     let from = header_len format.version in
     let behind = records_behind id format b (end_of_records from records) in
@@ -203,10 +203,10 @@ covered_more id format records synced c changes reads behind =
 -- A change keeps the records.
 
 -- the file with one more change
-abbrev changed_by : Change → Option (List (ℕ × ℕ)) → File → File
+abbrev pub changed_by : Change → Option (List (ℕ × ℕ)) → File → File
 changed_by c rewritten file = record { now = c.after; synced = file.synced; changes = c ∷ file.changes; older = file.older; rewritten = rewritten }
 
-keeps_more : (id : FileId) (format : LogFileFormat) (old all : List Placed) (synced : ℕ) (file : File) (c : Change) (rewritten : Option (List (ℕ × ℕ))) → KeepsRecords id format old synced file → IsBeginningOf old all →
+pub keeps_more : (id : FileId) (format : LogFileFormat) (old all : List Placed) (synced : ℕ) (file : File) (c : Change) (rewritten : Option (List (ℕ × ℕ))) → KeepsRecords id format old synced file → IsBeginningOf old all →
     format_of c.after ≡ Some format → ((left : List Placed) → IsBeginningOf left (readable_records id c.after) → AreDone (signature_by id format) (c ∷ file.changes ++ file.older) left → IsBeginningOf left all) →
     end_of_records (header_len format.version) (take synced old) ≤ c.from → KeepsRecords id format all synced (changed_by c rewritten file)
 keeps_more id format old all synced file c rewritten keeps more header moment behind = record {
@@ -229,7 +229,7 @@ keeps_held : (id : FileId) (format : LogFileFormat) (old new all : List Placed) 
     end_of_records (header_len format.version) (take synced old) ≤ c.from → KeepsRecords id format all synced (changed_by c rewritten file)
 keeps_held id format old new all synced at file c rewritten keeps more holds empty first behind =
     keeps_more id format old all synced file c rewritten keeps more (format_of-held id format new at c.after holds)
-    (λ left begins done. beginning_trans left new all (left_of_held id format new at c.after (c ∷ file.changes ++ file.older) holds empty left begins done) first) behind
+    (λ left begins done. beginning_trans left new all (left_of_held id format (signature_by id format) new at c.after (c ∷ file.changes ++ file.older) holds empty left begins done) first) behind
 
 -- the synced records end before the place of the writer
 synced_within : (id : FileId) (format : LogFileFormat) (records : List Placed) (synced at : ℕ) (bytes : List ℕ) → HoldsRecords id format records at bytes → end_of_records (header_len format.version) (take synced records) ≤ at
@@ -244,7 +244,7 @@ synced_within id format records synced at bytes holds =
 
 -- What a crash leaves.
 
-readable_without_header : (id : FileId) (bytes : List ℕ) → format_of bytes ≡ None → readable_records id bytes ≡ []
+pub readable_without_header : (id : FileId) (bytes : List ℕ) → format_of bytes ≡ None → readable_records id bytes ≡ []
 readable_without_header id bytes none = by_header (header_of bytes) none
   where
     by_header : (header : Option (LogFileFormat × List ℕ)) → option_map (λ (h : LogFileFormat × List ℕ). h.0) header ≡ None → records_of (reading_behind id bytes header) ≡ []
@@ -272,9 +272,9 @@ read_of_left id format records synced file left keeps detectable =
     )
 
 -- .. and so for the batches of a log file
-pub keeps_batches : (path : Path) (id : FileId) (n : Directory) (file : File) (format : LogFileFormat) (records : List Placed) (synced : ℕ) (batches in_flight : List Batch) → file_at n path ≡ Some file → KeepsRecords id format records synced file →
-    map (λ (p : Placed). p.batch) records ≡ batches ++ in_flight → KeepsBatches path id batches synced in_flight n
-keeps_batches path id n file format records synced batches in_flight stands keeps same d leaves detectable =
+pub keeps_batches : (path : Path) (id : FileId) (n : Directory) (file : File) (format : LogFileFormat) (records : List Placed) (synced : ℕ) (batches : List Batch) → file_at n path ≡ Some file → KeepsRecords id format records synced file →
+    map (λ (p : Placed). p.batch) records ≡ batches → (d : Left) → IsDetectable path id n d → FirstOf batches synced (readable_batches id (d path))
+keeps_batches path id n file format records synced batches stands keeps same d detectable =
     let batch = λ (p : Placed). p.batch in
     let left = read_of_left id format records synced file (d path) keeps (detectable file stands) in (
       left.0,
@@ -288,10 +288,10 @@ keeps_batches path id n file format records synced batches in_flight stands keep
 within_is : (from size i : ℕ) → from ≤ i → i < from + size → is_within from size i ≡ true
 within_is from size i above below = grind (arith, nat_tests)
 
-not_within : (from size i : ℕ) → (i < from) ⊎ (from + size ≤ i) → is_within from size i ≡ false
+pub not_within : (from size i : ℕ) → (i < from) ⊎ (from + size ≤ i) → is_within from size i ≡ false
 not_within from size i outside = grind (arith, nat_tests)
 
-refused_here : (c : Change) (changes : List Change) (i : ℕ) → c.is_done ≡ false → c.given ≡ [] → c.from ≤ i → i < c.from + c.size → IsRefusedAt (c ∷ changes) i
+pub refused_here : (c : Change) (changes : List Change) (i : ℕ) → c.is_done ≡ false → c.given ≡ [] → c.from ≤ i → i < c.from + c.size → IsRefusedAt (c ∷ changes) i
 refused_here c changes i refused none above below = ([], c, changes, refl, refused, none, within_is c.from c.size i above below, refl)
 
 refused_before : (c : Change) (changes : List Change) (i : ℕ) → (i < c.from) ⊎ (c.from + c.size ≤ i) → IsRefusedAt changes i → IsRefusedAt (c ∷ changes) i
@@ -299,14 +299,14 @@ refused_before c changes i outside q =
     let untouched : is_touched (c ∷ q.0) i ≡ false = ap (λ b. b || is_touched q.0 i) (not_within c.from c.size i outside) ∙ q.7 in
     (c ∷ q.0, q.1, q.2, ap (λ cs. c ∷ cs) q.3, q.4, q.5, q.6, untouched)
 
-same_front : (at : ℕ) (a b : List ℕ) → at ≤ length a → at ≤ length b → ((i : ℕ) → i < at → slice_index a i ≡ slice_index b i) → take at a ≡ take at b
+pub same_front : (at : ℕ) (a b : List ℕ) → at ≤ length a → at ≤ length b → ((i : ℕ) → i < at → slice_index a i ≡ slice_index b i) → take at a ≡ take at b
 same_front at a b long_a long_b same =
     let len_a : length (take at a) ≡ at = length-take-le at a long_a in
     let len_b : length (take at b) ≡ at = length-take-le at b long_b in
     ext_get_or 0 (take at a) (take at b) (omega arith)
     (λ i within. get_or-take at a i 0 (omega arith) ∙ same i (omega arith) ∙ sym (get_or-take at b i 0 (omega arith)))
 
-holds_same : (id : FileId) (format : LogFileFormat) (records : List Placed) (at : ℕ) (a b : List ℕ) → HoldsRecords id format records at a → take at a ≡ take at b → at ≤ length b → HoldsRecords id format records at b
+pub holds_same : (id : FileId) (format : LogFileFormat) (records : List Placed) (at : ℕ) (a b : List ℕ) → HoldsRecords id format records at a → take at a ≡ take at b → at ≤ length b → HoldsRecords id format records at b
 holds_same id format records at a b holds same long = record { within = long; read = ap (λ bytes. reading id bytes) (sym same) ∙ holds.read }
 
 -- A change that touches nothing before the writer's place.
@@ -390,7 +390,7 @@ written_to_allocation_refused id format records synced at file size after writte
 
 -- Truncations to the writer's place.
 
-length_cut : (at : ℕ) (bytes : List ℕ) → at ≤ length bytes → length (take at bytes) ≡ at
+pub length_cut : (at : ℕ) (bytes : List ℕ) → at ≤ length bytes → length (take at bytes) ≡ at
 length_cut at bytes long = length-take-le at bytes long
 
 pub written_to_cut : (id : FileId) (format : LogFileFormat) (records : List Placed) (synced at : ℕ) (file : File) → IsWrittenTo id format records synced at file → IsWrittenTo id format records synced at (resized true (take at file.now) file)
@@ -417,10 +417,10 @@ pub record IsCutRefused (at : ℕ) (old : List ℕ) (c : Change) : Type 0 where
   pub refused : c.is_done ≡ false
   pub part : IsCutOf at old c.after
 
-empty_cut_refused : (at : ℕ) (old : List ℕ) (c : Change) (changes : List Change) → IsCutRefused at old c → IsEmptyFrom at c.after (c ∷ changes)
+pub empty_cut_refused : (at : ℕ) (old : List ℕ) (c : Change) (changes : List Change) → IsCutRefused at old c → IsEmptyFrom at c.after (c ∷ changes)
 empty_cut_refused at old c changes cut i behind within = inr (refused_here c changes i cut.refused cut.none (omega (arith, cut.from)) (omega (arith, cut.to, cut.part.no_longer)))
 
-same_cut_refused : (at : ℕ) (old : List ℕ) (c : Change) → at ≤ length old → IsCutRefused at old c → take at old ≡ take at c.after
+pub same_cut_refused : (at : ℕ) (old : List ℕ) (c : Change) → at ≤ length old → IsCutRefused at old c → take at old ≡ take at c.after
 same_cut_refused at old c long cut =
     let least : min at (length old) ≡ at = omega arith in
     sym (ap (λ n. take n c.after) (sym least) ∙ cut.part.kept ∙ ap (λ n. take n old) least)
@@ -479,13 +479,13 @@ behind_torn alignment signature bytes c changes batch refused size given empty n
     let forward : c.from ≤ record_place alignment bytes c.from = (records_stay alignment signature bytes).forward c.from in
     let found = found_record signature bytes r.at r.batch r.len first.is in
     elim (cases_lt r.at (c.from + c.size)) [
-      | inr past ↦ absurd (none_done signature bytes (c ∷ changes) (c.from + c.size) empty r past first.is (done r (0, omega arith, refl)))
+      | inr past ↦ absurd (none_done signature signature bytes (c ∷ changes) (c.from + c.size) empty r past first.is (done r (0, omega arith, refl)))
       | inl here ↦
           let is : IsGivenBy signature r c = done r (0, omega arith, refl) [] c changes refl refused (r.at, omega arith, omega (arith, found.2), within_is c.from c.size r.at (omega (arith, first.stands)) here, refl) in
           let one = record_given c.from c.given batch in
           let found_given = same_some (sym given ∙ is.1) in
           let same : r ≡ one = same_placed r c.from (length c.given) batch is.0 (ap (λ (x : Batch × ℕ). x.0) found_given) (ap (λ (x : Batch × ℕ). x.1) found_given) in
-          let none : left ≡ [] = nothing_behind alignment signature bytes (c ∷ changes) (c.from + c.size) empty first.limit (r.at + r.len)
+          let none : left ≡ [] = nothing_behind alignment signature signature bytes (c ∷ changes) (c.from + c.size) empty first.limit (r.at + r.len)
           (omega (arith, is.0, size, ap (λ (p : Placed). p.len) same)) left (begins.0, sym first.others) (are_done_behind signature (c ∷ changes) (r ∷ []) left done) in
           ([], ap (λ p. p ∷ []) (sym same) ∙ ap (λ rs. r ∷ rs) (sym none) ∙ sym (append-nil (r ∷ left)))
     ]
@@ -611,7 +611,7 @@ written_to_still id format records at bytes older rewritten holds empty =
     }
   where
     moments : (newer upto : List Change) → [] ≡ newer ++ upto → (left : List Placed) → IsBeginningOf left (readable_records id (bytes_behind bytes upto)) → AreDone (signature_by id format) (upto ++ older) left → IsBeginningOf left records
-    moments [] [] e = left_of_held id format records at bytes older holds empty
+    moments [] [] e = left_of_held id format (signature_by id format) records at bytes older holds empty
     moments [] (x ∷ upto) e = cc
     moments (x ∷ newer) upto e = cc
 
@@ -622,37 +622,6 @@ written_to_synced id format records synced at file written_to = written_to_still
 -- a sync of a file that was cut back
 pub torn_synced : (id : FileId) (format : LogFileFormat) (records in_flight : List Placed) (synced at : ℕ) (file : File) → IsTornFrom id format records in_flight synced at file → length file.now ≡ at → IsWrittenTo id format records (length records) at (synced_of file)
 torn_synced id format records in_flight synced at file torn cut = written_to_still id format records at file.now (file.changes ++ file.older) file.rewritten torn.holds (λ i above below. absurd (omega arith))
-
--- a sync of a file that was not cut back
-pub torn_still_synced : (id : FileId) (format : LogFileFormat) (records in_flight : List Placed) (synced at : ℕ) (file : File) → IsTornFrom id format records in_flight synced at file → IsTornFrom id format records in_flight (length records) at (synced_of file)
-torn_still_synced id format records in_flight synced at file torn =
-    let all = records ++ in_flight in
-    let bytes = file.now in
-    let behind = records_behind id format bytes at in
-    let whole : take (length bytes) bytes ≡ bytes = take_all (length bytes) bytes (omega arith) in
-    let front : take (length records) all ≡ records = take_at records in_flight (length records) refl in
-    let first : ReadsFirst id format (take (length records) all) bytes = record {
-      all = records ++ behind;
-      end = end_of_records at behind;
-      read = reading-held id format records at bytes torn.holds;
-      first = (behind, ap (λ rs. rs ++ behind) (sym front));
-    } in
-    record {
-      keeps = record {
-        header = torn.keeps.header;
-        latest = refl;
-        moments = moments;
-        few = omega (arith, length-append records in_flight);
-        covered = subst (λ b. ReadsFirst id format (take (length records) all) b) (sym whole) first;
-      };
-      few = omega arith;
-      holds = torn.holds;
-    }
-  where
-    moments : (newer upto : List Change) → [] ≡ newer ++ upto → (left : List Placed) → IsBeginningOf left (readable_records id (bytes_behind file.now upto)) → AreDone (signature_by id format) (upto ++ (file.changes ++ file.older)) left → IsBeginningOf left (records ++ in_flight)
-    moments [] [] e left begins done = torn.keeps.moments [] file.changes refl left (subst (λ bytes. IsBeginningOf left (readable_records id bytes)) torn.keeps.latest begins) done
-    moments [] (x ∷ upto) e left begins done = cc
-    moments (x ∷ newer) upto e left begins done = cc
 
 -- only zeros stand behind a place
 pub record EndsInZeros (at : ℕ) (bytes : List ℕ) : Type 0 where
@@ -705,10 +674,6 @@ written_to_read id file bytes format now header to_end =
 
 -- The premise can be met.
 
--- no change was refused
-pub record NoneRefused (changes : List Change) : Type 0 where
-  pub none : (later : List Change) (c : Change) (before : List Change) → changes ≡ later ++ c ∷ before → c.is_done ≡ false → ⊥
-
 -- the bytes of the last sync stand where no change touched the file
 pub record IsUntouched (file : File) : Type 0 where
   pub untouched : take (untouched_len file.synced file.changes) file.now ≡ take (untouched_len file.synced file.changes) file.synced
@@ -723,11 +688,14 @@ none_refused_nil = record { none = by_later }
     by_later [] c before e refused = cc
     by_later (x ∷ later) c before e refused = cc
 
+pub none_refused_before : (newer older : List Change) → NoneRefused (newer ++ older) → NoneRefused older
+none_refused_before newer older none = record { none = λ later c before e. none.none (newer ++ later) c before (ap (λ cs. newer ++ cs) e ∙ sym (append_assoc newer later (c ∷ before))) }
+
 some_before : {A B : Type 0} (f : A → Option B) (o : Option A) (y : B) → option_and_then f o ≡ Some y → (x : A) × (o ≡ Some x)
 some_before f None y e = cc
 some_before f (Some x) y e = (x, refl)
 
-zeros_only : (at : ℕ) (bytes : List ℕ) (changes : List Change) → IsEmptyFrom at bytes changes → NoneRefused changes → EndsInZeros at bytes
+pub zeros_only : (at : ℕ) (bytes : List ℕ) (changes : List Change) → IsEmptyFrom at bytes changes → NoneRefused changes → EndsInZeros at bytes
 zeros_only at bytes changes empty none = record {
   zeros = λ i above below. elim (empty i above below) [
     | inl zero' ↦ zero'
@@ -740,7 +708,7 @@ pub reading-held_alone : (id : FileId) (format : LogFileFormat) (records : List 
     reading id bytes ≡ Some (record { format = format; records = records; end = at })
 reading-held_alone id format records at bytes holds ends =
     let behind = records_behind id format bytes at in
-    let none : behind ≡ [] = nothing_behind format.alignment (signature_by id format) bytes [] at (λ i above below. inl (ends.zeros i above below)) (length bytes) at (omega arith) behind (beginning_itself behind)
+    let none : behind ≡ [] = nothing_behind format.alignment (signature_by id format) (signature_by id format) bytes [] at (λ i above below. inl (ends.zeros i above below)) (length bytes) at (omega arith) behind (beginning_itself behind)
     (are_done_all (signature_by id format) [] behind none_refused_nil) in
     reading-held id format records at bytes holds
     ∙ ap (λ rs. Some (record { format = format; records = records ++ rs; end = end_of_records at rs })) none
@@ -873,7 +841,7 @@ moment_of_allocation id format records synced at size old new written_to how = e
     by_outcome true after done = subst (λ bytes. IsWrittenTo id format records synced at (resized true bytes old)) (sym done) (written_to_allocated id format records synced at old size written_to)
     by_outcome false after part = written_to_allocation_refused id format records synced at old size after written_to part
 
-cut_refused_is : (at : ℕ) (file : File) (after : List ℕ) → at ≤ length file.now → IsCutOf at file.now after →
+pub cut_refused_is : (at : ℕ) (file : File) (after : List ℕ) → at ≤ length file.now → IsCutOf at file.now after →
     IsCutRefused at file.now (record { from = min at (length file.now); size = length file.now - min at (length file.now); given = []; is_done = false; after = after })
 cut_refused_is at file after long part = record { from = omega arith; to = omega arith; none = refl; refused = refl; part = part }
 

@@ -8,10 +8,10 @@ use Rattle.raft_files.specs.declared.format.LogFileFormat.{LogFileFormat}
 use Rattle.raft_files.specs.Outcomes.{File, Outcome, IsPartOf, overlaid, written}
 use Rattle.raft_files.specs.Reading.{Placed}
 use Rattle.raft_files.specs.Detectable.{signature_by}
-use Rattle.raft_files.specs.Records.{KeepsRecords, IsWrittenTo, IsTornFrom}
-use Rattle.raft_files.specs.Writer.{IsStep, IsLengthened, IsAppending, IsAppended, IsCutting, IsCut, IsSynced, IsSyncing, IsClosing, IsClosed}
-use Rattle.raft_files.proofs.DetectableLemmas.{beginning_itself, beginning_append}
-use Rattle.raft_files.proofs.RecordsLemmas.{record_given, keeps_weaker, holds_written, written_to_written, written_to_refused, written_to_cut, torn_cut, written_to_synced, torn_synced, torn_still_synced, moment_of_allocation, moment_of_cut, moment_of_cut_back}
+use Rattle.raft_files.specs.Records.{IsWrittenTo, IsTornFrom}
+use Rattle.raft_files.specs.Writer.{IsStep, IsLengthened, IsAppending, IsAppended, IsCutting, IsCut, IsSynced, IsClosed}
+use Rattle.raft_files.proofs.DetectableLemmas.{beginning_append}
+use Rattle.raft_files.proofs.RecordsLemmas.{record_given, keeps_weaker, holds_written, written_to_written, written_to_refused, written_to_cut, torn_cut, written_to_synced, torn_synced, moment_of_allocation, moment_of_cut, moment_of_cut_back}
 
 -- where nothing was written the file isn't torn
 pub torn_from_written : (id : FileId) (format : LogFileFormat) (records in_flight : List Placed) (synced at : ℕ) (file : File) → IsWrittenTo id format records synced at file → IsTornFrom id format records in_flight synced at file
@@ -80,25 +80,6 @@ synced id format records count at old new w is = subst (λ f. IsWrittenTo id for
 -- .. after a cut
 pub synced_back : (id : FileId) (format : LogFileFormat) (records in_flight : List Placed) (count at : ℕ) (old new : File) → IsTornFrom id format records in_flight count at old → length old.now ≡ at → IsSynced old new → IsWrittenTo id format records (length records) at new
 synced_back id format records in_flight count at old new torn len is = subst (λ f. IsWrittenTo id format records (length records) at f) (sym is) (torn_synced id format records in_flight count at old torn len)
-
--- a moment of a sync
-pub syncing : (id : FileId) (format : LogFileFormat) (records : List Placed) (count at : ℕ) (old new : File) → IsWrittenTo id format records count at old → IsSyncing old new → KeepsRecords id format records count new
-syncing id format records count at old new w (inl same) = subst (λ f. KeepsRecords id format records count f) (sym same) w.keeps
-syncing id format records count at old new w (inr is) = keeps_weaker id format records records (length records) count new (synced id format records count at old new w is).keeps (beginning_itself records) w.keeps.few
-
-pub syncing_back : (id : FileId) (format : LogFileFormat) (records in_flight : List Placed) (count at : ℕ) (old new : File) → IsTornFrom id format records in_flight count at old → IsSyncing old new → KeepsRecords id format (records ++ in_flight) count new
-syncing_back id format records in_flight count at old new torn (inl same) = subst (λ f. KeepsRecords id format (records ++ in_flight) count f) (sym same) torn.keeps
-syncing_back id format records in_flight count at old new torn (inr is) =
-    let all = records ++ in_flight in
-    let still = torn_still_synced id format records in_flight count at old torn in
-    keeps_weaker id format all all (length records) count new (subst (λ f. KeepsRecords id format all (length records) f) (sym is) still.keeps) (beginning_itself all) torn.few
-
--- a moment of a closing
-pub closing : (id : FileId) (format : LogFileFormat) (records : List Placed) (count at : ℕ) (old new : File) → IsWrittenTo id format records count at old → IsClosing at old new → KeepsRecords id format records count new
-closing id format records count at old new w how = syncing id format records count at how.0 new (cutting id format records count at old how.0 w how.1) how.2
-
-pub closing_back : (id : FileId) (format : LogFileFormat) (records in_flight : List Placed) (count at : ℕ) (old new : File) → IsTornFrom id format records in_flight count at old → IsClosing at old new → KeepsRecords id format (records ++ in_flight) count new
-closing_back id format records in_flight count at old new torn how = syncing_back id format records in_flight count at how.0 new (cutting_back id format records in_flight count at old how.0 torn how.1) how.2
 
 -- a closing that is done takes back what a refused append left
 pub closed_back : (id : FileId) (format : LogFileFormat) (records in_flight : List Placed) (count at : ℕ) (old new : File) → IsTornFrom id format records in_flight count at old → IsClosed at old new → IsWrittenTo id format records (length records) at new

@@ -1,16 +1,20 @@
 //! What holds of the records of files, whoever writes or reads them.
-ghost use Rattle.std.specs.Prelude.{◌≡◌, ◌+◌, ◌<◌, ◌^◌, ◌++◌, ◌∷◌, ℕ, List, [], true, Some, length};
+ghost use Rattle.std.specs.Prelude.{◌≡◌, ◌+◌, ◌<◌, ◌^◌, ◌++◌, ◌∷◌, ℕ, List, [], true, Some, None, length, take};
 ghost use Rattle.raft_records.specs.FileId.{signature_in};
 ghost use Rattle.raft_records.specs.Item.{Batch};
 ghost use Rattle.raft_records.specs.Record.{record_bytes, record_of};
 ghost use Rattle.raft_records.specs.RecordLimits.{FitsRecord};
 ghost use Rattle.raft_records.specs.declared.pipe_log.FileId.{FileId};
-ghost use Rattle.raft_files.specs.Detectable.{signature_by};
-ghost use Rattle.raft_files.specs.Directory.{Directory, Path};
+ghost use Rattle.raft_files.specs.Choice.{left_by};
+ghost use Rattle.raft_files.specs.Consistent.{AreConsistent, AreWhole};
+ghost use Rattle.raft_files.specs.Detectable.{EndsUnmarked, IsDetectable, NoneRefused, signature_by};
+ghost use Rattle.raft_files.specs.Directory.{Directory, IsOneOf, IsAllocating, IsRestarted, IsTruncating, IsWriting, Leaves, Left, Path, changed, created, file_at, folder_made};
 ghost use Rattle.raft_files.specs.Header.{HasHeader, header_bytes, header_of};
-ghost use Rattle.raft_files.specs.Reading.{is_read_to_end, readable_batches};
-ghost use Rattle.raft_files.specs.Records.{HasLog, KeepsBatches};
-ghost use Rattle.raft_files.specs.Writer.{HasChanged, IsAppended, IsAppending, IsSynced};
+ghost use Rattle.raft_files.specs.Outcomes.{File, synced_of};
+ghost use Rattle.raft_files.specs.Reading.{Reading, end_of_reading, is_read_to_end, readable_batches, reading};
+ghost use Rattle.raft_files.specs.Records.{FirstOf, HasLog, HasTornLog, IsKept, left_bytes};
+ghost use Rattle.raft_files.specs.Writer.{HasChanged, IsAppended, IsAppending, IsClosing, IsOpening, IsSynced, IsSyncing, bytes_at};
+ghost use Rattle.raft_files.specs.declared.crash.Choice.{Choice};
 ghost use Rattle.raft_files.specs.declared.format.LogFileFormat.{LogFileFormat};
 
 /// A file with a header alone is read to its end and has no batch. A record appended to a file that is
@@ -25,16 +29,65 @@ pub fn beginning_is_read()
     ensures value { (id : FileId) (bytes more : List ℕ) → (later : List Batch) × (readable_batches id (bytes ++ more) ≡ readable_batches id bytes ++ later) }
 {}
 
-/// What a crash leaves of a log file, where damage can be told: a beginning of its batches that has all
-/// synced ones, and inside an append perhaps the batch that is written. The moments of a writer's calls
-/// are those that `LogFileWriter` names.
+/// What a crash leaves of a log file, where damage can be told: the first of its batches, with all synced ones
+/// (`left`). So between two calls and while the file is synced or closed; inside an append, and after a refused one,
+/// perhaps also the batch that is written. An append adds its batch, and after a sync all are synced. What a crash
+/// left is synced. The moments of a writer's calls are those that `LogFileWriter` names.
 pub fn crash_leaves_a_beginning()
+    ensures left { (path : Path) (id : FileId) (batches : List Batch) (synced : ℕ) (n : Directory)
+        → IsKept path id batches synced n → (d : Left) → Leaves n d → IsDetectable path id n d → FirstOf batches synced (readable_batches id (left_bytes path n d)) }
     ensures between { (path : Path) (id : FileId) (format : LogFileFormat) (batches : List Batch) (synced at : ℕ) (n : Directory)
-        → HasLog path id format batches synced at n → KeepsBatches path id batches synced [] n }
+        → HasLog path id format batches synced at n → IsKept path id batches synced n }
+    ensures refused { (path : Path) (id : FileId) (format : LogFileFormat) (batches in_flight : List Batch) (synced at : ℕ) (n : Directory)
+        → HasTornLog path id format batches in_flight synced at n → IsKept path id (batches ++ in_flight) synced n }
     ensures appending { (path : Path) (id : FileId) (format : LogFileFormat) (batches : List Batch) (synced at : ℕ) (old n : Directory) (room new_room : ℕ) (given : List ℕ) (batch : Batch)
-        → HasLog path id format batches synced at old → record_of (signature_by id format) given ≡ Some (batch, length given) → HasChanged path (IsAppending room new_room at given) old n → KeepsBatches path id batches synced (batch ∷ []) n }
+        → HasLog path id format batches synced at old → record_of (signature_by id format) given ≡ Some (batch, length given) → HasChanged path (IsAppending room new_room at given) old n → IsKept path id (batches ++ batch ∷ []) synced n }
     ensures appended { (path : Path) (id : FileId) (format : LogFileFormat) (batches : List Batch) (synced at : ℕ) (old new : Directory) (room new_room : ℕ) (given : List ℕ) (batch : Batch)
         → HasLog path id format batches synced at old → record_of (signature_by id format) given ≡ Some (batch, length given) → HasChanged path (IsAppended room new_room at given) old new → HasLog path id format (batches ++ batch ∷ []) synced (at + length given) new }
     ensures durable { (path : Path) (id : FileId) (format : LogFileFormat) (batches : List Batch) (synced at : ℕ) (old new : Directory)
         → HasLog path id format batches synced at old → HasChanged path IsSynced old new → HasLog path id format batches (length batches) at new }
+    ensures closing { (path : Path) (id : FileId) (format : LogFileFormat) (batches : List Batch) (synced at : ℕ) (old n : Directory)
+        → HasLog path id format batches synced at old → HasChanged path (IsClosing at) old n → IsKept path id batches synced n }
+    ensures syncing { (path : Path) (id : FileId) (batches : List Batch) (synced : ℕ) (old n : Directory)
+        → IsKept path id batches synced old → HasChanged path IsSyncing old n → IsKept path id batches synced n }
+    ensures restarted { (path : Path) (id : FileId) (n m : Directory) (d : Left)
+        → IsRestarted n d m → let found = readable_batches id (left_bytes path n d) in IsKept path id found (length found) m }
+{}
+
+/// An opening loses nothing of a log file: while the file is made, while it is cut where its reading ends, and
+/// while a header is written into an empty file, a crash leaves what it could leave before. Cut and synced, the
+/// file is a log with all batches that can be read of it.
+pub fn opening_keeps_the_log()
+    ensures created { (path : Path) (id : FileId) (batches : List Batch) (synced : ℕ) (old n : Directory)
+        → IsKept path id batches synced old → IsOneOf old (created path old) n → IsKept path id batches synced n }
+    ensures truncating { (path : Path) (id : FileId) (batches : List Batch) (synced : ℕ) (old n : Directory)
+        → IsKept path id batches synced old → IsTruncating path (end_of_reading id (bytes_at path old)) old n → IsKept path id batches synced n }
+    ensures header { (path : Path) (id : FileId) (format : LogFileFormat) (batches : List Batch) (synced : ℕ) (old n : Directory)
+        → IsKept path id batches synced old → bytes_at path old ≡ [] → IsOpening path format old n → IsKept path id batches synced n }
+    ensures found { (path : Path) (id : FileId) (r : Reading) (old cut new : Directory)
+        → let found = readable_batches id (bytes_at path old) in reading id (bytes_at path old) ≡ Some r → bytes_at path cut ≡ take r.end (bytes_at path old) → HasChanged path IsSynced cut new → HasLog path id r.format found (length found) r.end new }
+{}
+
+/// Each call keeps files consistent: outside the ranges of its changes a file holds the bytes of its last sync.
+/// What a crash left is consistent.
+pub fn calls_keep_files_consistent()
+    ensures writing { (path : Path) (at : ℕ) (given : List ℕ) (old n : Directory) → AreConsistent old → IsWriting path at given old n → AreConsistent n }
+    ensures allocating { (path : Path) (size : ℕ) (old n : Directory) → AreConsistent old → IsAllocating path size old n → AreConsistent n }
+    ensures truncating { (path : Path) (size : ℕ) (old n : Directory) → AreConsistent old → IsTruncating path size old n → AreConsistent n }
+    ensures syncing { (path : Path) (old n : Directory) → AreConsistent old → IsOneOf old (changed path synced_of old) n → AreConsistent n }
+    ensures creating { (path : Path) (old n : Directory) → AreConsistent old → IsOneOf old (created path old) n → AreConsistent n }
+    ensures folders { (path : Path) (old n : Directory) → AreConsistent old → IsOneOf old (folder_made path old) n → AreConsistent n }
+    ensures restarted { (n m : Directory) (d : Left) → IsRestarted n d m → AreConsistent m }
+{}
+
+/// The premise can be met. Storage may leave each consistent file with all its bytes now or with those of its last
+/// sync. Where no call on a log file was refused, and what its last sync found ended in no mark of compression, the
+/// damage of such a crash can be told; and without refusals a log ends in no such mark.
+pub fn damage_can_be_told()
+    ensures allowed { (choices : List Choice) (n : Directory) → AreWhole choices → AreConsistent n → Leaves n (left_by choices n) }
+    ensures detectable { (path : Path) (id : FileId) (format : LogFileFormat) (batches : List Batch) (synced at : ℕ) (n : Directory) (file : File) (choices : List Choice)
+        → AreWhole choices → AreConsistent n → HasLog path id format batches synced at n → file_at n path ≡ Some file → NoneRefused (file.changes ++ file.older)
+        → EndsUnmarked id file.synced → file.rewritten ≡ None → IsDetectable path id n (left_by choices n) }
+    ensures unmarked { (path : Path) (id : FileId) (format : LogFileFormat) (batches : List Batch) (synced at : ℕ) (n : Directory) (file : File)
+        → HasLog path id format batches synced at n → file_at n path ≡ Some file → NoneRefused (file.changes ++ file.older) → EndsUnmarked id file.now }
 {}

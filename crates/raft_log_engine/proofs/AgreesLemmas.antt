@@ -1,11 +1,16 @@
 -- How the tables of an engine and its file go on agreeing.
-use Rattle.std.proofs.Common.{◌≡◌, ℕ, ◌<◌, ◌≤◌, ◌^◌, Bool, true, false, List, [], ◌∷◌, ◌++◌, length, take, Option, Some, None, refl, sym, ◌∙◌, ap, subst, arith, length-append}
+use Rattle.std.proofs.Common.{◌≡◌, ◌≢◌, inl, inr, ℕ, ◌<◌, ◌≤◌, ◌^◌, Bool, true, false, List, [], ◌∷◌, ◌++◌, length, take, Option, Some, None, refl, sym, ◌∙◌, ap, subst, arith, length-append}
 use Rattle.std.specs.Prelude.{IsSome, is_some, option_map, ◌&&◌}
 use Rattle.std.specs.List.{list_all}
+use Rattle.std.specs.Str.{bytes_eq}
+use Rattle.std.proofs.lemmas.Bool.{cases_Bool}
+use Rattle.std.proofs.lemmas.Slice.Eq.{bytes_eq-Decides}
 use Rattle.std.proofs.lemmas.List.{take-append-le}
 use Rattle.raft_records.specs.Contents.{Contents, no_contents, after_batch, after_batches}
-use Rattle.raft_records.specs.FileId.{signature_in}
+use Rattle.raft_records.specs.Batch.{BatchView, with_record}
+use Rattle.raft_records.specs.FileId.{file_signature, signature_in}
 use Rattle.raft_records.specs.Record.{record_of, record_bytes}
+use Rattle.raft_records.specs.declared.pipe_log.LogFileContext.{LogFileContext}
 use Rattle.raft_records.specs.declared.pipe_log.Version.{Version}
 use Rattle.raft_files.specs.Directory.{Directory, Path, HasFile, file_at}
 use Rattle.raft_files.specs.Header.{header_of, header_len}
@@ -14,7 +19,7 @@ use Rattle.raft_records.specs.Item.{Item, Batch, is_put_or_delete}
 use Rattle.raft_files.specs.Reading.{readable_batches}
 use Rattle.raft_files.specs.Writer.{Writing, IsWriterOf, HasChanged, bytes_at, bytes_of}
 use Rattle.raft_files.specs.declared.format.LogFileFormat.{LogFileFormat}
-use Rattle.raft_files.proofs.DirectoryLemmas.{file_at-placed_same}
+use Rattle.raft_files.proofs.DirectoryLemmas.{file_at-placed_other, file_at-placed_same}
 use Rattle.raft_files.proofs.ReadingLemmas.{readable-append, header_of-kept}
 use Rattle.raft_files.proofs.ExtentLemmas.{header_of_takes}
 use Rattle.raft_log_engine.specs.Agrees.{Agrees, written_bytes}
@@ -52,11 +57,20 @@ pub bytes_at-changed : (path : Path) (R : File → File → Type 0) (old new : D
 bytes_at-changed path R old new keeps c =
     ap (λ n. bytes_at path n) c.is ∙ ap bytes_of (file_at-placed_same path c.after old) ∙ keeps c.before c.after c.how ∙ sym (ap bytes_of c.was)
 
+-- a change of a file makes no other
+pub stood_before : (path : Path) (R : File → File → Type 0) (old new : Directory) → HasChanged path R old new → (q : Path) → HasFile new q → HasFile old q
+stood_before path R old new change q found = elim (cases_Bool (bytes_eq q path)) [
+  | inl same ↦ ap (λ p. is_some (file_at old p)) ((bytes_eq-Decides q path).0 same) ∙ ap is_some change.was
+  | inr other ↦
+      let apart : q ≢ path = λ is. let e : true ≡ false = sym ((bytes_eq-Decides q path).1 is) ∙ other in absurd cc in
+      ap is_some (sym (ap (λ (n : Directory). file_at n q) change.is ∙ file_at-placed_other path change.after old q apart)) ∙ found
+]
+
 -- the same written bytes leave the agreement
 pub agrees_still : (w w' : Writing) (n n' : Directory) (v : Version) (m : Contents) → Agrees w n v m → IsWriterOf w' n' → written_bytes w' n' ≡ written_bytes w n → Agrees w' n' v m
 agrees_still w w' n n' v m a writer same = agrees_by w' n' (written_bytes w n) v m writer same a.version_is a.whole a.contents
 
-after_batches-append : (m : Contents) (batches : List Batch) (b : Batch) → after_batches m (batches ++ b ∷ []) ≡ after_batch (after_batches m batches) b
+pub after_batches-append : (m : Contents) (batches : List Batch) (b : Batch) → after_batches m (batches ++ b ∷ []) ≡ after_batch (after_batches m batches) b
 after_batches-append m [] b = refl
 after_batches-append m (c ∷ cs) b = after_batches-append (after_batch m c) cs b
 
@@ -103,14 +117,24 @@ agrees_appended w w' n n' v m given items a writer same found plain =
     (record { read = more.1; plain = ap are_plain more.0 ∙ are_plain-append (readable_batches first_file bytes) items a.whole.plain plain })
     (ap (λ x. after_batch x items) a.contents ∙ sym (after_batches-append no_contents (readable_batches first_file bytes) items) ∙ ap recovered (sym more.0))
 
--- a signed record behind a whole log is one batch more
-pub written_agrees : (w w' : Writing) (n n' : Directory) (v : Version) (m m' : Contents) (given : List ℕ) (items : Batch) (signature : Option ℕ) → Agrees w n v m → IsWriterOf w' n' → written_bytes w' n' ≡ written_bytes w n ++ given
-    → signature ≡ signature_in v 1 → given ≡ record_bytes signature items → record_of signature (record_bytes signature items) ≡ Some (items, length (record_bytes signature items))
-    → list_all (λ (item : Item). is_put_or_delete item.content) items ≡ true → m' ≡ after_batch m items → Agrees w' n' v m'
-written_agrees w w' n n' v m m' given items signature a writer same signed given_is readable plain m'_is =
-    let found : record_of (signature_in v 1) given ≡ Some (items, length given) =
-    ap (λ s. record_of s given) (sym signed) ∙ ap (λ l. record_of signature l) given_is ∙ readable ∙ ap (λ (l : List ℕ). Some (items, length l)) (sym given_is) in
-    subst (λ x. Agrees w' n' v x) (sym m'_is) (agrees_appended w w' n n' v m given items a writer same found plain)
-
 pub same_some : {A : Type 0} (x y : A) → Some x ≡ Some y → x ≡ y
 same_some x y e = cc
+
+-- the record that was signed for a file of this version
+signed_record : (v : Version) (given : List ℕ) (items : Batch) (signature : Option ℕ) → signature ≡ signature_in v 1 → given ≡ record_bytes signature items → record_of signature (record_bytes signature items) ≡ Some (items, length (record_bytes signature items))
+    → record_of (signature_in v 1) given ≡ Some (items, length given)
+signed_record v given items signature signed given_is readable =
+    ap (λ s. record_of s given) (sym signed) ∙ ap (λ l. record_of signature l) given_is ∙ readable ∙ ap (λ (l : List ℕ). Some (items, length l)) (sym given_is)
+
+-- .. as a batch that is prepared for it has it
+pub signed_bytes : (v : Version) (context : LogFileContext) (given : List ℕ) (batch prepared : BatchView) → file_signature context ≡ signature_in v 1 → prepared.encoded ≡ Some given → prepared ≡ with_record batch (record_bytes (file_signature context) batch.items)
+    → record_of (file_signature context) (record_bytes (file_signature context) batch.items) ≡ Some (batch.items, length (record_bytes (file_signature context) batch.items)) → record_of (signature_in v 1) given ≡ Some (batch.items, length given)
+signed_bytes v context given batch prepared signed encoded prepared_is readable =
+    let bytes = record_bytes (file_signature context) batch.items in
+    signed_record v given batch.items (file_signature context) signed (same_some given bytes (sym encoded ∙ ap (λ (b : BatchView). b.encoded) prepared_is)) readable
+
+-- a signed record behind a whole log is one batch more
+pub written_agrees : (w w' : Writing) (n n' : Directory) (v : Version) (m m' : Contents) (given : List ℕ) (items : Batch) → Agrees w n v m → IsWriterOf w' n' → written_bytes w' n' ≡ written_bytes w n ++ given
+    → record_of (signature_in v 1) given ≡ Some (items, length given) → list_all (λ (item : Item). is_put_or_delete item.content) items ≡ true → m' ≡ after_batch m items → Agrees w' n' v m'
+written_agrees w w' n n' v m m' given items a writer same found plain m'_is =
+    subst (λ x. Agrees w' n' v x) (sym m'_is) (agrees_appended w w' n n' v m given items a writer same found plain)

@@ -1,5 +1,9 @@
 pub mod AgreesLemmas
+pub mod CrashLemmas
+pub mod AllowedLemmas
 pub mod LogLemmas
 pub mod OpenLemmas
 pub mod ImageLemmas
 pub mod RunLemmas
+pub mod RunCrashLemmas
+pub mod OpenedLemmas

@@ -7,3 +7,4 @@ pub mod Append
 pub mod Engine
 pub mod Image
 pub mod Run
+pub mod Crash

@@ -1,11 +1,15 @@
 -- What operations are answered, and what they leave.
-use Rattle.std.specs.Prelude.{◌≡◌, ℕ, ◌+◌, Bool, true, false, ◌||◌, List, [], ◌∷◌, ◌++◌, length, Option, Some, None, option_map, Result, Ok, Err, MatchResult, if◌then◌else◌}
+use Rattle.std.specs.Prelude.{◌≡◌, ℕ, ◌+◌, ◌≤◌, Bool, true, false, ◌||◌, List, [], ◌∷◌, ◌++◌, length, take, drop, Option, Some, None, option_map, Result, Ok, Err, MatchResult, if◌then◌else◌}
 use Rattle.raft_records.specs.Batch.{is_internal_key}
 use Rattle.raft_records.specs.Contents.{Contents, after_batches}
 use Rattle.raft_records.specs.Item.{Item, Batch, Put, Delete}
 use Rattle.raft_records.specs.declared.errors.Fault.{Fault}
 use Rattle.raft_records.specs.declared.errors.Fault.TheVariants as fault
+use Rattle.raft_files.specs.Detectable.{IsDetectable}
+use Rattle.raft_files.specs.Directory.{Directory, Left, Leaves, Path}
+use Rattle.raft_log_engine.specs.Crash.{found_after}
 use Rattle.raft_log_engine.specs.Engine.{record_len}
+use Rattle.raft_log_engine.specs.Log.{first_file, log_path}
 use Rattle.raft_log_engine.specs.declared.script.operation.Act.{Act}
 use Rattle.raft_log_engine.specs.declared.script.operation.Act.TheVariants as act
 use Rattle.raft_log_engine.specs.declared.script.operation.Op.{Op}
@@ -108,3 +112,32 @@ abbrev pub AreAnswers : Contents → List Op → List Outcome → Type 0
 AreAnswers m [] [] = Unit {0}
 AreAnswers m (op ∷ ops) (outcome ∷ outcomes) = IsAnswer m op outcome × AreAnswers (after_batches m (accepted_of op outcome)) ops outcomes
 AreAnswers m _ _ = ⊥
+
+-- how many of the batches before a run and of those that it accepted its answers make sure of
+abbrev pub made_sure : List Batch → List Op → List Outcome → ℕ
+made_sure before ops outcomes = if has_covering ops outcomes then length before + covered ops outcomes else 0
+
+-- the contents behind a beginning of the batches that has at least so many of them
+abbrev pub IsBeginning : Contents → ℕ → List Batch → Contents → Type 0
+IsBeginning m least batches found = ∥ ((count : ℕ) × (least ≤ count) × (count ≤ length batches) × (found ≡ after_batches m (take count batches))) ∥₁
+
+-- what a crash behind these operations may leave: a beginning of the batches before the run, of those that it accepted and of the one in flight, with all that it made sure of
+abbrev pub IsAllowedAfter : Contents → List Batch → List Op → List Outcome → List Batch → Contents → Type 0
+IsAllowedAfter m before ops outcomes flying found = IsBeginning m (made_sure before ops outcomes) ((before ++ accepted ops outcomes) ++ flying) found
+
+-- the batch of the next operation
+abbrev pub next_in_flight : List Op → List Batch
+next_in_flight [] = []
+next_in_flight (op ∷ ops) = in_flight op
+
+-- .. in one of the operations, or behind the last
+abbrev pub IsAllowedInRun : Contents → List Batch → List Op → List Outcome → Contents → Type 0
+IsAllowedInRun m before ops outcomes found = (k : ℕ) × (k ≤ length ops) × IsAllowedAfter m before (take k ops) (take k outcomes) (next_in_flight (drop k ops)) found
+
+-- each outcome of a crash at this moment whose damage can be told is allowed at the end of the run
+abbrev pub LeavesAfter : Path → Contents → List Batch → List Op → List Outcome → Directory → Type 0
+LeavesAfter folder m before ops outcomes n = (d : Left) → Leaves n d → IsDetectable (log_path folder) first_file n d → IsAllowedAfter m before ops outcomes [] (found_after folder n d)
+
+-- .. is allowed at one of its operations, or at the end
+abbrev pub LeavesInRun : Path → Contents → List Batch → List Op → List Outcome → Directory → Type 0
+LeavesInRun folder m before ops outcomes n = (d : Left) → Leaves n d → IsDetectable (log_path folder) first_file n d → IsAllowedInRun m before ops outcomes (found_after folder n d)

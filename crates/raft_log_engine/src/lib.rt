@@ -3,6 +3,7 @@
 
 pub mod config;
 pub mod engine;
+pub mod laws;
 pub mod script;
 
 pub use config::{Config, RecoveryMode};

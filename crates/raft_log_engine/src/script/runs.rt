@@ -3,8 +3,10 @@ ghost use Rattle.std.specs.Prelude.{◌≡◌, ◌⊎◌, ◌<◌, ◌++◌, [],
 ghost use Rattle.raft_records.specs.Contents.{Contents, after_batches};
 ghost use Rattle.raft_records.specs.Fault.{fault_code};
 ghost use Rattle.raft_records.specs.Item.{Item};
-ghost use Rattle.raft_log_engine.specs.Engine.{contents_of, folder_of, has_failed};
-ghost use Rattle.raft_log_engine.specs.Run.{accepted, accepted_of, AreAnswers, batch_of_acts, IsAnswer, IsWriteRefusal, IsWritten, item_of_act, written};
+ghost use Rattle.raft_files.specs.Moments.{Passes};
+ghost use Rattle.raft_log_engine.specs.Crash.{LeavesAllowed};
+ghost use Rattle.raft_log_engine.specs.Engine.{IsAllSynced, contents_of, directory_of, durable_of, folder_of, has_failed, moments_of, unsynced_of};
+ghost use Rattle.raft_log_engine.specs.Run.{accepted, accepted_of, AreAnswers, batch_of_acts, in_flight, IsAnswer, is_covering, IsWriteRefusal, IsWritten, item_of_act, LeavesAfter, LeavesInRun, with_items, written};
 
 use super::operation::{Act, Op, Outcome};
 use crate::Engine;
@@ -30,6 +32,10 @@ pub fn run<F: FileSystem>(
     ensures contents { IfOk result (λ outcomes. has_failed engine.new ≡ false
         → contents_of engine.new ≡ after_batches (contents_of engine.old) (accepted ops.now outcomes.items)) }
     ensures still { has_failed engine.old ≡ true → has_failed engine.new ≡ true }
+    ensures any_moment { IfOk result (λ outcomes. Passes (moments_of engine.old) (moments_of engine.new) (directory_of engine.new)
+        (LeavesInRun (folder_of engine.old) (durable_of engine.old) (unsynced_of engine.old) ops.now outcomes.items)) }
+    ensures now { IfOk result (λ outcomes. has_failed engine.new ≡ false
+        → LeavesAfter (folder_of engine.old) (durable_of engine.old) (unsynced_of engine.old) ops.now outcomes.items (directory_of engine.new)) }
     ensures folder { folder_of engine.new ≡ folder_of engine.old }
     ensures err { OnErr result (engine.new ≡ engine.old) }
     ensures cause { IfErr result (λ e. e ≡ Fault.Memory) }
@@ -47,6 +53,10 @@ pub(crate) fn run_watched<F: FileSystem>(
     ensures contents { IfOk result (λ ran. has_failed engine.new ≡ false
         → contents_of engine.new ≡ after_batches (contents_of engine.old) (accepted ops.now ran.outcomes.items)) }
     ensures still { has_failed engine.old ≡ true → has_failed engine.new ≡ true }
+    ensures any_moment { IfOk result (λ ran. Passes (moments_of engine.old) (moments_of engine.new) (directory_of engine.new)
+        (LeavesInRun (folder_of engine.old) (durable_of engine.old) (unsynced_of engine.old) ops.now ran.outcomes.items)) }
+    ensures now { IfOk result (λ ran. has_failed engine.new ≡ false
+        → LeavesAfter (folder_of engine.old) (durable_of engine.old) (unsynced_of engine.old) ops.now ran.outcomes.items (directory_of engine.new)) }
     ensures place { IfOk result (λ ran. has_failed engine.old ≡ false
         → MatchOption ran.failed_at (has_failed engine.new ≡ false) (λ place. place < length ops.now × (has_failed engine.new ≡ true))) }
     ensures folder { folder_of engine.new ≡ folder_of engine.old }
@@ -74,6 +84,12 @@ fn step<F: FileSystem>(alloc: Global, engine: &mut Engine<F>, op: &Op) -> Outcom
     ensures contents { has_failed engine.new ≡ false → contents_of engine.new ≡ after_batches (contents_of engine.old) (accepted_of op.now result) }
     ensures still { has_failed engine.old ≡ true → has_failed engine.new ≡ true }
     ensures folder { folder_of engine.new ≡ folder_of engine.old }
+    ensures synced { is_covering op.now result ≡ true → IsAllSynced engine.new }
+    ensures unsynced { has_failed engine.new ≡ false → is_covering op.now result ≡ false
+        → (durable_of engine.new ≡ durable_of engine.old) × (unsynced_of engine.new ≡ unsynced_of engine.old ++ accepted_of op.now result) }
+    ensures any_moment { Passes (moments_of engine.old) (moments_of engine.new) (directory_of engine.new)
+        (LeavesAllowed (folder_of engine.old) (durable_of engine.old) (unsynced_of engine.old ++ in_flight op.now)) }
+    ensures no_moment { has_failed engine.old ≡ true → (moments_of engine.new ≡ moments_of engine.old) × (directory_of engine.new ≡ directory_of engine.old) }
 {
     match op {
         Op::Write(acts, sync) => Outcome::Size(write(alloc, engine, acts, *sync)),
@@ -93,6 +109,12 @@ fn write<F: FileSystem>(
     ensures contents { has_failed engine.new ≡ false → contents_of engine.new ≡ after_batches (contents_of engine.old) (written acts.now result) }
     ensures still { has_failed engine.old ≡ true → has_failed engine.new ≡ true }
     ensures folder { folder_of engine.new ≡ folder_of engine.old }
+    ensures synced { OnOk result (sync ≡ true → IsAllSynced engine.new) }
+    ensures unsynced { OnOk result (sync ≡ false → (durable_of engine.new ≡ durable_of engine.old) × (unsynced_of engine.new ≡ unsynced_of engine.old ++ written acts.now result)) }
+    ensures refused { OnErr result (has_failed engine.new ≡ false → (durable_of engine.new ≡ durable_of engine.old) × (unsynced_of engine.new ≡ unsynced_of engine.old)) }
+    ensures any_moment { Passes (moments_of engine.old) (moments_of engine.new) (directory_of engine.new)
+        (LeavesAllowed (folder_of engine.old) (durable_of engine.old) (unsynced_of engine.old ++ with_items (batch_of_acts acts.now))) }
+    ensures no_moment { has_failed engine.old ≡ true → (moments_of engine.new ≡ moments_of engine.old) × (directory_of engine.new ≡ directory_of engine.old) }
 {
     let mut batch = build(alloc, acts)?;
     engine.write(&mut batch, sync)

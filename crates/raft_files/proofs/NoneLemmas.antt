@@ -1,0 +1,104 @@
+-- Files of which a crash leaves no record.
+use Rattle.std.proofs.Common.{◌≡◌, ℕ, ◌+◌, ◌-◌, ◌≤◌, true, false, List, [], ◌∷◌, ◌++◌, length, Option, Some, None, map, refl, ap, sym, subst, ◌∙◌, inl, inr, arith, ltb}
+use Rattle.std.proofs.lemmas.Bool.{cases_Bool}
+use Rattle.raft_records.specs.declared.pipe_log.FileId.{FileId}
+use Rattle.raft_files.specs.declared.format.LogFileFormat.{LogFileFormat}
+use Rattle.raft_files.specs.Header.{header_bytes, header_len}
+use Rattle.raft_files.specs.Outcomes.{File, Change, IsPartOf, overlaid, written, synced_of, settled}
+use Rattle.raft_files.specs.Reading.{Placed, readable_records, readable_batches}
+use Rattle.raft_files.specs.Detectable.{IsBeginningOf, format_of, signature_by, bytes_behind, AreDone, IsDetectableFile}
+use Rattle.raft_files.specs.Records.{KeepsNone}
+use Rattle.raft_files.specs.Writer.{IsStep, IsLengthened, IsAppending, capacity_for}
+use Rattle.raft_files.proofs.HeaderLemmas.{length-header_bytes}
+use Rattle.raft_files.proofs.RecordsLemmas.{readable_without_header, changed_by}
+use Rattle.raft_files.proofs.FreshLemmas.{header_len_within, readable_records-short, length-padded, length-overlaid}
+
+-- what a crash then leaves has no batch
+pub none_left : (id : FileId) (file : File) (left : List ℕ) → KeepsNone id file → IsDetectableFile id file left → readable_batches id left ≡ []
+none_left id file left none detectable = ap (λ rs. map (λ (p : Placed). p.batch) rs) (by_format (format_of left) refl)
+  where
+    by_format : (format : Option LogFileFormat) → format_of left ≡ format → readable_records id left ≡ []
+    by_format None e = readable_without_header id left e
+    by_format (Some format) e = none.moments detectable.newer detectable.upto detectable.moment format (readable_records id left) detectable.beginning (detectable.done format e)
+
+pub nothing_of : (rs left : List Placed) → rs ≡ [] → IsBeginningOf left rs → left ≡ []
+nothing_of rs [] none begins = refl
+nothing_of rs (r ∷ left) none begins = let e : [] ≡ r ∷ (left ++ begins.0) = sym none ∙ begins.1 in absurd cc
+
+-- Files without a change since the last sync.
+
+-- they have one moment
+pub only_moment : (P : List Change → Type 0) → P [] → (newer upto : List Change) → [] ≡ newer ++ upto → P upto
+only_moment P holds [] [] e = holds
+only_moment P holds [] (c ∷ upto) e = cc
+only_moment P holds (c ∷ newer) upto e = cc
+
+pub none_settled : (id : FileId) (bytes : List ℕ) → readable_records id bytes ≡ [] → KeepsNone id (settled bytes)
+none_settled id bytes none = record {
+  latest = refl;
+  moments = λ newer upto e format left begins done. nothing_of _ left (only_moment (λ changes. readable_records id (bytes_behind bytes changes) ≡ []) none newer upto e) begins;
+}
+
+pub none_synced : (id : FileId) (file : File) → KeepsNone id file → KeepsNone id (synced_of file)
+none_synced id file none = record { latest = refl; moments = only_moment Nothing now }
+  where
+    Nothing : List Change → Type 0
+    Nothing upto = (format : LogFileFormat) (left : List Placed) → IsBeginningOf left (readable_records id (bytes_behind file.now upto)) → AreDone (signature_by id format) (upto ++ (file.changes ++ file.older)) left → left ≡ []
+
+    now : Nothing []
+    now format left begins done = none.moments [] file.changes refl format left (subst (λ bytes. IsBeginningOf left (readable_records id bytes)) none.latest begins) done
+
+-- Changes.
+
+pub none_more : (id : FileId) (file : File) (c : Change) (rewritten : Option (List (ℕ × ℕ))) → KeepsNone id file →
+    ((format : LogFileFormat) (left : List Placed) → IsBeginningOf left (readable_records id c.after) → AreDone (signature_by id format) (c ∷ file.changes ++ file.older) left → left ≡ []) → KeepsNone id (changed_by c rewritten file)
+none_more id file c rewritten none moment = record { latest = refl; moments = moments }
+  where
+    Nothing : List Change → Type 0
+    Nothing upto = (format : LogFileFormat) (left : List Placed) → IsBeginningOf left (readable_records id (bytes_behind file.synced upto)) → AreDone (signature_by id format) (upto ++ file.older) left → left ≡ []
+
+    moments : (newer upto : List Change) → c ∷ file.changes ≡ newer ++ upto → Nothing upto
+    moments [] upto e = subst Nothing e moment
+    moments (x ∷ newer) upto e = none.moments newer upto (cc)
+
+-- a file that has no room for a record now, nor had a record that a crash may leave
+pub record KeepsNoneShort (id : FileId) (file : File) : Type 0 where
+  pub none : KeepsNone id file
+  pub short : length file.now ≤ 69
+
+short_more : (id : FileId) (file : File) (c : Change) (rewritten : Option (List (ℕ × ℕ))) → KeepsNone id file → length c.after ≤ 69 → KeepsNoneShort id (changed_by c rewritten file)
+short_more id file c rewritten none short = record {
+  none = none_more id file c rewritten none (λ format left begins done. nothing_of _ left (readable_records-short id c.after short) begins);
+  short = short;
+}
+
+lengthened_short : (id : FileId) (room new_room : ℕ) (old new : File) → new_room ≤ 69 → KeepsNoneShort id old → IsLengthened room new_room old new → KeepsNoneShort id new
+lengthened_short id room new_room old new within short (inl same) = subst (KeepsNoneShort id) (sym same) short
+lengthened_short id room new_room old new within short (inr (grows, inl same)) = subst (KeepsNoneShort id) (sym same) short
+lengthened_short id room new_room old new within short (inr (grows, inr (after, true, done, is))) =
+    subst (KeepsNoneShort id) (sym is) (short_more id old _ old.rewritten short.none (omega (arith, short.short, ap length done, length-padded old.now new_room)))
+lengthened_short id room new_room old new within short (inr (grows, inr (after, false, part, is))) =
+    subst (KeepsNoneShort id) (sym is) (short_more id old _ old.rewritten short.none (omega (arith, short.short, part.no_longer)))
+
+step_short : (id : FileId) (given : List ℕ) (old new : File) → length given ≤ 69 → KeepsNoneShort id old → IsStep (written 0 given) (λ now. overlaid now 0 given) (IsPartOf 0 (length given)) old new → KeepsNoneShort id new
+step_short id given old new within short (inl same) = subst (KeepsNoneShort id) (sym same) short
+step_short id given old new within short (inr (after, true, done, is)) =
+    subst (KeepsNoneShort id) (sym is) (short_more id old _ _ short.none (omega (arith, short.short, ap length done, length-overlaid old.now given)))
+step_short id given old new within short (inr (after, false, part, is)) =
+    subst (KeepsNoneShort id) (sym is) (short_more id old _ _ short.none (omega (arith, short.short, part.no_longer)))
+
+room_of_header : (format : LogFileFormat) (size : ℕ) → size ≤ header_len format.version → capacity_for (header_len format.version) 0 size ≤ 69
+room_of_header format size within = elim (cases_Bool (ltb size (header_len format.version))) [
+  | inl less ↦ rw less (omega (arith, (header_len_within format.version).1))
+  | inr more ↦ rw more (omega (arith, (header_len_within format.version).1))
+]
+
+-- a moment of the writing of a header into a file that is no longer than that
+pub none_appending : (id : FileId) (format : LogFileFormat) (old new : File) → length old.now ≤ header_len format.version → KeepsNone id old →
+    IsAppending (length old.now) (capacity_for (header_len format.version) 0 (length old.now)) 0 (header_bytes format) old new → KeepsNone id new
+none_appending id format old new within none how =
+    let len : length (header_bytes format) ≡ header_len format.version = length-header_bytes format.version format.alignment in
+    let most = (header_len_within format.version).1 in
+    let start : KeepsNoneShort id old = record { none = none; short = omega (arith, most) } in
+    let mid = lengthened_short id (length old.now) (capacity_for (header_len format.version) 0 (length old.now)) old how.0 (room_of_header format (length old.now) within) start how.1 in
+    (step_short id (header_bytes format) how.0 new (omega (arith, len, most)) mid how.2).none

@@ -1,0 +1,206 @@
+-- What a truncation to the end of what is read leaves of a file.
+use Rattle.std.proofs.Common.{◌≡◌, ◌⊎◌, ℕ, ◌+◌, ◌-◌, ◌≤◌, min, max, Bool, true, false, List, [], ◌∷◌, ◌++◌, length, take, Option, Some, None, Contains, refl, ap, sym, subst, ◌∙◌, inl, inr, arith}
+use Rattle.std.specs.Prelude.{◌||◌}
+use Rattle.std.proofs.lemmas.List.{append-nil, take-take, length-append, length-take-le}
+use Rattle.std.proofs.lemmas.List.Elements.{Contains-append_left, Contains-append_cases, Contains-push_cases}
+use Rattle.raft_records.specs.Item.{Batch}
+use Rattle.raft_records.specs.declared.pipe_log.FileId.{FileId}
+use Rattle.raft_files.specs.declared.format.LogFileFormat.{LogFileFormat}
+use Rattle.raft_files.specs.Header.{header_len}
+use Rattle.raft_files.specs.Outcomes.{File, Change, is_touched, Outcome, IsCutOf, cut_to}
+use Rattle.raft_files.specs.Reading.{Placed, placed_by, end_of_records, Reading, records_behind, reading, records_of, readable_records, end_of, end_of_reading}
+use Rattle.raft_files.specs.Detectable.{IsBeginningOf, signature_by, AreDone}
+use Rattle.raft_files.specs.Records.{ReadsFirst, KeepsRecords, IsEmptyFrom, HoldsRecords, KeepsNone}
+use Rattle.raft_files.proofs.DetectableLemmas.{beginning_itself}
+use Rattle.raft_files.proofs.ExtentLemmas.{header_of_takes}
+use Rattle.raft_files.proofs.ReadingLemmas.{StaysBefore, placed_by_past, end_of_placed-from, end_of_placed-within, records_stay, reading_is, reading-kept}
+use Rattle.raft_files.proofs.NoneLemmas.{nothing_of, none_more}
+use Rattle.raft_files.proofs.RecordsLemmas.{first_placed, end_of_front, reads_first-kept, nothing_behind, left_of_held, format_of-held, changed_by, keeps_more, not_within, holds_same, IsCutRefused, empty_cut_refused, same_cut_refused}
+
+-- The records up to the end of the reading.
+
+pub header_within : (id : FileId) (bytes : List ℕ) (r : Reading) → reading id bytes ≡ Some r → header_len r.format.version ≤ length bytes
+header_within id bytes r e =
+    let is = reading_is id bytes r e in
+    let header = header_of_takes bytes r.format is.rest is.header in
+    omega (arith, header.long, ap length header.whole, length-append header.front is.rest)
+
+pub end_of_read_within : (id : FileId) (bytes : List ℕ) (r : Reading) → reading id bytes ≡ Some r → r.end ≤ length bytes
+end_of_read_within id bytes r e =
+    let is = reading_is id bytes r e in
+    let from = header_len r.format.version in
+    let within = end_of_placed-within (records_stay r.format.alignment (signature_by id r.format) bytes) (length bytes) from (header_within id bytes r e) in
+    omega (arith, within, is.end, ap (λ rs. end_of_records from rs) is.records)
+
+-- bytes cut where the reading ends are read to their end
+pub reading-cut : (id : FileId) (bytes : List ℕ) (r : Reading) → reading id bytes ≡ Some r → reading id (take r.end bytes) ≡ Some r
+reading-cut id bytes r e =
+    let is = reading_is id bytes r e in
+    let format = r.format in
+    let from = header_len format.version in
+    let cut = take r.end bytes in
+    let ends : end_of_records from r.records ≡ r.end = sym is.end in
+    let len : length cut ≡ r.end = length-take-le r.end bytes (end_of_read_within id bytes r e) in
+    let none : records_behind id format cut (end_of_records from r.records) ≡ [] =
+    placed_by_past (records_stay format.alignment (signature_by id format) cut) (length cut) (end_of_records from r.records) (omega (arith, len, ends)) in
+    reading-kept id r.end bytes cut r r.records [] (sym (take-take r.end r.end bytes (omega arith))) e (sym (append-nil r.records)) (omega (arith, ends))
+    ∙ ap (λ rs. Some (record { format = format; records = r.records ++ rs; end = end_of_records (end_of_records from r.records) rs })) none
+    ∙ ap (λ rs. Some (record { format = format; records = rs; end = end_of_records from r.records })) (append-nil r.records)
+    ∙ ap (λ n. Some (record { format = format; records = r.records; end = n })) ends
+
+-- they hold all records
+pub holds_read : (id : FileId) (bytes : List ℕ) (r : Reading) → reading id bytes ≡ Some r → HoldsRecords id r.format r.records r.end bytes
+holds_read id bytes r e = record { within = end_of_read_within id bytes r e; read = reading-cut id bytes r e }
+
+contains_cases : (x r : Placed) (xs : List Placed) → Contains (x ∷ xs) r → (x ≡ r) ⊎ Contains xs r
+contains_cases x r xs has = elim (Contains-append_cases (x ∷ []) xs r has) [
+  | inr behind ↦ inr behind
+  | inl first ↦ elim (Contains-push_cases [] x r first) [
+    | inl none ↦ absurd (omega (arith, none.1))
+    | inr same ↦ inl same
+  ]
+]
+
+-- each record ends before the end of all
+ends_before : {end : ℕ} {place : ℕ → ℕ} {found : ℕ → Option (Batch × ℕ)} → StaysBefore end place found → (n at : ℕ) (rs : List Placed) → placed_by n place found at ≡ rs → (r : Placed) → Contains rs r → r.at + r.len ≤ end_of_records at rs
+ends_before {place = place} {found = found} stays n at [] e r has = absurd (omega (arith, has.1))
+ends_before {place = place} {found = found} stays n at (x ∷ xs) e r has =
+    let first = first_placed place found n at x xs e in
+    elim (contains_cases x r xs has) [
+      | inl same ↦
+          let behind = end_of_placed-from stays first.limit (x.at + x.len) in
+          omega (arith, behind, ap (λ (p : Placed). p.at + p.len) same, ap (λ rs. end_of_records (x.at + x.len) rs) first.others)
+      | inr further ↦ ends_before stays first.limit (x.at + x.len) xs (sym first.others) r further
+    ]
+
+read_ends_before : (id : FileId) (bytes : List ℕ) (read : Reading) → reading id bytes ≡ Some read → (r : Placed) → Contains read.records r → r.at + r.len ≤ read.end
+read_ends_before id bytes read e r has =
+    let is = reading_is id bytes read e in
+    omega (arith, is.end, ends_before (records_stay read.format.alignment (signature_by id read.format) bytes) (length bytes) (header_len read.format.version) read.records (sym is.records) r has)
+
+-- A change behind the records that are read.
+
+-- a change behind them takes no part in whether records are done
+are_done_before : (by : Option ℕ) (c : Change) (changes : List Change) (records : List Placed) → ((r : Placed) → Contains records r → r.at + r.len ≤ c.from) → AreDone by (c ∷ changes) records → AreDone by changes records
+are_done_before by c changes records before done r has later d earlier e refused with_byte =
+    let i = with_byte.0 in
+    let outside : is_touched (c ∷ later) i ≡ false = ap (λ b. b || is_touched later i) (not_within c.from c.size i (inl (omega (arith, with_byte.2, before r has)))) ∙ with_byte.4 in
+    done r has (c ∷ later) d earlier (ap (λ cs. c ∷ cs) e) refused (i, with_byte.1, with_byte.2, with_byte.3, outside)
+
+-- a change that leaves the bytes before a place, and behind it nothing that it was to write
+pub record IsBehind (size : ℕ) (old : List ℕ) (c : Change) (changes : List Change) : Type 0 where
+  pub from : size ≤ c.from
+  pub long : size ≤ length c.after
+  pub same : take size old ≡ take size c.after
+  pub empty : IsEmptyFrom size c.after (c ∷ changes)
+
+-- what a crash leaves of it was left before
+left_before : (id : FileId) (by : Option ℕ) (old : List ℕ) (c : Change) (changes : List Change) (r : Reading) → reading id old ≡ Some r → IsBehind r.end old c changes → (left : List Placed) → IsBeginningOf left (readable_records id c.after) → AreDone by (c ∷ changes) left →
+    IsBeginningOf left (readable_records id old) × AreDone by changes left
+left_before id by old c changes r e behind left begins done =
+    let holds = holds_same id r.format r.records r.end old c.after (holds_read id old r e) behind.same behind.long in
+    let first : IsBeginningOf left r.records = left_of_held id r.format by r.records r.end c.after (c ∷ changes) holds behind.empty left begins done in
+    let before : (q : Placed) → Contains left q → q.at + q.len ≤ c.from = λ q has.
+    omega (arith, behind.from, read_ends_before id old r e q (subst (λ rs. Contains rs q) (sym first.1) (Contains-append_left left first.0 q has))) in
+    (subst (λ rs. IsBeginningOf left rs) (sym (ap (λ q. records_of q) e)) first, are_done_before by c changes left before done)
+
+-- .. so the records are kept
+keeps_behind : (id : FileId) (format : LogFileFormat) (records : List Placed) (synced : ℕ) (file : File) (c : Change) (keeps : KeepsRecords id format records synced file) (reads : ReadsFirst id format (take synced records) file.now) →
+    IsBehind reads.end file.now c (file.changes ++ file.older) → KeepsRecords id format records synced (changed_by c file.rewritten file) × ReadsFirst id format (take synced records) c.after
+keeps_behind id format records synced file c keeps reads behind =
+    let r : Reading = record { format = format; records = reads.all; end = reads.end } in
+    let holds = holds_same id format reads.all reads.end file.now c.after (holds_read id file.now r reads.read) behind.same behind.long in
+    let is = reading_is id file.now r reads.read in
+    let from = header_len format.version in
+    let front = take synced records in
+    let before : end_of_records from front ≤ reads.end = omega (
+      arith,
+      end_of_front (records_stay format.alignment (signature_by id format) file.now) (length file.now) from front reads.first.0 (sym is.records ∙ reads.first.1),
+      ap (λ rs. end_of_records from rs) reads.first.1,
+      is.end,
+    ) in
+    let moment : (left : List Placed) → IsBeginningOf left (readable_records id c.after) → AreDone (signature_by id format) (c ∷ file.changes ++ file.older) left → IsBeginningOf left records = λ left begins done.
+    let old = left_before id (signature_by id format) file.now c (file.changes ++ file.older) r reads.read behind left begins done in
+    keeps.moments [] file.changes refl left (subst (λ bytes. IsBeginningOf left (readable_records id bytes)) keeps.latest old.0) old.1 in (
+      keeps_more id format records records synced file c file.rewritten keeps (beginning_itself records) (format_of-held id format reads.all reads.end c.after holds) moment (omega (arith, before, behind.from)),
+      reads_first-kept id format front reads.end file.now c.after reads behind.same before,
+    )
+
+-- Files of which a crash leaves no record.
+
+none_behind : (id : FileId) (file : File) (c : Change) (r : Reading) → KeepsNone id file → reading id file.now ≡ Some r → IsBehind r.end file.now c (file.changes ++ file.older) → KeepsNone id (changed_by c file.rewritten file)
+none_behind id file c r none e behind = none_more id file c file.rewritten none (λ format left begins done.
+    let old = left_before id (signature_by id format) file.now c (file.changes ++ file.older) r e behind left begins done in
+    none.moments [] file.changes refl format left (subst (λ bytes. IsBeginningOf left (readable_records id bytes)) none.latest old.0) old.1)
+
+-- what is read where a change left nothing that it was to write isn't done
+nothing_read : (id : FileId) (by : Option ℕ) (bytes : List ℕ) (changes : List Change) → IsEmptyFrom 0 bytes changes → (left : List Placed) → IsBeginningOf left (readable_records id bytes) → AreDone by changes left → left ≡ []
+nothing_read id by bytes changes empty left begins done = by_reading (reading id bytes) refl begins
+  where
+    by_reading : (read : Option Reading) → reading id bytes ≡ read → IsBeginningOf left (records_of read) → left ≡ []
+    by_reading None e first = nothing_of [] left refl first
+    by_reading (Some r) e first =
+        let is = reading_is id bytes r e in
+        nothing_behind r.format.alignment (signature_by id r.format) by bytes changes 0 empty (length bytes) (header_len r.format.version) (omega arith) left (first.0, sym is.records ∙ first.1) done
+
+-- Truncations.
+
+-- what a truncation notes
+abbrev pub cut_change : ℕ → Bool → List ℕ → List ℕ → Change
+cut_change size true after old = record { from = min (length after) (length old); size = max (length after) (length old) - min (length after) (length old); given = []; is_done = true; after = after }
+cut_change size false after old = record { from = min size (length old); size = length old - min size (length old); given = []; is_done = false; after = after }
+
+pub cut_is : (size : ℕ) (is_done : Bool) (after : List ℕ) (file : File) → cut_to size is_done after file ≡ changed_by (cut_change size is_done after file.now) file.rewritten file
+cut_is size true after file = refl
+cut_is size false after file = refl
+
+cut_behind : (size : ℕ) (is_done : Bool) (after old : List ℕ) (changes : List Change) → size ≤ length old → Outcome is_done (take size old) (IsCutOf size old) after → IsBehind size old (cut_change size is_done after old) changes
+cut_behind size true after old changes within done =
+    let len : length after ≡ size = ap length done ∙ length-take-le size old within in
+    record {
+      from = omega arith;
+      long = omega arith;
+      same = sym (take-take size size old (omega arith)) ∙ ap (λ b. take size b) (sym done);
+      empty = λ i above below. absurd (omega arith);
+    }
+cut_behind size false after old changes within part =
+    let refused : IsCutRefused size old (cut_change size false after old) = record { from = omega arith; to = omega arith; none = refl; refused = refl; part = part } in
+    record {
+      from = omega arith;
+      long = omega (arith, part.no_shorter);
+      same = same_cut_refused size old (cut_change size false after old) within refused;
+      empty = empty_cut_refused size old (cut_change size false after old) changes refused;
+    }
+
+-- a truncation to the end of the reading keeps the records
+pub keeps_cut : (id : FileId) (format : LogFileFormat) (records : List Placed) (synced size : ℕ) (is_done : Bool) (after : List ℕ) (file : File) → KeepsRecords id format records synced file → ReadsFirst id format (take synced records) file.now →
+    size ≡ end_of_reading id file.now → Outcome is_done (take size file.now) (IsCutOf size file.now) after →
+    let cut = cut_to size is_done after file in KeepsRecords id format records synced cut × ReadsFirst id format (take synced records) cut.now
+keeps_cut id format records synced size is_done after file keeps reads cuts outcome =
+    let c = cut_change size is_done after file.now in
+    let size_is : size ≡ reads.end = cuts ∙ ap end_of reads.read in
+    let within = end_of_read_within id file.now _ reads.read in
+    let behind = cut_behind size is_done after file.now (file.changes ++ file.older) (omega (arith, size_is, within)) outcome in
+    subst (λ f. KeepsRecords id format records synced f × ReadsFirst id format (take synced records) f.now) (sym (cut_is size is_done after file))
+    (keeps_behind id format records synced file c keeps reads (subst (λ n. IsBehind n file.now c (file.changes ++ file.older)) size_is behind))
+
+-- .. and adds none
+pub none_cut : (id : FileId) (size : ℕ) (is_done : Bool) (after : List ℕ) (file : File) → KeepsNone id file → size ≡ end_of_reading id file.now → Outcome is_done (take size file.now) (IsCutOf size file.now) after →
+    KeepsNone id (cut_to size is_done after file)
+none_cut id size is_done after file none cuts outcome = subst (KeepsNone id) (sym (cut_is size is_done after file)) (by_reading (reading id file.now) refl)
+  where
+    c : Change
+    c = cut_change size is_done after file.now
+
+    past : List Change
+    past = file.changes ++ file.older
+
+    by_reading : (read : Option Reading) → reading id file.now ≡ read → KeepsNone id (changed_by c file.rewritten file)
+    by_reading None e =
+        let size_is : size ≡ 0 = cuts ∙ ap end_of e in
+        let behind = cut_behind size is_done after file.now past (omega (arith, size_is)) outcome in
+        none_more id file c file.rewritten none (λ format left. nothing_read id (signature_by id format) c.after (c ∷ past) (subst (λ n. IsEmptyFrom n c.after (c ∷ past)) size_is behind.empty) left)
+    by_reading (Some r) e =
+        let size_is : size ≡ r.end = cuts ∙ ap end_of e in
+        let behind = cut_behind size is_done after file.now past (omega (arith, size_is, end_of_read_within id file.now r e)) outcome in
+        none_behind id file c r none e (subst (λ n. IsBehind n file.now c past) size_is behind)

@@ -1,0 +1,8 @@
+use Rattle.raft_log_engine.proofs.AllowedLemmas.{contents_left, contents_restarted}
+use Rattle.raft_log_engine.proofs.laws.crash_leaves_contents.Goals as goal
+
+pub returns-clause-left : goal.returns-clause-left
+returns-clause-left c = contents_left
+
+pub returns-clause-restarted : goal.returns-clause-restarted
+returns-clause-restarted c = contents_restarted
