@@ -1,9 +1,11 @@
 pub mod AgreesLemmas
-pub mod CrashLemmas
+pub mod WrittenLemmas
 pub mod AllowedLemmas
 pub mod LogLemmas
 pub mod OpenLemmas
 pub mod ImageLemmas
 pub mod RunLemmas
 pub mod RunCrashLemmas
-pub mod OpenedLemmas
+pub mod RecoverLemmas
+pub mod StaysLemmas
+pub mod ReopenLemmas

@@ -8,3 +8,4 @@ pub mod Engine
 pub mod Image
 pub mod Run
 pub mod Crash
+pub mod Written

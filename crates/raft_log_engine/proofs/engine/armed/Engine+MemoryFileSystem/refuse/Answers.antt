@@ -2,7 +2,7 @@ use Rattle.std.proofs.Common.{subst, sym}
 use Rattle.raft_files.specs.Records.{IsKept}
 use Rattle.raft_tables.specs.Tables as held
 use Rattle.raft_log_engine.specs.Agrees.{Agrees}
-use Rattle.raft_log_engine.specs.Crash.{WritesLog}
+use Rattle.raft_log_engine.specs.Written.{WritesLog}
 use Rattle.raft_log_engine.specs.Log.{first_file}
 use Rattle.raft_log_engine.proofs.engine.armed.Engine+MemoryFileSystem.refuse.Goals as goal
 
