@@ -6,6 +6,7 @@ pub mod OpenLemmas
 pub mod ImageLemmas
 pub mod RunLemmas
 pub mod RunCrashLemmas
+pub mod TrialLemmas
 pub mod RecoverLemmas
 pub mod StaysLemmas
 pub mod ReopenLemmas

@@ -142,7 +142,7 @@ module _ (m : Contents) (before : List Batch) (ops : List Op) (outcomes : List O
       let flying : drop (length ops) (ops ++ op ∷ []) ≡ op ∷ [] = drop-append_seam ops (op ∷ []) in
       (length ops, omega (arith, length-append ops (op ∷ [])), rw (ops_is, outcomes_are, flying) found)
 
-more_in_flight : (m : Contents) (before : List Batch) (ops : List Op) (outcomes : List Outcome) (flying : List Batch) (found : Contents) → IsAllowedAfter m before ops outcomes [] found → IsAllowedAfter m before ops outcomes flying found
+pub more_in_flight : (m : Contents) (before : List Batch) (ops : List Op) (outcomes : List Outcome) (flying : List Batch) (found : Contents) → IsAllowedAfter m before ops outcomes [] found → IsAllowedAfter m before ops outcomes flying found
 more_in_flight m before ops outcomes flying found allowed = ∥∥₁_map allowed (λ a.
     let batches = before ++ accepted ops outcomes in
     let same : batches ++ [] ≡ batches = append-nil batches in

@@ -9,3 +9,4 @@ pub mod Image
 pub mod Run
 pub mod Crash
 pub mod Written
+pub mod Trial
