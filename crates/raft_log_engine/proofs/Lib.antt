@@ -10,3 +10,4 @@ pub mod RecoverLemmas
 pub mod StaysLemmas
 pub mod ReopenLemmas
 pub mod UnfoundedLemmas
+pub mod TrialLemmas
