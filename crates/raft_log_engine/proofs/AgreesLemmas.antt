@@ -74,7 +74,7 @@ pub after_batches-append : (m : Contents) (batches : List Batch) (b : Batch) →
 after_batches-append m [] b = refl
 after_batches-append m (c ∷ cs) b = after_batches-append (after_batch m c) cs b
 
-are_plain-append : (batches : List Batch) (b : Batch) → are_plain batches ≡ true → list_all (λ (item : Item). is_put_or_delete item.content) b ≡ true → are_plain (batches ++ b ∷ []) ≡ true
+pub are_plain-append : (batches : List Batch) (b : Batch) → are_plain batches ≡ true → list_all (λ (item : Item). is_put_or_delete item.content) b ≡ true → are_plain (batches ++ b ∷ []) ≡ true
 are_plain-append [] b all plain = ap (λ x. x && true) plain
 are_plain-append (c ∷ cs) b all plain = both (list_all (λ (item : Item). is_put_or_delete item.content) c) (are_plain cs) all (are_plain-append cs b)
   where

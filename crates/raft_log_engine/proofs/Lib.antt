@@ -5,5 +5,5 @@ pub mod LogLemmas
 pub mod OpenLemmas
 pub mod RecoverLemmas
 pub mod StaysLemmas
-pub mod UnfoundedLemmas
 pub mod ReopenLemmas
+pub mod UnfoundedLemmas
