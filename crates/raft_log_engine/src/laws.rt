@@ -1,5 +1,5 @@
 //! What a crash leaves of an engine, whatever calls came before.
-ghost use Rattle.std.specs.Prelude.{◌≡◌, ◌≢◌, ℕ, List, [], true};
+ghost use Rattle.std.specs.Prelude.{◌≡◌, List, []};
 ghost use Rattle.raft_records.specs.Contents.{Contents};
 ghost use Rattle.raft_records.specs.Item.{Batch};
 ghost use Rattle.raft_files.specs.Detectable.{IsDetectable};
@@ -20,12 +20,4 @@ pub fn crash_leaves_contents()
         → IsAllowed m batches (contents_at folder r) × ((mode : RecoveryMode) → (mode ≡ AbsoluteConsistency → ⊥) → IsOpenable mode folder r) }
     ensures restarted { (folder : Path) (m : Contents) (batches : List Batch) (n r : Directory) (d : Left) → Leaves n d → IsDetectable (log_path folder) first_file n d → IsRestarted n d r → KeepsContents folder m batches n
         → KeepsContents folder (found_after folder n d) [] r }
-{}
-
-/// In a mode that tolerates broken bytes a log of puts and deletes can be opened after each crash whose damage can be
-/// told: `open_in_order` then refuses it for no damage.
-pub fn crash_leaves_a_log_that_opens()
-    ensures value { (mode : RecoveryMode) (folder : Path) (batches : List Batch) (synced : ℕ) (n m : Directory) (d : Left)
-        → mode ≢ AbsoluteConsistency → are_plain batches ≡ true → IsKept (log_path folder) first_file batches synced n
-        → Leaves n d → IsDetectable (log_path folder) first_file n d → IsRestarted n d m → IsOpenable mode folder m }
 {}
