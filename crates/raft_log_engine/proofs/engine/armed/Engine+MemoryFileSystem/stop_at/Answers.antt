@@ -1,6 +1,5 @@
 use Rattle.std.proofs.Common.{subst, sym}
-use Rattle.raft_files.specs.Records.{IsKept}
-use Rattle.raft_log_engine.specs.Log.{first_file}
+use Rattle.raft_log_engine.specs.Crash.{KeepsPlain}
 use Rattle.raft_log_engine.proofs.engine.armed.Engine+MemoryFileSystem.stop_at.Goals as goal
 
 -- its files are the same
@@ -15,5 +14,5 @@ invariant_of-self c =
       holds = e.holds;
       few = e.few;
       logged = rw same e.logged;
-      left = subst (λ n. ∥ IsKept e.writer.path first_file e.kept.batches e.kept.synced n ∥₁) (sym same) e.left;
+      left = subst (λ n. ∥ KeepsPlain e.writer.path e.kept.batches e.kept.synced n ∥₁) (sym same) e.left;
     }
