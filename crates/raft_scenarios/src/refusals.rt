@@ -1,7 +1,8 @@
 //! Operations with one call to the files refused.
 
 use crate::states::{
-    EMPTY, State, after, is_allowed, is_done, operations, settings, state_of, value_of,
+    EMPTY, State, after, first_refused, is_allowed, is_done, operations, settings, state_of,
+    value_of,
 };
 use raft_files::{Choice, FileSystem, FsCall, IoKind, MemoryFileSystem};
 use raft_log_engine::Engine;
@@ -70,10 +71,6 @@ fn run_over<F: FileSystem + Drop>(alloc: Global, ops: &[Op], files: F) -> Result
             files: refused.file_system,
         }),
     }
-}
-
-fn first_refused(outcomes: &[Outcome]) -> Option<usize> {
-    outcomes.iter().position(|outcome| !is_done(outcome))
 }
 
 fn found_in<F: FileSystem + Drop>(alloc: Global, files: F) -> Result<State, Fail> {

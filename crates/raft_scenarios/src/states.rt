@@ -90,6 +90,11 @@ pub(crate) fn is_done(outcome: &Outcome) -> bool {
     }
 }
 
+/// The place of the first operation that was refused.
+pub(crate) fn first_refused(outcomes: &[Outcome]) -> Option<usize> {
+    outcomes.iter().position(|outcome| !is_done(outcome))
+}
+
 // Whether all that was done before is safe behind the operation.
 fn covers(op: &Op) -> bool {
     match op {

@@ -1,6 +1,6 @@
 //! Operations that are stopped at each call that changes files, and then crashed in many ways.
 
-use crate::states::{is_allowed, is_done, operations, settings, state_of};
+use crate::states::{first_refused, is_allowed, is_done, operations, settings, state_of};
 use raft_files::Choice;
 use raft_log_engine::script::{Op, Trial, trial};
 use std::alloc::Global;
@@ -9,8 +9,9 @@ use std::test::Fail;
 
 const MAX_CALLS: u64 = 100;
 
-// The trial found something, and what may be found.
+// The trial found what may be found. Behind the stop each change is refused, so that the engine fails at the first.
 fn holds(rt: &impl Abort, ops: &[Op], trial: &Trial) {
+    assert_eq!(rt; trial.failed_at, first_refused(&trial.outcomes));
     match &trial.opened {
         Ok(image) => {
             let found = state_of(image);
