@@ -1,5 +1,6 @@
 pub mod Walks
 pub mod SlotLemmas
+pub mod SavedLemmas
 pub mod MomentsLemmas
 pub mod DirectoryLemmas
 pub mod MemoryLemmas

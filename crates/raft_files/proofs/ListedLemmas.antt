@@ -1,7 +1,7 @@
 -- The keys of a directory are those of its map, in order.
 use Rattle.std.proofs.Common.{◌≡◌, Bool, true, false, cond, List, [], ◌∷◌, map, Option, Some, None, refl, sym, ◌∙◌, ap, subst}
-use Rattle.std.specs.Prelude.{String, ◌&&◌}
-use Rattle.std.specs.List.{AllByRecursion, filter_map}
+use Rattle.std.specs.Prelude.{String, ◌&&◌, ◌||◌}
+use Rattle.std.specs.List.{AllByRecursion, filter_map, list_any}
 use Rattle.std.specs.List.Sorted.{IsStrictlySortedBy}
 use Rattle.std.specs.declared.alloc.Global.{Global}
 use Rattle.std.specs.declared.cmp.Ordering.{Ordering}
@@ -48,3 +48,7 @@ filter_map_some f path name paths is = rw is refl
 
 pub filter_map_none : (f : Path → Option Path) (path : Path) (paths : List Path) → f path ≡ None → filter_map f (path ∷ paths) ≡ filter_map f paths
 filter_map_none f path paths is = rw is refl
+
+pub any_by_bytes : (test : Path → Bool) (keys : List (String Global)) → list_any test (map string_bytes keys) ≡ list_any (λ k. test (string_bytes k)) keys
+any_by_bytes test [] = refl
+any_by_bytes test (k ∷ keys) = ap (λ b. test (string_bytes k) || b) (any_by_bytes test keys)

@@ -1,20 +1,21 @@
 -- What stands below a folder, and which folders are on the way to a path.
-use Rattle.std.proofs.Common.{◌≡◌, ◌≢◌, ℕ, ◌+◌, ◌<◌, ◌≤◌, Bool, true, false, cond, eqb, ◌||◌, List, [], ◌∷◌, ◌++◌, length, get_or, drop, Option, Some, None, refl, sym, ◌∙◌, ap, subst, inl, inr, ◌⊎◌, Decides, append_assoc, arith}
+use Rattle.std.proofs.Common.{◌≡◌, ◌≢◌, ℕ, ◌+◌, ◌<◌, ◌≤◌, Bool, true, false, cond, eqb, ◌||◌, List, [], ◌∷◌, ◌++◌, length, get_or, take, drop, take-append-drop, lit<, Option, Some, None, refl, sym, ◌∙◌, ap, subst, inl, inr, ◌⊎◌, Decides, append_assoc, arith}
 use Rattle.std.specs.Prelude.{is_some, not, String}
 use Rattle.std.specs.List.{list_any}
 use Rattle.std.specs.Option.{MatchOption}
 use Rattle.std.specs.String.{string_bytes}
-use Rattle.std.specs.Str.{bytes_eq}
-use Rattle.std.specs.Str.Pattern.{FindsCharPrefix}
+use Rattle.std.specs.Str.{NoCharPasses, bytes_eq}
+use Rattle.std.specs.Str.Pattern.{FindsCharPrefix, HasCharAt}
 use Rattle.std.specs.declared.alloc.Global.{Global}
 use denote.Ref.{Bor}
 use Rattle.std.proofs.lemmas.Bool.{eq-eqb, eqb-true, false_from_ne_true}
 use Rattle.std.proofs.lemmas.Bool.Decides.{Decides-eqb, same_from_decides}
 use Rattle.std.proofs.lemmas.Slice.Eq.{bytes_eq-Decides}
-use Rattle.std.proofs.lemmas.Str.Pattern.{strip_prefix_char}
+use Rattle.std.proofs.lemmas.Str.Pattern.{NoCharPasses-char, drop_at_char, strip_prefix_char}
+use Rattle.std.proofs.lemmas.List.Elements.{All-from_get_or}
 use Rattle.std.proofs.lemmas.List.{append_cancel_left, append-nil, length-append}
 use Rattle.raft_files.specs.Directory.{Path, Directory, after_folder, is_on_way, folder_made, name_in, kept_name}
-use Rattle.raft_files.specs.PathParts.{path_below}
+use Rattle.raft_files.specs.PathParts.{IsName, IsParent, path_below}
 use Rattle.raft_files.specs.Memory.{Files, folders_of, directory_of}
 
 pub after_folder-below : (folder rest : Path) → after_folder folder (folder ++ 47 ∷ rest) ≡ Some rest
@@ -177,3 +178,19 @@ name_in-path_below (c ∷ folder) path = refl
 -- what holds a slash is no name
 pub name_in_none : (folder path name : Path) → path_below folder path ≡ Some name → list_any (λ c. eqb c 47) name ≡ true → name_in folder path ≡ None
 name_in_none folder path name below slash = name_in-path_below folder path ∙ ap kept_name below ∙ ap (λ b. cond (not b) (Some name) None) slash
+
+no_slash : (path : Path) → NoCharPasses (λ d. eqb d 47) path → IsName path
+no_slash path none = All-from_get_or (λ c. c ≢ 47) path 0 (λ i within. NoCharPasses-char 47 path i none (lit< tt) within)
+
+-- a path without a slash stands in the root
+pub parent_root : (path : Path) → NoCharPasses (λ d. eqb d 47) path → IsParent path []
+parent_root path none = inl (no_slash path none, refl)
+
+-- what stands before the last slash that was found
+pub parent_before : (path folder : Path) (i j : ℕ) → NoCharPasses (λ d. eqb d 47) (drop j path) → HasCharAt 47 path i j → folder ≡ take i path → IsParent path folder
+parent_before path folder i j none slash is =
+    inr (
+      drop j path,
+      no_slash (drop j path) none,
+      sym (take-append-drop i path) ∙ ap (λ (l : Path). take i path ++ l) (drop_at_char 47 path i j slash (lit< tt)) ∙ ap (λ (l : Path). l ++ 47 ∷ drop j path) (sym is),
+    )

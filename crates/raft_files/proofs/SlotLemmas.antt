@@ -29,11 +29,11 @@ lengthened bytes mid size is =
     let whole : length bytes ≤ max size (length bytes) = omega arith in
     is ∙ ap (λ (l : List ℕ). l ++ replicate (max size (length bytes) - length bytes) 0) (take_all _ _ whole) ∙ ap (λ (n : ℕ). bytes ++ replicate n 0) more
 
-split_at : (i at : ℕ) → (i < at) ⊎ (at ≤ i)
+pub split_at : (i at : ℕ) → (i < at) ⊎ (at ≤ i)
 split_at i at = elim (leb_tells at i) [ inl at_most ↦ inr at_most.1 | inr above ↦ inl above.1 ]
 
 -- a read of the bytes with zeros behind them is a read of the bytes
-get_or-padded : (bytes : List ℕ) (n i : ℕ) → get_or (padded bytes n) i 0 ≡ get_or bytes i 0
+pub get_or-padded : (bytes : List ℕ) (n i : ℕ) → get_or (padded bytes n) i 0 ≡ get_or bytes i 0
 get_or-padded bytes n i = elim (split_at i (length bytes)) [
   | inl inside ↦ get_or-append bytes _ 0 i inside
   | inr past ↦ get_or-append_right bytes (replicate (n - length bytes) 0) (length bytes) i 0 refl past ∙ zeros (n - length bytes) (i - length bytes) ∙ sym (get_or_past bytes i 0 past)

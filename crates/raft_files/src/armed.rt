@@ -1,5 +1,6 @@
 //! Refusals that a test arms in a file system in memory.
-ghost use Rattle.std.specs.Prelude.{◌≡◌, ◌<◌, [], ◌∷◌, ◌++◌, Some, None, OnOk, OnErr, IfErr};
+ghost use Rattle.std.specs.Prelude.{◌≡◌, ◌⊎◌, ◌<◌, [], ◌∷◌, ◌++◌, Some, None, OnOk, OnErr, IfErr, IfSome, IsTrue};
+ghost use Rattle.raft_records.specs.declared.errors.IoKind.TheVariants.{Other};
 ghost use Rattle.raft_files.specs.Choice.{RefusesUnless};
 
 use crate::IoKind;
@@ -38,6 +39,15 @@ pub(crate) struct ArmedRefusal {
     left: AtomicU64,
 }
 
+impl ArmedRefusal {
+    // Counts a call of its sort, and says whether that is the refused one.
+    fn is_due(&self, call: FsCall) -> bool
+        ensures { IsTrue result → self.now.call ≡ call }
+    {
+        self.call == call && self.left.fetch_sub(1, Ordering::SeqCst) == 1
+    }
+}
+
 #[derive(Drop)]
 pub(crate) struct Armed {
     refusals: Vec<ArmedRefusal>,
@@ -45,7 +55,7 @@ pub(crate) struct Armed {
 }
 
 impl Armed {
-    ghost use Rattle.raft_files.specs.Armed.{arms_of};
+    ghost use Rattle.raft_files.specs.Armed.{IsArmed, IsStopped, arms_of, stop_after};
 
     pub(crate) fn new(alloc: Global) -> Armed
         ensures refusals { arms_of result.refusals.items ≡ [] }
@@ -58,10 +68,12 @@ impl Armed {
     }
 
     /// Counts the call, and says as what it is to be refused.
-    pub(crate) fn due(&self, call: FsCall) -> Option<IoKind> {
+    pub(crate) fn due(&self, call: FsCall) -> Option<IoKind>
+        ensures value { IfSome result (λ kind. IsArmed self.now.refusals.items call kind) }
+    {
         let mut due = None;
         for armed in &self.refusals {
-            if armed.call == call && armed.left.fetch_sub(1, Ordering::SeqCst) == 1 {
+            if armed.is_due(call) {
                 due = Some(armed.kind);
             }
         }
@@ -69,7 +81,12 @@ impl Armed {
     }
 
     /// The same of a call that changes files, which counts for the stop too.
-    pub(crate) fn due_change(&mut self, call: FsCall) -> Option<IoKind> {
+    pub(crate) fn due_change(&mut self, call: FsCall) -> Option<IoKind>
+        ensures value { IfSome result (λ kind. IsArmed self.old.refusals.items call kind ⊎ (IsStopped self.old.stop × (kind ≡ Other))) }
+        ensures stopped { IsStopped self.old.stop → result ≡ Some Other }
+        ensures stop { self.new.stop ≡ stop_after self.old.stop }
+        ensures unchanged { arms_of self.new.refusals.items ≡ arms_of self.old.refusals.items }
+    {
         let due = self.due(call);
         match self.stop {
             Some(nth) if nth > 1 => {

@@ -98,7 +98,7 @@ fn put_left(
 {
     let left = slot.left(alloc, choice)?;
     let key = String::from_str(alloc, path)?;
-    files.insert(key, Slot::restarted(alloc, left)?)?;
+    files.insert(key, Slot::restarted(alloc, left))?;
     Ok(())
 }
 
@@ -162,6 +162,24 @@ mod tests {
         leaves(&rt, &fs, &[allowed], 4, *b"abQR\0\0")?;
         let other = Choice::Bytes(b"zbcd".to_vec(alloc)?);
         assert!(rt; matches!(&fs.crash(&[other]), Err(Fault::InvalidArgument(_))));
+        Ok(())
+    }
+
+    #[test]
+    fn what_was_written_over_comes_back(rt: HostRuntime) -> Result<(), Fail> {
+        let mut fs = MemoryFileSystem::new(rt.alloc());
+        let handle = fs.create("a")?;
+        let mut writer = fs.new_writer(&handle)?;
+        fs.write(&mut writer, 0, b"abcdef")?;
+        fs.sync(&mut writer)?;
+        fs.write(&mut writer, 3, b"12")?;
+        fs.truncate(&mut writer, 2)?;
+        fs.write(&mut writer, 1, b"34567890")?;
+        fs.write(&mut writer, 4, b"x")?;
+        leaves(&rt, &fs, &[Choice::Synced], 6, *b"abcdef")?;
+        fs.sync(&mut writer)?;
+        fs.truncate(&mut writer, 4)?;
+        leaves(&rt, &fs, &[Choice::Synced], 6, *b"a345x7")?;
         Ok(())
     }
 }

@@ -12,6 +12,7 @@ pub mod log_file;
 pub mod memory;
 mod paths;
 pub mod reader;
+mod saved;
 mod slot;
 mod tree;
 

@@ -1,7 +1,8 @@
 //! A file system in memory. Its earlier states are kept for clauses alone.
-ghost use Rattle.std.specs.Prelude.{◌≡◌, ◌≤◌, ◌+◌, ◌↔◌, [], ◌∷◌, map, refl, IsTrue, None};
+ghost use Rattle.std.specs.Prelude.{◌≡◌, ◌≤◌, ◌+◌, ◌/◌, ◌↔◌, [], ◌∷◌, length, map, refl, take, IsTrue, None, OnErr, OnOk, false};
 ghost use Rattle.std.specs.String.{string_bytes};
-ghost use Rattle.raft_files.specs.Directory.{IsReading, IsWriting};
+ghost use Rattle.raft_files.specs.Outcomes.{overlaid, written};
+ghost use Rattle.raft_files.specs.Directory.{IsReading, IsWriting, changed};
 ghost use Rattle.raft_files.specs.Moments.{Passes};
 ghost use Rattle.raft_files.specs.Refusal.{CountsFault};
 
@@ -63,19 +64,22 @@ impl MemoryFileSystem {
     ghost use Rattle.raft_files.specs.Memory.{memory_directory, memory_moments, memory_refusals};
 
     // Writes the first half of the bytes, if there is room for all of them.
-    fn write_half(&mut self, path: &str, at: usize, bytes: &[u8])
+    fn write_half(&mut self, path: &str, at: usize, bytes: &[u8]) -> Result<(), FsFault>
+        ensures ok { OnOk result (memory_directory self.new ≡ changed path.now (λ f. written at bytes.now false
+            (overlaid f.now at (take (length bytes.now / 2) bytes.now)) f) (memory_directory self.old)) }
+        ensures err { OnErr result (memory_directory self.new ≡ memory_directory self.old) }
         ensures any_moment { Passes (memory_moments self.old) (memory_moments self.new) (memory_directory self.new)
             (IsWriting path.now at bytes.now (memory_directory self.old)) }
         ensures cause { memory_refusals self.new ≡ memory_refusals self.old }
     {
         if !fits(at, bytes.len()) {
-            return;
+            return Err(FsFault::Io(IoKind::NoSpace));
         }
         let past = self.past.with(&self.tree);
         let half = &bytes[..bytes.len() / 2];
-        if self.tree.write(path, at, bytes, half, false).is_ok() {
-            self.past = past;
-        }
+        self.tree.write(path, at, bytes, half, false)?;
+        self.past = past;
+        Ok(())
     }
 }
 
@@ -164,7 +168,7 @@ impl FileSystem for MemoryFileSystem {
 
     fn write(&mut self, writer: &mut MemoryWriter, at: usize, bytes: &[u8]) -> Result<(), FsFault> {
         if let Some(kind) = self.armed.due_change(FsCall::Write) {
-            self.write_half(writer.path.as_str(), at, bytes);
+            let _ = self.write_half(writer.path.as_str(), at, bytes);
             return Err(counted(&mut self.refusals, FsFault::Io(kind)));
         }
         if !fits(at, bytes.len()) {

@@ -1,10 +1,12 @@
 //! The parts of a path.
 ghost use Rattle.std.specs.Prelude.{◌≡◌, None, Some, MatchOption};
 ghost use Rattle.raft_files.specs.Directory.{name_in, is_on_way};
-ghost use Rattle.raft_files.specs.PathParts.{path_below};
+ghost use Rattle.raft_files.specs.PathParts.{IsParent, path_below};
 
 /// The folder of a path: what stands before its last `/`, or the root.
-pub(crate) fn parent(path: &str) -> &str {
+pub(crate) fn parent(path: &str) -> &str
+    ensures value { IsParent path.now result.now }
+{
     match path.rsplit_once('/') {
         Some((folder, _)) => folder,
         None => "",

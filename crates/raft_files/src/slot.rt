@@ -1,11 +1,12 @@
-//! A file in memory: its bytes now, those of its last sync, and the ranges that were touched since.
+//! A file in memory: its bytes now, what its changes since the last sync wrote over, and the ranges that they touched.
 ghost use Rattle.std.specs.Prelude.{◌≡◌, ◌≤◌, ◌<◌, ◌+◌, ◌-◌, ◌==◌, ◌&&◌, ◌++◌, ◌^◌, ◌||◌, ℕ, [], length, take, drop, slice_index, if◌then◌else◌, true, OnOk, OnErr, IfOk, IfErr, MatchBool, vec_len, vec_capacity};
 ghost use Rattle.raft_files.specs.Outcomes.{File, MayLeave, settled, written, resized, synced_of, overlaid, padded, is_within};
 ghost use Rattle.raft_files.specs.Choice.{torn};
-ghost use Rattle.raft_files.specs.Kept.{IsKept, is_covered, Agree, SameOutside};
+ghost use Rattle.raft_files.specs.Kept.{IsKept, IsSaved, is_covered, SameOutside};
 
 use crate::crash::Choice;
 use crate::known::{Known, Step};
+use crate::saved::Saved;
 use raft_records::Fault;
 use std::alloc::{AllocError, Global};
 use std::marker::Model;
@@ -13,7 +14,8 @@ use std::marker::Model;
 #[derive(Drop)]
 pub(crate) struct Slot {
     bytes: Vec<u8>,
-    synced: Vec<u8>,
+    synced_len: usize,
+    saved: Saved,
     ranges: Vec<(usize, usize)>,
     least: usize,
     greatest: usize,
@@ -25,7 +27,7 @@ impl Model for Slot {
 
     ghost view = { λ s. s.known.file };
 
-    ghost invariant = { λ s. IsKept s.bytes.items s.synced.items s.ranges.items s.least s.greatest s.known.file };
+    ghost invariant = { λ s. IsKept s.bytes.items s.known.file.synced s.ranges.items s.least s.greatest s.known.file × IsSaved s.bytes.items s.saved s.synced_len s.known.file.synced };
 }
 
 impl Slot {
@@ -34,7 +36,8 @@ impl Slot {
     {
         Slot {
             bytes: Vec::new(alloc),
-            synced: Vec::new(alloc),
+            synced_len: 0,
+            saved: Saved::new(alloc),
             ranges: Vec::new(alloc),
             least: 0,
             greatest: 0,
@@ -64,6 +67,8 @@ impl Slot {
         ensures err { OnErr result (self.new ≡ self.old) }
     {
         self.ranges.reserve(1)?;
+        let end = self.synced_len.min(at + given.len());
+        self.saved.save(&self.bytes, at, end)?;
         overlay(&mut self.bytes, at, kept)?;
         add_range(&mut self.ranges, at, given.len());
         self.least = self.least.min(self.bytes.len());
@@ -82,6 +87,7 @@ impl Slot {
     {
         self.ranges.reserve(1)?;
         let from = size.min(self.bytes.len());
+        self.saved.save(&self.bytes, from, self.synced_len)?;
         add_range(&mut self.ranges, from, self.bytes.len() - from);
         self.bytes.truncate(from);
         self.least = self.least.min(from);
@@ -105,17 +111,16 @@ impl Slot {
         Ok(())
     }
 
-    /// Takes time for what changed since the last sync, and no more.
-    pub(crate) fn sync(&mut self) -> Result<(), AllocError>
-        ensures ok { OnOk result (self.new ≡ synced_of self.old) }
-        ensures err { OnErr result (self.new ≡ self.old) }
+    /// Takes no time for the bytes.
+    pub(crate) fn sync(&mut self)
+        ensures { self.new ≡ synced_of self.old }
     {
-        patch(&mut self.synced, &self.bytes, &self.ranges)?;
+        self.saved.clear();
+        self.synced_len = self.bytes.len();
         self.ranges.clear();
         self.least = self.bytes.len();
         self.greatest = self.bytes.len();
         self.known = self.known.then(&Step::Sync);
-        Ok(())
     }
 }
 
@@ -123,18 +128,29 @@ impl Slot {
     ghost use Rattle.raft_files.specs.Choice.{chosen, RefusesUnless};
 
     /// A file of these bytes, which a crash leaves as they are.
-    pub(crate) fn restarted(alloc: Global, bytes: Vec<u8>) -> Result<Slot, AllocError>
-        ensures ok { IfOk result (λ slot. slot ≡ settled bytes.items) }
+    pub(crate) fn restarted(alloc: Global, bytes: Vec<u8>) -> Slot
+        ensures { result ≡ settled bytes.items }
     {
         let known = Known::new().then(&Step::Restart(&bytes));
-        Ok(Slot {
-            synced: bytes.to_vec(alloc)?,
+        Slot {
+            synced_len: bytes.len(),
+            saved: Saved::new(alloc),
             ranges: Vec::new(alloc),
             least: bytes.len(),
             greatest: bytes.len(),
             known,
             bytes,
-        })
+        }
+    }
+
+    // The bytes of the last sync.
+    fn synced(&self, alloc: Global) -> Result<Vec<u8>, AllocError>
+        ensures ok { IfOk result (λ synced. synced.items ≡ self.now.synced) }
+    {
+        let mut synced = self.bytes.to_vec(alloc)?;
+        synced.resize(self.synced_len, 0)?;
+        self.saved.restore(&mut synced);
+        Ok(synced)
     }
 
     /// What the choice leaves of the file.
@@ -145,7 +161,7 @@ impl Slot {
     {
         match choice {
             Choice::All => Ok(self.bytes.to_vec(alloc)?),
-            Choice::Synced => Ok(self.synced.to_vec(alloc)?),
+            Choice::Synced => Ok(self.synced(alloc)?),
             Choice::Torn(kept, fill) => Ok(torn_bytes(
                 alloc,
                 &self.bytes,
@@ -154,9 +170,10 @@ impl Slot {
                 *fill,
             )?),
             Choice::Bytes(bytes) => {
+                let synced = self.synced(alloc)?;
                 if bytes.len() < self.least
                     || bytes.len() > self.greatest
-                    || !same_outside(bytes, &self.synced, &self.ranges)
+                    || !same_outside(bytes, &synced, &self.ranges)
                 {
                     return Err(Fault::InvalidArgument("no crash leaves these bytes"));
                 }
@@ -238,39 +255,6 @@ fn add_range(ranges: &mut Vec<(usize, usize)>, from: usize, size: usize)
     let Ok(()) = ranges.push((start, from - start + size)) else {
         unreachable!()
     };
-}
-
-// Makes the bytes of the last sync those that are there now.
-fn patch(synced: &mut Vec<u8>, bytes: &[u8], ranges: &[(usize, usize)]) -> Result<(), AllocError>
-    requires { Agree ranges.now bytes.now synced.old.items }
-    ensures ok { OnOk result (synced.new.items ≡ bytes.now) }
-    ensures err { OnErr result (synced.new.items ≡ synced.old.items) }
-{
-    synced.resize(bytes.len(), 0)?;
-    copy_ranges(synced, bytes, ranges);
-    Ok(())
-}
-
-fn copy_ranges(synced: &mut [u8], bytes: &[u8], ranges: &[(usize, usize)])
-    requires agree { Agree ranges.now bytes.now synced.old }
-    requires len { length synced.old ≡ length bytes.now }
-    ensures { synced.new ≡ bytes.now }
-{
-    for range in ranges {
-        copy_range(synced, bytes, range.0, range.1);
-    }
-}
-
-fn copy_range(synced: &mut [u8], bytes: &[u8], from: usize, size: usize)
-    requires len { length synced.old ≡ length bytes.now }
-    ensures len { length synced.new ≡ length bytes.now }
-    ensures each { (i : ℕ) → slice_index synced.new i
-        ≡ (if is_within from size i then slice_index bytes.now i else slice_index synced.old i) }
-{
-    let end = from.saturating_add(size).min(bytes.len());
-    if from < end {
-        put(synced, from, &bytes[from..end]);
-    }
 }
 
 // Writes over what is there, and past the end.

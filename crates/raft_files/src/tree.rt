@@ -1,8 +1,9 @@
 //! The files and folders of a file system in memory.
-ghost use Rattle.std.specs.Prelude.{◌≡◌, ◌≤◌, ◌<◌, ◌+◌, ◌^◌, length, take, map, true, OnOk, OnErr, IfOk};
+ghost use Rattle.std.specs.Prelude.{◌≡◌, ◌≤◌, ◌<◌, ◌+◌, ◌^◌, length, take, map, true, OnOk, OnErr, IfOk, IfErr};
 ghost use Rattle.std.specs.String.{string_bytes};
 ghost use Rattle.raft_files.specs.Outcomes.{written, resized, synced_of, overlaid, padded};
 ghost use Rattle.raft_files.specs.Directory.{changed, created, folder_made, names_in, HasFile};
+ghost use Rattle.raft_files.specs.Refused.{HasNoFolder, HasNoPlace, IsBarred, IsMissing};
 
 use crate::paths::{is_on_way, name_in, parent};
 use crate::slot::Slot;
@@ -44,6 +45,7 @@ impl Tree {
     pub(crate) fn create(&mut self, alloc: Global, path: &str) -> Result<(), FsFault>
         ensures ok { OnOk result (tree_directory self.new ≡ created path.now (tree_directory self.old)) }
         ensures err { OnErr result (tree_directory self.new ≡ tree_directory self.old) }
+        ensures refused { IfErr result (HasNoPlace (tree_directory self.old) path.now) }
     {
         if self.files.contains_key(path) {
             return Ok(());
@@ -62,6 +64,7 @@ impl Tree {
     pub(crate) fn make_folder(&mut self, alloc: Global, path: &str) -> Result<(), FsFault>
         ensures ok { OnOk result (tree_directory self.new ≡ folder_made path.now (tree_directory self.old)) }
         ensures err { OnErr result (tree_directory self.new ≡ tree_directory self.old) }
+        ensures refused { IfErr result (IsBarred (tree_directory self.old) path.now) }
     {
         if self.has_folder(path) {
             return Ok(());
@@ -91,6 +94,7 @@ impl Tree {
         ensures ok { OnOk result (tree_directory self.new ≡ changed path.now
             (λ f. written at given.now is_done (overlaid f.now at kept.now) f) (tree_directory self.old)) }
         ensures err { OnErr result (tree_directory self.new ≡ tree_directory self.old) }
+        ensures refused { IfErr result (IsMissing (tree_directory self.old) path.now) }
     {
         match self.files.get_mut(path) {
             Some(slot) => {
@@ -106,6 +110,7 @@ impl Tree {
         ensures ok { OnOk result (tree_directory self.new ≡ changed path.now
             (λ f. resized true (take size f.now) f) (tree_directory self.old)) }
         ensures err { OnErr result (tree_directory self.new ≡ tree_directory self.old) }
+        ensures refused { IfErr result (IsMissing (tree_directory self.old) path.now) }
     {
         match self.files.get_mut(path) {
             Some(slot) => {
@@ -121,6 +126,7 @@ impl Tree {
         ensures ok { OnOk result (tree_directory self.new ≡ changed path.now
             (λ f. resized true (padded f.now size) f) (tree_directory self.old)) }
         ensures err { OnErr result (tree_directory self.new ≡ tree_directory self.old) }
+        ensures refused { IfErr result (IsMissing (tree_directory self.old) path.now) }
     {
         match self.files.get_mut(path) {
             Some(slot) => {
@@ -135,10 +141,11 @@ impl Tree {
         ensures found { OnOk result (HasFile (tree_directory self.old) path.now) }
         ensures ok { OnOk result (tree_directory self.new ≡ changed path.now synced_of (tree_directory self.old)) }
         ensures err { OnErr result (tree_directory self.new ≡ tree_directory self.old) }
+        ensures refused { IfErr result (IsMissing (tree_directory self.old) path.now) }
     {
         match self.files.get_mut(path) {
             Some(slot) => {
-                slot.sync()?;
+                slot.sync();
                 Ok(())
             }
             None => Err(FsFault::Io(IoKind::NotFound)),
@@ -147,6 +154,7 @@ impl Tree {
 
     pub(crate) fn names(&self, alloc: Global, folder: &str) -> Result<Vec<String>, FsFault>
         ensures value { IfOk result (λ names. map string_bytes names.items ≡ names_in folder.now (tree_directory self.now)) }
+        ensures refused { IfErr result (HasNoFolder (tree_directory self.now) folder.now) }
     {
         if !self.has_folder(folder) {
             return Err(FsFault::Io(IoKind::NotFound));

@@ -11,3 +11,4 @@ pub mod DurabilityLemmas
 pub mod RecoverLemmas
 pub mod StaysLemmas
 pub mod ReopenLemmas
+pub mod TrialLemmas

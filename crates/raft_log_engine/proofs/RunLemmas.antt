@@ -1,6 +1,6 @@
 -- Operations under way: the batch of acts, and what the operations so far leave.
-use Rattle.std.proofs.Common.{◌≡◌, ℕ, suc, ◌+◌, ◌<◌, ◌≤◌, Bool, true, false, List, [], ◌∷◌, ◌++◌, length, length-append, length-drop, take, drop, drop-cons, get_or, Option, Some, None, refl, sym, ◌∙◌, ap, subst, append_assoc, arith}
-use Rattle.std.specs.Prelude.{option_map, MatchOption}
+use Rattle.std.proofs.Common.{◌≡◌, ℕ, suc, ◌+◌, ◌<◌, ◌≤◌, Bool, true, false, List, [], ◌∷◌, ◌++◌, length, length-append, length-drop, take, drop, drop-cons, get_or, Option, Some, None, Result, Ok, Err, refl, sym, ◌∙◌, ap, subst, append_assoc, arith}
+use Rattle.std.specs.Prelude.{option_map, MatchOption, OnErr, OnOk}
 use Rattle.std.proofs.lemmas.Iterator.Adapters.{option_map_id}
 use Rattle.std.proofs.lemmas.List.{append-nil, nil_from_length}
 use Rattle.std.proofs.lemmas.List.Sums.{fold-append}
@@ -13,7 +13,8 @@ use Rattle.raft_files.specs.Writer.{bytes_of}
 use Rattle.raft_files.specs.Memory.{no_files}
 use Rattle.raft_log_engine.proofs.OpenLemmas.{nothing_holds_nothing}
 use Rattle.raft_log_engine.specs.Log.{contents_at, contents_in, log_path}
-use Rattle.raft_log_engine.specs.Run.{accepted, accepted_of, AreAnswers, batch_of_acts, IsAnswer, item_of_act, with_first, with_items}
+use Rattle.raft_log_engine.specs.Run.{accepted, accepted_of, AreAnswers, batch_of_acts, IsAnswer, item_of_act, with_first, with_items, written}
+use Rattle.raft_records.specs.declared.errors.Fault.{Fault}
 use Rattle.raft_log_engine.specs.declared.script.operation.Act.{Act}
 use Rattle.raft_log_engine.specs.declared.script.operation.Op.{Op}
 use Rattle.raft_log_engine.specs.declared.script.operation.Outcome.{Outcome}
@@ -124,3 +125,9 @@ pub contents_at-no_files : (folder : Path) (n : Directory) → n ≡ no_files �
 contents_at-no_files folder n is =
     let absent : file_at no_files (log_path folder) ≡ None = get-empty _ (log_path folder) in
     ap (contents_at folder) is ∙ ap (λ file. contents_in (bytes_of file)) absent ∙ nothing_holds_nothing
+
+-- a write that is answered leaves the contents behind its batch, and a refused one leaves an engine that stands as it was
+pub written_contents : (acts : List Act) (batch : Batch) (old new : Contents) (fails : Bool) (result : Result ℕ Fault) → batch_of_acts acts ≡ Some batch → OnOk result (new ≡ after_batch old batch) → OnErr result (fails ≡ false → new ≡ old) → fails ≡ false
+    → new ≡ after_batches old (written acts result)
+written_contents acts batch old new fails (Ok len) is done kept stands = done ∙ sym (after-with_items old batch) ∙ ap (λ o. after_batches old (with_items o)) (sym is)
+written_contents acts batch old new fails (Err e) is done kept stands = kept stands

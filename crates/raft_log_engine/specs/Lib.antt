@@ -10,3 +10,4 @@ pub mod Crash
 pub mod Run
 pub mod Durability
 pub mod Written
+pub mod Trial

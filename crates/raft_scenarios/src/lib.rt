@@ -2,6 +2,18 @@
 #![tactic(auto)]
 
 #[cfg(test)]
+mod crashes;
+#[cfg(test)]
 mod durability;
 #[cfg(test)]
+mod opening;
+#[cfg(test)]
 mod program;
+#[cfg(test)]
+mod refusals;
+#[cfg(test)]
+mod states;
+#[cfg(test)]
+mod sweep;
+#[cfg(test)]
+mod trials;

@@ -9,7 +9,7 @@ use std::test::Fail;
 /// A script, what it prints, and how it ends.
 struct Case(&'static str, &'static str, Ended);
 
-const CASES: [Case; 14] = [
+const CASES: [Case; 23] = [
     Case(
         "put 1 k v sync\nreopen\nget 1 k\nget 1 x\n",
         "ok\nok\nvalue v\nnone\n",
@@ -48,6 +48,31 @@ const CASES: [Case; 14] = [
     Case("get 1 k \n", "", Ended::BadLine(1)),
     Case("get 1\n", "", Ended::BadLine(1)),
     Case("put 1 k v now\n", "", Ended::BadLine(1)),
+    Case(
+        "put 1 a 1 sync\nput 1 b 2\ncrash synced\nget 1 a\nget 1 b\n",
+        "ok\nok\nok\nvalue 1\nnone\n",
+        Ended::Done,
+    ),
+    Case(
+        "put 1 a 1 sync\nput 1 b 2\ncrash torn 1 0\nget 1 a\nget 1 b\n",
+        "ok\nok\nok\nvalue 1\nnone\n",
+        Ended::Done,
+    ),
+    Case(
+        "put 1 a 1 sync\nput 1 b 2\ncrash all\nget 1 a\nget 1 b\n",
+        "ok\nok\nok\nvalue 1\nvalue 2\n",
+        Ended::Done,
+    ),
+    Case(
+        "crash all\nput 1 a 1\nsync\ncrash synced\nget 1 a\n",
+        "ok\nok\nok\nok\nvalue 1\n",
+        Ended::Done,
+    ),
+    Case("crash torn 1 256\n", "", Ended::BadLine(1)),
+    Case("crash torn 1\n", "", Ended::BadLine(1)),
+    Case("sync\ncrash\n", "ok\n", Ended::BadLine(2)),
+    Case("crash all now\n", "", Ended::BadLine(1)),
+    Case("crash none\n", "", Ended::BadLine(1)),
 ];
 
 #[test]

@@ -1,6 +1,6 @@
 //! Workloads of the checksum and of the file system alone.
 
-use crate::measure::{Host, filled, report};
+use crate::measure::{Host, filled, mark, report, report_ceilings};
 use anyhow::{Result, anyhow};
 use raft_codec::checksum::crc32;
 use raft_files::{FileSystem, FsFault, MemoryFileSystem};
@@ -17,16 +17,14 @@ pub(crate) fn checksum<R: Host>(rt: &R, count: u64) -> Result<()> {
         copy.clear();
         copy.extend_from_slice(&block)?;
     }
-    report(rt, "copy", start, count, bytes)?;
+    report(rt, "copy", start.elapsed(rt)?, count, bytes)?;
     let mut sum = 0u32;
     let start = Instant::now(rt)?;
     for number in 0..count {
-        if let Some(first) = copy.first_mut() {
-            *first = (number & 0xff) as u8;
-        }
+        mark(&mut copy, number);
         sum = sum.wrapping_mul(31).wrapping_add(crc32(&copy));
     }
-    report(rt, "crc", start, count, bytes)?;
+    report(rt, "crc", start.elapsed(rt)?, count, bytes)?;
     println!(rt; "crc: {bytes} bytes, checksum {sum:08x}")?;
     Ok(())
 }
@@ -58,11 +56,12 @@ pub(crate) fn append<R: Host>(
         report(
             rt,
             name,
-            start,
+            start.elapsed(rt)?,
             count / 10,
             (count / 10).saturating_mul(size as u64),
         )?;
     }
+    report_ceilings(rt, count, size)?;
     let len = files.file_size(&handle).map_err(refused)?;
     println!(rt; "{name}: {len} bytes")?;
     Ok(())

@@ -1,6 +1,6 @@
 //! Workloads of the engine: 16-byte keys in 100 groups.
 
-use crate::measure::{Host, filled, next_state, report};
+use crate::measure::{Host, filled, next_state, report, report_ceilings};
 use anyhow::{Result, anyhow, bail};
 use raft_codec::checksum::crc32;
 use raft_files::{FileSystem, Permission};
@@ -52,13 +52,45 @@ pub(crate) struct Load {
     pub sync: bool,
 }
 
-fn fill<F: FileSystem>(engine: &mut Engine<F>, alloc: Global, load: Load) -> Result<()> {
+impl Load {
+    fn bytes(self) -> u64 {
+        self.count.saturating_mul(self.size as u64)
+    }
+}
+
+#[derive(Drop)]
+struct Item {
+    group: u64,
+    key: Vec<u8>,
+    value: Vec<u8>,
+}
+
+// Made before the clock starts.
+fn puts_of(alloc: Global, load: Load) -> Result<Vec<Item>> {
     let value = filled(alloc, load.size, 1)?;
-    let mut batch = LogBatch::new(alloc);
+    let mut puts = Vec::new(alloc);
     for number in 0..load.count {
         let key = number % load.keys.max(1);
-        batch.put(key % GROUPS, key_of(alloc, key)?, value.to_vec(alloc)?)?;
-        engine.write(&mut batch, load.sync)?;
+        puts.push(Item {
+            group: key % GROUPS,
+            key: key_of(alloc, key)?,
+            value: value.to_vec(alloc)?,
+        })?;
+    }
+    Ok(puts)
+}
+
+// Writes each put in a batch of its own.
+fn write_all<F: FileSystem>(
+    engine: &mut Engine<F>,
+    alloc: Global,
+    puts: Vec<Item>,
+    sync: bool,
+) -> Result<()> {
+    let mut batch = LogBatch::new(alloc);
+    for Item { group, key, value } in puts {
+        batch.put(group, key, value)?;
+        engine.write(&mut batch, sync)?;
     }
     Ok(())
 }
@@ -71,40 +103,53 @@ pub(crate) fn put<R: Host, F: FileSystem + Drop>(
     load: Load,
 ) -> Result<()> {
     let alloc = rt.alloc();
+    let puts = puts_of(alloc, load)?;
     let mut engine = open(alloc, files)?;
     let start = Instant::now(rt)?;
-    fill(&mut engine, alloc, load)?;
+    write_all(&mut engine, alloc, puts, load.sync)?;
+    let written = start.elapsed(rt)?;
     let mut files = close(engine)?;
     let len = log_len(&mut files)?;
-    report(rt, name, start, load.count, len as u64)?;
+    report(rt, name, written, load.count, len as u64)?;
+    let record_len = len as u64 / load.count.max(1);
+    report_ceilings(rt, load.count, record_len as usize)?;
     println!(rt; "{name}: {} operations, {len} bytes of log", load.count)?;
     Ok(())
+}
+
+// Keys in no order.
+fn read_keys(alloc: Global, count: u64) -> Result<Vec<(u64, Vec<u8>)>> {
+    let mut keys = Vec::new(alloc);
+    let mut state = 1u64;
+    for _ in 0..count {
+        state = next_state(state);
+        let key = (state >> 20) % count.max(1);
+        keys.push((key % GROUPS, key_of(alloc, key)?))?;
+    }
+    Ok(keys)
 }
 
 /// Reads of keys in no order, after as many puts.
 pub(crate) fn get<R: Host, F: FileSystem + Drop>(rt: &R, files: F, load: Load) -> Result<()> {
     let alloc = rt.alloc();
     let mut engine = open(alloc, files)?;
-    fill(&mut engine, alloc, load)?;
-    let mut state = 1u64;
+    write_all(&mut engine, alloc, puts_of(alloc, load)?, load.sync)?;
+    let keys = read_keys(alloc, load.count)?;
     let mut found = 0u64;
-    let mut sum = 0u32;
     let start = Instant::now(rt)?;
-    for _ in 0..load.count {
-        state = next_state(state);
-        let key = (state >> 20) % load.count.max(1);
-        if let Some(value) = engine.get(key % GROUPS, &key_of(alloc, key)?)? {
+    for (group, key) in keys.iter() {
+        if engine.get(*group, key)?.is_some() {
             found = found.saturating_add(1);
+        }
+    }
+    report(rt, "get", start.elapsed(rt)?, load.count, load.bytes())?;
+    report_ceilings(rt, load.count, load.size)?;
+    let mut sum = 0u32;
+    for (group, key) in keys.iter() {
+        if let Some(value) = engine.get(*group, key)? {
             sum = sum.wrapping_mul(31).wrapping_add(crc32(&value));
         }
     }
-    report(
-        rt,
-        "get",
-        start,
-        load.count,
-        found.saturating_mul(load.size as u64),
-    )?;
     println!(rt;
         "get: {} operations, {found} found, checksum {sum:08x}",
         load.count
@@ -116,12 +161,13 @@ pub(crate) fn get<R: Host, F: FileSystem + Drop>(rt: &R, files: F, load: Load) -
 pub(crate) fn reopen<R: Host, F: FileSystem + Drop>(rt: &R, files: F, load: Load) -> Result<()> {
     let alloc = rt.alloc();
     let mut engine = open(alloc, files)?;
-    fill(&mut engine, alloc, load)?;
+    write_all(&mut engine, alloc, puts_of(alloc, load)?, load.sync)?;
     let mut files = close(engine)?;
     let len = log_len(&mut files)?;
     let start = Instant::now(rt)?;
     let engine = open(alloc, files)?;
-    report(rt, "reopen", start, 1, len as u64)?;
+    report(rt, "reopen", start.elapsed(rt)?, load.count, len as u64)?;
+    report_ceilings(rt, load.count, load.size)?;
     let last = load.count.saturating_sub(1);
     let found = engine.get(last % GROUPS, &key_of(alloc, last)?)?.is_some();
     println!(rt;

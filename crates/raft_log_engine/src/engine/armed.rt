@@ -7,7 +7,7 @@ use raft_files::{FsCall, IoKind, MemoryFileSystem};
 use raft_records::Fault;
 
 impl Engine<MemoryFileSystem> {
-    ghost use Rattle.raft_log_engine.specs.Engine.{armed_in, contents_of, directory_of, folder_of, has_failed, moments_of, refusals_of, stop_in};
+    ghost use Rattle.raft_log_engine.specs.Engine.{armed_in, contents_of, directory_of, durable_of, folder_of, has_failed, moments_of, refusals_of, stop_in, unsynced_of};
 
     /// Arms one more refusal: of the calls of that sort from now on, the nth, counted from 1, is refused so.
     pub fn refuse(&mut self, call: FsCall, nth: u64, kind: IoKind) -> Result<(), Fault>
@@ -22,6 +22,8 @@ impl Engine<MemoryFileSystem> {
         ensures contents { contents_of self.new ≡ contents_of self.old }
         ensures alive { has_failed self.new ≡ has_failed self.old }
         ensures folder { folder_of self.new ≡ folder_of self.old }
+        ensures durable { durable_of self.new ≡ durable_of self.old }
+        ensures unsynced { unsynced_of self.new ≡ unsynced_of self.old }
     {
         self.file_system.refuse(call, nth, kind)
     }
@@ -37,6 +39,8 @@ impl Engine<MemoryFileSystem> {
         ensures contents { contents_of self.new ≡ contents_of self.old }
         ensures alive { has_failed self.new ≡ has_failed self.old }
         ensures folder { folder_of self.new ≡ folder_of self.old }
+        ensures durable { durable_of self.new ≡ durable_of self.old }
+        ensures unsynced { unsynced_of self.new ≡ unsynced_of self.old }
     {
         self.file_system.stop_at(nth);
     }

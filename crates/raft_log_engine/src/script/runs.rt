@@ -23,7 +23,8 @@ pub(crate) struct Ran {
 }
 
 /// Does the operations in order, each with its outcome. Where there is no memory for the list of outcomes, the engine
-/// is not asked.
+/// is not asked. A crash at any moment leaves, where its damage can be told, a beginning of the accepted writes, perhaps
+/// with the batch of the operation in which it came, and all that a sync made sure of by then.
 pub fn run<F: FileSystem>(
     alloc: Global,
     engine: &mut Engine<F>,

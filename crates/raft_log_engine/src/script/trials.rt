@@ -1,12 +1,15 @@
 //! Operations over files in memory, then a crash, then an opening.
-ghost use Rattle.std.specs.Prelude.{◌≡◌, ◌⊎◌, ◌<◌, ℕ, [], ◌∷◌, length, Some, IfOk, IfErr};
+ghost use Rattle.std.specs.Prelude.{◌≡◌, ◌⊎◌, ◌<◌, ℕ, [], ◌∷◌, length, Some, is_some, IfOk, IfErr};
 ghost use Rattle.std.specs.String.{string_bytes};
 ghost use Rattle.raft_records.specs.Contents.{no_contents};
 ghost use Rattle.raft_records.specs.Fault.{fault_code};
 ghost use Rattle.raft_files.specs.Memory.{memory_directory, memory_moments, no_files, stop_of};
 ghost use Rattle.raft_log_engine.specs.Image.{IsImageOf};
 ghost use Rattle.raft_log_engine.specs.Log.{contents_at};
+ghost use Rattle.raft_log_engine.specs.Crash.{KeepsContents};
+ghost use Rattle.raft_log_engine.specs.Durability.{LeavesAllowedBehind};
 ghost use Rattle.raft_log_engine.specs.Run.{AreAnswers};
+ghost use Rattle.raft_log_engine.specs.Trial.{IsTrialOf};
 
 use super::operation::{Op, Trial};
 use super::runs::{Ran, run_watched};
@@ -27,6 +30,7 @@ pub fn trial(
 ) -> Result<Trial, Fault>
     ensures answers { IfOk result (λ t. AreAnswers no_contents ops.now t.outcomes.items ⊎ (t.outcomes.items ≡ [])) }
     ensures place { IfOk result (λ t. (place : ℕ) → t.failed_at ≡ Some place → place < length ops.now) }
+    ensures crashed { IfOk result (IsTrialOf (string_bytes config.dir) ops.now choices.now) }
     ensures cause { IfErr result (λ e. (e ≡ Fault.Memory) ⊎ (fault_code e ≡ 1)) }
 {
     let again = config.clone()?;
@@ -60,6 +64,8 @@ fn run_over<F: FileSystem + Drop>(
 ) -> Result<(Ran, F), Fault>
     ensures answers { IfOk result (λ r. AreAnswers (contents_at (string_bytes config.dir) (F.directory files)) ops.now r.0.outcomes.items ⊎ (r.0.outcomes.items ≡ [])) }
     ensures place { IfOk result (λ r. (place : ℕ) → r.0.failed_at ≡ Some place → place < length ops.now) }
+    ensures behind { IfOk result (λ r. let found = contents_at (string_bytes config.dir) (F.directory files) in KeepsContents (string_bytes config.dir) found [] (F.directory files)
+        → LeavesAllowedBehind (is_some r.0.failed_at) (string_bytes config.dir) found [] ops.now r.0.outcomes.items (F.directory r.1)) }
     ensures cause { IfErr result (λ e. e ≡ Fault.Memory) }
 {
     match Engine::open_in_order(alloc, config, files) {

@@ -7,8 +7,8 @@ use Rattle.raft_files.proofs.MomentsLemmas.{passes_one}
 use Rattle.raft_files.proofs.DirectoryLemmas.{changing_part, writing_part}
 use Rattle.raft_files.proofs.memory.MemoryFileSystem.write_half.Goals as goal
 
-pub returns-then-is_ok-clause-any_moment : goal.returns-then-is_ok-clause-any_moment
-returns-then-is_ok-clause-any_moment c =
+pub returns-clause-any_moment : goal.returns-clause-any_moment
+returns-clause-any_moment c =
     let half : List ℕ = take (length c.args.bytes.now / 2) c.args.bytes.now in
     let part : length half ≤ length c.args.bytes.now = grind (arith, common_steps) in
     let is : tree_directory c.write.new.self ≡ changed c.args.path.now (λ f. written c.args.at c.args.bytes.now false (overlaid f.now c.args.at half) f) (tree_directory c.args.self.now.tree) = search rules in

@@ -1,0 +1,177 @@
+//! Operations with one call to the files refused.
+
+use crate::states::{
+    EMPTY, State, after, first_refused, is_allowed, is_done, operations, settings, state_of,
+    value_of,
+};
+use raft_files::{Choice, FileSystem, FsCall, IoKind, MemoryFileSystem};
+use raft_log_engine::Engine;
+use raft_log_engine::script::{Op, Outcome, run};
+use raft_records::Fault;
+use std::alloc::Global;
+use std::process::Abort;
+use std::test::Fail;
+
+const MAX_CALLS: u64 = 100;
+
+const CALLS: [FsCall; 16] = [
+    FsCall::Create,
+    FsCall::Open,
+    FsCall::Delete,
+    FsCall::Rename,
+    FsCall::DeleteMetadata,
+    FsCall::NewReader,
+    FsCall::NewWriter,
+    FsCall::Write,
+    FsCall::Truncate,
+    FsCall::Allocate,
+    FsCall::Sync,
+    FsCall::FileSize,
+    FsCall::MakeDir,
+    FsCall::List,
+    FsCall::FreeSpace,
+    FsCall::Read,
+];
+
+const KINDS: [IoKind; 3] = [IoKind::NoSpace, IoKind::NotFound, IoKind::Other];
+
+/// What operations came to, and the files.
+#[derive(Drop)]
+struct Shown<F> {
+    outcomes: Vec<Outcome>,
+    failed_at: Option<usize>,
+    opening: Option<Fault>,
+    refused: bool,
+    files: F,
+}
+
+fn run_over<F: FileSystem + Drop>(alloc: Global, ops: &[Op], files: F) -> Result<Shown<F>, Fail> {
+    match Engine::open_in_order(alloc, settings(alloc)?, files) {
+        Ok(mut engine) => {
+            let outcomes = run(alloc, &mut engine, ops)?;
+            let failed_at = if engine.failed() {
+                first_refused(&outcomes)
+            } else {
+                None
+            };
+            let files = engine.give_up();
+            Ok(Shown {
+                outcomes,
+                failed_at,
+                opening: None,
+                refused: files.refusals() > 0,
+                files,
+            })
+        }
+        Err(refused) => Ok(Shown {
+            outcomes: Vec::new(alloc),
+            failed_at: None,
+            opening: Some(refused.fault),
+            refused: refused.file_system.refusals() > 0,
+            files: refused.file_system,
+        }),
+    }
+}
+
+fn found_in<F: FileSystem + Drop>(alloc: Global, files: F) -> Result<State, Fail> {
+    match Engine::open_in_order(alloc, settings(alloc)?, files) {
+        Ok(mut engine) => Ok(state_of(&engine.image()?)),
+        Err(refused) => Err(refused.fault.into()),
+    }
+}
+
+fn is_refusal(fault: &Fault, kind: IoKind) -> bool {
+    match fault {
+        Fault::Io(by, _) => *by == kind,
+        _ => false,
+    }
+}
+
+fn fault_of(outcome: &Outcome) -> Option<&Fault> {
+    match outcome {
+        Outcome::Size(answer) => answer.as_ref().err(),
+        Outcome::Done(answer) => answer.as_ref().err(),
+        Outcome::Value(answer) => answer.as_ref().err(),
+    }
+}
+
+// A look-up that is answered tells what the operations done before it leave.
+fn tells(state: State, op: &Op, outcome: &Outcome) -> bool {
+    match (op, outcome) {
+        (Op::Get(group, key), Outcome::Value(Ok(Some(value)))) => {
+            value.first() == Some(&value_of(state, *group, key))
+        }
+        (Op::Get(group, key), Outcome::Value(Ok(None))) => value_of(state, *group, key) == 0,
+        _ => true,
+    }
+}
+
+// Each operation is answered as the ones done before it tell. One alone is refused by the files, and those behind it
+// by a failed engine, if at all. Whether one is refused.
+fn are_answers(rt: &impl Abort, ops: &[Op], outcomes: &[Outcome], kind: IoKind) -> bool {
+    let mut state = EMPTY;
+    let mut refused = false;
+    for (op, outcome) in ops.iter().zip(outcomes.iter()) {
+        assert!(rt; tells(state, op, outcome), "{outcome:?}");
+        match fault_of(outcome) {
+            Some(Fault::Failed) => {
+                assert!(rt; refused);
+            }
+            Some(fault) => {
+                assert!(rt; is_refusal(fault, kind) && !refused, "{fault:?}");
+                refused = true;
+            }
+            None => state = after(state, op),
+        }
+    }
+    refused
+}
+
+// With the nth call of a sort refused: whether there were so many.
+fn refuse_one(
+    rt: &impl Abort,
+    alloc: Global,
+    ops: &[Op],
+    call: FsCall,
+    nth: u64,
+    kind: IoKind,
+) -> Result<bool, Fail> {
+    let mut files = MemoryFileSystem::new(alloc);
+    files.refuse(call, nth, kind)?;
+    let shown = run_over(alloc, ops, files)?;
+    let mut refused = are_answers(rt, ops, &shown.outcomes, kind);
+    if let Some(fault) = &shown.opening {
+        assert!(rt; is_refusal(fault, kind), "{fault:?}");
+        refused = true;
+    }
+    // Room that can't be made ahead is done without.
+    assert_eq!(rt;
+        refused,
+        shown.refused && call != FsCall::Allocate,
+        "{call:?} {nth}"
+    );
+    for choice in [Choice::All, Choice::Synced] {
+        let found = found_in(alloc, shown.files.crash(&[choice])?)?;
+        assert!(rt;
+            is_allowed(ops, &shown.outcomes, shown.failed_at, found),
+            "{found:?} after {call:?} {nth}"
+        );
+    }
+    Ok(shown.refused)
+}
+
+#[test]
+fn each_call_may_be_refused(rt: HostRuntime) -> Result<(), Fail> {
+    let alloc = rt.alloc();
+    let ops = operations(alloc)?;
+    for call in CALLS {
+        for kind in KINDS {
+            let mut met = true;
+            for nth in 1..MAX_CALLS {
+                met = met && refuse_one(&rt, alloc, &ops, call, nth, kind)?;
+            }
+            assert!(rt; !met);
+        }
+    }
+    Ok(())
+}

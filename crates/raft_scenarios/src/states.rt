@@ -1,0 +1,162 @@
+//! Operations on four keys, and what the keys hold: told from the operations alone, and read from an image.
+
+use raft_log_engine::script::{Act, Op, Outcome};
+use raft_log_engine::{Config, Image};
+use raft_records::{Fresh, ReadableSize};
+use std::alloc::{AllocError, Global};
+
+/// The first byte of the value at each key, 0 where there is none: `a` and `b` are keys of group 1, `c` and `d` of
+/// group 2.
+#[derive(Clone, Copy, Debug, PartialEq, Eq)]
+pub(crate) struct State {
+    pub a: u8,
+    pub b: u8,
+    pub c: u8,
+    pub d: u8,
+    /// Something else is there.
+    pub other: bool,
+}
+
+pub(crate) const EMPTY: State = State {
+    a: 0,
+    b: 0,
+    c: 0,
+    d: 0,
+    other: false,
+};
+
+fn with(state: State, group: u64, key: &[u8], value: u8) -> State {
+    match (group, key) {
+        (1, b"a") => State { a: value, ..state },
+        (1, b"b") => State { b: value, ..state },
+        (2, b"c") => State { c: value, ..state },
+        (2, b"d") => State { d: value, ..state },
+        _ => State {
+            other: true,
+            ..state
+        },
+    }
+}
+
+fn first_byte(value: &[u8]) -> u8 {
+    match value.first() {
+        Some(byte) => *byte,
+        None => 0,
+    }
+}
+
+/// The value's byte at a key.
+pub(crate) fn value_of(state: State, group: u64, key: &[u8]) -> u8 {
+    match (group, key) {
+        (1, b"a") => state.a,
+        (1, b"b") => state.b,
+        (2, b"c") => state.c,
+        (2, b"d") => state.d,
+        _ => 0,
+    }
+}
+
+/// The state after an operation that was done.
+pub(crate) fn after(state: State, op: &Op) -> State {
+    let mut state = state;
+    if let Op::Write(acts, _) = op {
+        for act in acts {
+            state = match act {
+                Act::Put(group, key, value) => with(state, *group, key, first_byte(value)),
+                Act::Delete(group, key) => with(state, *group, key, 0),
+            };
+        }
+    }
+    state
+}
+
+/// What an image shows.
+pub(crate) fn state_of(image: &Image) -> State {
+    let mut state = EMPTY;
+    for group in &image.groups {
+        for pair in &group.pairs {
+            state = with(state, group.group, &pair.0, first_byte(&pair.1));
+        }
+    }
+    state
+}
+
+/// Whether the operation was done: a write with its record, a sync, a look-up.
+pub(crate) fn is_done(outcome: &Outcome) -> bool {
+    match outcome {
+        Outcome::Size(answer) => answer.is_ok(),
+        Outcome::Done(answer) => answer.is_ok(),
+        Outcome::Value(answer) => answer.is_ok(),
+    }
+}
+
+/// The place of the first operation that was refused.
+pub(crate) fn first_refused(outcomes: &[Outcome]) -> Option<usize> {
+    outcomes.iter().position(|outcome| !is_done(outcome))
+}
+
+// Whether all that was done before is safe behind the operation.
+fn covers(op: &Op) -> bool {
+    match op {
+        Op::Write(_, sync) => *sync,
+        Op::Sync => true,
+        Op::Get(_, _) => false,
+    }
+}
+
+/// Whether a log that was answered so may hold the state after a crash: that of the operations done up to a place at
+/// or behind the last one that made sure of them, or of all of them and the one in which the engine failed.
+pub(crate) fn is_allowed(
+    ops: &[Op],
+    outcomes: &[Outcome],
+    failed_at: Option<usize>,
+    found: State,
+) -> bool {
+    let mut state = EMPTY;
+    let mut allowed = found == EMPTY;
+    for (op, outcome) in ops.iter().zip(outcomes.iter()) {
+        if is_done(outcome) {
+            state = after(state, op);
+            allowed = found == state || (allowed && !covers(op));
+        }
+    }
+    match failed_at.and_then(|place| ops.get(place)) {
+        Some(op) => allowed || found == after(state, op),
+        None => allowed,
+    }
+}
+
+pub(crate) fn settings(alloc: Global) -> Result<Config, AllocError> {
+    let mut config = Config::fresh(alloc);
+    config.dir.push_str("raft")?;
+    config.target_file_size = ReadableSize::kb(1);
+    Ok(config)
+}
+
+fn put(alloc: Global, group: u64, key: &[u8], value: u8, len: usize) -> Result<Act, AllocError> {
+    let mut bytes = Vec::new(alloc);
+    for _ in 0..len {
+        bytes.push(value)?;
+    }
+    Ok(Act::Put(group, key.to_vec(alloc)?, bytes))
+}
+
+fn delete(alloc: Global, group: u64, key: &[u8]) -> Result<Act, AllocError> {
+    Ok(Act::Delete(group, key.to_vec(alloc)?))
+}
+
+pub(crate) fn operations(alloc: Global) -> Result<Vec<Op>, AllocError> {
+    let mut ops = Vec::new(alloc);
+    ops.push(Op::Write(vec![in alloc; put(alloc, 1, b"a", 1, 1)?]?, true))?;
+    let both = vec![in alloc; put(alloc, 1, b"b", 2, 40)?, put(alloc, 2, b"c", 3, 1)?]?;
+    ops.push(Op::Write(both, false))?;
+    ops.push(Op::Get(1, b"b".to_vec(alloc)?))?;
+    let change = vec![in alloc; delete(alloc, 1, b"a")?, put(alloc, 2, b"d", 4, 20)?]?;
+    ops.push(Op::Write(change, false))?;
+    ops.push(Op::Sync)?;
+    ops.push(Op::Write(vec![in alloc; put(alloc, 1, b"a", 5, 900)?]?, false))?;
+    ops.push(Op::Get(1, b"a".to_vec(alloc)?))?;
+    ops.push(Op::Write(vec![in alloc; delete(alloc, 2, b"c")?]?, true))?;
+    ops.push(Op::Write(vec![in alloc; put(alloc, 2, b"c", 6, 9)?]?, false))?;
+    Ok(ops)
+}

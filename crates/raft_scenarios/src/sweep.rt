@@ -1,0 +1,63 @@
+//! Operations that are stopped at each call that changes files, and then crashed in many ways.
+
+use crate::states::{first_refused, is_allowed, is_done, operations, settings, state_of};
+use raft_files::Choice;
+use raft_log_engine::script::{Op, Trial, trial};
+use std::alloc::Global;
+use std::process::Abort;
+use std::test::Fail;
+
+const MAX_CALLS: u64 = 100;
+
+// The trial found what may be found. Behind the stop each change is refused, so that the engine fails at the first.
+fn holds(rt: &impl Abort, ops: &[Op], trial: &Trial) {
+    assert_eq!(rt; trial.failed_at, first_refused(&trial.outcomes));
+    match &trial.opened {
+        Ok(image) => {
+            let found = state_of(image);
+            assert!(rt;
+                is_allowed(ops, &trial.outcomes, trial.failed_at, found),
+                "{found:?} after {trial:?}"
+            );
+        }
+        Err(fault) => {
+            assert!(rt; false, "{fault:?} after {trial:?}");
+        }
+    }
+}
+
+fn stops_nothing(ops: &[Op], trial: &Trial) -> bool {
+    trial.outcomes.len() == ops.len() && trial.outcomes.iter().all(is_done)
+}
+
+// One way for a crash to leave the files, at a stop: whether the stop came.
+fn crash_at(
+    rt: &impl Abort,
+    alloc: Global,
+    ops: &[Op],
+    stop: u64,
+    choice: Choice,
+) -> Result<bool, Fail> {
+    let shown = trial(alloc, settings(alloc)?, ops, Some(stop), &[choice])?;
+    holds(rt, ops, &shown);
+    Ok(!stops_nothing(ops, &shown))
+}
+
+#[test]
+fn every_stop_and_crash_finds_what_may_be_found(rt: HostRuntime) -> Result<(), Fail> {
+    let alloc = rt.alloc();
+    let ops = operations(alloc)?;
+    for stop in 1..MAX_CALLS {
+        let stopped = crash_at(&rt, alloc, &ops, stop, Choice::All)?;
+        crash_at(&rt, alloc, &ops, stop, Choice::Synced)?;
+        for kept in 0..65 {
+            crash_at(&rt, alloc, &ops, stop, Choice::Torn(kept, 0))?;
+            crash_at(&rt, alloc, &ops, stop, Choice::Torn(kept, 255))?;
+        }
+        if !stopped {
+            return Ok(());
+        }
+    }
+    assert!(rt; false);
+    Ok(())
+}
