@@ -1,6 +1,9 @@
 -- Operations under way: the batch of acts, and what the operations so far leave.
-use Rattle.std.proofs.Common.{◌≡◌, ℕ, suc, ◌+◌, ◌<◌, ◌≤◌, Bool, true, false, List, [], ◌∷◌, ◌++◌, length, length-append, length-drop, take, drop, drop-cons, get_or, Option, Some, None, Result, Ok, Err, refl, sym, ◌∙◌, ap, subst, append_assoc, arith}
-use Rattle.std.specs.Prelude.{option_map, MatchOption, OnErr, OnOk}
+use Rattle.std.proofs.Common.{◌≡◌, ℕ, suc, ◌+◌, ◌<◌, ◌≤◌, Bool, true, false, List, [], ◌∷◌, ◌++◌, length, length-append, length-drop, take, drop, drop-cons, get_or, Option, Some, None, Result, Ok, Err, refl, sym, ◌∙◌, ap, subst, append_assoc, arith, inl, inr}
+use Rattle.std.specs.Prelude.{◌⊎◌, ◌↔◌, ⊤, option_map, MatchOption, Result, Ok, Err, OnOk, OnErr, is_ok}
+use Rattle.raft_records.specs.Fault.{fault_code}
+use Rattle.raft_records.specs.declared.errors.Fault.{Fault}
+use Rattle.raft_records.specs.declared.errors.Fault.TheVariants as fault
 use Rattle.std.proofs.lemmas.Iterator.Adapters.{option_map_id}
 use Rattle.std.proofs.lemmas.List.{append-nil, nil_from_length}
 use Rattle.std.proofs.lemmas.List.Sums.{fold-append}
@@ -13,8 +16,7 @@ use Rattle.raft_files.specs.Writer.{bytes_of}
 use Rattle.raft_files.specs.Memory.{no_files}
 use Rattle.raft_log_engine.proofs.OpenLemmas.{nothing_holds_nothing}
 use Rattle.raft_log_engine.specs.Log.{contents_at, contents_in, log_path}
-use Rattle.raft_log_engine.specs.Run.{accepted, accepted_of, AreAnswers, batch_of_acts, IsAnswer, item_of_act, with_first, with_items, written}
-use Rattle.raft_records.specs.declared.errors.Fault.{Fault}
+use Rattle.raft_log_engine.specs.Run.{accepted, accepted_of, AreAnswers, AreFailing, FailsBy, IsFailing, IsUnbuilt, batch_of_acts, is_failure, IsAnswer, item_of_act, with_first, with_items, written}
 use Rattle.raft_log_engine.specs.declared.script.operation.Act.{Act}
 use Rattle.raft_log_engine.specs.declared.script.operation.Op.{Op}
 use Rattle.raft_log_engine.specs.declared.script.operation.Outcome.{Outcome}
@@ -131,3 +133,67 @@ pub written_contents : (acts : List Act) (batch : Batch) (old new : Contents) (f
     → new ≡ after_batches old (written acts result)
 written_contents acts batch old new fails (Ok len) is done kept stands = done ∙ sym (after-with_items old batch) ∙ ap (λ o. after_batches old (with_items o)) (sym is)
 written_contents acts batch old new fails (Err e) is done kept stands = kept stands
+
+-- Failures.
+
+-- a call of the engine
+pub fails_by : {T : Type 0} (failed : Bool) (answer : Result T Fault) (fails : Bool) (Other : Fault → Type 0) → (answer ≡ Err fault.Failed ↔ (failed ≡ true)) → (failed ≡ true → fails ≡ true) → OnOk answer (fails ≡ false) → FailsBy failed answer fails Other
+fails_by {T} failed answer fails Other exactly still alive = record {
+  still = still;
+  told = λ is. exactly.0 (is_failed answer is);
+  refused = λ had. inl (ap is_failure (exactly.1 had));
+  stands = λ ok. by_answer answer ok alive;
+}
+  where
+    by_fault : (e : Fault) → is_failure {T = T} (Err e) ≡ true → e ≡ fault.Failed
+    by_fault fault.Failed is = refl
+    by_fault (fault.InvalidArgument x) is = cc
+    by_fault fault.Corruption is = cc
+    by_fault (fault.Io kind path) is = cc
+    by_fault fault.TryAgain is = cc
+    by_fault fault.Gap is = cc
+    by_fault fault.Range is = cc
+    by_fault fault.EntryCompacted is = cc
+    by_fault fault.EntryNotFound is = cc
+    by_fault fault.WrongIndex is = cc
+    by_fault fault.Parse is = cc
+    by_fault fault.Memory is = cc
+    by_fault fault.Lz4 is = cc
+    by_fault fault.FileOutOfRange is = cc
+    by_fault fault.NotRecovered is = cc
+    by_fault fault.TrailFull is = cc
+    by_fault fault.Layer is = cc
+
+    is_failed : (a : Result T Fault) → is_failure a ≡ true → a ≡ Err fault.Failed
+    is_failed (Ok x) is = cc
+    is_failed (Err e) is = ap Err (by_fault e is)
+
+    by_answer : (a : Result T Fault) → is_ok a ≡ true → OnOk a (fails ≡ false) → fails ≡ false
+    by_answer (Ok x) ok alive = alive
+    by_answer (Err e) ok alive = cc
+
+-- a write that doesn't reach the engine
+pub fails_unbuilt : (failed : Bool) (e : Fault) (acts : List Act) → (e ≡ fault.Memory) ⊎ ((fault_code e ≡ 1) × (batch_of_acts acts ≡ None)) → FailsBy {T = ℕ} failed (Err e) failed (IsUnbuilt acts)
+fails_unbuilt failed e acts why = by_why e why
+  where
+    of_memory : FailsBy {T = ℕ} failed (Err fault.Memory) failed (IsUnbuilt acts)
+    of_memory = record { still = λ had. had; told = λ is. cc; refused = λ had. inr tt; stands = λ ok. cc }
+
+    by_code : (e : Fault) → fault_code e ≡ 1 → batch_of_acts acts ≡ None → FailsBy {T = ℕ} failed (Err e) failed (IsUnbuilt acts)
+    by_code (fault.InvalidArgument x) is none = record { still = λ had. had; told = λ is. cc; refused = λ had. inr none; stands = λ ok. cc }
+    by_code _ is none = cc
+
+    by_why : (e : Fault) → (e ≡ fault.Memory) ⊎ ((fault_code e ≡ 1) × (batch_of_acts acts ≡ None)) → FailsBy {T = ℕ} failed (Err e) failed (IsUnbuilt acts)
+    by_why e (inl memory) = subst (λ (x : Fault). FailsBy {T = ℕ} failed (Err x) failed (IsUnbuilt acts)) (sym memory) of_memory
+    by_why e (inr code) = by_code e code.0 code.1
+
+-- a refused sync fails the engine
+pub fails_sync : (answer : Result ⊤ Fault) (fails : Bool) → OnErr answer (fails ≡ true) → is_ok answer ≡ false → fails ≡ true
+fails_sync (Ok x) fails err refused = cc
+fails_sync (Err e) fails err refused = err
+
+pub failing_more : (failed : Bool) (ops : List Op) (outcomes : List Outcome) (mid : Bool) (op : Op) (outcome : Outcome) (fails : Bool) → AreFailing failed ops outcomes mid → IsFailing mid op outcome fails → AreFailing failed (ops ++ op ∷ []) (outcomes ++ outcome ∷ []) fails
+failing_more failed [] [] mid op outcome fails are is = (fails, subst (λ (b : Bool). IsFailing b op outcome fails) are is, refl)
+failing_more failed [] (o ∷ outcomes) mid op outcome fails are is = absurd are
+failing_more failed (p ∷ ops) [] mid op outcome fails are is = absurd are
+failing_more failed (p ∷ ops) (o ∷ outcomes) mid op outcome fails are is = (are.0, are.1, failing_more are.0 ops outcomes mid op outcome fails are.2 is)

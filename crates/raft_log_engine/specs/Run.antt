@@ -1,5 +1,5 @@
 -- What operations are answered, and what they leave.
-use Rattle.std.specs.Prelude.{◌≡◌, ℕ, ◌+◌, Bool, true, false, ◌||◌, List, [], ◌∷◌, ◌++◌, length, Option, Some, None, option_map, Result, Ok, Err, is_ok, MatchResult, if◌then◌else◌}
+use Rattle.std.specs.Prelude.{◌≡◌, ◌⊎◌, ℕ, ◌+◌, Bool, true, false, ◌||◌, List, [], ◌∷◌, ◌++◌, length, Option, Some, None, option_map, Result, Ok, Err, is_ok, MatchResult, IsErrAnd, if◌then◌else◌}
 use Rattle.raft_records.specs.Batch.{is_internal_key}
 use Rattle.raft_records.specs.Contents.{Contents, after_batches}
 use Rattle.raft_records.specs.Item.{Item, Batch, Put, Delete}
@@ -113,3 +113,37 @@ abbrev pub AreAnswers : Contents → List Op → List Outcome → Type 0
 AreAnswers m [] [] = Unit {0}
 AreAnswers m (op ∷ ops) (outcome ∷ outcomes) = IsAnswer m op outcome × AreAnswers (after_batches m (accepted_of op outcome)) ops outcomes
 AreAnswers m _ _ = ⊥
+
+-- the answer of an engine that had failed
+abbrev pub is_failure : {T : Type 0} → Result T Fault → Bool
+is_failure (Err fault.Failed) = true
+is_failure _ = false
+
+-- an engine answers so and fails, or doesn't; an answer that isn't the engine's is one of the others
+pub record FailsBy {T : Type 0} (failed : Bool) (answer : Result T Fault) (fails : Bool) (Other : Fault → Type 0) : Type 0 where
+  -- it stays failed
+  pub still : failed ≡ true → fails ≡ true
+  -- a failure is told where there was one, and nowhere else
+  pub told : is_failure answer ≡ true → failed ≡ true
+  pub refused : failed ≡ true → (is_failure answer ≡ true) ⊎ IsErrAnd answer Other
+  -- a call that is answered leaves it standing
+  pub stands : is_ok answer ≡ true → fails ≡ false
+
+-- the batch of these acts can't be built, or there is no memory for it
+abbrev pub IsUnbuilt : List Act → Fault → Type 0
+IsUnbuilt acts (fault.InvalidArgument _) = batch_of_acts acts ≡ None
+IsUnbuilt acts fault.Memory = Unit {0}
+IsUnbuilt acts _ = ⊥
+
+-- .. in an operation; a refused sync fails the engine
+abbrev pub IsFailing : Bool → Op → Outcome → Bool → Type 0
+IsFailing failed (Write acts sync) (Size answer) fails = FailsBy failed answer fails (IsUnbuilt acts.items)
+IsFailing failed Sync (Done answer) fails = FailsBy failed answer fails (λ _. ⊥) × (is_ok answer ≡ false → fails ≡ true)
+IsFailing failed (Get group key) (Value answer) fails = FailsBy failed answer fails (λ _. ⊥)
+IsFailing failed _ _ fails = ⊥
+
+-- .. in each of the operations, one after the other
+abbrev pub AreFailing : Bool → List Op → List Outcome → Bool → Type 0
+AreFailing failed [] [] fails = fails ≡ failed
+AreFailing failed (op ∷ ops) (outcome ∷ outcomes) fails = (next : Bool) × IsFailing failed op outcome next × AreFailing next ops outcomes fails
+AreFailing failed _ _ fails = ⊥

@@ -7,7 +7,7 @@ ghost use Rattle.raft_files.specs.Moments.{Passes};
 ghost use Rattle.raft_log_engine.specs.Crash.{LeavesAllowed};
 ghost use Rattle.raft_log_engine.specs.Durability.{IsMomentOf, LeavesAllowedBehind, Progresses, durability_of};
 ghost use Rattle.raft_log_engine.specs.Engine.{contents_of, directory_of, durable_of, folder_of, has_failed, moments_of, unsynced_of};
-ghost use Rattle.raft_log_engine.specs.Run.{accepted, accepted_of, AreAnswers, batch_of_acts, covers, in_flight, is_covering, IsAnswer, IsWriteRefusal, IsWritten, item_of_act, with_items, written};
+ghost use Rattle.raft_log_engine.specs.Run.{accepted, accepted_of, AreAnswers, AreFailing, FailsBy, IsFailing, IsUnbuilt, batch_of_acts, covers, in_flight, is_covering, IsAnswer, IsWriteRefusal, IsWritten, item_of_act, with_items, written};
 
 use super::operation::{Act, Op, Outcome};
 use crate::Engine;
@@ -31,6 +31,7 @@ pub fn run<F: FileSystem>(
     ops: &[Op],
 ) -> Result<Vec<Outcome>, Fault>
     ensures answers { IfOk result (λ outcomes. AreAnswers (contents_of engine.old) ops.now outcomes.items) }
+    ensures failures { IfOk result (λ outcomes. AreFailing (has_failed engine.old) ops.now outcomes.items (has_failed engine.new)) }
     ensures contents { IfOk result (λ outcomes. has_failed engine.new ≡ false
         → contents_of engine.new ≡ after_batches (contents_of engine.old) (accepted ops.now outcomes.items)) }
     ensures any_moment { IfOk result (λ outcomes. Passes (moments_of engine.old) (moments_of engine.new) (directory_of engine.new)
@@ -51,6 +52,7 @@ pub(crate) fn run_watched<F: FileSystem>(
     ops: &[Op],
 ) -> Result<Ran, Fault>
     ensures answers { IfOk result (λ ran. AreAnswers (contents_of engine.old) ops.now ran.outcomes.items) }
+    ensures failures { IfOk result (λ ran. AreFailing (has_failed engine.old) ops.now ran.outcomes.items (has_failed engine.new)) }
     ensures contents { IfOk result (λ ran. has_failed engine.new ≡ false
         → contents_of engine.new ≡ after_batches (contents_of engine.old) (accepted ops.now ran.outcomes.items)) }
     ensures still { has_failed engine.old ≡ true → has_failed engine.new ≡ true }
@@ -81,6 +83,7 @@ pub(crate) fn run_watched<F: FileSystem>(
 
 fn step<F: FileSystem>(alloc: Global, engine: &mut Engine<F>, op: &Op) -> Outcome
     ensures answer { (m : Contents) → (has_failed engine.old ≡ false → m ≡ contents_of engine.old) → IsAnswer m op.now result }
+    ensures failing { IsFailing (has_failed engine.old) op.now result (has_failed engine.new) }
     ensures contents { has_failed engine.new ≡ false → contents_of engine.new ≡ after_batches (contents_of engine.old) (accepted_of op.now result) }
     ensures progress { Progresses (accepted_of op.now result) (is_covering op.now result) (in_flight op.now) (durability_of engine.old) (durability_of engine.new) }
     ensures any_moment { has_failed engine.old ≡ false → Passes (moments_of engine.old) (moments_of engine.new) (directory_of engine.new)
@@ -104,6 +107,7 @@ fn write<F: FileSystem>(
     sync: bool,
 ) -> Result<usize, Fault>
     ensures answer { MatchResult result (IsWritten acts.now) (IsWriteRefusal acts.now) }
+    ensures failing { FailsBy (has_failed engine.old) result (has_failed engine.new) (IsUnbuilt acts.now) }
     ensures contents { has_failed engine.new ≡ false → contents_of engine.new ≡ after_batches (contents_of engine.old) (written acts.now result) }
     ensures progress { Progresses (written acts.now result) (covers sync result) (with_items (batch_of_acts acts.now)) (durability_of engine.old) (durability_of engine.new) }
     ensures any_moment { has_failed engine.old ≡ false → Passes (moments_of engine.old) (moments_of engine.new) (directory_of engine.new)

@@ -9,7 +9,7 @@ use Rattle.raft_log_engine.specs.Run.{in_flight}
 use Rattle.raft_log_engine.specs.Engine.{contents_of, directory_of, durable_of, folder_of, has_failed, moments_of, unsynced_of}
 use Rattle.raft_log_engine.proofs.AllowedLemmas.{engine_holds, engine_leaves}
 use Rattle.raft_log_engine.proofs.DurabilityLemmas.{IsUnderWay, leaves_behind, moment_begun, moments_here, under_way_begun, way_here}
-use Rattle.raft_log_engine.proofs.RunLemmas.{place_kept, running_begun, running_more, taken_more}
+use Rattle.raft_log_engine.proofs.RunLemmas.{failing_more, place_kept, running_begun, running_more, taken_more}
 use Rattle.raft_log_engine.proofs.script.runs.run_watched.Goals as goal
 use Rattle.raft_log_engine.proofs.script.runs.run_watched.Goals.{then-stood+then-failed, else-stood, else-stood-via-then-stood+else-failed, else-stood-via-else-stood}
 
@@ -51,6 +51,7 @@ loop-op-preserved g c =
       step.folder ∙ kept.3,
       rw c.in_ok-push.ensures.items way,
       rw c.in_ok-push.ensures.items moments,
+      rw (taken, c.in_ok-push.ensures.items) (failing_more (has_failed c.args.engine.now) ops outcomes (has_failed old) c.op-item.result c.step-outcome.result (has_failed new) kept.6 step.failing),
     )
 
 pub loop-op-init : goal.loop-op-init
@@ -63,6 +64,7 @@ loop-op-init g c =
       refl,
       under_way_begun c.args.ops.now (durability_of e),
       passes_none _ (moments_of e) (moments_of e) (directory_of e) refl (moment_begun (folder_of e) (durable_of e) (unsynced_of e) c.args.ops.now (directory_of e) (engine_leaves e)),
+      refl,
     )
 
 pub returns-clause-now : goal.returns-clause-now

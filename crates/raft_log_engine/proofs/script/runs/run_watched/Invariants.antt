@@ -2,6 +2,7 @@ use Rattle.std.proofs.Common.{◌≡◌, ◌≤◌, length, take, vec_len, vec_c
 use Rattle.raft_files.specs.Moments.{Passes}
 use Rattle.raft_log_engine.specs.Durability.{IsMomentOf, durability_of}
 use Rattle.raft_log_engine.specs.Engine.{contents_of, directory_of, durable_of, folder_of, has_failed, moments_of, unsynced_of}
+use Rattle.raft_log_engine.specs.Run.{AreFailing}
 use Rattle.raft_log_engine.proofs.DurabilityLemmas.{IsUnderWay}
 use Rattle.raft_log_engine.proofs.RunLemmas.{IsRunning}
 use Rattle.raft_log_engine.proofs.script.runs.run_watched.Given as goal
@@ -14,3 +15,4 @@ invariant-loop-op g l =
     × (folder_of l.engine ≡ folder_of l.initial.engine)
     × IsUnderWay (durable_of l.initial.engine) (unsynced_of l.initial.engine) l.ops (length l.outcomes.items) l.outcomes.items (durability_of l.engine)
     × Passes (moments_of l.initial.engine) (moments_of l.engine) (directory_of l.engine) (IsMomentOf (folder_of l.initial.engine) (durable_of l.initial.engine) (unsynced_of l.initial.engine) l.ops l.outcomes.items)
+    × AreFailing (has_failed l.initial.engine) (take l.op-index l.ops) l.outcomes.items (has_failed l.engine)
