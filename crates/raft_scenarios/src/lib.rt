@@ -1,4 +1,5 @@
-//! Tests that cross crates: the program line by line, and an engine over files in memory.
+//! Tests that cross crates: the program line by line, an engine over files in memory, and what is found after crashes,
+//! stops and refusals.
 #![tactic(auto)]
 
 #[cfg(test)]
