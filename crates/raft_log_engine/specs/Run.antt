@@ -92,7 +92,6 @@ IsWriteRefusal acts _ = ⊥
 abbrev pub IsSyncRefusal : Fault → Type 0
 IsSyncRefusal (fault.Io kind path) = Unit {0}
 IsSyncRefusal fault.Memory = Unit {0}
-IsSyncRefusal fault.Range = Unit {0}
 IsSyncRefusal fault.Failed = Unit {0}
 IsSyncRefusal _ = ⊥
 
