@@ -1,10 +1,10 @@
 -- What a choice leaves of a file, and that storage may leave it.
-use Rattle.std.proofs.Common.{◌≡◌, ℕ, zero, suc, ◌+◌, ◌-◌, ◌<◌, ◌≤◌, Bool, true, false, cond, eqb, leb, ◌&&◌, List, [], ◌∷◌, ◌++◌, length, get_or, map, refl, sym, ◌∙◌, ap, subst, add-one, arith}
-use Rattle.std.specs.Prelude.{◌==◌, nat_le}
+use Rattle.std.proofs.Common.{◌≡◌, ℕ, ◌+◌, ◌-◌, ◌<◌, Bool, cond, eqb, leb, ◌&&◌, List, [], ◌∷◌, ◌++◌, length, get_or, map, refl, sym, ◌∙◌, ap, add-one, arith}
+use Rattle.std.specs.Prelude.{◌==◌}
 use Rattle.std.specs.List.{range_with_len}
 use Rattle.std.proofs.lemmas.Bool.Decides.{nat_tests}
 use Rattle.std.proofs.lemmas.List.FromFn.{map-range_with_len_more, length-map-range_with_len, get_or-map-range_with_len}
-use Rattle.raft_files.specs.Outcomes.{File, MayLeave, is_touched, least_len, greatest_len}
+use Rattle.raft_files.specs.Outcomes.{File, MayLeave, is_touched}
 use Rattle.raft_files.specs.Kept.{IsKept, is_covered}
 use Rattle.raft_files.specs.Choice.{torn, torn_byte, touched_before}
 use Rattle.raft_files.proofs.SlotLemmas.{least_synced, greatest_synced, may_leave}

@@ -1,5 +1,5 @@
--- Calls keep files consistent, and storage may leave of such a file all bytes now or those of the last sync.
-use Rattle.std.proofs.Common.{◌≡◌, ◌⊎◌, ℕ, zero, suc, ◌+◌, ◌-◌, ◌<◌, ◌≤◌, ◌==◌, min, max, Bool, true, false, cond, List, [], ◌∷◌, length, take, replicate, slice_index, slice_index_or, Option, Some, None, is_some, refl, ap, sym, subst, ◌∙◌, inl, inr, arith}
+-- Calls keep files consistent, and storage may leave of such a file all bytes now.
+use Rattle.std.proofs.Common.{◌≡◌, ◌⊎◌, ℕ, ◌+◌, ◌-◌, ◌<◌, ◌≤◌, ◌==◌, min, max, Bool, true, false, cond, List, [], ◌∷◌, ◌++◌, length, take, replicate, slice_index, slice_index_or, Option, Some, None, is_some, refl, ap, sym, subst, ◌∙◌, inl, inr, arith}
 use Rattle.std.specs.Prelude.{◌||◌, option_map}
 use Rattle.std.proofs.lemmas.Bool.{cases_Bool, cases_lt, eqb-true}
 use Rattle.std.proofs.lemmas.Bool.Decides.{nat_tests}
@@ -9,25 +9,23 @@ use Rattle.std.specs.Ordering.{nat_cmp, eq_by_cmp}
 use Rattle.std.specs.Cmp.Lexicographic.{slice_cmp, nat_list_cmp_total}
 use Rattle.std.specs.FinMap as finite
 use Rattle.raft_files.specs.Outcomes.{File, Change, MayLeave, Outcome, IsPartOf, IsCutOf, is_within, is_touched, untouched_len, least_len, greatest_len, written, resized, cut_to, synced_of, settled, padded, overlaid}
-use Rattle.raft_files.specs.Directory.{Directory, Left, Path, Leaves, file_at, placed, changed, changed_at, created, folder_made, IsChanging, IsWriting, IsTruncating, IsAllocating, IsOneOf, IsRestarted}
+use Rattle.raft_files.specs.Directory.{Directory, Left, Path, file_at, placed, changed, changed_at, created, folder_made, IsChanging, IsWriting, IsTruncating, IsAllocating, IsOneOf, IsRestarted}
 use Rattle.raft_files.specs.Detectable.{bytes_behind}
-use Rattle.raft_files.specs.Choice.{chosen, chosen_at, choice_for, left_by}
-use Rattle.raft_files.specs.Consistent.{IsConsistent, AreConsistent, AreWhole}
+use Rattle.raft_files.specs.Consistent.{HasItsRange, IsPastOf, IsConsistent, AreConsistent, AreWhole}
 use Rattle.raft_files.specs.declared.crash.Choice.{Choice}
 use Rattle.raft_files.specs.declared.crash.Choice.TheVariants as choice
 use Rattle.raft_files.proofs.ExtentLemmas.{same_some}
 use Rattle.raft_files.proofs.SlotLemmas.{length-overlaid, overlaid_outside_part}
-use Rattle.raft_files.proofs.ChoiceLemmas.{synced_may_be_left}
-use Rattle.raft_files.proofs.RecordsLemmas.{changed_by, not_within, same_front, IsUntouched}
+use Rattle.raft_files.proofs.RecordsLemmas.{changed_by, not_within}
 use Rattle.raft_files.proofs.TruncationLemmas.{cut_change, cut_is}
 
 -- Files.
 
 pub settled_consistent : (bytes : List ℕ) → IsConsistent (settled bytes)
-settled_consistent bytes = record { latest = refl; untouched = λ i within apart. (within, refl) }
+settled_consistent bytes = record { latest = refl; untouched = λ i within apart. (within, refl); past = tt; earlier = tt }
 
-pub synced_consistent : (file : File) → IsConsistent (synced_of file)
-synced_consistent file = record { latest = refl; untouched = λ i within apart. (within, refl) }
+pub synced_consistent : (file : File) → IsConsistent file → IsConsistent (synced_of file)
+synced_consistent file is = record { latest = refl; untouched = λ i within apart. (within, refl); past = is.past; earlier = is.past }
 
 or_false : (a b : Bool) → a || b ≡ false → (a ≡ false) × (b ≡ false)
 or_false true b e = cc
@@ -37,14 +35,16 @@ or_false false b e = (refl, e)
 pub record KeepsOutside (old : List ℕ) (c : Change) : Type 0 where
   pub outside : (i : ℕ) → i < length old → is_within c.from c.size i ≡ false → (i < length c.after) × (slice_index c.after i ≡ slice_index old i)
 
-consistent_more : (file : File) (c : Change) (rewritten : Option (List (ℕ × ℕ))) → IsConsistent file → KeepsOutside file.now c → IsConsistent (changed_by c rewritten file)
-consistent_more file c rewritten old keeps = record {
+consistent_more : (file : File) (c : Change) (rewritten : Option (List (ℕ × ℕ))) → IsConsistent file → c.before ≡ file.now → HasItsRange c → KeepsOutside file.now c → IsConsistent (changed_by c rewritten file)
+consistent_more file c rewritten old before range keeps = record {
   latest = refl;
   untouched = λ i within apart.
       let each = or_false (is_within c.from c.size i) (is_touched file.changes i) apart in
       let stood = old.untouched i within each.1 in
       let stands = keeps.outside i stood.0 each.0 in
       (stands.0, stands.1 ∙ stood.1);
+  past = (refl, range, subst (λ bytes. IsPastOf bytes (file.changes ++ file.older)) (sym before) old.past);
+  earlier = old.earlier;
 }
 
 part_outside : (at len : ℕ) (old : List ℕ) (c : Change) → c.from ≡ at → c.size ≡ len → IsPartOf at len old c.after → KeepsOutside old c
@@ -54,25 +54,25 @@ part_outside at len old c from size part = record {
 
 -- a write, done or not
 pub written_consistent : (at : ℕ) (given after : List ℕ) (is_done : Bool) (file : File) → IsConsistent file → Outcome is_done (overlaid file.now at given) (IsPartOf at (length given) file.now) after → IsConsistent (written at given is_done after file)
-written_consistent at given after true file old done = consistent_more file _ _ old (record {
+written_consistent at given after true file old done = consistent_more file _ _ old refl (omega arith) (record {
   outside = λ i within apart. (
     omega (arith, ap length done, length-overlaid file.now at given),
     ap (λ b. slice_index b i) done ∙ overlaid_outside_part file.now at (length given) given (omega arith) i apart,
   );
 })
-written_consistent at given after false file old part = consistent_more file _ _ old (part_outside at (length given) file.now _ refl refl part)
+written_consistent at given after false file old part = consistent_more file _ _ old refl (omega arith) (part_outside at (length given) file.now _ refl refl part)
 
 -- an allocation
 pub allocated_consistent : (size : ℕ) (after : List ℕ) (is_done : Bool) (file : File) → IsConsistent file → Outcome is_done (padded file.now size) (IsPartOf (length file.now) (size - length file.now) file.now) after → IsConsistent (resized is_done after file)
 allocated_consistent size after true file old done =
     let zeros : List ℕ = replicate (size - length file.now) 0 in
-    consistent_more file _ file.rewritten old (record {
+    consistent_more file _ file.rewritten old refl (omega arith) (record {
       outside = λ i within apart. (
         omega (arith, ap length done, length-append file.now zeros),
         ap (λ b. slice_index b i) done ∙ get_or_append_left file.now zeros 0 i within,
       );
     })
-allocated_consistent size after false file old part = consistent_more file _ file.rewritten old (record {
+allocated_consistent size after false file old part = consistent_more file _ file.rewritten old refl (omega arith) (record {
   outside = λ i within apart. (omega (arith, part.no_shorter), part.elsewhere i within (not_within (length file.now) (size - length file.now) i (inl within)));
 })
 
@@ -87,10 +87,18 @@ outside_is from size i apart = elim (cases_lt i from) [
 
 -- a truncation
 pub cut_consistent : (size : ℕ) (after : List ℕ) (is_done : Bool) (file : File) → IsConsistent file → Outcome is_done (take size file.now) (IsCutOf size file.now) after → IsConsistent (cut_to size is_done after file)
-cut_consistent size after is_done file old outcome = subst IsConsistent (sym (cut_is size is_done after file)) (consistent_more file (cut_change size is_done after file.now) file.rewritten old (by_outcome is_done outcome))
+cut_consistent size after is_done file old outcome = subst IsConsistent (sym (cut_is size is_done after file)) (consistent_more file (cut_change size is_done after file.now) file.rewritten old (cut_before is_done) (omega (arith, ap length (cut_given is_done))) (by_outcome is_done outcome))
   where
     now : List ℕ
     now = file.now
+
+    cut_before : (is_done : Bool) → (cut_change size is_done after now).before ≡ now
+    cut_before true = refl
+    cut_before false = refl
+
+    cut_given : (is_done : Bool) → (cut_change size is_done after now).given ≡ []
+    cut_given true = refl
+    cut_given false = refl
 
     by_outcome : (is_done : Bool) → Outcome is_done (take size now) (IsCutOf size now) after → KeepsOutside now (cut_change size is_done after now)
     by_outcome true done = record {
@@ -116,7 +124,7 @@ cut_consistent size after is_done file old outcome = subst IsConsistent (sym (cu
 
 -- Directories.
 
-placed_cases : (path q : Path) (file found : File) (n : Directory) → file_at (placed path file n) q ≡ Some found → (file ≡ found) ⊎ (file_at n q ≡ Some found)
+pub placed_cases : (path q : Path) (file found : File) (n : Directory) → file_at (placed path file n) q ≡ Some found → (file ≡ found) ⊎ (file_at n q ≡ Some found)
 placed_cases path q file found n stands = by_test (eq_by_cmp (slice_cmp nat_cmp) q path) (sym (finite.get-insert nat_list_cmp_total n.files path file q) ∙ stands)
   where
     by_test : (same : Bool) → cond same (Some file) (file_at n q) ≡ Some found → (file ≡ found) ⊎ (file_at n q ≡ Some found)
@@ -147,11 +155,11 @@ truncating_consistent path size old new = changing_consistent path _ _ _ old new
 
 pub syncing_consistent : (path : Path) (old new : Directory) → AreConsistent old → IsOneOf old (changed path synced_of old) new → AreConsistent new
 syncing_consistent path old new all (inl same) = subst AreConsistent (sym same) all
-syncing_consistent path old new all (inr is) = subst AreConsistent (sym is) (by_file (file_at old path))
+syncing_consistent path old new all (inr is) = subst AreConsistent (sym is) (by_file (file_at old path) refl)
   where
-    by_file : (found : Option File) → AreConsistent (changed_at path synced_of found old)
-    by_file None = all
-    by_file (Some file) = placed_consistent path (synced_of file) old all (synced_consistent file)
+    by_file : (found : Option File) → file_at old path ≡ found → AreConsistent (changed_at path synced_of found old)
+    by_file None stands = all
+    by_file (Some file) stands = placed_consistent path (synced_of file) old all (synced_consistent file (all path file stands))
 
 pub creating_consistent : (path : Path) (old new : Directory) → AreConsistent old → IsOneOf old (created path old) new → AreConsistent new
 creating_consistent path old new all (inl same) = subst AreConsistent (sym same) all
@@ -174,15 +182,15 @@ restarted_consistent n m d restarted path file stands = by_file (file_at n path)
 
 -- What storage may leave.
 
-least_now : (synced : List ℕ) (changes : List Change) → least_len synced changes ≤ length (bytes_behind synced changes)
+pub least_now : (synced : List ℕ) (changes : List Change) → least_len synced changes ≤ length (bytes_behind synced changes)
 least_now synced [] = omega arith
 least_now synced (c ∷ changes) = omega arith
 
-greatest_now : (synced : List ℕ) (changes : List Change) → length (bytes_behind synced changes) ≤ greatest_len synced changes
+pub greatest_now : (synced : List ℕ) (changes : List Change) → length (bytes_behind synced changes) ≤ greatest_len synced changes
 greatest_now synced [] = omega arith
 greatest_now synced (c ∷ changes) = omega arith
 
-now_may_be_left : (file : File) → IsConsistent file → MayLeave file file.now
+pub now_may_be_left : (file : File) → IsConsistent file → MayLeave file file.now
 now_may_be_left file is = record {
   no_shorter = omega (arith, least_now file.synced file.changes, ap length is.latest);
   no_longer = omega (arith, greatest_now file.synced file.changes, ap length is.latest);
@@ -195,28 +203,9 @@ whole_choice choices whole i = elim (cases_lt i (length choices)) [
   | inr past ↦ inr (get_or_past choices i choice.Synced past)
 ]
 
--- choices of all bytes or the synced ones are allowed
-pub whole_left : (choices : List Choice) (n : Directory) → AreWhole choices → AreConsistent n → Leaves n (left_by choices n)
-whole_left choices n whole all = record {
-  each = λ path file stands.
-      let c = choice_for choices (finite.keys n.files) path in
-      subst (λ found. MayLeave file (chosen_at c found)) (sym stands) (by_choice file (all path file stands) c (whole_choice choices whole _));
-}
-  where
-    by_choice : (file : File) → IsConsistent file → (c : Choice) → (c ≡ choice.All) ⊎ (c ≡ choice.Synced) → MayLeave file (chosen c file)
-    by_choice file is c (inl same) = subst (λ x. MayLeave file (chosen x file)) (sym same) (now_may_be_left file is)
-    by_choice file is c (inr same) = subst (λ x. MayLeave file (chosen x file)) (sym same) (synced_may_be_left file)
-
 -- What no change touched.
 
-untouched_within : (synced : List ℕ) (changes : List Change) → untouched_len synced changes ≤ length synced
-untouched_within synced [] = omega arith
-untouched_within synced (c ∷ changes) = elim (cases_Bool (c.size == 0)) [
-  | inl none ↦ omega (arith, untouched_within synced changes, ap (λ b. cond b (untouched_len synced changes) (min c.from (untouched_len synced changes))) none)
-  | inr some ↦ omega (arith, untouched_within synced changes, ap (λ b. cond b (untouched_len synced changes) (min c.from (untouched_len synced changes))) some)
-]
-
-nowhere : (from size i : ℕ) → size ≡ 0 → is_within from size i ≡ false
+pub nowhere : (from size i : ℕ) → size ≡ 0 → is_within from size i ≡ false
 nowhere from size i none = elim (cases_lt i from) [
   | inl front ↦ not_within from size i (inl front)
   | inr behind ↦ not_within from size i (inr (omega (arith, none)))
@@ -225,7 +214,7 @@ nowhere from size i none = elim (cases_lt i from) [
 touched_later : (c : Change) (changes : List Change) (i : ℕ) → is_within c.from c.size i ≡ false → is_touched changes i ≡ false → is_touched (c ∷ changes) i ≡ false
 touched_later c changes i apart further = ap (λ b. b || is_touched changes i) apart ∙ further
 
-before_is_untouched : (synced : List ℕ) (changes : List Change) (i : ℕ) → i < untouched_len synced changes → is_touched changes i ≡ false
+pub before_is_untouched : (synced : List ℕ) (changes : List Change) (i : ℕ) → i < untouched_len synced changes → is_touched changes i ≡ false
 before_is_untouched synced [] i before = refl
 before_is_untouched synced (c ∷ changes) i before = elim (cases_Bool (c.size == 0)) [
   | inl none ↦
@@ -235,14 +224,3 @@ before_is_untouched synced (c ∷ changes) i before = elim (cases_Bool (c.size =
       let len = ap (λ b. cond b (untouched_len synced changes) (min c.from (untouched_len synced changes))) some in
       touched_later c changes i (not_within c.from c.size i (inl (omega (arith, len)))) (before_is_untouched synced changes i (omega (arith, len)))
 ]
-
-pub untouched_of_consistent : (file : File) → IsConsistent file → IsUntouched file
-untouched_of_consistent file is =
-    let len = untouched_len file.synced file.changes in
-    let within = untouched_within file.synced file.changes in
-    let each : (i : ℕ) → i < len → (i < length file.now) × (slice_index file.now i ≡ slice_index file.synced i) = λ i before. is.untouched i (omega arith) (before_is_untouched file.synced file.changes i before) in
-    record { untouched = same_front len file.now file.synced (reaches len each) within (λ i before. (each i before).1) }
-  where
-    reaches : (len : ℕ) → ((i : ℕ) → i < len → (i < length file.now) × (slice_index file.now i ≡ slice_index file.synced i)) → len ≤ length file.now
-    reaches zero each = omega arith
-    reaches (suc last) each = omega (arith, (each last (omega arith)).0)

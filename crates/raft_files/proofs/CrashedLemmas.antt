@@ -1,16 +1,15 @@
 -- The files of a crashed directory, one by one.
-use Rattle.std.proofs.Common.{◌≡◌, ◌≢◌, ℕ, Bool, true, false, cond, eqb, List, [], ◌∷◌, ◌++◌, length, map, Option, Some, None, refl, sym, ◌∙◌, ap, subst, append_assoc, ◌||◌, arith}
+use Rattle.std.proofs.Common.{◌≡◌, ℕ, Bool, true, false, cond, eqb, List, [], ◌∷◌, ◌++◌, length, map, Option, Some, None, refl, sym, ◌∙◌, ap, subst, append_assoc, ◌||◌, arith}
 use Rattle.std.specs.Prelude.{String, option_map, slice_index_or}
 use Rattle.std.specs.List.{AllByRecursion, list_any, position_or_len}
 use Rattle.std.specs.List.Sorted.{IsStrictlySortedBy}
 use Rattle.std.specs.declared.alloc.Global.{Global}
-use Rattle.std.specs.declared.cmp.Ordering.TheVariants.{Less, Equal, Greater}
+use Rattle.std.specs.declared.cmp.Ordering.TheVariants.{Less}
 use Rattle.std.specs.String.{string_bytes, string_cmp}
 use Rattle.std.specs.Str.{bytes_eq}
-use Rattle.std.specs.Ordering.{nat_cmp, is_eq, eq_by_cmp}
+use Rattle.std.specs.Ordering.{nat_cmp, is_eq}
 use Rattle.std.specs.Cmp.Lexicographic.{slice_cmp, nat_list_cmp_total}
 use Rattle.std.specs.Cmp.{eq_by_cmp_equiv}
-use Rattle.std.specs.Map.{lookup}
 use Rattle.std.specs.BTreeMap as tree
 use Rattle.std.specs.FinMap as finite
 use Rattle.std.proofs.lemmas.Map.Text.{btree_map_updates_text, is_eq-slice_cmp}
@@ -19,7 +18,7 @@ use Rattle.raft_records.specs.declared.errors.Fault.{Fault}
 use Rattle.raft_records.specs.declared.errors.Fault.TheVariants as fault
 use Rattle.raft_files.specs.Outcomes.{File, MayLeave, settled}
 use Rattle.raft_files.specs.Directory.{Path, Left, Leaves, IsRestarted, file_at, is_on_way}
-use Rattle.raft_files.specs.Memory.{Files, folders_of, tree_directory}
+use Rattle.raft_files.specs.Files.{Files, folders_of, tree_directory}
 use Rattle.raft_files.specs.Choice.{chosen, chosen_at, choice_for, left_by, RefusesUnless}
 use Rattle.raft_files.specs.Crashed.{Stands, Copied, IsLeft, Puts, at_path}
 use Rattle.raft_files.specs.declared.tree.Tree.{Tree}

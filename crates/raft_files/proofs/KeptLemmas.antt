@@ -1,5 +1,5 @@
 -- What a crash leaves of the log file at a path, whatever calls change it.
-use Rattle.std.proofs.Common.{◌≡◌, ℕ, ◌+◌, ◌≤◌, List, [], ◌∷◌, ◌++◌, length, take, Option, Some, None, is_some, cond, true, map, refl, ap, sym, subst, ◌∙◌, inl, inr, arith}
+use Rattle.std.proofs.Common.{◌≡◌, ℕ, ◌≤◌, List, [], ◌∷◌, ◌++◌, length, take, Option, Some, None, is_some, cond, true, map, refl, ap, sym, subst, ◌∙◌, inl, inr, arith}
 use Rattle.std.specs.Prelude.{option_map}
 use Rattle.std.proofs.lemmas.List.{append-nil, map-append, take_all, take-append-le, length-take, length-take-le}
 use Rattle.std.proofs.lemmas.Bool.{eq-eqb}
@@ -8,7 +8,7 @@ use Rattle.raft_records.specs.declared.pipe_log.FileId.{FileId}
 use Rattle.raft_files.specs.declared.format.LogFileFormat.{LogFileFormat}
 use Rattle.raft_files.specs.Header.{header_bytes, header_len}
 use Rattle.raft_files.specs.Outcomes.{File, Change, resized, cut_to, synced_of, settled}
-use Rattle.raft_files.specs.Directory.{Directory, Left, Path, Leaves, file_at, placed, created, changed, changed_at, IsOneOf, IsTruncating, IsRestarted}
+use Rattle.raft_files.specs.Directory.{Directory, Left, Path, file_at, placed, created, changed, changed_at, IsOneOf, IsTruncating, IsRestarted}
 use Rattle.raft_files.specs.Reading.{Placed, Reading, records_behind, end_of_records, reading, records_of, readable_records, readable_batches, end_of, end_of_reading, ends_with, is_read_to_end}
 use Rattle.raft_files.specs.Detectable.{IsBeginningOf, format_of, signature_by, bytes_behind, AreDone, IsDetectable}
 use Rattle.raft_files.specs.Records.{ReadsFirst, KeepsRecords, HoldsRecords, HasLog, HasTornLog, left_of, left_bytes, FirstOf, KeepsLog, KeepsNone, HoldsNothing, IsKept}
@@ -24,11 +24,11 @@ use Rattle.raft_files.proofs.LogLemmas.{count_of, stands_after, log_cutting, tor
 
 -- What a crash then leaves.
 
-pub kept_left : (path : Path) (id : FileId) (batches : List Batch) (synced : ℕ) (n : Directory) → IsKept path id batches synced n → (d : Left) → Leaves n d → IsDetectable path id n d → FirstOf batches synced (readable_batches id (left_bytes path n d))
-kept_left path id batches synced n (inl log) d leaves detectable =
+pub kept_left : (path : Path) (id : FileId) (batches : List Batch) (synced : ℕ) (n : Directory) → IsKept path id batches synced n → (d : Left) → IsDetectable path id n d → FirstOf batches synced (readable_batches id (left_bytes path n d))
+kept_left path id batches synced n (inl log) d detectable =
     subst (λ found. FirstOf batches synced (readable_batches id (left_of found (d path)))) (sym log.stands)
     (keeps_batches path id n log.file log.format log.records synced batches log.stands log.keeps log.holds d detectable)
-kept_left path id batches synced n (inr (nothing, none_synced)) d leaves detectable =
+kept_left path id batches synced n (inr (nothing, none_synced)) d detectable =
     (0, omega (arith, none_synced), omega arith, by_file (file_at n path) refl)
   where
     by_file : (found : Option File) → file_at n path ≡ found → readable_batches id (left_of found (d path)) ≡ []
@@ -159,7 +159,7 @@ keeps_synced id format records synced file keeps reads = record {
 }
   where
     Allowed : List Change → Type 0
-    Allowed upto = (left : List Placed) → IsBeginningOf left (readable_records id (bytes_behind file.now upto)) → AreDone (signature_by id format) (upto ++ (file.changes ++ file.older)) left → IsBeginningOf left records
+    Allowed upto = (left : List Placed) → IsBeginningOf left (readable_records id (bytes_behind file.now upto)) → AreDone id (signature_by id format) (upto ++ (file.changes ++ file.older)) left → IsBeginningOf left records
 
     now : Allowed []
     now left begins done = keeps.moments [] file.changes refl left (subst (λ bytes. IsBeginningOf left (readable_records id bytes)) keeps.latest begins) done

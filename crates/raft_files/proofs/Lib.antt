@@ -23,6 +23,11 @@ pub mod NoneLemmas
 pub mod TruncationLemmas
 pub mod KeptLemmas
 pub mod ConsistentLemmas
+pub mod TornLemmas
+pub mod ToldLemmas
+pub mod DoneLemmas
 pub mod PremiseLemmas
+pub mod InvariantLemmas
+pub mod PastLemmas
 pub mod ChoiceLemmas
 pub mod CrashedLemmas

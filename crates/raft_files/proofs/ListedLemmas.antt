@@ -1,11 +1,10 @@
 -- The keys of a directory are those of its map, in order.
-use Rattle.std.proofs.Common.{◌≡◌, Bool, true, false, cond, List, [], ◌∷◌, map, Option, Some, None, refl, sym, ◌∙◌, ap, subst}
+use Rattle.std.proofs.Common.{◌≡◌, Bool, true, false, List, [], ◌∷◌, map, Option, Some, None, refl, sym, ◌∙◌, ap, subst}
 use Rattle.std.specs.Prelude.{String, ◌&&◌, ◌||◌}
 use Rattle.std.specs.List.{AllByRecursion, filter_map, list_any}
 use Rattle.std.specs.List.Sorted.{IsStrictlySortedBy}
 use Rattle.std.specs.declared.alloc.Global.{Global}
-use Rattle.std.specs.declared.cmp.Ordering.{Ordering}
-use Rattle.std.specs.declared.cmp.Ordering.TheVariants.{Less, Equal, Greater}
+use Rattle.std.specs.declared.cmp.Ordering.TheVariants.{Less}
 use Rattle.std.specs.String.{string_bytes, string_cmp}
 use Rattle.std.specs.Ordering.{nat_cmp, is_lt}
 use Rattle.std.specs.Cmp.Lexicographic.{slice_cmp, nat_list_cmp_total}
@@ -15,7 +14,7 @@ use Rattle.std.specs.FinMap.Entries.{is_sorted, below_all}
 use Rattle.std.proofs.Math.Dec.{T}
 use Rattle.raft_files.specs.Outcomes.{File}
 use Rattle.raft_files.specs.Directory.{Path}
-use Rattle.raft_files.specs.Memory.{Files, by_bytes, directory_of}
+use Rattle.raft_files.specs.Files.{Files, by_bytes, directory_of}
 use Rattle.raft_files.proofs.MemoryLemmas.{path_cmp-IsAntisymmetric}
 
 joined : (a b : Bool) → T a → T b → T (a && b)

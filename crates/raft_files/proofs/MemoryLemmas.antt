@@ -1,10 +1,10 @@
 -- What a change of one file does to the directory that a map of files shows.
-use Rattle.std.proofs.Common.{◌≡◌, ◌≢◌, ℕ, Bool, true, false, cond, List, [], ◌∷◌, Option, Some, None, refl, sym, ◌∙◌, ap, subst}
+use Rattle.std.proofs.Common.{◌≡◌, Bool, false, cond, List, [], ◌∷◌, Some, refl, sym, ◌∙◌, ap}
 use Rattle.std.specs.Prelude.{String, IsSome, is_some}
 use Rattle.std.specs.declared.alloc.Global.{Global}
 use Rattle.std.specs.String.{string_bytes, string_cmp}
 use Rattle.std.specs.Str.{bytes_eq}
-use Rattle.std.specs.Ordering.{nat_cmp, eq_by_cmp, is_eq}
+use Rattle.std.specs.Ordering.{nat_cmp, eq_by_cmp}
 use Rattle.std.specs.Cmp.Lexicographic.{slice_cmp, nat_list_cmp_total}
 use Rattle.std.specs.Cmp.{eq_by_cmp_equiv}
 use Rattle.std.specs.BTreeMap as tree
@@ -13,9 +13,9 @@ use Rattle.std.specs.FinMap as finite
 use Rattle.std.proofs.lemmas.Map.Text.{btree_map_updates_text, is_eq-slice_cmp}
 use Rattle.std.proofs.lemmas.Map.Steps.{set_value_same}
 use Rattle.raft_files.specs.Outcomes.{File, settled}
-use Rattle.raft_files.specs.Directory.{Directory, Path, file_at, placed, changed, changed_at, created}
+use Rattle.raft_files.specs.Directory.{Path, file_at, placed, changed, changed_at, created}
 use Rattle.raft_files.specs.declared.tree.Tree.{Tree}
-use Rattle.raft_files.specs.Memory.{Files, by_bytes, directory_of, folders_of, tree_directory}
+use Rattle.raft_files.specs.Files.{Files, by_bytes, directory_of, folders_of, tree_directory}
 
 pub path_cmp-IsAntisymmetric : finite.IsAntisymmetric (slice_cmp nat_cmp)
 path_cmp-IsAntisymmetric = finite.slice_cmp-IsAntisymmetric finite.nat_cmp-IsAntisymmetric

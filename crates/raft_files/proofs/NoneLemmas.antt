@@ -1,5 +1,5 @@
 -- Files of which a crash leaves no record.
-use Rattle.std.proofs.Common.{◌≡◌, ℕ, ◌+◌, ◌-◌, ◌≤◌, true, false, List, [], ◌∷◌, ◌++◌, length, Option, Some, None, map, refl, ap, sym, subst, ◌∙◌, inl, inr, arith, ltb}
+use Rattle.std.proofs.Common.{◌≡◌, ℕ, ◌≤◌, true, false, List, [], ◌∷◌, ◌++◌, length, Option, Some, None, map, refl, ap, sym, subst, ◌∙◌, inl, inr, arith, ltb}
 use Rattle.std.proofs.lemmas.Bool.{cases_Bool}
 use Rattle.raft_records.specs.declared.pipe_log.FileId.{FileId}
 use Rattle.raft_files.specs.declared.format.LogFileFormat.{LogFileFormat}
@@ -43,7 +43,7 @@ pub none_synced : (id : FileId) (file : File) → KeepsNone id file → KeepsNon
 none_synced id file none = record { latest = refl; moments = only_moment Nothing now }
   where
     Nothing : List Change → Type 0
-    Nothing upto = (format : LogFileFormat) (left : List Placed) → IsBeginningOf left (readable_records id (bytes_behind file.now upto)) → AreDone (signature_by id format) (upto ++ (file.changes ++ file.older)) left → left ≡ []
+    Nothing upto = (format : LogFileFormat) (left : List Placed) → IsBeginningOf left (readable_records id (bytes_behind file.now upto)) → AreDone id (signature_by id format) (upto ++ (file.changes ++ file.older)) left → left ≡ []
 
     now : Nothing []
     now format left begins done = none.moments [] file.changes refl format left (subst (λ bytes. IsBeginningOf left (readable_records id bytes)) none.latest begins) done
@@ -51,11 +51,11 @@ none_synced id file none = record { latest = refl; moments = only_moment Nothing
 -- Changes.
 
 pub none_more : (id : FileId) (file : File) (c : Change) (rewritten : Option (List (ℕ × ℕ))) → KeepsNone id file →
-    ((format : LogFileFormat) (left : List Placed) → IsBeginningOf left (readable_records id c.after) → AreDone (signature_by id format) (c ∷ file.changes ++ file.older) left → left ≡ []) → KeepsNone id (changed_by c rewritten file)
+    ((format : LogFileFormat) (left : List Placed) → IsBeginningOf left (readable_records id c.after) → AreDone id (signature_by id format) (c ∷ file.changes ++ file.older) left → left ≡ []) → KeepsNone id (changed_by c rewritten file)
 none_more id file c rewritten none moment = record { latest = refl; moments = moments }
   where
     Nothing : List Change → Type 0
-    Nothing upto = (format : LogFileFormat) (left : List Placed) → IsBeginningOf left (readable_records id (bytes_behind file.synced upto)) → AreDone (signature_by id format) (upto ++ file.older) left → left ≡ []
+    Nothing upto = (format : LogFileFormat) (left : List Placed) → IsBeginningOf left (readable_records id (bytes_behind file.synced upto)) → AreDone id (signature_by id format) (upto ++ file.older) left → left ≡ []
 
     moments : (newer upto : List Change) → c ∷ file.changes ≡ newer ++ upto → Nothing upto
     moments [] upto e = subst Nothing e moment

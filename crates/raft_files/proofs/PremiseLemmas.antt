@@ -1,41 +1,97 @@
 -- The premise on torn and stale bytes can be met.
-use Rattle.std.proofs.Common.{◌≡◌, ◌⊎◌, ℕ, List, ◌++◌, Some, None, sym, subst, ◌∙◌, inl, inr}
+use Rattle.std.proofs.Common.{◌≡◌, ℕ, ◌≤◌, List, length, take, slice_index_or, None, ap, sym, subst, ◌∙◌, inl, inr, arith}
+use Rattle.std.proofs.lemmas.Bool.{cases_lt}
+use Rattle.std.proofs.lemmas.List.{get_or_past}
+use Rattle.std.proofs.lemmas.List.Elements.{All-get_or}
 use Rattle.std.specs.FinMap as finite
 use Rattle.raft_records.specs.Item.{Batch}
 use Rattle.raft_records.specs.declared.pipe_log.FileId.{FileId}
 use Rattle.raft_files.specs.declared.format.LogFileFormat.{LogFileFormat}
-use Rattle.raft_files.specs.Outcomes.{File}
-use Rattle.raft_files.specs.Directory.{Directory, Path, file_at}
-use Rattle.raft_files.specs.Choice.{chosen, chosen_at, choice_for, left_by}
-use Rattle.raft_files.specs.Consistent.{IsConsistent, AreWhole}
-use Rattle.raft_files.specs.Detectable.{EndsUnmarked, IsDetectableFile, IsDetectable, NoneRefused}
-use Rattle.raft_files.specs.Records.{IsWrittenTo, HasLog}
+use Rattle.raft_files.specs.Outcomes.{File, MayLeave, is_touched}
+use Rattle.raft_files.specs.Directory.{Directory, Left, Path, Leaves, file_at}
+use Rattle.raft_files.specs.Choice.{torn, touched_before, chosen, chosen_at, choice_for, left_by}
+use Rattle.raft_files.specs.Consistent.{IsConsistent, AreConsistent, AreWhole}
+use Rattle.raft_files.specs.Detectable.{IsDetectableFile, IsDetectable}
+use Rattle.raft_files.specs.Records.{HoldsRecords}
+use Rattle.raft_files.specs.Told.{HasDoneRecords, HasDoneLog, IsBrokenFrom, IsTornBehind, NamesNoBytes, NameNoBytes}
 use Rattle.raft_files.specs.declared.crash.Choice.{Choice}
 use Rattle.raft_files.specs.declared.crash.Choice.TheVariants as choice
 use Rattle.raft_files.proofs.ExtentLemmas.{same_some}
-use Rattle.raft_files.proofs.RecordsLemmas.{now_is_detectable, synced_is_detectable, unmarked_held, zeros_only, none_refused_before}
-use Rattle.raft_files.proofs.ConsistentLemmas.{whole_choice, untouched_of_consistent}
+use Rattle.raft_files.proofs.ChoiceLemmas.{synced_may_be_left}
+use Rattle.raft_files.proofs.ConsistentLemmas.{now_may_be_left, whole_choice}
+use Rattle.raft_files.proofs.TornLemmas.{length-torn, take-torn, torn_may_be_left}
+use Rattle.raft_files.proofs.ToldLemmas.{torn_is_detectable, now_is_torn, synced_is_torn}
 
--- where no call was refused no record that can't be read ends a log
-pub log_unmarked : (path : Path) (id : FileId) (format : LogFileFormat) (batches : List Batch) (synced at : ℕ) (n : Directory) (file : File) → HasLog path id format batches synced at n → file_at n path ≡ Some file → NoneRefused (file.changes ++ file.older) → EndsUnmarked id file.now
-log_unmarked path id format batches synced at n file log stands none =
-    let same : log.file ≡ file = same_some (sym log.stands ∙ stands) in
-    let written : IsWrittenTo id format log.records synced at file = subst (IsWrittenTo id format log.records synced at) same log.written in
-    unmarked_held id format log.records at file.now written.holds (zeros_only at file.now (file.changes ++ file.older) written.empty none)
+-- What storage may leave.
 
--- .. and the damage of a crash can be told that leaves each file with all its bytes or those of its last sync
-pub whole_detectable : (path : Path) (id : FileId) (format : LogFileFormat) (batches : List Batch) (synced at : ℕ) (n : Directory) (file : File) (choices : List Choice) → AreWhole choices → HasLog path id format batches synced at n → file_at n path ≡ Some file →
-    IsConsistent file → NoneRefused (file.changes ++ file.older) → EndsUnmarked id file.synced → file.rewritten ≡ None → IsDetectable path id n (left_by choices n)
-whole_detectable path id format batches synced at n file choices whole log stands consistent none unmarked never other stands_too =
-    subst (λ f. IsDetectableFile id f (left_by choices n path)) (same_some (sym stands ∙ stands_too))
-    (subst (λ found. IsDetectableFile id file (chosen_at c found)) (sym stands) (by_choice c (whole_choice choices whole _)))
+choice_may_leave : (file : File) → IsConsistent file → (c : Choice) → NamesNoBytes c → MayLeave file (chosen c file)
+choice_may_leave file is choice.All none = now_may_be_left file is
+choice_may_leave file is choice.Synced none = synced_may_be_left file
+choice_may_leave file is (choice.Torn kept fill) none = torn_may_be_left file kept fill is
+choice_may_leave file is (choice.Bytes bytes) none = absurd none
+
+-- each path's choice is one of these, or `Synced`
+pub no_bytes_at_turn : (choices : List Choice) → NameNoBytes choices → (i : ℕ) → NamesNoBytes (slice_index_or choices i choice.Synced)
+no_bytes_at_turn choices none i = elim (cases_lt i (length choices)) [
+  | inl within ↦ All-get_or NamesNoBytes choices i choice.Synced within none
+  | inr past ↦ subst NamesNoBytes (sym (get_or_past choices i choice.Synced past)) tt
+]
+
+-- what choices leave that name no bytes
+pub choices_may_leave : (choices : List Choice) (n : Directory) → NameNoBytes choices → AreConsistent n → Leaves n (left_by choices n)
+choices_may_leave choices n none all = record {
+  each = λ path file stands.
+      let c = choice_for choices (finite.keys n.files) path in
+      subst (λ found. MayLeave file (chosen_at c found)) (sym stands) (choice_may_leave file (all path file stands) c (no_bytes_at_turn choices none _));
+}
+
+-- Records that no refused call brought.
+
+module _ (path : Path) (id : FileId) (format : LogFileFormat) (batches : List Batch) (synced at : ℕ) (n : Directory) (log : HasDoneRecords path id format batches synced at n) (never : log.file.rewritten ≡ None) (consistent : AreConsistent n) where
+  is_consistent : IsConsistent log.file
+  is_consistent = consistent path log.file log.stands
+
+  told_at : (d : Left) → MayLeave log.file (d path) → IsTornBehind id format log.records log.file (d path) → IsDetectable path id n d
+  told_at d may torn file stands = subst (λ f. IsDetectableFile id f (d path)) (same_some (sym log.stands ∙ stands)) (torn_is_detectable id format log.records synced at log.file (d path) log.held is_consistent.latest never may torn)
+
+  -- damage behind the first of them can be told
+  pub records_told : (d : Left) → Leaves n d → IsTornBehind id format log.records log.file (d path) → IsDetectable path id n d
+  records_told d leaves = told_at d (leaves.each path log.file log.stands)
+
+  module _ (choices : List Choice) where
+    left_at : (c : Choice) → choice_for choices (finite.keys n.files) path ≡ c → left_by choices n path ≡ chosen c log.file
+    left_at c is = ap (λ x. chosen_at x (file_at n path)) is ∙ ap (chosen_at c) log.stands
+
+    pub told_by : (c : Choice) → choice_for choices (finite.keys n.files) path ≡ c → NamesNoBytes c → IsTornBehind id format log.records log.file (chosen c log.file) → IsDetectable path id n (left_by choices n)
+    told_by c is none torn =
+        let left = sym (left_at c is) in
+        told_at (left_by choices n) (subst (MayLeave log.file) left (choice_may_leave log.file is_consistent c none)) (subst (IsTornBehind id format log.records log.file) left torn)
+
+    -- so that of a torn file that keeps the first of them
+    pub records_torn : (kept fill count end : ℕ) → choice_for choices (finite.keys n.files) path ≡ choice.Torn kept fill → HoldsRecords id format (take count log.records) end log.file.now → touched_before (is_touched log.file.changes) end ≤ kept →
+        IsBrokenFrom id format end (left_by choices n path) → IsDetectable path id n (left_by choices n)
+    records_torn kept fill count end is holds enough broken =
+        let touched = is_touched log.file.changes in
+        let within = holds.within in
+        told_by (choice.Torn kept fill) is tt (record {
+          count = count;
+          end = end;
+          holds = holds;
+          within = omega (arith, within, length-torn touched kept fill log.file.now);
+          same = take-torn touched kept fill log.file.now end within enough;
+          broken = subst (IsBrokenFrom id format end) (left_at (choice.Torn kept fill) is) broken;
+        })
+
+-- .. and that of a log with all its bytes or those of its last sync
+pub log_whole : (path : Path) (id : FileId) (format : LogFileFormat) (batches : List Batch) (synced at : ℕ) (n : Directory) (log : HasDoneLog path id format batches synced at n) → log.held.file.rewritten ≡ None → AreConsistent n → (choices : List Choice) → AreWhole choices →
+    IsDetectable path id n (left_by choices n)
+log_whole path id format batches synced at n log never consistent choices whole = elim (whole_choice choices whole _) [
+  | inl all ↦ told choice.All all tt (now_is_torn id format held.records synced at held.file (record { written = log.written; held = held.held; refused = log.refused }))
+  | inr old ↦ told choice.Synced old tt (synced_is_torn id format held.records synced at held.file (consistent path held.file held.stands) held.held)
+]
   where
-    c : Choice
-    c = choice_for choices (finite.keys n.files) path
+    held : HasDoneRecords path id format batches synced at n
+    held = log.held
 
-    written : IsWrittenTo id format log.records synced at file
-    written = subst (IsWrittenTo id format log.records synced at) (same_some (sym log.stands ∙ stands)) log.written
-
-    by_choice : (c : Choice) → (c ≡ choice.All) ⊎ (c ≡ choice.Synced) → IsDetectableFile id file (chosen c file)
-    by_choice c (inl all) = subst (λ x. IsDetectableFile id file (chosen x file)) (sym all) (now_is_detectable id format log.records synced at file written (untouched_of_consistent file consistent) none never)
-    by_choice c (inr old) = subst (λ x. IsDetectableFile id file (chosen x file)) (sym old) (synced_is_detectable id format log.records synced file written.keeps unmarked (none_refused_before file.changes file.older none) never)
+    told : (c : Choice) → choice_for choices (finite.keys n.files) path ≡ c → NamesNoBytes c → IsTornBehind id format held.records held.file (chosen c held.file) → IsDetectable path id n (left_by choices n)
+    told = told_by path id format batches synced at n held never consistent choices

@@ -4,20 +4,20 @@ use Rattle.std.specs.Prelude.{◌||◌, option_map}
 use Rattle.std.proofs.lemmas.Bool.{cases_Bool, cases_lt, eqb-true}
 use Rattle.std.proofs.lemmas.Bool.Decides.{nat_tests}
 use Rattle.std.proofs.lemmas.List.{append-nil, take_all, take-take, take-append-le, length-append, length-take, length-take-le, length-replicate, get_or-take, get_or-drop, get_or-replicate, ext_get_or, take-map, length-map, get_or-append_right, take_at, get_or_append_left}
-use Rattle.std.proofs.lemmas.List.Elements.{Contains-append_right}
+use Rattle.std.proofs.lemmas.List.Elements.{Contains-append_left, Contains-append_right, Contains-append_cases, Contains-push_cases}
 use Rattle.std.specs.Int.{w64, from_be_bytes}
 use Rattle.raft_codec.specs.Number.{take_u64}
 use Rattle.raft_codec.proofs.NumberLemmas.{take_u64_long}
 use Rattle.raft_records.specs.Item.{Batch}
-use Rattle.raft_records.specs.Record.{Header, header_in, record_header, parts_by, record_of}
+use Rattle.raft_records.specs.Record.{Header, header_in, record_header, record_of}
 use Rattle.raft_records.specs.declared.pipe_log.FileId.{FileId}
 use Rattle.raft_files.specs.declared.format.LogFileFormat.{LogFileFormat}
 use Rattle.raft_files.specs.Header.{HasHeader, header_bytes, header_len, header_of}
-use Rattle.raft_files.specs.Outcomes.{File, Change, is_within, is_touched, untouched_len, IsStaleAt, written, resized, cut_to, synced_of, settled, padded, overlaid, Outcome, IsPartOf, IsCutOf}
+use Rattle.raft_files.specs.Outcomes.{File, Change, is_within, is_touched, untouched_len, written, resized, cut_to, synced_of, padded, overlaid, Outcome, IsPartOf, IsCutOf}
 use Rattle.raft_files.specs.Directory.{Directory, Left, Path, file_at}
 use Rattle.raft_files.specs.Reading.{Placed, record_place, record_at, placed_before, placed_by, records_from, end_of_records, Reading, records_behind, records_in, reading_behind, reading, records_of, readable_records, readable_batches, ends_with, is_read_to_end}
-use Rattle.raft_files.specs.Detectable.{IsBeginningOf, format_of, signature_by, bytes_behind, IsGivenBy, IsDone, AreDone, IsMarkedAt, EndsUnmarked, IsDetectableFile, IsDetectable, NoneRefused}
-use Rattle.raft_files.specs.Records.{ReadsFirst, KeepsRecords, IsRefusedAt, IsEmptyFrom, HoldsRecords, IsWrittenTo, IsTornFrom, FirstOf}
+use Rattle.raft_files.specs.Detectable.{IsBeginningOf, format_of, signature_by, bytes_behind, IsGivenBy, HasNoRefusedByte, IsDone, AreDone, IsDetectableFile, IsDetectable}
+use Rattle.raft_files.specs.Records.{ReadsFirst, KeepsRecords, IsRefusedAt, IsEmptyFrom, HasNothingFrom, HoldsRecords, IsWrittenTo, IsTornFrom, FirstOf}
 use Rattle.raft_files.proofs.DetectableLemmas.{beginning_itself, beginning_trans, beginning_append, beginning_take, beginning_length, beginning_is, beginning_split}
 use Rattle.raft_files.proofs.HeaderLemmas.{length-header_bytes}
 use Rattle.raft_files.proofs.ExtentLemmas.{record_header_is, record_of_header, same_some, header_of_takes}
@@ -50,6 +50,54 @@ end_of_front {place = place} {found = found} stays n at (x ∷ xs) ys e =
     let first = first_placed place found n at x (xs ++ ys) e in
     end_of_front stays first.limit (x.at + x.len) xs ys (sym first.others)
 
+pub contains_cases : {A : Type 0} (x r : A) (xs : List A) → Contains (x ∷ xs) r → (x ≡ r) ⊎ Contains xs r
+contains_cases x r xs has = elim (Contains-append_cases (x ∷ []) xs r has) [
+  | inr behind ↦ inr behind
+  | inl first ↦ elim (Contains-push_cases [] x r first) [
+    | inl none ↦ absurd (omega (arith, none.1))
+    | inr same ↦ inl same
+  ]
+]
+
+-- a record that is found between two places
+pub record StandsBetween (found : ℕ → Option (Batch × ℕ)) (from to : ℕ) (r : Placed) : Type 0 where
+  pub is : found r.at ≡ Some (r.batch, r.len)
+  pub behind : from ≤ r.at
+  pub before : r.at + r.len ≤ to
+
+-- each record stands behind the place where the search begins, and ends before the end of all
+pub placed_stands : {end : ℕ} {place : ℕ → ℕ} {found : ℕ → Option (Batch × ℕ)} → StaysBefore end place found → (n at : ℕ) (rs : List Placed) → placed_by n place found at ≡ rs → (r : Placed) → Contains rs r → StandsBetween found at (end_of_records at rs) r
+placed_stands stays n at [] e r has = absurd (omega (arith, has.1))
+placed_stands {place = place} {found = found} stays n at (x ∷ xs) e r has =
+    let first = first_placed place found n at x xs e in
+    let forward : at ≤ place at = stays.forward at in
+    let further : x.at + x.len ≤ end_of_records (x.at + x.len) xs = subst (λ rs. x.at + x.len ≤ end_of_records (x.at + x.len) rs) (sym first.others) (end_of_placed-from stays first.limit (x.at + x.len)) in
+    elim (contains_cases x r xs has) [
+      | inl same ↦ subst (StandsBetween found at (end_of_records (x.at + x.len) xs)) same (record { is = first.is; behind = omega (arith, first.stands, forward); before = further })
+      | inr others ↦
+          let stands = placed_stands stays first.limit (x.at + x.len) xs (sym first.others) r others in
+          record { is = stands.is; behind = omega (arith, first.stands, forward, stands.behind); before = stands.before }
+    ]
+
+-- a record that is read stands in the bytes, by the signature of their header
+pub record IsReadIn (id : FileId) (bytes : List ℕ) (r : Placed) : Type 0 where
+  pub signature : Option ℕ
+  pub is : record_at signature bytes r.at ≡ Some (r.batch, r.len)
+  pub long : 21 ≤ r.len
+  pub within : r.at + r.len ≤ length bytes
+
+pub read_in : (id : FileId) (bytes : List ℕ) (r : Placed) → Contains (readable_records id bytes) r → IsReadIn id bytes r
+read_in id bytes r = by_reading (reading id bytes) refl
+  where
+    by_reading : (read : Option Reading) → reading id bytes ≡ read → Contains (records_of read) r → IsReadIn id bytes r
+    by_reading None e has = absurd (omega (arith, has.1))
+    by_reading (Some q) e has =
+        let signature = signature_by id q.format in
+        let all = sym ((reading_is id bytes q e).records) in
+        let stands = placed_stands (records_stay q.format.alignment signature bytes) (length bytes) (header_len q.format.version) q.records all r has in
+        let found = found_record signature bytes r.at r.batch r.len stands.is in
+        record { signature = signature; is = stands.is; long = found.2; within = found.3 }
+
 -- What stands behind the records.
 
 header_in_zero : (footer : ℕ) → header_in 0 footer ≡ None
@@ -59,7 +107,7 @@ zero_number : from_be_bytes w64 (replicate 8 0) ≡ 0
 zero_number = refl
 
 -- a header that begins with zeros can't be read
-record_header_zeros : (bytes : List ℕ) (at : ℕ) (header : Header) → at + 8 ≤ length bytes → ((i : ℕ) → at ≤ i → i < at + 8 → slice_index bytes i ≡ 0) → record_header (drop at bytes) ≡ Some header → ⊥
+pub record_header_zeros : (bytes : List ℕ) (at : ℕ) (header : Header) → at + 8 ≤ length bytes → ((i : ℕ) → at ≤ i → i < at + 8 → slice_index bytes i ≡ 0) → record_header (drop at bytes) ≡ Some header → ⊥
 record_header_zeros bytes at header long zeros e =
     let has = record_header_is (drop at bytes) header e in
     let front = take 8 (drop at bytes) in
@@ -99,26 +147,32 @@ record_of_none signature batch len e =
     absurd (omega (arith, has.long))
 
 -- what is read where zeros and bytes of refused calls stand isn't done, by whatever signature what these were to write is judged
-none_done : (signature by : Option ℕ) (bytes : List ℕ) (changes : List Change) (from : ℕ) → IsEmptyFrom from bytes changes → (r : Placed) → from ≤ r.at → record_at signature bytes r.at ≡ Some (r.batch, r.len) → IsDone by changes r → ⊥
-none_done signature by bytes changes from empty r behind is done =
+none_done : (signature by : Option ℕ) (bytes : List ℕ) (changes : List Change) (from : ℕ) → IsEmptyFrom from bytes changes → (r : Placed) → from ≤ r.at → record_at signature bytes r.at ≡ Some (r.batch, r.len) → HasNoRefusedByte by changes r → ⊥
+none_done signature by bytes changes from empty r behind is no_byte =
     let found = found_record signature bytes r.at r.batch r.len is in
     elim (search_bytes (IsRefusedAt changes) bytes 8 r.at (λ i above below. empty i (omega arith) (omega (arith, found.2, found.3)))) [
       | inl zeros ↦ record_header_zeros bytes r.at found.0 (omega (arith, found.2, found.3)) zeros found.1
       | inr refused ↦
           let i = refused.0 in
           let q : IsRefusedAt changes i = refused.3 in
-          let given = done q.0 q.1 q.2 q.3 q.4 (i, refused.1, omega (arith, refused.2, found.2), q.6, q.7) in
+          let given = no_byte q.0 q.1 q.2 q.3 q.4 (i, refused.1, omega (arith, refused.2, found.2), q.6, q.7) in
           record_of_none by r.batch r.len (sym (ap (λ b. record_of by b) q.5) ∙ given.1)
     ]
 
--- .. so a crash leaves nothing of it
-pub nothing_behind : (alignment : ℕ) (signature by : Option ℕ) (bytes : List ℕ) (changes : List Change) (from : ℕ) → IsEmptyFrom from bytes changes → (n at : ℕ) → from ≤ at → (left : List Placed) →
-    IsBeginningOf left (records_from n alignment signature bytes at) → AreDone by changes left → left ≡ []
-nothing_behind alignment signature by bytes changes from empty n at behind [] begins done = refl
-nothing_behind alignment signature by bytes changes from empty n at behind (r ∷ left) begins done =
-    let first = first_placed (record_place alignment bytes) (record_at signature bytes) n at r (left ++ begins.0) begins.1 in
-    let forward : at ≤ record_place alignment bytes at = (records_stay alignment signature bytes).forward at in
-    absurd (none_done signature by bytes changes from empty r (omega (arith, first.stands)) first.is (done r (0, omega arith, refl)))
+pub done_without_byte : (id : FileId) (by : Option ℕ) (changes : List Change) (r : Placed) → HasNoRefusedByte by changes r → IsDone id by changes r
+done_without_byte id by [] r no_byte = tt
+done_without_byte id by (c ∷ changes) r no_byte = inl no_byte
+
+-- .. so no record is done behind a place where none was before the change
+pub has_nothing_after : (id : FileId) (from at : ℕ) (c : Change) (changes : List Change) → HasNothingFrom id from c.before changes → from ≤ at → IsEmptyFrom at c.after (c ∷ changes) → HasNothingFrom id at c.after (c ∷ changes)
+has_nothing_after id from at c changes nothing further empty by r has behind done = elim done [
+  | inl no_byte ↦ let is = read_in id c.after r has in none_done is.signature by c.after (c ∷ changes) at empty r behind is.is no_byte
+  | inr earlier ↦ nothing by r earlier.0 (omega arith) earlier.1
+]
+
+-- nothing is read behind the end of the bytes
+pub has_nothing_past : (id : FileId) (at : ℕ) (bytes : List ℕ) (changes : List Change) → length bytes ≤ at → HasNothingFrom id at bytes changes
+has_nothing_past id at bytes changes short by r has behind done = let is = read_in id bytes r has in absurd (omega (arith, is.long, is.within))
 
 -- The records up to a place, and what is read behind them.
 
@@ -144,23 +198,81 @@ format_of_read id bytes r e = ap (λ header. option_map (λ (h : LogFileFormat �
 pub format_of-held : (id : FileId) (format : LogFileFormat) (records : List Placed) (at : ℕ) (bytes : List ℕ) → HoldsRecords id format records at bytes → format_of bytes ≡ Some format
 format_of-held id format records at bytes holds = format_of_read id bytes _ (reading-held id format records at bytes holds)
 
--- a crash leaves a beginning of the records of bytes that hold them alone
-pub left_of_held : (id : FileId) (format : LogFileFormat) (by : Option ℕ) (records : List Placed) (at : ℕ) (bytes : List ℕ) (changes : List Change) → HoldsRecords id format records at bytes → IsEmptyFrom at bytes changes →
-    (left : List Placed) → IsBeginningOf left (readable_records id bytes) → AreDone by changes left → IsBeginningOf left records
-left_of_held id format by records at bytes changes holds empty left begins done =
+-- what is read behind them is read of the whole file, and stands behind them
+in_behind : (id : FileId) (format : LogFileFormat) (records : List Placed) (at : ℕ) (bytes : List ℕ) → HoldsRecords id format records at bytes →
+    (r : Placed) → Contains (records_behind id format bytes at) r → Contains (readable_records id bytes) r × (at ≤ r.at)
+in_behind id format records at bytes holds r has =
+    let behind = records_behind id format bytes at in (
+      subst (λ all. Contains all r) (sym (readable-held id format records at bytes holds)) (Contains-append_right records behind r has),
+      (placed_stands (records_stay format.alignment (signature_by id format) bytes) (length bytes) at behind refl r has).behind,
+    )
+
+-- what is read is one of them or stands behind them
+pub read_of_held : (id : FileId) (format : LogFileFormat) (records : List Placed) (at : ℕ) (bytes : List ℕ) → HoldsRecords id format records at bytes →
+    (r : Placed) → Contains (readable_records id bytes) r → Contains records r ⊎ (at ≤ r.at)
+read_of_held id format records at bytes holds r has =
+    let behind = records_behind id format bytes at in
+    elim (Contains-append_cases records behind r (subst (λ all. Contains all r) (readable-held id format records at bytes holds) has)) [
+      | inl inside ↦ inl inside
+      | inr further ↦ inr (in_behind id format records at bytes holds r further).1
+    ]
+
+-- each of them ends before the place
+pub ends_in_held : (id : FileId) (format : LogFileFormat) (records : List Placed) (at : ℕ) (bytes : List ℕ) → HoldsRecords id format records at bytes → (r : Placed) → Contains records r → r.at + r.len ≤ at
+ends_in_held id format records at bytes holds r has =
+    let front = take at bytes in
+    let is = reading_is id front (record { format = format; records = records; end = at }) holds.read in
+    let stands = placed_stands (records_stay format.alignment (signature_by id format) front) (length front) (header_len format.version) records (sym is.records) r has in
+    omega (arith, stands.before, is.end)
+
+only_one : (rs : List Placed) (r : Placed) → length rs ≤ 1 → Contains rs r → rs ≡ r ∷ []
+only_one [] r few has = absurd (omega (arith, has.1))
+only_one (x ∷ []) r few has = elim (contains_cases x r [] has) [
+  | inl same ↦ ap (λ p. p ∷ []) same
+  | inr none ↦ absurd (omega (arith, none.1))
+]
+only_one (x ∷ y ∷ rs) r few has = absurd (omega (arith, few))
+
+-- where all that is read is among at most one record, no second is read
+beginning_of_one : (alignment : ℕ) (signature : Option ℕ) (bytes : List ℕ) (n at : ℕ) (left others : List Placed) → length others ≤ 1 → IsBeginningOf left (records_from n alignment signature bytes at) → ((r : Placed) → Contains left r → Contains others r) → IsBeginningOf left others
+beginning_of_one alignment signature bytes n at [] others few begins among = (others, refl)
+beginning_of_one alignment signature bytes n at (r ∷ []) others few begins among = ([], only_one others r few (among r (0, omega arith, refl)))
+beginning_of_one alignment signature bytes n at (r ∷ q ∷ left) others few begins among =
+    let stays = records_stay alignment signature bytes in
+    let further = q ∷ left ++ begins.0 in
+    let first = first_placed (record_place alignment bytes) (record_at signature bytes) n at r further begins.1 in
+    let second = placed_stands stays first.limit (r.at + r.len) further (sym first.others) q (0, omega arith, refl) in
+    let both : r ∷ [] ≡ q ∷ [] = sym (only_one others r few (among r (0, omega arith, refl))) ∙ only_one others q few (among q (1, omega arith, refl)) in
+    let same : r ≡ q = cc (both) in
+    let found = found_record signature bytes r.at r.batch r.len first.is in
+    absurd (omega (arith, found.2, second.behind, ap (λ (p : Placed). p.at) same))
+
+-- where at most one record is done behind these, a crash leaves a beginning of all
+pub left_of_torn : (id : FileId) (format : LogFileFormat) (by : Option ℕ) (records others : List Placed) (at : ℕ) (bytes : List ℕ) (changes : List Change) → HoldsRecords id format records at bytes → length others ≤ 1 →
+    ((r : Placed) → Contains (readable_records id bytes) r → at ≤ r.at → IsDone id by changes r → Contains others r) →
+    (left : List Placed) → IsBeginningOf left (readable_records id bytes) → AreDone id by changes left → IsBeginningOf left (records ++ others)
+left_of_torn id format by records others at bytes changes holds few only left begins done =
     let behind = records_behind id format bytes at in
     elim (beginning_split left records behind (begins.0, sym (readable-held id format records at bytes holds) ∙ begins.1)) [
-      | inl within ↦ within
+      | inl within ↦ beginning_trans left records (records ++ others) within (beginning_append records others)
       | inr further ↦
           let rest = further.0 in
-          let done_behind : AreDone by changes rest = λ r in_rest. done r (subst (λ all. Contains all r) (sym further.1) (Contains-append_right records rest r in_rest)) in
-          let none : rest ≡ [] = nothing_behind format.alignment (signature_by id format) by bytes changes at empty (length bytes) at (omega arith) rest further.2 done_behind in
-          subst (λ all. IsBeginningOf all records) (sym (further.1 ∙ ap (λ r. records ++ r) none ∙ append-nil records)) (beginning_itself records)
+          let among : (r : Placed) → Contains rest r → Contains others r = λ r has.
+          let is = in_behind id format records at bytes holds r (subst (λ all. Contains all r) (sym further.2.1) (Contains-append_left rest further.2.0 r has)) in
+          only r is.0 is.1 (done r (subst (λ all. Contains all r) (sym further.1) (Contains-append_right records rest r has))) in
+          let first : IsBeginningOf rest others = beginning_of_one format.alignment (signature_by id format) bytes (length bytes) at rest others few further.2 among in
+          (first.0, ap (λ rs. records ++ rs) first.1 ∙ sym (append_assoc records rest first.0) ∙ ap (λ rs. rs ++ first.0) (sym further.1))
     ]
+
+-- .. and where none is done, a beginning of these
+pub left_of_held : (id : FileId) (format : LogFileFormat) (by : Option ℕ) (records : List Placed) (at : ℕ) (bytes : List ℕ) (changes : List Change) → HoldsRecords id format records at bytes → HasNothingFrom id at bytes changes →
+    (left : List Placed) → IsBeginningOf left (readable_records id bytes) → AreDone id by changes left → IsBeginningOf left records
+left_of_held id format by records at bytes changes holds nothing left begins done =
+    subst (IsBeginningOf left) (append-nil records) (left_of_torn id format by records [] at bytes changes holds (omega arith) (λ r has behind is. absurd (nothing by r has behind is)) left begins done)
 
 -- The synced records.
 
-reads_first-within : (id : FileId) (format : LogFileFormat) (records : List Placed) (bytes : List ℕ) → ReadsFirst id format records bytes → end_of_records (header_len format.version) records ≤ length bytes
+pub reads_first-within : (id : FileId) (format : LogFileFormat) (records : List Placed) (bytes : List ℕ) → ReadsFirst id format records bytes → end_of_records (header_len format.version) records ≤ length bytes
 reads_first-within id format records bytes reads =
     let is = reading_is id bytes (record { format = format; records = reads.all; end = reads.end }) reads.read in
     let from = header_len format.version in
@@ -183,7 +295,7 @@ reads_first-kept id format records last a b reads same within =
       first = beginning_append records behind;
     }
 
-untouched_len_more : (synced : List ℕ) (c : Change) (changes : List Change) (len : ℕ) → len ≤ untouched_len synced changes → len ≤ c.from → len ≤ untouched_len synced (c ∷ changes)
+pub untouched_len_more : (synced : List ℕ) (c : Change) (changes : List Change) (len : ℕ) → len ≤ untouched_len synced changes → len ≤ c.from → len ≤ untouched_len synced (c ∷ changes)
 untouched_len_more synced c changes len before within = elim (cases_Bool (c.size == 0)) [
   | inl none ↦ omega (arith, ap (λ b. cond b (untouched_len synced changes) (min c.from (untouched_len synced changes))) none)
   | inr some ↦ omega (arith, ap (λ b. cond b (untouched_len synced changes) (min c.from (untouched_len synced changes))) some)
@@ -207,7 +319,7 @@ abbrev pub changed_by : Change → Option (List (ℕ × ℕ)) → File → File
 changed_by c rewritten file = record { now = c.after; synced = file.synced; changes = c ∷ file.changes; older = file.older; rewritten = rewritten }
 
 pub keeps_more : (id : FileId) (format : LogFileFormat) (old all : List Placed) (synced : ℕ) (file : File) (c : Change) (rewritten : Option (List (ℕ × ℕ))) → KeepsRecords id format old synced file → IsBeginningOf old all →
-    format_of c.after ≡ Some format → ((left : List Placed) → IsBeginningOf left (readable_records id c.after) → AreDone (signature_by id format) (c ∷ file.changes ++ file.older) left → IsBeginningOf left all) →
+    format_of c.after ≡ Some format → ((left : List Placed) → IsBeginningOf left (readable_records id c.after) → AreDone id (signature_by id format) (c ∷ file.changes ++ file.older) left → IsBeginningOf left all) →
     end_of_records (header_len format.version) (take synced old) ≤ c.from → KeepsRecords id format all synced (changed_by c rewritten file)
 keeps_more id format old all synced file c rewritten keeps more header moment behind = record {
   header = header;
@@ -220,19 +332,19 @@ keeps_more id format old all synced file c rewritten keeps more header moment be
     same : take synced old ≡ take synced all
     same = sym (ap (λ rs. take synced rs) more.1 ∙ take-append-le synced old more.0 keeps.few)
 
-    moments : (newer upto : List Change) → c ∷ file.changes ≡ newer ++ upto → (left : List Placed) → IsBeginningOf left (readable_records id (bytes_behind file.synced upto)) → AreDone (signature_by id format) (upto ++ file.older) left → IsBeginningOf left all
-    moments [] upto e = subst (λ changes. (left : List Placed) → IsBeginningOf left (readable_records id (bytes_behind file.synced changes)) → AreDone (signature_by id format) (changes ++ file.older) left → IsBeginningOf left all) e moment
+    moments : (newer upto : List Change) → c ∷ file.changes ≡ newer ++ upto → (left : List Placed) → IsBeginningOf left (readable_records id (bytes_behind file.synced upto)) → AreDone id (signature_by id format) (upto ++ file.older) left → IsBeginningOf left all
+    moments [] upto e = subst (λ changes. (left : List Placed) → IsBeginningOf left (readable_records id (bytes_behind file.synced changes)) → AreDone id (signature_by id format) (changes ++ file.older) left → IsBeginningOf left all) e moment
     moments (x ∷ newer) upto e = λ left begins done. beginning_trans left old all (keeps.moments newer upto (cc) left begins done) more
 
 keeps_held : (id : FileId) (format : LogFileFormat) (old new all : List Placed) (synced at : ℕ) (file : File) (c : Change) (rewritten : Option (List (ℕ × ℕ))) → KeepsRecords id format old synced file → IsBeginningOf old all →
-    HoldsRecords id format new at c.after → IsEmptyFrom at c.after (c ∷ file.changes ++ file.older) → IsBeginningOf new all →
+    HoldsRecords id format new at c.after → HasNothingFrom id at c.after (c ∷ file.changes ++ file.older) → IsBeginningOf new all →
     end_of_records (header_len format.version) (take synced old) ≤ c.from → KeepsRecords id format all synced (changed_by c rewritten file)
-keeps_held id format old new all synced at file c rewritten keeps more holds empty first behind =
+keeps_held id format old new all synced at file c rewritten keeps more holds nothing first behind =
     keeps_more id format old all synced file c rewritten keeps more (format_of-held id format new at c.after holds)
-    (λ left begins done. beginning_trans left new all (left_of_held id format (signature_by id format) new at c.after (c ∷ file.changes ++ file.older) holds empty left begins done) first) behind
+    (λ left begins done. beginning_trans left new all (left_of_held id format (signature_by id format) new at c.after (c ∷ file.changes ++ file.older) holds nothing left begins done) first) behind
 
 -- the synced records end before the place of the writer
-synced_within : (id : FileId) (format : LogFileFormat) (records : List Placed) (synced at : ℕ) (bytes : List ℕ) → HoldsRecords id format records at bytes → end_of_records (header_len format.version) (take synced records) ≤ at
+pub synced_within : (id : FileId) (format : LogFileFormat) (records : List Placed) (synced at : ℕ) (bytes : List ℕ) → HoldsRecords id format records at bytes → end_of_records (header_len format.version) (take synced records) ≤ at
 synced_within id format records synced at bytes holds =
     let r : Reading = record { format = format; records = records; end = at } in
     let is = reading_is id (take at bytes) r holds.read in
@@ -285,7 +397,7 @@ keeps_batches path id n file format records synced batches stands keeps same d d
 
 -- Places of bytes.
 
-within_is : (from size i : ℕ) → from ≤ i → i < from + size → is_within from size i ≡ true
+pub within_is : (from size i : ℕ) → from ≤ i → i < from + size → is_within from size i ≡ true
 within_is from size i above below = grind (arith, nat_tests)
 
 pub not_within : (from size i : ℕ) → (i < from) ⊎ (from + size ≤ i) → is_within from size i ≡ false
@@ -311,26 +423,41 @@ holds_same id format records at a b holds same long = record { within = long; re
 
 -- A change that touches nothing before the writer's place.
 
-written_to_changed : (id : FileId) (format : LogFileFormat) (records : List Placed) (synced at : ℕ) (file : File) (c : Change) (rewritten : Option (List (ℕ × ℕ))) → IsWrittenTo id format records synced at file →
+written_to_changed : (id : FileId) (format : LogFileFormat) (records : List Placed) (synced at : ℕ) (file : File) (c : Change) (rewritten : Option (List (ℕ × ℕ))) → IsWrittenTo id format records synced at file → c.before ≡ file.now →
     take at file.now ≡ take at c.after → at ≤ length c.after → IsEmptyFrom at c.after (c ∷ file.changes ++ file.older) → at ≤ c.from → IsWrittenTo id format records synced at (changed_by c rewritten file)
-written_to_changed id format records synced at file c rewritten written same long empty behind =
+written_to_changed id format records synced at file c rewritten written was same long empty behind =
+    let past = file.changes ++ file.older in
     let holds = holds_same id format records at file.now c.after written.holds same long in
     let within = synced_within id format records synced at file.now written.holds in
     let itself = beginning_itself records in
-    record { keeps = keeps_held id format records records records synced at file c rewritten written.keeps itself holds empty itself (omega (arith, within)); holds = holds; empty = empty }
+    let nothing = has_nothing_after id at at c past (subst (λ b. HasNothingFrom id at b past) (sym was) written.nothing) (omega arith) empty in
+    record { keeps = keeps_held id format records records records synced at file c rewritten written.keeps itself holds nothing itself (omega (arith, within)); holds = holds; empty = empty; nothing = nothing }
 
-torn_changed : (id : FileId) (format : LogFileFormat) (records in_flight : List Placed) (synced at : ℕ) (file : File) (c : Change) (rewritten : Option (List (ℕ × ℕ))) → IsTornFrom id format records in_flight synced at file →
+torn_changed : (id : FileId) (format : LogFileFormat) (records in_flight : List Placed) (synced at : ℕ) (file : File) (c : Change) (rewritten : Option (List (ℕ × ℕ))) → IsTornFrom id format records in_flight synced at file → c.before ≡ file.now →
     take at file.now ≡ take at c.after → at ≤ length c.after → IsEmptyFrom at c.after (c ∷ file.changes ++ file.older) → at ≤ c.from → IsTornFrom id format records in_flight synced at (changed_by c rewritten file)
-torn_changed id format records in_flight synced at file c rewritten torn same long empty behind =
+torn_changed id format records in_flight synced at file c rewritten torn was same long empty behind =
     let all = records ++ in_flight in
     let holds = holds_same id format records at file.now c.after torn.holds same long in
     let within = synced_within id format records synced at file.now torn.holds in
     let front : take synced all ≡ take synced records = take-append-le synced records in_flight torn.few in
     record {
-      keeps = keeps_held id format all records all synced at file c rewritten torn.keeps (beginning_itself all) holds empty (beginning_append records in_flight) (omega (arith, within, ap (λ rs. end_of_records (header_len format.version) rs) front));
+      keeps = keeps_more id format all all synced file c rewritten torn.keeps (beginning_itself all) (format_of-held id format records at c.after holds)
+          (left_of_torn id format (signature_by id format) records in_flight at c.after (c ∷ past) holds torn.few_in_flight only)
+          (omega (arith, within, behind, ap (λ rs. end_of_records (header_len format.version) rs) front));
       few = torn.few;
       holds = holds;
+      few_in_flight = torn.few_in_flight;
+      only = only;
     }
+  where
+    past : List Change
+    past = file.changes ++ file.older
+
+    only : (r : Placed) → Contains (readable_records id c.after) r → at ≤ r.at → IsDone id (signature_by id format) (c ∷ past) r → Contains in_flight r
+    only r has after done = elim done [
+      | inl no_byte ↦ let is = read_in id c.after r has in absurd (none_done is.signature (signature_by id format) c.after (c ∷ past) at empty r after is.is no_byte)
+      | inr earlier ↦ torn.only r (subst (λ b. Contains (readable_records id b) r) was earlier.0) after earlier.1
+    ]
 
 -- Allocations.
 
@@ -356,13 +483,13 @@ empty_lengthened is_done at old new c changes lengthened empty from to is none i
 written_to_lengthened : (id : FileId) (format : LogFileFormat) (records : List Placed) (synced at : ℕ) (file : File) (is_done : Bool) (after : List ℕ) → IsWrittenTo id format records synced at file → IsLengthened is_done file.now after →
     IsWrittenTo id format records synced at (resized is_done after file)
 written_to_lengthened id format records synced at file is_done after written lengthened =
-    let c : Change = record { from = min (length after) (length file.now); size = max (length after) (length file.now) - min (length after) (length file.now); given = []; is_done = is_done; after = after } in
+    let c : Change = record { from = min (length after) (length file.now); size = max (length after) (length file.now) - min (length after) (length file.now); given = []; is_done = is_done; before = file.now; after = after } in
     let long = written.holds.within in
     let longer = lengthened.longer in
     let from : c.from ≡ length file.now = omega arith in
     let to : c.from + c.size ≡ length after = omega arith in
     let empty = empty_lengthened is_done at file.now after c (file.changes ++ file.older) lengthened written.empty from to refl refl in
-    written_to_changed id format records synced at file c file.rewritten written
+    written_to_changed id format records synced at file c file.rewritten written refl
     (same_front at file.now after long (omega arith) (λ i within. sym (lengthened.front i (omega arith)))) (omega arith) empty (omega arith)
 
 -- an allocation that is done
@@ -398,16 +525,16 @@ written_to_cut id format records synced at file written =
     let after = take at file.now in
     let len : length after ≡ at = length_cut at file.now written.holds.within in
     let long = written.holds.within in
-    let c : Change = record { from = min (length after) (length file.now); size = max (length after) (length file.now) - min (length after) (length file.now); given = []; is_done = true; after = after } in
-    written_to_changed id format records synced at file c file.rewritten written (sym (take-take at at file.now (omega arith))) (omega arith) (λ i behind within. absurd (omega arith)) (omega arith)
+    let c : Change = record { from = min (length after) (length file.now); size = max (length after) (length file.now) - min (length after) (length file.now); given = []; is_done = true; before = file.now; after = after } in
+    written_to_changed id format records synced at file c file.rewritten written refl (sym (take-take at at file.now (omega arith))) (omega arith) (λ i behind within. absurd (omega arith)) (omega arith)
 
 pub torn_cut : (id : FileId) (format : LogFileFormat) (records in_flight : List Placed) (synced at : ℕ) (file : File) → IsTornFrom id format records in_flight synced at file → IsTornFrom id format records in_flight synced at (resized true (take at file.now) file)
 torn_cut id format records in_flight synced at file torn =
     let after = take at file.now in
     let len : length after ≡ at = length_cut at file.now torn.holds.within in
     let long = torn.holds.within in
-    let c : Change = record { from = min (length after) (length file.now); size = max (length after) (length file.now) - min (length after) (length file.now); given = []; is_done = true; after = after } in
-    torn_changed id format records in_flight synced at file c file.rewritten torn (sym (take-take at at file.now (omega arith))) (omega arith) (λ i behind within. absurd (omega arith)) (omega arith)
+    let c : Change = record { from = min (length after) (length file.now); size = max (length after) (length file.now) - min (length after) (length file.now); given = []; is_done = true; before = file.now; after = after } in
+    torn_changed id format records in_flight synced at file c file.rewritten torn refl (sym (take-take at at file.now (omega arith))) (omega arith) (λ i behind within. absurd (omega arith)) (omega arith)
 
 -- what a truncation to a place that is refused leaves, if all behind the place counts as touched
 pub record IsCutRefused (at : ℕ) (old : List ℕ) (c : Change) : Type 0 where
@@ -415,6 +542,7 @@ pub record IsCutRefused (at : ℕ) (old : List ℕ) (c : Change) : Type 0 where
   pub to : c.from + c.size ≡ length old
   pub none : c.given ≡ []
   pub refused : c.is_done ≡ false
+  pub before : c.before ≡ old
   pub part : IsCutOf at old c.after
 
 pub empty_cut_refused : (at : ℕ) (old : List ℕ) (c : Change) (changes : List Change) → IsCutRefused at old c → IsEmptyFrom at c.after (c ∷ changes)
@@ -429,13 +557,13 @@ pub written_to_cut_refused : (id : FileId) (format : LogFileFormat) (records : L
     IsWrittenTo id format records synced at (record file { now = c.after; changes = c ∷ file.changes })
 written_to_cut_refused id format records synced at file c written cut =
     let long = written.holds.within in
-    written_to_changed id format records synced at file c file.rewritten written (same_cut_refused at file.now c long cut) (omega (arith, cut.part.no_shorter)) (empty_cut_refused at file.now c (file.changes ++ file.older) cut) (omega (arith, cut.from))
+    written_to_changed id format records synced at file c file.rewritten written cut.before (same_cut_refused at file.now c long cut) (omega (arith, cut.part.no_shorter)) (empty_cut_refused at file.now c (file.changes ++ file.older) cut) (omega (arith, cut.from))
 
 pub torn_cut_refused : (id : FileId) (format : LogFileFormat) (records in_flight : List Placed) (synced at : ℕ) (file : File) (c : Change) → IsTornFrom id format records in_flight synced at file → IsCutRefused at file.now c →
     IsTornFrom id format records in_flight synced at (record file { now = c.after; changes = c ∷ file.changes })
 torn_cut_refused id format records in_flight synced at file c torn cut =
     let long = torn.holds.within in
-    torn_changed id format records in_flight synced at file c file.rewritten torn (same_cut_refused at file.now c long cut) (omega (arith, cut.part.no_shorter)) (empty_cut_refused at file.now c (file.changes ++ file.older) cut) (omega (arith, cut.from))
+    torn_changed id format records in_flight synced at file c file.rewritten torn cut.before (same_cut_refused at file.now c long cut) (omega (arith, cut.part.no_shorter)) (empty_cut_refused at file.now c (file.changes ++ file.older) cut) (omega (arith, cut.from))
 
 -- Writes.
 
@@ -467,61 +595,43 @@ same_placed r at len batch stands same_batch same_len =
     ∙ ap (λ l. record { at = at; len = l; batch = r.batch }) (sym same_len)
     ∙ ap (λ b. record { at = at; len = len; batch = b }) (sym same_batch)
 
-are_done_behind : (signature : Option ℕ) (changes : List Change) (front rest : List Placed) → AreDone signature changes (front ++ rest) → AreDone signature changes rest
-are_done_behind signature changes front rest done r in_rest = done r (Contains-append_right front rest r in_rest)
-
--- behind the records a crash leaves nothing or the record that the write was to write
-behind_torn : (alignment : ℕ) (signature : Option ℕ) (bytes : List ℕ) (c : Change) (changes : List Change) (batch : Batch) → c.is_done ≡ false → c.size ≡ length c.given → record_of signature c.given ≡ Some (batch, length c.given) →
-    IsEmptyFrom (c.from + c.size) bytes (c ∷ changes) → (n : ℕ) (left : List Placed) → IsBeginningOf left (records_from n alignment signature bytes c.from) → AreDone signature (c ∷ changes) left → IsBeginningOf left (record_given c.from c.given batch ∷ [])
-behind_torn alignment signature bytes c changes batch refused size given empty n [] begins done = (record_given c.from c.given batch ∷ [], refl)
-behind_torn alignment signature bytes c changes batch refused size given empty n (r ∷ left) begins done =
-    let first = first_placed (record_place alignment bytes) (record_at signature bytes) n c.from r (left ++ begins.0) begins.1 in
-    let forward : c.from ≤ record_place alignment bytes c.from = (records_stay alignment signature bytes).forward c.from in
-    let found = found_record signature bytes r.at r.batch r.len first.is in
-    elim (cases_lt r.at (c.from + c.size)) [
-      | inr past ↦ absurd (none_done signature signature bytes (c ∷ changes) (c.from + c.size) empty r past first.is (done r (0, omega arith, refl)))
-      | inl here ↦
-          let is : IsGivenBy signature r c = done r (0, omega arith, refl) [] c changes refl refused (r.at, omega arith, omega (arith, found.2), within_is c.from c.size r.at (omega (arith, first.stands)) here, refl) in
-          let one = record_given c.from c.given batch in
-          let found_given = same_some (sym given ∙ is.1) in
-          let same : r ≡ one = same_placed r c.from (length c.given) batch is.0 (ap (λ (x : Batch × ℕ). x.0) found_given) (ap (λ (x : Batch × ℕ). x.1) found_given) in
-          let none : left ≡ [] = nothing_behind alignment signature signature bytes (c ∷ changes) (c.from + c.size) empty first.limit (r.at + r.len)
-          (omega (arith, is.0, size, ap (λ (p : Placed). p.len) same)) left (begins.0, sym first.others) (are_done_behind signature (c ∷ changes) (r ∷ []) left done) in
-          ([], ap (λ p. p ∷ []) (sym same) ∙ ap (λ rs. r ∷ rs) (sym none) ∙ sym (append-nil (r ∷ left)))
-    ]
-
-left_of_torn : (id : FileId) (format : LogFileFormat) (records : List Placed) (c : Change) (changes : List Change) (batch : Batch) → HoldsRecords id format records c.from c.after → c.is_done ≡ false → c.size ≡ length c.given →
-    record_of (signature_by id format) c.given ≡ Some (batch, length c.given) → IsEmptyFrom (c.from + c.size) c.after (c ∷ changes) →
-    (left : List Placed) → IsBeginningOf left (readable_records id c.after) → AreDone (signature_by id format) (c ∷ changes) left → IsBeginningOf left (records ++ record_given c.from c.given batch ∷ [])
-left_of_torn id format records c changes batch holds refused size given empty left begins done =
-    let behind = records_behind id format c.after c.from in
-    let signature = signature_by id format in
-    let one = record_given c.from c.given batch ∷ [] in
-    elim (beginning_split left records behind (begins.0, sym (readable-held id format records c.from c.after holds) ∙ begins.1)) [
-      | inl within ↦ beginning_trans left records (records ++ one) within (beginning_append records one)
-      | inr further ↦
-          let rest = further.0 in
-          let done_behind : AreDone signature (c ∷ changes) rest = are_done_behind signature (c ∷ changes) records rest (subst (AreDone signature (c ∷ changes)) further.1 done) in
-          let first : IsBeginningOf rest one = behind_torn format.alignment signature c.after c changes batch refused size given empty (length c.after) rest further.2 done_behind in
-          (first.0, ap (λ rs. records ++ rs) first.1 ∙ sym (append_assoc records rest first.0) ∙ ap (λ rs. rs ++ first.0) (sym further.1))
-    ]
+-- behind the records a crash leaves nothing but the record that the write was to write
+only_given : (id : FileId) (signature : Option ℕ) (c : Change) (changes : List Change) (batch : Batch) → HasNothingFrom id c.from c.before changes → c.is_done ≡ false → c.size ≡ length c.given → record_of signature c.given ≡ Some (batch, length c.given) →
+    IsEmptyFrom (c.from + c.size) c.after (c ∷ changes) → (r : Placed) → Contains (readable_records id c.after) r → c.from ≤ r.at → IsDone id signature (c ∷ changes) r → Contains (record_given c.from c.given batch ∷ []) r
+only_given id signature c changes batch nothing refused size given empty r has behind done = elim done [
+  | inr earlier ↦ absurd (nothing signature r earlier.0 behind earlier.1)
+  | inl no_byte ↦
+      let is = read_in id c.after r has in
+      elim (cases_lt r.at (c.from + c.size)) [
+        | inr past ↦ absurd (none_done is.signature signature c.after (c ∷ changes) (c.from + c.size) empty r past is.is no_byte)
+        | inl here ↦
+            let own : IsGivenBy signature r c = no_byte [] c changes refl refused (r.at, omega arith, omega (arith, is.long), within_is c.from c.size r.at behind here, refl) in
+            let found = same_some (sym given ∙ own.1) in
+            let same : r ≡ record_given c.from c.given batch = same_placed r c.from (length c.given) batch own.0 (ap (λ (x : Batch × ℕ). x.0) found) (ap (λ (x : Batch × ℕ). x.1) found) in
+            subst (Contains (record_given c.from c.given batch ∷ [])) (sym same) (0, omega arith, refl)
+      ]
+]
 
 -- a write that is refused
 pub written_to_refused : (id : FileId) (format : LogFileFormat) (records : List Placed) (synced at : ℕ) (file : File) (given : List ℕ) (batch : Batch) (after : List ℕ) → IsWrittenTo id format records synced at file →
     record_of (signature_by id format) given ≡ Some (batch, length given) → IsPartOf at (length given) file.now after → IsTornFrom id format records (record_given at given batch ∷ []) synced at (written at given false after file)
 written_to_refused id format records synced at file given batch after written_to is part =
-    let c : Change = record { from = at; size = length given; given = given; is_done = false; after = after } in
+    let c : Change = record { from = at; size = length given; given = given; is_done = false; before = file.now; after = after } in
     let one = record_given at given batch ∷ [] in
     let long = written_to.holds.within in
     let still : at ≤ length after = omega (arith, part.no_shorter) in
     let same = same_front at file.now after long still (λ i within. sym (part.elsewhere i (omega arith) (not_within at (length given) i (inl within)))) in
     let holds = holds_same id format records at file.now after written_to.holds same still in
-    let empty = empty_written at file.now after c (file.changes ++ file.older) written_to.empty refl (kept_part at (length given) file.now after part) in
+    let past = file.changes ++ file.older in
+    let empty = empty_written at file.now after c past written_to.empty refl (kept_part at (length given) file.now after part) in
+    let only = only_given id (signature_by id format) c past batch written_to.nothing refl refl is empty in
     record {
       keeps = keeps_more id format records (records ++ one) synced file c _ written_to.keeps (beginning_append records one) (format_of-held id format records at after holds)
-          (left_of_torn id format records c (file.changes ++ file.older) batch holds refl refl is empty) (synced_within id format records synced at file.now written_to.holds);
+          (left_of_torn id format (signature_by id format) records one at after (c ∷ past) holds (omega arith) only) (synced_within id format records synced at file.now written_to.holds);
       few = written_to.keeps.few;
       holds = holds;
+      few_in_flight = omega arith;
+      only = only;
     }
 
 -- a write behind them leaves the records
@@ -543,7 +653,7 @@ pub written_to_written : (id : FileId) (format : LogFileFormat) (records : List 
     IsWrittenTo id format (records ++ record_given at given batch ∷ []) synced (at + length given) (written at given true (overlaid file.now at given) file)
 written_to_written id format records synced at file given batch written_to is =
     let after = overlaid file.now at given in
-    let c : Change = record { from = at; size = length given; given = given; is_done = true; after = after } in
+    let c : Change = record { from = at; size = length given; given = given; is_done = true; before = file.now; after = after } in
     let end = at + length given in
     let one = record_given at given batch in
     let all = records ++ one ∷ [] in
@@ -571,11 +681,14 @@ written_to_written id format records synced at file given batch written_to is =
           ∙ ap (λ n. Some (record { format = format; records = records ++ record_given n given batch ∷ []; end = length (take at file.now ++ given) })) len_front
           ∙ ap (λ n. Some (record { format = format; records = all; end = n })) (length-append (take at file.now) given ∙ ap (λ n. n + length given) len_front);
     } in
-    let empty = empty_written at file.now after c (file.changes ++ file.older) written_to.empty refl kept in
+    let past = file.changes ++ file.older in
+    let empty = empty_written at file.now after c past written_to.empty refl kept in
+    let nothing = has_nothing_after id at end c past written_to.nothing (omega arith) empty in
     record {
-      keeps = keeps_held id format records all all synced end file c _ written_to.keeps (beginning_append records (one ∷ [])) holds empty (beginning_itself all) (synced_within id format records synced at file.now written_to.holds);
+      keeps = keeps_held id format records all all synced end file c _ written_to.keeps (beginning_append records (one ∷ [])) holds nothing (beginning_itself all) (synced_within id format records synced at file.now written_to.holds);
       holds = holds;
       empty = empty;
+      nothing = nothing;
     }
   where
     index_is : (end i : ℕ) → end ≤ i → end + (i - end) ≡ i
@@ -587,9 +700,9 @@ written_to_written id format records synced at file given batch written_to is =
 abbrev still : List ℕ → List Change → Option (List (ℕ × ℕ)) → File
 still bytes older rewritten = record { now = bytes; synced = bytes; changes = []; older = older; rewritten = rewritten }
 
-written_to_still : (id : FileId) (format : LogFileFormat) (records : List Placed) (at : ℕ) (bytes : List ℕ) (older : List Change) (rewritten : Option (List (ℕ × ℕ))) → HoldsRecords id format records at bytes → IsEmptyFrom at bytes older →
+written_to_still : (id : FileId) (format : LogFileFormat) (records : List Placed) (at : ℕ) (bytes : List ℕ) (older : List Change) (rewritten : Option (List (ℕ × ℕ))) → HoldsRecords id format records at bytes → IsEmptyFrom at bytes older → HasNothingFrom id at bytes older →
     IsWrittenTo id format records (length records) at (still bytes older rewritten)
-written_to_still id format records at bytes older rewritten holds empty =
+written_to_still id format records at bytes older rewritten holds empty nothing =
     let behind = records_behind id format bytes at in
     let whole : take (length bytes) bytes ≡ bytes = take_all (length bytes) bytes (omega arith) in
     let first : ReadsFirst id format (take (length records) records) bytes = record {
@@ -608,37 +721,21 @@ written_to_still id format records at bytes older rewritten holds empty =
       };
       holds = holds;
       empty = empty;
+      nothing = nothing;
     }
   where
-    moments : (newer upto : List Change) → [] ≡ newer ++ upto → (left : List Placed) → IsBeginningOf left (readable_records id (bytes_behind bytes upto)) → AreDone (signature_by id format) (upto ++ older) left → IsBeginningOf left records
-    moments [] [] e = left_of_held id format (signature_by id format) records at bytes older holds empty
+    moments : (newer upto : List Change) → [] ≡ newer ++ upto → (left : List Placed) → IsBeginningOf left (readable_records id (bytes_behind bytes upto)) → AreDone id (signature_by id format) (upto ++ older) left → IsBeginningOf left records
+    moments [] [] e = left_of_held id format (signature_by id format) records at bytes older holds nothing
     moments [] (x ∷ upto) e = cc
     moments (x ∷ newer) upto e = cc
 
 -- a sync
 pub written_to_synced : (id : FileId) (format : LogFileFormat) (records : List Placed) (synced at : ℕ) (file : File) → IsWrittenTo id format records synced at file → IsWrittenTo id format records (length records) at (synced_of file)
-written_to_synced id format records synced at file written_to = written_to_still id format records at file.now (file.changes ++ file.older) file.rewritten written_to.holds written_to.empty
+written_to_synced id format records synced at file written_to = written_to_still id format records at file.now (file.changes ++ file.older) file.rewritten written_to.holds written_to.empty written_to.nothing
 
 -- a sync of a file that was cut back
 pub torn_synced : (id : FileId) (format : LogFileFormat) (records in_flight : List Placed) (synced at : ℕ) (file : File) → IsTornFrom id format records in_flight synced at file → length file.now ≡ at → IsWrittenTo id format records (length records) at (synced_of file)
-torn_synced id format records in_flight synced at file torn cut = written_to_still id format records at file.now (file.changes ++ file.older) file.rewritten torn.holds (λ i above below. absurd (omega arith))
-
--- only zeros stand behind a place
-pub record EndsInZeros (at : ℕ) (bytes : List ℕ) : Type 0 where
-  pub zeros : (i : ℕ) → at ≤ i → i < length bytes → slice_index bytes i ≡ 0
-
--- a file as it was opened
-pub written_to_settled : (id : FileId) (format : LogFileFormat) (records : List Placed) (at : ℕ) (bytes : List ℕ) → HoldsRecords id format records at bytes → EndsInZeros at bytes → IsWrittenTo id format records (length records) at (settled bytes)
-written_to_settled id format records at bytes holds ends = written_to_still id format records at bytes [] None holds (λ i above below. inl (ends.zeros i above below))
-
--- a file with a header alone
-pub written_to_fresh : (id : FileId) (format : LogFileFormat) → HasHeader format → format.alignment < 2 ^ 64 → IsWrittenTo id format [] 0 (length (header_bytes format)) (settled (header_bytes format))
-written_to_fresh id format has fits =
-    let bytes = header_bytes format in
-    let at = length bytes in
-    written_to_settled id format [] at bytes
-    (record { within = omega arith; read = ap (λ b. reading id b) (take_all at bytes (omega arith)) ∙ reading-header_bytes id format has fits })
-    (record { zeros = λ i above below. absurd (omega arith) })
+torn_synced id format records in_flight synced at file torn cut = written_to_still id format records at file.now (file.changes ++ file.older) file.rewritten torn.holds (λ i above below. absurd (omega arith)) (has_nothing_past id at file.now (file.changes ++ file.older) (omega (arith, cut)))
 
 -- a file with a header alone that is synced
 pub written_to_header : (id : FileId) (file : File) (format : LogFileFormat) → HasHeader format → format.alignment < 2 ^ 64 → file.now ≡ header_bytes format → IsWrittenTo id format [] 0 (header_len format.version) (synced_of file)
@@ -651,7 +748,8 @@ written_to_header id file format has fits is =
       read = ap (λ b. reading id b) (take_all at bytes (omega arith)) ∙ reading-header_bytes id format has fits ∙ ap (λ n. Some (record { format = format; records = []; end = n })) len;
     } in
     let now : HoldsRecords id format [] at file.now = subst (λ b. HoldsRecords id format [] at b) (sym is) holds in
-    written_to_still id format [] at file.now (file.changes ++ file.older) file.rewritten now (λ i above below. absurd (omega (arith, ap length is)))
+    written_to_still id format [] at file.now (file.changes ++ file.older) file.rewritten now
+    (λ i above below. absurd (omega (arith, ap length is))) (has_nothing_past id at file.now (file.changes ++ file.older) (omega (arith, ap length is)))
 
 -- a file that is read to its end and synced
 pub written_to_read : (id : FileId) (file : File) (bytes : List ℕ) (format : LogFileFormat) → file.now ≡ bytes → format_of bytes ≡ Some format → is_read_to_end id bytes ≡ true →
@@ -659,7 +757,8 @@ pub written_to_read : (id : FileId) (file : File) (bytes : List ℕ) (format : L
 written_to_read id file bytes format now header to_end =
     let holds : HoldsRecords id format (readable_records id file.now) (length file.now) file.now =
     record { within = omega arith; read = ap (λ b. reading id b) (take_all (length file.now) file.now (omega arith)) ∙ whole file.now (ap format_of now ∙ header) (ap (λ b. is_read_to_end id b) now ∙ to_end) } in
-    let written = written_to_still id format (readable_records id file.now) (length file.now) file.now (file.changes ++ file.older) file.rewritten holds (λ i above below. absurd (omega arith)) in
+    let written = written_to_still id format (readable_records id file.now) (length file.now) file.now (file.changes ++ file.older) file.rewritten holds (λ i above below. absurd (omega arith))
+    (has_nothing_past id (length file.now) file.now (file.changes ++ file.older) (omega arith)) in
     subst (λ b. IsWrittenTo id format (readable_records id b) (length (readable_records id b)) (length b) (synced_of file)) now written
   where
     whole : (b : List ℕ) → format_of b ≡ Some format → is_read_to_end id b ≡ true → reading id b ≡ Some (record { format = format; records = readable_records id b; end = length b })
@@ -671,122 +770,6 @@ written_to_read id file bytes format now header to_end =
             let same : r.format ≡ format = same_some (sym (format_of_read id b r e) ∙ is) in
             ap (λ f. Some (record { format = f; records = r.records; end = r.end })) same
             ∙ ap (λ n. Some (record { format = format; records = r.records; end = n })) (eqb-true r.end (length b) ends)
-
--- The premise can be met.
-
--- the bytes of the last sync stand where no change touched the file
-pub record IsUntouched (file : File) : Type 0 where
-  pub untouched : take (untouched_len file.synced file.changes) file.now ≡ take (untouched_len file.synced file.changes) file.synced
-
-are_done_all : (signature : Option ℕ) (changes : List Change) (records : List Placed) → NoneRefused changes → AreDone signature changes records
-are_done_all signature changes records none r has later c before e refused with_byte = absurd (none.none later c before e refused)
-
-none_refused_nil : NoneRefused []
-none_refused_nil = record { none = by_later }
-  where
-    by_later : (later : List Change) (c : Change) (before : List Change) → [] ≡ later ++ c ∷ before → c.is_done ≡ false → ⊥
-    by_later [] c before e refused = cc
-    by_later (x ∷ later) c before e refused = cc
-
-pub none_refused_before : (newer older : List Change) → NoneRefused (newer ++ older) → NoneRefused older
-none_refused_before newer older none = record { none = λ later c before e. none.none (newer ++ later) c before (ap (λ cs. newer ++ cs) e ∙ sym (append_assoc newer later (c ∷ before))) }
-
-some_before : {A B : Type 0} (f : A → Option B) (o : Option A) (y : B) → option_and_then f o ≡ Some y → (x : A) × (o ≡ Some x)
-some_before f None y e = cc
-some_before f (Some x) y e = (x, refl)
-
-pub zeros_only : (at : ℕ) (bytes : List ℕ) (changes : List Change) → IsEmptyFrom at bytes changes → NoneRefused changes → EndsInZeros at bytes
-zeros_only at bytes changes empty none = record {
-  zeros = λ i above below. elim (empty i above below) [
-    | inl zero' ↦ zero'
-    | inr q ↦ absurd (none.none q.0 q.1 q.2 q.3 q.4)
-  ];
-}
-
--- where zeros alone stand behind the records, the reading ends with them
-pub reading-held_alone : (id : FileId) (format : LogFileFormat) (records : List Placed) (at : ℕ) (bytes : List ℕ) → HoldsRecords id format records at bytes → EndsInZeros at bytes →
-    reading id bytes ≡ Some (record { format = format; records = records; end = at })
-reading-held_alone id format records at bytes holds ends =
-    let behind = records_behind id format bytes at in
-    let none : behind ≡ [] = nothing_behind format.alignment (signature_by id format) (signature_by id format) bytes [] at (λ i above below. inl (ends.zeros i above below)) (length bytes) at (omega arith) behind (beginning_itself behind)
-    (are_done_all (signature_by id format) [] behind none_refused_nil) in
-    reading-held id format records at bytes holds
-    ∙ ap (λ rs. Some (record { format = format; records = records ++ rs; end = end_of_records at rs })) none
-    ∙ ap (λ rs. Some (record { format = format; records = rs; end = at })) (append-nil records)
-
--- .. and no mark of compression bars a record there
-pub unmarked_held : (id : FileId) (format : LogFileFormat) (records : List Placed) (at : ℕ) (bytes : List ℕ) → HoldsRecords id format records at bytes → EndsInZeros at bytes → EndsUnmarked id bytes
-unmarked_held id format records at bytes holds ends r e marked =
-    let read : Reading = record { format = format; records = records; end = at } in
-    let same : read ≡ r = same_some (sym (reading-held_alone id format records at bytes holds ends) ∙ e) in
-    let at_end : IsMarkedAt (signature_by id format) bytes (record_place format.alignment bytes at) =
-    subst (λ (q : Reading). IsMarkedAt (signature_by id q.format) bytes (record_place q.format.alignment bytes q.end)) (sym same) marked in
-    let place = record_place format.alignment bytes at in
-    let forward : at ≤ place = (records_stay format.alignment (signature_by id format) bytes).forward at in
-    let header = some_before (parts_by (signature_by id format) (drop place bytes)) (record_header (drop place bytes)) at_end.0 at_end.1 in
-    let has = record_header_is (drop place bytes) header.0 header.1 in
-    record_header_zeros bytes place header.0 (omega (arith, has.long, length-drop place bytes)) (λ i above below. ends.zeros i (omega arith) (omega (arith, has.long, length-drop place bytes))) header.1
-
--- a beginning of bytes is read as a beginning of their records
-readable_records-take : (id : FileId) (n : ℕ) (bytes : List ℕ) → IsBeginningOf (readable_records id (take n bytes)) (readable_records id bytes)
-readable_records-take id n bytes = by_reading (reading id (take n bytes)) refl
-  where
-    by_reading : (read : Option Reading) → reading id (take n bytes) ≡ read → IsBeginningOf (records_of read) (readable_records id bytes)
-    by_reading None e = (readable_records id bytes, refl)
-    by_reading (Some r) e =
-        let is = reading_is id (take n bytes) r e in
-        let last = length (take n bytes) in
-        let short : last ≤ n = omega (arith, length-take n bytes) in
-        let reads : ReadsFirst id r.format r.records (take n bytes) = record { all = r.records; end = r.end; read = e; first = beginning_itself r.records } in
-        let same : take last (take n bytes) ≡ take last bytes = take-take last n bytes short in
-        let whole = reads_first-kept id r.format r.records last (take n bytes) bytes reads same (reads_first-within id r.format r.records (take n bytes) reads) in
-        subst (λ rs. IsBeginningOf r.records rs) (sym (ap (λ q. records_of q) whole.read)) whole.first
-
-none_stale_unnamed : (file : File) (i : ℕ) → file.rewritten ≡ None → IsStaleAt file i → ⊥
-none_stale_unnamed file i never stale = let some : Some stale.0 ≡ None = sym stale.1 ∙ never in absurd cc
-
--- by the bytes now
-pub now_is_detectable : (id : FileId) (format : LogFileFormat) (records : List Placed) (synced at : ℕ) (file : File) → IsWrittenTo id format records synced at file → IsUntouched file → NoneRefused (file.changes ++ file.older) → file.rewritten ≡ None → IsDetectableFile id file file.now
-now_is_detectable id format records synced at file written_to kept none never =
-    let len = untouched_len file.synced file.changes in
-    let read = readable_records id file.now in
-    record {
-      header = inl refl;
-      newer = [];
-      upto = file.changes;
-      moment = refl;
-      beginning = subst (λ b. IsBeginningOf read (readable_records id b)) written_to.keeps.latest (beginning_itself read);
-      done = λ other is. are_done_all (signature_by id other) (file.changes ++ file.older) read none;
-      untouched = subst (λ b. IsBeginningOf (readable_records id b) read) kept.untouched (readable_records-take id len file.now);
-      unmarked = unmarked_held id format records at file.now written_to.holds (zeros_only at file.now (file.changes ++ file.older) written_to.empty none);
-      none_stale = λ r has. none_stale_unnamed file r.at never;
-    }
-
-synced_format : (id : FileId) (format : LogFileFormat) (records : List Placed) (synced : ℕ) (file : File) → KeepsRecords id format records synced file → format_of file.synced ≡ Some format
-synced_format id format records synced file keeps =
-    let len = untouched_len file.synced file.changes in
-    let front = take synced records in
-    let end = end_of_records (header_len format.version) front in
-    let within : end ≤ len = omega (arith, reads_first-within id format front (take len file.synced) keeps.covered, length-take len file.synced) in
-    let whole = reads_first-kept id format front end (take len file.synced) file.synced keeps.covered (take-take end len file.synced within) (omega arith) in
-    format_of_read id file.synced (record { format = format; records = whole.all; end = whole.end }) whole.read
-
--- by the bytes at the last sync
-pub synced_is_detectable : (id : FileId) (format : LogFileFormat) (records : List Placed) (synced : ℕ) (file : File) → KeepsRecords id format records synced file → EndsUnmarked id file.synced → NoneRefused file.older → file.rewritten ≡ None → IsDetectableFile id file file.synced
-synced_is_detectable id format records synced file keeps unmarked none never =
-    let len = untouched_len file.synced file.changes in
-    let read = readable_records id file.synced in
-    record {
-      header = inl (synced_format id format records synced file keeps ∙ sym keeps.header);
-      newer = file.changes;
-      upto = [];
-      moment = sym (append-nil file.changes);
-      beginning = beginning_itself read;
-      done = λ other is. are_done_all (signature_by id other) file.older read none;
-      untouched = readable_records-take id len file.synced;
-      unmarked = unmarked;
-      none_stale = λ r has. none_stale_unnamed file r.at never;
-    }
 
 -- Moments of calls.
 
@@ -842,8 +825,8 @@ moment_of_allocation id format records synced at size old new written_to how = e
     by_outcome false after part = written_to_allocation_refused id format records synced at old size after written_to part
 
 pub cut_refused_is : (at : ℕ) (file : File) (after : List ℕ) → at ≤ length file.now → IsCutOf at file.now after →
-    IsCutRefused at file.now (record { from = min at (length file.now); size = length file.now - min at (length file.now); given = []; is_done = false; after = after })
-cut_refused_is at file after long part = record { from = omega arith; to = omega arith; none = refl; refused = refl; part = part }
+    IsCutRefused at file.now (record { from = min at (length file.now); size = length file.now - min at (length file.now); given = []; is_done = false; before = file.now; after = after })
+cut_refused_is at file after long part = record { from = omega arith; to = omega arith; none = refl; refused = refl; before = refl; part = part }
 
 -- a file at a moment of a truncation to the writer's place
 pub moment_of_cut : (id : FileId) (format : LogFileFormat) (records : List Placed) (synced at : ℕ) (old new : File) → IsWrittenTo id format records synced at old →

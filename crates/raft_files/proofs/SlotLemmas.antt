@@ -1,11 +1,10 @@
 -- What a change does to what a slot keeps.
-use Rattle.std.proofs.Common.{◌≡◌, ◌≢◌, ℕ, ◌+◌, ◌-◌, ◌<◌, ◌≤◌, min, max, Bool, true, false, cond, ◌||◌, List, [], ◌∷◌, ◌++◌, length, length-append, take, drop, get_or, refl, sym, ◌∙◌, ap, subst, inl, inr, ◌⊎◌, arith}
+use Rattle.std.proofs.Common.{◌≡◌, ℕ, ◌+◌, ◌-◌, ◌<◌, ◌≤◌, min, max, Bool, true, false, cond, ◌||◌, List, [], ◌∷◌, ◌++◌, length, length-append, take, drop, get_or, refl, sym, ◌∙◌, ap, subst, inl, inr, ◌⊎◌, arith}
 use Rattle.std.proofs.lemmas.Bool.Decides.{nat_tests, leb_tells}
-use Rattle.std.proofs.lemmas.Grind.{common_steps, same_number_lists}
-use Rattle.raft_files.specs.Outcomes.{File, Change, MayLeave, is_within, is_touched, least_len, greatest_len, written, resized, synced_of, overlaid, padded}
-use Rattle.raft_files.specs.Kept.{IsKept, is_covered, Agree}
+use Rattle.raft_files.specs.Outcomes.{File, Change, MayLeave, is_within, least_len, greatest_len, written, resized, synced_of, overlaid, padded}
+use Rattle.raft_files.specs.Kept.{IsKept, is_covered}
 use Rattle.std.specs.Prelude.{replicate}
-use Rattle.std.proofs.lemmas.List.{take_all, drop_all, append-nil, length-replicate, get_or-append-add, get_or-append_right, get_or-take, get_or-drop, get_or_past, get_or-replicate, length-take-le, length-drop}
+use Rattle.std.proofs.lemmas.List.{take_all, drop_all, append-nil, length-replicate, get_or-append_right, get_or-take, get_or-drop, get_or_past, get_or-replicate, length-take-le, length-drop}
 use Rattle.std.proofs.Math.ListN.{get_or-append}
 
 -- the bytes are lengthened where that is needed, and then written over

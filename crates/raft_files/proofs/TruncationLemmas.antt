@@ -1,21 +1,20 @@
 -- What a truncation to the end of what is read leaves of a file.
-use Rattle.std.proofs.Common.{◌≡◌, ◌⊎◌, ℕ, ◌+◌, ◌-◌, ◌≤◌, min, max, Bool, true, false, List, [], ◌∷◌, ◌++◌, length, take, Option, Some, None, Contains, refl, ap, sym, subst, ◌∙◌, inl, inr, arith}
+use Rattle.std.proofs.Common.{◌≡◌, ℕ, ◌+◌, ◌-◌, ◌≤◌, min, max, Bool, true, false, List, [], ◌∷◌, ◌++◌, length, take, Option, Some, None, Contains, refl, ap, sym, subst, ◌∙◌, inl, inr, arith}
 use Rattle.std.specs.Prelude.{◌||◌}
 use Rattle.std.proofs.lemmas.List.{append-nil, take-take, length-append, length-take-le}
-use Rattle.std.proofs.lemmas.List.Elements.{Contains-append_left, Contains-append_cases, Contains-push_cases}
-use Rattle.raft_records.specs.Item.{Batch}
+use Rattle.std.proofs.lemmas.List.Elements.{Contains-append_left}
 use Rattle.raft_records.specs.declared.pipe_log.FileId.{FileId}
 use Rattle.raft_files.specs.declared.format.LogFileFormat.{LogFileFormat}
 use Rattle.raft_files.specs.Header.{header_len}
 use Rattle.raft_files.specs.Outcomes.{File, Change, is_touched, Outcome, IsCutOf, cut_to}
-use Rattle.raft_files.specs.Reading.{Placed, placed_by, end_of_records, Reading, records_behind, reading, records_of, readable_records, end_of, end_of_reading}
-use Rattle.raft_files.specs.Detectable.{IsBeginningOf, signature_by, AreDone}
-use Rattle.raft_files.specs.Records.{ReadsFirst, KeepsRecords, IsEmptyFrom, HoldsRecords, KeepsNone}
+use Rattle.raft_files.specs.Reading.{Placed, end_of_records, Reading, records_behind, reading, records_of, readable_records, end_of, end_of_reading}
+use Rattle.raft_files.specs.Detectable.{IsBeginningOf, signature_by, HasNoRefusedByte, IsDone, AreDone}
+use Rattle.raft_files.specs.Records.{ReadsFirst, KeepsRecords, IsEmptyFrom, HasNothingFrom, HoldsRecords, KeepsNone}
 use Rattle.raft_files.proofs.DetectableLemmas.{beginning_itself}
 use Rattle.raft_files.proofs.ExtentLemmas.{header_of_takes}
-use Rattle.raft_files.proofs.ReadingLemmas.{StaysBefore, placed_by_past, end_of_placed-from, end_of_placed-within, records_stay, reading_is, reading-kept}
-use Rattle.raft_files.proofs.NoneLemmas.{nothing_of, none_more}
-use Rattle.raft_files.proofs.RecordsLemmas.{first_placed, end_of_front, reads_first-kept, nothing_behind, left_of_held, format_of-held, changed_by, keeps_more, not_within, holds_same, IsCutRefused, empty_cut_refused, same_cut_refused}
+use Rattle.raft_files.proofs.ReadingLemmas.{placed_by_past, end_of_placed-within, records_stay, reading_is, reading-kept}
+use Rattle.raft_files.proofs.NoneLemmas.{none_more}
+use Rattle.raft_files.proofs.RecordsLemmas.{end_of_front, placed_stands, read_in, done_without_byte, has_nothing_after, reads_first-kept, left_of_held, format_of-held, changed_by, keeps_more, not_within, holds_same, IsCutRefused, empty_cut_refused, same_cut_refused}
 
 -- The records up to the end of the reading.
 
@@ -52,57 +51,50 @@ reading-cut id bytes r e =
 pub holds_read : (id : FileId) (bytes : List ℕ) (r : Reading) → reading id bytes ≡ Some r → HoldsRecords id r.format r.records r.end bytes
 holds_read id bytes r e = record { within = end_of_read_within id bytes r e; read = reading-cut id bytes r e }
 
-contains_cases : (x r : Placed) (xs : List Placed) → Contains (x ∷ xs) r → (x ≡ r) ⊎ Contains xs r
-contains_cases x r xs has = elim (Contains-append_cases (x ∷ []) xs r has) [
-  | inr behind ↦ inr behind
-  | inl first ↦ elim (Contains-push_cases [] x r first) [
-    | inl none ↦ absurd (omega (arith, none.1))
-    | inr same ↦ inl same
-  ]
-]
-
--- each record ends before the end of all
-ends_before : {end : ℕ} {place : ℕ → ℕ} {found : ℕ → Option (Batch × ℕ)} → StaysBefore end place found → (n at : ℕ) (rs : List Placed) → placed_by n place found at ≡ rs → (r : Placed) → Contains rs r → r.at + r.len ≤ end_of_records at rs
-ends_before {place = place} {found = found} stays n at [] e r has = absurd (omega (arith, has.1))
-ends_before {place = place} {found = found} stays n at (x ∷ xs) e r has =
-    let first = first_placed place found n at x xs e in
-    elim (contains_cases x r xs has) [
-      | inl same ↦
-          let behind = end_of_placed-from stays first.limit (x.at + x.len) in
-          omega (arith, behind, ap (λ (p : Placed). p.at + p.len) same, ap (λ rs. end_of_records (x.at + x.len) rs) first.others)
-      | inr further ↦ ends_before stays first.limit (x.at + x.len) xs (sym first.others) r further
-    ]
-
+-- each record that is read ends before the end of the reading
 read_ends_before : (id : FileId) (bytes : List ℕ) (read : Reading) → reading id bytes ≡ Some read → (r : Placed) → Contains read.records r → r.at + r.len ≤ read.end
 read_ends_before id bytes read e r has =
     let is = reading_is id bytes read e in
-    omega (arith, is.end, ends_before (records_stay read.format.alignment (signature_by id read.format) bytes) (length bytes) (header_len read.format.version) read.records (sym is.records) r has)
+    omega (arith, is.end, (placed_stands (records_stay read.format.alignment (signature_by id read.format) bytes) (length bytes) (header_len read.format.version) read.records (sym is.records) r has).before)
 
 -- A change behind the records that are read.
 
--- a change behind them takes no part in whether records are done
-are_done_before : (by : Option ℕ) (c : Change) (changes : List Change) (records : List Placed) → ((r : Placed) → Contains records r → r.at + r.len ≤ c.from) → AreDone by (c ∷ changes) records → AreDone by changes records
-are_done_before by c changes records before done r has later d earlier e refused with_byte =
+-- a change behind a record takes no part in whether the record has bytes of refused calls
+has_no_refused_byte_before : (by : Option ℕ) (c : Change) (changes : List Change) (r : Placed) → r.at + r.len ≤ c.from → HasNoRefusedByte by (c ∷ changes) r → HasNoRefusedByte by changes r
+has_no_refused_byte_before by c changes r before no_byte later d earlier e refused with_byte =
     let i = with_byte.0 in
-    let outside : is_touched (c ∷ later) i ≡ false = ap (λ b. b || is_touched later i) (not_within c.from c.size i (inl (omega (arith, with_byte.2, before r has)))) ∙ with_byte.4 in
-    done r has (c ∷ later) d earlier (ap (λ cs. c ∷ cs) e) refused (i, with_byte.1, with_byte.2, with_byte.3, outside)
+    let outside : is_touched (c ∷ later) i ≡ false = ap (λ b. b || is_touched later i) (not_within c.from c.size i (inl (omega (arith, with_byte.2, before)))) ∙ with_byte.4 in
+    no_byte (c ∷ later) d earlier (ap (λ cs. c ∷ cs) e) refused (i, with_byte.1, with_byte.2, with_byte.3, outside)
+
+done_before : (id : FileId) (by : Option ℕ) (c : Change) (changes : List Change) (r : Placed) → r.at + r.len ≤ c.from → IsDone id by (c ∷ changes) r → IsDone id by changes r
+done_before id by c changes r before (inl no_byte) = done_without_byte id by changes r (has_no_refused_byte_before by c changes r before no_byte)
+done_before id by c changes r before (inr earlier) = earlier.1
 
 -- a change that leaves the bytes before a place, and behind it nothing that it was to write
 pub record IsBehind (size : ℕ) (old : List ℕ) (c : Change) (changes : List Change) : Type 0 where
+  pub was : c.before ≡ old
   pub from : size ≤ c.from
   pub long : size ≤ length c.after
   pub same : take size old ≡ take size c.after
   pub empty : IsEmptyFrom size c.after (c ∷ changes)
 
+-- nothing is read behind the end of the reading
+has_nothing_behind : (id : FileId) (bytes : List ℕ) (r : Reading) (changes : List Change) → reading id bytes ≡ Some r → HasNothingFrom id r.end bytes changes
+has_nothing_behind id bytes read changes e by r has behind done =
+    let is = read_in id bytes r has in
+    absurd (omega (arith, is.long, read_ends_before id bytes read e r (subst (λ q. Contains (records_of q) r) e has)))
+
 -- what a crash leaves of it was left before
-left_before : (id : FileId) (by : Option ℕ) (old : List ℕ) (c : Change) (changes : List Change) (r : Reading) → reading id old ≡ Some r → IsBehind r.end old c changes → (left : List Placed) → IsBeginningOf left (readable_records id c.after) → AreDone by (c ∷ changes) left →
-    IsBeginningOf left (readable_records id old) × AreDone by changes left
+left_before : (id : FileId) (by : Option ℕ) (old : List ℕ) (c : Change) (changes : List Change) (r : Reading) → reading id old ≡ Some r → IsBehind r.end old c changes → (left : List Placed) → IsBeginningOf left (readable_records id c.after) → AreDone id by (c ∷ changes) left →
+    IsBeginningOf left (readable_records id old) × AreDone id by changes left
 left_before id by old c changes r e behind left begins done =
     let holds = holds_same id r.format r.records r.end old c.after (holds_read id old r e) behind.same behind.long in
-    let first : IsBeginningOf left r.records = left_of_held id r.format by r.records r.end c.after (c ∷ changes) holds behind.empty left begins done in
+    let earlier : HasNothingFrom id r.end c.before changes = subst (λ b. HasNothingFrom id r.end b changes) (sym behind.was) (has_nothing_behind id old r changes e) in
+    let nothing = has_nothing_after id r.end r.end c changes earlier (omega arith) behind.empty in
+    let first : IsBeginningOf left r.records = left_of_held id r.format by r.records r.end c.after (c ∷ changes) holds nothing left begins done in
     let before : (q : Placed) → Contains left q → q.at + q.len ≤ c.from = λ q has.
     omega (arith, behind.from, read_ends_before id old r e q (subst (λ rs. Contains rs q) (sym first.1) (Contains-append_left left first.0 q has))) in
-    (subst (λ rs. IsBeginningOf left rs) (sym (ap (λ q. records_of q) e)) first, are_done_before by c changes left before done)
+    (subst (λ rs. IsBeginningOf left rs) (sym (ap (λ q. records_of q) e)) first, λ q has. done_before id by c changes q (before q has) (done q has))
 
 -- .. so the records are kept
 keeps_behind : (id : FileId) (format : LogFileFormat) (records : List Placed) (synced : ℕ) (file : File) (c : Change) (keeps : KeepsRecords id format records synced file) (reads : ReadsFirst id format (take synced records) file.now) →
@@ -119,7 +111,7 @@ keeps_behind id format records synced file c keeps reads behind =
       ap (λ rs. end_of_records from rs) reads.first.1,
       is.end,
     ) in
-    let moment : (left : List Placed) → IsBeginningOf left (readable_records id c.after) → AreDone (signature_by id format) (c ∷ file.changes ++ file.older) left → IsBeginningOf left records = λ left begins done.
+    let moment : (left : List Placed) → IsBeginningOf left (readable_records id c.after) → AreDone id (signature_by id format) (c ∷ file.changes ++ file.older) left → IsBeginningOf left records = λ left begins done.
     let old = left_before id (signature_by id format) file.now c (file.changes ++ file.older) r reads.read behind left begins done in
     keeps.moments [] file.changes refl left (subst (λ bytes. IsBeginningOf left (readable_records id bytes)) keeps.latest old.0) old.1 in (
       keeps_more id format records records synced file c file.rewritten keeps (beginning_itself records) (format_of-held id format reads.all reads.end c.after holds) moment (omega (arith, before, behind.from)),
@@ -133,39 +125,39 @@ none_behind id file c r none e behind = none_more id file c file.rewritten none 
     let old = left_before id (signature_by id format) file.now c (file.changes ++ file.older) r e behind left begins done in
     none.moments [] file.changes refl format left (subst (λ bytes. IsBeginningOf left (readable_records id bytes)) none.latest old.0) old.1)
 
--- what is read where a change left nothing that it was to write isn't done
-nothing_read : (id : FileId) (by : Option ℕ) (bytes : List ℕ) (changes : List Change) → IsEmptyFrom 0 bytes changes → (left : List Placed) → IsBeginningOf left (readable_records id bytes) → AreDone by changes left → left ≡ []
-nothing_read id by bytes changes empty left begins done = by_reading (reading id bytes) refl begins
-  where
-    by_reading : (read : Option Reading) → reading id bytes ≡ read → IsBeginningOf left (records_of read) → left ≡ []
-    by_reading None e first = nothing_of [] left refl first
-    by_reading (Some r) e first =
-        let is = reading_is id bytes r e in
-        nothing_behind r.format.alignment (signature_by id r.format) by bytes changes 0 empty (length bytes) (header_len r.format.version) (omega arith) left (first.0, sym is.records ∙ first.1) done
+-- nothing is read and done where nothing was read before
+nothing_read : (id : FileId) (by : Option ℕ) (c : Change) (changes : List Change) → reading id c.before ≡ None → IsEmptyFrom 0 c.after (c ∷ changes) → (left : List Placed) → IsBeginningOf left (readable_records id c.after) → AreDone id by (c ∷ changes) left → left ≡ []
+nothing_read id by c changes unread empty [] begins done = refl
+nothing_read id by c changes unread empty (r ∷ left) begins done =
+    let earlier : HasNothingFrom id 0 c.before changes = λ other q has behind is. absurd (omega (arith, (subst (λ read. Contains (records_of read) q) unread has).1)) in
+    let nothing = has_nothing_after id 0 0 c changes earlier (omega arith) empty in
+    absurd (nothing by r (subst (λ all. Contains all r) (sym begins.1) (0, omega arith, refl)) (omega arith) (done r (0, omega arith, refl)))
 
 -- Truncations.
 
 -- what a truncation notes
 abbrev pub cut_change : ℕ → Bool → List ℕ → List ℕ → Change
-cut_change size true after old = record { from = min (length after) (length old); size = max (length after) (length old) - min (length after) (length old); given = []; is_done = true; after = after }
-cut_change size false after old = record { from = min size (length old); size = length old - min size (length old); given = []; is_done = false; after = after }
+cut_change size true after old = record { from = min (length after) (length old); size = max (length after) (length old) - min (length after) (length old); given = []; is_done = true; before = old; after = after }
+cut_change size false after old = record { from = min size (length old); size = length old - min size (length old); given = []; is_done = false; before = old; after = after }
 
 pub cut_is : (size : ℕ) (is_done : Bool) (after : List ℕ) (file : File) → cut_to size is_done after file ≡ changed_by (cut_change size is_done after file.now) file.rewritten file
 cut_is size true after file = refl
 cut_is size false after file = refl
 
-cut_behind : (size : ℕ) (is_done : Bool) (after old : List ℕ) (changes : List Change) → size ≤ length old → Outcome is_done (take size old) (IsCutOf size old) after → IsBehind size old (cut_change size is_done after old) changes
+pub cut_behind : (size : ℕ) (is_done : Bool) (after old : List ℕ) (changes : List Change) → size ≤ length old → Outcome is_done (take size old) (IsCutOf size old) after → IsBehind size old (cut_change size is_done after old) changes
 cut_behind size true after old changes within done =
     let len : length after ≡ size = ap length done ∙ length-take-le size old within in
     record {
+      was = refl;
       from = omega arith;
       long = omega arith;
       same = sym (take-take size size old (omega arith)) ∙ ap (λ b. take size b) (sym done);
       empty = λ i above below. absurd (omega arith);
     }
 cut_behind size false after old changes within part =
-    let refused : IsCutRefused size old (cut_change size false after old) = record { from = omega arith; to = omega arith; none = refl; refused = refl; part = part } in
+    let refused : IsCutRefused size old (cut_change size false after old) = record { from = omega arith; to = omega arith; none = refl; refused = refl; before = refl; part = part } in
     record {
+      was = refl;
       from = omega arith;
       long = omega (arith, part.no_shorter);
       same = same_cut_refused size old (cut_change size false after old) within refused;
@@ -199,7 +191,8 @@ none_cut id size is_done after file none cuts outcome = subst (KeepsNone id) (sy
     by_reading None e =
         let size_is : size ≡ 0 = cuts ∙ ap end_of e in
         let behind = cut_behind size is_done after file.now past (omega (arith, size_is)) outcome in
-        none_more id file c file.rewritten none (λ format left. nothing_read id (signature_by id format) c.after (c ∷ past) (subst (λ n. IsEmptyFrom n c.after (c ∷ past)) size_is behind.empty) left)
+        let unread : reading id c.before ≡ None = ap (reading id) behind.was ∙ e in
+        none_more id file c file.rewritten none (λ format left. nothing_read id (signature_by id format) c past unread (subst (λ n. IsEmptyFrom n c.after (c ∷ past)) size_is behind.empty) left)
     by_reading (Some r) e =
         let size_is : size ≡ r.end = cuts ∙ ap end_of e in
         let behind = cut_behind size is_done after file.now past (omega (arith, size_is, end_of_read_within id file.now r e)) outcome in

@@ -1,5 +1,5 @@
 -- Steps that the walks of the types of no bytes share. Assumes `Logic`.
-use Rattle.std.proofs.Common.{◌≡◌, List, [], ◌∷◌, refl}
+use Rattle.std.proofs.Common.{List, [], ◌∷◌, refl}
 use seplogic.Ra.Ura.{Ura}
 use mir.Val.{Val, vstruct, vcons, vnil}
 use types.Logic.{Logic}

@@ -1,25 +1,48 @@
 -- What a writer's calls leave of the records of a log file.
-use Rattle.std.proofs.Common.{◌≡◌, ℕ, ◌+◌, ◌-◌, Bool, true, false, List, [], ◌∷◌, ◌++◌, length, Some, ap, sym, subst, ◌∙◌, inl, inr, arith}
+use Rattle.std.proofs.Common.{◌≡◌, ℕ, ◌+◌, ◌≤◌, Bool, true, false, List, [], ◌∷◌, ◌++◌, length, Some, Contains, ap, sym, subst, ◌∙◌, inl, inr, arith}
 use Rattle.std.proofs.lemmas.List.{length-take-le}
+use Rattle.std.proofs.lemmas.List.Elements.{Contains-append_cases}
 use Rattle.raft_records.specs.Item.{Batch}
 use Rattle.raft_records.specs.Record.{record_of}
 use Rattle.raft_records.specs.declared.pipe_log.FileId.{FileId}
 use Rattle.raft_files.specs.declared.format.LogFileFormat.{LogFileFormat}
 use Rattle.raft_files.specs.Outcomes.{File, Outcome, IsPartOf, overlaid, written}
-use Rattle.raft_files.specs.Reading.{Placed}
-use Rattle.raft_files.specs.Detectable.{signature_by}
-use Rattle.raft_files.specs.Records.{IsWrittenTo, IsTornFrom}
+use Rattle.raft_files.specs.Reading.{Placed, readable_records}
+use Rattle.raft_files.specs.Detectable.{signature_by, IsDone}
+use Rattle.raft_files.specs.Records.{HoldsRecords, IsWrittenTo, IsTornFrom}
 use Rattle.raft_files.specs.Writer.{IsStep, IsLengthened, IsAppending, IsAppended, IsCutting, IsCut, IsSynced, IsClosed}
 use Rattle.raft_files.proofs.DetectableLemmas.{beginning_append}
-use Rattle.raft_files.proofs.RecordsLemmas.{record_given, keeps_weaker, holds_written, written_to_written, written_to_refused, written_to_cut, torn_cut, written_to_synced, torn_synced, moment_of_allocation, moment_of_cut, moment_of_cut_back}
+use Rattle.raft_files.proofs.RecordsLemmas.{record_given, keeps_weaker, read_in, read_of_held, ends_in_held, holds_written, written_to_written, written_to_refused, written_to_cut, torn_cut, written_to_synced, torn_synced, moment_of_allocation, moment_of_cut, moment_of_cut_back}
 
 -- where nothing was written the file isn't torn
-pub torn_from_written : (id : FileId) (format : LogFileFormat) (records in_flight : List Placed) (synced at : ℕ) (file : File) → IsWrittenTo id format records synced at file → IsTornFrom id format records in_flight synced at file
-torn_from_written id format records in_flight synced at file w = record {
+pub torn_from_written : (id : FileId) (format : LogFileFormat) (records in_flight : List Placed) (synced at : ℕ) (file : File) → length in_flight ≤ 1 → IsWrittenTo id format records synced at file → IsTornFrom id format records in_flight synced at file
+torn_from_written id format records in_flight synced at file few w = record {
   keeps = keeps_weaker id format records (records ++ in_flight) synced synced file w.keeps (beginning_append records in_flight) (omega arith);
   few = w.keeps.few;
   holds = w.holds;
+  few_in_flight = few;
+  only = λ r has behind done. absurd (w.nothing (signature_by id format) r has behind done);
 }
+
+-- .. nor where the next record was written whole
+torn_from_more : (id : FileId) (format : LogFileFormat) (records in_flight : List Placed) (synced at end : ℕ) (file : File) → length in_flight ≤ 1 → HoldsRecords id format records at file.now → synced ≤ length records →
+    IsWrittenTo id format (records ++ in_flight) synced end file → IsTornFrom id format records in_flight synced at file
+torn_from_more id format records in_flight synced at end file few holds enough w = record {
+  keeps = w.keeps;
+  few = enough;
+  holds = holds;
+  few_in_flight = few;
+  only = only;
+}
+  where
+    only : (r : Placed) → Contains (readable_records id file.now) r → at ≤ r.at → IsDone id (signature_by id format) (file.changes ++ file.older) r → Contains in_flight r
+    only r has behind done = elim (read_of_held id format (records ++ in_flight) end file.now w.holds r has) [
+      | inr further ↦ absurd (w.nothing (signature_by id format) r has further done)
+      | inl inside ↦ elim (Contains-append_cases records in_flight r inside) [
+        | inr last ↦ last
+        | inl first ↦ absurd (omega (arith, (read_in id file.now r has).long, ends_in_held id format records at file.now holds r first))
+      ]
+    ]
 
 pub lengthened : (id : FileId) (format : LogFileFormat) (records : List Placed) (synced at room new_room : ℕ) (old new : File) → IsWrittenTo id format records synced at old → IsLengthened room new_room old new → IsWrittenTo id format records synced at new
 lengthened id format records synced at room new_room old new w (inl same) = subst (λ f. IsWrittenTo id format records synced at f) (sym same) w
@@ -44,17 +67,13 @@ appending id format records synced at room new_room old new given batch w is how
 
     by_outcome : (file : File) → IsWrittenTo id format records synced at file → (is_done : Bool) (after : List ℕ) → Outcome is_done (overlaid file.now at given) (IsPartOf at (length given) file.now) after → IsTornFrom id format records one synced at (written at given is_done after file)
     by_outcome file mid true after done =
-        let all = written_to_written id format records synced at file given batch mid is in
-        let torn : IsTornFrom id format records one synced at (written at given true (overlaid file.now at given) file) = record {
-          keeps = all.keeps;
-          few = mid.keeps.few;
-          holds = holds_written id format records at file.now given mid.holds;
-        } in
+        let torn = torn_from_more id format records one synced at (at + length given) (written at given true (overlaid file.now at given) file) (omega arith)
+        (holds_written id format records at file.now given mid.holds) mid.keeps.few (written_to_written id format records synced at file given batch mid is) in
         subst (λ bytes. IsTornFrom id format records one synced at (written at given true bytes file)) (sym done) torn
     by_outcome file mid false after part = written_to_refused id format records synced at file given batch after mid is part
 
     by_step : (file : File) → IsWrittenTo id format records synced at file → IsStep (written at given) (λ now. overlaid now at given) (IsPartOf at (length given)) file new → IsTornFrom id format records one synced at new
-    by_step file mid (inl same) = subst (λ f. IsTornFrom id format records one synced at f) (sym same) (torn_from_written id format records one synced at file mid)
+    by_step file mid (inl same) = subst (λ f. IsTornFrom id format records one synced at f) (sym same) (torn_from_written id format records one synced at file (omega arith) mid)
     by_step file mid (inr step) = subst (λ f. IsTornFrom id format records one synced at f) (sym step.3) (by_outcome file mid step.1 step.0 step.2)
 
 -- a moment of a cut

@@ -8,7 +8,7 @@ use Rattle.std.specs.Map.{lookup}
 use Rattle.std.specs.BTreeMap as tree
 use Rattle.raft_files.specs.Outcomes.{File, MayLeave, settled}
 use Rattle.raft_files.specs.Directory.{Path, Left}
-use Rattle.raft_files.specs.Memory.{Files}
+use Rattle.raft_files.specs.Files.{Files}
 
 -- the file is put at that path, and the others stay
 abbrev pub Puts : Files → Files → Path → File → Type 0

@@ -1,34 +1,12 @@
 -- What a file system in memory shows.
-use Rattle.std.specs.Prelude.{ℕ, Bool, ◌==◌, ◌||◌, List, [], ◌∷◌, length, map, String, Option}
-use Rattle.std.specs.List.{list_any}
-use Rattle.std.specs.declared.alloc.Global.{Global}
-use Rattle.std.specs.String.{string_bytes}
-use Rattle.std.specs.BTreeMap.{BTreeMap}
+use Rattle.std.specs.Prelude.{ℕ, ◌==◌, List, ◌∷◌, length, map, Option}
 use Rattle.std.specs.FinMap as finite
-use Rattle.raft_files.specs.Outcomes.{File}
-use Rattle.raft_files.specs.Directory.{Directory, Path, is_on_way}
+use Rattle.raft_files.specs.Directory.{Directory}
 use Rattle.raft_records.specs.declared.errors.IoKind.{IoKind}
 use Rattle.raft_files.specs.declared.armed.FsCall.{FsCall}
 use Rattle.raft_files.specs.Armed.{arms_of}
-use Rattle.raft_files.specs.declared.tree.Tree.{Tree}
+use Rattle.raft_files.specs.Files.{tree_directory}
 use Rattle.raft_files.specs.declared.memory.MemoryFileSystem.{MemoryFileSystem}
-
-abbrev pub Files : Type 0
-Files = BTreeMap (String Global) File
-
-abbrev pub by_bytes : List (String Global × File) → List (Path × File)
-by_bytes [] = []
-by_bytes (e ∷ es) = (string_bytes e.0, e.1) ∷ by_bytes es
-
--- the root, and each folder that was made with those on the way to it
-abbrev pub folders_of : List (String Global) → Path → Bool
-folders_of made q = (length q == 0) || list_any (λ p. is_on_way q (string_bytes p)) made
-
-abbrev pub directory_of : Files → (Path → Bool) → Directory
-directory_of files is_folder = record { files = finite.from_entries (by_bytes files.entries); is_folder = is_folder }
-
-abbrev pub tree_directory : Tree → Directory
-tree_directory tree = directory_of tree.files (folders_of tree.folders.items)
 
 -- the files and folders as they are now
 abbrev pub memory_directory : MemoryFileSystem → Directory

@@ -1,7 +1,7 @@
 -- The moments of a directory, at each of which a crash may come. They are listed with the newest first.
 use Rattle.std.specs.Prelude.{◌≡◌, List, ◌++◌}
 use Rattle.std.specs.List.{AllByRecursion}
-use Rattle.raft_files.specs.Directory.{Directory, Left, Leaves}
+use Rattle.raft_files.specs.Directory.{Directory}
 
 -- from old to new each moment that was added has P, and so has what is there now
 pub record Passes (old new : List Directory) (now : Directory) (P : Directory → Type 0) : Type 0 where
@@ -9,7 +9,3 @@ pub record Passes (old new : List Directory) (now : Directory) (P : Directory �
   pub is : new ≡ added ++ old
   pub each : AllByRecursion P added
   pub here : P now
-
--- a directory, and what a crash at its moment leaves, has R
-abbrev pub EachLeft : (Directory → Left → Type 0) → Directory → Type 0
-EachLeft R n = (d : Left) → Leaves n d → R n d

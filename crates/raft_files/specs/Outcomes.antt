@@ -1,5 +1,5 @@
 -- One file: its bytes now, and what a crash may leave of it.
-use Rattle.std.specs.Prelude.{◌≡◌, ◌⊎◌, ℕ, ◌+◌, ◌-◌, ◌<◌, ◌≤◌, min, max, Bool, true, false, ◌&&◌, ◌||◌, nat_le, nat_lt, List, [], ◌∷◌, ◌++◌, length, take, drop, replicate, slice_index, Option, Some, None, map, ◌==◌, if◌then◌else◌}
+use Rattle.std.specs.Prelude.{◌≡◌, ℕ, ◌+◌, ◌-◌, ◌<◌, ◌≤◌, min, max, Bool, true, false, ◌&&◌, nat_le, nat_lt, List, [], ◌∷◌, ◌++◌, length, take, drop, replicate, slice_index, Option, Some, None, map, ◌==◌, if◌then◌else◌}
 use Rattle.std.specs.List.{list_any}
 
 -- a write, an allocation or a truncation, whole or in part
@@ -11,6 +11,8 @@ pub record Change : Type 0 where
   pub given : List ℕ
   -- it wasn't refused
   pub is_done : Bool
+  -- the bytes of the file before it
+  pub before : List ℕ
   -- the bytes of the file then
   pub after : List ℕ
 
@@ -71,7 +73,7 @@ range_noted (Some ranges) range = Some (range ∷ ranges)
 abbrev pub written : ℕ → List ℕ → Bool → List ℕ → File → File
 written at given is_done after file = record file {
   now = after;
-  changes = record { from = at; size = length given; given = given; is_done = is_done; after = after } ∷ file.changes;
+  changes = record { from = at; size = length given; given = given; is_done = is_done; before = file.now; after = after } ∷ file.changes;
   rewritten = range_noted file.rewritten (at, length given);
 }
 
@@ -79,7 +81,7 @@ written at given is_done after file = record file {
 abbrev pub resized : Bool → List ℕ → File → File
 resized is_done after file = record file {
   now = after;
-  changes = record { from = min (length after) (length file.now); size = max (length after) (length file.now) - min (length after) (length file.now); given = []; is_done = is_done; after = after } ∷ file.changes;
+  changes = record { from = min (length after) (length file.now); size = max (length after) (length file.now) - min (length after) (length file.now); given = []; is_done = is_done; before = file.now; after = after } ∷ file.changes;
 }
 
 -- the same of a truncation, which may have touched all behind the wanted end if it is refused
@@ -87,7 +89,7 @@ abbrev pub cut_to : ℕ → Bool → List ℕ → File → File
 cut_to size true after file = resized true after file
 cut_to size false after file = record file {
   now = after;
-  changes = record { from = min size (length file.now); size = length file.now - min size (length file.now); given = []; is_done = false; after = after } ∷ file.changes;
+  changes = record { from = min size (length file.now); size = length file.now - min size (length file.now); given = []; is_done = false; before = file.now; after = after } ∷ file.changes;
 }
 
 abbrev pub synced_of : File → File

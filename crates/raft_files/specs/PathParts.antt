@@ -1,5 +1,5 @@
 -- What stands below a folder, and the folder of a path.
-use Rattle.std.specs.Prelude.{◌≡◌, ◌≢◌, ◌⊎◌, ℕ, List, [], ◌∷◌, ◌++◌, Option, Some}
+use Rattle.std.specs.Prelude.{◌≡◌, ◌≢◌, ◌⊎◌, [], ◌∷◌, ◌++◌, Option, Some}
 use Rattle.std.specs.List.{All}
 use Rattle.raft_files.specs.Directory.{Path, after_folder}
 

@@ -5,6 +5,8 @@ ghost use Rattle.raft_files.specs.Outcomes.{MayLeave, settled};
 ghost use Rattle.raft_files.specs.Directory.{Leaves, IsRestarted};
 ghost use Rattle.raft_files.specs.Choice.{chosen, RefusesUnless};
 ghost use Rattle.raft_files.specs.Crashed.{Puts};
+ghost use Rattle.raft_files.specs.Consistent.{AreConsistent};
+ghost use Rattle.raft_files.specs.Told.{NoneRenamed, OnlyWritesRefusedIn};
 
 use crate::armed::Armed;
 use crate::history::History;
@@ -34,13 +36,18 @@ impl MemoryFileSystem {
     ghost use Rattle.raft_files.specs.Memory.{memory_directory, memory_moments, memory_refusals, armed_of, stop_of};
 
     /// The files after a crash now. The choices go to the files in the order of their paths' bytes, and a file that is
-    /// left over keeps what was synced. Folders stay.
+    /// left over keeps what was synced. Folders stay. The files are consistent, none was renamed, and of their
+    /// changes only writes were refused. So by `laws::damage_can_be_told` the damage of `All` and `Synced` can be told of a
+    /// log that `laws::refused_calls_bring_no_record` keeps, and that of `Torn` where the torn record doesn't decode.
     pub fn crash(&self, choices: &[Choice]) -> Result<MemoryFileSystem, Fault>
         ensures ok { IfOk result (λ m. IsRestarted (memory_directory self.now)
             (left_by choices.now (memory_directory self.now)) (memory_directory m)) }
         ensures any_moment { IfOk result (λ m. memory_moments m ≡ memory_directory m ∷ []) }
         ensures cause { IfOk result (λ m. memory_refusals m ≡ 0) }
         ensures others { IfOk result (λ m. (armed_of m ≡ []) × (stop_of m ≡ None)) }
+        ensures consistent { AreConsistent (memory_directory self.now) }
+        ensures only_writes { OnlyWritesRefusedIn (memory_directory self.now) }
+        ensures not_renamed { NoneRenamed (memory_directory self.now) }
         ensures value { OnOk result (Leaves (memory_directory self.now) (left_by choices.now (memory_directory self.now))) }
         ensures refused { IfErr result (RefusesUnless
             (Leaves (memory_directory self.now) (left_by choices.now (memory_directory self.now)))) }
@@ -57,7 +64,7 @@ impl MemoryFileSystem {
 
 impl Tree {
     ghost use Rattle.raft_files.specs.Choice.{left_by, RefusesUnless};
-    ghost use Rattle.raft_files.specs.Memory.{tree_directory};
+    ghost use Rattle.raft_files.specs.Files.{tree_directory};
 
     fn crashed(&self, alloc: Global, choices: &[Choice]) -> Result<Tree, Fault>
         ensures ok { IfOk result (λ t. IsRestarted (tree_directory self.now)

@@ -1,20 +1,23 @@
 //! What holds of the records of files, whoever writes or reads them.
-ghost use Rattle.std.specs.Prelude.{◌≡◌, ◌+◌, ◌<◌, ◌^◌, ◌++◌, ◌∷◌, ℕ, List, [], true, Some, None, length, take};
+ghost use Rattle.std.specs.Prelude.{◌≡◌, ◌⊎◌, ◌+◌, ◌<◌, ◌≤◌, ◌^◌, ◌++◌, ◌∷◌, ℕ, List, [], true, Some, None, length, take};
 ghost use Rattle.raft_records.specs.FileId.{signature_in};
 ghost use Rattle.raft_records.specs.Item.{Batch};
 ghost use Rattle.raft_records.specs.Record.{record_bytes, record_of};
 ghost use Rattle.raft_records.specs.RecordLimits.{FitsRecord};
 ghost use Rattle.raft_records.specs.declared.pipe_log.FileId.{FileId};
-ghost use Rattle.raft_files.specs.Choice.{left_by};
-ghost use Rattle.raft_files.specs.Consistent.{AreConsistent, AreWhole};
-ghost use Rattle.raft_files.specs.Detectable.{EndsUnmarked, IsDetectable, NoneRefused, signature_by};
+ghost use Rattle.std.specs.FinMap as finite;
+ghost use Rattle.raft_files.specs.Choice.{choice_for, left_by, touched_before};
+ghost use Rattle.raft_files.specs.Consistent.{AreConsistent, AreWhole, IsConsistent};
+ghost use Rattle.raft_files.specs.Detectable.{EndsUnmarked, IsDetectable, format_of, signature_by};
 ghost use Rattle.raft_files.specs.Directory.{Directory, IsOneOf, IsAllocating, IsRestarted, IsTruncating, IsWriting, Leaves, Left, Path, changed, created, file_at, folder_made};
-ghost use Rattle.raft_files.specs.Header.{HasHeader, header_bytes, header_of};
-ghost use Rattle.raft_files.specs.Outcomes.{File, synced_of};
-ghost use Rattle.raft_files.specs.Reading.{Reading, end_of_reading, is_read_to_end, readable_batches, reading};
-ghost use Rattle.raft_files.specs.Records.{FirstOf, HasLog, HasTornLog, IsKept, left_bytes};
-ghost use Rattle.raft_files.specs.Writer.{HasChanged, IsAppended, IsAppending, IsClosing, IsOpening, IsSynced, IsSyncing, bytes_at};
+ghost use Rattle.raft_files.specs.Header.{HasHeader, header_bytes, header_len, header_of};
+ghost use Rattle.raft_files.specs.Outcomes.{File, is_touched, synced_of};
+ghost use Rattle.raft_files.specs.Reading.{Placed, Reading, end_of_reading, is_read_to_end, readable_batches, reading};
+ghost use Rattle.raft_files.specs.Records.{FirstOf, HasLog, HasTornLog, HoldsRecords, IsKept, left_batches};
+ghost use Rattle.raft_files.specs.Told.{AreDoneAt, AreOwn, EndsInZeros, HasDoneLog, HasDoneRecords, IsBrokenFrom, IsReadAsBefore, IsTornBehind, NameNoBytes, OnlyWritesRefusedAt};
+ghost use Rattle.raft_files.specs.Writer.{HasChanged, IsAppended, IsAppending, IsClosed, IsClosing, IsCut, IsCutting, IsOpening, IsSynced, IsSyncing, bytes_at};
 ghost use Rattle.raft_files.specs.declared.crash.Choice.{Choice};
+ghost use Rattle.raft_files.specs.declared.crash.Choice.TheVariants as choice;
 ghost use Rattle.raft_files.specs.declared.format.LogFileFormat.{LogFileFormat};
 
 /// A file with a header alone is read to its end and has no batch. A record appended to a file that is
@@ -35,7 +38,7 @@ pub fn beginning_is_read()
 /// left is synced. The moments of a writer's calls are those that `LogFileWriter` names.
 pub fn crash_leaves_a_beginning()
     ensures left { (path : Path) (id : FileId) (batches : List Batch) (synced : ℕ) (n : Directory)
-        → IsKept path id batches synced n → (d : Left) → Leaves n d → IsDetectable path id n d → FirstOf batches synced (readable_batches id (left_bytes path n d)) }
+        → IsKept path id batches synced n → (d : Left) → Leaves n d → IsDetectable path id n d → FirstOf batches synced (left_batches path id n d) }
     ensures between { (path : Path) (id : FileId) (format : LogFileFormat) (batches : List Batch) (synced at : ℕ) (n : Directory)
         → HasLog path id format batches synced at n → IsKept path id batches synced n }
     ensures refused { (path : Path) (id : FileId) (format : LogFileFormat) (batches in_flight : List Batch) (synced at : ℕ) (n : Directory)
@@ -51,7 +54,7 @@ pub fn crash_leaves_a_beginning()
     ensures syncing { (path : Path) (id : FileId) (batches : List Batch) (synced : ℕ) (old n : Directory)
         → IsKept path id batches synced old → HasChanged path IsSyncing old n → IsKept path id batches synced n }
     ensures restarted { (path : Path) (id : FileId) (n m : Directory) (d : Left)
-        → IsRestarted n d m → let found = readable_batches id (left_bytes path n d) in IsKept path id found (length found) m }
+        → IsRestarted n d m → let found = left_batches path id n d in IsKept path id found (length found) m }
 {}
 
 /// An opening loses nothing of a log file: while the file is made, while it is cut where its reading ends, and
@@ -68,8 +71,8 @@ pub fn opening_keeps_the_log()
         → let found = readable_batches id (bytes_at path old) in reading id (bytes_at path old) ≡ Some r → bytes_at path cut ≡ take r.end (bytes_at path old) → HasChanged path IsSynced cut new → HasLog path id r.format found (length found) r.end new }
 {}
 
-/// Each call keeps files consistent: outside the ranges of its changes a file holds the bytes of its last sync.
-/// What a crash left is consistent.
+/// Each call keeps files consistent: outside the ranges of its changes a file holds the bytes of its last sync, and
+/// each change began with what the one before it left. What a crash left is consistent.
 pub fn calls_keep_files_consistent()
     ensures writing { (path : Path) (at : ℕ) (given : List ℕ) (old n : Directory) → AreConsistent old → IsWriting path at given old n → AreConsistent n }
     ensures allocating { (path : Path) (size : ℕ) (old n : Directory) → AreConsistent old → IsAllocating path size old n → AreConsistent n }
@@ -80,14 +83,63 @@ pub fn calls_keep_files_consistent()
     ensures restarted { (n m : Directory) (d : Left) → IsRestarted n d m → AreConsistent m }
 {}
 
-/// The premise can be met. Storage may leave each consistent file with all its bytes now or with those of its last
-/// sync. Where no call on a log file was refused, and what its last sync found ended in no mark of compression, the
-/// damage of such a crash can be told; and without refusals a log ends in no such mark.
+/// A record that can be read and that no refused call brought stays so in every further call. So calls keep a log
+/// whose records no refused call brought, where only writes are refused: when it is made (`made`), found and cut
+/// where its reading ends (`found`), appended to, synced and closed, and when a refused append is taken back
+/// (`undone`). The records stay so at each moment of an append (`appending`) and of a cut (`cutting`). No refused
+/// call brought what a crash left (`restarted`), nor what a cut leaves of that (`cut`).
+pub fn refused_calls_bring_no_record()
+    ensures log { (path : Path) (id : FileId) (format : LogFileFormat) (batches : List Batch) (synced at : ℕ) (n : Directory)
+        → HasDoneLog path id format batches synced at n → HasLog path id format batches synced at n }
+    ensures made { (path : Path) (id : FileId) (format : LogFileFormat) (old new : Directory)
+        → HasHeader format → format.alignment < 2 ^ 64 → bytes_at path old ≡ header_bytes format → OnlyWritesRefusedAt path old
+        → HasChanged path IsSynced old new → HasDoneLog path id format [] 0 (header_len format.version) new }
+    ensures restarted { (path : Path) (id : FileId) (format : LogFileFormat) (records : List Placed) (n m : Directory) (d : Left)
+        → IsRestarted n d m → AreDoneAt path id format records m × OnlyWritesRefusedAt path m }
+    ensures cut { (path : Path) (id : FileId) (r : Reading) (size : ℕ) (old cut : Directory)
+        → reading id (bytes_at path old) ≡ Some r → AreDoneAt path id r.format r.records old → OnlyWritesRefusedAt path old
+        → HasChanged path (IsCut size) old cut → AreDoneAt path id r.format r.records cut × OnlyWritesRefusedAt path cut }
+    ensures found { (path : Path) (id : FileId) (r : Reading) (old cut new : Directory)
+        → let found = readable_batches id (bytes_at path old) in reading id (bytes_at path old) ≡ Some r → bytes_at path cut ≡ take r.end (bytes_at path old)
+        → AreDoneAt path id r.format r.records cut → OnlyWritesRefusedAt path cut → HasChanged path IsSynced cut new → HasDoneLog path id r.format found (length found) r.end new }
+    ensures appended { (path : Path) (id : FileId) (format : LogFileFormat) (batches : List Batch) (synced at : ℕ) (old new : Directory) (room new_room : ℕ) (given : List ℕ) (batch : Batch)
+        → HasDoneLog path id format batches synced at old → record_of (signature_by id format) given ≡ Some (batch, length given) → HasChanged path (IsAppended room new_room at given) old new
+        → OnlyWritesRefusedAt path new → HasDoneLog path id format (batches ++ batch ∷ []) synced (at + length given) new }
+    ensures appending { (path : Path) (id : FileId) (format : LogFileFormat) (batches : List Batch) (synced at : ℕ) (old n : Directory) (room new_room : ℕ) (given : List ℕ) (batch : Batch)
+        → HasDoneLog path id format batches synced at old → record_of (signature_by id format) given ≡ Some (batch, length given) → HasChanged path (IsAppending room new_room at given) old n
+        → HasDoneRecords path id format batches synced at n }
+    ensures cutting { (path : Path) (id : FileId) (format : LogFileFormat) (batches : List Batch) (synced at : ℕ) (old n : Directory)
+        → HasDoneRecords path id format batches synced at old → HasChanged path (IsCutting at) old n → HasDoneRecords path id format batches synced at n }
+    ensures undone { (path : Path) (id : FileId) (format : LogFileFormat) (batches : List Batch) (synced at : ℕ) (old mid new : Directory) (room new_room : ℕ) (given : List ℕ) (batch : Batch)
+        → HasDoneLog path id format batches synced at old → record_of (signature_by id format) given ≡ Some (batch, length given) → HasChanged path (IsAppending room new_room at given) old mid
+        → OnlyWritesRefusedAt path mid → HasChanged path (IsClosed at) mid new → HasDoneLog path id format batches (length batches) at new }
+    ensures durable { (path : Path) (id : FileId) (format : LogFileFormat) (batches : List Batch) (synced at : ℕ) (old new : Directory)
+        → HasDoneLog path id format batches synced at old → HasChanged path IsSynced old new → HasDoneLog path id format batches (length batches) at new }
+    ensures closed { (path : Path) (id : FileId) (format : LogFileFormat) (batches : List Batch) (synced at : ℕ) (old new : Directory)
+        → HasDoneLog path id format batches synced at old → HasChanged path (IsClosed at) old new → HasDoneLog path id format batches (length batches) at new }
+{}
+
+/// The premise can be met. Storage may leave each consistent file with all its bytes now, with those of its last
+/// sync, or torn: of the places touched since, only the first few hold their bytes (`allowed`). Where no refused
+/// call brought the records of a file, the damage of a crash can be told that leaves the first of them as they
+/// stand now and behind them none that decodes (`told`), as a torn file that keeps those does (`torn`). None decodes
+/// where zeros alone stand (`zeros`); so of a log with all bytes or those of its last sync it can be told (`detectable`).
+/// Of a file in any state it can be told where no call brought a record but the one that it was to write, and what
+/// such an outcome leaves is read as a beginning of what was read at a moment since the last sync (`own`), as all
+/// bytes are (`read_now`), and those of the last sync under the same header or none (`read_synced`).
 pub fn damage_can_be_told()
-    ensures allowed { (choices : List Choice) (n : Directory) → AreWhole choices → AreConsistent n → Leaves n (left_by choices n) }
-    ensures detectable { (path : Path) (id : FileId) (format : LogFileFormat) (batches : List Batch) (synced at : ℕ) (n : Directory) (file : File) (choices : List Choice)
-        → AreWhole choices → AreConsistent n → HasLog path id format batches synced at n → file_at n path ≡ Some file → NoneRefused (file.changes ++ file.older)
-        → EndsUnmarked id file.synced → file.rewritten ≡ None → IsDetectable path id n (left_by choices n) }
-    ensures unmarked { (path : Path) (id : FileId) (format : LogFileFormat) (batches : List Batch) (synced at : ℕ) (n : Directory) (file : File)
-        → HasLog path id format batches synced at n → file_at n path ≡ Some file → NoneRefused (file.changes ++ file.older) → EndsUnmarked id file.now }
+    ensures allowed { (choices : List Choice) (n : Directory) → NameNoBytes choices → AreConsistent n → Leaves n (left_by choices n) }
+    ensures told { (path : Path) (id : FileId) (format : LogFileFormat) (batches : List Batch) (synced at : ℕ) (n : Directory) (held : HasDoneRecords path id format batches synced at n)
+        → held.file.rewritten ≡ None → AreConsistent n → (d : Left) → Leaves n d → IsTornBehind id format held.records held.file (d path) → IsDetectable path id n d }
+    ensures torn { (path : Path) (id : FileId) (format : LogFileFormat) (batches : List Batch) (synced at : ℕ) (n : Directory) (held : HasDoneRecords path id format batches synced at n)
+        → held.file.rewritten ≡ None → AreConsistent n → (choices : List Choice) (kept fill count end : ℕ) → choice_for choices (finite.keys n.files) path ≡ choice.Torn kept fill
+        → HoldsRecords id format (take count held.records) end held.file.now → touched_before (is_touched held.file.changes) end ≤ kept
+        → IsBrokenFrom id format end (left_by choices n path) → IsDetectable path id n (left_by choices n) }
+    ensures zeros { (id : FileId) (format : LogFileFormat) (at : ℕ) (bytes : List ℕ) → EndsInZeros at bytes → IsBrokenFrom id format at bytes }
+    ensures detectable { (path : Path) (id : FileId) (format : LogFileFormat) (batches : List Batch) (synced at : ℕ) (n : Directory) (log : HasDoneLog path id format batches synced at n)
+        → log.held.file.rewritten ≡ None → AreConsistent n → (choices : List Choice) → AreWhole choices → IsDetectable path id n (left_by choices n) }
+    ensures own { (path : Path) (id : FileId) (n : Directory) (file : File) → file_at n path ≡ Some file → file.rewritten ≡ None → AreConsistent n → AreOwn id file
+        → (choices : List Choice) → NameNoBytes choices → IsReadAsBefore id file (left_by choices n path) → IsDetectable path id n (left_by choices n) }
+    ensures read_now { (id : FileId) (file : File) → IsConsistent file → EndsUnmarked id file.now → IsReadAsBefore id file file.now }
+    ensures read_synced { (id : FileId) (file : File) → (format_of file.synced ≡ format_of file.now) ⊎ (format_of file.synced ≡ None) → EndsUnmarked id file.synced → IsReadAsBefore id file file.synced }
 {}

@@ -1,6 +1,10 @@
 //! A file system in memory. Its earlier states are kept for clauses alone.
 ghost use Rattle.std.specs.Prelude.{◌≡◌, ◌≤◌, ◌+◌, ◌/◌, ◌↔◌, [], ◌∷◌, length, map, refl, take, IsTrue, None, OnErr, OnOk, false};
 ghost use Rattle.std.specs.String.{string_bytes};
+ghost use Rattle.std.proofs.Props.{props};
+ghost use Rattle.raft_files.specs.Consistent.{AreConsistent, past_prop};
+ghost use Rattle.raft_files.specs.Files.{tree_directory};
+ghost use Rattle.raft_files.specs.Told.{NoneRenamed, OnlyWritesRefusedIn};
 ghost use Rattle.raft_files.specs.Outcomes.{overlaid, written};
 ghost use Rattle.raft_files.specs.Directory.{IsReading, IsWriting, changed};
 ghost use Rattle.raft_files.specs.Moments.{Passes};
@@ -22,6 +26,9 @@ pub struct MemoryFileSystem {
     pub(crate) past: History<Tree>,
     pub(crate) refusals: u64,
     pub(crate) armed: Armed,
+    ghost consistent: { AreConsistent (tree_directory tree) } by { Prim.hlevel (props, past_prop) },
+    ghost only_writes: { OnlyWritesRefusedIn (tree_directory tree) } by { Prim.hlevel props },
+    ghost not_renamed: { NoneRenamed (tree_directory tree) } by { Prim.hlevel props },
 }
 
 #[derive(Drop)]
@@ -84,7 +91,7 @@ impl MemoryFileSystem {
 }
 
 impl FileSystem for MemoryFileSystem {
-    ghost use Rattle.raft_files.specs.Memory.{memory_directory, memory_moments, memory_refusals, tree_directory};
+    ghost use Rattle.raft_files.specs.Memory.{memory_directory, memory_moments, memory_refusals};
 
     type Handle = MemoryHandle;
 

@@ -20,7 +20,8 @@ pub(crate) struct Tree {
 }
 
 impl Tree {
-    ghost use Rattle.raft_files.specs.Memory.{tree_directory, folders_of, no_files};
+    ghost use Rattle.raft_files.specs.Files.{tree_directory, folders_of};
+    ghost use Rattle.raft_files.specs.Memory.{no_files};
 
     pub(crate) fn new(alloc: Global) -> Tree
         ensures value { tree_directory result ≡ no_files }
@@ -78,7 +79,7 @@ impl Tree {
 }
 
 impl Tree {
-    ghost use Rattle.raft_files.specs.Memory.{tree_directory};
+    ghost use Rattle.raft_files.specs.Files.{tree_directory};
 
     pub(crate) fn write(
         &mut self,

@@ -12,3 +12,5 @@ pub mod RecoverLemmas
 pub mod StaysLemmas
 pub mod ReopenLemmas
 pub mod TrialLemmas
+pub mod LineLemmas
+pub mod LinesLemmas

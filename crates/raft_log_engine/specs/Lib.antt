@@ -11,3 +11,4 @@ pub mod Run
 pub mod Durability
 pub mod Written
 pub mod Trial
+pub mod Line

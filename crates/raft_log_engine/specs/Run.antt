@@ -1,10 +1,12 @@
 -- What operations are answered, and what they leave.
-use Rattle.std.specs.Prelude.{◌≡◌, ◌⊎◌, ℕ, ◌+◌, Bool, true, false, ◌||◌, List, [], ◌∷◌, ◌++◌, length, Option, Some, None, option_map, Result, Ok, Err, is_ok, MatchResult, IsErrAnd, if◌then◌else◌}
+use Rattle.std.specs.Prelude.{◌≡◌, ◌⊎◌, ℕ, zero, suc, ◌+◌, ◌-◌, ◌^◌, ◌≤◌, min, Bool, true, false, ◌||◌, List, [], ◌∷◌, ◌++◌, length, Option, Some, None, IsSome, option_map, Result, Ok, Err, is_ok, MatchResult, IsErrAnd, if◌then◌else◌}
+use Rattle.std.specs.List.{count_by}
 use Rattle.raft_records.specs.Batch.{is_internal_key}
 use Rattle.raft_records.specs.Contents.{Contents, after_batches}
 use Rattle.raft_records.specs.Item.{Item, Batch, Put, Delete}
 use Rattle.raft_records.specs.declared.errors.Fault.{Fault}
 use Rattle.raft_records.specs.declared.errors.Fault.TheVariants as fault
+use Rattle.raft_log_engine.specs.Crash.{written_batch}
 use Rattle.raft_log_engine.specs.Engine.{record_len}
 use Rattle.raft_log_engine.specs.declared.script.operation.Act.{Act}
 use Rattle.raft_log_engine.specs.declared.script.operation.Act.TheVariants as act
@@ -29,11 +31,10 @@ abbrev pub batch_of_acts : List Act → Option Batch
 batch_of_acts [] = Some []
 batch_of_acts (a ∷ acts) = with_first (item_of_act a) (batch_of_acts acts)
 
--- a batch without items is not written
+-- what is written of it
 abbrev pub with_items : Option Batch → List Batch
 with_items None = []
-with_items (Some []) = []
-with_items (Some (item ∷ items)) = (item ∷ items) ∷ []
+with_items (Some batch) = written_batch batch
 
 -- the batch of a write that was answered
 abbrev pub written : List Act → Result ℕ Fault → List Batch
@@ -76,17 +77,27 @@ in_flight (Write acts sync) = with_items (batch_of_acts acts.items)
 in_flight Sync = []
 in_flight (Get group key) = []
 
+-- the operation doesn't change the engine: a get, or a write of acts without a batch
+abbrev pub IsUnasked : Op → Type 0
+IsUnasked (Write acts sync) = batch_of_acts acts.items ≡ None
+IsUnasked Sync = ⊥
+IsUnasked (Get group key) = Unit {0}
+
 -- a write that was answered had a batch, and is answered with its record's length
 abbrev pub IsWritten : List Act → ℕ → Type 0
 IsWritten acts len = (batch : Batch) × (batch_of_acts acts ≡ Some batch) × (len ≡ record_len batch)
 
--- a write is refused for an act that can't be done, by storage, for want of memory, by a number's type, or by a failed engine
+-- a record of the batch would be too long
+abbrev pub IsTooLong : List Act → Type 0
+IsTooLong acts = (batch : Batch) × (batch_of_acts acts ≡ Some batch) × (2 ^ 56 ≤ record_len batch)
+
+-- a write is refused for an act that can't be done, or for want of memory; its batch by storage, for its length, or by a failed engine
 abbrev pub IsWriteRefusal : List Act → Fault → Type 0
 IsWriteRefusal acts (fault.InvalidArgument _) = batch_of_acts acts ≡ None
-IsWriteRefusal acts (fault.Io kind path) = Unit {0}
+IsWriteRefusal acts (fault.Io kind path) = IsSome (batch_of_acts acts)
 IsWriteRefusal acts fault.Memory = Unit {0}
-IsWriteRefusal acts fault.Range = Unit {0}
-IsWriteRefusal acts fault.Failed = Unit {0}
+IsWriteRefusal acts fault.Range = IsTooLong acts
+IsWriteRefusal acts fault.Failed = IsSome (batch_of_acts acts)
 IsWriteRefusal acts _ = ⊥
 
 abbrev pub IsSyncRefusal : Fault → Type 0
@@ -113,6 +124,31 @@ AreAnswers m [] [] = Unit {0}
 AreAnswers m (op ∷ ops) (outcome ∷ outcomes) = IsAnswer m op outcome × AreAnswers (after_batches m (accepted_of op outcome)) ops outcomes
 AreAnswers m _ _ = ⊥
 
+-- storage's refusal
+abbrev pub is_io : {T : Type 0} → Result T Fault → Bool
+is_io (Err (fault.Io kind path)) = true
+is_io _ = false
+
+-- .. of an operation
+abbrev pub is_refused_by_storage : Outcome → Bool
+is_refused_by_storage (Size answer) = is_io answer
+is_refused_by_storage (Done answer) = is_io answer
+is_refused_by_storage (Value answer) = is_io answer
+
+-- how many of the operations storage refused
+abbrev pub io_count : List Outcome → ℕ
+io_count outcomes = count_by is_refused_by_storage outcomes
+
+-- a count rose by so many at least, or it is full
+abbrev pub RoseBy : ℕ → ℕ → ℕ → Type 0
+RoseBy count old new = min (old + count) (2 ^ 64 - 1) ≤ new
+
+-- by storage, or for want of memory
+abbrev pub IsOutside : Fault → Type 0
+IsOutside (fault.Io kind path) = Unit {0}
+IsOutside fault.Memory = Unit {0}
+IsOutside _ = ⊥
+
 -- the answer of an engine that had failed
 abbrev pub is_failure : {T : Type 0} → Result T Fault → Bool
 is_failure (Err fault.Failed) = true
@@ -125,8 +161,8 @@ pub record FailsBy {T : Type 0} (failed : Bool) (answer : Result T Fault) (fails
   -- a failure is told where there was one, and nowhere else
   pub told : is_failure answer ≡ true → failed ≡ true
   pub refused : failed ≡ true → (is_failure answer ≡ true) ⊎ IsErrAnd answer Other
-  -- a call that is answered leaves it standing
-  pub stands : is_ok answer ≡ true → fails ≡ false
+  -- it fails by storage or for want of memory alone
+  pub cause : failed ≡ false → fails ≡ true → IsErrAnd answer IsOutside
 
 -- the batch of these acts can't be built, or there is no memory for it
 abbrev pub IsUnbuilt : List Act → Fault → Type 0
@@ -134,11 +170,11 @@ IsUnbuilt acts (fault.InvalidArgument _) = batch_of_acts acts ≡ None
 IsUnbuilt acts fault.Memory = Unit {0}
 IsUnbuilt acts _ = ⊥
 
--- .. in an operation; a refused sync fails the engine
+-- .. in an operation; a refused sync fails the engine, and a get doesn't
 abbrev pub IsFailing : Bool → Op → Outcome → Bool → Type 0
 IsFailing failed (Write acts sync) (Size answer) fails = FailsBy failed answer fails (IsUnbuilt acts.items)
 IsFailing failed Sync (Done answer) fails = FailsBy failed answer fails (λ _. ⊥) × (is_ok answer ≡ false → fails ≡ true)
-IsFailing failed (Get group key) (Value answer) fails = FailsBy failed answer fails (λ _. ⊥)
+IsFailing failed (Get group key) (Value answer) fails = FailsBy failed answer fails (λ _. ⊥) × (fails ≡ failed)
 IsFailing failed _ _ fails = ⊥
 
 -- .. in each of the operations, one after the other
@@ -146,3 +182,14 @@ abbrev pub AreFailing : Bool → List Op → List Outcome → Bool → Type 0
 AreFailing failed [] [] fails = fails ≡ failed
 AreFailing failed (op ∷ ops) (outcome ∷ outcomes) fails = (next : Bool) × IsFailing failed op outcome next × AreFailing next ops outcomes fails
 AreFailing failed _ _ fails = ⊥
+
+-- the engine failed in the operation at this place: those before it left it standing, and those behind it found it failed
+abbrev pub FailsAt : ℕ → List Op → List Outcome → Type 0
+FailsAt zero (op ∷ ops) (outcome ∷ outcomes) = IsFailing false op outcome true × AreFailing true ops outcomes true
+FailsAt (suc place) (op ∷ ops) (outcome ∷ outcomes) = IsFailing false op outcome false × FailsAt place ops outcomes
+FailsAt place _ _ = ⊥
+
+-- where the engine failed: in the operation at the place, or in none, and then it is behind them as it was before
+abbrev pub IsFailurePlace : Bool → List Op → List Outcome → Option ℕ → Type 0
+IsFailurePlace failed ops outcomes None = AreFailing failed ops outcomes failed
+IsFailurePlace failed ops outcomes (Some place) = (failed ≡ false) × FailsAt place ops outcomes

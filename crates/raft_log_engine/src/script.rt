@@ -1,4 +1,7 @@
 //! Operations on an engine as a list, crashes among them, and the program `raftlog` over any reader and writer.
+ghost use Rattle.std.specs.Prelude.{IfOk, IfSome};
+ghost use Rattle.raft_log_engine.specs.Line.{EndsOn, IsNextLine};
+
 mod line;
 mod operation;
 mod runs;
@@ -50,7 +53,9 @@ const FOLDER: &str = "raft";
 
 /// Reads lines, does what each asks for over files in memory, and writes the answers.
 /// docs/ARCHITECTURE.md has the lines and their answers.
-pub fn serve<R: Read + Drop, W: Write + Drop>(alloc: Global, reader: R, writer: W) -> Ended {
+pub fn serve<R: Read + Drop, W: Write + Drop>(alloc: Global, reader: R, writer: W) -> Ended
+    ensures lines { IfSome (R.remaining reader) (λ text. EndsOn text result) }
+{
     let Ok(mut input) = BufReader::new(alloc, reader) else {
         return Ended::Input;
     };
@@ -64,18 +69,16 @@ pub fn serve<R: Read + Drop, W: Write + Drop>(alloc: Global, reader: R, writer: 
     ended
 }
 
-fn serve_lines<R: BufRead, W: Write>(alloc: Global, input: &mut R, output: &mut W) -> Ended {
+fn serve_lines<R: BufRead, W: Write>(alloc: Global, input: &mut R, output: &mut W) -> Ended
+    ensures lines { IfSome (R.Read.remaining input.old) (λ text. EndsOn text result) }
+{
     let mut engine = None;
     let mut text = Vec::new(alloc);
     for number in 1..u64::MAX {
-        text.clear();
-        match input.read_until(b'\n', &mut text) {
-            Ok(0) => return Ended::Done,
-            Ok(_) => {}
+        match read_line(input, &mut text) {
+            Ok(true) => {}
+            Ok(false) => return Ended::Done,
             Err(_) => return Ended::Input,
-        }
-        if text.last() == Some(&b'\n') {
-            text.pop();
         }
         let Some(line) = parse_line(&text) else {
             return Ended::BadLine(number);
@@ -91,6 +94,20 @@ fn serve_lines<R: BufRead, W: Write>(alloc: Global, input: &mut R, output: &mut 
         }
     }
     Ended::Input
+}
+
+// The next line without its newline, if there is one.
+fn read_line<R: BufRead>(input: &mut R, line: &mut Vec<u8>) -> io::Result<bool>
+    ensures line { IfSome (R.Read.remaining input.old) (λ text. IfOk result (λ found. IsNextLine found text line.new.items (R.Read.remaining input.new))) }
+{
+    line.clear();
+    if input.read_until(b'\n', line)? == 0 {
+        return Ok(false);
+    }
+    if line.last() == Some(&b'\n') {
+        line.pop();
+    }
+    Ok(true)
 }
 
 // The engine is opened at the first line that asks for something.

@@ -1,4 +1,4 @@
-//! What an opening finds behind a crash.
+//! What an opening finds behind a crash, and behind a refusal of storage.
 
 use crate::states::{EMPTY, State, settings, state_of};
 use raft_files::{Choice, FileSystem, FsCall, IoKind, MemoryFileSystem};
@@ -94,8 +94,9 @@ fn fail_at_sync<F: FileSystem + Drop>(
 ) -> Result<F, Fail> {
     let refused = put(alloc, &mut engine, b"a", &[1], true);
     assert_eq!(rt; refused.map_err(|fault| fault.code()), Err(3));
-    let found = engine.get(1, b"a");
-    assert_eq!(rt; found.map(|_| ()).map_err(|fault| fault.code()), Err(11));
+    assert!(rt; engine.failed());
+    assert_eq!(rt; engine.get(1, b"a"), Err(Fault::Failed));
+    assert_eq!(rt; engine.sync(), Err(Fault::Failed));
     match engine.close() {
         Ok(files) => {
             assert!(rt; false);
@@ -114,7 +115,7 @@ fn refused_sync_fails_engine(rt: HostRuntime) -> Result<(), Fail> {
     let mut engine = open(alloc, MemoryFileSystem::new(alloc))?;
     engine.refuse(FsCall::Sync, 1, IoKind::Other)?;
     let files = fail_at_sync(&rt, alloc, engine)?;
-    crash_finds(&rt, alloc, &files, Choice::All, State { a: 1, ..EMPTY })
+    finds(&rt, alloc, files, State { a: 1, ..EMPTY })
 }
 
 #[test]
@@ -124,4 +125,51 @@ fn stopped_engine_fails(rt: HostRuntime) -> Result<(), Fail> {
     engine.stop_at(1);
     let files = fail_at_sync(&rt, alloc, engine)?;
     crash_finds(&rt, alloc, &files, Choice::Synced, EMPTY)
+}
+
+// Puts without a sync, and closes.
+fn put_and_close<F: FileSystem + Drop>(alloc: Global, files: F) -> Result<F, Fail> {
+    let mut engine = open(alloc, files)?;
+    put(alloc, &mut engine, b"a", &[1], false)?;
+    Ok(engine.close().map_err(|refused| refused.fault)?)
+}
+
+#[test]
+fn closed_log_survives_a_crash(rt: HostRuntime) -> Result<(), Fail> {
+    let alloc = rt.alloc();
+    let files = put_and_close(alloc, MemoryFileSystem::new(alloc))?;
+    crash_finds(&rt, alloc, &files, Choice::Synced, State { a: 1, ..EMPTY })
+}
+
+// A batch whose writing was refused is written again, and a reopening finds it.
+fn write_twice<F: FileSystem + Drop>(
+    rt: &impl Abort,
+    alloc: Global,
+    mut engine: Engine<F>,
+) -> Result<F, Fail> {
+    let mut batch = LogBatch::new(alloc);
+    batch.put(1, b"a".to_vec(alloc)?, [1].to_vec(alloc)?)?;
+    let refused = engine.write(&mut batch, true);
+    assert_eq!(rt; refused.map_err(|fault| fault.code()), Err(3));
+    assert!(rt; !engine.failed());
+    assert_eq!(rt; engine.get(1, b"a"), Ok(None));
+    assert_eq!(rt; engine.write(&mut batch, true), Ok(28));
+    assert!(rt; batch.is_empty());
+    let engine = engine.reopen().map_err(|refused| refused.fault)?;
+    assert_eq!(rt; engine.path(), "raft");
+    let value = engine.get(1, b"a")?;
+    assert_eq!(rt;
+        value.as_ref().map(|bytes| bytes.as_slice()),
+        Some([1].as_slice())
+    );
+    Ok(engine.give_up())
+}
+
+#[test]
+fn refused_write_can_be_repeated(rt: HostRuntime) -> Result<(), Fail> {
+    let alloc = rt.alloc();
+    let mut engine = open(alloc, MemoryFileSystem::new(alloc))?;
+    engine.refuse(FsCall::Write, 1, IoKind::Other)?;
+    let files = write_twice(&rt, alloc, engine)?;
+    crash_finds(&rt, alloc, &files, Choice::Synced, State { a: 1, ..EMPTY })
 }

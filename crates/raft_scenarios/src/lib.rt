@@ -5,8 +5,6 @@
 #[cfg(test)]
 mod crashes;
 #[cfg(test)]
-mod durability;
-#[cfg(test)]
 mod opening;
 #[cfg(test)]
 mod program;

@@ -9,6 +9,10 @@ use std::test::Fail;
 
 const MAX_CALLS: u64 = 100;
 
+/// So many calls at least change files: four of the opening (the folder, the file, its header and a sync), six writes
+/// of records, and three syncs.
+const MIN_CHANGES: u64 = 13;
+
 // The trial found what may be found. Behind the stop each change is refused, so that the engine fails at the first.
 fn holds(rt: &impl Abort, ops: &[Op], trial: &Trial) {
     assert_eq!(rt; trial.failed_at, first_refused(&trial.outcomes));
@@ -55,6 +59,7 @@ fn every_stop_and_crash_finds_what_may_be_found(rt: HostRuntime) -> Result<(), F
             crash_at(&rt, alloc, &ops, stop, Choice::Torn(kept, 255))?;
         }
         if !stopped {
+            assert!(rt; stop > MIN_CHANGES);
             return Ok(());
         }
     }

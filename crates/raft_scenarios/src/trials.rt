@@ -77,6 +77,11 @@ fn trial_really_crashes(rt: HostRuntime) -> Result<(), Fail> {
         assert_eq!(rt; shown.failed_at, None);
         finds(&rt, &shown, found);
     }
+    // The first call that changes files is one of the opening.
+    let stopped = tried(alloc, Some(1), Choice::All)?;
+    assert!(rt; stopped.outcomes.is_empty());
+    assert_eq!(rt; stopped.failed_at, None);
+    finds(&rt, &stopped, EMPTY);
     let refused = tried(alloc, None, Choice::Bytes(Vec::new(alloc)));
     assert!(rt; refused.is_err());
     Ok(())

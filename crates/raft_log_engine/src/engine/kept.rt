@@ -11,8 +11,8 @@ use std::marker::Model;
 
 #[derive(Drop)]
 pub(crate) struct Kept {
-    /// Those that were found at the opening, and those that were written since. A failed engine has also the batch
-    /// in which it failed.
+    /// Those that were found at the opening, and those that were written since. An engine that failed in
+    /// a write has also the batch of that write.
     pub ghost batches: { List Batch },
     pub ghost synced: { ℕ },
 }

@@ -3,7 +3,7 @@ use Rattle.raft_files.proofs.KeptLemmas.{kept_left, log_kept, torn_log_kept, log
 use Rattle.raft_files.proofs.laws.crash_leaves_a_beginning.Goals as goal
 
 pub returns-clause-left : goal.returns-clause-left
-returns-clause-left c = kept_left
+returns-clause-left c = λ path id batches synced n kept d leaves. kept_left path id batches synced n kept d
 
 pub returns-clause-between : goal.returns-clause-between
 returns-clause-between c = log_kept

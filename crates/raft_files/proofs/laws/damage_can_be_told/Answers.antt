@@ -1,13 +1,28 @@
-use Rattle.raft_files.proofs.ConsistentLemmas.{whole_left}
-use Rattle.raft_files.proofs.PremiseLemmas.{log_unmarked, whole_detectable}
+use Rattle.raft_files.proofs.PremiseLemmas.{choices_may_leave, records_told, records_torn, log_whole}
+use Rattle.raft_files.proofs.PastLemmas.{own_told, now_is_read, synced_is_read}
+use Rattle.raft_files.proofs.ToldLemmas.{broken_zeros}
 use Rattle.raft_files.proofs.laws.damage_can_be_told.Goals as goal
 
 pub returns-clause-allowed : goal.returns-clause-allowed
-returns-clause-allowed c = whole_left
+returns-clause-allowed c = choices_may_leave
+
+pub returns-clause-told : goal.returns-clause-told
+returns-clause-told c = records_told
+
+pub returns-clause-torn : goal.returns-clause-torn
+returns-clause-torn c = records_torn
+
+pub returns-clause-zeros : goal.returns-clause-zeros
+returns-clause-zeros c = broken_zeros
 
 pub returns-clause-detectable : goal.returns-clause-detectable
-returns-clause-detectable c = λ path id format batches synced at n file choices whole consistent log stands none unmarked never.
-    whole_detectable path id format batches synced at n file choices whole log stands (consistent path file stands) none unmarked never
+returns-clause-detectable c = log_whole
 
-pub returns-clause-unmarked : goal.returns-clause-unmarked
-returns-clause-unmarked c = log_unmarked
+pub returns-clause-own : goal.returns-clause-own
+returns-clause-own c = own_told
+
+pub returns-clause-read_now : goal.returns-clause-read_now
+returns-clause-read_now c = now_is_read
+
+pub returns-clause-read_synced : goal.returns-clause-read_synced
+returns-clause-read_synced c = synced_is_read

@@ -1,6 +1,5 @@
-use Rattle.std.proofs.Common.{◌≡◌, ◌++◌, [], ◌∷◌, ℕ, ◌+◌, ◌≤◌, length, get_or, cond, ◌&&◌, map, refl, sym, ◌∙◌, ap, arith, rules}
+use Rattle.std.proofs.Common.{◌≡◌, ◌++◌, [], ◌∷◌, ◌+◌, ◌≤◌, length, get_or, cond, ◌&&◌, ◌∙◌, arith, rules}
 use Rattle.std.specs.Prelude.{◌==◌}
-use Rattle.std.proofs.lemmas.Grind.{common_steps}
 use Rattle.raft_files.specs.Kept.{is_covered}
 use Rattle.raft_files.proofs.ChoiceLemmas.{torn_more, left_more}
 use Rattle.raft_files.proofs.slot.torn_bytes.Goals as goal

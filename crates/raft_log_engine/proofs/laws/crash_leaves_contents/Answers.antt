@@ -1,5 +1,5 @@
-use Rattle.raft_log_engine.proofs.AllowedLemmas.{contents_left, contents_restarted}
-use Rattle.raft_log_engine.proofs.SoundLemmas.{restarted_no_file, sound_opens}
+use Rattle.raft_log_engine.proofs.AllowedLemmas.{contents_as_they_are, contents_left, contents_none, contents_restarted}
+use Rattle.raft_log_engine.proofs.SoundLemmas.{restarted_bytes, restarted_no_file, sound_opens}
 use Rattle.raft_log_engine.proofs.laws.crash_leaves_contents.Goals as goal
 
 pub returns-clause-left : goal.returns-clause-left
@@ -9,7 +9,13 @@ pub returns-clause-restarted : goal.returns-clause-restarted
 returns-clause-restarted c = contents_restarted
 
 pub returns-clause-opens : goal.returns-clause-opens
-returns-clause-opens c = λ folder n m d restarted sound mode tolerant. sound_opens folder n d m restarted mode sound tolerant
+returns-clause-opens c = λ folder n m d restarted sound mode tolerant. sound_opens folder n d m (restarted_bytes folder n d m restarted) mode sound tolerant
 
 pub returns-clause-no_file : goal.returns-clause-no_file
 returns-clause-no_file c = λ folder n m d restarted sound. restarted_no_file folder n d m restarted sound
+
+pub returns-clause-as_they_are : goal.returns-clause-as_they_are
+returns-clause-as_they_are c = contents_as_they_are
+
+pub returns-clause-none : goal.returns-clause-none
+returns-clause-none c = contents_none

@@ -13,3 +13,9 @@ fail_at_sync-requires-send-F g c = λ κs. search (sendable, memory_send) depth 
 
 pub fail_at_sync-requires-sync-F : goal.fail_at_sync-requires-sync-F
 fail_at_sync-requires-sync-F g c = λ κs. search (sendable, memory_sync) depth 20
+
+pub finds-requires-send-F : goal.finds-requires-send-F
+finds-requires-send-F g c = λ κs. search (sendable, memory_send) depth 20
+
+pub finds-requires-sync-F : goal.finds-requires-sync-F
+finds-requires-sync-F g c = λ κs. search (sendable, memory_sync) depth 20

@@ -1,16 +1,15 @@
-use Rattle.std.proofs.Common.{◌≡◌, ◌++◌, ◌∷◌, [], List, ℕ, ◌+◌, length, length-append, map, refl, sym, ◌∙◌, ap, subst, rules, arith}
-use Rattle.std.specs.Prelude.{String, slice_index_or}
-use Rattle.std.specs.declared.alloc.Global.{Global}
+use Rattle.std.proofs.Common.{◌≡◌, ◌++◌, ◌∷◌, [], ℕ, length, length-append, map, sym, ◌∙◌, ap, subst, rules, arith}
+use Rattle.std.specs.Prelude.{slice_index_or}
 use Rattle.std.specs.Map.Iter.{deref_pair}
 use Rattle.std.specs.String.{string_bytes}
 use Rattle.std.proofs.lemmas.Grind.{common_steps}
 use Rattle.std.proofs.lemmas.List.{append-nil, map-append, length-map}
 use Rattle.std.proofs.lemmas.Result.{err_from_is_err_and}
-use Rattle.raft_files.specs.Outcomes.{File, MayLeave, settled}
+use Rattle.raft_files.specs.Outcomes.{MayLeave, settled}
 use Rattle.raft_files.specs.Directory.{Leaves}
 use Rattle.raft_files.specs.Choice.{chosen, left_by}
 use Rattle.raft_files.specs.Crashed.{Copied, IsLeft, Puts}
-use Rattle.raft_files.specs.Memory.{tree_directory}
+use Rattle.raft_files.specs.Files.{tree_directory}
 use Rattle.raft_files.specs.declared.crash.Choice.TheVariants as choice
 use Rattle.raft_files.proofs.CrashedLemmas.{copied_turn, allowed_here, refuses_unless_more, leaves_all, restarted}
 use Rattle.raft_files.proofs.tree.Tree.crashed.Goals as goal

@@ -3,7 +3,7 @@ use Rattle.std.specs.Map.Iter.{deref_pair}
 use Rattle.raft_files.specs.Choice.{left_by}
 use Rattle.raft_files.specs.Crashed.{Copied, IsLeft}
 use Rattle.raft_files.specs.declared.crash.Choice.TheVariants as choice
-use Rattle.raft_files.specs.Memory.{tree_directory}
+use Rattle.raft_files.specs.Files.{tree_directory}
 use Rattle.raft_files.proofs.tree.Tree.crashed.Given as goal
 
 abbrev pub invariant-loop-path : goal.invariant-loop-path

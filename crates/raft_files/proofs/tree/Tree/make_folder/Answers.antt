@@ -5,7 +5,7 @@ use Rattle.std.specs.String.{string_bytes}
 use Rattle.std.proofs.lemmas.Iterator.Consumers.{YieldsList-from_rest}
 use Rattle.std.proofs.lemmas.Iterator.Search.{any_from_yields_List}
 use Rattle.raft_files.specs.Directory.{is_on_way}
-use Rattle.raft_files.specs.Memory.{folders_of}
+use Rattle.raft_files.specs.Files.{folders_of}
 use Rattle.raft_files.proofs.ListedLemmas.{any_by_bytes, keys-directory_of}
 use Rattle.raft_files.proofs.PathPartsLemmas.{folder_made_again}
 use Rattle.raft_files.proofs.tree.Tree.make_folder.Goals as goal

@@ -1,11 +1,11 @@
-use Rattle.std.proofs.Common.{◌≡◌, [], map, sym, ap, ◌∙◌, rules, arith}
+use Rattle.std.proofs.Common.{◌≡◌, map, sym, ap, ◌∙◌, arith}
 use Rattle.std.specs.List.{filter_map}
 use Rattle.std.specs.String.{string_bytes}
 use Rattle.std.specs.BTreeMap as tree
 use Rattle.std.proofs.lemmas.Grind.{common_steps}
 use Rattle.std.proofs.lemmas.List.{append-nil}
 use Rattle.raft_files.specs.Directory.{name_in}
-use Rattle.raft_files.specs.Memory.{folders_of}
+use Rattle.raft_files.specs.Files.{folders_of}
 use Rattle.raft_files.proofs.ListedLemmas.{keys-directory_of}
 use Rattle.raft_files.proofs.tree.Tree.names.Goals as goal
 

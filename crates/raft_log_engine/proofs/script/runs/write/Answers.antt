@@ -1,15 +1,12 @@
-use Rattle.std.proofs.Common.{refl}
 use Rattle.raft_log_engine.specs.Durability.{durability_of}
 use Rattle.raft_log_engine.specs.Engine.{directory_of, durable_of, folder_of, moments_of, unsynced_of}
 use Rattle.raft_log_engine.specs.Run.{batch_of_acts, with_items}
-use Rattle.raft_log_engine.proofs.AllowedLemmas.{engine_leaves}
-use Rattle.raft_log_engine.proofs.DurabilityLemmas.{moments_of_batch, still_more, written_contents, written_progress}
+use Rattle.raft_log_engine.proofs.AllowedLemmas.{engine_still_more}
+use Rattle.raft_log_engine.proofs.DurabilityLemmas.{moments_of_batch, written_contents, written_progress}
 use Rattle.raft_log_engine.proofs.script.runs.write.Goals as goal
 
 pub returns-in_err-batch-clause-any_moment : goal.returns-in_err-batch-clause-any_moment
-returns-in_err-batch-clause-any_moment g c = λ alive.
-    let e = c.args.engine.now in
-    still_more (folder_of e) (durable_of e) (unsynced_of e) (with_items (batch_of_acts c.args.acts.now)) (moments_of e) (moments_of e) (directory_of e) refl (engine_leaves e)
+returns-in_err-batch-clause-any_moment g c = λ alive. engine_still_more c.args.engine.now (with_items (batch_of_acts c.args.acts.now))
 
 pub returns-clause-contents : goal.returns-clause-contents
 returns-clause-contents g c =

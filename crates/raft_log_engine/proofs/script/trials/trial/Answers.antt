@@ -1,15 +1,16 @@
 use denote.Param.Send.{sendable}
-use Rattle.std.proofs.Common.{[], sym, ⊎_elim, inl, inr, subst}
-use Rattle.std.specs.Prelude.{is_some}
+use Rattle.std.proofs.Common.{◌⊎◌, [], ap, sym, subst}
 use Rattle.raft_records.specs.Contents.{Contents}
 use Rattle.raft_files.proofs.Sent.{memory_send, memory_sync}
+use Rattle.std.proofs.lemmas.Result.{err_from_is_err_and}
 use Rattle.std.specs.String.{string_bytes}
 use Rattle.raft_files.specs.Memory.{memory_directory}
 use Rattle.raft_files.specs.Choice.{left_by}
 use Rattle.raft_log_engine.specs.Crash.{KeepsContents}
 use Rattle.raft_log_engine.specs.Durability.{LeavesAllowedBehind}
-use Rattle.raft_log_engine.specs.Run.{AreAnswers}
-use Rattle.raft_log_engine.proofs.TrialLemmas.{image_restarted, nothing_kept}
+use Rattle.raft_log_engine.specs.Trial.{AreAnswered, AreNotAsked}
+use Rattle.raft_log_engine.specs.declared.config.Config.{Config}
+use Rattle.raft_log_engine.proofs.TrialLemmas.{choices_refused, image_restarted, nothing_kept, opened_log, opened_outside}
 use Rattle.raft_log_engine.proofs.RunLemmas.{contents_at-no_files}
 use Rattle.raft_log_engine.proofs.script.trials.trial.Goals as goal
 
@@ -25,11 +26,6 @@ open_image-requires-send-F c = λ κs. search (sendable, memory_send) depth 20
 pub open_image-requires-sync-F : goal.open_image-requires-sync-F
 open_image-requires-sync-F c = λ κs. search (sendable, memory_sync) depth 20
 
-pub returns-clause-answers : goal.returns-clause-answers
-returns-clause-answers c =
-    let empty = contents_at-no_files (string_bytes c.args.config.dir) (memory_directory c.new_files.result) c.new_files.ensures.files in
-    ⊎_elim (λ answers. inl (subst (λ (m : Contents). AreAnswers m c.args.ops.now c.in_ok-ran.ran.outcomes.items) empty answers)) inr c.in_ok-ran.ensures.answers
-
 pub returns-clause-crashed : goal.returns-clause-crashed
 returns-clause-crashed c =
     let dir = string_bytes c.args.config.dir in
@@ -38,9 +34,22 @@ returns-clause-crashed c =
     let left = left_by c.args.choices.now files in
     let empty = contents_at-no_files dir before c.new_files.ensures.files in
     let kept = subst (λ (m : Contents). KeepsContents dir m [] before) (sym empty) (nothing_kept dir before c.new_files.ensures.files) in
+    let ran = c.in_ok-ran.ran in
+    let leaves = c.in_ok-left.ensures.value in
+    let behind = subst (λ (m : Contents). LeavesAllowedBehind ran.failed_at dir m [] c.args.ops.now ran.outcomes.items files) empty (c.in_ok-ran.ensures.behind kept) in
     record {
       files = files;
-      left = c.in_ok-left.ensures.value;
-      behind = subst (λ (m : Contents). LeavesAllowedBehind (is_some c.in_ok-ran.ran.failed_at) dir m [] c.args.ops.now c.in_ok-ran.ran.outcomes.items files) empty (c.in_ok-ran.ensures.behind kept);
+      answered = subst (λ (m : Contents). AreAnswered m c.args.ops.now ran.outcomes.items ran.failed_at ⊎ AreNotAsked dir m files ran.outcomes.items ran.failed_at) empty (c.in_ok-ran.ensures.answered kept);
+      left = leaves;
+      behind = behind;
       found = image_restarted (string_bytes c.in_ok-again.again.dir) dir files (memory_directory c.in_ok-left.left) left c.open_image.result c.in_ok-again.ensures.value.dir c.in_ok-left.ensures.ok c.open_image.ensures.value;
+      refused = opened_outside c.args.config.recovery_mode c.in_ok-again.again.recovery_mode dir (string_bytes c.in_ok-again.again.dir) files (memory_directory c.in_ok-left.left) left c.open_image.result (ap (λ (x : Config). x.recovery_mode) c.in_ok-again.ensures.value.others)
+          c.in_ok-again.ensures.value.dir c.in_ok-left.ensures.ok leaves (λ detectable. (behind left leaves detectable).1) c.open_image.ensures.refused;
+      cause = opened_log c.args.config.recovery_mode c.in_ok-again.again.recovery_mode dir (string_bytes c.in_ok-again.again.dir) files (memory_directory c.in_ok-left.left) left c.open_image.result (ap (λ (x : Config). x.recovery_mode) c.in_ok-again.ensures.value.others)
+          c.in_ok-again.ensures.value.dir c.in_ok-left.ensures.ok (c.in_ok-ran.ensures.no_file kept) c.open_image.ensures.cause;
     }
+
+pub returns-in_err-left-clause-cause : goal.returns-in_err-left-clause-cause
+returns-in_err-left-clause-cause c =
+    let p = err_from_is_err_and c.from_residual-in_err-left.result c.from_residual-in_err-left.ensures.1 in
+    rw (p.1, p.2) (choices_refused (memory_directory c.in_ok-ran.files) c.args.choices.now c.in_err-left.field-0.0 c.in_err-left.ensures.consistent c.in_err-left.ensures.refused)

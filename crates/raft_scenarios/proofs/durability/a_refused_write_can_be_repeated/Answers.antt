@@ -1,9 +1,0 @@
-use denote.Param.Send.{sendable}
-use Rattle.raft_files.proofs.Sent.{memory_send, memory_sync}
-use Rattle.raft_scenarios.proofs.durability.a_refused_write_can_be_repeated.Goals as goal
-
-pub write_twice-requires-send-F : goal.write_twice-requires-send-F
-write_twice-requires-send-F g c = λ κs. search (sendable, memory_send) depth 20
-
-pub write_twice-requires-sync-F : goal.write_twice-requires-sync-F
-write_twice-requires-sync-F g c = λ κs. search (sendable, memory_send, memory_sync) depth 20
