@@ -1,12 +1,3 @@
-pub mod Walks
-pub mod SlotLemmas
-pub mod SavedLemmas
-pub mod MomentsLemmas
-pub mod DirectoryLemmas
-pub mod MemoryLemmas
-pub mod PathPartsLemmas
-pub mod ListedLemmas
-pub mod Sent
 pub mod NameLemmas
 pub mod HeaderLemmas
 pub mod WriterLemmas
@@ -22,12 +13,7 @@ pub mod LogLemmas
 pub mod NoneLemmas
 pub mod TruncationLemmas
 pub mod KeptLemmas
-pub mod ConsistentLemmas
-pub mod TornLemmas
 pub mod ToldLemmas
 pub mod DoneLemmas
 pub mod PremiseLemmas
-pub mod InvariantLemmas
 pub mod PastLemmas
-pub mod ChoiceLemmas
-pub mod CrashedLemmas

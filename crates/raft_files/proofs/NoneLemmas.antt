@@ -4,13 +4,14 @@ use Rattle.std.proofs.lemmas.Bool.{cases_Bool}
 use Rattle.raft_records.specs.declared.pipe_log.FileId.{FileId}
 use Rattle.raft_files.specs.declared.format.LogFileFormat.{LogFileFormat}
 use Rattle.raft_files.specs.Header.{header_bytes, header_len}
-use Rattle.raft_files.specs.Outcomes.{File, Change, IsPartOf, overlaid, written, synced_of, settled}
+use Rattle.raft_env.specs.Outcomes.{File, Change, IsPartOf, overlaid, written, synced_of, settled, bytes_behind}
 use Rattle.raft_files.specs.Reading.{Placed, readable_records, readable_batches}
-use Rattle.raft_files.specs.Detectable.{IsBeginningOf, format_of, signature_by, bytes_behind, AreDone, IsDetectableFile}
+use Rattle.raft_files.specs.Detectable.{IsBeginningOf, format_of, signature_by, AreDone, IsDetectableFile}
 use Rattle.raft_files.specs.Records.{KeepsNone}
 use Rattle.raft_files.specs.Writer.{IsStep, IsLengthened, IsAppending, capacity_for}
 use Rattle.raft_files.proofs.HeaderLemmas.{length-header_bytes}
-use Rattle.raft_files.proofs.RecordsLemmas.{readable_without_header, changed_by}
+use Rattle.raft_env.proofs.ChangeLemmas.{changed_by}
+use Rattle.raft_files.proofs.RecordsLemmas.{readable_without_header}
 use Rattle.raft_files.proofs.FreshLemmas.{header_len_within, readable_records-short, length-padded, length-overlaid}
 
 -- what a crash then leaves has no batch

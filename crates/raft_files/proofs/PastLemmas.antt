@@ -6,22 +6,22 @@ use Rattle.std.proofs.lemmas.List.Elements.{Contains-append_left, Contains-appen
 use Rattle.std.specs.FinMap as finite
 use Rattle.raft_records.specs.declared.pipe_log.FileId.{FileId}
 use Rattle.raft_files.specs.declared.format.LogFileFormat.{LogFileFormat}
-use Rattle.raft_files.specs.Outcomes.{File, Change, MayLeave, is_within, is_touched, untouched_len, bytes_since_sync}
-use Rattle.raft_files.specs.Directory.{Directory, Path, file_at}
+use Rattle.raft_env.specs.Outcomes.{File, Change, MayLeave, is_within, is_touched, untouched_len, bytes_since_sync, bytes_behind}
+use Rattle.raft_env.specs.Directory.{Directory, Path, file_at}
 use Rattle.raft_files.specs.Reading.{Placed, readable_records}
-use Rattle.raft_files.specs.Choice.{chosen, chosen_at, choice_for, left_by}
-use Rattle.raft_files.specs.Consistent.{HasItsRange, IsPastOf, IsConsistent, AreConsistent}
-use Rattle.raft_files.specs.Detectable.{IsBeginningOf, format_of, signature_by, bytes_behind, IsGivenBy, HasNoRefusedByte, IsDone, EndsUnmarked, IsDetectableFile, IsDetectable}
-use Rattle.raft_files.specs.Told.{BringsOnlyGiven, AreOwn, IsReadAsBefore, NamesNoBytes, NameNoBytes}
-use Rattle.raft_files.specs.declared.crash.Choice.{Choice}
-use Rattle.raft_files.specs.declared.crash.Choice.TheVariants as choice
+use Rattle.raft_env.specs.Choice.{chosen, chosen_at, choice_for, left_by, NamesNoBytes, NameNoBytes}
+use Rattle.raft_env.specs.Consistent.{HasItsRange, IsPastOf, IsConsistent, AreConsistent}
+use Rattle.raft_files.specs.Detectable.{IsBeginningOf, format_of, signature_by, IsGivenBy, HasNoRefusedByte, IsDone, EndsUnmarked, IsDetectableFile, IsDetectable}
+use Rattle.raft_files.specs.Told.{BringsOnlyGiven, AreOwn, IsReadAsBefore}
+use Rattle.raft_env.specs.declared.crash.Choice.{Choice}
+use Rattle.raft_env.specs.declared.crash.Choice.TheVariants as choice
 use Rattle.raft_files.proofs.DetectableLemmas.{beginning_itself}
 use Rattle.raft_files.proofs.ExtentLemmas.{same_some, record_of_header}
-use Rattle.raft_files.proofs.RecordsLemmas.{contains_cases, within_is, same_front}
-use Rattle.raft_files.proofs.ConsistentLemmas.{before_is_untouched}
-use Rattle.raft_files.proofs.TornLemmas.{length-torn}
+use Rattle.raft_env.proofs.ChangeLemmas.{within_is, same_front}
+use Rattle.raft_files.proofs.RecordsLemmas.{contains_cases}
+use Rattle.raft_env.proofs.ConsistentLemmas.{before_is_untouched}
+use Rattle.raft_env.proofs.TornLemmas.{length-torn, no_bytes_at_turn, choices_may_leave}
 use Rattle.raft_files.proofs.ToldLemmas.{readable_records-take, none_stale_unnamed}
-use Rattle.raft_files.proofs.PremiseLemmas.{no_bytes_at_turn, choices_may_leave}
 
 -- Records.
 

@@ -1,49 +1,22 @@
 -- The premise on torn and stale bytes can be met.
-use Rattle.std.proofs.Common.{◌≡◌, ℕ, ◌≤◌, List, length, take, slice_index_or, None, ap, sym, subst, ◌∙◌, inl, inr, arith}
-use Rattle.std.proofs.lemmas.Bool.{cases_lt}
-use Rattle.std.proofs.lemmas.List.{get_or_past}
-use Rattle.std.proofs.lemmas.List.Elements.{All-get_or}
+use Rattle.std.proofs.Common.{◌≡◌, ℕ, ◌≤◌, List, take, None, ap, sym, subst, ◌∙◌, inl, inr, arith}
 use Rattle.std.specs.FinMap as finite
 use Rattle.raft_records.specs.Item.{Batch}
 use Rattle.raft_records.specs.declared.pipe_log.FileId.{FileId}
 use Rattle.raft_files.specs.declared.format.LogFileFormat.{LogFileFormat}
-use Rattle.raft_files.specs.Outcomes.{File, MayLeave, is_touched}
-use Rattle.raft_files.specs.Directory.{Directory, Left, Path, Leaves, file_at}
-use Rattle.raft_files.specs.Choice.{torn, touched_before, chosen, chosen_at, choice_for, left_by}
-use Rattle.raft_files.specs.Consistent.{IsConsistent, AreConsistent, AreWhole}
+use Rattle.raft_env.specs.Outcomes.{MayLeave, is_touched}
+use Rattle.raft_env.specs.Directory.{Directory, Left, Path, Leaves, file_at}
+use Rattle.raft_env.specs.Choice.{torn, touched_before, chosen, chosen_at, choice_for, left_by, NamesNoBytes}
+use Rattle.raft_env.specs.Consistent.{IsConsistent, AreConsistent, AreWhole}
 use Rattle.raft_files.specs.Detectable.{IsDetectableFile, IsDetectable}
 use Rattle.raft_files.specs.Records.{HoldsRecords}
-use Rattle.raft_files.specs.Told.{HasDoneRecords, HasDoneLog, IsBrokenFrom, IsTornBehind, NamesNoBytes, NameNoBytes}
-use Rattle.raft_files.specs.declared.crash.Choice.{Choice}
-use Rattle.raft_files.specs.declared.crash.Choice.TheVariants as choice
+use Rattle.raft_files.specs.Told.{HasDoneRecords, HasDoneLog, IsBrokenFrom, IsTornBehind}
+use Rattle.raft_env.specs.declared.crash.Choice.{Choice}
+use Rattle.raft_env.specs.declared.crash.Choice.TheVariants as choice
 use Rattle.raft_files.proofs.ExtentLemmas.{same_some}
-use Rattle.raft_files.proofs.ChoiceLemmas.{synced_may_be_left}
-use Rattle.raft_files.proofs.ConsistentLemmas.{now_may_be_left, whole_choice}
-use Rattle.raft_files.proofs.TornLemmas.{length-torn, take-torn, torn_may_be_left}
+use Rattle.raft_env.proofs.ConsistentLemmas.{whole_choice}
+use Rattle.raft_env.proofs.TornLemmas.{choice_may_leave, length-torn, take-torn}
 use Rattle.raft_files.proofs.ToldLemmas.{torn_is_detectable, now_is_torn, synced_is_torn}
-
--- What storage may leave.
-
-choice_may_leave : (file : File) → IsConsistent file → (c : Choice) → NamesNoBytes c → MayLeave file (chosen c file)
-choice_may_leave file is choice.All none = now_may_be_left file is
-choice_may_leave file is choice.Synced none = synced_may_be_left file
-choice_may_leave file is (choice.Torn kept fill) none = torn_may_be_left file kept fill is
-choice_may_leave file is (choice.Bytes bytes) none = absurd none
-
--- each path's choice is one of these, or `Synced`
-pub no_bytes_at_turn : (choices : List Choice) → NameNoBytes choices → (i : ℕ) → NamesNoBytes (slice_index_or choices i choice.Synced)
-no_bytes_at_turn choices none i = elim (cases_lt i (length choices)) [
-  | inl within ↦ All-get_or NamesNoBytes choices i choice.Synced within none
-  | inr past ↦ subst NamesNoBytes (sym (get_or_past choices i choice.Synced past)) tt
-]
-
--- what choices leave that name no bytes
-pub choices_may_leave : (choices : List Choice) (n : Directory) → NameNoBytes choices → AreConsistent n → Leaves n (left_by choices n)
-choices_may_leave choices n none all = record {
-  each = λ path file stands.
-      let c = choice_for choices (finite.keys n.files) path in
-      subst (λ found. MayLeave file (chosen_at c found)) (sym stands) (choice_may_leave file (all path file stands) c (no_bytes_at_turn choices none _));
-}
 
 -- Records that no refused call brought.
 

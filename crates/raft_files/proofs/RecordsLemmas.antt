@@ -13,11 +13,12 @@ use Rattle.raft_records.specs.Record.{Header, header_in, record_header, record_o
 use Rattle.raft_records.specs.declared.pipe_log.FileId.{FileId}
 use Rattle.raft_files.specs.declared.format.LogFileFormat.{LogFileFormat}
 use Rattle.raft_files.specs.Header.{HasHeader, header_bytes, header_len, header_of}
-use Rattle.raft_files.specs.Outcomes.{File, Change, is_within, is_touched, untouched_len, written, resized, cut_to, synced_of, padded, overlaid, Outcome, IsPartOf, IsCutOf}
-use Rattle.raft_files.specs.Directory.{Directory, Left, Path, file_at}
+use Rattle.raft_env.specs.Outcomes.{File, Change, is_touched, untouched_len, written, resized, cut_to, synced_of, padded, overlaid, Outcome, IsPartOf, IsCutOf, bytes_behind}
+use Rattle.raft_env.specs.Directory.{Directory, Left, Path, file_at}
 use Rattle.raft_files.specs.Reading.{Placed, record_place, record_at, placed_before, placed_by, records_from, end_of_records, Reading, records_behind, records_in, reading_behind, reading, records_of, readable_records, readable_batches, ends_with, is_read_to_end}
-use Rattle.raft_files.specs.Detectable.{IsBeginningOf, format_of, signature_by, bytes_behind, IsGivenBy, HasNoRefusedByte, IsDone, AreDone, IsDetectableFile, IsDetectable}
+use Rattle.raft_files.specs.Detectable.{IsBeginningOf, format_of, signature_by, IsGivenBy, HasNoRefusedByte, IsDone, AreDone, IsDetectableFile, IsDetectable}
 use Rattle.raft_files.specs.Records.{ReadsFirst, KeepsRecords, IsRefusedAt, IsEmptyFrom, HasNothingFrom, HoldsRecords, IsWrittenTo, IsTornFrom, FirstOf}
+use Rattle.raft_env.proofs.ChangeLemmas.{changed_by, within_is, not_within, same_front}
 use Rattle.raft_files.proofs.DetectableLemmas.{beginning_itself, beginning_trans, beginning_append, beginning_take, beginning_length, beginning_is, beginning_split}
 use Rattle.raft_files.proofs.HeaderLemmas.{length-header_bytes}
 use Rattle.raft_files.proofs.ExtentLemmas.{record_header_is, record_of_header, same_some, header_of_takes}
@@ -314,10 +315,6 @@ covered_more id format records synced c changes reads behind =
 
 -- A change keeps the records.
 
--- the file with one more change
-abbrev pub changed_by : Change → Option (List (ℕ × ℕ)) → File → File
-changed_by c rewritten file = record { now = c.after; synced = file.synced; changes = c ∷ file.changes; older = file.older; rewritten = rewritten }
-
 pub keeps_more : (id : FileId) (format : LogFileFormat) (old all : List Placed) (synced : ℕ) (file : File) (c : Change) (rewritten : Option (List (ℕ × ℕ))) → KeepsRecords id format old synced file → IsBeginningOf old all →
     format_of c.after ≡ Some format → ((left : List Placed) → IsBeginningOf left (readable_records id c.after) → AreDone id (signature_by id format) (c ∷ file.changes ++ file.older) left → IsBeginningOf left all) →
     end_of_records (header_len format.version) (take synced old) ≤ c.from → KeepsRecords id format all synced (changed_by c rewritten file)
@@ -397,12 +394,6 @@ keeps_batches path id n file format records synced batches stands keeps same d d
 
 -- Places of bytes.
 
-pub within_is : (from size i : ℕ) → from ≤ i → i < from + size → is_within from size i ≡ true
-within_is from size i above below = grind (arith, nat_tests)
-
-pub not_within : (from size i : ℕ) → (i < from) ⊎ (from + size ≤ i) → is_within from size i ≡ false
-not_within from size i outside = grind (arith, nat_tests)
-
 pub refused_here : (c : Change) (changes : List Change) (i : ℕ) → c.is_done ≡ false → c.given ≡ [] → c.from ≤ i → i < c.from + c.size → IsRefusedAt (c ∷ changes) i
 refused_here c changes i refused none above below = ([], c, changes, refl, refused, none, within_is c.from c.size i above below, refl)
 
@@ -410,13 +401,6 @@ refused_before : (c : Change) (changes : List Change) (i : ℕ) → (i < c.from)
 refused_before c changes i outside q =
     let untouched : is_touched (c ∷ q.0) i ≡ false = ap (λ b. b || is_touched q.0 i) (not_within c.from c.size i outside) ∙ q.7 in
     (c ∷ q.0, q.1, q.2, ap (λ cs. c ∷ cs) q.3, q.4, q.5, q.6, untouched)
-
-pub same_front : (at : ℕ) (a b : List ℕ) → at ≤ length a → at ≤ length b → ((i : ℕ) → i < at → slice_index a i ≡ slice_index b i) → take at a ≡ take at b
-same_front at a b long_a long_b same =
-    let len_a : length (take at a) ≡ at = length-take-le at a long_a in
-    let len_b : length (take at b) ≡ at = length-take-le at b long_b in
-    ext_get_or 0 (take at a) (take at b) (omega arith)
-    (λ i within. get_or-take at a i 0 (omega arith) ∙ same i (omega arith) ∙ sym (get_or-take at b i 0 (omega arith)))
 
 pub holds_same : (id : FileId) (format : LogFileFormat) (records : List Placed) (at : ℕ) (a b : List ℕ) → HoldsRecords id format records at a → take at a ≡ take at b → at ≤ length b → HoldsRecords id format records at b
 holds_same id format records at a b holds same long = record { within = long; read = ap (λ bytes. reading id bytes) (sym same) ∙ holds.read }

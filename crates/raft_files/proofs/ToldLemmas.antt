@@ -6,17 +6,18 @@ use Rattle.raft_records.specs.Item.{Batch}
 use Rattle.raft_records.specs.Record.{record_header, parts_by}
 use Rattle.raft_records.specs.declared.pipe_log.FileId.{FileId}
 use Rattle.raft_files.specs.declared.format.LogFileFormat.{LogFileFormat}
-use Rattle.raft_files.specs.Outcomes.{File, Change, MayLeave, untouched_len, IsStaleAt}
+use Rattle.raft_env.specs.Outcomes.{File, Change, MayLeave, untouched_len, IsStaleAt, bytes_behind, IsDoneOrWrite, OnlyWritesRefused}
 use Rattle.raft_files.specs.Reading.{Placed, record_place, record_at, placed_before, placed_by, end_of_records, Reading, records_behind, reading, records_of, readable_records}
-use Rattle.raft_files.specs.Detectable.{IsBeginningOf, format_of, signature_by, bytes_behind, AreDone, IsMarkedAt, IsDetectableFile}
+use Rattle.raft_files.specs.Detectable.{IsBeginningOf, format_of, signature_by, AreDone, IsMarkedAt, IsDetectableFile}
 use Rattle.raft_files.specs.Records.{ReadsFirst, IsEmptyFrom, HoldsRecords, IsWrittenTo}
-use Rattle.raft_files.specs.Consistent.{IsConsistent}
-use Rattle.raft_files.specs.Told.{IsDoneOrWrite, OnlyWritesRefused, EndsInZeros, HoldsDone, IsBrokenFrom, IsTornBehind}
+use Rattle.raft_env.specs.Consistent.{IsConsistent}
+use Rattle.raft_files.specs.Told.{EndsInZeros, HoldsDone, IsBrokenFrom, IsTornBehind}
 use Rattle.raft_files.proofs.DetectableLemmas.{beginning_itself, beginning_trans, beginning_append}
 use Rattle.raft_files.proofs.ExtentLemmas.{record_header_is, same_some, some_then}
 use Rattle.raft_files.proofs.ReadingLemmas.{found_record, records_stay, reading_is}
-use Rattle.raft_files.proofs.RecordsLemmas.{record_header_zeros, reading-held, readable-held, format_of_read, format_of-held, reads_first-within, same_front, holds_same, reads_first-kept}
-use Rattle.raft_files.proofs.ConsistentLemmas.{now_may_be_left, nowhere, before_is_untouched}
+use Rattle.raft_env.proofs.ChangeLemmas.{same_front}
+use Rattle.raft_files.proofs.RecordsLemmas.{record_header_zeros, reading-held, readable-held, format_of_read, format_of-held, reads_first-within, holds_same, reads_first-kept}
+use Rattle.raft_env.proofs.ConsistentLemmas.{now_may_be_left, nowhere, before_is_untouched}
 
 -- Zeros.
 

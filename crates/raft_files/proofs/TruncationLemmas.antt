@@ -1,12 +1,12 @@
 -- What a truncation to the end of what is read leaves of a file.
-use Rattle.std.proofs.Common.{◌≡◌, ℕ, ◌+◌, ◌-◌, ◌≤◌, min, max, Bool, true, false, List, [], ◌∷◌, ◌++◌, length, take, Option, Some, None, Contains, refl, ap, sym, subst, ◌∙◌, inl, inr, arith}
+use Rattle.std.proofs.Common.{◌≡◌, ℕ, ◌+◌, ◌≤◌, Bool, true, false, List, [], ◌∷◌, ◌++◌, length, take, Option, Some, None, Contains, refl, ap, sym, subst, ◌∙◌, inl, inr, arith}
 use Rattle.std.specs.Prelude.{◌||◌}
 use Rattle.std.proofs.lemmas.List.{append-nil, take-take, length-append, length-take-le}
 use Rattle.std.proofs.lemmas.List.Elements.{Contains-append_left}
 use Rattle.raft_records.specs.declared.pipe_log.FileId.{FileId}
 use Rattle.raft_files.specs.declared.format.LogFileFormat.{LogFileFormat}
 use Rattle.raft_files.specs.Header.{header_len}
-use Rattle.raft_files.specs.Outcomes.{File, Change, is_touched, Outcome, IsCutOf, cut_to}
+use Rattle.raft_env.specs.Outcomes.{File, Change, is_touched, Outcome, IsCutOf, cut_to}
 use Rattle.raft_files.specs.Reading.{Placed, end_of_records, Reading, records_behind, reading, records_of, readable_records, end_of, end_of_reading}
 use Rattle.raft_files.specs.Detectable.{IsBeginningOf, signature_by, HasNoRefusedByte, IsDone, AreDone}
 use Rattle.raft_files.specs.Records.{ReadsFirst, KeepsRecords, IsEmptyFrom, HasNothingFrom, HoldsRecords, KeepsNone}
@@ -14,7 +14,8 @@ use Rattle.raft_files.proofs.DetectableLemmas.{beginning_itself}
 use Rattle.raft_files.proofs.ExtentLemmas.{header_of_takes}
 use Rattle.raft_files.proofs.ReadingLemmas.{placed_by_past, end_of_placed-within, records_stay, reading_is, reading-kept}
 use Rattle.raft_files.proofs.NoneLemmas.{none_more}
-use Rattle.raft_files.proofs.RecordsLemmas.{end_of_front, placed_stands, read_in, done_without_byte, has_nothing_after, reads_first-kept, left_of_held, format_of-held, changed_by, keeps_more, not_within, holds_same, IsCutRefused, empty_cut_refused, same_cut_refused}
+use Rattle.raft_env.proofs.ChangeLemmas.{changed_by, not_within, cut_change, cut_is}
+use Rattle.raft_files.proofs.RecordsLemmas.{end_of_front, placed_stands, read_in, done_without_byte, has_nothing_after, reads_first-kept, left_of_held, format_of-held, keeps_more, holds_same, IsCutRefused, empty_cut_refused, same_cut_refused}
 
 -- The records up to the end of the reading.
 
@@ -134,15 +135,6 @@ nothing_read id by c changes unread empty (r ∷ left) begins done =
     absurd (nothing by r (subst (λ all. Contains all r) (sym begins.1) (0, omega arith, refl)) (omega arith) (done r (0, omega arith, refl)))
 
 -- Truncations.
-
--- what a truncation notes
-abbrev pub cut_change : ℕ → Bool → List ℕ → List ℕ → Change
-cut_change size true after old = record { from = min (length after) (length old); size = max (length after) (length old) - min (length after) (length old); given = []; is_done = true; before = old; after = after }
-cut_change size false after old = record { from = min size (length old); size = length old - min size (length old); given = []; is_done = false; before = old; after = after }
-
-pub cut_is : (size : ℕ) (is_done : Bool) (after : List ℕ) (file : File) → cut_to size is_done after file ≡ changed_by (cut_change size is_done after file.now) file.rewritten file
-cut_is size true after file = refl
-cut_is size false after file = refl
 
 pub cut_behind : (size : ℕ) (is_done : Bool) (after old : List ℕ) (changes : List Change) → size ≤ length old → Outcome is_done (take size old) (IsCutOf size old) after → IsBehind size old (cut_change size is_done after old) changes
 cut_behind size true after old changes within done =

@@ -6,7 +6,7 @@ use Rattle.raft_records.specs.Item.{Batch}
 use Rattle.raft_records.specs.Record.{record_of}
 use Rattle.raft_records.specs.declared.pipe_log.FileId.{FileId}
 use Rattle.raft_files.specs.declared.format.LogFileFormat.{LogFileFormat}
-use Rattle.raft_files.specs.Outcomes.{File, Outcome, IsPartOf, overlaid, written}
+use Rattle.raft_env.specs.Outcomes.{File, Outcome, IsPartOf, overlaid, written}
 use Rattle.raft_files.specs.Reading.{Placed, readable_records}
 use Rattle.raft_files.specs.Detectable.{signature_by, IsDone}
 use Rattle.raft_files.specs.Records.{HoldsRecords, IsWrittenTo, IsTornFrom}

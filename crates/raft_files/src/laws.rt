@@ -6,18 +6,18 @@ ghost use Rattle.raft_records.specs.Record.{record_bytes, record_of};
 ghost use Rattle.raft_records.specs.RecordLimits.{FitsRecord};
 ghost use Rattle.raft_records.specs.declared.pipe_log.FileId.{FileId};
 ghost use Rattle.std.specs.FinMap as finite;
-ghost use Rattle.raft_files.specs.Choice.{choice_for, left_by, touched_before};
-ghost use Rattle.raft_files.specs.Consistent.{AreConsistent, AreWhole, IsConsistent};
+ghost use Rattle.raft_env.specs.Choice.{choice_for, left_by, touched_before, NameNoBytes};
+ghost use Rattle.raft_env.specs.Consistent.{AreConsistent, AreWhole, IsConsistent, OnlyWritesRefusedAt};
 ghost use Rattle.raft_files.specs.Detectable.{EndsUnmarked, IsDetectable, format_of, signature_by};
-ghost use Rattle.raft_files.specs.Directory.{Directory, IsOneOf, IsAllocating, IsRestarted, IsTruncating, IsWriting, Leaves, Left, Path, changed, created, file_at, folder_made};
+ghost use Rattle.raft_env.specs.Directory.{Directory, IsOneOf, IsRestarted, IsTruncating, Leaves, Left, Path, created, file_at};
 ghost use Rattle.raft_files.specs.Header.{HasHeader, header_bytes, header_len, header_of};
-ghost use Rattle.raft_files.specs.Outcomes.{File, is_touched, synced_of};
+ghost use Rattle.raft_env.specs.Outcomes.{File, is_touched};
 ghost use Rattle.raft_files.specs.Reading.{Placed, Reading, end_of_reading, is_read_to_end, readable_batches, reading};
 ghost use Rattle.raft_files.specs.Records.{FirstOf, HasLog, HasTornLog, HoldsRecords, IsKept, left_batches};
-ghost use Rattle.raft_files.specs.Told.{AreDoneAt, AreOwn, EndsInZeros, HasDoneLog, HasDoneRecords, IsBrokenFrom, IsReadAsBefore, IsTornBehind, NameNoBytes, OnlyWritesRefusedAt};
+ghost use Rattle.raft_files.specs.Told.{AreDoneAt, AreOwn, EndsInZeros, HasDoneLog, HasDoneRecords, IsBrokenFrom, IsReadAsBefore, IsTornBehind};
 ghost use Rattle.raft_files.specs.Writer.{HasChanged, IsAppended, IsAppending, IsClosed, IsClosing, IsCut, IsCutting, IsOpening, IsSynced, IsSyncing, bytes_at};
-ghost use Rattle.raft_files.specs.declared.crash.Choice.{Choice};
-ghost use Rattle.raft_files.specs.declared.crash.Choice.TheVariants as choice;
+ghost use Rattle.raft_env.specs.declared.crash.Choice.{Choice};
+ghost use Rattle.raft_env.specs.declared.crash.Choice.TheVariants as choice;
 ghost use Rattle.raft_files.specs.declared.format.LogFileFormat.{LogFileFormat};
 
 /// A file with a header alone is read to its end and has no batch. A record appended to a file that is
@@ -69,18 +69,6 @@ pub fn opening_keeps_the_log()
         → IsKept path id batches synced old → bytes_at path old ≡ [] → IsOpening path format old n → IsKept path id batches synced n }
     ensures found { (path : Path) (id : FileId) (r : Reading) (old cut new : Directory)
         → let found = readable_batches id (bytes_at path old) in reading id (bytes_at path old) ≡ Some r → bytes_at path cut ≡ take r.end (bytes_at path old) → HasChanged path IsSynced cut new → HasLog path id r.format found (length found) r.end new }
-{}
-
-/// Each call keeps files consistent: outside the ranges of its changes a file holds the bytes of its last sync, and
-/// each change began with what the one before it left. What a crash left is consistent.
-pub fn calls_keep_files_consistent()
-    ensures writing { (path : Path) (at : ℕ) (given : List ℕ) (old n : Directory) → AreConsistent old → IsWriting path at given old n → AreConsistent n }
-    ensures allocating { (path : Path) (size : ℕ) (old n : Directory) → AreConsistent old → IsAllocating path size old n → AreConsistent n }
-    ensures truncating { (path : Path) (size : ℕ) (old n : Directory) → AreConsistent old → IsTruncating path size old n → AreConsistent n }
-    ensures syncing { (path : Path) (old n : Directory) → AreConsistent old → IsOneOf old (changed path synced_of old) n → AreConsistent n }
-    ensures creating { (path : Path) (old n : Directory) → AreConsistent old → IsOneOf old (created path old) n → AreConsistent n }
-    ensures folders { (path : Path) (old n : Directory) → AreConsistent old → IsOneOf old (folder_made path old) n → AreConsistent n }
-    ensures restarted { (n m : Directory) (d : Left) → IsRestarted n d m → AreConsistent m }
 {}
 
 /// A record that can be read and that no refused call brought stays so in every further call. So calls keep a log

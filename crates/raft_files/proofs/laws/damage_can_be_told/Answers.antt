@@ -1,4 +1,5 @@
-use Rattle.raft_files.proofs.PremiseLemmas.{choices_may_leave, records_told, records_torn, log_whole}
+use Rattle.raft_env.proofs.TornLemmas.{choices_may_leave}
+use Rattle.raft_files.proofs.PremiseLemmas.{records_told, records_torn, log_whole}
 use Rattle.raft_files.proofs.PastLemmas.{own_told, now_is_read, synced_is_read}
 use Rattle.raft_files.proofs.ToldLemmas.{broken_zeros}
 use Rattle.raft_files.proofs.laws.damage_can_be_told.Goals as goal

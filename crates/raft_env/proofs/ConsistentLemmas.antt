@@ -1,0 +1,224 @@
+-- Calls keep files consistent, and storage may leave of such a file all bytes now.
+use Rattle.std.proofs.Common.{◌≡◌, ◌⊎◌, ℕ, ◌+◌, ◌-◌, ◌<◌, ◌≤◌, ◌==◌, min, max, Bool, true, false, cond, List, [], ◌∷◌, ◌++◌, length, take, replicate, slice_index, slice_index_or, Option, Some, None, is_some, refl, ap, sym, subst, ◌∙◌, inl, inr, arith}
+use Rattle.std.specs.Prelude.{◌||◌, option_map}
+use Rattle.std.proofs.lemmas.Bool.{cases_Bool, cases_lt, eqb-true}
+use Rattle.std.proofs.lemmas.Bool.Decides.{nat_tests}
+use Rattle.std.proofs.lemmas.List.{get_or-take, get_or_append_left, get_or_past, length-append, length-take}
+use Rattle.std.proofs.lemmas.List.Elements.{All-get_or}
+use Rattle.std.proofs.lemmas.Option.{same_Some}
+use Rattle.std.specs.Ordering.{nat_cmp, eq_by_cmp}
+use Rattle.std.specs.Cmp.Lexicographic.{slice_cmp, nat_list_cmp_total}
+use Rattle.std.specs.FinMap as finite
+use Rattle.raft_env.specs.Outcomes.{File, Change, MayLeave, Outcome, IsPartOf, IsCutOf, is_within, is_touched, bytes_behind, untouched_len, least_len, greatest_len, written, resized, cut_to, synced_of, settled, padded, overlaid}
+use Rattle.raft_env.specs.Directory.{Directory, Left, Path, file_at, placed, changed, changed_at, created, folder_made, IsChanging, IsWriting, IsTruncating, IsAllocating, IsOneOf, IsRestarted}
+use Rattle.raft_env.specs.Consistent.{HasItsRange, IsPastOf, IsConsistent, AreConsistent, AreWhole}
+use Rattle.raft_env.specs.declared.crash.Choice.{Choice}
+use Rattle.raft_env.specs.declared.crash.Choice.TheVariants as choice
+use Rattle.raft_env.proofs.SlotLemmas.{length-overlaid, overlaid_outside_part}
+use Rattle.raft_env.proofs.ChangeLemmas.{changed_by, not_within, cut_change, cut_is}
+
+-- Files.
+
+pub settled_consistent : (bytes : List ℕ) → IsConsistent (settled bytes)
+settled_consistent bytes = record { latest = refl; untouched = λ i within apart. (within, refl); past = tt; earlier = tt }
+
+pub synced_consistent : (file : File) → IsConsistent file → IsConsistent (synced_of file)
+synced_consistent file is = record { latest = refl; untouched = λ i within apart. (within, refl); past = is.past; earlier = is.past }
+
+or_false : (a b : Bool) → a || b ≡ false → (a ≡ false) × (b ≡ false)
+or_false true b e = cc
+or_false false b e = (refl, e)
+
+-- outside its range a change leaves what stood there
+pub record KeepsOutside (old : List ℕ) (c : Change) : Type 0 where
+  pub outside : (i : ℕ) → i < length old → is_within c.from c.size i ≡ false → (i < length c.after) × (slice_index c.after i ≡ slice_index old i)
+
+consistent_more : (file : File) (c : Change) (rewritten : Option (List (ℕ × ℕ))) → IsConsistent file → c.before ≡ file.now → HasItsRange c → KeepsOutside file.now c → IsConsistent (changed_by c rewritten file)
+consistent_more file c rewritten old before range keeps = record {
+  latest = refl;
+  untouched = λ i within apart.
+      let each = or_false (is_within c.from c.size i) (is_touched file.changes i) apart in
+      let stood = old.untouched i within each.1 in
+      let stands = keeps.outside i stood.0 each.0 in
+      (stands.0, stands.1 ∙ stood.1);
+  past = (refl, range, subst (λ bytes. IsPastOf bytes (file.changes ++ file.older)) (sym before) old.past);
+  earlier = old.earlier;
+}
+
+part_outside : (at len : ℕ) (old : List ℕ) (c : Change) → c.from ≡ at → c.size ≡ len → IsPartOf at len old c.after → KeepsOutside old c
+part_outside at len old c from size part = record {
+  outside = λ i within apart. (omega (arith, part.no_shorter), part.elsewhere i within (ap (λ n. is_within n len i) (sym from) ∙ ap (λ n. is_within c.from n i) (sym size) ∙ apart));
+}
+
+-- a write, done or not
+pub written_consistent : (at : ℕ) (given after : List ℕ) (is_done : Bool) (file : File) → IsConsistent file → Outcome is_done (overlaid file.now at given) (IsPartOf at (length given) file.now) after → IsConsistent (written at given is_done after file)
+written_consistent at given after true file old done = consistent_more file _ _ old refl (omega arith) (record {
+  outside = λ i within apart. (
+    omega (arith, ap length done, length-overlaid file.now at given),
+    ap (λ b. slice_index b i) done ∙ overlaid_outside_part file.now at (length given) given (omega arith) i apart,
+  );
+})
+written_consistent at given after false file old part = consistent_more file _ _ old refl (omega arith) (part_outside at (length given) file.now _ refl refl part)
+
+-- an allocation
+pub allocated_consistent : (size : ℕ) (after : List ℕ) (is_done : Bool) (file : File) → IsConsistent file → Outcome is_done (padded file.now size) (IsPartOf (length file.now) (size - length file.now) file.now) after → IsConsistent (resized is_done after file)
+allocated_consistent size after true file old done =
+    let zeros : List ℕ = replicate (size - length file.now) 0 in
+    consistent_more file _ file.rewritten old refl (omega arith) (record {
+      outside = λ i within apart. (
+        omega (arith, ap length done, length-append file.now zeros),
+        ap (λ b. slice_index b i) done ∙ get_or_append_left file.now zeros 0 i within,
+      );
+    })
+allocated_consistent size after false file old part = consistent_more file _ file.rewritten old refl (omega arith) (record {
+  outside = λ i within apart. (omega (arith, part.no_shorter), part.elsewhere i within (not_within (length file.now) (size - length file.now) i (inl within)));
+})
+
+outside_is : (from size i : ℕ) → is_within from size i ≡ false → (i < from) ⊎ (from + size ≤ i)
+outside_is from size i apart = elim (cases_lt i from) [
+  | inl before ↦ inl before
+  | inr behind ↦ inr (past behind)
+]
+  where
+    past : from ≤ i → from + size ≤ i
+    past behind = grind (arith, nat_tests)
+
+-- a truncation
+pub cut_consistent : (size : ℕ) (after : List ℕ) (is_done : Bool) (file : File) → IsConsistent file → Outcome is_done (take size file.now) (IsCutOf size file.now) after → IsConsistent (cut_to size is_done after file)
+cut_consistent size after is_done file old outcome = subst IsConsistent (sym (cut_is size is_done after file)) (consistent_more file (cut_change size is_done after file.now) file.rewritten old (cut_before is_done) (omega (arith, ap length (cut_given is_done))) (by_outcome is_done outcome))
+  where
+    now : List ℕ
+    now = file.now
+
+    cut_before : (is_done : Bool) → (cut_change size is_done after now).before ≡ now
+    cut_before true = refl
+    cut_before false = refl
+
+    cut_given : (is_done : Bool) → (cut_change size is_done after now).given ≡ []
+    cut_given true = refl
+    cut_given false = refl
+
+    by_outcome : (is_done : Bool) → Outcome is_done (take size now) (IsCutOf size now) after → KeepsOutside now (cut_change size is_done after now)
+    by_outcome true done = record {
+      outside = λ i within apart.
+          let len = ap length done ∙ length-take size now in
+          let before : i < length after = elim (outside_is (min (length after) (length now)) (max (length after) (length now) - min (length after) (length now)) i apart) [
+            | inl front ↦ omega arith
+            | inr behind ↦ absurd (omega arith)
+          ] in
+          (before, ap (λ b. slice_index b i) done ∙ get_or-take size now i 0 (omega (arith, len)));
+    }
+    by_outcome false part = record {
+      outside = λ i within apart.
+          let most = min size (length now) in
+          let before : i < most = elim (outside_is most (length now - most) i apart) [
+            | inl front ↦ front
+            | inr behind ↦ absurd (omega arith)
+          ] in (
+            omega (arith, part.no_shorter),
+            sym (get_or-take most after i 0 before) ∙ ap (λ b. slice_index b i) part.kept ∙ get_or-take most now i 0 before,
+          );
+    }
+
+-- Directories.
+
+pub placed_cases : (path q : Path) (file found : File) (n : Directory) → file_at (placed path file n) q ≡ Some found → (file ≡ found) ⊎ (file_at n q ≡ Some found)
+placed_cases path q file found n stands = by_test (eq_by_cmp (slice_cmp nat_cmp) q path) (sym (finite.get-insert nat_list_cmp_total n.files path file q) ∙ stands)
+  where
+    by_test : (same : Bool) → cond same (Some file) (file_at n q) ≡ Some found → (file ≡ found) ⊎ (file_at n q ≡ Some found)
+    by_test true e = inl (same_Some file found e)
+    by_test false e = inr e
+
+placed_consistent : (path : Path) (file : File) (n : Directory) → AreConsistent n → IsConsistent file → AreConsistent (placed path file n)
+placed_consistent path file n old is q found stands = elim (placed_cases path q file found n stands) [
+  | inl same ↦ subst IsConsistent same is
+  | inr stood ↦ old q found stood
+]
+
+changing_consistent : (path : Path) (step : Bool → List ℕ → File → File) (wanted : List ℕ → List ℕ) (IsPart : List ℕ → List ℕ → Type 0) (old new : Directory) →
+    ((after : List ℕ) (is_done : Bool) (file : File) → IsConsistent file → Outcome is_done (wanted file.now) (IsPart file.now) after → IsConsistent (step is_done after file)) →
+    AreConsistent old → IsChanging path step wanted IsPart old new → AreConsistent new
+changing_consistent path step wanted IsPart old new each all (inl same) = subst AreConsistent (sym same) all
+changing_consistent path step wanted IsPart old new each all (inr (file, after, is_done, stands, outcome, is)) =
+    subst AreConsistent (sym is) (placed_consistent path (step is_done after file) old all (each after is_done file (all path file stands) outcome))
+
+pub writing_consistent : (path : Path) (at : ℕ) (given : List ℕ) (old new : Directory) → AreConsistent old → IsWriting path at given old new → AreConsistent new
+writing_consistent path at given old new = changing_consistent path _ _ _ old new (written_consistent at given)
+
+pub allocating_consistent : (path : Path) (size : ℕ) (old new : Directory) → AreConsistent old → IsAllocating path size old new → AreConsistent new
+allocating_consistent path size old new = changing_consistent path _ _ _ old new (allocated_consistent size)
+
+pub truncating_consistent : (path : Path) (size : ℕ) (old new : Directory) → AreConsistent old → IsTruncating path size old new → AreConsistent new
+truncating_consistent path size old new = changing_consistent path _ _ _ old new (cut_consistent size)
+
+pub syncing_consistent : (path : Path) (old new : Directory) → AreConsistent old → IsOneOf old (changed path synced_of old) new → AreConsistent new
+syncing_consistent path old new all (inl same) = subst AreConsistent (sym same) all
+syncing_consistent path old new all (inr is) = subst AreConsistent (sym is) (by_file (file_at old path) refl)
+  where
+    by_file : (found : Option File) → file_at old path ≡ found → AreConsistent (changed_at path synced_of found old)
+    by_file None stands = all
+    by_file (Some file) stands = placed_consistent path (synced_of file) old all (synced_consistent file (all path file stands))
+
+pub creating_consistent : (path : Path) (old new : Directory) → AreConsistent old → IsOneOf old (created path old) new → AreConsistent new
+creating_consistent path old new all (inl same) = subst AreConsistent (sym same) all
+creating_consistent path old new all (inr is) = subst AreConsistent (sym is) (by_test (is_some (file_at old path)))
+  where
+    by_test : (stands : Bool) → AreConsistent (cond stands old (placed path (settled []) old))
+    by_test true = all
+    by_test false = placed_consistent path (settled []) old all (settled_consistent [])
+
+pub folders_consistent : (path : Path) (old new : Directory) → AreConsistent old → IsOneOf old (folder_made path old) new → AreConsistent new
+folders_consistent path old new all (inl same) = subst AreConsistent (sym same) all
+folders_consistent path old new all (inr is) = subst AreConsistent (sym is) all
+
+pub restarted_consistent : (n m : Directory) (d : Left) → IsRestarted n d m → AreConsistent m
+restarted_consistent n m d restarted path file stands = by_file (file_at n path) (sym (restarted.each path) ∙ stands)
+  where
+    by_file : (found : Option File) → option_map (λ _. settled (d path)) found ≡ Some file → IsConsistent file
+    by_file None e = cc
+    by_file (Some f) e = subst IsConsistent (same_Some (settled (d path)) file e) (settled_consistent (d path))
+
+-- What storage may leave.
+
+pub least_now : (synced : List ℕ) (changes : List Change) → least_len synced changes ≤ length (bytes_behind synced changes)
+least_now synced [] = omega arith
+least_now synced (c ∷ changes) = omega arith
+
+pub greatest_now : (synced : List ℕ) (changes : List Change) → length (bytes_behind synced changes) ≤ greatest_len synced changes
+greatest_now synced [] = omega arith
+greatest_now synced (c ∷ changes) = omega arith
+
+pub now_may_be_left : (file : File) → IsConsistent file → MayLeave file file.now
+now_may_be_left file is = record {
+  no_shorter = omega (arith, least_now file.synced file.changes, ap length is.latest);
+  no_longer = omega (arith, greatest_now file.synced file.changes, ap length is.latest);
+  untouched = λ i within stood apart. (is.untouched i stood apart).1;
+}
+
+pub whole_choice : (choices : List Choice) → AreWhole choices → (i : ℕ) → (slice_index_or choices i choice.Synced ≡ choice.All) ⊎ (slice_index_or choices i choice.Synced ≡ choice.Synced)
+whole_choice choices whole i = elim (cases_lt i (length choices)) [
+  | inl within ↦ All-get_or (λ c. (c ≡ choice.All) ⊎ (c ≡ choice.Synced)) choices i choice.Synced within whole
+  | inr past ↦ inr (get_or_past choices i choice.Synced past)
+]
+
+-- What no change touched.
+
+pub nowhere : (from size i : ℕ) → size ≡ 0 → is_within from size i ≡ false
+nowhere from size i none = elim (cases_lt i from) [
+  | inl front ↦ not_within from size i (inl front)
+  | inr behind ↦ not_within from size i (inr (omega (arith, none)))
+]
+
+touched_later : (c : Change) (changes : List Change) (i : ℕ) → is_within c.from c.size i ≡ false → is_touched changes i ≡ false → is_touched (c ∷ changes) i ≡ false
+touched_later c changes i apart further = ap (λ b. b || is_touched changes i) apart ∙ further
+
+pub before_is_untouched : (synced : List ℕ) (changes : List Change) (i : ℕ) → i < untouched_len synced changes → is_touched changes i ≡ false
+before_is_untouched synced [] i before = refl
+before_is_untouched synced (c ∷ changes) i before = elim (cases_Bool (c.size == 0)) [
+  | inl none ↦
+      let len = ap (λ b. cond b (untouched_len synced changes) (min c.from (untouched_len synced changes))) none in
+      touched_later c changes i (nowhere c.from c.size i (eqb-true c.size 0 none)) (before_is_untouched synced changes i (omega (arith, len)))
+  | inr some ↦
+      let len = ap (λ b. cond b (untouched_len synced changes) (min c.from (untouched_len synced changes))) some in
+      touched_later c changes i (not_within c.from c.size i (inl (omega (arith, len)))) (before_is_untouched synced changes i (omega (arith, len)))
+]

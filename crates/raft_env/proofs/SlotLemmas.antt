@@ -1,0 +1,197 @@
+-- What a change does to what a slot keeps.
+use Rattle.std.proofs.Common.{◌≡◌, ℕ, ◌+◌, ◌-◌, ◌<◌, ◌≤◌, min, max, Bool, true, false, cond, ◌||◌, List, [], ◌∷◌, ◌++◌, length, length-append, take, drop, get_or, refl, sym, ◌∙◌, ap, subst, inl, inr, ◌⊎◌, arith}
+use Rattle.std.proofs.lemmas.Bool.Decides.{nat_tests, leb_tells}
+use Rattle.raft_env.specs.Outcomes.{File, Change, MayLeave, is_within, least_len, greatest_len, written, resized, synced_of, overlaid, padded}
+use Rattle.raft_env.specs.Kept.{IsKept, is_covered}
+use Rattle.std.specs.Prelude.{replicate}
+use Rattle.std.proofs.lemmas.List.{take_all, drop_all, append-nil, length-replicate, get_or-append_right, get_or-take, get_or-drop, get_or_past, get_or-replicate, length-take-le, length-drop}
+use Rattle.std.proofs.Math.ListN.{get_or-append}
+
+-- the bytes are lengthened where that is needed, and then written over
+pub overlaid_long : (bytes : List ℕ) (at : ℕ) (given : List ℕ) → at + length given ≤ length bytes → take at bytes ++ given ++ drop (at + length given) bytes ≡ overlaid bytes at given
+overlaid_long bytes at given long =
+    let none : at + length given - length bytes ≡ 0 = omega arith in
+    let same : padded bytes (at + length given) ≡ bytes = ap (λ (n : ℕ). bytes ++ replicate n 0) none ∙ append-nil bytes in
+    ap (λ (l : List ℕ). take at l ++ given ++ drop (at + length given) bytes) (sym same)
+
+pub overlaid_short : (bytes mid : List ℕ) (at : ℕ) (given : List ℕ) → length bytes < at + length given → mid ≡ take (at + length given) bytes ++ replicate (at + length given - length bytes) 0
+    → take at mid ++ given ++ drop (at + length given) mid ≡ overlaid bytes at given
+overlaid_short bytes mid at given short is =
+    let same : mid ≡ padded bytes (at + length given) = is ∙ ap (λ (l : List ℕ). l ++ replicate (at + length given - length bytes) 0) (take_all _ _ (omega arith)) in
+    let long : length mid ≤ at + length given = omega (arith, ap length same, length-append bytes (replicate (at + length given - length bytes) 0), length-replicate {A = ℕ} (at + length given - length bytes) 0) in
+    ap (λ (l : List ℕ). take at l ++ given ++ drop (at + length given) mid) same
+    ∙ ap (λ (l : List ℕ). take at (padded bytes (at + length given)) ++ given ++ l) (drop_all _ mid long ∙ sym (drop_all _ bytes (omega arith)))
+
+pub lengthened : (bytes mid : List ℕ) (size : ℕ) → mid ≡ take (max size (length bytes)) bytes ++ replicate (max size (length bytes) - length bytes) 0 → mid ≡ padded bytes size
+lengthened bytes mid size is =
+    let more : max size (length bytes) - length bytes ≡ size - length bytes = omega arith in
+    let whole : length bytes ≤ max size (length bytes) = omega arith in
+    is ∙ ap (λ (l : List ℕ). l ++ replicate (max size (length bytes) - length bytes) 0) (take_all _ _ whole) ∙ ap (λ (n : ℕ). bytes ++ replicate n 0) more
+
+pub split_at : (i at : ℕ) → (i < at) ⊎ (at ≤ i)
+split_at i at = elim (leb_tells at i) [ inl at_most ↦ inr at_most.1 | inr above ↦ inl above.1 ]
+
+-- a read of the bytes with zeros behind them is a read of the bytes
+pub get_or-padded : (bytes : List ℕ) (n i : ℕ) → get_or (padded bytes n) i 0 ≡ get_or bytes i 0
+get_or-padded bytes n i = elim (split_at i (length bytes)) [
+  | inl inside ↦ get_or-append bytes _ 0 i inside
+  | inr past ↦ get_or-append_right bytes (replicate (n - length bytes) 0) (length bytes) i 0 refl past ∙ zeros (n - length bytes) (i - length bytes) ∙ sym (get_or_past bytes i 0 past)
+]
+  where
+    zeros : (n i : ℕ) → get_or (replicate {A = ℕ} n 0) i 0 ≡ 0
+    zeros n i = elim (split_at i n) [
+      | inl inside ↦ get_or-replicate n i 0 0 inside
+      | inr past ↦ let none : length (replicate {A = ℕ} n 0) ≤ i = omega (arith, length-replicate {A = ℕ} n 0) in get_or_past _ i 0 none
+    ]
+
+-- a place outside the range of a write has what it had
+pub overlaid_outside : (bytes : List ℕ) (at : ℕ) (given : List ℕ) (i : ℕ) → is_within at (length given) i ≡ false → get_or (overlaid bytes at given) i 0 ≡ get_or bytes i 0
+overlaid_outside bytes at given i out =
+    let end = at + length given in
+    let front = take at (padded bytes end) in
+    let long : at ≤ length (padded bytes end) = omega (arith, length-append bytes (replicate {A = ℕ} (end - length bytes) 0), length-replicate {A = ℕ} (end - length bytes) 0) in
+    let front_len : length front ≡ at = length-take-le at (padded bytes end) long in
+    elim (split_at i at) [
+      | inl before ↦
+          get_or-append (front ++ given) _ 0 i (omega (arith, length-append front given)) ∙ get_or-append front given 0 i (omega arith) ∙ get_or-take at (padded bytes end) i 0 before
+          ∙ get_or-padded bytes end i
+      | inr behind ↦
+          let past : end ≤ i = grind (arith, nat_tests) in
+          let there : end + (i - end) ≡ i = omega arith in
+          get_or-append_right (front ++ given) _ end i 0 (length-append front given ∙ ap (λ (n : ℕ). n + length given) front_len) past ∙ get_or-drop end bytes (i - end) 0
+          ∙ ap (λ (n : ℕ). get_or bytes n 0) there
+    ]
+
+-- the same where only a part of the range was written
+pub overlaid_outside_part : (bytes : List ℕ) (at len : ℕ) (kept : List ℕ) → length kept ≤ len → (i : ℕ) → is_within at len i ≡ false → get_or (overlaid bytes at kept) i 0 ≡ get_or bytes i 0
+overlaid_outside_part bytes at len kept part i out =
+    let apart : is_within at (length kept) i ≡ false = grind (arith, nat_tests) in
+    overlaid_outside bytes at kept i apart
+
+pub length-overlaid : (bytes : List ℕ) (at : ℕ) (given : List ℕ) → length (overlaid bytes at given) ≡ max (length bytes) (at + length given)
+length-overlaid bytes at given =
+    let end = at + length given in
+    let front = take at (padded bytes end) in
+    let long : at ≤ length (padded bytes end) = omega (arith, length-append bytes (replicate {A = ℕ} (end - length bytes) 0), length-replicate {A = ℕ} (end - length bytes) 0) in
+    let front_len : length front ≡ at = length-take-le at (padded bytes end) long in
+    omega (arith, length-append (front ++ given) (drop end bytes), length-append front given, length-drop end bytes)
+
+-- and a place inside what was written there
+pub overlaid_inside : (bytes : List ℕ) (at : ℕ) (given : List ℕ) (i : ℕ) → at ≤ i → i < at + length given → get_or (overlaid bytes at given) i 0 ≡ get_or given (i - at) 0
+overlaid_inside bytes at given i above below =
+    let end = at + length given in
+    let front = take at (padded bytes end) in
+    let long : at ≤ length (padded bytes end) = omega (arith, length-append bytes (replicate {A = ℕ} (end - length bytes) 0), length-replicate {A = ℕ} (end - length bytes) 0) in
+    let front_len : length front ≡ at = length-take-le at (padded bytes end) long in
+    get_or-append (front ++ given) _ 0 i (omega (arith, length-append front given)) ∙ get_or-append_right front given at i 0 front_len above
+
+or_none : (a b : Bool) → (a || b) ≡ false → (a ≡ false) × (b ≡ false)
+or_none true b e = absurd cc
+or_none false b e = (refl, e)
+
+or_comm : (a b : Bool) → (a || b) ≡ (b || a)
+or_comm true true = refl
+or_comm true false = refl
+or_comm false true = refl
+or_comm false false = refl
+
+-- a change of the bytes in one range, which is added to the ranges
+module _ (bytes synced : List ℕ) (ranges more : List (ℕ × ℕ)) (low high : ℕ) (file : File) (k : IsKept bytes synced ranges low high file) where
+  -- after a write, the slot keeps what it should
+  pub kept_written : (at : ℕ) (given after : List ℕ) (is_done : Bool) → ((i : ℕ) → is_covered more i ≡ (is_covered ranges i || is_within at (length given) i))
+      → ((i : ℕ) → is_within at (length given) i ≡ false → get_or after i 0 ≡ get_or bytes i 0)
+      → IsKept after synced more (min low (length after)) (max high (length after)) (written at given is_done after file)
+  kept_written at given after is_done added outside = record {
+    now = refl;
+    on_disk = k.on_disk;
+    touched = λ i. ap (λ b. is_within at (length given) i || b) (k.touched i) ∙ or_comm (is_within at (length given) i) (is_covered ranges i) ∙ sym (added i);
+    agree = record { each = λ i out. let apart = or_none _ _ (sym (added i) ∙ out) in outside i apart.1 ∙ k.agree.each i apart.0 };
+    low_is = omega (arith, k.low_is);
+    high_is = omega (arith, k.high_is);
+    above_low = omega arith;
+    below_high = omega arith;
+  }
+
+  -- so it does after a change of the length, if the bytes up to the lesser length stay and zeros follow
+  kept_resized : (after : List ℕ) (from len : ℕ) → from ≡ min (length after) (length bytes) → len ≡ max (length after) (length bytes) - from
+      → ((i : ℕ) → is_covered more i ≡ (is_covered ranges i || is_within from len i))
+      → ((i : ℕ) → is_within from len i ≡ false → get_or after i 0 ≡ get_or bytes i 0)
+      → IsKept after synced more (min low (length after)) (max high (length after)) (resized true after file)
+  kept_resized after from len from_is len_is added outside =
+      let now_len : length file.now ≡ length bytes = ap length k.now in
+      let first : min (length after) (length file.now) ≡ from = omega arith in
+      let size : max (length after) (length file.now) - from ≡ len = omega arith in
+      record {
+        now = refl;
+        on_disk = k.on_disk;
+        touched = λ i. rw (first, size) (ap (λ b. is_within from len i || b) (k.touched i) ∙ or_comm (is_within from len i) (is_covered ranges i) ∙ sym (added i));
+        agree = record { each = λ i out. let apart = or_none _ _ (sym (added i) ∙ out) in outside i apart.1 ∙ k.agree.each i apart.0 };
+        low_is = omega (arith, k.low_is);
+        high_is = omega (arith, k.high_is);
+        above_low = omega arith;
+        below_high = omega arith;
+      }
+
+  pub kept_cut : (from : ℕ) → from ≤ length bytes → ((i : ℕ) → is_covered more i ≡ (is_covered ranges i || is_within from (length bytes - from) i))
+      → IsKept (take from bytes) synced more (min low from) (max high from) (resized true (take from bytes) file)
+  kept_cut from fits added =
+      let len : length (take from bytes) ≡ from = length-take-le from bytes fits in
+      let kept = kept_resized (take from bytes) from (length bytes - from) (omega arith) (omega arith) added (λ i out. elim (split_at i from) [
+        | inl inside ↦ get_or-take from bytes i 0 inside
+        | inr behind ↦ let past : length bytes ≤ i = grind (arith, nat_tests) in get_or_past _ i 0 (omega arith) ∙ sym (get_or_past bytes i 0 past)
+      ]) in
+      subst (λ n. IsKept (take from bytes) synced more (min low n) (max high n) (resized true (take from bytes) file)) len kept
+
+  pub kept_lengthened : (size : ℕ) → ((i : ℕ) → is_covered more i ≡ (is_covered ranges i || is_within (length bytes) (max size (length bytes) - length bytes) i))
+      → IsKept (padded bytes size) synced more (min low (max size (length bytes))) (max high (max size (length bytes))) (resized true (padded bytes size) file)
+  kept_lengthened size added =
+      let len : length (padded bytes size) ≡ max size (length bytes) = omega (arith, length-append bytes (replicate {A = ℕ} (size - length bytes) 0), length-replicate {A = ℕ} (size - length bytes) 0) in
+      let kept = kept_resized (padded bytes size) (length bytes) (max size (length bytes) - length bytes) (omega arith) (omega arith) added (λ i out. get_or-padded bytes size i) in
+      subst (λ n. IsKept (padded bytes size) synced more (min low n) (max high n) (resized true (padded bytes size) file)) len kept
+
+-- and a sync
+pub kept_synced : (bytes synced : List ℕ) (ranges : List (ℕ × ℕ)) (low high : ℕ) (file : File) → IsKept bytes synced ranges low high file → IsKept bytes bytes [] (length bytes) (length bytes) (synced_of file)
+kept_synced bytes synced ranges low high file k = record { now = k.now; on_disk = k.now; touched = λ i. refl; agree = record { each = λ i out. refl }; low_is = ap length k.now; high_is = ap length k.now; above_low = omega arith; below_high = omega arith }
+
+module _ (bytes synced given : List ℕ) (from size i : ℕ) (same_len : length synced ≡ length bytes) (end_is : from + length given ≡ min (from + size) (length bytes)) (low : from < length bytes) (is : given ≡ take (length given) (drop from bytes)) where
+  copied_by : (b : Bool) → is_within from size i ≡ b → get_or (overlaid synced from given) i 0 ≡ cond b (get_or bytes i 0) (get_or synced i 0)
+  copied_by true e =
+      let above : from ≤ i = grind (arith, nat_tests) in
+      let below : i < from + size = grind (arith, nat_tests) in
+      elim (split_at i (length bytes)) [
+        | inl inside ↦
+            let short : i < from + length given = omega arith in
+            let there : from + (i - from) ≡ i = omega arith in
+            overlaid_inside synced from given i above short ∙ ap (λ (l : List ℕ). get_or l (i - from) 0) is ∙ get_or-take (length given) (drop from bytes) (i - from) 0 (omega arith)
+            ∙ get_or-drop from bytes (i - from) 0 ∙ ap (λ (n : ℕ). get_or bytes n 0) there
+        | inr past ↦
+            let long : length (overlaid synced from given) ≤ i = omega (arith, length-overlaid synced from given) in
+            get_or_past _ i 0 long ∙ sym (get_or_past bytes i 0 past)
+      ]
+  copied_by false e =
+      let out : is_within from (length given) i ≡ false = grind (arith, nat_tests) in
+      overlaid_outside synced from given i out
+
+  -- a range copied from the bytes
+  pub copied : get_or (overlaid synced from given) i 0 ≡ cond (is_within from size i) (get_or bytes i 0) (get_or synced i 0)
+  copied = copied_by (is_within from size i) refl
+
+-- the length at the last sync counts too
+pub least_synced : (synced : List ℕ) (changes : List Change) → least_len synced changes ≤ length synced
+least_synced synced [] = omega arith
+least_synced synced (c ∷ changes) = omega (arith, least_synced synced changes)
+
+pub greatest_synced : (synced : List ℕ) (changes : List Change) → length synced ≤ greatest_len synced changes
+greatest_synced synced [] = omega arith
+greatest_synced synced (c ∷ changes) = omega (arith, greatest_synced synced changes)
+
+module _ (bytes synced : List ℕ) (ranges : List (ℕ × ℕ)) (low high : ℕ) (file : File) (k : IsKept bytes synced ranges low high file) where
+  -- what differs from the bytes in touched places alone may be left
+  pub may_leave : (left : List ℕ) → low ≤ length left → length left ≤ high → ((i : ℕ) → i < length left → i < length synced → is_covered ranges i ≡ false → get_or left i 0 ≡ get_or synced i 0) → MayLeave file left
+  may_leave left long short same = record {
+    no_shorter = omega (arith, k.low_is);
+    no_longer = omega (arith, k.high_is);
+    untouched = λ i h s apart.
+        let within : i < length synced = omega (arith, ap length k.on_disk) in
+        same i h within (sym (k.touched i) ∙ apart) ∙ ap (λ (l : List ℕ). get_or l i 0) (sym k.on_disk);
+  }

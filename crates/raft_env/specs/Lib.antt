@@ -1,0 +1,14 @@
+pub mod Outcomes
+pub mod Directory
+pub mod Moments
+pub mod Refusal
+pub mod Kept
+pub mod Stepped
+pub mod PathParts
+pub mod Armed
+pub mod Files
+pub mod Memory
+pub mod Refused
+pub mod Choice
+pub mod Consistent
+pub mod Crashed

@@ -1,0 +1,33 @@
+-- What a file system in memory shows.
+use Rattle.std.specs.Prelude.{ℕ, ◌==◌, List, ◌∷◌, length, map, Option}
+use Rattle.std.specs.FinMap as finite
+use Rattle.raft_env.specs.Directory.{Directory}
+use Rattle.raft_records.specs.declared.errors.IoKind.{IoKind}
+use Rattle.raft_env.specs.declared.armed.FsCall.{FsCall}
+use Rattle.raft_env.specs.Armed.{arms_of}
+use Rattle.raft_env.specs.Files.{tree_directory}
+use Rattle.raft_env.specs.declared.memory.MemoryFileSystem.{MemoryFileSystem}
+
+-- the files and folders as they are now
+abbrev pub memory_directory : MemoryFileSystem → Directory
+memory_directory memory = tree_directory memory.tree
+
+-- each directory that there was, the newest first
+abbrev pub memory_moments : MemoryFileSystem → List Directory
+memory_moments memory = tree_directory memory.tree ∷ map tree_directory memory.past.items
+
+-- how many calls were refused
+abbrev pub memory_refusals : MemoryFileSystem → ℕ
+memory_refusals memory = memory.refusals
+
+-- no file, and only the root folder
+abbrev pub no_files : Directory
+no_files = record { files = finite.empty; is_folder = λ q. length q == 0 }
+
+-- the refusals that were armed, in that order: the sort of calls, which of them from then on, and as what it is refused
+abbrev pub armed_of : MemoryFileSystem → List (FsCall × ℕ × IoKind)
+armed_of memory = arms_of memory.armed.refusals.items
+
+-- which of the changing calls from now on is the first that is refused
+abbrev pub stop_of : MemoryFileSystem → Option ℕ
+stop_of memory = memory.armed.stop

@@ -1,0 +1,193 @@
+//! Refusals that a test arms in a file system in memory.
+ghost use Rattle.std.specs.Prelude.{◌≡◌, ◌⊎◌, ◌<◌, [], ◌∷◌, ◌++◌, Some, None, OnOk, OnErr, IfErr, IfSome, IsTrue};
+ghost use Rattle.raft_records.specs.declared.errors.IoKind.TheVariants.{Other};
+ghost use Rattle.raft_env.specs.Choice.{RefusesUnless};
+
+use crate::IoKind;
+use crate::memory::MemoryFileSystem;
+use raft_records::Fault;
+use std::alloc::Global;
+use std::sync::atomic::{AtomicU64, Ordering};
+
+/// The sorts of file calls.
+#[derive(Clone, Copy, Debug, PartialEq, Eq)]
+pub enum FsCall {
+    Create,
+    Open,
+    Delete,
+    Rename,
+    DeleteMetadata,
+    NewReader,
+    NewWriter,
+    Write,
+    Truncate,
+    Allocate,
+    Sync,
+    FileSize,
+    MakeDir,
+    List,
+    FreeSpace,
+    Read,
+}
+
+#[derive(Drop)]
+pub(crate) struct ArmedRefusal {
+    call: FsCall,
+    nth: u64,
+    kind: IoKind,
+    // How many calls are left up to the refused one.
+    left: AtomicU64,
+}
+
+impl ArmedRefusal {
+    // Counts a call of its sort, and says whether that is the refused one.
+    fn is_due(&self, call: FsCall) -> bool
+        ensures { IsTrue result → self.now.call ≡ call }
+    {
+        self.call == call && self.left.fetch_sub(1, Ordering::SeqCst) == 1
+    }
+}
+
+#[derive(Drop)]
+pub(crate) struct Armed {
+    refusals: Vec<ArmedRefusal>,
+    stop: Option<u64>,
+}
+
+impl Armed {
+    ghost use Rattle.raft_env.specs.Armed.{IsArmed, IsStopped, arms_of, stop_after};
+
+    pub(crate) fn new(alloc: Global) -> Armed
+        ensures refusals { arms_of result.refusals.items ≡ [] }
+        ensures stop { result.stop ≡ None }
+    {
+        Armed {
+            refusals: Vec::new(alloc),
+            stop: None,
+        }
+    }
+
+    /// Counts the call, and says as what it is to be refused.
+    pub(crate) fn due(&self, call: FsCall) -> Option<IoKind>
+        ensures value { IfSome result (λ kind. IsArmed self.now.refusals.items call kind) }
+    {
+        let mut due = None;
+        for armed in &self.refusals {
+            if armed.is_due(call) {
+                due = Some(armed.kind);
+            }
+        }
+        due
+    }
+
+    /// The same of a call that changes files, which counts for the stop too.
+    pub(crate) fn due_change(&mut self, call: FsCall) -> Option<IoKind>
+        ensures value { IfSome result (λ kind. IsArmed self.old.refusals.items call kind ⊎ (IsStopped self.old.stop × (kind ≡ Other))) }
+        ensures stopped { IsStopped self.old.stop → result ≡ Some Other }
+        ensures stop { self.new.stop ≡ stop_after self.old.stop }
+        ensures unchanged { arms_of self.new.refusals.items ≡ arms_of self.old.refusals.items }
+    {
+        let due = self.due(call);
+        match self.stop {
+            Some(nth) if nth > 1 => {
+                self.stop = Some(nth - 1);
+                due
+            }
+            Some(_) => Some(IoKind::Other),
+            None => due,
+        }
+    }
+}
+
+impl MemoryFileSystem {
+    ghost use Rattle.raft_env.specs.Memory.{memory_directory, memory_moments, memory_refusals, armed_of, stop_of};
+
+    /// Arms one more refusal: of the calls of that sort from now on, the nth, counted from 1, is refused so. A write
+    /// that is refused so has written the first half of its bytes, and any other call nothing.
+    pub fn refuse(&mut self, call: FsCall, nth: u64, kind: IoKind) -> Result<(), Fault>
+        ensures ok { OnOk result (armed_of self.new ≡ armed_of self.old ++ (call, nth, kind) ∷ []) }
+        ensures err { OnErr result (armed_of self.new ≡ armed_of self.old) }
+        ensures value { OnOk result (0 < nth) }
+        ensures refused { IfErr result (RefusesUnless (0 < nth)) }
+        ensures others { stop_of self.new ≡ stop_of self.old }
+        ensures unchanged { memory_directory self.new ≡ memory_directory self.old }
+        ensures any_moment { memory_moments self.new ≡ memory_moments self.old }
+        ensures cause { memory_refusals self.new ≡ memory_refusals self.old }
+    {
+        if nth == 0 {
+            return Err(Fault::InvalidArgument("calls are counted from 1"));
+        }
+        let left = AtomicU64::new(nth);
+        self.armed.refusals.push(ArmedRefusal {
+            call,
+            nth,
+            kind,
+            left,
+        })?;
+        Ok(())
+    }
+
+    /// Of the calls from now on that may change files, the nth, counted from 1, and each later one are refused as
+    /// `Other`. These are to create, delete, rename, write, truncate, allocate, sync and make a folder.
+    pub fn stop_at(&mut self, nth: u64)
+        ensures ok { stop_of self.new ≡ Some nth }
+        ensures others { armed_of self.new ≡ armed_of self.old }
+        ensures unchanged { memory_directory self.new ≡ memory_directory self.old }
+        ensures any_moment { memory_moments self.new ≡ memory_moments self.old }
+        ensures cause { memory_refusals self.new ≡ memory_refusals self.old }
+    {
+        self.armed.stop = Some(nth);
+    }
+}
+
+#[cfg(test)]
+mod tests {
+    use super::*;
+    use crate::{FileSystem, FsFault, Permission};
+    use std::test::Fail;
+
+    fn is_full<T: Drop>(answer: Result<T, FsFault>) -> bool {
+        matches!(&answer, Err(FsFault::Io(IoKind::NoSpace)))
+    }
+
+    fn is_stopped<T: Drop>(answer: Result<T, FsFault>) -> bool {
+        matches!(&answer, Err(FsFault::Io(IoKind::Other)))
+    }
+
+    #[test]
+    fn armed_calls_are_refused(rt: HostRuntime) -> Result<(), Fail> {
+        use FsCall::*;
+        let mut fs = MemoryFileSystem::new(rt.alloc());
+        let handle = fs.create("a")?;
+        let mut writer = fs.new_writer(&handle)?;
+        let mut reader = fs.new_reader(&handle)?;
+        for call in [
+            Create, Open, NewReader, NewWriter, Write, Truncate, Allocate, Sync, FileSize, MakeDir,
+            List, Read,
+        ] {
+            fs.refuse(call, 1, IoKind::NoSpace)?;
+        }
+        fs.refuse(Write, 3, IoKind::NoSpace)?;
+        assert!(rt; fs.refuse(Sync, 0, IoKind::NoSpace).is_err());
+        assert!(rt; is_full(fs.create("b")) && is_full(fs.open("a", Permission::ReadOnly)));
+        assert!(rt; is_full(fs.new_reader(&handle)) && is_full(fs.new_writer(&handle)));
+        assert!(rt;
+            is_full(fs.write(&mut writer, 0, b"abcde")) && is_full(fs.truncate(&mut writer, 0))
+        );
+        assert!(rt; is_full(fs.allocate(&mut writer, 0, 9)) && is_full(fs.sync(&mut writer)));
+        assert!(rt;
+            is_full(fs.file_size(&handle)) && is_full(fs.make_dir("d")) && is_full(fs.list(""))
+        );
+        assert!(rt; is_full(fs.read(&mut reader, 0, &mut [0])));
+        assert_eq!(rt; fs.file_size(&handle)?, 2);
+        fs.write(&mut writer, 2, b"cd")?;
+        assert!(rt; is_full(fs.write(&mut writer, 4, b"ef")));
+        fs.stop_at(2);
+        fs.write(&mut writer, 0, b"x")?;
+        assert!(rt; is_stopped(fs.sync(&mut writer)) && is_stopped(fs.create("b")));
+        assert_eq!(rt; fs.file_size(&handle)?, 5);
+        assert_eq!(rt; fs.refusals(), 14);
+        assert_eq!(rt; fs.read_refusals(&reader), 1);
+        Ok(())
+    }
+}

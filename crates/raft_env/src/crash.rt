@@ -1,0 +1,192 @@
+//! What a crash leaves of a file system in memory.
+ghost use Rattle.std.specs.Prelude.{◌≡◌, [], ◌∷◌, map, slice_index_or, IfOk, IfErr, OnOk, None};
+ghost use Rattle.std.specs.String.{string_bytes};
+ghost use Rattle.raft_env.specs.Outcomes.{MayLeave, settled};
+ghost use Rattle.raft_env.specs.Directory.{Leaves, IsRestarted};
+ghost use Rattle.raft_env.specs.Choice.{chosen, RefusesUnless};
+ghost use Rattle.raft_env.specs.Crashed.{Puts};
+ghost use Rattle.raft_env.specs.Consistent.{AreConsistent, NoneRenamed, OnlyWritesRefusedIn};
+
+use crate::armed::Armed;
+use crate::history::History;
+use crate::memory::MemoryFileSystem;
+use crate::slot::Slot;
+use crate::tree::{Files, Tree};
+use raft_records::Fault;
+use std::alloc::{AllocError, Global};
+use std::collections::BTreeMap;
+
+/// What a crash leaves of a file.
+#[derive(Drop)]
+pub enum Choice {
+    /// The bytes now.
+    All,
+    /// The bytes of the last sync.
+    Synced,
+    /// The bytes now, but of the places that were touched since the last sync only so many, the first ones, hold them;
+    /// the others hold the byte.
+    Torn(usize, u8),
+    /// These bytes.
+    Bytes(Vec<u8>),
+}
+
+impl MemoryFileSystem {
+    ghost use Rattle.raft_env.specs.Choice.{left_by, RefusesUnless};
+    ghost use Rattle.raft_env.specs.Memory.{memory_directory, memory_moments, memory_refusals, armed_of, stop_of};
+
+    /// The files after a crash now. The choices go to the files in the order of their paths' bytes, and a file that is
+    /// left over keeps what was synced. Folders stay. The files are consistent, none was renamed, and of their
+    /// changes only writes were refused. So by `raft_files::laws::damage_can_be_told` the damage of `All` and `Synced` can
+    /// be told of a log that `raft_files::laws::refused_calls_bring_no_record` keeps, and that of `Torn` where the torn
+    /// record doesn't decode.
+    pub fn crash(&self, choices: &[Choice]) -> Result<MemoryFileSystem, Fault>
+        ensures ok { IfOk result (λ m. IsRestarted (memory_directory self.now)
+            (left_by choices.now (memory_directory self.now)) (memory_directory m)) }
+        ensures any_moment { IfOk result (λ m. memory_moments m ≡ memory_directory m ∷ []) }
+        ensures cause { IfOk result (λ m. memory_refusals m ≡ 0) }
+        ensures others { IfOk result (λ m. (armed_of m ≡ []) × (stop_of m ≡ None)) }
+        ensures consistent { AreConsistent (memory_directory self.now) }
+        ensures only_writes { OnlyWritesRefusedIn (memory_directory self.now) }
+        ensures not_renamed { NoneRenamed (memory_directory self.now) }
+        ensures value { OnOk result (Leaves (memory_directory self.now) (left_by choices.now (memory_directory self.now))) }
+        ensures refused { IfErr result (RefusesUnless
+            (Leaves (memory_directory self.now) (left_by choices.now (memory_directory self.now)))) }
+    {
+        Ok(MemoryFileSystem {
+            alloc: self.alloc,
+            tree: self.tree.crashed(self.alloc, choices)?,
+            past: History::new(),
+            refusals: 0,
+            armed: Armed::new(self.alloc),
+        })
+    }
+}
+
+impl Tree {
+    ghost use Rattle.raft_env.specs.Choice.{left_by, RefusesUnless};
+    ghost use Rattle.raft_env.specs.Files.{tree_directory};
+
+    fn crashed(&self, alloc: Global, choices: &[Choice]) -> Result<Tree, Fault>
+        ensures ok { IfOk result (λ t. IsRestarted (tree_directory self.now)
+            (left_by choices.now (tree_directory self.now)) (tree_directory t)) }
+        ensures allowed { OnOk result (Leaves (tree_directory self.now) (left_by choices.now (tree_directory self.now))) }
+        ensures refused { IfErr result (RefusesUnless
+            (Leaves (tree_directory self.now) (left_by choices.now (tree_directory self.now)))) }
+    {
+        let folders = copies_of(alloc, &self.folders)?;
+        let mut files = BTreeMap::new(alloc);
+        let synced = Choice::Synced;
+        let mut turn = 0;
+        for (path, slot) in self.files.iter() {
+            put_left(
+                alloc,
+                &mut files,
+                path.as_str(),
+                slot,
+                choice_at(choices, turn, &synced),
+            )?;
+            turn += 1;
+        }
+        Ok(Tree { files, folders })
+    }
+}
+
+// Puts what the choice leaves of a file at its path.
+fn put_left(
+    alloc: Global,
+    files: &mut Files,
+    path: &str,
+    slot: &Slot,
+    choice: &Choice,
+) -> Result<(), Fault>
+    ensures ok { OnOk result (Puts files.old files.new path.now (settled (chosen choice.now slot.now))) }
+    ensures allowed { OnOk result (MayLeave slot.now (chosen choice.now slot.now)) }
+    ensures refused { IfErr result (RefusesUnless (MayLeave slot.now (chosen choice.now slot.now))) }
+{
+    let left = slot.left(alloc, choice)?;
+    let key = String::from_str(alloc, path)?;
+    files.insert(key, Slot::restarted(alloc, left))?;
+    Ok(())
+}
+
+fn choice_at<'a>(choices: &'a [Choice], turn: usize, left_over: &'a Choice) -> &'a Choice
+    ensures { result.now ≡ slice_index_or choices.now turn left_over.now }
+{
+    match choices.get(turn) {
+        Some(choice) => choice,
+        None => left_over,
+    }
+}
+
+fn copies_of(alloc: Global, texts: &[String]) -> Result<Vec<String>, AllocError>
+    ensures { IfOk result (λ copies. map string_bytes copies.items ≡ map string_bytes texts.now) }
+{
+    let mut copies = Vec::new(alloc);
+    for text in texts {
+        copies.push(text.clone()?)?;
+    }
+    Ok(copies)
+}
+
+#[cfg(test)]
+mod tests {
+    use super::*;
+    use crate::{FileSystem, Permission};
+    use std::process::Abort;
+    use std::test::Fail;
+
+    // The file `a` after a crash has this size and these bytes, with zeros behind them.
+    fn leaves(
+        rt: &impl Abort,
+        fs: &MemoryFileSystem,
+        choices: &[Choice],
+        size: usize,
+        bytes: [u8; 6],
+    ) -> Result<(), Fail> {
+        let mut left = fs.crash(choices)?;
+        let handle = left.open("a", Permission::ReadOnly)?;
+        let mut reader = left.new_reader(&handle)?;
+        let mut read = [0; 6];
+        assert_eq!(rt; left.read(&mut reader, 0, &mut read)?, size);
+        assert_eq!(rt; read, bytes);
+        Ok(())
+    }
+
+    #[test]
+    fn a_crash_leaves_what_was_chosen(rt: HostRuntime) -> Result<(), Fail> {
+        let alloc = rt.alloc();
+        let mut fs = MemoryFileSystem::new(alloc);
+        let handle = fs.create("a")?;
+        let mut writer = fs.new_writer(&handle)?;
+        fs.write(&mut writer, 0, b"abcd")?;
+        fs.sync(&mut writer)?;
+        fs.write(&mut writer, 2, b"xyz")?;
+        leaves(&rt, &fs, &[Choice::All], 5, *b"abxyz\0")?;
+        leaves(&rt, &fs, &[Choice::Synced], 4, *b"abcd\0\0")?;
+        leaves(&rt, &fs, &[], 4, *b"abcd\0\0")?;
+        leaves(&rt, &fs, &[Choice::Torn(1, b'?')], 5, *b"abx??\0")?;
+        let allowed = Choice::Bytes(b"abQR".to_vec(alloc)?);
+        leaves(&rt, &fs, &[allowed], 4, *b"abQR\0\0")?;
+        let other = Choice::Bytes(b"zbcd".to_vec(alloc)?);
+        assert!(rt; matches!(&fs.crash(&[other]), Err(Fault::InvalidArgument(_))));
+        Ok(())
+    }
+
+    #[test]
+    fn what_was_written_over_comes_back(rt: HostRuntime) -> Result<(), Fail> {
+        let mut fs = MemoryFileSystem::new(rt.alloc());
+        let handle = fs.create("a")?;
+        let mut writer = fs.new_writer(&handle)?;
+        fs.write(&mut writer, 0, b"abcdef")?;
+        fs.sync(&mut writer)?;
+        fs.write(&mut writer, 3, b"12")?;
+        fs.truncate(&mut writer, 2)?;
+        fs.write(&mut writer, 1, b"34567890")?;
+        fs.write(&mut writer, 4, b"x")?;
+        leaves(&rt, &fs, &[Choice::Synced], 6, *b"abcdef")?;
+        fs.sync(&mut writer)?;
+        fs.truncate(&mut writer, 4)?;
+        leaves(&rt, &fs, &[Choice::Synced], 6, *b"a345x7")?;
+        Ok(())
+    }
+}

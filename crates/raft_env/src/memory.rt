@@ -1,0 +1,385 @@
+//! A file system in memory. Its earlier states are kept for clauses alone.
+ghost use Rattle.std.specs.Prelude.{◌≡◌, ◌≤◌, ◌+◌, ◌/◌, ◌↔◌, [], ◌∷◌, length, map, refl, take, IsTrue, None, OnErr, OnOk, false};
+ghost use Rattle.std.specs.String.{string_bytes};
+ghost use Rattle.std.proofs.Props.{props};
+ghost use Rattle.raft_env.specs.Consistent.{AreConsistent, NoneRenamed, OnlyWritesRefusedIn, past_prop};
+ghost use Rattle.raft_env.specs.Files.{tree_directory};
+ghost use Rattle.raft_env.specs.Outcomes.{overlaid, written};
+ghost use Rattle.raft_env.specs.Directory.{IsReading, IsWriting, changed};
+ghost use Rattle.raft_env.specs.Moments.{Passes};
+ghost use Rattle.raft_env.specs.Refusal.{CountsFault};
+
+use crate::armed::{Armed, FsCall};
+use crate::history::History;
+use crate::tree::Tree;
+use crate::{FileSystem, FsFault, IoKind, Permission};
+use std::alloc::Global;
+
+const MAX_LEN: usize = 1 << 62;
+
+/// Files by their paths, in memory. It shows its files as `memory_directory` and its moments as `memory_moments`.
+#[derive(Drop)]
+pub struct MemoryFileSystem {
+    pub(crate) alloc: Global,
+    pub(crate) tree: Tree,
+    pub(crate) past: History<Tree>,
+    pub(crate) refusals: u64,
+    pub(crate) armed: Armed,
+    ghost consistent: { AreConsistent (tree_directory tree) } by { Prim.hlevel (props, past_prop) },
+    ghost only_writes: { OnlyWritesRefusedIn (tree_directory tree) } by { Prim.hlevel props },
+    ghost not_renamed: { NoneRenamed (tree_directory tree) } by { Prim.hlevel props },
+}
+
+#[derive(Drop)]
+pub struct MemoryHandle {
+    path: String,
+    may_write: bool,
+}
+
+#[derive(Drop)]
+pub struct MemoryReader {
+    path: String,
+    refused: u64,
+}
+
+#[derive(Drop)]
+pub struct MemoryWriter {
+    path: String,
+}
+
+impl MemoryFileSystem {
+    ghost use Rattle.raft_env.specs.Memory.{memory_directory, memory_moments, memory_refusals, armed_of, stop_of, no_files};
+
+    pub fn new(alloc: Global) -> MemoryFileSystem
+        ensures files { memory_directory result ≡ no_files }
+        ensures any_moment { memory_moments result ≡ no_files ∷ [] }
+        ensures cause { memory_refusals result ≡ 0 }
+        ensures others { (armed_of result ≡ []) × (stop_of result ≡ None) }
+    {
+        MemoryFileSystem {
+            alloc,
+            tree: Tree::new(alloc),
+            past: History::new(),
+            refusals: 0,
+            armed: Armed::new(alloc),
+        }
+    }
+}
+
+impl MemoryFileSystem {
+    ghost use Rattle.raft_env.specs.Memory.{memory_directory, memory_moments, memory_refusals};
+
+    // Writes the first half of the bytes, if there is room for all of them.
+    fn write_half(&mut self, path: &str, at: usize, bytes: &[u8]) -> Result<(), FsFault>
+        ensures ok { OnOk result (memory_directory self.new ≡ changed path.now (λ f. written at bytes.now false
+            (overlaid f.now at (take (length bytes.now / 2) bytes.now)) f) (memory_directory self.old)) }
+        ensures err { OnErr result (memory_directory self.new ≡ memory_directory self.old) }
+        ensures any_moment { Passes (memory_moments self.old) (memory_moments self.new) (memory_directory self.new)
+            (IsWriting path.now at bytes.now (memory_directory self.old)) }
+        ensures cause { memory_refusals self.new ≡ memory_refusals self.old }
+    {
+        if !fits(at, bytes.len()) {
+            return Err(FsFault::Io(IoKind::NoSpace));
+        }
+        let past = self.past.with(&self.tree);
+        let half = &bytes[..bytes.len() / 2];
+        self.tree.write(path, at, bytes, half, false)?;
+        self.past = past;
+        Ok(())
+    }
+}
+
+impl FileSystem for MemoryFileSystem {
+    ghost use Rattle.raft_env.specs.Memory.{memory_directory, memory_moments, memory_refusals};
+
+    type Handle = MemoryHandle;
+
+    type Reader = MemoryReader;
+
+    type Writer = MemoryWriter;
+
+    ghost directory = { memory_directory };
+
+    ghost moments = { memory_moments };
+
+    ghost refusals_of = { memory_refusals };
+
+    ghost handle_path = { λ h. string_bytes h.path };
+
+    ghost may_write = { λ h. h.may_write };
+
+    ghost reader_path = { λ r. string_bytes r.path };
+
+    ghost reader_refusals = { λ r. r.refused };
+
+    ghost writer_path = { λ w. string_bytes w.path };
+
+    ghost now_counts = { λ m. (map tree_directory m.past.items, refl) };
+
+    fn create(&mut self, path: &str) -> Result<MemoryHandle, FsFault> {
+        if let Some(kind) = self.armed.due_change(FsCall::Create) {
+            return Err(counted(&mut self.refusals, FsFault::Io(kind)));
+        }
+        let handle = MemoryHandle {
+            path: String::from_str(self.alloc, path)?,
+            may_write: true,
+        };
+        let past = self.past.with(&self.tree);
+        if let Err(fault) = self.tree.create(self.alloc, path) {
+            return Err(counted(&mut self.refusals, fault));
+        }
+        self.past = past;
+        Ok(handle)
+    }
+
+    fn open(&mut self, path: &str, permission: Permission) -> Result<MemoryHandle, FsFault> {
+        if let Some(kind) = self.armed.due(FsCall::Open) {
+            return Err(counted(&mut self.refusals, FsFault::Io(kind)));
+        }
+        if !self.is_file(path) {
+            return Err(counted(&mut self.refusals, FsFault::Io(IoKind::NotFound)));
+        }
+        Ok(MemoryHandle {
+            path: String::from_str(self.alloc, path)?,
+            may_write: permission == Permission::ReadWrite,
+        })
+    }
+
+    fn new_reader(&mut self, handle: &MemoryHandle) -> Result<MemoryReader, FsFault> {
+        if let Some(kind) = self.armed.due(FsCall::NewReader) {
+            return Err(counted(&mut self.refusals, FsFault::Io(kind)));
+        }
+        Ok(MemoryReader {
+            path: handle.path.clone()?,
+            refused: 0,
+        })
+    }
+
+    fn end_reader(&mut self, reader: MemoryReader) {
+        self.refusals = self.refusals.saturating_add(reader.refused);
+    }
+
+    fn new_writer(&mut self, handle: &MemoryHandle) -> Result<MemoryWriter, FsFault> {
+        let due = self.armed.due(FsCall::NewWriter);
+        if !handle.may_write {
+            return Err(counted(&mut self.refusals, FsFault::Io(IoKind::Other)));
+        }
+        if let Some(kind) = due {
+            return Err(counted(&mut self.refusals, FsFault::Io(kind)));
+        }
+        Ok(MemoryWriter {
+            path: handle.path.clone()?,
+        })
+    }
+
+    fn write(&mut self, writer: &mut MemoryWriter, at: usize, bytes: &[u8]) -> Result<(), FsFault> {
+        if let Some(kind) = self.armed.due_change(FsCall::Write) {
+            let _ = self.write_half(writer.path.as_str(), at, bytes);
+            return Err(counted(&mut self.refusals, FsFault::Io(kind)));
+        }
+        if !fits(at, bytes.len()) {
+            return Err(counted(&mut self.refusals, FsFault::Io(IoKind::NoSpace)));
+        }
+        let past = self.past.with(&self.tree);
+        if let Err(fault) = self
+            .tree
+            .write(writer.path.as_str(), at, bytes, bytes, true)
+        {
+            return Err(counted(&mut self.refusals, fault));
+        }
+        self.past = past;
+        Ok(())
+    }
+
+    fn truncate(&mut self, writer: &mut MemoryWriter, size: usize) -> Result<(), FsFault> {
+        if let Some(kind) = self.armed.due_change(FsCall::Truncate) {
+            return Err(counted(&mut self.refusals, FsFault::Io(kind)));
+        }
+        let past = self.past.with(&self.tree);
+        if let Err(fault) = self.tree.cut(writer.path.as_str(), size) {
+            return Err(counted(&mut self.refusals, fault));
+        }
+        self.past = past;
+        Ok(())
+    }
+
+    fn allocate(
+        &mut self,
+        writer: &mut MemoryWriter,
+        at: usize,
+        size: usize,
+    ) -> Result<(), FsFault> {
+        if let Some(kind) = self.armed.due_change(FsCall::Allocate) {
+            return Err(counted(&mut self.refusals, FsFault::Io(kind)));
+        }
+        if !fits(at, size) {
+            return Err(counted(&mut self.refusals, FsFault::Io(IoKind::NoSpace)));
+        }
+        let past = self.past.with(&self.tree);
+        if let Err(fault) = self.tree.lengthen(writer.path.as_str(), at + size) {
+            return Err(counted(&mut self.refusals, fault));
+        }
+        self.past = past;
+        Ok(())
+    }
+
+    fn sync(&mut self, writer: &mut MemoryWriter) -> Result<(), FsFault> {
+        if let Some(kind) = self.armed.due_change(FsCall::Sync) {
+            return Err(counted(&mut self.refusals, FsFault::Io(kind)));
+        }
+        let past = self.past.with(&self.tree);
+        if let Err(fault) = self.tree.sync(writer.path.as_str()) {
+            return Err(counted(&mut self.refusals, fault));
+        }
+        self.past = past;
+        Ok(())
+    }
+
+    fn read(
+        &self,
+        reader: &mut MemoryReader,
+        at: usize,
+        bytes: &mut [u8],
+    ) -> Result<usize, FsFault> {
+        if let Some(kind) = self.armed.due(FsCall::Read) {
+            return Err(counted(&mut reader.refused, FsFault::Io(kind)));
+        }
+        match self.tree.files.get(reader.path.as_str()) {
+            Some(slot) => Ok(copy_from(slot.bytes(), at, bytes)),
+            None => Err(counted(&mut reader.refused, FsFault::Io(IoKind::NotFound))),
+        }
+    }
+
+    fn file_size(&mut self, handle: &MemoryHandle) -> Result<usize, FsFault> {
+        if let Some(kind) = self.armed.due(FsCall::FileSize) {
+            return Err(counted(&mut self.refusals, FsFault::Io(kind)));
+        }
+        match self.tree.files.get(handle.path.as_str()) {
+            Some(slot) => Ok(slot.bytes().len()),
+            None => Err(counted(&mut self.refusals, FsFault::Io(IoKind::NotFound))),
+        }
+    }
+
+    fn make_dir(&mut self, path: &str) -> Result<(), FsFault> {
+        if let Some(kind) = self.armed.due_change(FsCall::MakeDir) {
+            return Err(counted(&mut self.refusals, FsFault::Io(kind)));
+        }
+        let past = self.past.with(&self.tree);
+        if let Err(fault) = self.tree.make_folder(self.alloc, path) {
+            return Err(counted(&mut self.refusals, fault));
+        }
+        self.past = past;
+        Ok(())
+    }
+
+    fn list(&mut self, dir: &str) -> Result<Vec<String>, FsFault> {
+        if let Some(kind) = self.armed.due(FsCall::List) {
+            return Err(counted(&mut self.refusals, FsFault::Io(kind)));
+        }
+        match self.tree.names(self.alloc, dir) {
+            Ok(names) => Ok(names),
+            Err(fault) => Err(counted(&mut self.refusals, fault)),
+        }
+    }
+
+    fn is_dir(&self, path: &str) -> bool {
+        self.tree.has_folder(path)
+    }
+
+    fn is_file(&self, path: &str) -> bool {
+        self.tree.files.contains_key(path)
+    }
+
+    fn refusals(&self) -> u64 {
+        self.refusals
+    }
+
+    fn read_refusals(&self, reader: &MemoryReader) -> u64 {
+        reader.refused
+    }
+}
+
+fn fits(at: usize, size: usize) -> bool
+    ensures { IsTrue result ↔ (at + size ≤ MAX_LEN) }
+{
+    at <= MAX_LEN && size <= MAX_LEN - at
+}
+
+fn counted(count: &mut u64, fault: FsFault) -> FsFault
+    ensures value { result ≡ fault }
+    ensures cause { CountsFault fault count.old count.new }
+{
+    if let FsFault::Io(_) = fault {
+        *count = count.saturating_add(1);
+    }
+    fault
+}
+
+// As many bytes as there are from that place on, at most as many as fit.
+fn copy_from(from: &[u8], at: usize, bytes: &mut [u8]) -> usize
+    ensures { IsReading from.now at result bytes.old bytes.new }
+{
+    if at >= from.len() {
+        return 0;
+    }
+    let count = bytes.len().min(from.len() - at);
+    bytes[..count].copy_from_slice(&from[at..at + count]);
+    count
+}
+
+#[cfg(test)]
+mod tests {
+    use super::*;
+    use std::test::Fail;
+
+    // Makes a file of these bytes and syncs it.
+    fn store<F: FileSystem>(fs: &mut F, path: &str, bytes: &[u8]) -> Result<F::Handle, FsFault> {
+        let stored = fs.create(path)?;
+        let mut writer = fs.new_writer(&stored)?;
+        fs.write(&mut writer, 0, bytes)?;
+        fs.sync(&mut writer)?;
+        Ok(stored)
+    }
+
+    #[test]
+    fn files_are_written_read_cut_and_listed(rt: HostRuntime) -> Result<(), Fail> {
+        let mut fs = MemoryFileSystem::new(rt.alloc());
+        fs.make_dir("log/old")?;
+        let handle = store(&mut fs, "log/b", b"first")?;
+        fs.create("log/a")?;
+        fs.create("log/old/c")?;
+        let mut writer = fs.new_writer(&handle)?;
+        fs.write(&mut writer, 7, b"third")?;
+        fs.allocate(&mut writer, 12, 2)?;
+        let mut bytes = [1; 16];
+        let mut reader = fs.new_reader(&handle)?;
+        assert_eq!(rt; fs.read(&mut reader, 0, &mut bytes)?, 14);
+        assert_eq!(rt; bytes, *b"first\0\0third\0\0\x01\x01");
+        assert_eq!(rt; fs.read_refusals(&reader), 0);
+        fs.end_reader(reader);
+        fs.truncate(&mut writer, 3)?;
+        assert_eq!(rt; fs.file_size(&handle)?, 3);
+        let names = fs.list("log")?;
+        assert_eq!(rt; names.len(), 2);
+        assert_eq!(rt; names[0].as_str(), "a");
+        assert_eq!(rt; names[1].as_str(), "b");
+        assert!(rt; fs.is_dir("log") && fs.is_dir("") && !fs.is_dir("log/b"));
+        assert!(rt; fs.is_file("log/b") && !fs.is_file("log"));
+        Ok(())
+    }
+
+    #[test]
+    fn refusals_are_counted(rt: HostRuntime) -> Result<(), Fail> {
+        let mut fs = MemoryFileSystem::new(rt.alloc());
+        let handle = fs.create("a")?;
+        assert!(rt; fs.create("b/a").is_err() && fs.create("").is_err());
+        assert!(rt; fs.make_dir("a/b").is_err() && fs.list("b").is_err());
+        assert!(rt; fs.open("b", Permission::ReadOnly).is_err());
+        let read_only = fs.open("a", Permission::ReadOnly)?;
+        assert!(rt; fs.new_writer(&read_only).is_err());
+        let mut writer = fs.new_writer(&handle)?;
+        assert!(rt; fs.write(&mut writer, usize::MAX, b"x").is_err());
+        assert_eq!(rt; fs.refusals(), 7);
+        Ok(())
+    }
+}

@@ -1,0 +1,45 @@
+//! The parts of a path.
+ghost use Rattle.std.specs.Prelude.{◌≡◌, None, Some, MatchOption};
+ghost use Rattle.raft_env.specs.Directory.{name_in, is_on_way};
+ghost use Rattle.raft_env.specs.PathParts.{IsParent, path_below};
+
+/// The folder of a path: what stands before its last `/`, or the root.
+pub(crate) fn parent(path: &str) -> &str
+    ensures value { IsParent path.now result.now }
+{
+    match path.rsplit_once('/') {
+        Some((folder, _)) => folder,
+        None => "",
+    }
+}
+
+/// Whether the folder is the path itself or one on the way to it.
+pub(crate) fn is_on_way(folder: &str, path: &str) -> bool
+    ensures value { result ≡ is_on_way folder.now path.now }
+{
+    match path.strip_prefix(folder) {
+        Some(rest) => rest.is_empty() || rest.starts_with('/'),
+        None => false,
+    }
+}
+
+/// The name of a path that stands in the folder itself.
+pub(crate) fn name_in<'a>(folder: &str, path: &'a str) -> Option<&'a str>
+    ensures value { MatchOption result (name_in folder.now path.now ≡ None) (λ name. name_in folder.now path.now ≡ Some name.now) }
+{
+    let name = below(folder, path)?;
+    if name.as_bytes().contains(&b'/') {
+        return None;
+    }
+    Some(name)
+}
+
+// What follows a folder's path and a slash. All paths are below the root.
+fn below<'a>(folder: &str, path: &'a str) -> Option<&'a str>
+    ensures value { MatchOption result (path_below folder.now path.now ≡ None) (λ rest. path_below folder.now path.now ≡ Some rest.now) }
+{
+    if folder.is_empty() {
+        return Some(path);
+    }
+    path.strip_prefix(folder)?.strip_prefix('/')
+}
