@@ -12,14 +12,14 @@ use Rattle.raft_records.specs.FileId.{file_signature, signature_in}
 use Rattle.raft_records.specs.Record.{record_of, record_bytes}
 use Rattle.raft_records.specs.declared.pipe_log.LogFileContext.{LogFileContext}
 use Rattle.raft_records.specs.declared.pipe_log.Version.{Version}
-use Rattle.raft_files.specs.Directory.{Directory, Path, HasFile, file_at}
+use Rattle.raft_env.specs.Directory.{Directory, Path, HasFile, file_at}
 use Rattle.raft_files.specs.Header.{header_of, header_len}
-use Rattle.raft_files.specs.Outcomes.{File}
+use Rattle.raft_env.specs.Outcomes.{File}
 use Rattle.raft_records.specs.Item.{Item, Batch, is_put_or_delete}
 use Rattle.raft_files.specs.Reading.{readable_batches}
 use Rattle.raft_files.specs.Writer.{Writing, IsWriterOf, HasChanged, bytes_at, bytes_of}
 use Rattle.raft_files.specs.declared.format.LogFileFormat.{LogFileFormat}
-use Rattle.raft_files.proofs.DirectoryLemmas.{file_at-placed_other, file_at-placed_same}
+use Rattle.raft_env.proofs.DirectoryLemmas.{file_at-placed_other, file_at-placed_same}
 use Rattle.raft_files.proofs.ReadingLemmas.{readable-append, header_of-kept}
 use Rattle.raft_files.proofs.ExtentLemmas.{header_of_takes}
 use Rattle.raft_log_engine.specs.Agrees.{Agrees, written_bytes}

@@ -4,13 +4,13 @@ use Rattle.std.specs.Prelude.{◌||◌, is_some, option_map}
 use Rattle.std.proofs.lemmas.List.{append-nil, nil_from_length}
 use Rattle.std.proofs.lemmas.List.Sums.{fold-append, sum_by-append}
 use Rattle.std.proofs.Math.Seq.{take-suc}
-use Rattle.raft_files.specs.Refusal.{Rose}
+use Rattle.raft_env.specs.Refusal.{Rose}
 use Rattle.raft_records.specs.Contents.{Contents, no_contents, after_batch, after_batches}
 use Rattle.raft_records.specs.Item.{Item, Batch}
 use Rattle.std.specs.FinMap.{get-empty}
-use Rattle.raft_files.specs.Directory.{Directory, Path, file_at}
+use Rattle.raft_env.specs.Directory.{Directory, Path, file_at}
 use Rattle.raft_files.specs.Writer.{bytes_of}
-use Rattle.raft_files.specs.Memory.{no_files}
+use Rattle.raft_env.specs.Memory.{no_files}
 use Rattle.raft_log_engine.proofs.OpenLemmas.{nothing_holds_nothing}
 use Rattle.raft_log_engine.specs.Log.{contents_at, contents_in, log_path}
 use Rattle.raft_log_engine.specs.Run.{accepted, accepted_of, AreAnswers, AreFailing, FailsAt, IsFailing, IsFailurePlace, RoseBy, batch_of_acts, io_count, is_refused_by_storage, IsAnswer, item_of_act, with_first, with_items}

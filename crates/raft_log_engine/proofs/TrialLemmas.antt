@@ -5,18 +5,17 @@ use Rattle.std.specs.FinMap.{get-empty}
 use Rattle.raft_records.specs.Contents.{Contents, no_contents}
 use Rattle.raft_records.specs.Item.{Batch}
 use Rattle.raft_records.specs.Fault.{fault_code}
-use Rattle.raft_files.specs.Choice.{RefusesUnless, left_by}
-use Rattle.raft_files.specs.Consistent.{AreConsistent}
+use Rattle.raft_env.specs.Choice.{RefusesUnless, left_by, NameNoBytes}
+use Rattle.raft_env.specs.Consistent.{AreConsistent}
 use Rattle.raft_files.specs.Detectable.{IsDetectable}
-use Rattle.raft_files.specs.Directory.{Directory, HasFile, IsRestarted, Leaves, Left, Path, file_at}
-use Rattle.raft_files.specs.Memory.{no_files}
-use Rattle.raft_files.specs.Outcomes.{File, settled}
+use Rattle.raft_env.specs.Directory.{Directory, HasFile, IsRestarted, Leaves, Left, Path, file_at}
+use Rattle.raft_env.specs.Memory.{no_files}
+use Rattle.raft_env.specs.Outcomes.{File, settled}
 use Rattle.raft_files.specs.Records.{left_bytes}
-use Rattle.raft_files.specs.Told.{NameNoBytes}
 use Rattle.raft_files.specs.Writer.{bytes_at}
-use Rattle.raft_files.specs.declared.crash.Choice.{Choice}
+use Rattle.raft_env.specs.declared.crash.Choice.{Choice}
 use Rattle.raft_files.proofs.KeptLemmas.{kept_none}
-use Rattle.raft_files.proofs.PremiseLemmas.{choices_may_leave}
+use Rattle.raft_env.proofs.TornLemmas.{choices_may_leave}
 use Rattle.raft_log_engine.specs.Crash.{IsSound, KeepsContents, LeavesAllowedFrom, found_after}
 use Rattle.raft_records.specs.declared.errors.Fault.{Fault}
 use Rattle.raft_records.specs.declared.errors.Fault.TheVariants as fault

@@ -2,11 +2,11 @@
 use Rattle.std.specs.Prelude.{◌≡◌, ◌⊎◌, ℕ, false, List, [], Option, None, IfOk, IfErr}
 use Rattle.raft_records.specs.Contents.{Contents, no_contents}
 use Rattle.raft_records.specs.declared.errors.Fault.{Fault}
-use Rattle.raft_files.specs.Choice.{left_by}
+use Rattle.raft_env.specs.Choice.{left_by}
 use Rattle.raft_files.specs.Detectable.{IsDetectable}
-use Rattle.raft_files.specs.Directory.{Directory, HasFile, Leaves, Path}
+use Rattle.raft_env.specs.Directory.{Directory, HasFile, Leaves, Path}
 use Rattle.raft_files.specs.Records.{left_bytes}
-use Rattle.raft_files.specs.declared.crash.Choice.{Choice}
+use Rattle.raft_env.specs.declared.crash.Choice.{Choice}
 use Rattle.raft_log_engine.specs.Crash.{KeepsContents, found_after}
 use Rattle.raft_log_engine.specs.Image.{IsImageOf}
 use Rattle.raft_log_engine.specs.Durability.{LeavesAllowedBehind}

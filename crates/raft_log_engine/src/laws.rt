@@ -3,7 +3,7 @@ ghost use Rattle.std.specs.Prelude.{◌≡◌, List, [], None};
 ghost use Rattle.raft_records.specs.Contents.{Contents, no_contents};
 ghost use Rattle.raft_records.specs.Item.{Batch};
 ghost use Rattle.raft_files.specs.Detectable.{IsDetectable};
-ghost use Rattle.raft_files.specs.Directory.{Directory, HasFile, IsRestarted, Left, Path, file_at};
+ghost use Rattle.raft_env.specs.Directory.{Directory, HasFile, IsRestarted, Left, Path, file_at};
 ghost use Rattle.raft_log_engine.specs.Crash.{IsAllowedFrom, IsSound, KeepsContents, LeavesAllowed, found_after};
 ghost use Rattle.raft_files.specs.Records.{as_it_is};
 ghost use Rattle.raft_log_engine.specs.Log.{contents_at, first_file, log_path};

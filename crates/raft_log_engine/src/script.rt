@@ -11,7 +11,7 @@ use crate::Config;
 use crate::engine::{Engine, Refused, io_fault};
 use line::{Left, Line, parse_line};
 pub use operation::{Act, Op, Outcome, Trial};
-use raft_files::{Choice, FileSystem, MemoryFileSystem};
+use raft_env::{Choice, FileSystem, MemoryFileSystem};
 use raft_records::{Fault, Fresh, LogBatch, ReadableSize};
 pub use runs::run;
 use std::alloc::{AllocError, Global};

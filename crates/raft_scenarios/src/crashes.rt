@@ -1,7 +1,7 @@
 //! What an opening finds behind a crash, and behind a refusal of storage.
 
 use crate::states::{EMPTY, State, settings, state_of};
-use raft_files::{Choice, FileSystem, FsCall, IoKind, MemoryFileSystem};
+use raft_env::{Choice, FileSystem, FsCall, IoKind, MemoryFileSystem};
 use raft_log_engine::Engine;
 use raft_records::{Fault, LogBatch};
 use std::alloc::Global;

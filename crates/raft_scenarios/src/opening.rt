@@ -1,6 +1,7 @@
 //! What an opening makes of a log file that can't be read to its end.
 
-use raft_files::{FileSystem, LogFileFormat, MemoryFileSystem, Permission};
+use raft_env::{FileSystem, MemoryFileSystem, Permission};
+use raft_files::LogFileFormat;
 use raft_log_engine::{Config, Engine, RecoveryMode};
 use raft_records::{Fresh, Version};
 use std::alloc::Global;

@@ -4,7 +4,7 @@ use crate::states::{
     EMPTY, State, after, first_refused, is_allowed, is_done, operations, settings, state_of,
     value_of,
 };
-use raft_files::{Choice, FileSystem, FsCall, IoKind, MemoryFileSystem};
+use raft_env::{Choice, FileSystem, FsCall, IoKind, MemoryFileSystem};
 use raft_log_engine::Engine;
 use raft_log_engine::script::{Op, Outcome, run};
 use raft_records::Fault;

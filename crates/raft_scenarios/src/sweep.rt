@@ -1,7 +1,7 @@
 //! Operations that are stopped at each call that changes files, and then crashed in many ways.
 
 use crate::states::{first_refused, is_allowed, is_done, operations, settings, state_of};
-use raft_files::Choice;
+use raft_env::Choice;
 use raft_log_engine::script::{Op, Trial, trial};
 use std::alloc::Global;
 use std::process::Abort;

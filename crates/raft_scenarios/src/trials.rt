@@ -1,7 +1,7 @@
 //! Trials: operations, a crash and an opening in one call.
 
 use crate::states::{EMPTY, State, settings, state_of};
-use raft_files::Choice;
+use raft_env::Choice;
 use raft_log_engine::script::{Act, Op, Outcome, Trial, trial};
 use raft_records::Fault;
 use std::alloc::{AllocError, Global};

@@ -3,7 +3,7 @@
 use crate::measure::{Host, filled, mark, report, report_ceilings};
 use anyhow::{Result, anyhow};
 use raft_codec::checksum::crc32;
-use raft_files::{FileSystem, FsFault, MemoryFileSystem};
+use raft_env::{FileSystem, FsFault, MemoryFileSystem};
 use std::time::Instant;
 
 /// Checksums of so many blocks of 64 KB, and copies of the same bytes for comparison.

@@ -3,7 +3,7 @@
 use crate::measure::{Host, filled, next_state, report, report_ceilings};
 use anyhow::{Result, anyhow, bail};
 use raft_codec::checksum::crc32;
-use raft_files::{FileSystem, Permission};
+use raft_env::{FileSystem, Permission};
 use raft_log_engine::{Config, Engine};
 use raft_records::{Fresh, LogBatch};
 use std::alloc::{AllocError, Global};

@@ -4,7 +4,7 @@ use crate::log::Load;
 use crate::measure::Host;
 use crate::{files, log};
 use anyhow::Result;
-use raft_files::{FileSystem, MemoryFileSystem};
+use raft_env::{FileSystem, MemoryFileSystem};
 
 #[derive(Clone, Copy)]
 pub(crate) enum Workload {

@@ -3,8 +3,8 @@ ghost use Rattle.std.specs.Prelude.{All, ◌≡◌, ◌⊎◌, ◌||◌, ◌≤�
 ghost use Rattle.raft_records.specs.Contents.{Contents, after_batches};
 ghost use Rattle.raft_records.specs.Fault.{fault_code};
 ghost use Rattle.raft_records.specs.Item.{Item};
-ghost use Rattle.raft_files.specs.Moments.{Passes};
-ghost use Rattle.raft_files.specs.Refusal.{Rose};
+ghost use Rattle.raft_env.specs.Moments.{Passes};
+ghost use Rattle.raft_env.specs.Refusal.{Rose};
 ghost use Rattle.raft_log_engine.specs.Crash.{LeavesAllowed};
 ghost use Rattle.raft_log_engine.specs.Durability.{AtFailure, IsDurableBehind, IsMomentOf, LeavesAllowedBehind, Progresses, durability_of};
 ghost use Rattle.raft_log_engine.specs.Engine.{contents_of, directory_of, durable_of, folder_of, has_failed, moments_of, refusals_of, unsynced_of};
@@ -12,7 +12,7 @@ ghost use Rattle.raft_log_engine.specs.Run.{accepted, accepted_of, AreAnswers, A
 
 use super::operation::{Act, Op, Outcome};
 use crate::Engine;
-use raft_files::FileSystem;
+use raft_env::FileSystem;
 use raft_records::{Fault, LogBatch};
 use std::alloc::Global;
 

@@ -2,9 +2,9 @@
 ghost use Rattle.std.specs.Prelude.{◌≡◌, ◌⊎◌, [], ◌∷◌, IfOk, IfErr};
 ghost use Rattle.std.specs.String.{string_bytes};
 ghost use Rattle.raft_records.specs.Fault.{fault_code};
-ghost use Rattle.raft_files.specs.Directory.{HasFile};
-ghost use Rattle.raft_files.specs.Told.{NameNoBytes};
-ghost use Rattle.raft_files.specs.Memory.{memory_directory, memory_moments, no_files, stop_of};
+ghost use Rattle.raft_env.specs.Directory.{HasFile};
+ghost use Rattle.raft_env.specs.Choice.{NameNoBytes};
+ghost use Rattle.raft_env.specs.Memory.{memory_directory, memory_moments, no_files, stop_of};
 ghost use Rattle.raft_files.specs.Writer.{bytes_at};
 ghost use Rattle.raft_log_engine.specs.Image.{IsImageOf};
 ghost use Rattle.raft_log_engine.specs.Log.{contents_at, log_path};
@@ -17,7 +17,7 @@ ghost use Rattle.raft_log_engine.specs.Trial.{AreAnswered, AreNotAsked, IsLogRef
 use super::operation::{Op, Trial};
 use super::runs::{Ran, run_watched};
 use crate::{Config, Engine, Image};
-use raft_files::{Choice, FileSystem, MemoryFileSystem};
+use raft_env::{Choice, FileSystem, MemoryFileSystem};
 use raft_records::Fault;
 use std::alloc::Global;
 

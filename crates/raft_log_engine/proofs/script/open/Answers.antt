@@ -1,5 +1,5 @@
 use denote.Param.Send.{sendable}
-use Rattle.raft_files.proofs.Sent.{memory_send, memory_sync}
+use Rattle.raft_env.proofs.Sent.{memory_send, memory_sync}
 use Rattle.raft_log_engine.proofs.script.open.Goals as goal
 
 pub open_in_order-requires-send-F : goal.open_in_order-requires-send-F

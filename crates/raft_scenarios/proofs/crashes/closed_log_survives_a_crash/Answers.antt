@@ -1,5 +1,5 @@
 use denote.Param.Send.{sendable}
-use Rattle.raft_files.proofs.Sent.{memory_send, memory_sync}
+use Rattle.raft_env.proofs.Sent.{memory_send, memory_sync}
 use Rattle.raft_scenarios.proofs.crashes.closed_log_survives_a_crash.Goals as goal
 
 pub put_and_close-requires-send-F : goal.put_and_close-requires-send-F

@@ -1,5 +1,5 @@
 use denote.Param.Send.{sendable}
-use Rattle.raft_files.proofs.Sent.{memory_send, memory_sync}
+use Rattle.raft_env.proofs.Sent.{memory_send, memory_sync}
 use Rattle.raft_scenarios.proofs.crashes.crash_finds.Goals as goal
 
 pub finds-requires-send-F : goal.finds-requires-send-F

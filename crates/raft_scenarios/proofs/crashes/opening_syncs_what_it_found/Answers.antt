@@ -1,5 +1,5 @@
 use denote.Param.Send.{sendable}
-use Rattle.raft_files.proofs.Sent.{memory_send, memory_sync}
+use Rattle.raft_env.proofs.Sent.{memory_send, memory_sync}
 use Rattle.raft_scenarios.proofs.crashes.opening_syncs_what_it_found.Goals as goal
 
 pub put_long-requires-send-F : goal.put_long-requires-send-F

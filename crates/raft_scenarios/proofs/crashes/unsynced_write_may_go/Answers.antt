@@ -1,5 +1,5 @@
 use denote.Param.Send.{sendable}
-use Rattle.raft_files.proofs.Sent.{memory_send, memory_sync}
+use Rattle.raft_env.proofs.Sent.{memory_send, memory_sync}
 use Rattle.raft_scenarios.proofs.crashes.unsynced_write_may_go.Goals as goal
 
 pub put_two-requires-send-F : goal.put_two-requires-send-F

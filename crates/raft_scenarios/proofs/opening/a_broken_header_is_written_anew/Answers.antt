@@ -1,5 +1,5 @@
 use denote.Param.Send.{sendable}
-use Rattle.raft_files.proofs.Sent.{memory_send, memory_sync}
+use Rattle.raft_env.proofs.Sent.{memory_send, memory_sync}
 use Rattle.raft_scenarios.proofs.opening.a_broken_header_is_written_anew.Goals as goal
 
 pub opens-requires-send-F : goal.opens-requires-send-F

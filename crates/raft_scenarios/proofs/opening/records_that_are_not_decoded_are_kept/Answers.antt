@@ -1,5 +1,5 @@
 use denote.Param.Send.{sendable}
-use Rattle.raft_files.proofs.Sent.{memory_send, memory_sync}
+use Rattle.raft_env.proofs.Sent.{memory_send, memory_sync}
 use Rattle.raft_scenarios.proofs.opening.records_that_are_not_decoded_are_kept.Goals as goal
 
 pub refuses-requires-send-F : goal.refuses-requires-send-F

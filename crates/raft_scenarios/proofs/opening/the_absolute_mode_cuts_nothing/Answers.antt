@@ -1,5 +1,5 @@
 use denote.Param.Send.{sendable}
-use Rattle.raft_files.proofs.Sent.{memory_send, memory_sync}
+use Rattle.raft_env.proofs.Sent.{memory_send, memory_sync}
 use Rattle.raft_scenarios.proofs.opening.the_absolute_mode_cuts_nothing.Goals as goal
 
 pub refuses-requires-send-F : goal.refuses-requires-send-F

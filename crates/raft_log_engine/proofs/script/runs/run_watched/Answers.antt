@@ -2,8 +2,8 @@ use Rattle.std.proofs.Common.{◌≡◌, ◌∙◌, ℕ, ◌<◌, ◌++◌, List
 use Rattle.std.proofs.lemmas.Grind.{common_steps}
 use Rattle.std.proofs.lemmas.List.{take_all}
 use Rattle.std.proofs.lemmas.List.Elements.{All-get_or}
-use Rattle.raft_files.specs.Moments.{Passes}
-use Rattle.raft_files.proofs.MomentsLemmas.{passes_none}
+use Rattle.raft_env.specs.Moments.{Passes}
+use Rattle.raft_env.proofs.MomentsLemmas.{passes_none}
 use Rattle.raft_log_engine.specs.Crash.{LeavesAllowed}
 use Rattle.raft_log_engine.specs.Durability.{durability_of}
 use Rattle.raft_log_engine.specs.Run.{IsFailurePlace, IsUnasked, in_flight}

@@ -1,5 +1,5 @@
 use Rattle.std.proofs.Common.{All, ◌≡◌, ◌||◌, ◌≤◌, is_some, length, take, vec_len, vec_capacity}
-use Rattle.raft_files.specs.Moments.{Passes}
+use Rattle.raft_env.specs.Moments.{Passes}
 use Rattle.raft_log_engine.specs.Durability.{IsMomentOf, durability_of}
 use Rattle.raft_log_engine.specs.Engine.{contents_of, directory_of, durable_of, folder_of, has_failed, moments_of, refusals_of, unsynced_of}
 use Rattle.raft_log_engine.specs.Run.{IsFailurePlace, IsUnasked, RoseBy, io_count}

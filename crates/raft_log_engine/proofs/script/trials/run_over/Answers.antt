@@ -1,7 +1,7 @@
 use Rattle.std.proofs.Common.{◌∙◌, Bool, [], inl, inr, refl, sym, subst}
 use Rattle.std.specs.String.{string_bytes}
 use Rattle.raft_records.specs.Contents.{Contents}
-use Rattle.raft_files.specs.Directory.{Directory, HasFile, Path}
+use Rattle.raft_env.specs.Directory.{Directory, HasFile, Path}
 use Rattle.raft_log_engine.specs.Durability.{LeavesAllowedBehind}
 use Rattle.raft_log_engine.specs.Engine.{directory_of, durable_of, folder_of, unsynced_of}
 use Rattle.raft_log_engine.specs.Log.{contents_at}

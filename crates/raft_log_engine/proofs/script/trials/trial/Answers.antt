@@ -1,11 +1,11 @@
 use denote.Param.Send.{sendable}
 use Rattle.std.proofs.Common.{◌⊎◌, [], ap, sym, subst}
 use Rattle.raft_records.specs.Contents.{Contents}
-use Rattle.raft_files.proofs.Sent.{memory_send, memory_sync}
+use Rattle.raft_env.proofs.Sent.{memory_send, memory_sync}
 use Rattle.std.proofs.lemmas.Result.{err_from_is_err_and}
 use Rattle.std.specs.String.{string_bytes}
-use Rattle.raft_files.specs.Memory.{memory_directory}
-use Rattle.raft_files.specs.Choice.{left_by}
+use Rattle.raft_env.specs.Memory.{memory_directory}
+use Rattle.raft_env.specs.Choice.{left_by}
 use Rattle.raft_log_engine.specs.Crash.{KeepsContents}
 use Rattle.raft_log_engine.specs.Durability.{LeavesAllowedBehind}
 use Rattle.raft_log_engine.specs.Trial.{AreAnswered, AreNotAsked}

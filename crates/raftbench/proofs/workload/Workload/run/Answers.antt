@@ -1,5 +1,5 @@
 use denote.Param.Send.{sendable}
-use Rattle.raft_files.proofs.Sent.{memory_send, memory_sync}
+use Rattle.raft_env.proofs.Sent.{memory_send, memory_sync}
 use Rattle.raftbench.proofs.workload.Workload.run.Goals as goal
 
 pub run_engine-requires-send-F : goal.run_engine-requires-send-F

@@ -1,5 +1,5 @@
 use Rattle.std.proofs.Common.{subst, sym}
-use Rattle.raft_files.specs.Directory.{HasFile}
+use Rattle.raft_env.specs.Directory.{HasFile}
 use Rattle.raft_files.specs.Records.{IsKept}
 use Rattle.raft_log_engine.specs.Engine.{folder_of}
 use Rattle.raft_log_engine.specs.Log.{first_file}

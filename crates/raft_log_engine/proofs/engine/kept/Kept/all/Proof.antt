@@ -25,7 +25,7 @@ use denote.Triple.Entry.{alive}
 use denote.Triple.Spec.{Meets, triple_of}
 use denote.Triple.Table.{entered}
 use denote.Triple.Walked.{says, Stays, stay_dropped, walk_of, ends_at, walk_Meets, Goes-dropped}
-use Rattle.raft_files.proofs.Walks.{none, none_made}
+use Rattle.raft_env.proofs.Walks.{none, none_made}
 use Rattle.raft_log_engine.specs.contracts.engine.kept.Kept as Kept
 use Rattle.raft_log_engine.specs.contracts.engine.kept.Kept.all as F
 use Rattle.raft_log_engine.specs.contracts.engine.kept.Kept.all.Key.{name as #self}
