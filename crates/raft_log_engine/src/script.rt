@@ -8,7 +8,7 @@ mod runs;
 mod trials;
 
 use crate::Config;
-use crate::engine::{Engine, Refused, io_fault};
+use crate::engine::{Engine, Refused};
 use line::{Left, Line, parse_line};
 pub use operation::{Act, Op, Outcome, Trial};
 use raft_env::{Choice, FileSystem, MemoryFileSystem};
@@ -203,7 +203,7 @@ fn crashed(
 fn count_files<F: FileSystem>(alloc: Global, files: &mut F) -> Result<usize, Fault> {
     match files.list(FOLDER) {
         Ok(names) => Ok(names.len()),
-        Err(fault) => Err(io_fault(alloc, fault, FOLDER)),
+        Err(fault) => Err(fault.at(alloc, FOLDER)),
     }
 }
 
