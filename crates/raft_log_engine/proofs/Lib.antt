@@ -6,11 +6,6 @@ pub mod AllowedLemmas
 pub mod LogLemmas
 pub mod OpenLemmas
 pub mod ImageLemmas
-pub mod RunLemmas
-pub mod DurabilityLemmas
 pub mod RecoverLemmas
 pub mod StaysLemmas
 pub mod ReopenLemmas
-pub mod TrialLemmas
-pub mod LineLemmas
-pub mod LinesLemmas

@@ -7,8 +7,4 @@ pub mod Append
 pub mod Engine
 pub mod Image
 pub mod Crash
-pub mod Run
-pub mod Durability
 pub mod Written
-pub mod Trial
-pub mod Line

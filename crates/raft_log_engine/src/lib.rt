@@ -4,7 +4,6 @@
 pub mod config;
 pub mod engine;
 pub mod laws;
-pub mod script;
 
 pub use config::{Config, RecoveryMode};
 pub use engine::{Engine, GroupImage, Image, Refused};

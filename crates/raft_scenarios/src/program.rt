@@ -1,6 +1,6 @@
 //! What the program prints for what it reads.
 
-use raft_log_engine::script::{Ended, serve};
+use raft_script::{Ended, serve};
 use std::alloc::Global;
 use std::io::{Result as IoResult, Write};
 use std::process::Abort;

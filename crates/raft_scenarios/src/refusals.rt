@@ -6,8 +6,8 @@ use crate::states::{
 };
 use raft_env::{Choice, FileSystem, FsCall, IoKind, MemoryFileSystem};
 use raft_log_engine::Engine;
-use raft_log_engine::script::{Op, Outcome, run};
 use raft_records::Fault;
+use raft_script::{Op, Outcome, run};
 use std::alloc::Global;
 use std::process::Abort;
 use std::test::Fail;

@@ -1,8 +1,8 @@
 //! Operations on four keys, and what the keys hold: told from the operations alone, and read from an image.
 
-use raft_log_engine::script::{Act, Op, Outcome};
 use raft_log_engine::{Config, Image};
 use raft_records::{Fresh, ReadableSize};
+use raft_script::{Act, Op, Outcome};
 use std::alloc::{AllocError, Global};
 
 /// The first byte of the value at each key, 0 where there is none: `a` and `b` are keys of group 1, `c` and `d` of

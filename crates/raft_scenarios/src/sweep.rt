@@ -2,7 +2,7 @@
 
 use crate::states::{first_refused, is_allowed, is_done, operations, settings, state_of};
 use raft_env::Choice;
-use raft_log_engine::script::{Op, Trial, trial};
+use raft_script::{Op, Trial, trial};
 use std::alloc::Global;
 use std::process::Abort;
 use std::test::Fail;

@@ -2,8 +2,8 @@
 
 use crate::states::{EMPTY, State, settings, state_of};
 use raft_env::Choice;
-use raft_log_engine::script::{Act, Op, Outcome, Trial, trial};
 use raft_records::Fault;
+use raft_script::{Act, Op, Outcome, Trial, trial};
 use std::alloc::{AllocError, Global};
 use std::process::Abort;
 use std::test::Fail;

@@ -1,9 +1,0 @@
-use denote.Param.Send.{sendable}
-use Rattle.raft_env.proofs.Sent.{memory_send, memory_sync}
-use Rattle.raft_log_engine.proofs.script.open.Goals as goal
-
-pub open_in_order-requires-send-F : goal.open_in_order-requires-send-F
-open_in_order-requires-send-F c = λ κs. search (sendable, memory_send) depth 20
-
-pub open_in_order-requires-sync-F : goal.open_in_order-requires-sync-F
-open_in_order-requires-sync-F c = λ κs. search (sendable, memory_sync) depth 20

@@ -1,0 +1,5 @@
+pub mod RunLemmas
+pub mod DurabilityLemmas
+pub mod TrialLemmas
+pub mod LineLemmas
+pub mod LinesLemmas

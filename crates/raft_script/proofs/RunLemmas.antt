@@ -1,0 +1,227 @@
+-- Operations under way: the batch of acts, and what the operations so far leave.
+use Rattle.std.proofs.Common.{◌≡◌, ℕ, zero, suc, ◌+◌, ◌<◌, ◌≤◌, Bool, true, false, cond, List, [], ◌∷◌, ◌++◌, length, length-append, length-drop, take, drop, drop-cons, get_or, Option, Some, None, refl, sym, ◌∙◌, ap, subst, append_assoc, arith}
+use Rattle.std.specs.Prelude.{◌||◌, is_some, option_map}
+use Rattle.std.proofs.lemmas.List.{append-nil, nil_from_length}
+use Rattle.std.proofs.lemmas.List.Sums.{fold-append, sum_by-append}
+use Rattle.std.proofs.Math.Seq.{take-suc}
+use Rattle.raft_env.specs.Refusal.{Rose}
+use Rattle.raft_records.specs.Contents.{Contents, no_contents, after_batch, after_batches}
+use Rattle.raft_records.specs.Item.{Item, Batch}
+use Rattle.std.specs.FinMap.{get-empty}
+use Rattle.raft_env.specs.Directory.{Directory, Path, file_at}
+use Rattle.raft_files.specs.Writer.{bytes_of}
+use Rattle.raft_env.specs.Memory.{no_files}
+use Rattle.raft_log_engine.proofs.OpenLemmas.{nothing_holds_nothing}
+use Rattle.raft_log_engine.specs.Log.{contents_at, contents_in, log_path}
+use Rattle.raft_script.specs.Run.{accepted, accepted_of, AreAnswers, AreFailing, FailsAt, IsFailing, IsFailurePlace, RoseBy, batch_of_acts, io_count, is_refused_by_storage, IsAnswer, item_of_act, with_first, with_items}
+use Rattle.raft_script.specs.declared.operation.Act.{Act}
+use Rattle.raft_script.specs.declared.operation.Op.{Op}
+use Rattle.raft_script.specs.declared.operation.Op.TheVariants.{Write, Sync, Get}
+use Rattle.raft_script.specs.declared.operation.Outcome.{Outcome}
+use Rattle.raft_script.specs.declared.operation.Outcome.TheVariants.{Size, Done, Value}
+
+-- items, and the batch of the acts behind them, where there is one
+abbrev pub behind : Batch → Option Batch → Option Batch
+behind items rest = option_map (λ more. items ++ more) rest
+
+-- the items are those of the first acts of a list
+abbrev pub IsBuilt : Batch → ℕ → List Act → Type 0
+IsBuilt items n acts = behind items (batch_of_acts (drop n acts)) ≡ batch_of_acts acts
+
+behind-with_first : (items : Batch) (item : Item) (rest : Option Batch) → behind items (with_first (Some item) rest) ≡ behind (items ++ item ∷ []) rest
+behind-with_first items item None = refl
+behind-with_first items item (Some more) = ap Some (sym (append_assoc items (item ∷ []) more))
+
+pub ahead : {X : Type 0} (xs : List X) (i : ℕ) (x : X) → i < length xs → x ≡ get_or xs i x → drop i xs ≡ x ∷ drop (i + 1) xs
+ahead xs i x within is =
+    let next : suc i ≡ i + 1 = omega arith in
+    drop-cons xs i x within ∙ ap (λ y. y ∷ drop (suc i) xs) (sym is) ∙ ap (λ (n : ℕ). x ∷ drop n xs) next
+
+pub built_more : (items : Batch) (n : ℕ) (acts : List Act) (act : Act) (item : Item) → n < length acts → act ≡ get_or acts n act → item_of_act act ≡ Some item → IsBuilt items n acts → IsBuilt (items ++ item ∷ []) (n + 1) acts
+built_more items n acts act item within is item_is built =
+    sym (behind-with_first items item (batch_of_acts (drop (n + 1) acts)))
+    ∙ ap (λ o. behind items (with_first o (batch_of_acts (drop (n + 1) acts)))) (sym item_is)
+    ∙ ap (λ l. behind items (batch_of_acts l)) (sym (ahead acts n act within is))
+    ∙ built
+
+-- no batch where an act has no item
+pub built_refused : (items : Batch) (n : ℕ) (acts : List Act) (act : Act) → n < length acts → act ≡ get_or acts n act → item_of_act act ≡ None → IsBuilt items n acts → batch_of_acts acts ≡ None
+built_refused items n acts act within is none built =
+    sym built
+    ∙ ap (λ l. behind items (batch_of_acts l)) (ahead acts n act within is)
+    ∙ ap (λ o. behind items (with_first o (batch_of_acts (drop (n + 1) acts)))) none
+
+pub built_ended : (items : Batch) (n : ℕ) (acts : List Act) → drop n acts ≡ [] → IsBuilt items n acts → batch_of_acts acts ≡ Some items
+built_ended items n acts none built = sym built ∙ ap (λ l. behind items (batch_of_acts l)) none ∙ ap Some (append-nil items)
+
+pub after-with_items : (m : Contents) (batch : Batch) → after_batches m (with_items (Some batch)) ≡ after_batch m batch
+after-with_items m [] = refl
+after-with_items m (item ∷ items) = refl
+
+-- what a run has come to: the operations so far, their outcomes, and what the engine holds
+pub record IsRunning (before : Contents) (ops : List Op) (outcomes : List Outcome) (now : Contents) (failed : Bool) : Type 0 where
+  pub len : length outcomes ≡ length ops
+  pub answers : AreAnswers before ops outcomes
+  pub contents : failed ≡ false → now ≡ after_batches before (accepted ops outcomes)
+
+pub running_begun : (m : Contents) (failed : Bool) → IsRunning m [] [] m failed
+running_begun m failed = record { len = refl; answers = tt; contents = λ _. refl }
+
+answers_more : (m : Contents) (ops : List Op) (outcomes : List Outcome) (op : Op) (outcome : Outcome) → AreAnswers m ops outcomes → IsAnswer (after_batches m (accepted ops outcomes)) op outcome
+    → AreAnswers m (ops ++ op ∷ []) (outcomes ++ outcome ∷ [])
+answers_more m [] [] op outcome answers more = (more, tt)
+answers_more m [] (o ∷ outcomes) op outcome answers more = absurd answers
+answers_more m (p ∷ ops) [] op outcome answers more = absurd answers
+answers_more m (p ∷ ops) (o ∷ outcomes) op outcome answers more = (
+  answers.0,
+  answers_more (after_batches m (accepted_of p o)) ops outcomes op outcome answers.1 (subst (λ (n : Contents). IsAnswer n op outcome) (fold-append after_batch m (accepted_of p o) (accepted ops outcomes)) more),
+)
+
+pub accepted_more : (ops : List Op) (outcomes : List Outcome) (op : Op) (outcome : Outcome) → length outcomes ≡ length ops → accepted (ops ++ op ∷ []) (outcomes ++ outcome ∷ []) ≡ accepted ops outcomes ++ accepted_of op outcome
+accepted_more [] [] op outcome same = append-nil (accepted_of op outcome)
+accepted_more [] (o ∷ outcomes) op outcome same = absurd (omega (arith, same))
+accepted_more (p ∷ ops) [] op outcome same = absurd (omega (arith, same))
+accepted_more (p ∷ ops) (o ∷ outcomes) op outcome same =
+    ap (λ (l : List Batch). accepted_of p o ++ l) (accepted_more ops outcomes op outcome (omega (arith, same))) ∙ sym (append_assoc (accepted_of p o) (accepted ops outcomes) (accepted_of op outcome))
+
+pub taken_more : {X : Type 0} (xs : List X) (i : ℕ) (x : X) → i < length xs → x ≡ get_or xs i x → take (i + 1) xs ≡ take i xs ++ x ∷ []
+taken_more xs i x within is =
+    let next : i + 1 ≡ suc i = omega arith in
+    ap (λ (n : ℕ). take n xs) next ∙ take-suc xs i x within ∙ ap (λ y. take i xs ++ y ∷ []) (sym is)
+
+-- one operation more
+module _ (before : Contents) (ops : List Op) (outcomes : List Outcome) (now : Contents) (failed : Bool) (running : IsRunning before ops outcomes now failed)
+    (op : Op) (outcome : Outcome) (next : Contents) (fails : Bool) where
+  pub running_more : ((m : Contents) → (failed ≡ false → m ≡ now) → IsAnswer m op outcome) → (fails ≡ false → next ≡ after_batches now (accepted_of op outcome)) → (failed ≡ true → fails ≡ true)
+      → IsRunning before (ops ++ op ∷ []) (outcomes ++ outcome ∷ []) next fails
+  running_more answer contents still = record {
+    len = length-append outcomes (outcome ∷ []) ∙ ap (λ (n : ℕ). n + 1) running.len ∙ sym (length-append ops (op ∷ []));
+    answers = answers_more before ops outcomes op outcome running.answers (answer (after_batches before (accepted ops outcomes)) (λ stands. sym (running.contents stands)));
+    contents = λ stands. contents stands ∙ ap (λ (m : Contents). after_batches m (accepted_of op outcome)) (running.contents (stood failed still stands))
+        ∙ sym (fold-append after_batch before (accepted ops outcomes) (accepted_of op outcome)) ∙ ap (after_batches before) (sym (accepted_more ops outcomes op outcome running.len));
+  }
+    where
+      stood : (b : Bool) → (b ≡ true → fails ≡ true) → fails ≡ false → b ≡ false
+      stood true still stands = absurd (let now = still refl in cc)
+      stood false still stands = refl
+
+pub acts_ended : (items : Batch) (n : ℕ) (acts : List Act) → length acts ≤ n → IsBuilt items n acts → batch_of_acts acts ≡ Some items
+acts_ended items n acts past built = built_ended items n acts (nil_from_length (drop n acts) (length-drop n acts ∙ omega (arith, past))) built
+
+-- a folder without files holds nothing
+pub contents_at-no_files : (folder : Path) (n : Directory) → n ≡ no_files → contents_at folder n ≡ no_contents
+contents_at-no_files folder n is =
+    let absent : file_at no_files (log_path folder) ≡ None = get-empty _ (log_path folder) in
+    ap (contents_at folder) is ∙ ap (λ file. contents_in (bytes_of file)) absent ∙ nothing_holds_nothing
+
+-- Failures.
+
+pub failing_more : (failed : Bool) (ops : List Op) (outcomes : List Outcome) (mid : Bool) (op : Op) (outcome : Outcome) (fails : Bool) → AreFailing failed ops outcomes mid → IsFailing mid op outcome fails → AreFailing failed (ops ++ op ∷ []) (outcomes ++ outcome ∷ []) fails
+failing_more failed [] [] mid op outcome fails are is = (fails, subst (λ (b : Bool). IsFailing b op outcome fails) are is, refl)
+failing_more failed [] (o ∷ outcomes) mid op outcome fails are is = absurd are
+failing_more failed (p ∷ ops) [] mid op outcome fails are is = absurd are
+failing_more failed (p ∷ ops) (o ∷ outcomes) mid op outcome fails are is = (are.0, are.1, failing_more are.0 ops outcomes mid op outcome fails are.2 is)
+
+-- Where an engine failed.
+
+-- a failed engine stays failed
+still_by : (op : Op) (outcome : Outcome) (fails : Bool) → IsFailing true op outcome fails → fails ≡ true
+still_by (Write acts sync) (Size answer) fails is = is.still refl
+still_by (Write acts sync) (Done answer) fails is = absurd is
+still_by (Write acts sync) (Value answer) fails is = absurd is
+still_by Sync (Size answer) fails is = absurd is
+still_by Sync (Done answer) fails is = is.0.still refl
+still_by Sync (Value answer) fails is = absurd is
+still_by (Get group key) (Size answer) fails is = absurd is
+still_by (Get group key) (Done answer) fails is = absurd is
+still_by (Get group key) (Value answer) fails is = is.0.still refl
+
+still_failing : (ops : List Op) (outcomes : List Outcome) (fails : Bool) → AreFailing true ops outcomes fails → fails ≡ true
+still_failing [] [] fails are = are
+still_failing [] (o ∷ outcomes) fails are = absurd are
+still_failing (p ∷ ops) [] fails are = absurd are
+still_failing (p ∷ ops) (o ∷ outcomes) fails (next, first, are) = still_failing ops outcomes fails (subst (λ (b : Bool). AreFailing b ops outcomes fails) (still_by p o next first) are)
+
+fails_at_here : (ops : List Op) (outcomes : List Outcome) (op : Op) (outcome : Outcome) → AreFailing false ops outcomes false → IsFailing false op outcome true → FailsAt (length ops) (ops ++ op ∷ []) (outcomes ++ outcome ∷ [])
+fails_at_here [] [] op outcome are is = (is, refl)
+fails_at_here [] (o ∷ outcomes) op outcome are is = absurd are
+fails_at_here (p ∷ ops) [] op outcome are is = absurd are
+fails_at_here (p ∷ ops) (o ∷ outcomes) op outcome (false, first, are) is = (first, fails_at_here ops outcomes op outcome are is)
+fails_at_here (p ∷ ops) (o ∷ outcomes) op outcome (true, first, are) is = absurd (let clash = still_failing ops outcomes false are in cc)
+
+fails_at_more : (place : ℕ) (ops : List Op) (outcomes : List Outcome) (op : Op) (outcome : Outcome) → FailsAt place ops outcomes → IsFailing true op outcome true → FailsAt place (ops ++ op ∷ []) (outcomes ++ outcome ∷ [])
+fails_at_more zero [] outcomes op outcome at is = absurd at
+fails_at_more (suc place) [] outcomes op outcome at is = absurd at
+fails_at_more zero (p ∷ ops) [] op outcome at is = absurd at
+fails_at_more (suc place) (p ∷ ops) [] op outcome at is = absurd at
+fails_at_more zero (p ∷ ops) (o ∷ outcomes) op outcome at is = (at.0, failing_more true ops outcomes true op outcome true at.1 is)
+fails_at_more (suc place) (p ∷ ops) (o ∷ outcomes) op outcome at is = (at.0, fails_at_more place ops outcomes op outcome at.1 is)
+
+fails_at_failing : (place : ℕ) (ops : List Op) (outcomes : List Outcome) → FailsAt place ops outcomes → AreFailing false ops outcomes true
+fails_at_failing zero [] outcomes at = absurd at
+fails_at_failing (suc place) [] outcomes at = absurd at
+fails_at_failing zero (p ∷ ops) [] at = absurd at
+fails_at_failing (suc place) (p ∷ ops) [] at = absurd at
+fails_at_failing zero (p ∷ ops) (o ∷ outcomes) at = (true, at.0, at.1)
+fails_at_failing (suc place) (p ∷ ops) (o ∷ outcomes) at = (false, at.0, fails_at_failing place ops outcomes at.1)
+
+-- where the engine failed once the operation at a place is done
+pub record IsNextPlace (failed fails : Bool) (place : ℕ) (before next : Option ℕ) : Type 0 where
+  pub falls : failed ≡ false → fails ≡ true → next ≡ Some place
+  pub rests : fails ≡ failed → next ≡ before
+
+module _ (ops : List Op) (outcomes : List Outcome) (op : Op) (outcome : Outcome) where
+  -- the engine is as it was before the operation
+  place_kept : (had failed : Bool) (failed_at : Option ℕ) → failed ≡ (had || is_some failed_at) → IsFailurePlace had ops outcomes failed_at → IsFailing failed op outcome failed → IsFailurePlace had (ops ++ op ∷ []) (outcomes ++ outcome ∷ []) failed_at
+  place_kept true failed None now at is = failing_more true ops outcomes true op outcome true at (subst (λ (b : Bool). IsFailing b op outcome b) now is)
+  place_kept false failed None now at is = failing_more false ops outcomes false op outcome false at (subst (λ (b : Bool). IsFailing b op outcome b) now is)
+  place_kept true failed (Some place) now at is = (at.0, fails_at_more place ops outcomes op outcome at.1 (subst (λ (b : Bool). IsFailing b op outcome b) now is))
+  place_kept false failed (Some place) now at is = (at.0, fails_at_more place ops outcomes op outcome at.1 (subst (λ (b : Bool). IsFailing b op outcome b) now is))
+
+  -- it failed in the operation
+  place_here : (had : Bool) (failed_at : Option ℕ) → false ≡ (had || is_some failed_at) → IsFailurePlace had ops outcomes failed_at → IsFailing false op outcome true → IsFailurePlace had (ops ++ op ∷ []) (outcomes ++ outcome ∷ []) (Some (length ops))
+  place_here true failed_at now at is = absurd cc
+  place_here false None now at is = (refl, fails_at_here ops outcomes op outcome at is)
+  place_here false (Some place) now at is = absurd cc
+
+  stood_before : (had : Bool) (failed_at : Option ℕ) → false ≡ (had || is_some failed_at) → had ≡ false
+  stood_before true failed_at now = absurd cc
+  stood_before false failed_at now = refl
+
+  pub place_more : (had failed fails : Bool) (failed_at next_at : Option ℕ) → failed ≡ (had || is_some failed_at) → IsFailurePlace had ops outcomes failed_at → IsFailing failed op outcome fails → IsNextPlace failed fails (length ops) failed_at next_at
+      → (fails ≡ (had || is_some next_at)) × IsFailurePlace had (ops ++ op ∷ []) (outcomes ++ outcome ∷ []) next_at
+  place_more had failed fails failed_at next_at now at is next = by_case failed fails now is next
+    where
+      kept : (b : Bool) → b ≡ (had || is_some failed_at) → IsFailing b op outcome b → next_at ≡ failed_at → (b ≡ (had || is_some next_at)) × IsFailurePlace had (ops ++ op ∷ []) (outcomes ++ outcome ∷ []) next_at
+      kept b now is same = subst (λ (o : Option ℕ). (b ≡ (had || is_some o)) × IsFailurePlace had (ops ++ op ∷ []) (outcomes ++ outcome ∷ []) o) (sym same) (now, place_kept had b failed_at now at is)
+
+      by_case : (b c : Bool) → b ≡ (had || is_some failed_at) → IsFailing b op outcome c → IsNextPlace b c (length ops) failed_at next_at → (c ≡ (had || is_some next_at)) × IsFailurePlace had (ops ++ op ∷ []) (outcomes ++ outcome ∷ []) next_at
+      by_case true true now is next = kept true now is (next.rests refl)
+      by_case false false now is next = kept false now is (next.rests refl)
+      by_case true false now is next = absurd (let clash = still_by op outcome false is in cc)
+      by_case false true now is next =
+          subst (λ (o : Option ℕ). (true ≡ (had || is_some o)) × IsFailurePlace had (ops ++ op ∷ []) (outcomes ++ outcome ∷ []) o) (sym (next.falls refl refl))
+          (ap (λ (b : Bool). b || true) (sym (stood_before had failed_at now)), place_here had failed_at now at is)
+
+-- before the first operation
+pub stands_so_far : (had : Bool) → had ≡ (had || false)
+stands_so_far true = refl
+stands_so_far false = refl
+
+-- the failures of operations with such a place
+pub place_failing : (had failed : Bool) (ops : List Op) (outcomes : List Outcome) (failed_at : Option ℕ) → failed ≡ (had || is_some failed_at) → IsFailurePlace had ops outcomes failed_at → AreFailing had ops outcomes failed
+place_failing true failed ops outcomes None now at = subst (AreFailing true ops outcomes) (sym now) at
+place_failing false failed ops outcomes None now at = subst (AreFailing false ops outcomes) (sym now) at
+place_failing true failed ops outcomes (Some place) now at = absurd (let clash = at.0 in cc)
+place_failing false failed ops outcomes (Some place) now at = subst (AreFailing false ops outcomes) (sym now) (fails_at_failing place ops outcomes at.1)
+
+-- Storage's refusals.
+
+-- one outcome more
+pub rose_more : (outcomes : List Outcome) (outcome : Outcome) (old mid new : ℕ) → RoseBy (io_count outcomes) old mid → (is_refused_by_storage outcome ≡ true → Rose mid new) → mid ≤ new → RoseBy (io_count (outcomes ++ outcome ∷ [])) old new
+rose_more outcomes outcome old mid new so_far rose counts =
+    subst (λ (n : ℕ). RoseBy n old new) (sym (sum_by-append _ outcomes (outcome ∷ []))) (by_case (is_refused_by_storage outcome) rose)
+  where
+    by_case : (b : Bool) → (b ≡ true → Rose mid new) → RoseBy (io_count outcomes + (0 + cond b 1 0)) old new
+    by_case true rose = let one = rose refl in omega (arith, so_far, one)
+    by_case false rose = omega (arith, so_far, counts)

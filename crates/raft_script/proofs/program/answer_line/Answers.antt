@@ -1,0 +1,15 @@
+use denote.Param.Send.{sendable}
+use Rattle.raft_env.proofs.Sent.{memory_send, memory_sync}
+use Rattle.raft_script.proofs.program.answer_line.Goals as goal
+
+pub reopen-requires-send-F : goal.reopen-requires-send-F
+reopen-requires-send-F c = λ κs. search (sendable, memory_send) depth 20
+
+pub reopen-requires-sync-F : goal.reopen-requires-sync-F
+reopen-requires-sync-F c = λ κs. search (sendable, memory_sync) depth 20
+
+pub answer_opened-requires-send-F : goal.answer_opened-requires-send-F
+answer_opened-requires-send-F c = λ κs. search (sendable, memory_send) depth 20
+
+pub answer_opened-requires-sync-F : goal.answer_opened-requires-sync-F
+answer_opened-requires-sync-F c = λ κs. search (sendable, memory_sync) depth 20

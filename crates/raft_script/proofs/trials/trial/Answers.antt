@@ -1,0 +1,55 @@
+use denote.Param.Send.{sendable}
+use Rattle.std.proofs.Common.{◌⊎◌, [], ap, sym, subst}
+use Rattle.raft_records.specs.Contents.{Contents}
+use Rattle.raft_env.proofs.Sent.{memory_send, memory_sync}
+use Rattle.std.proofs.lemmas.Result.{err_from_is_err_and}
+use Rattle.std.specs.String.{string_bytes}
+use Rattle.raft_env.specs.Memory.{memory_directory}
+use Rattle.raft_env.specs.Choice.{left_by}
+use Rattle.raft_log_engine.specs.Crash.{KeepsContents}
+use Rattle.raft_script.specs.Durability.{LeavesAllowedBehind}
+use Rattle.raft_script.specs.Trial.{AreAnswered, AreNotAsked}
+use Rattle.raft_log_engine.specs.declared.config.Config.{Config}
+use Rattle.raft_script.proofs.TrialLemmas.{choices_refused, image_restarted, nothing_kept, opened_log, opened_outside}
+use Rattle.raft_script.proofs.RunLemmas.{contents_at-no_files}
+use Rattle.raft_script.proofs.trials.trial.Goals as goal
+
+pub run_over-requires-send-F : goal.run_over-requires-send-F
+run_over-requires-send-F c = λ κs. search (sendable, memory_send) depth 20
+
+pub run_over-requires-sync-F : goal.run_over-requires-sync-F
+run_over-requires-sync-F c = λ κs. search (sendable, memory_sync) depth 20
+
+pub open_image-requires-send-F : goal.open_image-requires-send-F
+open_image-requires-send-F c = λ κs. search (sendable, memory_send) depth 20
+
+pub open_image-requires-sync-F : goal.open_image-requires-sync-F
+open_image-requires-sync-F c = λ κs. search (sendable, memory_sync) depth 20
+
+pub returns-clause-crashed : goal.returns-clause-crashed
+returns-clause-crashed c =
+    let dir = string_bytes c.args.config.dir in
+    let before = memory_directory c.new_files.result in
+    let files = memory_directory c.in_ok-ran.files in
+    let left = left_by c.args.choices.now files in
+    let empty = contents_at-no_files dir before c.new_files.ensures.files in
+    let kept = subst (λ (m : Contents). KeepsContents dir m [] before) (sym empty) (nothing_kept dir before c.new_files.ensures.files) in
+    let ran = c.in_ok-ran.ran in
+    let leaves = c.in_ok-left.ensures.value in
+    let behind = subst (λ (m : Contents). LeavesAllowedBehind ran.failed_at dir m [] c.args.ops.now ran.outcomes.items files) empty (c.in_ok-ran.ensures.behind kept) in
+    record {
+      files = files;
+      answered = subst (λ (m : Contents). AreAnswered m c.args.ops.now ran.outcomes.items ran.failed_at ⊎ AreNotAsked dir m files ran.outcomes.items ran.failed_at) empty (c.in_ok-ran.ensures.answered kept);
+      left = leaves;
+      behind = behind;
+      found = image_restarted (string_bytes c.in_ok-again.again.dir) dir files (memory_directory c.in_ok-left.left) left c.open_image.result c.in_ok-again.ensures.value.dir c.in_ok-left.ensures.ok c.open_image.ensures.value;
+      refused = opened_outside c.args.config.recovery_mode c.in_ok-again.again.recovery_mode dir (string_bytes c.in_ok-again.again.dir) files (memory_directory c.in_ok-left.left) left c.open_image.result (ap (λ (x : Config). x.recovery_mode) c.in_ok-again.ensures.value.others)
+          c.in_ok-again.ensures.value.dir c.in_ok-left.ensures.ok leaves (λ detectable. (behind left leaves detectable).1) c.open_image.ensures.refused;
+      cause = opened_log c.args.config.recovery_mode c.in_ok-again.again.recovery_mode dir (string_bytes c.in_ok-again.again.dir) files (memory_directory c.in_ok-left.left) left c.open_image.result (ap (λ (x : Config). x.recovery_mode) c.in_ok-again.ensures.value.others)
+          c.in_ok-again.ensures.value.dir c.in_ok-left.ensures.ok (c.in_ok-ran.ensures.no_file kept) c.open_image.ensures.cause;
+    }
+
+pub returns-in_err-left-clause-cause : goal.returns-in_err-left-clause-cause
+returns-in_err-left-clause-cause c =
+    let p = err_from_is_err_and c.from_residual-in_err-left.result c.from_residual-in_err-left.ensures.1 in
+    rw (p.1, p.2) (choices_refused (memory_directory c.in_ok-ran.files) c.args.choices.now c.in_err-left.field-0.0 c.in_err-left.ensures.consistent c.in_err-left.ensures.refused)

@@ -1,0 +1,4 @@
+pub mod Run
+pub mod Durability
+pub mod Trial
+pub mod Line

@@ -1,0 +1,136 @@
+-- The lines that the program reads, and what each asks for.
+use Rattle.std.specs.Prelude.{◌≡◌, ℕ, ◌+◌, ◌^◌, ◌==◌, ◌&&◌, not, nat_lt, Bool, true, false, List, [], ◌∷◌, length, codes, Option, Some, None, is_none, option_and_then, option_map, if◌then◌else◌}
+use Rattle.std.specs.List.{list_all, onto_first, position, slice_split}
+use Rattle.std.specs.Char.{is_ascii_graphic}
+use Rattle.std.specs.Str.{all_ascii_digits, bytes_eq}
+use Rattle.std.specs.Str.Parse.{digits_value}
+use Rattle.raft_script.specs.declared.program.Ended.{Ended}
+use Rattle.raft_script.specs.declared.program.Ended.TheVariants as ended
+use Rattle.raft_script.specs.declared.line.Left.{Left}
+use Rattle.raft_script.specs.declared.line.Left.TheVariants as left
+use Rattle.raft_script.specs.declared.line.Line.{Line}
+use Rattle.raft_script.specs.declared.line.Line.TheVariants as line
+
+-- what a line asks for
+pub data Asked : Type 0 where
+  Nothing : Asked
+  Put : (group : ℕ) (key : List ℕ) (value : List ℕ) (sync : Bool) → Asked
+  Delete : (group : ℕ) (key : List ℕ) (sync : Bool) → Asked
+  Get : (group : ℕ) (key : List ℕ) → Asked
+  Sync : Asked
+  Reopen : Asked
+  Crash : (left : Left) → Asked
+
+-- a word is of printable characters
+abbrev pub is_word : List ℕ → Bool
+is_word word = not (length word == 0) && list_all is_ascii_graphic word
+
+-- the words of a text, with one space between two
+abbrev pub words_in : List ℕ → Option (List (List ℕ))
+words_in [] = Some []
+words_in (c ∷ cs) =
+    let parts = slice_split (λ b. b == 32) (c ∷ cs) in
+    if list_all is_word parts then Some parts else None
+
+-- a word of decimal digits, below 2^64
+abbrev pub number_in : List ℕ → Option ℕ
+number_in word = if all_ascii_digits word && nat_lt (digits_value 10 word) (2 ^ 64) then Some (digits_value 10 word) else None
+
+-- this, where no word follows
+abbrev pub alone : {T : Type 0} → T → List (List ℕ) → Option T
+alone x [] = Some x
+alone x (word ∷ words) = None
+
+-- [sync]
+abbrev pub sync_by : List (List ℕ) → Option Bool
+sync_by [] = Some false
+sync_by (word ∷ words) = if bytes_eq word (codes "sync") then alone true words else None
+
+-- put G K V [sync]
+abbrev pub put_by : List (List ℕ) → Option Asked
+put_by (group ∷ key ∷ value ∷ words) = option_and_then (λ g. option_map (λ sync. Put g key value sync) (sync_by words)) (number_in group)
+put_by _ = None
+
+-- del G K [sync]
+abbrev pub delete_by : List (List ℕ) → Option Asked
+delete_by (group ∷ key ∷ words) = option_and_then (λ g. option_map (λ sync. Delete g key sync) (sync_by words)) (number_in group)
+delete_by _ = None
+
+-- get G K
+abbrev pub get_by : List (List ℕ) → Option Asked
+get_by (group ∷ key ∷ words) = option_and_then (λ g. alone (Get g key) words) (number_in group)
+get_by _ = None
+
+-- torn KEPT FILL, where FILL is a byte
+abbrev pub torn_by : List (List ℕ) → Option Left
+torn_by (kept ∷ fill ∷ words) =
+    option_and_then (λ k. option_and_then (λ f. if nat_lt f 256 then alone (left.Torn k f) words else None) (number_in fill)) (number_in kept)
+torn_by _ = None
+
+-- all, synced, torn KEPT FILL
+abbrev pub left_by : List (List ℕ) → Option Left
+left_by [] = None
+left_by (word ∷ words) =
+    if bytes_eq word (codes "all") then alone left.All words
+    else if bytes_eq word (codes "synced") then alone left.Synced words
+    else if bytes_eq word (codes "torn") then torn_by words
+    else None
+
+-- what words ask for, by the first of them
+abbrev pub asked_by : List (List ℕ) → Option Asked
+asked_by [] = None
+asked_by (verb ∷ words) =
+    if bytes_eq verb (codes "put") then put_by words
+    else if bytes_eq verb (codes "del") then delete_by words
+    else if bytes_eq verb (codes "get") then get_by words
+    else if bytes_eq verb (codes "sync") then alone Sync words
+    else if bytes_eq verb (codes "reopen") then alone Reopen words
+    else if bytes_eq verb (codes "crash") then option_map Crash (left_by words)
+    else None
+
+-- what a line asks for: nothing where it is empty or begins with #
+abbrev pub asked_in : List ℕ → Option Asked
+asked_in [] = Some Nothing
+asked_in (c ∷ cs) = if c == 35 then Some Nothing else option_and_then asked_by (words_in (c ∷ cs))
+
+-- the same of a line that was parsed
+abbrev pub asked_of : Line → Asked
+asked_of line.Nothing = Nothing
+asked_of (line.Put group key value sync) = Put group key.now value.now sync
+asked_of (line.Delete group key sync) = Delete group key.now sync
+asked_of (line.Get group key) = Get group key.now
+asked_of line.Sync = Sync
+asked_of line.Reopen = Reopen
+asked_of (line.Crash left) = Crash left
+
+-- no word begins the text
+abbrev pub HasNoWord : List ℕ → Type 0
+HasNoWord text = (word : List ℕ) (words : List (List ℕ)) → words_in text ≡ Some (word ∷ words) → ⊥
+
+-- the text begins with this word, and has the other's words behind it
+abbrev pub BeginsWith : List ℕ → List ℕ → List ℕ → Type 0
+BeginsWith text word rest = words_in text ≡ option_map (λ words. word ∷ words) (words_in rest)
+
+-- the lines of a text, each without its newline
+abbrev pub lines_in : List ℕ → List (List ℕ)
+lines_in [] = []
+lines_in (c ∷ cs) = if c == 10 then [] ∷ lines_in cs else onto_first c (lines_in cs)
+
+-- the line asks for nothing that the program knows
+abbrev pub is_bad : List ℕ → Bool
+is_bad line = is_none (asked_in line)
+
+-- the number of the first bad line, counted from 1
+abbrev pub first_bad_line : List ℕ → Option ℕ
+first_bad_line text = option_map (λ before. before + 1) (position is_bad (lines_in text))
+
+-- what is known of a text where the program ended so on it
+abbrev pub EndsOn : List ℕ → Ended → Type 0
+EndsOn text ended.Done = first_bad_line text ≡ None
+EndsOn text (ended.BadLine number) = first_bad_line text ≡ Some number
+EndsOn text _ = Unit {0}
+
+-- a line was found, and these bytes are left behind it; or there was none
+abbrev pub IsNextLine : Bool → List ℕ → List ℕ → Option (List ℕ) → Type 0
+IsNextLine true text line left = (rest : List ℕ) × (left ≡ Some rest) × (lines_in text ≡ line ∷ lines_in rest)
+IsNextLine false text line left = text ≡ []

@@ -1,0 +1,51 @@
+-- What a trial shows.
+use Rattle.std.specs.Prelude.{◌≡◌, ◌⊎◌, ℕ, false, List, [], Option, None, IfOk, IfErr}
+use Rattle.raft_records.specs.Contents.{Contents, no_contents}
+use Rattle.raft_records.specs.declared.errors.Fault.{Fault}
+use Rattle.raft_env.specs.Choice.{left_by}
+use Rattle.raft_files.specs.Detectable.{IsDetectable}
+use Rattle.raft_env.specs.Directory.{Directory, HasFile, Leaves, Path}
+use Rattle.raft_files.specs.Records.{left_bytes}
+use Rattle.raft_env.specs.declared.crash.Choice.{Choice}
+use Rattle.raft_log_engine.specs.Crash.{KeepsContents, found_after}
+use Rattle.raft_log_engine.specs.Image.{IsImageOf}
+use Rattle.raft_script.specs.Durability.{LeavesAllowedBehind}
+use Rattle.raft_log_engine.specs.Log.{first_file, log_path}
+use Rattle.raft_log_engine.specs.Open.{IsDamage}
+use Rattle.raft_script.specs.Run.{AreAnswers, IsFailurePlace, IsOutside}
+use Rattle.raft_log_engine.specs.declared.config.RecoveryMode.{RecoveryMode}
+use Rattle.raft_log_engine.specs.declared.config.RecoveryMode.TheVariants.{AbsoluteConsistency}
+use Rattle.raft_script.specs.declared.operation.Op.{Op}
+use Rattle.raft_script.specs.declared.operation.Outcome.{Outcome}
+use Rattle.raft_script.specs.declared.operation.Trial.{Trial}
+
+-- the operations were answered by an engine that stood before them
+pub record AreAnswered (m : Contents) (ops : List Op) (outcomes : List Outcome) (failed_at : Option ℕ) : Type 0 where
+  pub answers : AreAnswers m ops outcomes
+  pub place : IsFailurePlace false ops outcomes failed_at
+
+-- the opening was refused, and no operation was done; the files keep what they kept
+pub record AreNotAsked (folder : Path) (m : Contents) (files : Directory) (outcomes : List Outcome) (failed_at : Option ℕ) : Type 0 where
+  pub none : outcomes ≡ []
+  pub stands : failed_at ≡ None
+  pub files_keep : KeepsContents folder m [] files
+
+-- an opening is refused by storage, for want of memory, or for the bytes of a log that stands at the path
+abbrev pub IsLogRefusal : RecoveryMode → Path → Directory → List ℕ → Fault → Type 0
+IsLogRefusal mode path files bytes e = IsOutside e ⊎ (HasFile files path × IsDamage mode bytes e)
+
+-- operations over files that were empty, then a crash by these choices, then an opening in this mode
+pub record IsTrialOf (mode : RecoveryMode) (folder : Path) (ops : List Op) (choices : List Choice) (t : Trial) : Type 0 where
+  -- the files as the operations left them
+  pub files : Directory
+  pub answered : AreAnswered no_contents ops t.outcomes.items t.failed_at ⊎ AreNotAsked folder no_contents files t.outcomes.items t.failed_at
+  -- storage may leave of them what the choices say
+  pub left : Leaves files (left_by choices files)
+  -- a crash leaves of them a beginning of what was accepted, and of what the operation had in flight in which the engine failed
+  pub behind : LeavesAllowedBehind t.failed_at folder no_contents [] ops t.outcomes.items files
+  -- the opening found what the choices leave
+  pub found : IfOk t.opened (λ image. IsImageOf image.groups.items (found_after folder files (left_by choices files)))
+  -- a tolerant one is not refused for what they leave, where its damage can be told
+  pub refused : IsDetectable (log_path folder) first_file files (left_by choices files) → (mode ≡ AbsoluteConsistency → ⊥) → IfErr t.opened IsOutside
+  -- in any mode and of any damage it is refused by storage, for want of memory, or for what is left of the log
+  pub cause : IfErr t.opened (IsLogRefusal mode (log_path folder) files (left_bytes (log_path folder) files (left_by choices files)))

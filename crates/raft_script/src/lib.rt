@@ -1,0 +1,13 @@
+//! Operations on an engine as a list, crashes among them, and the program `raftlog` over any reader and writer.
+#![tactic(auto)]
+
+mod line;
+mod operation;
+mod program;
+mod runs;
+mod trials;
+
+pub use operation::{Act, Op, Outcome, Trial};
+pub use program::{Ended, serve};
+pub use runs::run;
+pub use trials::trial;

@@ -1,0 +1,213 @@
+//! A line of the program's input.
+ghost use Rattle.std.specs.Prelude.{◌≡◌, ◌⊎◌, ◌==◌, ◌≤◌, List, ℕ, length, None, Some, [], ◌∷◌, MatchOption, option_map, option_and_then};
+ghost use Rattle.std.specs.List.{position_or_len};
+ghost use Rattle.raft_script.specs.Line.{Crash, BeginsWith, HasNoWord, alone, asked_by, asked_in, asked_of, delete_by, get_by, is_word, left_by, number_in, put_by, sync_by, torn_by, words_in};
+
+/// What a line asks for.
+#[derive(Debug, PartialEq, Eq, Drop)]
+pub(crate) enum Line<'a> {
+    /// An empty line or a comment.
+    Nothing,
+    Put {
+        group: u64,
+        key: &'a [u8],
+        value: &'a [u8],
+        sync: bool,
+    },
+    Delete {
+        group: u64,
+        key: &'a [u8],
+        sync: bool,
+    },
+    Get {
+        group: u64,
+        key: &'a [u8],
+    },
+    Sync,
+    Reopen,
+    Crash(Left),
+}
+
+/// What a crash leaves of each file.
+#[derive(Clone, Copy, Debug, PartialEq, Eq)]
+pub(crate) enum Left {
+    All,
+    Synced,
+    /// The bytes now, but of the places that were touched since the last sync only so many, the first ones, hold them;
+    /// the others hold the byte.
+    Torn(u64, u8),
+}
+
+/// `None` for a line that asks for nothing the program knows.
+pub(crate) fn parse_line(text: &[u8]) -> Option<Line<'_>>
+    ensures value { option_map asked_of result ≡ asked_in text.now }
+{
+    if text.is_empty() || text[0] == b'#' {
+        return Some(Line::Nothing);
+    }
+    let (verb, rest) = split_word(text)?;
+    parse_asked(verb, rest)
+}
+
+fn parse_asked<'a>(verb: &[u8], rest: &'a [u8]) -> Option<Line<'a>>
+    ensures value { option_map asked_of result ≡ option_and_then (λ words. asked_by (verb.now ∷ words)) (words_in rest.now) }
+{
+    if verb == b"put".as_slice() {
+        parse_put(rest)
+    } else if verb == b"del".as_slice() {
+        parse_delete(rest)
+    } else if verb == b"get".as_slice() {
+        parse_get(rest)
+    } else if verb == b"sync".as_slice() {
+        ends(rest)?;
+        Some(Line::Sync)
+    } else if verb == b"reopen".as_slice() {
+        ends(rest)?;
+        Some(Line::Reopen)
+    } else if verb == b"crash".as_slice() {
+        Some(Line::Crash(parse_left(rest)?))
+    } else {
+        None
+    }
+}
+
+fn parse_left(rest: &[u8]) -> Option<Left>
+    ensures value { result ≡ option_and_then left_by (words_in rest.now) }
+{
+    let (word, rest) = split_word(rest)?;
+    if word == b"all".as_slice() {
+        ends(rest)?;
+        Some(Left::All)
+    } else if word == b"synced".as_slice() {
+        ends(rest)?;
+        Some(Left::Synced)
+    } else if word == b"torn".as_slice() {
+        parse_torn(rest)
+    } else {
+        None
+    }
+}
+
+fn parse_torn(rest: &[u8]) -> Option<Left>
+    ensures value { result ≡ option_and_then torn_by (words_in rest.now) }
+{
+    let (kept, rest) = parse_number(rest)?;
+    let (fill, rest) = parse_number(rest)?;
+    ends(rest)?;
+    Some(Left::Torn(kept, u8::try_from(fill).ok()?))
+}
+
+fn parse_get(rest: &[u8]) -> Option<Line<'_>>
+    ensures value { option_map asked_of result ≡ option_and_then get_by (words_in rest.now) }
+{
+    let (group, rest) = parse_number(rest)?;
+    let (key, rest) = split_word(rest)?;
+    ends(rest)?;
+    Some(Line::Get { group, key })
+}
+
+fn parse_put(rest: &[u8]) -> Option<Line<'_>>
+    ensures value { option_map asked_of result ≡ option_and_then put_by (words_in rest.now) }
+{
+    let (group, rest) = parse_number(rest)?;
+    let (key, rest) = split_word(rest)?;
+    let (value, rest) = split_word(rest)?;
+    let sync = parse_sync(rest)?;
+    Some(Line::Put {
+        group,
+        key,
+        value,
+        sync,
+    })
+}
+
+fn parse_delete(rest: &[u8]) -> Option<Line<'_>>
+    ensures value { option_map asked_of result ≡ option_and_then delete_by (words_in rest.now) }
+{
+    let (group, rest) = parse_number(rest)?;
+    let (key, rest) = split_word(rest)?;
+    let sync = parse_sync(rest)?;
+    Some(Line::Delete { group, key, sync })
+}
+
+// The first word, and what follows the space behind it: a word is of printable characters, and one space stands
+// between two words. Behind the last word nothing follows.
+fn split_word(text: &[u8]) -> Option<(&[u8], &[u8])>
+    ensures value { MatchOption result (HasNoWord text.now) (λ found. BeginsWith text.now found.0.now found.1.now) }
+{
+    let (word, rest) = text.split_at(word_len(text));
+    if !is_word(word) {
+        return None;
+    }
+    match rest {
+        [] => Some((word, rest)),
+        // A space at the end of the line would stand before an empty word.
+        [_] => None,
+        [_, rest @ ..] => Some((word, rest)),
+    }
+}
+
+// Where the first space stands, or the end.
+fn word_len(text: &[u8]) -> usize
+    ensures value { result ≡ position_or_len (λ byte. byte == 32) text.now }
+    ensures within { result ≤ length text.now }
+{
+    let mut len = 0;
+    while len < text.len() && text[len] != b' ' {
+        len += 1;
+    }
+    len
+}
+
+fn is_word(text: &[u8]) -> bool
+    ensures value { result ≡ is_word text.now }
+{
+    for byte in text {
+        if !byte.is_ascii_graphic() {
+            return false;
+        }
+    }
+    !text.is_empty()
+}
+
+fn parse_number(text: &[u8]) -> Option<(u64, &[u8])>
+    ensures value { MatchOption result ((word : List ℕ) (words : List (List ℕ)) → words_in text.now ≡ Some (word ∷ words) → number_in word ≡ None)
+        (λ found. (word : List ℕ) × (number_in word ≡ Some found.0) × BeginsWith text.now word found.1.now) }
+{
+    let (word, rest) = split_word(text)?;
+    Some((number_of(word)?, rest))
+}
+
+fn number_of(word: &[u8]) -> Option<u64>
+    ensures value { result ≡ number_in word.now }
+{
+    let mut number = 0u64;
+    for byte in word {
+        if !byte.is_ascii_digit() {
+            return None;
+        }
+        number = number
+            .checked_mul(10)?
+            .checked_add(u64::from(*byte - b'0'))?;
+    }
+    Some(number)
+}
+
+// Whether the word `sync` ends the line.
+fn parse_sync(rest: &[u8]) -> Option<bool>
+    ensures value { result ≡ option_and_then sync_by (words_in rest.now) }
+{
+    if rest.is_empty() {
+        return Some(false);
+    }
+    match split_word(rest)? {
+        (b"sync", []) => Some(true),
+        _ => None,
+    }
+}
+
+fn ends(rest: &[u8]) -> Option<()>
+    ensures value { result ≡ option_and_then (alone tt) (words_in rest.now) }
+{
+    if rest.is_empty() { Some(()) } else { None }
+}

@@ -1,0 +1,39 @@
+//! Operations on an engine, and what they are answered.
+
+use raft_log_engine::Image;
+use raft_records::Fault;
+
+/// A change of one key.
+#[derive(Debug, PartialEq, Eq, Drop)]
+pub enum Act {
+    Put(u64, Vec<u8>, Vec<u8>),
+    Delete(u64, Vec<u8>),
+}
+
+/// A call of an engine.
+#[derive(Debug, PartialEq, Eq, Drop)]
+pub enum Op {
+    /// The acts as one batch, synced where that is asked.
+    Write(Vec<Act>, bool),
+    Sync,
+    Get(u64, Vec<u8>),
+}
+
+/// What an operation was answered: a write with the length of its record.
+#[derive(Debug, PartialEq, Eq, Drop)]
+pub enum Outcome {
+    Size(Result<usize, Fault>),
+    Done(Result<(), Fault>),
+    Value(Result<Option<Vec<u8>>, Fault>),
+}
+
+/// What a trial showed.
+#[derive(Debug, PartialEq, Eq, Drop)]
+pub struct Trial {
+    /// Empty where the first opening was refused.
+    pub outcomes: Vec<Outcome>,
+    /// The place, counted from 0, of the operation in which the engine failed.
+    pub failed_at: Option<usize>,
+    /// What the opening after the crash found.
+    pub opened: Result<Image, Fault>,
+}

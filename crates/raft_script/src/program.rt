@@ -1,0 +1,300 @@
+//! The program `raftlog` over any reader and writer.
+ghost use Rattle.std.specs.Prelude.{IfOk, IfSome};
+ghost use Rattle.raft_script.specs.Line.{EndsOn, IsNextLine};
+
+use crate::line::{Left, Line, parse_line};
+use raft_env::{Choice, FileSystem, MemoryFileSystem};
+use raft_log_engine::{Config, Engine, Refused};
+use raft_records::{Fault, Fresh, LogBatch, ReadableSize};
+use std::alloc::{AllocError, Global};
+use std::io;
+use std::io::{BufRead, BufReader, BufWriter, Read, Write};
+
+/// How a run of the program ended.
+#[derive(Clone, Copy, Debug, PartialEq, Eq)]
+pub enum Ended {
+    /// The input was read to its end.
+    Done,
+    /// A line, counted from 1, asks for nothing that the program knows.
+    BadLine(u64),
+    /// The input could not be read, or memory was refused outside the engine's calls.
+    Input,
+    /// The output could not be written.
+    Output,
+    /// The engine could not be opened or closed, and the refusal was printed.
+    Opening,
+}
+
+// What a line is answered with.
+#[derive(Drop)]
+enum Answer {
+    Nothing,
+    Done,
+    Value(Option<Vec<u8>>),
+    Refused(Fault),
+    /// The engine is gone, so that the run ends.
+    Gone(Fault),
+}
+
+type MemoryEngine = Engine<MemoryFileSystem>;
+
+type Opening = Result<MemoryEngine, Refused<MemoryFileSystem>>;
+
+const FOLDER: &str = "raft";
+
+/// Reads lines, does what each asks for over files in memory, and writes the answers.
+/// docs/ARCHITECTURE.md has the lines and their answers.
+pub fn serve<R: Read + Drop, W: Write + Drop>(alloc: Global, reader: R, writer: W) -> Ended
+    ensures lines { IfSome (R.remaining reader) (λ text. EndsOn text result) }
+{
+    let Ok(mut input) = BufReader::new(alloc, reader) else {
+        return Ended::Input;
+    };
+    let Ok(mut output) = BufWriter::new(alloc, writer) else {
+        return Ended::Input;
+    };
+    let ended = serve_lines(alloc, &mut input, &mut output);
+    if output.flush().is_err() {
+        return Ended::Output;
+    }
+    ended
+}
+
+fn serve_lines<R: BufRead, W: Write>(alloc: Global, input: &mut R, output: &mut W) -> Ended
+    ensures lines { IfSome (R.Read.remaining input.old) (λ text. EndsOn text result) }
+{
+    let mut engine = None;
+    let mut text = Vec::new(alloc);
+    for number in 1..u64::MAX {
+        match read_line(input, &mut text) {
+            Ok(true) => {}
+            Ok(false) => return Ended::Done,
+            Err(_) => return Ended::Input,
+        }
+        let Some(line) = parse_line(&text) else {
+            return Ended::BadLine(number);
+        };
+        let Ok(answer) = answer_line(alloc, &mut engine, &line) else {
+            return Ended::Input;
+        };
+        if print(output, &answer).is_err() {
+            return Ended::Output;
+        }
+        if let Answer::Gone(_) = answer {
+            return Ended::Opening;
+        }
+    }
+    Ended::Input
+}
+
+// The next line without its newline, if there is one.
+fn read_line<R: BufRead>(input: &mut R, line: &mut Vec<u8>) -> io::Result<bool>
+    ensures line { IfSome (R.Read.remaining input.old) (λ text. IfOk result (λ found. IsNextLine found text line.new.items (R.Read.remaining input.new))) }
+{
+    line.clear();
+    if input.read_until(b'\n', line)? == 0 {
+        return Ok(false);
+    }
+    if line.last() == Some(&b'\n') {
+        line.pop();
+    }
+    Ok(true)
+}
+
+// The engine is opened at the first line that asks for something.
+fn answer_line(
+    alloc: Global,
+    engine: &mut Option<MemoryEngine>,
+    line: &Line<'_>,
+) -> Result<Answer, AllocError> {
+    if let Line::Nothing = line {
+        return Ok(Answer::Nothing);
+    }
+    let opened = match engine.take() {
+        Some(opened) => opened,
+        None => match open(alloc)? {
+            Ok(opened) => opened,
+            Err(refused) => return Ok(Answer::Gone(refused.fault)),
+        },
+    };
+    match line {
+        Line::Reopen => Ok(reopen(engine, opened)),
+        Line::Crash(choice) => crash(alloc, engine, opened, choice),
+        line => answer_opened(alloc, engine.insert(opened), line),
+    }
+}
+
+fn settings(alloc: Global) -> Result<Config, AllocError> {
+    let mut config = Config::fresh(alloc);
+    config.dir.push_str(FOLDER)?;
+    config.target_file_size = ReadableSize::kb(1);
+    config.purge_threshold = ReadableSize::kb(10);
+    Ok(config)
+}
+
+fn open(alloc: Global) -> Result<Opening, AllocError> {
+    let config = settings(alloc)?;
+    Ok(Engine::open_in_order(alloc, config, MemoryFileSystem::new(alloc)))
+}
+
+// The engine goes as it is, and its files as the crash leaves them are opened again.
+fn crash(
+    alloc: Global,
+    engine: &mut Option<MemoryEngine>,
+    opened: MemoryEngine,
+    left: &Left,
+) -> Result<Answer, AllocError> {
+    let config = settings(alloc)?;
+    match crashed(alloc, opened.give_up(), left) {
+        Ok(files) => Ok(open_again(alloc, engine, config, files)),
+        Err(fault) => Ok(Answer::Gone(fault)),
+    }
+}
+
+fn open_again<F: FileSystem + Drop>(
+    alloc: Global,
+    engine: &mut Option<Engine<F>>,
+    config: Config,
+    files: F,
+) -> Answer {
+    answer_opening(engine, Engine::open_in_order(alloc, config, files))
+}
+
+fn reopen<F: FileSystem + Drop>(engine: &mut Option<Engine<F>>, opened: Engine<F>) -> Answer {
+    answer_opening(engine, opened.reopen())
+}
+
+fn answer_opening<F: FileSystem + Drop>(
+    engine: &mut Option<Engine<F>>,
+    opening: Result<Engine<F>, Refused<F>>,
+) -> Answer {
+    match opening {
+        Ok(opened) => {
+            *engine = Some(opened);
+            Answer::Done
+        }
+        Err(refused) => Answer::Gone(refused.fault),
+    }
+}
+
+// What a crash leaves where it does the same to every file.
+fn crashed(
+    alloc: Global,
+    mut files: MemoryFileSystem,
+    left: &Left,
+) -> Result<MemoryFileSystem, Fault> {
+    let count = count_files(alloc, &mut files)?;
+    let mut choices = Vec::with_capacity(alloc, count)?;
+    for _ in 0..count {
+        choices.push(choice_of(left))?;
+    }
+    files.crash(&choices)
+}
+
+fn count_files<F: FileSystem>(alloc: Global, files: &mut F) -> Result<usize, Fault> {
+    match files.list(FOLDER) {
+        Ok(names) => Ok(names.len()),
+        Err(fault) => Err(fault.at(alloc, FOLDER)),
+    }
+}
+
+fn choice_of(left: &Left) -> Choice {
+    match left {
+        Left::All => Choice::All,
+        Left::Synced => Choice::Synced,
+        Left::Torn(kept, fill) => Choice::Torn(*kept as usize, *fill),
+    }
+}
+
+fn answer_opened<F: FileSystem>(
+    alloc: Global,
+    engine: &mut Engine<F>,
+    line: &Line<'_>,
+) -> Result<Answer, AllocError> {
+    match line {
+        Line::Put {
+            group,
+            key,
+            value,
+            sync,
+        } => {
+            let mut batch = LogBatch::new(alloc);
+            let put = batch.put(*group, key.to_vec(alloc)?, value.to_vec(alloc)?);
+            Ok(written(engine, put, &mut batch, *sync))
+        }
+        Line::Delete { group, key, sync } => {
+            let mut batch = LogBatch::new(alloc);
+            let deleted = batch.delete(*group, key.to_vec(alloc)?);
+            Ok(written(engine, deleted, &mut batch, *sync))
+        }
+        Line::Get { group, key } => Ok(match engine.get(*group, key) {
+            Ok(value) => Answer::Value(value),
+            Err(fault) => Answer::Refused(fault),
+        }),
+        Line::Sync => Ok(done(engine.sync())),
+        Line::Nothing | Line::Reopen | Line::Crash(_) => Ok(Answer::Nothing),
+    }
+}
+
+// A batch whose building was refused is not written.
+fn written<F: FileSystem>(
+    engine: &mut Engine<F>,
+    built: Result<(), Fault>,
+    batch: &mut LogBatch,
+    sync: bool,
+) -> Answer {
+    if let Err(fault) = built {
+        return Answer::Refused(fault);
+    }
+    match engine.write(batch, sync) {
+        Ok(_) => Answer::Done,
+        Err(fault) => Answer::Refused(fault),
+    }
+}
+
+fn done(outcome: Result<(), Fault>) -> Answer {
+    match outcome {
+        Ok(()) => Answer::Done,
+        Err(fault) => Answer::Refused(fault),
+    }
+}
+
+fn print<W: Write>(output: &mut W, answer: &Answer) -> io::Result<()> {
+    match answer {
+        Answer::Nothing => Ok(()),
+        Answer::Done => output.write_all(b"ok\n"),
+        Answer::Value(None) => output.write_all(b"none\n"),
+        Answer::Value(Some(value)) => {
+            output.write_all(b"value ")?;
+            output.write_all(value)?;
+            output.write_all(b"\n")
+        }
+        Answer::Refused(fault) | Answer::Gone(fault) => {
+            let code = fault.code();
+            let name = fault_name(fault);
+            writeln!(output, "refused {code} {name}")
+        }
+    }
+}
+
+fn fault_name(fault: &Fault) -> &'static str {
+    match fault {
+        Fault::InvalidArgument(_) => "invalid-argument",
+        Fault::Corruption => "corruption",
+        Fault::Io(_, _) => "io",
+        Fault::TryAgain => "try-again",
+        Fault::Gap => "gap",
+        Fault::Range => "range",
+        Fault::EntryCompacted => "entry-compacted",
+        Fault::EntryNotFound => "entry-not-found",
+        Fault::WrongIndex => "wrong-index",
+        Fault::Parse => "parse",
+        Fault::Failed => "failed",
+        Fault::Memory => "memory",
+        Fault::Lz4 => "lz4",
+        Fault::FileOutOfRange => "file-out-of-range",
+        Fault::NotRecovered => "not-recovered",
+        Fault::TrailFull => "trail-full",
+        Fault::Layer => "layer",
+    }
+}

@@ -1,0 +1,164 @@
+//! Operations one after the other, each with its outcome.
+ghost use Rattle.std.specs.Prelude.{All, ◌≡◌, ◌⊎◌, ◌||◌, ◌≤◌, ◌++◌, [], ◌∷◌, true, false, Some, None, is_some, IfOk, IfErr, OnOk, OnErr, MatchResult};
+ghost use Rattle.raft_records.specs.Contents.{Contents, after_batches};
+ghost use Rattle.raft_records.specs.Fault.{fault_code};
+ghost use Rattle.raft_records.specs.Item.{Item};
+ghost use Rattle.raft_env.specs.Moments.{Passes};
+ghost use Rattle.raft_env.specs.Refusal.{Rose};
+ghost use Rattle.raft_log_engine.specs.Crash.{LeavesAllowed};
+ghost use Rattle.raft_script.specs.Durability.{AtFailure, IsDurableBehind, IsMomentOf, LeavesAllowedBehind, Progresses, durability_of};
+ghost use Rattle.raft_log_engine.specs.Engine.{contents_of, directory_of, durable_of, folder_of, has_failed, moments_of, refusals_of, unsynced_of};
+ghost use Rattle.raft_script.specs.Run.{accepted, accepted_of, AreAnswers, AreFailing, FailsBy, IsFailing, IsFailurePlace, IsUnasked, IsUnbuilt, RoseBy, batch_of_acts, covers, in_flight, io_count, is_covering, is_io, is_refused_by_storage, IsAnswer, IsWriteRefusal, IsWritten, item_of_act, with_items, written};
+
+use crate::operation::{Act, Op, Outcome};
+use raft_env::FileSystem;
+use raft_log_engine::Engine;
+use raft_records::{Fault, LogBatch};
+use std::alloc::Global;
+
+/// Outcomes, and the place of the operation in which the engine failed.
+#[derive(Drop)]
+pub(crate) struct Ran {
+    pub outcomes: Vec<Outcome>,
+    pub failed_at: Option<usize>,
+}
+
+/// Does the operations in order, each with its outcome. Where there is no memory for the list of outcomes, the engine
+/// is not asked. A crash at any moment leaves, where its damage can be told, a beginning of the accepted writes, perhaps
+/// with the batch of the operation in which it came, and all that a sync made sure of by then. Behind the operations the
+/// first of the accepted batches are durable, all that is covered among them, and the others stand unsynced. At
+/// least as many calls as answer `Io` were refused by storage. Where all operations are gets and writes of acts without
+/// a batch, the engine stays as it was.
+pub fn run<F: FileSystem>(
+    alloc: Global,
+    engine: &mut Engine<F>,
+    ops: &[Op],
+) -> Result<Vec<Outcome>, Fault>
+    ensures answers { IfOk result (λ outcomes. AreAnswers (contents_of engine.old) ops.now outcomes.items) }
+    ensures failures { IfOk result (λ outcomes. AreFailing (has_failed engine.old) ops.now outcomes.items (has_failed engine.new)) }
+    ensures counted { IfOk result (λ outcomes. RoseBy (io_count outcomes.items) (refusals_of engine.old) (refusals_of engine.new)) }
+    ensures contents { IfOk result (λ outcomes. has_failed engine.new ≡ false
+        → contents_of engine.new ≡ after_batches (contents_of engine.old) (accepted ops.now outcomes.items)) }
+    ensures any_moment { IfOk result (λ outcomes. Passes (moments_of engine.old) (moments_of engine.new) (directory_of engine.new)
+        (IsMomentOf (folder_of engine.old) (durable_of engine.old) (unsynced_of engine.old) ops.now outcomes.items)) }
+    ensures now { IfOk result (λ outcomes. AtFailure (has_failed engine.old) (has_failed engine.new) ops.now outcomes.items
+        (λ failed_at. LeavesAllowedBehind failed_at (folder_of engine.old) (durable_of engine.old) (unsynced_of engine.old) ops.now outcomes.items (directory_of engine.new))) }
+    ensures progress { IfOk result (λ outcomes. AtFailure (has_failed engine.old) (has_failed engine.new) ops.now outcomes.items
+        (λ failed_at. IsDurableBehind failed_at (durable_of engine.old) (unsynced_of engine.old) ops.now outcomes.items (durable_of engine.new) (unsynced_of engine.new))) }
+    ensures left { LeavesAllowed (folder_of engine.new) (durable_of engine.new) (unsynced_of engine.new) (directory_of engine.new) }
+    ensures unasked { All IsUnasked ops.now → engine.new ≡ engine.old }
+    ensures still { has_failed engine.old ≡ true → has_failed engine.new ≡ true }
+    ensures folder { folder_of engine.new ≡ folder_of engine.old }
+    ensures err { OnErr result (engine.new ≡ engine.old) }
+    ensures cause { IfErr result (λ e. e ≡ Fault.Memory) }
+{
+    Ok(run_watched(alloc, engine, ops)?.outcomes)
+}
+
+/// The same, with the place of the operation in which the engine failed.
+pub(crate) fn run_watched<F: FileSystem>(
+    alloc: Global,
+    engine: &mut Engine<F>,
+    ops: &[Op],
+) -> Result<Ran, Fault>
+    ensures answers { IfOk result (λ ran. AreAnswers (contents_of engine.old) ops.now ran.outcomes.items) }
+    ensures failures { IfOk result (λ ran. AreFailing (has_failed engine.old) ops.now ran.outcomes.items (has_failed engine.new)) }
+    ensures counted { IfOk result (λ ran. RoseBy (io_count ran.outcomes.items) (refusals_of engine.old) (refusals_of engine.new)) }
+    ensures contents { IfOk result (λ ran. has_failed engine.new ≡ false
+        → contents_of engine.new ≡ after_batches (contents_of engine.old) (accepted ops.now ran.outcomes.items)) }
+    ensures still { has_failed engine.old ≡ true → has_failed engine.new ≡ true }
+    ensures any_moment { IfOk result (λ ran. Passes (moments_of engine.old) (moments_of engine.new) (directory_of engine.new)
+        (IsMomentOf (folder_of engine.old) (durable_of engine.old) (unsynced_of engine.old) ops.now ran.outcomes.items)) }
+    ensures now { IfOk result (λ ran. LeavesAllowedBehind ran.failed_at (folder_of engine.old) (durable_of engine.old) (unsynced_of engine.old) ops.now ran.outcomes.items (directory_of engine.new)) }
+    ensures progress { IfOk result (λ ran. IsDurableBehind ran.failed_at (durable_of engine.old) (unsynced_of engine.old) ops.now ran.outcomes.items (durable_of engine.new) (unsynced_of engine.new)) }
+    ensures left { LeavesAllowed (folder_of engine.new) (durable_of engine.new) (unsynced_of engine.new) (directory_of engine.new) }
+    ensures unasked { All IsUnasked ops.now → engine.new ≡ engine.old }
+    ensures place { IfOk result (λ ran. IsFailurePlace (has_failed engine.old) ops.now ran.outcomes.items ran.failed_at) }
+    ensures failed { IfOk result (λ ran. has_failed engine.new ≡ (has_failed engine.old || is_some ran.failed_at)) }
+    ensures folder { folder_of engine.new ≡ folder_of engine.old }
+    ensures err { OnErr result (engine.new ≡ engine.old) }
+    ensures cause { IfErr result (λ e. e ≡ Fault.Memory) }
+{
+    let mut outcomes = Vec::with_capacity(alloc, ops.len())?;
+    let mut failed_at = None;
+    for op in ops {
+        let stood = !engine.failed();
+        let outcome = step(alloc, engine, op);
+        if stood && engine.failed() {
+            failed_at = Some(outcomes.len());
+        }
+        outcomes.push(outcome)?;
+    }
+    Ok(Ran {
+        outcomes,
+        failed_at,
+    })
+}
+
+fn step<F: FileSystem>(alloc: Global, engine: &mut Engine<F>, op: &Op) -> Outcome
+    ensures answer { (m : Contents) → (has_failed engine.old ≡ false → m ≡ contents_of engine.old) → IsAnswer m op.now result }
+    ensures failing { IsFailing (has_failed engine.old) op.now result (has_failed engine.new) }
+    ensures unasked { IsUnasked op.now → engine.new ≡ engine.old }
+    ensures counted { is_refused_by_storage result ≡ true → Rose (refusals_of engine.old) (refusals_of engine.new) }
+    ensures counts { refusals_of engine.old ≤ refusals_of engine.new }
+    ensures contents { has_failed engine.new ≡ false → contents_of engine.new ≡ after_batches (contents_of engine.old) (accepted_of op.now result) }
+    ensures progress { Progresses (accepted_of op.now result) (is_covering op.now result) (in_flight op.now) (durability_of engine.old) (durability_of engine.new) }
+    ensures any_moment { has_failed engine.old ≡ false → Passes (moments_of engine.old) (moments_of engine.new) (directory_of engine.new)
+        (LeavesAllowed (folder_of engine.old) (durable_of engine.old) (unsynced_of engine.old ++ in_flight op.now)) }
+    ensures rests { has_failed engine.old ≡ true → (moments_of engine.new ≡ moments_of engine.old) × (directory_of engine.new ≡ directory_of engine.old) }
+    ensures still { has_failed engine.old ≡ true → has_failed engine.new ≡ true }
+    ensures folder { folder_of engine.new ≡ folder_of engine.old }
+{
+    match op {
+        Op::Write(acts, sync) => Outcome::Size(write(alloc, engine, acts, *sync)),
+        Op::Sync => Outcome::Done(engine.sync()),
+        Op::Get(group, key) => Outcome::Value(engine.get(*group, key)),
+    }
+}
+
+// What is refused while the batch is built doesn't reach the engine.
+fn write<F: FileSystem>(
+    alloc: Global,
+    engine: &mut Engine<F>,
+    acts: &[Act],
+    sync: bool,
+) -> Result<usize, Fault>
+    ensures answer { MatchResult result (IsWritten acts.now) (IsWriteRefusal acts.now) }
+    ensures failing { FailsBy (has_failed engine.old) result (has_failed engine.new) (IsUnbuilt acts.now) }
+    ensures unasked { batch_of_acts acts.now ≡ None → engine.new ≡ engine.old }
+    ensures counted { is_io result ≡ true → Rose (refusals_of engine.old) (refusals_of engine.new) }
+    ensures counts { refusals_of engine.old ≤ refusals_of engine.new }
+    ensures contents { has_failed engine.new ≡ false → contents_of engine.new ≡ after_batches (contents_of engine.old) (written acts.now result) }
+    ensures progress { Progresses (written acts.now result) (covers sync result) (with_items (batch_of_acts acts.now)) (durability_of engine.old) (durability_of engine.new) }
+    ensures any_moment { has_failed engine.old ≡ false → Passes (moments_of engine.old) (moments_of engine.new) (directory_of engine.new)
+        (LeavesAllowed (folder_of engine.old) (durable_of engine.old) (unsynced_of engine.old ++ with_items (batch_of_acts acts.now))) }
+    ensures rests { has_failed engine.old ≡ true → (moments_of engine.new ≡ moments_of engine.old) × (directory_of engine.new ≡ directory_of engine.old) }
+    ensures still { has_failed engine.old ≡ true → has_failed engine.new ≡ true }
+    ensures folder { folder_of engine.new ≡ folder_of engine.old }
+{
+    let mut batch = build(alloc, acts)?;
+    engine.write(&mut batch, sync)
+}
+
+fn build(alloc: Global, acts: &[Act]) -> Result<LogBatch, Fault>
+    ensures ok { IfOk result (λ batch. batch_of_acts acts.now ≡ Some batch.items) }
+    ensures refused { IfErr result (λ e. (e ≡ Fault.Memory) ⊎ ((fault_code e ≡ 1) × (batch_of_acts acts.now ≡ None))) }
+{
+    let mut batch = LogBatch::new(alloc);
+    for act in acts {
+        add(alloc, &mut batch, act)?;
+    }
+    Ok(batch)
+}
+
+fn add(alloc: Global, batch: &mut LogBatch, act: &Act) -> Result<(), Fault>
+    ensures ok { OnOk result ((item : Item) × (item_of_act act.now ≡ Some item) × (batch.new.items ≡ batch.old.items ++ item ∷ [])) }
+    ensures refused { IfErr result (λ e. (e ≡ Fault.Memory) ⊎ ((fault_code e ≡ 1) × (item_of_act act.now ≡ None))) }
+{
+    match act {
+        Act::Put(group, key, value) => {
+            batch.put(*group, key.to_vec(alloc)?, value.to_vec(alloc)?)
+        }
+        Act::Delete(group, key) => batch.delete(*group, key.to_vec(alloc)?),
+    }
+}

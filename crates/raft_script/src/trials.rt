@@ -1,0 +1,101 @@
+//! Operations over files in memory, then a crash, then an opening.
+ghost use Rattle.std.specs.Prelude.{◌≡◌, ◌⊎◌, [], ◌∷◌, IfOk, IfErr};
+ghost use Rattle.std.specs.String.{string_bytes};
+ghost use Rattle.raft_records.specs.Fault.{fault_code};
+ghost use Rattle.raft_env.specs.Directory.{HasFile};
+ghost use Rattle.raft_env.specs.Choice.{NameNoBytes};
+ghost use Rattle.raft_env.specs.Memory.{memory_directory, memory_moments, no_files, stop_of};
+ghost use Rattle.raft_files.specs.Writer.{bytes_at};
+ghost use Rattle.raft_log_engine.specs.Image.{IsImageOf};
+ghost use Rattle.raft_log_engine.specs.Log.{contents_at, log_path};
+ghost use Rattle.raft_log_engine.specs.Crash.{KeepsContents};
+ghost use Rattle.raft_script.specs.Durability.{LeavesAllowedBehind};
+ghost use Rattle.raft_log_engine.specs.Open.{IsOpenable};
+ghost use Rattle.raft_script.specs.Run.{IsOutside};
+ghost use Rattle.raft_script.specs.Trial.{AreAnswered, AreNotAsked, IsLogRefusal, IsTrialOf};
+
+use crate::operation::{Op, Trial};
+use crate::runs::{Ran, run_watched};
+use raft_env::{Choice, FileSystem, MemoryFileSystem};
+use raft_log_engine::{Config, Engine, Image};
+use raft_records::Fault;
+use std::alloc::Global;
+
+/// Opens a log in memory, does the operations, crashes, and opens again. From the first opening on the calls that may
+/// change files are counted from 1, and from the one at `stop` on each is refused; the opening after the crash has no
+/// stop. The choices say what the crash leaves; bytes that storage doesn't allow are refused. Where the damage of what it
+/// leaves can be told, a tolerant opening is refused by storage or for want of memory alone; and any only for these or
+/// for what is left of the log.
+pub fn trial(
+    alloc: Global,
+    config: Config,
+    ops: &[Op],
+    stop: Option<u64>,
+    choices: &[Choice],
+) -> Result<Trial, Fault>
+    ensures crashed { IfOk result (IsTrialOf config.recovery_mode (string_bytes config.dir) ops.now choices.now) }
+    ensures cause { IfErr result (λ e. (e ≡ Fault.Memory) ⊎ ((fault_code e ≡ 1) × (NameNoBytes choices.now → ⊥))) }
+{
+    let again = config.clone()?;
+    let (ran, files) = run_over(alloc, config, new_files(alloc, stop), ops)?;
+    let left = files.crash(choices)?;
+    Ok(Trial {
+        outcomes: ran.outcomes,
+        failed_at: ran.failed_at,
+        opened: open_image(alloc, again, left),
+    })
+}
+
+fn new_files(alloc: Global, stop: Option<u64>) -> MemoryFileSystem
+    ensures files { memory_directory result ≡ no_files }
+    ensures any_moment { memory_moments result ≡ no_files ∷ [] }
+    ensures stop { stop_of result ≡ stop }
+{
+    let mut files = MemoryFileSystem::new(alloc);
+    if let Some(nth) = stop {
+        files.stop_at(nth);
+    }
+    files
+}
+
+// Opens the log, does the operations, and hands the files back as they are then.
+fn run_over<F: FileSystem + Drop>(
+    alloc: Global,
+    config: Config,
+    files: F,
+    ops: &[Op],
+) -> Result<(Ran, F), Fault>
+    ensures answered { IfOk result (λ r. let found = contents_at (string_bytes config.dir) (F.directory files) in KeepsContents (string_bytes config.dir) found [] (F.directory files)
+        → AreAnswered found ops.now r.0.outcomes.items r.0.failed_at ⊎ AreNotAsked (string_bytes config.dir) found (F.directory r.1) r.0.outcomes.items r.0.failed_at) }
+    ensures behind { IfOk result (λ r. let found = contents_at (string_bytes config.dir) (F.directory files) in KeepsContents (string_bytes config.dir) found [] (F.directory files)
+        → LeavesAllowedBehind r.0.failed_at (string_bytes config.dir) found [] ops.now r.0.outcomes.items (F.directory r.1)) }
+    ensures no_file { IfOk result (λ r. let found = contents_at (string_bytes config.dir) (F.directory files) in KeepsContents (string_bytes config.dir) found [] (F.directory files)
+        → HasFile (F.directory r.1) (string_bytes config.dir) → ⊥) }
+    ensures cause { IfErr result (λ e. e ≡ Fault.Memory) }
+{
+    match Engine::open_in_order(alloc, config, files) {
+        Ok(mut engine) => {
+            let ran = run_watched(alloc, &mut engine, ops)?;
+            Ok((ran, engine.give_up()))
+        }
+        Err(refused) => {
+            let nothing = Ran {
+                outcomes: Vec::new(alloc),
+                failed_at: None,
+            };
+            Ok((nothing, refused.file_system))
+        }
+    }
+}
+
+fn open_image<F: FileSystem + Drop>(alloc: Global, config: Config, files: F) -> Result<Image, Fault>
+    ensures value { IfOk result (λ image. IsImageOf image.groups.items (contents_at (string_bytes config.dir) (F.directory files))) }
+    ensures refused { IfErr result (λ e. IsOpenable config.recovery_mode (string_bytes config.dir) (F.directory files) → (HasFile (F.directory files) (string_bytes config.dir) → ⊥) → IsOutside e) }
+    ensures cause { IfErr result (λ e. (HasFile (F.directory files) (string_bytes config.dir) → ⊥)
+        → IsLogRefusal config.recovery_mode (log_path (string_bytes config.dir)) (F.directory files) (bytes_at (log_path (string_bytes config.dir)) (F.directory files)) e) }
+{
+    match Engine::open_in_order(alloc, config, files) {
+        Ok(mut engine) => engine.image(),
+        Err(refused) => Err(refused.fault),
+    }
+}
