@@ -1,5 +1,5 @@
 //! A file system in memory. Its earlier states are kept for clauses alone.
-ghost use Rattle.std.specs.Prelude.{◌≡◌, ◌≤◌, ◌+◌, ◌/◌, ◌↔◌, [], ◌∷◌, length, map, refl, take, IsTrue, None, OnErr, OnOk, false};
+ghost use Rattle.std.specs.Prelude.{◌≡◌, ◌≤◌, ◌<◌, ◌+◌, ◌^◌, ◌↔◌, [], ◌∷◌, length, map, refl, take, IfOk, IsTrue, None, OnErr, OnOk, true};
 ghost use Rattle.std.specs.String.{string_bytes};
 ghost use Rattle.std.proofs.Props.{props};
 ghost use Rattle.raft_env.specs.Consistent.{AreConsistent, NoneRenamed, OnlyWritesRefusedIn, past_prop};
@@ -67,16 +67,16 @@ impl MemoryFileSystem {
 }
 
 impl MemoryFileSystem {
-    ghost use Rattle.raft_env.specs.Memory.{memory_directory, memory_moments, memory_refusals};
+    ghost use Rattle.raft_env.specs.Memory.{memory_directory, memory_moments, memory_refusals, armed_of, stop_of, half_written};
 
     // Writes the first half of the bytes, if there is room for all of them.
     fn write_half(&mut self, path: &str, at: usize, bytes: &[u8]) -> Result<(), FsFault>
-        ensures ok { OnOk result (memory_directory self.new ≡ changed path.now (λ f. written at bytes.now false
-            (overlaid f.now at (take (length bytes.now / 2) bytes.now)) f) (memory_directory self.old)) }
+        ensures ok { OnOk result (memory_directory self.new ≡ half_written path.now at bytes.now (memory_directory self.old)) }
         ensures err { OnErr result (memory_directory self.new ≡ memory_directory self.old) }
         ensures any_moment { Passes (memory_moments self.old) (memory_moments self.new) (memory_directory self.new)
             (IsWriting path.now at bytes.now (memory_directory self.old)) }
         ensures cause { memory_refusals self.new ≡ memory_refusals self.old }
+        ensures others { (armed_of self.new ≡ armed_of self.old) × (stop_of self.new ≡ stop_of self.old) }
     {
         if !fits(at, bytes.len()) {
             return Err(FsFault::Io(IoKind::NoSpace));
@@ -90,7 +90,11 @@ impl MemoryFileSystem {
 }
 
 impl FileSystem for MemoryFileSystem {
-    ghost use Rattle.raft_env.specs.Memory.{memory_directory, memory_moments, memory_refusals};
+    ghost use Rattle.raft_env.specs.Memory.{memory_directory, memory_moments, memory_refusals, armed_of, stop_of, half_written};
+    ghost use Rattle.raft_env.specs.Armed.{IsStopped, stop_after};
+    ghost use Rattle.raft_env.specs.Directory.{HasFile, IsAllocating, IsOneOf, IsTruncating, created, folder_made};
+    ghost use Rattle.raft_env.specs.Outcomes.{padded, resized, synced_of};
+    ghost use Rattle.raft_env.specs.Refusal.{Counts};
 
     type Handle = MemoryHandle;
 
@@ -116,7 +120,17 @@ impl FileSystem for MemoryFileSystem {
 
     ghost now_counts = { λ m. (map tree_directory m.past.items, refl) };
 
-    fn create(&mut self, path: &str) -> Result<MemoryHandle, FsFault> {
+    fn create(&mut self, path: &str) -> Result<MemoryHandle, FsFault>
+        ensures handle { IfOk result (λ h. (string_bytes h.path ≡ path.now) × (h.may_write ≡ true)) }
+        ensures ok { OnOk result (memory_directory self.new ≡ created path.now (memory_directory self.old)) }
+        ensures err { OnErr result (memory_directory self.new ≡ memory_directory self.old) }
+        ensures any_moment { Passes (memory_moments self.old) (memory_moments self.new) (memory_directory self.new)
+            (IsOneOf (memory_directory self.old) (created path.now (memory_directory self.old))) }
+        ensures cause { Counts result (memory_refusals self.old) (memory_refusals self.new) }
+        ensures stopped { IsStopped (stop_of self.old) → result ≡ Err (FsFault.Io IoKind.Other) }
+        ensures stop { stop_of self.new ≡ stop_after (stop_of self.old) }
+        ensures armed { armed_of self.new ≡ armed_of self.old }
+    {
         if let Some(kind) = self.armed.due_change(FsCall::Create) {
             return Err(counted(&mut self.refusals, FsFault::Io(kind)));
         }
@@ -172,7 +186,21 @@ impl FileSystem for MemoryFileSystem {
         })
     }
 
-    fn write(&mut self, writer: &mut MemoryWriter, at: usize, bytes: &[u8]) -> Result<(), FsFault> {
+    fn write(&mut self, writer: &mut MemoryWriter, at: usize, bytes: &[u8]) -> Result<(), FsFault>
+        ensures writer { string_bytes writer.new.path ≡ string_bytes writer.old.path }
+        ensures found { OnOk result (HasFile (memory_directory self.old) (string_bytes writer.old.path)) }
+        ensures fits { OnOk result (at + length bytes.now < 2 ^ 63) }
+        ensures ok { OnOk result (memory_directory self.new ≡ changed (string_bytes writer.old.path)
+            (λ f. written at bytes.now true (overlaid f.now at bytes.now) f) (memory_directory self.old)) }
+        ensures err { OnErr result (IsOneOf (memory_directory self.old)
+            (half_written (string_bytes writer.old.path) at bytes.now (memory_directory self.old)) (memory_directory self.new)) }
+        ensures any_moment { Passes (memory_moments self.old) (memory_moments self.new) (memory_directory self.new)
+            (IsWriting (string_bytes writer.old.path) at bytes.now (memory_directory self.old)) }
+        ensures cause { Counts result (memory_refusals self.old) (memory_refusals self.new) }
+        ensures stopped { IsStopped (stop_of self.old) → result ≡ Err (FsFault.Io IoKind.Other) }
+        ensures stop { stop_of self.new ≡ stop_after (stop_of self.old) }
+        ensures armed { armed_of self.new ≡ armed_of self.old }
+    {
         if let Some(kind) = self.armed.due_change(FsCall::Write) {
             let _ = self.write_half(writer.path.as_str(), at, bytes);
             return Err(counted(&mut self.refusals, FsFault::Io(kind)));
@@ -191,7 +219,19 @@ impl FileSystem for MemoryFileSystem {
         Ok(())
     }
 
-    fn truncate(&mut self, writer: &mut MemoryWriter, size: usize) -> Result<(), FsFault> {
+    fn truncate(&mut self, writer: &mut MemoryWriter, size: usize) -> Result<(), FsFault>
+        ensures writer { string_bytes writer.new.path ≡ string_bytes writer.old.path }
+        ensures found { OnOk result (HasFile (memory_directory self.old) (string_bytes writer.old.path)) }
+        ensures ok { OnOk result (memory_directory self.new ≡ changed (string_bytes writer.old.path)
+            (λ f. resized true (take size f.now) f) (memory_directory self.old)) }
+        ensures err { OnErr result (memory_directory self.new ≡ memory_directory self.old) }
+        ensures any_moment { Passes (memory_moments self.old) (memory_moments self.new) (memory_directory self.new)
+            (IsTruncating (string_bytes writer.old.path) size (memory_directory self.old)) }
+        ensures cause { Counts result (memory_refusals self.old) (memory_refusals self.new) }
+        ensures stopped { IsStopped (stop_of self.old) → result ≡ Err (FsFault.Io IoKind.Other) }
+        ensures stop { stop_of self.new ≡ stop_after (stop_of self.old) }
+        ensures armed { armed_of self.new ≡ armed_of self.old }
+    {
         if let Some(kind) = self.armed.due_change(FsCall::Truncate) {
             return Err(counted(&mut self.refusals, FsFault::Io(kind)));
         }
@@ -203,12 +243,20 @@ impl FileSystem for MemoryFileSystem {
         Ok(())
     }
 
-    fn allocate(
-        &mut self,
-        writer: &mut MemoryWriter,
-        at: usize,
-        size: usize,
-    ) -> Result<(), FsFault> {
+    fn allocate(&mut self, writer: &mut MemoryWriter, at: usize, size: usize) -> Result<(), FsFault>
+        ensures writer { string_bytes writer.new.path ≡ string_bytes writer.old.path }
+        ensures found { OnOk result (HasFile (memory_directory self.old) (string_bytes writer.old.path)) }
+        ensures fits { OnOk result (at + size < 2 ^ 63) }
+        ensures ok { OnOk result (memory_directory self.new ≡ changed (string_bytes writer.old.path)
+            (λ f. resized true (padded f.now (at + size)) f) (memory_directory self.old)) }
+        ensures err { OnErr result (memory_directory self.new ≡ memory_directory self.old) }
+        ensures any_moment { Passes (memory_moments self.old) (memory_moments self.new) (memory_directory self.new)
+            (IsAllocating (string_bytes writer.old.path) (at + size) (memory_directory self.old)) }
+        ensures cause { Counts result (memory_refusals self.old) (memory_refusals self.new) }
+        ensures stopped { IsStopped (stop_of self.old) → result ≡ Err (FsFault.Io IoKind.Other) }
+        ensures stop { stop_of self.new ≡ stop_after (stop_of self.old) }
+        ensures armed { armed_of self.new ≡ armed_of self.old }
+    {
         if let Some(kind) = self.armed.due_change(FsCall::Allocate) {
             return Err(counted(&mut self.refusals, FsFault::Io(kind)));
         }
@@ -223,7 +271,18 @@ impl FileSystem for MemoryFileSystem {
         Ok(())
     }
 
-    fn sync(&mut self, writer: &mut MemoryWriter) -> Result<(), FsFault> {
+    fn sync(&mut self, writer: &mut MemoryWriter) -> Result<(), FsFault>
+        ensures writer { string_bytes writer.new.path ≡ string_bytes writer.old.path }
+        ensures found { OnOk result (HasFile (memory_directory self.old) (string_bytes writer.old.path)) }
+        ensures ok { OnOk result (memory_directory self.new ≡ changed (string_bytes writer.old.path) synced_of (memory_directory self.old)) }
+        ensures err { OnErr result (memory_directory self.new ≡ memory_directory self.old) }
+        ensures any_moment { Passes (memory_moments self.old) (memory_moments self.new) (memory_directory self.new)
+            (IsOneOf (memory_directory self.old) (changed (string_bytes writer.old.path) synced_of (memory_directory self.old))) }
+        ensures cause { Counts result (memory_refusals self.old) (memory_refusals self.new) }
+        ensures stopped { IsStopped (stop_of self.old) → result ≡ Err (FsFault.Io IoKind.Other) }
+        ensures stop { stop_of self.new ≡ stop_after (stop_of self.old) }
+        ensures armed { armed_of self.new ≡ armed_of self.old }
+    {
         if let Some(kind) = self.armed.due_change(FsCall::Sync) {
             return Err(counted(&mut self.refusals, FsFault::Io(kind)));
         }
@@ -260,7 +319,16 @@ impl FileSystem for MemoryFileSystem {
         }
     }
 
-    fn make_dir(&mut self, path: &str) -> Result<(), FsFault> {
+    fn make_dir(&mut self, path: &str) -> Result<(), FsFault>
+        ensures ok { OnOk result (memory_directory self.new ≡ folder_made path.now (memory_directory self.old)) }
+        ensures err { OnErr result (memory_directory self.new ≡ memory_directory self.old) }
+        ensures any_moment { Passes (memory_moments self.old) (memory_moments self.new) (memory_directory self.new)
+            (IsOneOf (memory_directory self.old) (folder_made path.now (memory_directory self.old))) }
+        ensures cause { Counts result (memory_refusals self.old) (memory_refusals self.new) }
+        ensures stopped { IsStopped (stop_of self.old) → result ≡ Err (FsFault.Io IoKind.Other) }
+        ensures stop { stop_of self.new ≡ stop_after (stop_of self.old) }
+        ensures armed { armed_of self.new ≡ armed_of self.old }
+    {
         if let Some(kind) = self.armed.due_change(FsCall::MakeDir) {
             return Err(counted(&mut self.refusals, FsFault::Io(kind)));
         }
