@@ -1,5 +1,5 @@
 //! A file system in memory. Its earlier states are kept for clauses alone.
-ghost use Rattle.std.specs.Prelude.{◌≡◌, ◌≤◌, ◌<◌, ◌+◌, ◌^◌, ◌↔◌, [], ◌∷◌, length, map, refl, take, IfOk, IsTrue, None, OnErr, OnOk, true};
+ghost use Rattle.std.specs.Prelude.{◌≡◌, ◌⊎◌, ◌≤◌, ◌<◌, ◌+◌, ◌^◌, ◌↔◌, [], ◌∷◌, length, map, refl, take, IfErr, IfOk, IsTrue, None, OnErr, OnOk, Some, false, true};
 ghost use Rattle.std.specs.String.{string_bytes};
 ghost use Rattle.std.proofs.Props.{props};
 ghost use Rattle.raft_env.specs.Consistent.{AreConsistent, NoneRenamed, OnlyWritesRefusedIn, past_prop};
@@ -92,9 +92,10 @@ impl MemoryFileSystem {
 impl FileSystem for MemoryFileSystem {
     ghost use Rattle.raft_env.specs.Memory.{memory_directory, memory_moments, memory_refusals, armed_of, stop_of, half_written};
     ghost use Rattle.raft_env.specs.Armed.{IsStopped, stop_after};
-    ghost use Rattle.raft_env.specs.Directory.{HasFile, IsAllocating, IsOneOf, IsTruncating, created, folder_made};
-    ghost use Rattle.raft_env.specs.Outcomes.{padded, resized, synced_of};
-    ghost use Rattle.raft_env.specs.Refusal.{Counts};
+    ghost use Rattle.raft_env.specs.Directory.{HasFile, IsAllocating, IsOneOf, IsTruncating, ReadsAt, created, file_at, folder_made, names_in};
+    ghost use Rattle.raft_env.specs.Outcomes.{File, padded, resized, synced_of};
+    ghost use Rattle.raft_env.specs.Refusal.{Counts, added_count};
+    ghost use Rattle.raft_env.specs.Refused.{HasNoFolder, HasNoPlace, HasNoRoom, IsBarred, IsMissing, MayNotWrite, WasArmed, WasForced};
 
     type Handle = MemoryHandle;
 
@@ -127,6 +128,8 @@ impl FileSystem for MemoryFileSystem {
         ensures any_moment { Passes (memory_moments self.old) (memory_moments self.new) (memory_directory self.new)
             (IsOneOf (memory_directory self.old) (created path.now (memory_directory self.old))) }
         ensures cause { Counts result (memory_refusals self.old) (memory_refusals self.new) }
+        ensures refused { IfErr result (λ e. WasForced (armed_of self.old) (stop_of self.old) FsCall.Create e
+            ⊎ HasNoPlace (memory_directory self.old) path.now e) }
         ensures stopped { IsStopped (stop_of self.old) → result ≡ Err (FsFault.Io IoKind.Other) }
         ensures stop { stop_of self.new ≡ stop_after (stop_of self.old) }
         ensures armed { armed_of self.new ≡ armed_of self.old }
@@ -146,7 +149,15 @@ impl FileSystem for MemoryFileSystem {
         Ok(handle)
     }
 
-    fn open(&mut self, path: &str, permission: Permission) -> Result<MemoryHandle, FsFault> {
+    fn open(&mut self, path: &str, permission: Permission) -> Result<MemoryHandle, FsFault>
+        ensures handle { IfOk result (λ h. (string_bytes h.path ≡ path.now) × HasFile (memory_directory self.old) path.now) }
+        ensures may_write { IfOk result (λ h. h.may_write ≡ true ↔ (permission ≡ Permission.ReadWrite)) }
+        ensures unchanged { memory_directory self.new ≡ memory_directory self.old }
+        ensures any_moment { memory_moments self.new ≡ memory_moments self.old }
+        ensures cause { Counts result (memory_refusals self.old) (memory_refusals self.new) }
+        ensures refused { IfErr result (λ e. WasArmed (armed_of self.old) FsCall.Open e ⊎ IsMissing (memory_directory self.old) path.now e) }
+        ensures others { (armed_of self.new ≡ armed_of self.old) × (stop_of self.new ≡ stop_of self.old) }
+    {
         if let Some(kind) = self.armed.due(FsCall::Open) {
             return Err(counted(&mut self.refusals, FsFault::Io(kind)));
         }
@@ -159,7 +170,14 @@ impl FileSystem for MemoryFileSystem {
         })
     }
 
-    fn new_reader(&mut self, handle: &MemoryHandle) -> Result<MemoryReader, FsFault> {
+    fn new_reader(&mut self, handle: &MemoryHandle) -> Result<MemoryReader, FsFault>
+        ensures reader { IfOk result (λ r. (string_bytes r.path ≡ string_bytes handle.now.path) × (r.refused ≡ 0)) }
+        ensures unchanged { memory_directory self.new ≡ memory_directory self.old }
+        ensures any_moment { memory_moments self.new ≡ memory_moments self.old }
+        ensures cause { Counts result (memory_refusals self.old) (memory_refusals self.new) }
+        ensures refused { IfErr result (λ e. WasArmed (armed_of self.old) FsCall.NewReader e ⊎ (e ≡ FsFault.Memory)) }
+        ensures others { (armed_of self.new ≡ armed_of self.old) × (stop_of self.new ≡ stop_of self.old) }
+    {
         if let Some(kind) = self.armed.due(FsCall::NewReader) {
             return Err(counted(&mut self.refusals, FsFault::Io(kind)));
         }
@@ -169,11 +187,24 @@ impl FileSystem for MemoryFileSystem {
         })
     }
 
-    fn end_reader(&mut self, reader: MemoryReader) {
+    fn end_reader(&mut self, reader: MemoryReader)
+        ensures unchanged { memory_directory self.new ≡ memory_directory self.old }
+        ensures any_moment { memory_moments self.new ≡ memory_moments self.old }
+        ensures cause { memory_refusals self.new ≡ added_count (memory_refusals self.old) reader.refused }
+        ensures others { (armed_of self.new ≡ armed_of self.old) × (stop_of self.new ≡ stop_of self.old) }
+    {
         self.refusals = self.refusals.saturating_add(reader.refused);
     }
 
-    fn new_writer(&mut self, handle: &MemoryHandle) -> Result<MemoryWriter, FsFault> {
+    fn new_writer(&mut self, handle: &MemoryHandle) -> Result<MemoryWriter, FsFault>
+        ensures writer { IfOk result (λ w. (string_bytes w.path ≡ string_bytes handle.now.path) × (handle.now.may_write ≡ true)) }
+        ensures refused { handle.now.may_write ≡ false → result ≡ Err (FsFault.Io IoKind.Other) }
+        ensures unchanged { memory_directory self.new ≡ memory_directory self.old }
+        ensures any_moment { memory_moments self.new ≡ memory_moments self.old }
+        ensures cause { Counts result (memory_refusals self.old) (memory_refusals self.new) }
+        ensures why { IfErr result (λ e. WasArmed (armed_of self.old) FsCall.NewWriter e ⊎ MayNotWrite handle.now.may_write e) }
+        ensures others { (armed_of self.new ≡ armed_of self.old) × (stop_of self.new ≡ stop_of self.old) }
+    {
         let due = self.armed.due(FsCall::NewWriter);
         if !handle.may_write {
             return Err(counted(&mut self.refusals, FsFault::Io(IoKind::Other)));
@@ -197,6 +228,9 @@ impl FileSystem for MemoryFileSystem {
         ensures any_moment { Passes (memory_moments self.old) (memory_moments self.new) (memory_directory self.new)
             (IsWriting (string_bytes writer.old.path) at bytes.now (memory_directory self.old)) }
         ensures cause { Counts result (memory_refusals self.old) (memory_refusals self.new) }
+        ensures refused { IfErr result (λ e. WasForced (armed_of self.old) (stop_of self.old) FsCall.Write e
+            ⊎ ((memory_directory self.new ≡ memory_directory self.old)
+            × (HasNoRoom at (length bytes.now) e ⊎ IsMissing (memory_directory self.old) (string_bytes writer.old.path) e))) }
         ensures stopped { IsStopped (stop_of self.old) → result ≡ Err (FsFault.Io IoKind.Other) }
         ensures stop { stop_of self.new ≡ stop_after (stop_of self.old) }
         ensures armed { armed_of self.new ≡ armed_of self.old }
@@ -228,6 +262,8 @@ impl FileSystem for MemoryFileSystem {
         ensures any_moment { Passes (memory_moments self.old) (memory_moments self.new) (memory_directory self.new)
             (IsTruncating (string_bytes writer.old.path) size (memory_directory self.old)) }
         ensures cause { Counts result (memory_refusals self.old) (memory_refusals self.new) }
+        ensures refused { IfErr result (λ e. WasForced (armed_of self.old) (stop_of self.old) FsCall.Truncate e
+            ⊎ IsMissing (memory_directory self.old) (string_bytes writer.old.path) e) }
         ensures stopped { IsStopped (stop_of self.old) → result ≡ Err (FsFault.Io IoKind.Other) }
         ensures stop { stop_of self.new ≡ stop_after (stop_of self.old) }
         ensures armed { armed_of self.new ≡ armed_of self.old }
@@ -253,6 +289,8 @@ impl FileSystem for MemoryFileSystem {
         ensures any_moment { Passes (memory_moments self.old) (memory_moments self.new) (memory_directory self.new)
             (IsAllocating (string_bytes writer.old.path) (at + size) (memory_directory self.old)) }
         ensures cause { Counts result (memory_refusals self.old) (memory_refusals self.new) }
+        ensures refused { IfErr result (λ e. WasForced (armed_of self.old) (stop_of self.old) FsCall.Allocate e
+            ⊎ HasNoRoom at size e ⊎ IsMissing (memory_directory self.old) (string_bytes writer.old.path) e) }
         ensures stopped { IsStopped (stop_of self.old) → result ≡ Err (FsFault.Io IoKind.Other) }
         ensures stop { stop_of self.new ≡ stop_after (stop_of self.old) }
         ensures armed { armed_of self.new ≡ armed_of self.old }
@@ -279,6 +317,8 @@ impl FileSystem for MemoryFileSystem {
         ensures any_moment { Passes (memory_moments self.old) (memory_moments self.new) (memory_directory self.new)
             (IsOneOf (memory_directory self.old) (changed (string_bytes writer.old.path) synced_of (memory_directory self.old))) }
         ensures cause { Counts result (memory_refusals self.old) (memory_refusals self.new) }
+        ensures refused { IfErr result (λ e. WasForced (armed_of self.old) (stop_of self.old) FsCall.Sync e
+            ⊎ IsMissing (memory_directory self.old) (string_bytes writer.old.path) e) }
         ensures stopped { IsStopped (stop_of self.old) → result ≡ Err (FsFault.Io IoKind.Other) }
         ensures stop { stop_of self.new ≡ stop_after (stop_of self.old) }
         ensures armed { armed_of self.new ≡ armed_of self.old }
@@ -294,12 +334,12 @@ impl FileSystem for MemoryFileSystem {
         Ok(())
     }
 
-    fn read(
-        &self,
-        reader: &mut MemoryReader,
-        at: usize,
-        bytes: &mut [u8],
-    ) -> Result<usize, FsFault> {
+    fn read(&self, reader: &mut MemoryReader, at: usize, bytes: &mut [u8]) -> Result<usize, FsFault>
+        ensures reader { string_bytes reader.new.path ≡ string_bytes reader.old.path }
+        ensures ok { IfOk result (λ n. ReadsAt (file_at (memory_directory self.now) (string_bytes reader.old.path)) at n bytes.old bytes.new) }
+        ensures cause { Counts result reader.old.refused reader.new.refused }
+        ensures refused { IfErr result (λ e. WasArmed (armed_of self.now) FsCall.Read e ⊎ IsMissing (memory_directory self.now) (string_bytes reader.old.path) e) }
+    {
         if let Some(kind) = self.armed.due(FsCall::Read) {
             return Err(counted(&mut reader.refused, FsFault::Io(kind)));
         }
@@ -309,7 +349,16 @@ impl FileSystem for MemoryFileSystem {
         }
     }
 
-    fn file_size(&mut self, handle: &MemoryHandle) -> Result<usize, FsFault> {
+    fn file_size(&mut self, handle: &MemoryHandle) -> Result<usize, FsFault>
+        ensures size { IfOk result (λ n. (file : File)
+            × (file_at (memory_directory self.old) (string_bytes handle.now.path) ≡ Some file) × (n ≡ length file.now)) }
+        ensures fits { IfOk result (λ n. n < 2 ^ 63) }
+        ensures unchanged { memory_directory self.new ≡ memory_directory self.old }
+        ensures any_moment { memory_moments self.new ≡ memory_moments self.old }
+        ensures cause { Counts result (memory_refusals self.old) (memory_refusals self.new) }
+        ensures refused { IfErr result (λ e. WasArmed (armed_of self.old) FsCall.FileSize e ⊎ IsMissing (memory_directory self.old) (string_bytes handle.now.path) e) }
+        ensures others { (armed_of self.new ≡ armed_of self.old) × (stop_of self.new ≡ stop_of self.old) }
+    {
         if let Some(kind) = self.armed.due(FsCall::FileSize) {
             return Err(counted(&mut self.refusals, FsFault::Io(kind)));
         }
@@ -325,6 +374,8 @@ impl FileSystem for MemoryFileSystem {
         ensures any_moment { Passes (memory_moments self.old) (memory_moments self.new) (memory_directory self.new)
             (IsOneOf (memory_directory self.old) (folder_made path.now (memory_directory self.old))) }
         ensures cause { Counts result (memory_refusals self.old) (memory_refusals self.new) }
+        ensures refused { IfErr result (λ e. WasForced (armed_of self.old) (stop_of self.old) FsCall.MakeDir e
+            ⊎ IsBarred (memory_directory self.old) path.now e) }
         ensures stopped { IsStopped (stop_of self.old) → result ≡ Err (FsFault.Io IoKind.Other) }
         ensures stop { stop_of self.new ≡ stop_after (stop_of self.old) }
         ensures armed { armed_of self.new ≡ armed_of self.old }
@@ -340,7 +391,14 @@ impl FileSystem for MemoryFileSystem {
         Ok(())
     }
 
-    fn list(&mut self, dir: &str) -> Result<Vec<String>, FsFault> {
+    fn list(&mut self, dir: &str) -> Result<Vec<String>, FsFault>
+        ensures names { IfOk result (λ names. map string_bytes names.items ≡ names_in dir.now (memory_directory self.old)) }
+        ensures unchanged { memory_directory self.new ≡ memory_directory self.old }
+        ensures any_moment { memory_moments self.new ≡ memory_moments self.old }
+        ensures cause { Counts result (memory_refusals self.old) (memory_refusals self.new) }
+        ensures refused { IfErr result (λ e. WasArmed (armed_of self.old) FsCall.List e ⊎ HasNoFolder (memory_directory self.old) dir.now e) }
+        ensures others { (armed_of self.new ≡ armed_of self.old) × (stop_of self.new ≡ stop_of self.old) }
+    {
         if let Some(kind) = self.armed.due(FsCall::List) {
             return Err(counted(&mut self.refusals, FsFault::Io(kind)));
         }
