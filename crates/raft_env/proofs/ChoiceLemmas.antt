@@ -5,7 +5,7 @@ use Rattle.std.specs.List.{range_with_len}
 use Rattle.std.proofs.lemmas.Bool.Decides.{nat_tests}
 use Rattle.std.proofs.lemmas.List.FromFn.{map-range_with_len_more, length-map-range_with_len, get_or-map-range_with_len}
 use Rattle.raft_env.specs.Outcomes.{File, MayLeave, is_touched}
-use Rattle.raft_env.specs.Kept.{IsKept, is_covered}
+use Rattle.raft_env.specs.Slot.{IsSlotOf, is_covered}
 use Rattle.raft_env.specs.Choice.{torn, torn_byte, touched_before}
 use Rattle.raft_env.proofs.SlotLemmas.{least_synced, greatest_synced, may_leave}
 
@@ -32,7 +32,7 @@ left_more touched kept i left after covered left_is covered_is after_is =
     let same : after ≡ left - cond (touched i) 1 0 = after_is ∙ ap (λ b. left - cond b 1 0) covered_is in
     rw add-one (omega arith)
 
-module _ (bytes synced : List ℕ) (ranges : List (ℕ × ℕ)) (low high : ℕ) (file : File) (k : IsKept bytes synced ranges low high file) (kept fill : ℕ) where
+module _ (bytes synced : List ℕ) (ranges : List (ℕ × ℕ)) (low high : ℕ) (file : File) (k : IsSlotOf bytes synced ranges low high file) (kept fill : ℕ) where
   -- the ranges of a slot cover what was touched
   pub torn-covered : torn (is_covered ranges) kept fill bytes ≡ torn (is_touched file.changes) kept fill file.now
   torn-covered =

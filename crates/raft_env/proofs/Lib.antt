@@ -1,4 +1,5 @@
 pub mod Walks
+pub mod ArmedLemmas
 pub mod SlotLemmas
 pub mod SavedLemmas
 pub mod MomentsLemmas

@@ -7,7 +7,7 @@ use Rattle.std.proofs.lemmas.List.{length-drop, length-take, length-take-le, tak
 use Rattle.std.proofs.lemmas.Grind.{same_number_lists}
 use Rattle.std.proofs.Math.ListN.{get_or-append}
 use Rattle.raft_env.specs.Outcomes.{is_within, overlaid, padded}
-use Rattle.raft_env.specs.Kept.{OldBytes, IsSaved, places_len, saved_in, saved_at}
+use Rattle.raft_env.specs.Slot.{OldBytes, IsSaved, places_len, saved_in, saved_at}
 use Rattle.raft_env.proofs.SlotLemmas.{split_at, get_or-padded, overlaid_outside_part}
 
 pub places_len-more : (places : List (ℕ × ℕ)) (from size : ℕ) → places_len (places ++ (from, size) ∷ []) ≡ places_len places + size

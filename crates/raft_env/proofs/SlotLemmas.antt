@@ -2,7 +2,7 @@
 use Rattle.std.proofs.Common.{◌≡◌, ℕ, ◌+◌, ◌-◌, ◌<◌, ◌≤◌, min, max, Bool, true, false, cond, ◌||◌, List, [], ◌∷◌, ◌++◌, length, length-append, take, drop, get_or, refl, sym, ◌∙◌, ap, subst, inl, inr, ◌⊎◌, arith}
 use Rattle.std.proofs.lemmas.Bool.Decides.{nat_tests, leb_tells}
 use Rattle.raft_env.specs.Outcomes.{File, Change, MayLeave, is_within, least_len, greatest_len, written, resized, synced_of, overlaid, padded}
-use Rattle.raft_env.specs.Kept.{IsKept, is_covered}
+use Rattle.raft_env.specs.Slot.{IsSlotOf, is_covered}
 use Rattle.std.specs.Prelude.{replicate}
 use Rattle.std.proofs.lemmas.List.{take_all, drop_all, append-nil, length-replicate, get_or-append_right, get_or-take, get_or-drop, get_or_past, get_or-replicate, length-take-le, length-drop}
 use Rattle.std.proofs.Math.ListN.{get_or-append}
@@ -96,12 +96,12 @@ or_comm false true = refl
 or_comm false false = refl
 
 -- a change of the bytes in one range, which is added to the ranges
-module _ (bytes synced : List ℕ) (ranges more : List (ℕ × ℕ)) (low high : ℕ) (file : File) (k : IsKept bytes synced ranges low high file) where
+module _ (bytes synced : List ℕ) (ranges more : List (ℕ × ℕ)) (low high : ℕ) (file : File) (k : IsSlotOf bytes synced ranges low high file) where
   -- after a write, the slot keeps what it should
-  pub kept_written : (at : ℕ) (given after : List ℕ) (is_done : Bool) → ((i : ℕ) → is_covered more i ≡ (is_covered ranges i || is_within at (length given) i))
+  pub slot_written : (at : ℕ) (given after : List ℕ) (is_done : Bool) → ((i : ℕ) → is_covered more i ≡ (is_covered ranges i || is_within at (length given) i))
       → ((i : ℕ) → is_within at (length given) i ≡ false → get_or after i 0 ≡ get_or bytes i 0)
-      → IsKept after synced more (min low (length after)) (max high (length after)) (written at given is_done after file)
-  kept_written at given after is_done added outside = record {
+      → IsSlotOf after synced more (min low (length after)) (max high (length after)) (written at given is_done after file)
+  slot_written at given after is_done added outside = record {
     now = refl;
     on_disk = k.on_disk;
     touched = λ i. ap (λ b. is_within at (length given) i || b) (k.touched i) ∙ or_comm (is_within at (length given) i) (is_covered ranges i) ∙ sym (added i);
@@ -113,11 +113,11 @@ module _ (bytes synced : List ℕ) (ranges more : List (ℕ × ℕ)) (low high :
   }
 
   -- so it does after a change of the length, if the bytes up to the lesser length stay and zeros follow
-  kept_resized : (after : List ℕ) (from len : ℕ) → from ≡ min (length after) (length bytes) → len ≡ max (length after) (length bytes) - from
+  slot_resized : (after : List ℕ) (from len : ℕ) → from ≡ min (length after) (length bytes) → len ≡ max (length after) (length bytes) - from
       → ((i : ℕ) → is_covered more i ≡ (is_covered ranges i || is_within from len i))
       → ((i : ℕ) → is_within from len i ≡ false → get_or after i 0 ≡ get_or bytes i 0)
-      → IsKept after synced more (min low (length after)) (max high (length after)) (resized true after file)
-  kept_resized after from len from_is len_is added outside =
+      → IsSlotOf after synced more (min low (length after)) (max high (length after)) (resized true after file)
+  slot_resized after from len from_is len_is added outside =
       let now_len : length file.now ≡ length bytes = ap length k.now in
       let first : min (length after) (length file.now) ≡ from = omega arith in
       let size : max (length after) (length file.now) - from ≡ len = omega arith in
@@ -132,26 +132,26 @@ module _ (bytes synced : List ℕ) (ranges more : List (ℕ × ℕ)) (low high :
         below_high = omega arith;
       }
 
-  pub kept_cut : (from : ℕ) → from ≤ length bytes → ((i : ℕ) → is_covered more i ≡ (is_covered ranges i || is_within from (length bytes - from) i))
-      → IsKept (take from bytes) synced more (min low from) (max high from) (resized true (take from bytes) file)
-  kept_cut from fits added =
+  pub slot_cut : (from : ℕ) → from ≤ length bytes → ((i : ℕ) → is_covered more i ≡ (is_covered ranges i || is_within from (length bytes - from) i))
+      → IsSlotOf (take from bytes) synced more (min low from) (max high from) (resized true (take from bytes) file)
+  slot_cut from fits added =
       let len : length (take from bytes) ≡ from = length-take-le from bytes fits in
-      let kept = kept_resized (take from bytes) from (length bytes - from) (omega arith) (omega arith) added (λ i out. elim (split_at i from) [
+      let kept = slot_resized (take from bytes) from (length bytes - from) (omega arith) (omega arith) added (λ i out. elim (split_at i from) [
         | inl inside ↦ get_or-take from bytes i 0 inside
         | inr behind ↦ let past : length bytes ≤ i = grind (arith, nat_tests) in get_or_past _ i 0 (omega arith) ∙ sym (get_or_past bytes i 0 past)
       ]) in
-      subst (λ n. IsKept (take from bytes) synced more (min low n) (max high n) (resized true (take from bytes) file)) len kept
+      subst (λ n. IsSlotOf (take from bytes) synced more (min low n) (max high n) (resized true (take from bytes) file)) len kept
 
-  pub kept_lengthened : (size : ℕ) → ((i : ℕ) → is_covered more i ≡ (is_covered ranges i || is_within (length bytes) (max size (length bytes) - length bytes) i))
-      → IsKept (padded bytes size) synced more (min low (max size (length bytes))) (max high (max size (length bytes))) (resized true (padded bytes size) file)
-  kept_lengthened size added =
+  pub slot_lengthened : (size : ℕ) → ((i : ℕ) → is_covered more i ≡ (is_covered ranges i || is_within (length bytes) (max size (length bytes) - length bytes) i))
+      → IsSlotOf (padded bytes size) synced more (min low (max size (length bytes))) (max high (max size (length bytes))) (resized true (padded bytes size) file)
+  slot_lengthened size added =
       let len : length (padded bytes size) ≡ max size (length bytes) = omega (arith, length-append bytes (replicate {A = ℕ} (size - length bytes) 0), length-replicate {A = ℕ} (size - length bytes) 0) in
-      let kept = kept_resized (padded bytes size) (length bytes) (max size (length bytes) - length bytes) (omega arith) (omega arith) added (λ i out. get_or-padded bytes size i) in
-      subst (λ n. IsKept (padded bytes size) synced more (min low n) (max high n) (resized true (padded bytes size) file)) len kept
+      let kept = slot_resized (padded bytes size) (length bytes) (max size (length bytes) - length bytes) (omega arith) (omega arith) added (λ i out. get_or-padded bytes size i) in
+      subst (λ n. IsSlotOf (padded bytes size) synced more (min low n) (max high n) (resized true (padded bytes size) file)) len kept
 
 -- and a sync
-pub kept_synced : (bytes synced : List ℕ) (ranges : List (ℕ × ℕ)) (low high : ℕ) (file : File) → IsKept bytes synced ranges low high file → IsKept bytes bytes [] (length bytes) (length bytes) (synced_of file)
-kept_synced bytes synced ranges low high file k = record { now = k.now; on_disk = k.now; touched = λ i. refl; agree = record { each = λ i out. refl }; low_is = ap length k.now; high_is = ap length k.now; above_low = omega arith; below_high = omega arith }
+pub slot_synced : (bytes synced : List ℕ) (ranges : List (ℕ × ℕ)) (low high : ℕ) (file : File) → IsSlotOf bytes synced ranges low high file → IsSlotOf bytes bytes [] (length bytes) (length bytes) (synced_of file)
+slot_synced bytes synced ranges low high file k = record { now = k.now; on_disk = k.now; touched = λ i. refl; agree = record { each = λ i out. refl }; low_is = ap length k.now; high_is = ap length k.now; above_low = omega arith; below_high = omega arith }
 
 module _ (bytes synced given : List ℕ) (from size i : ℕ) (same_len : length synced ≡ length bytes) (end_is : from + length given ≡ min (from + size) (length bytes)) (low : from < length bytes) (is : given ≡ take (length given) (drop from bytes)) where
   copied_by : (b : Bool) → is_within from size i ≡ b → get_or (overlaid synced from given) i 0 ≡ cond b (get_or bytes i 0) (get_or synced i 0)
@@ -185,7 +185,7 @@ pub greatest_synced : (synced : List ℕ) (changes : List Change) → length syn
 greatest_synced synced [] = omega arith
 greatest_synced synced (c ∷ changes) = omega (arith, greatest_synced synced changes)
 
-module _ (bytes synced : List ℕ) (ranges : List (ℕ × ℕ)) (low high : ℕ) (file : File) (k : IsKept bytes synced ranges low high file) where
+module _ (bytes synced : List ℕ) (ranges : List (ℕ × ℕ)) (low high : ℕ) (file : File) (k : IsSlotOf bytes synced ranges low high file) where
   -- what differs from the bytes in touched places alone may be left
   pub may_leave : (left : List ℕ) → low ≤ length left → length left ≤ high → ((i : ℕ) → i < length left → i < length synced → is_covered ranges i ≡ false → get_or left i 0 ≡ get_or synced i 0) → MayLeave file left
   may_leave left long short same = record {

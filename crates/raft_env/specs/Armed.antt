@@ -1,7 +1,8 @@
 -- Refusals that were armed.
-use Rattle.std.specs.Prelude.{◌≡◌, ℕ, ◌-◌, ◌≤◌, nat_lt, List, Option, Some, None, map, if◌then◌else◌}
+use Rattle.std.specs.Prelude.{◌≡◌, ◌⊎◌, ℕ, ◌-◌, ◌≤◌, nat_lt, List, Option, Some, None, map, if◌then◌else◌}
 use Rattle.std.specs.List.{Contains}
 use Rattle.raft_records.specs.declared.errors.IoKind.{IoKind}
+use Rattle.raft_records.specs.declared.errors.IoKind.TheVariants.{Other}
 use Rattle.raft_env.specs.declared.armed.FsCall.{FsCall}
 use Rattle.raft_env.specs.declared.armed.ArmedRefusal.{ArmedRefusal}
 
@@ -10,8 +11,8 @@ abbrev pub arms_of : List ArmedRefusal → List (FsCall × ℕ × IoKind)
 arms_of refusals = map (λ a. (a.call, a.nth, a.kind)) refusals
 
 -- one of these is armed for that sort of calls, as that
-abbrev pub IsArmed : List ArmedRefusal → FsCall → IoKind → Type 0
-IsArmed refusals call kind = (refusal : ArmedRefusal) × Contains refusals refusal × (refusal.call ≡ call) × (refusal.kind ≡ kind)
+abbrev pub IsArmed : List (FsCall × ℕ × IoKind) → FsCall → IoKind → Type 0
+IsArmed armed call kind = (nth : ℕ) × Contains armed (call, nth, kind)
 
 -- the next call that changes files is one to stop at
 abbrev pub IsStopped : Option ℕ → Type 0
@@ -22,3 +23,7 @@ IsStopped (Some nth) = nth ≤ 1
 abbrev pub stop_after : Option ℕ → Option ℕ
 stop_after None = None
 stop_after (Some nth) = if nat_lt 1 nth then Some (nth - 1) else Some nth
+
+-- a call that changes files is refused as that: it is armed so, or the stop came
+abbrev pub IsForced : List (FsCall × ℕ × IoKind) → Option ℕ → FsCall → IoKind → Type 0
+IsForced armed stop call kind = IsArmed armed call kind ⊎ (IsStopped stop × (kind ≡ Other))

@@ -2,7 +2,7 @@ pub mod Outcomes
 pub mod Directory
 pub mod Moments
 pub mod Refusal
-pub mod Kept
+pub mod Slot
 pub mod Stepped
 pub mod PathParts
 pub mod Armed

@@ -1,7 +1,8 @@
 -- What a file system in memory shows.
-use Rattle.std.specs.Prelude.{ℕ, ◌==◌, List, ◌∷◌, length, map, Option}
+use Rattle.std.specs.Prelude.{ℕ, ◌==◌, ◌/◌, false, List, ◌∷◌, length, map, take, Option}
 use Rattle.std.specs.FinMap as finite
-use Rattle.raft_env.specs.Directory.{Directory}
+use Rattle.raft_env.specs.Outcomes.{written, overlaid}
+use Rattle.raft_env.specs.Directory.{Directory, Path, changed}
 use Rattle.raft_records.specs.declared.errors.IoKind.{IoKind}
 use Rattle.raft_env.specs.declared.armed.FsCall.{FsCall}
 use Rattle.raft_env.specs.Armed.{arms_of}
@@ -31,3 +32,7 @@ armed_of memory = arms_of memory.armed.refusals.items
 -- which of the changing calls from now on is the first that is refused
 abbrev pub stop_of : MemoryFileSystem → Option ℕ
 stop_of memory = memory.armed.stop
+
+-- with the first half of the bytes, rounded down, written there by a call that was refused
+abbrev pub half_written : Path → ℕ → List ℕ → Directory → Directory
+half_written path at given n = changed path (λ f. written at given false (overlaid f.now at (take (length given / 2) given)) f) n

@@ -1,5 +1,5 @@
 //! Refusals that a test arms in a file system in memory.
-ghost use Rattle.std.specs.Prelude.{◌≡◌, ◌⊎◌, ◌<◌, [], ◌∷◌, ◌++◌, Some, None, OnOk, OnErr, IfErr, IfSome, IsTrue};
+ghost use Rattle.std.specs.Prelude.{◌≡◌, ◌<◌, [], ◌∷◌, ◌++◌, Some, None, OnOk, OnErr, IfErr, IfSome, IsTrue};
 ghost use Rattle.raft_records.specs.declared.errors.IoKind.TheVariants.{Other};
 ghost use Rattle.raft_env.specs.Choice.{RefusesUnless};
 
@@ -55,7 +55,7 @@ pub(crate) struct Armed {
 }
 
 impl Armed {
-    ghost use Rattle.raft_env.specs.Armed.{IsArmed, IsStopped, arms_of, stop_after};
+    ghost use Rattle.raft_env.specs.Armed.{IsArmed, IsForced, IsStopped, arms_of, stop_after};
 
     pub(crate) fn new(alloc: Global) -> Armed
         ensures refusals { arms_of result.refusals.items ≡ [] }
@@ -69,7 +69,7 @@ impl Armed {
 
     /// Counts the call, and says as what it is to be refused.
     pub(crate) fn due(&self, call: FsCall) -> Option<IoKind>
-        ensures value { IfSome result (λ kind. IsArmed self.now.refusals.items call kind) }
+        ensures value { IfSome result (λ kind. IsArmed (arms_of self.now.refusals.items) call kind) }
     {
         let mut due = None;
         for armed in &self.refusals {
@@ -82,7 +82,7 @@ impl Armed {
 
     /// The same of a call that changes files, which counts for the stop too.
     pub(crate) fn due_change(&mut self, call: FsCall) -> Option<IoKind>
-        ensures value { IfSome result (λ kind. IsArmed self.old.refusals.items call kind ⊎ (IsStopped self.old.stop × (kind ≡ Other))) }
+        ensures value { IfSome result (λ kind. IsForced (arms_of self.old.refusals.items) self.old.stop call kind) }
         ensures stopped { IsStopped self.old.stop → result ≡ Some Other }
         ensures stop { self.new.stop ≡ stop_after self.old.stop }
         ensures unchanged { arms_of self.new.refusals.items ≡ arms_of self.old.refusals.items }
@@ -128,7 +128,7 @@ impl MemoryFileSystem {
     }
 
     /// Of the calls from now on that may change files, the nth, counted from 1, and each later one are refused as
-    /// `Other`. These are to create, delete, rename, write, truncate, allocate, sync and make a folder.
+    /// `Other`. These are to create, delete, rename, delete metadata, write, truncate, allocate, sync and make a folder.
     pub fn stop_at(&mut self, nth: u64)
         ensures ok { stop_of self.new ≡ Some nth }
         ensures others { armed_of self.new ≡ armed_of self.old }

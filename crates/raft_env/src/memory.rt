@@ -1,5 +1,5 @@
 //! A file system in memory. Its earlier states are kept for clauses alone.
-ghost use Rattle.std.specs.Prelude.{◌≡◌, ◌≤◌, ◌+◌, ◌/◌, ◌↔◌, [], ◌∷◌, length, map, refl, take, IsTrue, None, OnErr, OnOk, false};
+ghost use Rattle.std.specs.Prelude.{◌≡◌, ◌⊎◌, ◌≤◌, ◌<◌, ◌+◌, ◌^◌, ◌↔◌, [], ◌∷◌, length, map, refl, take, IfErr, IfOk, IsTrue, None, OnErr, OnOk, Some, false, true};
 ghost use Rattle.std.specs.String.{string_bytes};
 ghost use Rattle.std.proofs.Props.{props};
 ghost use Rattle.raft_env.specs.Consistent.{AreConsistent, NoneRenamed, OnlyWritesRefusedIn, past_prop};
@@ -67,16 +67,16 @@ impl MemoryFileSystem {
 }
 
 impl MemoryFileSystem {
-    ghost use Rattle.raft_env.specs.Memory.{memory_directory, memory_moments, memory_refusals};
+    ghost use Rattle.raft_env.specs.Memory.{memory_directory, memory_moments, memory_refusals, armed_of, stop_of, half_written};
 
     // Writes the first half of the bytes, if there is room for all of them.
     fn write_half(&mut self, path: &str, at: usize, bytes: &[u8]) -> Result<(), FsFault>
-        ensures ok { OnOk result (memory_directory self.new ≡ changed path.now (λ f. written at bytes.now false
-            (overlaid f.now at (take (length bytes.now / 2) bytes.now)) f) (memory_directory self.old)) }
+        ensures ok { OnOk result (memory_directory self.new ≡ half_written path.now at bytes.now (memory_directory self.old)) }
         ensures err { OnErr result (memory_directory self.new ≡ memory_directory self.old) }
         ensures any_moment { Passes (memory_moments self.old) (memory_moments self.new) (memory_directory self.new)
             (IsWriting path.now at bytes.now (memory_directory self.old)) }
         ensures cause { memory_refusals self.new ≡ memory_refusals self.old }
+        ensures others { (armed_of self.new ≡ armed_of self.old) × (stop_of self.new ≡ stop_of self.old) }
     {
         if !fits(at, bytes.len()) {
             return Err(FsFault::Io(IoKind::NoSpace));
@@ -90,7 +90,12 @@ impl MemoryFileSystem {
 }
 
 impl FileSystem for MemoryFileSystem {
-    ghost use Rattle.raft_env.specs.Memory.{memory_directory, memory_moments, memory_refusals};
+    ghost use Rattle.raft_env.specs.Memory.{memory_directory, memory_moments, memory_refusals, armed_of, stop_of, half_written};
+    ghost use Rattle.raft_env.specs.Armed.{IsStopped, stop_after};
+    ghost use Rattle.raft_env.specs.Directory.{HasFile, IsAllocating, IsOneOf, IsTruncating, ReadsAt, created, file_at, folder_made, names_in};
+    ghost use Rattle.raft_env.specs.Outcomes.{File, padded, resized, synced_of};
+    ghost use Rattle.raft_env.specs.Refusal.{Counts, added_count};
+    ghost use Rattle.raft_env.specs.Refused.{HasNoFolder, HasNoPlace, HasNoRoom, IsBarred, IsMissing, MayNotWrite, WasArmed, WasForced};
 
     type Handle = MemoryHandle;
 
@@ -116,7 +121,19 @@ impl FileSystem for MemoryFileSystem {
 
     ghost now_counts = { λ m. (map tree_directory m.past.items, refl) };
 
-    fn create(&mut self, path: &str) -> Result<MemoryHandle, FsFault> {
+    fn create(&mut self, path: &str) -> Result<MemoryHandle, FsFault>
+        ensures handle { IfOk result (λ h. (string_bytes h.path ≡ path.now) × (h.may_write ≡ true)) }
+        ensures ok { OnOk result (memory_directory self.new ≡ created path.now (memory_directory self.old)) }
+        ensures err { OnErr result (memory_directory self.new ≡ memory_directory self.old) }
+        ensures any_moment { Passes (memory_moments self.old) (memory_moments self.new) (memory_directory self.new)
+            (IsOneOf (memory_directory self.old) (created path.now (memory_directory self.old))) }
+        ensures cause { Counts result (memory_refusals self.old) (memory_refusals self.new) }
+        ensures refused { IfErr result (λ e. WasForced (armed_of self.old) (stop_of self.old) FsCall.Create e
+            ⊎ HasNoPlace (memory_directory self.old) path.now e) }
+        ensures stopped { IsStopped (stop_of self.old) → result ≡ Err (FsFault.Io IoKind.Other) }
+        ensures stop { stop_of self.new ≡ stop_after (stop_of self.old) }
+        ensures armed { armed_of self.new ≡ armed_of self.old }
+    {
         if let Some(kind) = self.armed.due_change(FsCall::Create) {
             return Err(counted(&mut self.refusals, FsFault::Io(kind)));
         }
@@ -132,7 +149,15 @@ impl FileSystem for MemoryFileSystem {
         Ok(handle)
     }
 
-    fn open(&mut self, path: &str, permission: Permission) -> Result<MemoryHandle, FsFault> {
+    fn open(&mut self, path: &str, permission: Permission) -> Result<MemoryHandle, FsFault>
+        ensures handle { IfOk result (λ h. (string_bytes h.path ≡ path.now) × HasFile (memory_directory self.old) path.now) }
+        ensures may_write { IfOk result (λ h. h.may_write ≡ true ↔ (permission ≡ Permission.ReadWrite)) }
+        ensures unchanged { memory_directory self.new ≡ memory_directory self.old }
+        ensures any_moment { memory_moments self.new ≡ memory_moments self.old }
+        ensures cause { Counts result (memory_refusals self.old) (memory_refusals self.new) }
+        ensures refused { IfErr result (λ e. WasArmed (armed_of self.old) FsCall.Open e ⊎ IsMissing (memory_directory self.old) path.now e) }
+        ensures others { (armed_of self.new ≡ armed_of self.old) × (stop_of self.new ≡ stop_of self.old) }
+    {
         if let Some(kind) = self.armed.due(FsCall::Open) {
             return Err(counted(&mut self.refusals, FsFault::Io(kind)));
         }
@@ -145,7 +170,14 @@ impl FileSystem for MemoryFileSystem {
         })
     }
 
-    fn new_reader(&mut self, handle: &MemoryHandle) -> Result<MemoryReader, FsFault> {
+    fn new_reader(&mut self, handle: &MemoryHandle) -> Result<MemoryReader, FsFault>
+        ensures reader { IfOk result (λ r. (string_bytes r.path ≡ string_bytes handle.now.path) × (r.refused ≡ 0)) }
+        ensures unchanged { memory_directory self.new ≡ memory_directory self.old }
+        ensures any_moment { memory_moments self.new ≡ memory_moments self.old }
+        ensures cause { Counts result (memory_refusals self.old) (memory_refusals self.new) }
+        ensures refused { IfErr result (λ e. WasArmed (armed_of self.old) FsCall.NewReader e ⊎ (e ≡ FsFault.Memory)) }
+        ensures others { (armed_of self.new ≡ armed_of self.old) × (stop_of self.new ≡ stop_of self.old) }
+    {
         if let Some(kind) = self.armed.due(FsCall::NewReader) {
             return Err(counted(&mut self.refusals, FsFault::Io(kind)));
         }
@@ -155,11 +187,24 @@ impl FileSystem for MemoryFileSystem {
         })
     }
 
-    fn end_reader(&mut self, reader: MemoryReader) {
+    fn end_reader(&mut self, reader: MemoryReader)
+        ensures unchanged { memory_directory self.new ≡ memory_directory self.old }
+        ensures any_moment { memory_moments self.new ≡ memory_moments self.old }
+        ensures cause { memory_refusals self.new ≡ added_count (memory_refusals self.old) reader.refused }
+        ensures others { (armed_of self.new ≡ armed_of self.old) × (stop_of self.new ≡ stop_of self.old) }
+    {
         self.refusals = self.refusals.saturating_add(reader.refused);
     }
 
-    fn new_writer(&mut self, handle: &MemoryHandle) -> Result<MemoryWriter, FsFault> {
+    fn new_writer(&mut self, handle: &MemoryHandle) -> Result<MemoryWriter, FsFault>
+        ensures writer { IfOk result (λ w. (string_bytes w.path ≡ string_bytes handle.now.path) × (handle.now.may_write ≡ true)) }
+        ensures refused { handle.now.may_write ≡ false → result ≡ Err (FsFault.Io IoKind.Other) }
+        ensures unchanged { memory_directory self.new ≡ memory_directory self.old }
+        ensures any_moment { memory_moments self.new ≡ memory_moments self.old }
+        ensures cause { Counts result (memory_refusals self.old) (memory_refusals self.new) }
+        ensures why { IfErr result (λ e. WasArmed (armed_of self.old) FsCall.NewWriter e ⊎ MayNotWrite handle.now.may_write e) }
+        ensures others { (armed_of self.new ≡ armed_of self.old) × (stop_of self.new ≡ stop_of self.old) }
+    {
         let due = self.armed.due(FsCall::NewWriter);
         if !handle.may_write {
             return Err(counted(&mut self.refusals, FsFault::Io(IoKind::Other)));
@@ -172,7 +217,24 @@ impl FileSystem for MemoryFileSystem {
         })
     }
 
-    fn write(&mut self, writer: &mut MemoryWriter, at: usize, bytes: &[u8]) -> Result<(), FsFault> {
+    fn write(&mut self, writer: &mut MemoryWriter, at: usize, bytes: &[u8]) -> Result<(), FsFault>
+        ensures writer { string_bytes writer.new.path ≡ string_bytes writer.old.path }
+        ensures found { OnOk result (HasFile (memory_directory self.old) (string_bytes writer.old.path)) }
+        ensures fits { OnOk result (at + length bytes.now < 2 ^ 63) }
+        ensures ok { OnOk result (memory_directory self.new ≡ changed (string_bytes writer.old.path)
+            (λ f. written at bytes.now true (overlaid f.now at bytes.now) f) (memory_directory self.old)) }
+        ensures err { OnErr result (IsOneOf (memory_directory self.old)
+            (half_written (string_bytes writer.old.path) at bytes.now (memory_directory self.old)) (memory_directory self.new)) }
+        ensures any_moment { Passes (memory_moments self.old) (memory_moments self.new) (memory_directory self.new)
+            (IsWriting (string_bytes writer.old.path) at bytes.now (memory_directory self.old)) }
+        ensures cause { Counts result (memory_refusals self.old) (memory_refusals self.new) }
+        ensures refused { IfErr result (λ e. WasForced (armed_of self.old) (stop_of self.old) FsCall.Write e
+            ⊎ ((memory_directory self.new ≡ memory_directory self.old)
+            × (HasNoRoom at (length bytes.now) e ⊎ IsMissing (memory_directory self.old) (string_bytes writer.old.path) e))) }
+        ensures stopped { IsStopped (stop_of self.old) → result ≡ Err (FsFault.Io IoKind.Other) }
+        ensures stop { stop_of self.new ≡ stop_after (stop_of self.old) }
+        ensures armed { armed_of self.new ≡ armed_of self.old }
+    {
         if let Some(kind) = self.armed.due_change(FsCall::Write) {
             let _ = self.write_half(writer.path.as_str(), at, bytes);
             return Err(counted(&mut self.refusals, FsFault::Io(kind)));
@@ -191,7 +253,21 @@ impl FileSystem for MemoryFileSystem {
         Ok(())
     }
 
-    fn truncate(&mut self, writer: &mut MemoryWriter, size: usize) -> Result<(), FsFault> {
+    fn truncate(&mut self, writer: &mut MemoryWriter, size: usize) -> Result<(), FsFault>
+        ensures writer { string_bytes writer.new.path ≡ string_bytes writer.old.path }
+        ensures found { OnOk result (HasFile (memory_directory self.old) (string_bytes writer.old.path)) }
+        ensures ok { OnOk result (memory_directory self.new ≡ changed (string_bytes writer.old.path)
+            (λ f. resized true (take size f.now) f) (memory_directory self.old)) }
+        ensures err { OnErr result (memory_directory self.new ≡ memory_directory self.old) }
+        ensures any_moment { Passes (memory_moments self.old) (memory_moments self.new) (memory_directory self.new)
+            (IsTruncating (string_bytes writer.old.path) size (memory_directory self.old)) }
+        ensures cause { Counts result (memory_refusals self.old) (memory_refusals self.new) }
+        ensures refused { IfErr result (λ e. WasForced (armed_of self.old) (stop_of self.old) FsCall.Truncate e
+            ⊎ IsMissing (memory_directory self.old) (string_bytes writer.old.path) e) }
+        ensures stopped { IsStopped (stop_of self.old) → result ≡ Err (FsFault.Io IoKind.Other) }
+        ensures stop { stop_of self.new ≡ stop_after (stop_of self.old) }
+        ensures armed { armed_of self.new ≡ armed_of self.old }
+    {
         if let Some(kind) = self.armed.due_change(FsCall::Truncate) {
             return Err(counted(&mut self.refusals, FsFault::Io(kind)));
         }
@@ -203,12 +279,22 @@ impl FileSystem for MemoryFileSystem {
         Ok(())
     }
 
-    fn allocate(
-        &mut self,
-        writer: &mut MemoryWriter,
-        at: usize,
-        size: usize,
-    ) -> Result<(), FsFault> {
+    fn allocate(&mut self, writer: &mut MemoryWriter, at: usize, size: usize) -> Result<(), FsFault>
+        ensures writer { string_bytes writer.new.path ≡ string_bytes writer.old.path }
+        ensures found { OnOk result (HasFile (memory_directory self.old) (string_bytes writer.old.path)) }
+        ensures fits { OnOk result (at + size < 2 ^ 63) }
+        ensures ok { OnOk result (memory_directory self.new ≡ changed (string_bytes writer.old.path)
+            (λ f. resized true (padded f.now (at + size)) f) (memory_directory self.old)) }
+        ensures err { OnErr result (memory_directory self.new ≡ memory_directory self.old) }
+        ensures any_moment { Passes (memory_moments self.old) (memory_moments self.new) (memory_directory self.new)
+            (IsAllocating (string_bytes writer.old.path) (at + size) (memory_directory self.old)) }
+        ensures cause { Counts result (memory_refusals self.old) (memory_refusals self.new) }
+        ensures refused { IfErr result (λ e. WasForced (armed_of self.old) (stop_of self.old) FsCall.Allocate e
+            ⊎ HasNoRoom at size e ⊎ IsMissing (memory_directory self.old) (string_bytes writer.old.path) e) }
+        ensures stopped { IsStopped (stop_of self.old) → result ≡ Err (FsFault.Io IoKind.Other) }
+        ensures stop { stop_of self.new ≡ stop_after (stop_of self.old) }
+        ensures armed { armed_of self.new ≡ armed_of self.old }
+    {
         if let Some(kind) = self.armed.due_change(FsCall::Allocate) {
             return Err(counted(&mut self.refusals, FsFault::Io(kind)));
         }
@@ -223,7 +309,20 @@ impl FileSystem for MemoryFileSystem {
         Ok(())
     }
 
-    fn sync(&mut self, writer: &mut MemoryWriter) -> Result<(), FsFault> {
+    fn sync(&mut self, writer: &mut MemoryWriter) -> Result<(), FsFault>
+        ensures writer { string_bytes writer.new.path ≡ string_bytes writer.old.path }
+        ensures found { OnOk result (HasFile (memory_directory self.old) (string_bytes writer.old.path)) }
+        ensures ok { OnOk result (memory_directory self.new ≡ changed (string_bytes writer.old.path) synced_of (memory_directory self.old)) }
+        ensures err { OnErr result (memory_directory self.new ≡ memory_directory self.old) }
+        ensures any_moment { Passes (memory_moments self.old) (memory_moments self.new) (memory_directory self.new)
+            (IsOneOf (memory_directory self.old) (changed (string_bytes writer.old.path) synced_of (memory_directory self.old))) }
+        ensures cause { Counts result (memory_refusals self.old) (memory_refusals self.new) }
+        ensures refused { IfErr result (λ e. WasForced (armed_of self.old) (stop_of self.old) FsCall.Sync e
+            ⊎ IsMissing (memory_directory self.old) (string_bytes writer.old.path) e) }
+        ensures stopped { IsStopped (stop_of self.old) → result ≡ Err (FsFault.Io IoKind.Other) }
+        ensures stop { stop_of self.new ≡ stop_after (stop_of self.old) }
+        ensures armed { armed_of self.new ≡ armed_of self.old }
+    {
         if let Some(kind) = self.armed.due_change(FsCall::Sync) {
             return Err(counted(&mut self.refusals, FsFault::Io(kind)));
         }
@@ -235,12 +334,12 @@ impl FileSystem for MemoryFileSystem {
         Ok(())
     }
 
-    fn read(
-        &self,
-        reader: &mut MemoryReader,
-        at: usize,
-        bytes: &mut [u8],
-    ) -> Result<usize, FsFault> {
+    fn read(&self, reader: &mut MemoryReader, at: usize, bytes: &mut [u8]) -> Result<usize, FsFault>
+        ensures reader { string_bytes reader.new.path ≡ string_bytes reader.old.path }
+        ensures ok { IfOk result (λ n. ReadsAt (file_at (memory_directory self.now) (string_bytes reader.old.path)) at n bytes.old bytes.new) }
+        ensures cause { Counts result reader.old.refused reader.new.refused }
+        ensures refused { IfErr result (λ e. WasArmed (armed_of self.now) FsCall.Read e ⊎ IsMissing (memory_directory self.now) (string_bytes reader.old.path) e) }
+    {
         if let Some(kind) = self.armed.due(FsCall::Read) {
             return Err(counted(&mut reader.refused, FsFault::Io(kind)));
         }
@@ -250,7 +349,16 @@ impl FileSystem for MemoryFileSystem {
         }
     }
 
-    fn file_size(&mut self, handle: &MemoryHandle) -> Result<usize, FsFault> {
+    fn file_size(&mut self, handle: &MemoryHandle) -> Result<usize, FsFault>
+        ensures size { IfOk result (λ n. (file : File)
+            × (file_at (memory_directory self.old) (string_bytes handle.now.path) ≡ Some file) × (n ≡ length file.now)) }
+        ensures fits { IfOk result (λ n. n < 2 ^ 63) }
+        ensures unchanged { memory_directory self.new ≡ memory_directory self.old }
+        ensures any_moment { memory_moments self.new ≡ memory_moments self.old }
+        ensures cause { Counts result (memory_refusals self.old) (memory_refusals self.new) }
+        ensures refused { IfErr result (λ e. WasArmed (armed_of self.old) FsCall.FileSize e ⊎ IsMissing (memory_directory self.old) (string_bytes handle.now.path) e) }
+        ensures others { (armed_of self.new ≡ armed_of self.old) × (stop_of self.new ≡ stop_of self.old) }
+    {
         if let Some(kind) = self.armed.due(FsCall::FileSize) {
             return Err(counted(&mut self.refusals, FsFault::Io(kind)));
         }
@@ -260,7 +368,18 @@ impl FileSystem for MemoryFileSystem {
         }
     }
 
-    fn make_dir(&mut self, path: &str) -> Result<(), FsFault> {
+    fn make_dir(&mut self, path: &str) -> Result<(), FsFault>
+        ensures ok { OnOk result (memory_directory self.new ≡ folder_made path.now (memory_directory self.old)) }
+        ensures err { OnErr result (memory_directory self.new ≡ memory_directory self.old) }
+        ensures any_moment { Passes (memory_moments self.old) (memory_moments self.new) (memory_directory self.new)
+            (IsOneOf (memory_directory self.old) (folder_made path.now (memory_directory self.old))) }
+        ensures cause { Counts result (memory_refusals self.old) (memory_refusals self.new) }
+        ensures refused { IfErr result (λ e. WasForced (armed_of self.old) (stop_of self.old) FsCall.MakeDir e
+            ⊎ IsBarred (memory_directory self.old) path.now e) }
+        ensures stopped { IsStopped (stop_of self.old) → result ≡ Err (FsFault.Io IoKind.Other) }
+        ensures stop { stop_of self.new ≡ stop_after (stop_of self.old) }
+        ensures armed { armed_of self.new ≡ armed_of self.old }
+    {
         if let Some(kind) = self.armed.due_change(FsCall::MakeDir) {
             return Err(counted(&mut self.refusals, FsFault::Io(kind)));
         }
@@ -272,7 +391,14 @@ impl FileSystem for MemoryFileSystem {
         Ok(())
     }
 
-    fn list(&mut self, dir: &str) -> Result<Vec<String>, FsFault> {
+    fn list(&mut self, dir: &str) -> Result<Vec<String>, FsFault>
+        ensures names { IfOk result (λ names. map string_bytes names.items ≡ names_in dir.now (memory_directory self.old)) }
+        ensures unchanged { memory_directory self.new ≡ memory_directory self.old }
+        ensures any_moment { memory_moments self.new ≡ memory_moments self.old }
+        ensures cause { Counts result (memory_refusals self.old) (memory_refusals self.new) }
+        ensures refused { IfErr result (λ e. WasArmed (armed_of self.old) FsCall.List e ⊎ HasNoFolder (memory_directory self.old) dir.now e) }
+        ensures others { (armed_of self.new ≡ armed_of self.old) × (stop_of self.new ≡ stop_of self.old) }
+    {
         if let Some(kind) = self.armed.due(FsCall::List) {
             return Err(counted(&mut self.refusals, FsFault::Io(kind)));
         }

@@ -2,7 +2,7 @@
 ghost use Rattle.std.specs.Prelude.{◌≡◌, ◌<◌, ◌+◌, ◌-◌, ℕ, length, slice_index, unwrap_or, if◌then◌else◌, None, Some, OnOk, OnErr};
 ghost use Rattle.std.specs.Option.{option_or};
 ghost use Rattle.raft_env.specs.Outcomes.{is_within};
-ghost use Rattle.raft_env.specs.Kept.{saved_at};
+ghost use Rattle.raft_env.specs.Slot.{saved_at};
 
 use std::alloc::{AllocError, Global};
 use std::marker::Model;
@@ -18,7 +18,7 @@ pub(crate) struct Saved {
 
 impl Model for Saved {
     ghost use Rattle.std.specs.Prelude.{◌≡◌, length};
-    ghost use Rattle.raft_env.specs.Kept.{OldBytes, places_len};
+    ghost use Rattle.raft_env.specs.Slot.{OldBytes, places_len};
 
     ghost Value = { OldBytes };
 

@@ -2,7 +2,7 @@
 ghost use Rattle.std.specs.Prelude.{◌≡◌, ◌≤◌, ◌<◌, ◌+◌, ◌-◌, ◌==◌, ◌&&◌, ◌++◌, ◌^◌, ◌||◌, ℕ, [], length, take, drop, if◌then◌else◌, true, OnOk, OnErr, IfOk, IfErr, MatchBool, vec_len, vec_capacity};
 ghost use Rattle.raft_env.specs.Outcomes.{File, MayLeave, settled, written, resized, synced_of, overlaid, padded, is_within};
 ghost use Rattle.raft_env.specs.Choice.{torn};
-ghost use Rattle.raft_env.specs.Kept.{IsKept, IsSaved, is_covered, SameOutside};
+ghost use Rattle.raft_env.specs.Slot.{IsSlotOf, IsSaved, is_covered, SameOutside};
 
 use crate::crash::Choice;
 use crate::known::{Known, Step};
@@ -27,7 +27,7 @@ impl Model for Slot {
 
     ghost view = { λ s. s.known.file };
 
-    ghost invariant = { λ s. IsKept s.bytes.items s.known.file.synced s.ranges.items s.least s.greatest s.known.file × IsSaved s.bytes.items s.saved s.synced_len s.known.file.synced };
+    ghost invariant = { λ s. IsSlotOf s.bytes.items s.known.file.synced s.ranges.items s.least s.greatest s.known.file × IsSaved s.bytes.items s.saved s.synced_len s.known.file.synced };
 }
 
 impl Slot {

@@ -1,5 +1,5 @@
 use Rattle.std.proofs.Common.{◌≡◌, ◌<◌, ℕ, length, false, get_or}
-use Rattle.raft_env.specs.Kept.{is_covered}
+use Rattle.raft_env.specs.Slot.{is_covered}
 use Rattle.raft_env.proofs.slot.same_outside.Given as goal
 
 abbrev pub invariant-loop-i : goal.invariant-loop-i

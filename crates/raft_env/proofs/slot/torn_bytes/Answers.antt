@@ -1,6 +1,6 @@
 use Rattle.std.proofs.Common.{◌≡◌, ◌++◌, [], ◌∷◌, ◌+◌, ◌≤◌, length, get_or, cond, ◌&&◌, ◌∙◌, arith, rules}
 use Rattle.std.specs.Prelude.{◌==◌}
-use Rattle.raft_env.specs.Kept.{is_covered}
+use Rattle.raft_env.specs.Slot.{is_covered}
 use Rattle.raft_env.proofs.ChoiceLemmas.{torn_more, left_more}
 use Rattle.raft_env.proofs.slot.torn_bytes.Goals as goal
 

@@ -1,6 +1,6 @@
 use Rattle.std.proofs.Common.{◌≡◌, ◌-◌, ◌≤◌, map, length}
 use Rattle.std.specs.List.{range_with_len}
-use Rattle.raft_env.specs.Kept.{is_covered}
+use Rattle.raft_env.specs.Slot.{is_covered}
 use Rattle.raft_env.specs.Choice.{torn_byte, touched_before}
 use Rattle.raft_env.proofs.slot.torn_bytes.Given as goal
 

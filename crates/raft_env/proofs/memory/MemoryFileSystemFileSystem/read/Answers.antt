@@ -1,4 +1,4 @@
-use Rattle.std.proofs.Common.{◌≡◌, Some, sym, ◌∙◌, subst, rules}
+use Rattle.std.proofs.Common.{◌≡◌, Some, None, inr, sym, ◌∙◌, subst, rules}
 use Rattle.std.specs.BTreeMap as tree
 use Rattle.std.specs.String.{string_bytes}
 use Rattle.raft_env.specs.Directory.{ReadsAt, IsReading}
@@ -11,3 +11,9 @@ returns-in-Some-get-clause-ok c =
     let stands : tree.get_by_text c.args.self.now.tree.files path ≡ Some c.in-Some-get.slot.now = search rules in
     subst (λ o. ReadsAt o c.args.at c.copy_from.result c.args.bytes.now c.copy_from.new.bytes) (sym (file_at-tree_directory c.args.self.now.tree path ∙ stands))
     (subst (λ b. IsReading b c.args.at c.copy_from.result c.args.bytes.now c.copy_from.new.bytes) c.bytes.ensures.value c.copy_from.ensures)
+
+pub returns-in-None-clause-refused : goal.returns-in-None-clause-refused
+returns-in-None-clause-refused c =
+    let path = string_bytes c.args.reader.now.path in
+    let none : tree.get_by_text c.args.self.now.tree.files path ≡ None = search rules in
+    inr (inr (c.counted-in-None.ensures.value, file_at-tree_directory c.args.self.now.tree path ∙ none))

@@ -1,5 +1,5 @@
 use Rattle.std.proofs.Common.{◌≡◌, ℕ, ◌+◌, ◌-◌, ◌<◌, length, take, drop, get_or, unwrap_or, List, ◌∙◌, ap, rules, arith}
-use Rattle.raft_env.specs.Kept.{places_len, saved_in}
+use Rattle.raft_env.specs.Slot.{places_len, saved_in}
 use Rattle.raft_env.proofs.SavedLemmas.{end_before, restored_from}
 use Rattle.raft_env.proofs.saved.Saved.restore.Goals as goal
 

@@ -1,5 +1,5 @@
 use Rattle.std.proofs.Common.{◌≡◌, ◌<◌, ◌≤◌, ℕ, length, take, drop, get_or, unwrap_or}
-use Rattle.raft_env.specs.Kept.{places_len, saved_in}
+use Rattle.raft_env.specs.Slot.{places_len, saved_in}
 use Rattle.raft_env.proofs.saved.Saved.restore.Given as goal
 
 -- what the ranges from this one on saved stands in its places

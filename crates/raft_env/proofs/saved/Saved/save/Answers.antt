@@ -1,5 +1,5 @@
 use Rattle.std.proofs.Common.{◌≡◌, ℕ, ◌+◌, ◌-◌, ◌++◌, [], ◌∷◌, length, get_or, cond, Some, None, sym, ◌∙◌, ap, rules}
-use Rattle.raft_env.specs.Kept.{OldBytes, places_len, saved_at, saved_in}
+use Rattle.raft_env.specs.Slot.{OldBytes, places_len, saved_at, saved_in}
 use Rattle.raft_env.specs.Outcomes.{is_within}
 use Rattle.std.specs.Option.{option_or}
 use Rattle.raft_env.proofs.SavedLemmas.{places_len-more, saved_in-more}

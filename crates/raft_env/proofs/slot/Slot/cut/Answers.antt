@@ -1,6 +1,6 @@
 use Rattle.std.proofs.Common.{◌≡◌, ◌≤◌, length, take, true, min, max, rules}
 use Rattle.raft_env.specs.Outcomes.{resized}
-use Rattle.raft_env.proofs.SlotLemmas.{kept_cut}
+use Rattle.raft_env.proofs.SlotLemmas.{slot_cut}
 use Rattle.raft_env.proofs.SavedLemmas.{saved_cut}
 use Rattle.raft_env.proofs.slot.Slot.cut.Goals as goal
 
@@ -12,7 +12,7 @@ invariant_of-self-2 c =
     let reserved : c.reserve.new.self.items ≡ s.ranges.items = search rules in
     let after : c.truncate.new.self.items ≡ take from s.bytes.items = search rules in
     let size : c.len-2.result ≡ length s.bytes.items = search rules in
-    let kept = kept_cut _ _ _ c.add_range.new.ranges.items _ _ _ c.self.invariant.0 from fits (rw (reserved, size) at c.add_range.ensures) in
+    let kept = slot_cut _ _ _ c.add_range.new.ranges.items _ _ _ c.self.invariant.0 from fits (rw (reserved, size) at c.add_range.ensures) in
     let bytes : c.deref.result.now ≡ s.bytes.items = c.deref.ensures.value in
     let saved = saved_cut _ _ _ _ c.self.invariant.1 c.save.new.self from (rw bytes at c.in_ok-save.ensures.ok) in
     let low : c.min-self-inside.result ≡ min s.least from = search rules in

@@ -1,6 +1,6 @@
 use Rattle.std.proofs.Common.{◌≡◌, ◌∙◌, ap, subst}
 use Rattle.raft_env.specs.Outcomes.{File, MayLeave, is_touched}
-use Rattle.raft_env.specs.Kept.{is_covered}
+use Rattle.raft_env.specs.Slot.{is_covered}
 use Rattle.raft_env.specs.Choice.{torn}
 use Rattle.raft_env.proofs.ChoiceLemmas.{synced_may_be_left, torn-covered, torn_may_be_left}
 use Rattle.raft_env.proofs.slot.Slot.left.Goals as goal

@@ -34,7 +34,7 @@ pub record Agree (ranges : List (ℕ × ℕ)) (bytes synced : List ℕ) : Type 0
   pub each : (i : ℕ) → is_covered ranges i ≡ false → slice_index bytes i ≡ slice_index synced i
 
 -- the bytes, the ranges and the lengths of a slot are those of the file
-pub record IsKept (bytes synced : List ℕ) (ranges : List (ℕ × ℕ)) (low high : ℕ) (file : File) : Type 0 where
+pub record IsSlotOf (bytes synced : List ℕ) (ranges : List (ℕ × ℕ)) (low high : ℕ) (file : File) : Type 0 where
   pub now : file.now ≡ bytes
   pub on_disk : file.synced ≡ synced
   pub touched : (i : ℕ) → is_touched file.changes i ≡ is_covered ranges i
