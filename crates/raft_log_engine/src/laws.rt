@@ -12,13 +12,14 @@ ghost use Rattle.raft_log_engine.specs.declared.config.RecoveryMode.{RecoveryMod
 ghost use Rattle.raft_log_engine.specs.declared.config.RecoveryMode.TheVariants.{AbsoluteConsistency};
 
 /// A folder that keeps contents through a crash leaves them then, perhaps with a beginning of the batches behind
-/// them, where damage can be told. A restart after a crash keeps what the crash left, its log can be opened in
-/// each mode but the absolute one, and no file stands in the folder's place. Where no log stands, nothing is kept.
+/// them, where damage can be told. A restart after a crash finds and keeps what the crash left, its log can be opened
+/// in each mode but the absolute one, and no file stands in the folder's place. Where no log stands, nothing is kept.
 /// Files that no crash met, as an engine gave them up, stand for what a crash could leave, and their log can be opened,
 /// where their damage can be told: what a refused write left of its record may be any bytes.
 pub fn crash_leaves_contents()
     ensures left { (folder : Path) (m : Contents) (batches : List Batch) (n : Directory) → KeepsContents folder m batches n → LeavesAllowed folder m batches n }
     ensures restarted { (folder : Path) (n m : Directory) (d : Left) → IsRestarted n d m → IsSound folder n d → KeepsContents folder (found_after folder n d) [] m }
+    ensures found { (folder : Path) (n m : Directory) (d : Left) → IsRestarted n d m → contents_at folder m ≡ found_after folder n d }
     ensures opens { (folder : Path) (n m : Directory) (d : Left) → IsRestarted n d m → IsSound folder n d → (mode : RecoveryMode) → (mode ≡ AbsoluteConsistency → ⊥) → IsOpenable mode folder m }
     ensures as_they_are { (folder : Path) (m : Contents) (batches : List Batch) (n : Directory) → KeepsContents folder m batches n → IsDetectable (log_path folder) first_file n (as_it_is n)
         → IsAllowedFrom 0 m batches (contents_at folder n) × ((mode : RecoveryMode) → (mode ≡ AbsoluteConsistency → ⊥) → IsOpenable mode folder n) }

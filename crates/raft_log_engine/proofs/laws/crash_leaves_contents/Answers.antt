@@ -1,3 +1,5 @@
+use Rattle.std.proofs.Common.{ap}
+use Rattle.raft_log_engine.specs.Log.{contents_in}
 use Rattle.raft_log_engine.proofs.AllowedLemmas.{contents_as_they_are, contents_left, contents_none, contents_restarted}
 use Rattle.raft_log_engine.proofs.SoundLemmas.{restarted_bytes, restarted_no_file, sound_opens}
 use Rattle.raft_log_engine.proofs.laws.crash_leaves_contents.Goals as goal
@@ -7,6 +9,9 @@ returns-clause-left c = contents_left
 
 pub returns-clause-restarted : goal.returns-clause-restarted
 returns-clause-restarted c = contents_restarted
+
+pub returns-clause-found : goal.returns-clause-found
+returns-clause-found c = λ folder n m d restarted. ap contents_in (restarted_bytes folder n d m restarted)
 
 pub returns-clause-opens : goal.returns-clause-opens
 returns-clause-opens c = λ folder n m d restarted sound mode tolerant. sound_opens folder n d m (restarted_bytes folder n d m restarted) mode sound tolerant
