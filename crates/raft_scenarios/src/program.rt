@@ -9,7 +9,7 @@ use std::test::Fail;
 /// A script, what it prints, and how it ends.
 struct Case(&'static str, &'static str, Ended);
 
-const CASES: [Case; 23] = [
+const CASES: [Case; 24] = [
     Case(
         "put 1 k v sync\nreopen\nget 1 k\nget 1 x\n",
         "ok\nok\nvalue v\nnone\n",
@@ -66,6 +66,12 @@ const CASES: [Case; 23] = [
     Case(
         "crash all\nput 1 a 1\nsync\ncrash synced\nget 1 a\n",
         "ok\nok\nok\nok\nvalue 1\n",
+        Ended::Done,
+    ),
+    // What an opening found is synced.
+    Case(
+        "put 1 a 1\ncrash all\ncrash synced\nget 1 a\n",
+        "ok\nok\nok\nvalue 1\n",
         Ended::Done,
     ),
     Case("crash torn 1 256\n", "", Ended::BadLine(1)),

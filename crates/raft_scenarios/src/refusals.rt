@@ -127,11 +127,30 @@ fn are_answers(rt: &impl Abort, ops: &[Op], outcomes: &[Outcome], kind: IoKind) 
     refused
 }
 
+// Up to the first refused one the outcomes are those that were wanted.
+fn begin_as_wanted(rt: &impl Abort, outcomes: &[Outcome], wanted: &[Outcome]) {
+    for (outcome, wanted) in outcomes.iter().zip(wanted.iter()) {
+        if !is_done(outcome) {
+            return;
+        }
+        assert_eq!(rt; *outcome, *wanted);
+    }
+}
+
+// What the operations are answered where nothing is refused.
+fn answered(rt: &impl Abort, alloc: Global, ops: &[Op]) -> Result<Vec<Outcome>, Fail> {
+    let shown = run_over(alloc, ops, MemoryFileSystem::new(alloc))?;
+    assert_eq!(rt; shown.outcomes.len(), ops.len());
+    assert!(rt; shown.outcomes.iter().all(is_done));
+    Ok(shown.outcomes)
+}
+
 // With the nth call of a sort refused: whether there were so many.
 fn refuse_one(
     rt: &impl Abort,
     alloc: Global,
     ops: &[Op],
+    wanted: &[Outcome],
     call: FsCall,
     nth: u64,
     kind: IoKind,
@@ -139,6 +158,7 @@ fn refuse_one(
     let mut files = MemoryFileSystem::new(alloc);
     files.refuse(call, nth, kind)?;
     let shown = run_over(alloc, ops, files)?;
+    begin_as_wanted(rt, &shown.outcomes, wanted);
     let mut refused = are_answers(rt, ops, &shown.outcomes, kind);
     if let Some(fault) = &shown.opening {
         assert!(rt; is_refusal(fault, kind), "{fault:?}");
@@ -164,11 +184,12 @@ fn refuse_one(
 fn each_call_may_be_refused(rt: HostRuntime) -> Result<(), Fail> {
     let alloc = rt.alloc();
     let ops = operations(alloc)?;
+    let wanted = answered(&rt, alloc, &ops)?;
     for call in CALLS {
         for kind in KINDS {
             let mut met = true;
             for nth in 1..MAX_CALLS {
-                met = met && refuse_one(&rt, alloc, &ops, call, nth, kind)?;
+                met = met && refuse_one(&rt, alloc, &ops, &wanted, call, nth, kind)?;
             }
             assert!(rt; !met);
         }

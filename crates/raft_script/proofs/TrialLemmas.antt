@@ -25,13 +25,14 @@ use Rattle.raft_log_engine.specs.Log.{contents_at, contents_in, first_file, log_
 use Rattle.raft_script.specs.Durability.{LeavesAllowedBehind, covered_behind}
 use Rattle.raft_log_engine.specs.Open.{IsDamage, IsOpenable}
 use Rattle.raft_script.specs.Run.{IsOutside, accepted}
-use Rattle.raft_script.specs.Trial.{IsLogRefusal}
+use Rattle.raft_script.specs.Trial.{AreAnswered, AreNotAsked, IsLogRefusal}
 use Rattle.raft_log_engine.specs.declared.config.RecoveryMode.{RecoveryMode}
 use Rattle.raft_log_engine.specs.declared.config.RecoveryMode.TheVariants.{AbsoluteConsistency}
 use Rattle.raft_script.specs.declared.operation.Op.{Op}
 use Rattle.raft_script.specs.declared.operation.Outcome.{Outcome}
 use Rattle.raft_log_engine.proofs.AllowedLemmas.{contents_left, if_err}
 use Rattle.raft_log_engine.proofs.SoundLemmas.{restarted_bytes, restarted_no_file, sound_opens}
+use Rattle.raft_script.proofs.RunLemmas.{contents_at-no_files}
 
 -- the run of an engine that was opened with all synced
 pub opened_behind : (folder dir : Path) (m durable : Contents) (unsynced : List Batch) (ops : List Op) (outcomes : List Outcome) (failed_at : Option ℕ) (n : Directory) → folder ≡ dir → durable ≡ m → unsynced ≡ [] → LeavesAllowedBehind failed_at folder durable unsynced ops outcomes n → LeavesAllowedBehind failed_at dir m [] ops outcomes n
@@ -63,6 +64,16 @@ nothing_kept folder n is =
       λ found. let clash = subst IsSome (absent folder) found in absurd cc,
       ∣ ([], 0, kept_none (log_path folder) first_file [] n (absent (log_path folder)), refl, refl, refl) ∣₁,
     )
+
+-- what a run shows that began with no files
+pub run_shown : (dir : Path) (before n : Directory) (ops : List Op) (outcomes : List Outcome) (failed_at : Option ℕ) → before ≡ no_files
+    → (KeepsContents dir (contents_at dir before) [] before → AreAnswered (contents_at dir before) ops outcomes failed_at ⊎ AreNotAsked dir (contents_at dir before) n outcomes failed_at)
+    → (KeepsContents dir (contents_at dir before) [] before → LeavesAllowedBehind failed_at dir (contents_at dir before) [] ops outcomes n)
+    → (AreAnswered no_contents ops outcomes failed_at ⊎ AreNotAsked dir no_contents n outcomes failed_at) × LeavesAllowedBehind failed_at dir no_contents [] ops outcomes n
+run_shown dir before n ops outcomes failed_at none answered behind =
+    let empty = contents_at-no_files dir before none in
+    let kept = subst (λ (m : Contents). KeepsContents dir m [] before) (sym empty) (nothing_kept dir before none) in
+    (subst (λ (m : Contents). AreAnswered m ops outcomes failed_at ⊎ AreNotAsked dir m n outcomes failed_at) empty (answered kept), subst (λ (m : Contents). LeavesAllowedBehind failed_at dir m [] ops outcomes n) empty (behind kept))
 
 -- what an opening after a crash finds
 pub restarted_contents : (folder : Path) (n m : Directory) (d : Left) → IsRestarted n d m → contents_at folder m ≡ found_after folder n d
@@ -109,22 +120,22 @@ opened_log mode again folder dir n m d opened mode_is dir_is restarted none refu
 
 -- Why the choices are refused.
 
--- of consistent files, only for bytes that they name
-pub choices_refused : (n : Directory) (choices : List Choice) (e : Fault) → AreConsistent n → RefusesUnless (Leaves n (left_by choices n)) e → (e ≡ fault.Memory) ⊎ ((fault_code e ≡ 1) × (NameNoBytes choices → ⊥))
-choices_refused n choices (fault.InvalidArgument text) consistent refuses = inr (refl, λ none. refuses (choices_may_leave choices n none consistent))
-choices_refused n choices fault.Corruption consistent refuses = absurd refuses
-choices_refused n choices (fault.Io kind path) consistent refuses = absurd refuses
-choices_refused n choices fault.TryAgain consistent refuses = absurd refuses
-choices_refused n choices fault.Gap consistent refuses = absurd refuses
-choices_refused n choices fault.Range consistent refuses = absurd refuses
-choices_refused n choices fault.EntryCompacted consistent refuses = absurd refuses
-choices_refused n choices fault.EntryNotFound consistent refuses = absurd refuses
-choices_refused n choices fault.WrongIndex consistent refuses = absurd refuses
-choices_refused n choices fault.Parse consistent refuses = absurd refuses
-choices_refused n choices fault.Failed consistent refuses = absurd refuses
-choices_refused n choices fault.Memory consistent refuses = inl refl
-choices_refused n choices fault.Lz4 consistent refuses = absurd refuses
-choices_refused n choices fault.FileOutOfRange consistent refuses = absurd refuses
-choices_refused n choices fault.NotRecovered consistent refuses = absurd refuses
-choices_refused n choices fault.TrailFull consistent refuses = absurd refuses
-choices_refused n choices fault.Layer consistent refuses = absurd refuses
+-- of consistent files, only for bytes that they name and that storage may not leave of them
+pub choices_refused : {P : Type 0} (n : Directory) (choices : List Choice) (e : Fault) → AreConsistent n → RefusesUnless (Leaves n (left_by choices n)) e → ((Leaves n (left_by choices n) → ⊥) → P) → (e ≡ fault.Memory) ⊎ ((fault_code e ≡ 1) × (NameNoBytes choices → ⊥) × P)
+choices_refused n choices (fault.InvalidArgument text) consistent refuses told = inr (refl, λ none. refuses (choices_may_leave choices n none consistent), told refuses)
+choices_refused n choices fault.Corruption consistent refuses told = absurd refuses
+choices_refused n choices (fault.Io kind path) consistent refuses told = absurd refuses
+choices_refused n choices fault.TryAgain consistent refuses told = absurd refuses
+choices_refused n choices fault.Gap consistent refuses told = absurd refuses
+choices_refused n choices fault.Range consistent refuses told = absurd refuses
+choices_refused n choices fault.EntryCompacted consistent refuses told = absurd refuses
+choices_refused n choices fault.EntryNotFound consistent refuses told = absurd refuses
+choices_refused n choices fault.WrongIndex consistent refuses told = absurd refuses
+choices_refused n choices fault.Parse consistent refuses told = absurd refuses
+choices_refused n choices fault.Failed consistent refuses told = absurd refuses
+choices_refused n choices fault.Memory consistent refuses told = inl refl
+choices_refused n choices fault.Lz4 consistent refuses told = absurd refuses
+choices_refused n choices fault.FileOutOfRange consistent refuses told = absurd refuses
+choices_refused n choices fault.NotRecovered consistent refuses told = absurd refuses
+choices_refused n choices fault.TrailFull consistent refuses told = absurd refuses
+choices_refused n choices fault.Layer consistent refuses told = absurd refuses

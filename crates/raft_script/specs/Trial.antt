@@ -30,6 +30,16 @@ pub record AreNotAsked (folder : Path) (m : Contents) (files : Directory) (outco
   pub stands : failed_at ≡ None
   pub files_keep : KeepsContents folder m [] files
 
+-- operations over files that were empty may leave files of which storage may not leave what the choices say
+pub record AreNotAllowed (folder : Path) (ops : List Op) (choices : List Choice) : Type 0 where
+  pub outcomes : List Outcome
+  pub failed_at : Option ℕ
+  -- the files as the operations left them
+  pub files : Directory
+  pub answered : AreAnswered no_contents ops outcomes failed_at ⊎ AreNotAsked folder no_contents files outcomes failed_at
+  pub behind : LeavesAllowedBehind failed_at folder no_contents [] ops outcomes files
+  pub refused : Leaves files (left_by choices files) → ⊥
+
 -- an opening is refused by storage, for want of memory, or for the bytes of a log that stands at the path
 abbrev pub IsLogRefusal : RecoveryMode → Path → Directory → List ℕ → Fault → Type 0
 IsLogRefusal mode path files bytes e = IsOutside e ⊎ (HasFile files path × IsDamage mode bytes e)

@@ -12,7 +12,7 @@ ghost use Rattle.raft_log_engine.specs.Crash.{KeepsContents};
 ghost use Rattle.raft_script.specs.Durability.{LeavesAllowedBehind};
 ghost use Rattle.raft_log_engine.specs.Open.{IsOpenable};
 ghost use Rattle.raft_script.specs.Run.{IsOutside};
-ghost use Rattle.raft_script.specs.Trial.{AreAnswered, AreNotAsked, IsLogRefusal, IsTrialOf};
+ghost use Rattle.raft_script.specs.Trial.{AreAnswered, AreNotAllowed, AreNotAsked, IsLogRefusal, IsTrialOf};
 
 use crate::operation::{Op, Trial};
 use crate::runs::{Ran, run_watched};
@@ -23,9 +23,9 @@ use std::alloc::Global;
 
 /// Opens a log in memory, does the operations, crashes, and opens again. From the first opening on the calls that may
 /// change files are counted from 1, and from the one at `stop` on each is refused; the opening after the crash has no
-/// stop. The choices say what the crash leaves; bytes that storage doesn't allow are refused. Where the damage of what it
-/// leaves can be told, a tolerant opening is refused by storage or for want of memory alone; and any only for these or
-/// for what is left of the log.
+/// stop. The choices say what the crash leaves; bytes that storage doesn't allow are refused, and no others. Where
+/// the damage of what it leaves can be told, a tolerant opening is refused by storage or for want of memory alone; and
+/// any only for these or for what is left of the log.
 pub fn trial(
     alloc: Global,
     config: Config,
@@ -34,7 +34,7 @@ pub fn trial(
     choices: &[Choice],
 ) -> Result<Trial, Fault>
     ensures crashed { IfOk result (IsTrialOf config.recovery_mode (string_bytes config.dir) ops.now choices.now) }
-    ensures cause { IfErr result (λ e. (e ≡ Fault.Memory) ⊎ ((fault_code e ≡ 1) × (NameNoBytes choices.now → ⊥))) }
+    ensures cause { IfErr result (λ e. (e ≡ Fault.Memory) ⊎ ((fault_code e ≡ 1) × (NameNoBytes choices.now → ⊥) × AreNotAllowed (string_bytes config.dir) ops.now choices.now)) }
 {
     let again = config.clone()?;
     let (ran, files) = run_over(alloc, config, new_files(alloc, stop), ops)?;
