@@ -1,6 +1,6 @@
 -- How the tables of an engine and its file go on agreeing.
-use Rattle.std.proofs.Common.{◌≡◌, ◌≢◌, inl, inr, ℕ, ◌<◌, ◌≤◌, ◌^◌, Bool, true, false, List, [], ◌∷◌, ◌++◌, length, take, Option, Some, None, refl, sym, ◌∙◌, ap, subst, arith, length-append}
-use Rattle.std.specs.Prelude.{IsSome, is_some, option_map, ◌&&◌}
+use Rattle.std.proofs.Common.{◌≡◌, ◌≢◌, inl, inr, ℕ, ◌≤◌, Bool, true, false, List, [], ◌∷◌, ◌++◌, length, take, Option, Some, None, refl, sym, ◌∙◌, ap, subst, arith, length-append}
+use Rattle.std.specs.Prelude.{is_some, option_map, ◌&&◌}
 use Rattle.std.specs.List.{list_all}
 use Rattle.std.specs.Str.{bytes_eq}
 use Rattle.std.proofs.lemmas.Bool.{cases_Bool}
@@ -25,17 +25,6 @@ use Rattle.raft_files.proofs.ExtentLemmas.{header_of_takes}
 use Rattle.raft_log_engine.specs.Agrees.{Agrees, written_bytes}
 use Rattle.raft_log_engine.specs.Log.{contents_in, first_file, recovered, version_in}
 use Rattle.raft_log_engine.specs.Open.{IsWholeLog, are_plain}
-
--- a writer of a file that stands, is long enough and has room
-pub writer_of : (w : Writing) (n : Directory) → HasFile n w.path → w.written ≤ length (bytes_at w.path n) → length (bytes_at w.path n) ≤ w.capacity → w.written < 2 ^ 63 → IsWriterOf w n
-writer_of w n found enough within fits = by_file (file_at n w.path) refl found enough within
-  where
-    by_file : (o : Option File) → file_at n w.path ≡ o → IsSome o → w.written ≤ length (bytes_of o) → length (bytes_of o) ≤ w.capacity → IsWriterOf w n
-    by_file None is some long short = cc
-    by_file (Some file) is some long short = record { file = file; is = is; enough = long; within = short; fits = fits }
-
-pub writer_agreeing : (w : Writing) (n : Directory) (v : Version) (m : Contents) → Agrees w n v m → IsWriterOf w n
-writer_agreeing w n v m a = writer_of w n a.found a.enough a.within a.fits
 
 -- a writer of a file whose written bytes are a whole log agrees with its contents
 pub agrees_by : (w : Writing) (n : Directory) (bytes : List ℕ) (v : Version) (m : Contents) → IsWriterOf w n → written_bytes w n ≡ bytes → version_in bytes ≡ Some v → IsWholeLog bytes → m ≡ contents_in bytes → Agrees w n v m
