@@ -121,9 +121,6 @@ number_from-digit n c digits e low high =
     ap (λ b. cond (b && all_ascii_digits digits && nat_lt (digits_value_after 10 (n * 10 + digit_value c) digits) (2 ^ 64)) (Some (digits_value_after 10 (n * 10 + digit_value c) digits)) None) e
     ∙ ap (λ v. number_from (n * 10 + v) digits) (digit_value-digit c low high)
 
-pub number_from-other : (n c : ℕ) (digits : List ℕ) → is_ascii_digit c ≡ false → number_from n (c ∷ digits) ≡ None
-number_from-other n c digits e = ap (λ b. cond (b && all_ascii_digits digits && nat_lt (digits_value_after 10 (n * 10 + digit_value c) digits) (2 ^ 64)) (Some (digits_value_after 10 (n * 10 + digit_value c) digits)) None) e
-
 pub number_from-over : (n : ℕ) (digits : List ℕ) → 2 ^ 64 ≤ n → number_from n digits ≡ None
 number_from-over n digits over =
     ap (λ b. cond (all_ascii_digits digits && b) (Some (digits_value_after 10 n digits)) None) (le-ltb (digits_value_after 10 n digits) (2 ^ 64) (omega (arith, over, value_after_more n digits)))
@@ -139,9 +136,6 @@ number_next word i n within digit low high = ap (number_from n) (drop_more word 
 
 pub number_over : (word : List ℕ) (i n : ℕ) → i < length word → is_ascii_digit (get_or word i 0) ≡ true → 48 ≤ get_or word i 0 → get_or word i 0 ≤ 57 → 2 ^ 64 ≤ n * 10 + (get_or word i 0 - 48) → number_from n (drop i word) ≡ None
 number_over word i n within digit low high over = number_next word i n within digit low high ∙ number_from-over (n * 10 + (get_or word i 0 - 48)) (drop (i + 1) word) over
-
-pub number_stops : (word : List ℕ) (i n : ℕ) → i < length word → is_ascii_digit (get_or word i 0) ≡ false → number_from n (drop i word) ≡ None
-number_stops word i n within other = ap (number_from n) (drop_more word i 0 within) ∙ number_from-other n (get_or word i 0) (drop (i + 1) word) other
 
 pub number_ends : (word : List ℕ) (i n : ℕ) → length word ≤ i → n < 2 ^ 64 → number_from n (drop i word) ≡ Some n
 number_ends word i n past small = ap (number_from n) (drop_all i word past) ∙ ap (λ b. cond b (Some n) None) (lt-ltb n (2 ^ 64) small)

@@ -3,14 +3,13 @@ use Rattle.std.proofs.lemmas.Grind.{common_steps}
 use Rattle.std.proofs.lemmas.List.{take_all}
 use Rattle.std.proofs.lemmas.List.Elements.{All-get_or}
 use Rattle.raft_env.specs.Moments.{Passes}
-use Rattle.raft_env.proofs.MomentsLemmas.{passes_none}
 use Rattle.raft_log_engine.specs.Crash.{LeavesAllowed}
 use Rattle.raft_script.specs.Durability.{durability_of}
 use Rattle.raft_script.specs.Run.{IsFailurePlace, IsUnasked, in_flight}
 use Rattle.raft_script.specs.declared.operation.Op.{Op}
 use Rattle.raft_log_engine.specs.Engine.{contents_of, directory_of, durable_of, folder_of, has_failed, moments_of, refusals_of, unsynced_of}
 use Rattle.raft_log_engine.proofs.AllowedLemmas.{engine_holds, engine_leaves}
-use Rattle.raft_script.proofs.DurabilityLemmas.{IsUnderWay, durable_behind, leaves_behind, moment_begun, moments_here, under_way_begun, way_here}
+use Rattle.raft_script.proofs.DurabilityLemmas.{IsUnderWay, durable_behind, leaves_behind, moments_here, passed_begun, under_way_begun, way_here}
 use Rattle.raft_script.proofs.RunLemmas.{IsNextPlace, place_failing, place_more, rose_more, running_begun, running_more, stands_so_far, taken_more}
 use Rattle.raft_script.proofs.runs.run_watched.Goals as goal
 use Rattle.raft_script.proofs.runs.run_watched.Goals.{then-stood+then-failed, else-stood, else-stood-via-then-stood+else-failed, else-stood-via-else-stood}
@@ -73,7 +72,7 @@ loop-op-init g c =
       omega (arith, c.in_ok-outcomes.ensures.capacity),
       refl,
       under_way_begun c.args.ops.now (durability_of e),
-      passes_none _ (moments_of e) (moments_of e) (directory_of e) refl (moment_begun (folder_of e) (durable_of e) (unsynced_of e) c.args.ops.now (directory_of e) (engine_leaves e)),
+      passed_begun (folder_of e) (durable_of e) (unsynced_of e) c.args.ops.now (moments_of e) (directory_of e) (engine_leaves e),
       stands_so_far (has_failed e),
       refl,
       omega arith,
