@@ -1,5 +1,5 @@
 //! A line of the program's input.
-ghost use Rattle.std.specs.Prelude.{◌≡◌, ◌⊎◌, ◌==◌, ◌≤◌, List, ℕ, length, None, Some, [], ◌∷◌, MatchOption, option_map, option_and_then};
+ghost use Rattle.std.specs.Prelude.{◌≡◌, ◌==◌, ◌≤◌, List, ℕ, length, None, Some, [], ◌∷◌, MatchOption, option_map, option_and_then};
 ghost use Rattle.std.specs.List.{position_or_len};
 ghost use Rattle.raft_script.specs.Line.{Crash, BeginsWith, HasNoWord, alone, asked_by, asked_in, asked_of, delete_by, get_by, is_word, left_by, number_in, put_by, sync_by, torn_by, words_in};
 
