@@ -30,7 +30,7 @@ HasNoPlace n path fault =
 abbrev pub IsBarred : Directory → Path → FsFault → Type 0
 IsBarred n path fault = (fault ≡ Memory) ⊎ ((fault ≡ Io Other) × (list_any (λ file. is_on_way file path) (map.keys n.files) ≡ true))
 
--- the place behind what is to be written lies beyond all files
+-- a file has room for 2^62 bytes, and the call asks for more
 abbrev pub HasNoRoom : ℕ → ℕ → FsFault → Type 0
 HasNoRoom at size fault = (fault ≡ Io NoSpace) × (2 ^ 62 < at + size)
 
