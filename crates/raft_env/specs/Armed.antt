@@ -6,11 +6,11 @@ use Rattle.raft_records.specs.declared.errors.IoKind.TheVariants.{Other}
 use Rattle.raft_env.specs.declared.armed.FsCall.{FsCall}
 use Rattle.raft_env.specs.declared.armed.ArmedRefusal.{ArmedRefusal}
 
--- for each the sort of calls, which of them from then on, and as what it is refused
+-- for each refusal the sort of calls, which of them from then on, and the kind that is answered
 abbrev pub arms_of : List ArmedRefusal → List (FsCall × ℕ × IoKind)
 arms_of refusals = map (λ a. (a.call, a.nth, a.kind)) refusals
 
--- one of these is armed for that sort of calls, as that
+-- a refusal of this kind is armed for this sort of calls
 abbrev pub IsArmed : List (FsCall × ℕ × IoKind) → FsCall → IoKind → Type 0
 IsArmed armed call kind = (nth : ℕ) × Contains armed (call, nth, kind)
 
@@ -24,6 +24,6 @@ abbrev pub stop_after : Option ℕ → Option ℕ
 stop_after None = None
 stop_after (Some nth) = if nat_lt 1 nth then Some (nth - 1) else Some nth
 
--- a call that changes files is refused as that: it is armed so, or the stop came
+-- a call that changes files is refused with this kind: it was armed so, or the stop came
 abbrev pub IsForced : List (FsCall × ℕ × IoKind) → Option ℕ → FsCall → IoKind → Type 0
 IsForced armed stop call kind = IsArmed armed call kind ⊎ (IsStopped stop × (kind ≡ Other))

@@ -103,7 +103,8 @@ impl MemoryFileSystem {
     ghost use Rattle.raft_env.specs.Memory.{memory_directory, memory_moments, memory_refusals, armed_of, stop_of};
 
     /// Arms one more refusal: of the calls of that sort from now on, the nth, counted from 1, is refused so. A write
-    /// that is refused so has written the first half of its bytes, and any other call nothing.
+    /// that is refused so has written the first half of its bytes, unless it could not have written them all, and any
+    /// other call has changed nothing.
     pub fn refuse(&mut self, call: FsCall, nth: u64, kind: IoKind) -> Result<(), Fault>
         ensures ok { OnOk result (armed_of self.new ≡ armed_of self.old ++ (call, nth, kind) ∷ []) }
         ensures err { OnErr result (armed_of self.new ≡ armed_of self.old) }

@@ -12,7 +12,8 @@ pub enum RecoveryMode {
     TolerateAnyCorruption,
 }
 
-/// The settings of an engine. docs/FORMAT.md lists each with its default.
+/// The settings of an engine. `specs/Config.antt` lists each with its default. Only `dir`, `recovery_mode`,
+/// `format_version` and `target_file_size` are used so far.
 #[derive(Debug, PartialEq, Drop)]
 pub struct Config {
     /// The folder of the log files. The empty path is the root.

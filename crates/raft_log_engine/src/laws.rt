@@ -12,8 +12,8 @@ ghost use Rattle.raft_log_engine.specs.declared.config.RecoveryMode.{RecoveryMod
 ghost use Rattle.raft_log_engine.specs.declared.config.RecoveryMode.TheVariants.{AbsoluteConsistency};
 
 /// A folder that keeps contents through a crash leaves them then, perhaps with a beginning of the batches behind
-/// them, where damage can be told. A restart after a crash finds and keeps what the crash left, its log can be opened
-/// in each mode but the absolute one, and no file stands in the folder's place. Where no log stands, nothing is kept.
+/// them, where damage can be told. A restart after a crash finds what the crash left. Where that is sound, it
+/// keeps it, its log can be opened in each mode but the absolute one, and no file stands in the folder's place. Where no log stands, nothing is kept.
 /// Files that no crash met, as an engine gave them up, stand for what a crash could leave, and their log can be opened,
 /// where their damage can be told: what a refused write left of its record may be any bytes.
 pub fn crash_leaves_contents()

@@ -21,7 +21,7 @@ pub enum Ended {
     Input,
     /// The output could not be written.
     Output,
-    /// The engine could not be opened or closed, and the refusal was printed.
+    /// The engine could not be opened or closed, or a crash wanted memory, and the refusal was printed.
     Opening,
 }
 
