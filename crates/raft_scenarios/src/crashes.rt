@@ -173,3 +173,8 @@ fn refused_write_can_be_repeated(rt: HostRuntime) -> Result<(), Fail> {
     let files = write_twice(&rt, alloc, engine)?;
     crash_finds(&rt, alloc, &files, Choice::Synced, State { a: 1, ..EMPTY })
 }
+
+#[test]
+fn laws_can_be_called() {
+    raft_log_engine::laws::crash_leaves_contents();
+}
