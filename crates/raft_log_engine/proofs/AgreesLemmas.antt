@@ -116,7 +116,7 @@ signed_record v given items signature signed given_is readable =
     ap (λ s. record_of s given) (sym signed) ∙ ap (λ l. record_of signature l) given_is ∙ readable ∙ ap (λ (l : List ℕ). Some (items, length l)) (sym given_is)
 
 -- .. as a batch that is prepared for it has it
-pub signed_bytes : (v : Version) (context : LogFileContext) (given : List ℕ) (batch prepared : BatchView) → file_signature context ≡ signature_in v 1 → prepared.encoded ≡ Some given → prepared ≡ with_record batch (record_bytes (file_signature context) batch.items)
+pub signed_bytes : (v : Version) (context : LogFileContext) (given : List ℕ) (batch prepared : BatchView) → file_signature context ≡ signature_in v 1 → given ≡ unwrap_or prepared.encoded [] → prepared ≡ signed_for (file_signature context) batch → IsSome batch.encoded
     → record_of (file_signature context) (record_bytes (file_signature context) batch.items) ≡ Some (batch.items, length (record_bytes (file_signature context) batch.items)) → record_of (signature_in v 1) given ≡ Some (batch.items, length given)
 signed_bytes v context given batch prepared signed encoded prepared_is readable =
     let bytes = record_bytes (file_signature context) batch.items in
