@@ -28,7 +28,9 @@ pub(crate) fn put_get_reopen<R: Host, F: FileSystem + Drop>(
     let (len, last_found) = reopen(rt, engine, load)?;
     let count = load.count;
     println!(rt;
-        "{name}: {count} operations, {len} bytes of log\n  get: {count} operations, {found} found, checksum {sum:08x}\n  reopen: {count} records, {len} bytes of log, last found: {last_found}"
+        "{name}: {count} operations, {len} bytes of log\n  \
+         get: {count} operations, {found} found, checksum {sum:08x}\n  \
+         reopen: {count} records, {len} bytes of log, last found: {last_found}"
     )?;
     Ok(len / (count as usize).max(1))
 }
