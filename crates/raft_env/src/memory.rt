@@ -73,6 +73,7 @@ impl MemoryFileSystem {
     fn write_half(&mut self, path: &str, at: usize, bytes: &[u8]) -> Result<(), FsFault>
         ensures ok { OnOk result (memory_directory self.new ≡ half_written path.now at bytes.now (memory_directory self.old)) }
         ensures err { OnErr result (memory_directory self.new ≡ memory_directory self.old) }
+        ensures fits { OnOk result (at + length bytes.now ≤ 2 ^ 62) }
         ensures any_moment { Passes (memory_moments self.old) (memory_moments self.new) (memory_directory self.new)
             (IsWriting path.now at bytes.now (memory_directory self.old)) }
         ensures cause { memory_refusals self.new ≡ memory_refusals self.old }
@@ -90,12 +91,12 @@ impl MemoryFileSystem {
 }
 
 impl FileSystem for MemoryFileSystem {
-    ghost use Rattle.raft_env.specs.Memory.{memory_directory, memory_moments, memory_refusals, armed_of, stop_of, half_written};
-    ghost use Rattle.raft_env.specs.Armed.{IsStopped, stop_after};
+    ghost use Rattle.raft_env.specs.Memory.{memory_directory, memory_moments, memory_refusals, armed_of, stop_of, LeavesHalf};
+    ghost use Rattle.raft_env.specs.Armed.{arms_after, injected, stop_after};
     ghost use Rattle.raft_env.specs.Directory.{HasFile, IsAllocating, IsOneOf, IsTruncating, ReadsAt, created, file_at, folder_made, names_in};
     ghost use Rattle.raft_env.specs.Outcomes.{File, padded, resized, synced_of};
     ghost use Rattle.raft_env.specs.Refusal.{Counts, added_count};
-    ghost use Rattle.raft_env.specs.Refused.{HasNoFolder, HasNoPlace, HasNoRoom, IsBarred, IsMissing, MayNotWrite, WasArmed, WasForced};
+    ghost use Rattle.raft_env.specs.Refused.{HasNoFolder, HasNoPlace, HasNoRoom, IsBarred, IsMissing, RefusesAs, WasArmed};
 
     type Handle = MemoryHandle;
 
@@ -128,11 +129,10 @@ impl FileSystem for MemoryFileSystem {
         ensures any_moment { Passes (memory_moments self.old) (memory_moments self.new) (memory_directory self.new)
             (IsOneOf (memory_directory self.old) (created path.now (memory_directory self.old))) }
         ensures cause { Counts result (memory_refusals self.old) (memory_refusals self.new) }
-        ensures refused { IfErr result (λ e. WasForced (armed_of self.old) (stop_of self.old) FsCall.Create e
-            ⊎ HasNoPlace (memory_directory self.old) path.now e) }
-        ensures stopped { IsStopped (stop_of self.old) → result ≡ Err (FsFault.Io IoKind.Other) }
+        ensures refused { RefusesAs (injected FsCall.Create (armed_of self.old) (stop_of self.old))
+            (HasNoPlace (memory_directory self.old) path.now) result }
         ensures stop { stop_of self.new ≡ stop_after (stop_of self.old) }
-        ensures armed { armed_of self.new ≡ armed_of self.old }
+        ensures armed { armed_of self.new ≡ arms_after FsCall.Create (armed_of self.old) }
     {
         if let Some(kind) = self.armed.due_change(FsCall::Create) {
             return Err(counted(&mut self.refusals, FsFault::Io(kind)));
@@ -155,8 +155,10 @@ impl FileSystem for MemoryFileSystem {
         ensures unchanged { memory_directory self.new ≡ memory_directory self.old }
         ensures any_moment { memory_moments self.new ≡ memory_moments self.old }
         ensures cause { Counts result (memory_refusals self.old) (memory_refusals self.new) }
-        ensures refused { IfErr result (λ e. WasArmed (armed_of self.old) FsCall.Open e ⊎ IsMissing (memory_directory self.old) path.now e) }
-        ensures others { (armed_of self.new ≡ armed_of self.old) × (stop_of self.new ≡ stop_of self.old) }
+        ensures refused { RefusesAs (injected FsCall.Open (armed_of self.old) None)
+            (IsMissing (memory_directory self.old) path.now) result }
+        ensures stop { stop_of self.new ≡ stop_of self.old }
+        ensures armed { armed_of self.new ≡ arms_after FsCall.Open (armed_of self.old) }
     {
         if let Some(kind) = self.armed.due(FsCall::Open) {
             return Err(counted(&mut self.refusals, FsFault::Io(kind)));
@@ -175,8 +177,10 @@ impl FileSystem for MemoryFileSystem {
         ensures unchanged { memory_directory self.new ≡ memory_directory self.old }
         ensures any_moment { memory_moments self.new ≡ memory_moments self.old }
         ensures cause { Counts result (memory_refusals self.old) (memory_refusals self.new) }
-        ensures refused { IfErr result (λ e. WasArmed (armed_of self.old) FsCall.NewReader e ⊎ (e ≡ FsFault.Memory)) }
-        ensures others { (armed_of self.new ≡ armed_of self.old) × (stop_of self.new ≡ stop_of self.old) }
+        ensures refused { RefusesAs (injected FsCall.NewReader (armed_of self.old) None)
+            (λ e. e ≡ FsFault.Memory) result }
+        ensures stop { stop_of self.new ≡ stop_of self.old }
+        ensures armed { armed_of self.new ≡ arms_after FsCall.NewReader (armed_of self.old) }
     {
         if let Some(kind) = self.armed.due(FsCall::NewReader) {
             return Err(counted(&mut self.refusals, FsFault::Io(kind)));
@@ -202,8 +206,10 @@ impl FileSystem for MemoryFileSystem {
         ensures unchanged { memory_directory self.new ≡ memory_directory self.old }
         ensures any_moment { memory_moments self.new ≡ memory_moments self.old }
         ensures cause { Counts result (memory_refusals self.old) (memory_refusals self.new) }
-        ensures why { IfErr result (λ e. WasArmed (armed_of self.old) FsCall.NewWriter e ⊎ MayNotWrite handle.now.may_write e) }
-        ensures others { (armed_of self.new ≡ armed_of self.old) × (stop_of self.new ≡ stop_of self.old) }
+        ensures why { handle.now.may_write ≡ true → RefusesAs (injected FsCall.NewWriter (armed_of self.old) None)
+            (λ e. e ≡ FsFault.Memory) result }
+        ensures stop { stop_of self.new ≡ stop_of self.old }
+        ensures armed { armed_of self.new ≡ arms_after FsCall.NewWriter (armed_of self.old) }
     {
         let due = self.armed.due(FsCall::NewWriter);
         if !handle.may_write {
@@ -223,17 +229,16 @@ impl FileSystem for MemoryFileSystem {
         ensures fits { OnOk result (at + length bytes.now < 2 ^ 63) }
         ensures ok { OnOk result (memory_directory self.new ≡ changed (string_bytes writer.old.path)
             (λ f. written at bytes.now true (overlaid f.now at bytes.now) f) (memory_directory self.old)) }
-        ensures err { OnErr result (IsOneOf (memory_directory self.old)
-            (half_written (string_bytes writer.old.path) at bytes.now (memory_directory self.old)) (memory_directory self.new)) }
+        ensures err { OnErr result (LeavesHalf (injected FsCall.Write (armed_of self.old) (stop_of self.old))
+            (string_bytes writer.old.path) at bytes.now (memory_directory self.old) (memory_directory self.new)) }
         ensures any_moment { Passes (memory_moments self.old) (memory_moments self.new) (memory_directory self.new)
             (IsWriting (string_bytes writer.old.path) at bytes.now (memory_directory self.old)) }
         ensures cause { Counts result (memory_refusals self.old) (memory_refusals self.new) }
-        ensures refused { IfErr result (λ e. WasForced (armed_of self.old) (stop_of self.old) FsCall.Write e
-            ⊎ ((memory_directory self.new ≡ memory_directory self.old)
-            × (HasNoRoom at (length bytes.now) e ⊎ IsMissing (memory_directory self.old) (string_bytes writer.old.path) e))) }
-        ensures stopped { IsStopped (stop_of self.old) → result ≡ Err (FsFault.Io IoKind.Other) }
+        ensures refused { RefusesAs (injected FsCall.Write (armed_of self.old) (stop_of self.old))
+            (λ e. HasNoRoom at (length bytes.now) e
+            ⊎ IsMissing (memory_directory self.old) (string_bytes writer.old.path) e) result }
         ensures stop { stop_of self.new ≡ stop_after (stop_of self.old) }
-        ensures armed { armed_of self.new ≡ armed_of self.old }
+        ensures armed { armed_of self.new ≡ arms_after FsCall.Write (armed_of self.old) }
     {
         if let Some(kind) = self.armed.due_change(FsCall::Write) {
             let _ = self.write_half(writer.path.as_str(), at, bytes);
@@ -262,11 +267,10 @@ impl FileSystem for MemoryFileSystem {
         ensures any_moment { Passes (memory_moments self.old) (memory_moments self.new) (memory_directory self.new)
             (IsTruncating (string_bytes writer.old.path) size (memory_directory self.old)) }
         ensures cause { Counts result (memory_refusals self.old) (memory_refusals self.new) }
-        ensures refused { IfErr result (λ e. WasForced (armed_of self.old) (stop_of self.old) FsCall.Truncate e
-            ⊎ IsMissing (memory_directory self.old) (string_bytes writer.old.path) e) }
-        ensures stopped { IsStopped (stop_of self.old) → result ≡ Err (FsFault.Io IoKind.Other) }
+        ensures refused { RefusesAs (injected FsCall.Truncate (armed_of self.old) (stop_of self.old))
+            (IsMissing (memory_directory self.old) (string_bytes writer.old.path)) result }
         ensures stop { stop_of self.new ≡ stop_after (stop_of self.old) }
-        ensures armed { armed_of self.new ≡ armed_of self.old }
+        ensures armed { armed_of self.new ≡ arms_after FsCall.Truncate (armed_of self.old) }
     {
         if let Some(kind) = self.armed.due_change(FsCall::Truncate) {
             return Err(counted(&mut self.refusals, FsFault::Io(kind)));
@@ -289,11 +293,11 @@ impl FileSystem for MemoryFileSystem {
         ensures any_moment { Passes (memory_moments self.old) (memory_moments self.new) (memory_directory self.new)
             (IsAllocating (string_bytes writer.old.path) (at + size) (memory_directory self.old)) }
         ensures cause { Counts result (memory_refusals self.old) (memory_refusals self.new) }
-        ensures refused { IfErr result (λ e. WasForced (armed_of self.old) (stop_of self.old) FsCall.Allocate e
-            ⊎ HasNoRoom at size e ⊎ IsMissing (memory_directory self.old) (string_bytes writer.old.path) e) }
-        ensures stopped { IsStopped (stop_of self.old) → result ≡ Err (FsFault.Io IoKind.Other) }
+        ensures refused { RefusesAs (injected FsCall.Allocate (armed_of self.old) (stop_of self.old))
+            (λ e. HasNoRoom at size e
+            ⊎ IsMissing (memory_directory self.old) (string_bytes writer.old.path) e) result }
         ensures stop { stop_of self.new ≡ stop_after (stop_of self.old) }
-        ensures armed { armed_of self.new ≡ armed_of self.old }
+        ensures armed { armed_of self.new ≡ arms_after FsCall.Allocate (armed_of self.old) }
     {
         if let Some(kind) = self.armed.due_change(FsCall::Allocate) {
             return Err(counted(&mut self.refusals, FsFault::Io(kind)));
@@ -317,11 +321,10 @@ impl FileSystem for MemoryFileSystem {
         ensures any_moment { Passes (memory_moments self.old) (memory_moments self.new) (memory_directory self.new)
             (IsOneOf (memory_directory self.old) (changed (string_bytes writer.old.path) synced_of (memory_directory self.old))) }
         ensures cause { Counts result (memory_refusals self.old) (memory_refusals self.new) }
-        ensures refused { IfErr result (λ e. WasForced (armed_of self.old) (stop_of self.old) FsCall.Sync e
-            ⊎ IsMissing (memory_directory self.old) (string_bytes writer.old.path) e) }
-        ensures stopped { IsStopped (stop_of self.old) → result ≡ Err (FsFault.Io IoKind.Other) }
+        ensures refused { RefusesAs (injected FsCall.Sync (armed_of self.old) (stop_of self.old))
+            (IsMissing (memory_directory self.old) (string_bytes writer.old.path)) result }
         ensures stop { stop_of self.new ≡ stop_after (stop_of self.old) }
-        ensures armed { armed_of self.new ≡ armed_of self.old }
+        ensures armed { armed_of self.new ≡ arms_after FsCall.Sync (armed_of self.old) }
     {
         if let Some(kind) = self.armed.due_change(FsCall::Sync) {
             return Err(counted(&mut self.refusals, FsFault::Io(kind)));
@@ -340,7 +343,7 @@ impl FileSystem for MemoryFileSystem {
         ensures cause { Counts result reader.old.refused reader.new.refused }
         ensures refused { IfErr result (λ e. WasArmed (armed_of self.now) FsCall.Read e ⊎ IsMissing (memory_directory self.now) (string_bytes reader.old.path) e) }
     {
-        if let Some(kind) = self.armed.due(FsCall::Read) {
+        if let Some(kind) = self.armed.due_read() {
             return Err(counted(&mut reader.refused, FsFault::Io(kind)));
         }
         match self.tree.files.get(reader.path.as_str()) {
@@ -356,8 +359,10 @@ impl FileSystem for MemoryFileSystem {
         ensures unchanged { memory_directory self.new ≡ memory_directory self.old }
         ensures any_moment { memory_moments self.new ≡ memory_moments self.old }
         ensures cause { Counts result (memory_refusals self.old) (memory_refusals self.new) }
-        ensures refused { IfErr result (λ e. WasArmed (armed_of self.old) FsCall.FileSize e ⊎ IsMissing (memory_directory self.old) (string_bytes handle.now.path) e) }
-        ensures others { (armed_of self.new ≡ armed_of self.old) × (stop_of self.new ≡ stop_of self.old) }
+        ensures refused { RefusesAs (injected FsCall.FileSize (armed_of self.old) None)
+            (IsMissing (memory_directory self.old) (string_bytes handle.now.path)) result }
+        ensures stop { stop_of self.new ≡ stop_of self.old }
+        ensures armed { armed_of self.new ≡ arms_after FsCall.FileSize (armed_of self.old) }
     {
         if let Some(kind) = self.armed.due(FsCall::FileSize) {
             return Err(counted(&mut self.refusals, FsFault::Io(kind)));
@@ -374,11 +379,10 @@ impl FileSystem for MemoryFileSystem {
         ensures any_moment { Passes (memory_moments self.old) (memory_moments self.new) (memory_directory self.new)
             (IsOneOf (memory_directory self.old) (folder_made path.now (memory_directory self.old))) }
         ensures cause { Counts result (memory_refusals self.old) (memory_refusals self.new) }
-        ensures refused { IfErr result (λ e. WasForced (armed_of self.old) (stop_of self.old) FsCall.MakeDir e
-            ⊎ IsBarred (memory_directory self.old) path.now e) }
-        ensures stopped { IsStopped (stop_of self.old) → result ≡ Err (FsFault.Io IoKind.Other) }
+        ensures refused { RefusesAs (injected FsCall.MakeDir (armed_of self.old) (stop_of self.old))
+            (IsBarred (memory_directory self.old) path.now) result }
         ensures stop { stop_of self.new ≡ stop_after (stop_of self.old) }
-        ensures armed { armed_of self.new ≡ armed_of self.old }
+        ensures armed { armed_of self.new ≡ arms_after FsCall.MakeDir (armed_of self.old) }
     {
         if let Some(kind) = self.armed.due_change(FsCall::MakeDir) {
             return Err(counted(&mut self.refusals, FsFault::Io(kind)));
@@ -396,8 +400,10 @@ impl FileSystem for MemoryFileSystem {
         ensures unchanged { memory_directory self.new ≡ memory_directory self.old }
         ensures any_moment { memory_moments self.new ≡ memory_moments self.old }
         ensures cause { Counts result (memory_refusals self.old) (memory_refusals self.new) }
-        ensures refused { IfErr result (λ e. WasArmed (armed_of self.old) FsCall.List e ⊎ HasNoFolder (memory_directory self.old) dir.now e) }
-        ensures others { (armed_of self.new ≡ armed_of self.old) × (stop_of self.new ≡ stop_of self.old) }
+        ensures refused { RefusesAs (injected FsCall.List (armed_of self.old) None)
+            (HasNoFolder (memory_directory self.old) dir.now) result }
+        ensures stop { stop_of self.new ≡ stop_of self.old }
+        ensures armed { armed_of self.new ≡ arms_after FsCall.List (armed_of self.old) }
     {
         if let Some(kind) = self.armed.due(FsCall::List) {
             return Err(counted(&mut self.refusals, FsFault::Io(kind)));
