@@ -6,7 +6,9 @@ use Rattle.raft_env.specs.Directory.{Directory, IsOneOf, Path, changed}
 use Rattle.raft_records.specs.declared.errors.IoKind.{IoKind}
 use Rattle.raft_env.specs.declared.armed.FsCall.{FsCall}
 use Rattle.raft_env.specs.Armed.{arms_of}
+use Rattle.raft_env.specs.Counted.{refusals_in}
 use Rattle.raft_env.specs.Files.{tree_directory}
+use Rattle.raft_env.specs.Refusal.{Refusals}
 use Rattle.raft_env.specs.declared.memory.MemoryFileSystem.{MemoryFileSystem}
 
 -- the files and folders as they are now
@@ -18,8 +20,8 @@ abbrev pub memory_moments : MemoryFileSystem → List Directory
 memory_moments memory = tree_directory memory.tree ∷ map tree_directory memory.past.items
 
 -- how many calls were refused
-abbrev pub memory_refusals : MemoryFileSystem → ℕ
-memory_refusals memory = memory.refusals
+abbrev pub memory_refusals : MemoryFileSystem → Refusals
+memory_refusals memory = refusals_in memory.refusals
 
 -- no file, and only the root folder
 abbrev pub no_files : Directory

@@ -11,9 +11,13 @@ use Rattle.raft_env.specs.Armed.{IsArmed}
 use Rattle.raft_env.specs.Directory.{Directory, Path, file_at, is_on_way}
 use Rattle.raft_env.specs.PathParts.{IsParent}
 
+-- no file stands there
+abbrev pub IsAbsent : Directory → Path → FsFault → Type 0
+IsAbsent n path fault = (fault ≡ Io NotFound) × (file_at n path ≡ None)
+
 -- memory was wanting, or no file stands there
 abbrev pub IsMissing : Directory → Path → FsFault → Type 0
-IsMissing n path fault = (fault ≡ Memory) ⊎ ((fault ≡ Io NotFound) × (file_at n path ≡ None))
+IsMissing n path fault = (fault ≡ Memory) ⊎ IsAbsent n path fault
 
 -- memory was wanting, or no folder stands there
 abbrev pub HasNoFolder : Directory → Path → FsFault → Type 0
