@@ -1,6 +1,7 @@
 -- What operations are answered, and what they leave.
 use Rattle.std.specs.Prelude.{◌≡◌, ◌⊎◌, ℕ, zero, suc, ◌+◌, ◌-◌, ◌^◌, ◌≤◌, min, Bool, true, false, ◌||◌, List, [], ◌∷◌, ◌++◌, length, Option, Some, None, IsSome, option_map, Result, Ok, Err, is_ok, MatchResult, IsErrAnd, if◌then◌else◌}
 use Rattle.std.specs.List.{count_by}
+use Rattle.raft_env.specs.Refusal.{Refusals}
 use Rattle.raft_records.specs.Batch.{is_internal_key}
 use Rattle.raft_records.specs.Contents.{Contents, after_batches}
 use Rattle.raft_records.specs.Item.{Item, Batch, Put, Delete}
@@ -139,9 +140,9 @@ is_refused_by_storage (Value answer) = is_io answer
 abbrev pub io_count : List Outcome → ℕ
 io_count outcomes = count_by is_refused_by_storage outcomes
 
--- a count rose by so many at least, or it is full
-abbrev pub RoseBy : ℕ → ℕ → ℕ → Type 0
-RoseBy count old new = min (old + count) (2 ^ 64 - 1) ≤ new
+-- storage's count rose by so many at least, or it is full
+abbrev pub RoseBy : ℕ → Refusals → Refusals → Type 0
+RoseBy count old new = min (old.storage + count) (2 ^ 64 - 1) ≤ new.storage
 
 -- by storage, or for want of memory
 abbrev pub IsOutside : Fault → Type 0

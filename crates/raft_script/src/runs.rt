@@ -4,7 +4,7 @@ ghost use Rattle.raft_records.specs.Contents.{Contents, after_batches};
 ghost use Rattle.raft_records.specs.Fault.{fault_code};
 ghost use Rattle.raft_records.specs.Item.{Item};
 ghost use Rattle.raft_env.specs.Moments.{Passes};
-ghost use Rattle.raft_env.specs.Refusal.{Rose};
+ghost use Rattle.raft_env.specs.Refusal.{NoFewer, Rose};
 ghost use Rattle.raft_log_engine.specs.Crash.{LeavesAllowed};
 ghost use Rattle.raft_script.specs.Durability.{AtFailure, IsDurableBehind, IsMomentOf, LeavesAllowedBehind, Progresses, durability_of};
 ghost use Rattle.raft_log_engine.specs.Engine.{contents_of, directory_of, durable_of, folder_of, has_failed, moments_of, refusals_of, unsynced_of};
@@ -100,7 +100,7 @@ fn step<F: FileSystem>(alloc: Global, engine: &mut Engine<F>, op: &Op) -> Outcom
     ensures failing { IsFailing (has_failed engine.old) op.now result (has_failed engine.new) }
     ensures unasked { IsUnasked op.now → engine.new ≡ engine.old }
     ensures counted { is_refused_by_storage result ≡ true → Rose (refusals_of engine.old) (refusals_of engine.new) }
-    ensures counts { refusals_of engine.old ≤ refusals_of engine.new }
+    ensures counts { NoFewer (refusals_of engine.old) (refusals_of engine.new) }
     ensures contents { has_failed engine.new ≡ false → contents_of engine.new ≡ after_batches (contents_of engine.old) (accepted_of op.now result) }
     ensures progress { Progresses (accepted_of op.now result) (is_covering op.now result) (in_flight op.now) (durability_of engine.old) (durability_of engine.new) }
     ensures any_moment { has_failed engine.old ≡ false → Passes (moments_of engine.old) (moments_of engine.new) (directory_of engine.new)
@@ -127,7 +127,7 @@ fn write<F: FileSystem>(
     ensures failing { FailsBy (has_failed engine.old) result (has_failed engine.new) (IsUnbuilt acts.now) }
     ensures unasked { batch_of_acts acts.now ≡ None → engine.new ≡ engine.old }
     ensures counted { is_io result ≡ true → Rose (refusals_of engine.old) (refusals_of engine.new) }
-    ensures counts { refusals_of engine.old ≤ refusals_of engine.new }
+    ensures counts { NoFewer (refusals_of engine.old) (refusals_of engine.new) }
     ensures contents { has_failed engine.new ≡ false → contents_of engine.new ≡ after_batches (contents_of engine.old) (written acts.now result) }
     ensures progress { Progresses (written acts.now result) (covers sync result) (with_items (batch_of_acts acts.now)) (durability_of engine.old) (durability_of engine.new) }
     ensures any_moment { has_failed engine.old ≡ false → Passes (moments_of engine.old) (moments_of engine.new) (directory_of engine.new)
