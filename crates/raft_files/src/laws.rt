@@ -131,18 +131,3 @@ pub fn damage_can_be_told()
     ensures read_now { (id : FileId) (file : File) → IsConsistent file → EndsUnmarked id file.now → IsReadAsBefore id file file.now }
     ensures read_synced { (id : FileId) (file : File) → (format_of file.synced ≡ format_of file.now) ⊎ (format_of file.synced ≡ None) → EndsUnmarked id file.synced → IsReadAsBefore id file file.synced }
 {}
-
-#[cfg(test)]
-mod tests {
-    use super::*;
-
-    #[test]
-    fn laws_can_be_called() {
-        appended_record_is_read();
-        beginning_is_read();
-        crash_leaves_a_beginning();
-        opening_keeps_the_log();
-        refused_calls_bring_no_record();
-        damage_can_be_told();
-    }
-}
