@@ -1,20 +1,25 @@
 -- Operations under way: the batch of acts, and what the operations so far leave.
 use Rattle.std.proofs.Common.{◌≡◌, ℕ, zero, suc, ◌+◌, ◌<◌, ◌≤◌, Bool, true, false, cond, List, [], ◌∷◌, ◌++◌, length, length-append, length-drop, take, drop, drop-cons, get_or, Option, Some, None, refl, sym, ◌∙◌, ap, subst, append_assoc, arith}
-use Rattle.std.specs.Prelude.{◌||◌, is_some, option_map}
+use Rattle.std.specs.Prelude.{◌||◌, is_none, is_some, option_map, if◌then◌else◌}
 use Rattle.std.proofs.lemmas.List.{append-nil, nil_from_length}
 use Rattle.std.proofs.lemmas.List.Sums.{fold-append, sum_by-append}
 use Rattle.std.proofs.Math.Seq.{take-suc}
 use Rattle.raft_env.specs.Refusal.{Rose}
-use Rattle.raft_records.specs.Contents.{Contents, no_contents, after_batch, after_batches}
-use Rattle.raft_records.specs.Item.{Item, Batch}
+use Rattle.raft_records.specs.Contents.{Contents, no_contents, after_batch, after_batches, after_item}
+use Rattle.raft_records.specs.Batch.{is_internal_key}
+use Rattle.raft_records.specs.Item.{Item, Batch, Put, Delete}
+use Rattle.raft_records.specs.Validity.{batch_refusal}
+use Rattle.raft_records.specs.declared.errors.Fault.{Fault}
+use Rattle.raft_log_engine.specs.Crash.{written_batch}
 use Rattle.std.specs.FinMap.{get-empty}
 use Rattle.raft_env.specs.Directory.{Directory, Path, file_at}
 use Rattle.raft_files.specs.Writer.{bytes_of}
 use Rattle.raft_env.specs.Memory.{no_files}
 use Rattle.raft_log_engine.proofs.OpenLemmas.{nothing_holds_nothing}
 use Rattle.raft_log_engine.specs.Log.{contents_at, contents_in, log_path}
-use Rattle.raft_script.specs.Run.{accepted, accepted_of, AreAnswers, AreFailing, FailsAt, IsFailing, IsFailurePlace, RoseBy, batch_of_acts, io_count, is_refused_by_storage, IsAnswer, item_of_act, with_first, with_items}
+use Rattle.raft_script.specs.Run.{accepted, accepted_of, AreAnswers, AreFailing, FailsAt, IsFailing, IsFailurePlace, RoseBy, batch_of_acts, io_count, is_refused_by_storage, IsAnswer, item_of_act, pending_items, with_first, with_items}
 use Rattle.raft_script.specs.declared.operation.Act.{Act}
+use Rattle.raft_script.specs.declared.operation.Act.TheVariants as act
 use Rattle.raft_script.specs.declared.operation.Op.{Op}
 use Rattle.raft_script.specs.declared.operation.Op.TheVariants.{Write, Sync, Get}
 use Rattle.raft_script.specs.declared.operation.Outcome.{Outcome}
@@ -57,6 +62,33 @@ built_ended items n acts none built = sym built ∙ ap (λ l. behind items (batc
 pub after-with_items : (m : Contents) (batch : Batch) → after_batches m (with_items (Some batch)) ≡ after_batch m batch
 after-with_items m [] = refl
 after-with_items m (item ∷ items) = refl
+
+-- a batch of puts and deletes is refused by no contents
+abbrev refusal_of : Contents → Option Batch → Option Fault
+refusal_of m None = None
+refusal_of m (Some batch) = batch_refusal m batch
+
+put_refusal : (m : Contents) (internal : Bool) (group : ℕ) (key value : List ℕ) (rest : Option Batch) → ((n : Contents) → refusal_of n rest ≡ None) → refusal_of m (with_first (if internal then None else Some (record { group = group; content = Put key value })) rest) ≡ None
+put_refusal m true group key value rest valid = refl
+put_refusal m false group key value None valid = refl
+put_refusal m false group key value (Some items) valid = valid (after_item m (record { group = group; content = Put key value }))
+
+act_refusal : (m : Contents) (a : Act) (rest : Option Batch) → ((n : Contents) → refusal_of n rest ≡ None) → refusal_of m (with_first (item_of_act a) rest) ≡ None
+act_refusal m (act.Put group key value) rest valid = put_refusal m (is_internal_key key.items) group key.items value.items rest valid
+act_refusal m (act.Delete group key) None valid = refl
+act_refusal m (act.Delete group key) (Some items) valid = valid (after_item m (record { group = group; content = Delete key.items }))
+
+acts_refusal : (m : Contents) (acts : List Act) → refusal_of m (batch_of_acts acts) ≡ None
+acts_refusal m [] = refl
+acts_refusal m (a ∷ acts) = act_refusal m a (batch_of_acts acts) (λ n. acts_refusal n acts)
+
+pending_all : (m : Contents) (built : Option Batch) → refusal_of m built ≡ None → with_items built ≡ pending_items m built
+pending_all m None valid = refl
+pending_all m (Some batch) valid = ap (λ (r : Option Fault). if is_none r then written_batch batch else []) (sym valid)
+
+-- so all of it may be in flight
+pub acts_pending : (m : Contents) (acts : List Act) → with_items (batch_of_acts acts) ≡ pending_items m (batch_of_acts acts)
+acts_pending m acts = pending_all m (batch_of_acts acts) (acts_refusal m acts)
 
 -- what a run has come to: the operations so far, their outcomes, and what the engine holds
 pub record IsRunning (before : Contents) (ops : List Op) (outcomes : List Outcome) (now : Contents) (failed : Bool) : Type 0 where

@@ -1,5 +1,5 @@
 -- What a trial's crash leaves, and what its opening finds.
-use Rattle.std.proofs.Common.{◌≡◌, ◌⊎◌, ⊎_elim, inl, inr, Some, ℕ, List, [], ◌∷◌, ◌++◌, length, Option, None, refl, sym, ap, subst, ◌∙◌}
+use Rattle.std.proofs.Common.{◌≡◌, ◌⊎◌, ⊎_elim, inl, inr, Some, ℕ, List, [], ◌∷◌, ◌++◌, Option, None, refl, sym, ap, subst, ◌∙◌}
 use Rattle.std.specs.Prelude.{IsSome, is_some, option_map, IfOk, IfErr, Result, Ok, Err}
 use Rattle.std.specs.FinMap.{get-empty}
 use Rattle.raft_records.specs.Contents.{Contents, no_contents}
@@ -22,9 +22,9 @@ use Rattle.raft_records.specs.declared.errors.Fault.TheVariants as fault
 use Rattle.raft_log_engine.specs.Image.{IsImageOf}
 use Rattle.raft_log_engine.specs.declared.engine.image.Image.{Image}
 use Rattle.raft_log_engine.specs.Log.{contents_at, contents_in, first_file, log_path}
-use Rattle.raft_script.specs.Durability.{LeavesAllowedBehind, covered_behind}
+use Rattle.raft_script.specs.Durability.{LeavesAllowedBehind, Progress, progress_after_all, uncovered}
 use Rattle.raft_log_engine.specs.Open.{IsDamage, IsOpenable}
-use Rattle.raft_script.specs.Run.{IsOutside, accepted}
+use Rattle.raft_script.specs.Run.{IsOutside}
 use Rattle.raft_script.specs.Trial.{AreAnswered, AreNotAsked, IsLogRefusal}
 use Rattle.raft_log_engine.specs.declared.config.RecoveryMode.{RecoveryMode}
 use Rattle.raft_log_engine.specs.declared.config.RecoveryMode.TheVariants.{AbsoluteConsistency}
@@ -40,22 +40,15 @@ opened_behind folder dir m durable unsynced ops outcomes failed_at n folder_is d
     subst (λ (p : Path). LeavesAllowedBehind failed_at p m [] ops outcomes n) folder_is
     (subst (λ (x : Contents). LeavesAllowedBehind failed_at folder x [] ops outcomes n) durable_is (subst (λ (b : List Batch). LeavesAllowedBehind failed_at folder durable b ops outcomes n) unsynced_is leaves))
 
-none_covered : (ops : List Op) → covered_behind 0 ops [] ≡ 0
-none_covered [] = refl
-none_covered (op ∷ ops) = refl
-
-none_accepted : (ops : List Op) → accepted ops [] ≡ []
-none_accepted [] = refl
-none_accepted (op ∷ ops) = refl
+no_progress : (p : Progress) (ops : List Op) → progress_after_all p ops [] ≡ p
+no_progress p [] = refl
+no_progress p (op ∷ ops) = refl
 
 -- where the opening was refused, no operation was done
 pub refused_behind : (folder : Path) (m : Contents) (ops : List Op) (n : Directory) → KeepsContents folder m [] n → LeavesAllowedBehind None folder m [] ops [] n
 refused_behind folder m ops n keeps =
-    let none : List Batch = [] in
-    let least_is : 0 ≡ covered_behind (length none) ops [] = sym (none_covered ops) in
-    let batches_is : none ≡ none ++ accepted ops [] ++ none = sym (ap (λ (l : List Batch). none ++ l ++ none) (none_accepted ops)) in
-    let leaves : LeavesAllowedFrom 0 folder m none n = contents_left folder m [] n keeps in
-    subst (λ (l : List Batch). LeavesAllowedFrom (covered_behind (length none) ops []) folder m l n) batches_is (subst (λ (k : ℕ). LeavesAllowedFrom k folder m none n) least_is leaves)
+    let leaves : LeavesAllowedFrom 0 folder m [] n = contents_left folder m [] n keeps in
+    ([], refl, subst (λ (p : Progress). LeavesAllowedFrom p.covered folder m (p.batches ++ []) n) (sym (no_progress (uncovered []) ops)) leaves)
 
 -- a folder without files keeps nothing
 pub nothing_kept : (folder : Path) (n : Directory) → n ≡ no_files → KeepsContents folder no_contents [] n

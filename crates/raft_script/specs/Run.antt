@@ -1,9 +1,10 @@
 -- What operations are answered, and what they leave.
-use Rattle.std.specs.Prelude.{◌≡◌, ◌⊎◌, ℕ, zero, suc, ◌+◌, ◌-◌, ◌^◌, ◌≤◌, min, Bool, true, false, ◌||◌, List, [], ◌∷◌, ◌++◌, length, Option, Some, None, IsSome, option_map, Result, Ok, Err, is_ok, MatchResult, IsErrAnd, if◌then◌else◌}
+use Rattle.std.specs.Prelude.{◌≡◌, ◌⊎◌, ℕ, zero, suc, ◌+◌, ◌-◌, ◌^◌, ◌≤◌, min, Bool, true, false, List, [], ◌∷◌, ◌++◌, Option, Some, None, IsSome, option_map, Result, Ok, Err, is_none, is_ok, MatchResult, IsErrAnd, if◌then◌else◌}
 use Rattle.std.specs.List.{count_by}
 use Rattle.raft_records.specs.Batch.{is_internal_key}
 use Rattle.raft_records.specs.Contents.{Contents, after_batches}
 use Rattle.raft_records.specs.Item.{Item, Batch, Put, Delete}
+use Rattle.raft_records.specs.Validity.{batch_refusal}
 use Rattle.raft_records.specs.declared.errors.Fault.{Fault}
 use Rattle.raft_records.specs.declared.errors.Fault.TheVariants as fault
 use Rattle.raft_log_engine.specs.Crash.{written_batch}
@@ -62,20 +63,20 @@ is_covering (Write acts sync) (Size answer) = covers sync answer
 is_covering Sync (Done answer) = is_ok answer
 is_covering _ _ = false
 
-abbrev pub has_covering : List Op → List Outcome → Bool
-has_covering (op ∷ ops) (outcome ∷ outcomes) = is_covering op outcome || has_covering ops outcomes
-has_covering _ _ = false
+-- what of a batch a crash may find written: nothing where these contents refuse it
+abbrev pub pending : Contents → Batch → List Batch
+pending m batch = if is_none (batch_refusal m batch) then written_batch batch else []
 
--- how many of the accepted writes stand at or before the last operation that made sure of them
-abbrev pub covered : List Op → List Outcome → ℕ
-covered (op ∷ ops) (outcome ∷ outcomes) = if has_covering (op ∷ ops) (outcome ∷ outcomes) then length (accepted_of op outcome) + covered ops outcomes else 0
-covered _ _ = 0
+-- .. where there is a batch
+abbrev pub pending_items : Contents → Option Batch → List Batch
+pending_items m None = []
+pending_items m (Some batch) = pending m batch
 
--- the batch that may have been written in part when a crash came in the operation
-abbrev pub in_flight : Op → List Batch
-in_flight (Write acts sync) = with_items (batch_of_acts acts.items)
-in_flight Sync = []
-in_flight (Get group key) = []
+-- what may have been written in part, or whole, when a crash came in the operation
+abbrev pub MayBeInFlight : Contents → Op → List Batch → Type 0
+MayBeInFlight m (Write acts sync) flight = flight ≡ pending_items m (batch_of_acts acts.items)
+MayBeInFlight m Sync flight = flight ≡ []
+MayBeInFlight m (Get group key) flight = flight ≡ []
 
 -- the operation doesn't change the engine: a get, or a write of acts without a batch
 abbrev pub IsUnasked : Op → Type 0

@@ -3,12 +3,11 @@ ghost use Rattle.std.specs.Prelude.{All, ◌≡◌, ◌⊎◌, ◌||◌, ◌≤�
 ghost use Rattle.raft_records.specs.Contents.{Contents, after_batches};
 ghost use Rattle.raft_records.specs.Fault.{fault_code};
 ghost use Rattle.raft_records.specs.Item.{Item};
-ghost use Rattle.raft_env.specs.Moments.{Passes};
 ghost use Rattle.raft_env.specs.Refusal.{Rose};
 ghost use Rattle.raft_log_engine.specs.Crash.{LeavesAllowed};
-ghost use Rattle.raft_script.specs.Durability.{AtFailure, IsDurableBehind, IsMomentOf, LeavesAllowedBehind, Progresses, durability_of};
+ghost use Rattle.raft_script.specs.Durability.{AtFailure, Does, IsDurableBehind, LeavesAllowedBehind, PassesThrough, uncovered};
 ghost use Rattle.raft_log_engine.specs.Engine.{contents_of, directory_of, durable_of, folder_of, has_failed, moments_of, refusals_of, unsynced_of};
-ghost use Rattle.raft_script.specs.Run.{accepted, accepted_of, AreAnswers, AreFailing, FailsBy, IsFailing, IsFailurePlace, IsUnasked, IsUnbuilt, RoseBy, batch_of_acts, covers, in_flight, io_count, is_covering, is_io, is_refused_by_storage, IsAnswer, IsWriteRefusal, IsWritten, item_of_act, with_items, written};
+ghost use Rattle.raft_script.specs.Run.{accepted, accepted_of, AreAnswers, AreFailing, FailsBy, IsFailing, IsFailurePlace, IsUnasked, IsUnbuilt, MayBeInFlight, RoseBy, batch_of_acts, covers, io_count, is_covering, is_io, is_refused_by_storage, IsAnswer, IsWriteRefusal, IsWritten, item_of_act, pending_items, written};
 
 use crate::operation::{Act, Op, Outcome};
 use raft_env::FileSystem;
@@ -39,8 +38,8 @@ pub fn run<F: FileSystem>(
     ensures counted { IfOk result (λ outcomes. RoseBy (io_count outcomes.items) (refusals_of engine.old) (refusals_of engine.new)) }
     ensures contents { IfOk result (λ outcomes. has_failed engine.new ≡ false
         → contents_of engine.new ≡ after_batches (contents_of engine.old) (accepted ops.now outcomes.items)) }
-    ensures any_moment { IfOk result (λ outcomes. Passes (moments_of engine.old) (moments_of engine.new) (directory_of engine.new)
-        (IsMomentOf (folder_of engine.old) (durable_of engine.old) (unsynced_of engine.old) ops.now outcomes.items)) }
+    ensures any_moment { IfOk result (λ outcomes. PassesThrough (folder_of engine.old) (durable_of engine.old)
+        (uncovered (unsynced_of engine.old)) ops.now outcomes.items (moments_of engine.old) (moments_of engine.new)) }
     ensures now { IfOk result (λ outcomes. AtFailure (has_failed engine.old) (has_failed engine.new) ops.now outcomes.items
         (λ failed_at. LeavesAllowedBehind failed_at (folder_of engine.old) (durable_of engine.old) (unsynced_of engine.old) ops.now outcomes.items (directory_of engine.new))) }
     ensures progress { IfOk result (λ outcomes. AtFailure (has_failed engine.old) (has_failed engine.new) ops.now outcomes.items
@@ -67,8 +66,8 @@ pub(crate) fn run_watched<F: FileSystem>(
     ensures contents { IfOk result (λ ran. has_failed engine.new ≡ false
         → contents_of engine.new ≡ after_batches (contents_of engine.old) (accepted ops.now ran.outcomes.items)) }
     ensures still { has_failed engine.old ≡ true → has_failed engine.new ≡ true }
-    ensures any_moment { IfOk result (λ ran. Passes (moments_of engine.old) (moments_of engine.new) (directory_of engine.new)
-        (IsMomentOf (folder_of engine.old) (durable_of engine.old) (unsynced_of engine.old) ops.now ran.outcomes.items)) }
+    ensures any_moment { IfOk result (λ ran. PassesThrough (folder_of engine.old) (durable_of engine.old)
+        (uncovered (unsynced_of engine.old)) ops.now ran.outcomes.items (moments_of engine.old) (moments_of engine.new)) }
     ensures now { IfOk result (λ ran. LeavesAllowedBehind ran.failed_at (folder_of engine.old) (durable_of engine.old) (unsynced_of engine.old) ops.now ran.outcomes.items (directory_of engine.new)) }
     ensures progress { IfOk result (λ ran. IsDurableBehind ran.failed_at (durable_of engine.old) (unsynced_of engine.old) ops.now ran.outcomes.items (durable_of engine.new) (unsynced_of engine.new)) }
     ensures left { LeavesAllowed (folder_of engine.new) (durable_of engine.new) (unsynced_of engine.new) (directory_of engine.new) }
@@ -102,10 +101,7 @@ fn step<F: FileSystem>(alloc: Global, engine: &mut Engine<F>, op: &Op) -> Outcom
     ensures counted { is_refused_by_storage result ≡ true → Rose (refusals_of engine.old) (refusals_of engine.new) }
     ensures counts { refusals_of engine.old ≤ refusals_of engine.new }
     ensures contents { has_failed engine.new ≡ false → contents_of engine.new ≡ after_batches (contents_of engine.old) (accepted_of op.now result) }
-    ensures progress { Progresses (accepted_of op.now result) (is_covering op.now result) (in_flight op.now) (durability_of engine.old) (durability_of engine.new) }
-    ensures any_moment { has_failed engine.old ≡ false → Passes (moments_of engine.old) (moments_of engine.new) (directory_of engine.new)
-        (LeavesAllowed (folder_of engine.old) (durable_of engine.old) (unsynced_of engine.old ++ in_flight op.now)) }
-    ensures rests { has_failed engine.old ≡ true → (moments_of engine.new ≡ moments_of engine.old) × (directory_of engine.new ≡ directory_of engine.old) }
+    ensures does { Does (accepted_of op.now result) (is_covering op.now result) (λ m. MayBeInFlight m op.now) engine.old engine.new }
     ensures still { has_failed engine.old ≡ true → has_failed engine.new ≡ true }
     ensures folder { folder_of engine.new ≡ folder_of engine.old }
 {
@@ -129,10 +125,8 @@ fn write<F: FileSystem>(
     ensures counted { is_io result ≡ true → Rose (refusals_of engine.old) (refusals_of engine.new) }
     ensures counts { refusals_of engine.old ≤ refusals_of engine.new }
     ensures contents { has_failed engine.new ≡ false → contents_of engine.new ≡ after_batches (contents_of engine.old) (written acts.now result) }
-    ensures progress { Progresses (written acts.now result) (covers sync result) (with_items (batch_of_acts acts.now)) (durability_of engine.old) (durability_of engine.new) }
-    ensures any_moment { has_failed engine.old ≡ false → Passes (moments_of engine.old) (moments_of engine.new) (directory_of engine.new)
-        (LeavesAllowed (folder_of engine.old) (durable_of engine.old) (unsynced_of engine.old ++ with_items (batch_of_acts acts.now))) }
-    ensures rests { has_failed engine.old ≡ true → (moments_of engine.new ≡ moments_of engine.old) × (directory_of engine.new ≡ directory_of engine.old) }
+    ensures does { Does (written acts.now result) (covers sync result)
+        (λ m flight. flight ≡ pending_items m (batch_of_acts acts.now)) engine.old engine.new }
     ensures still { has_failed engine.old ≡ true → has_failed engine.new ≡ true }
     ensures folder { folder_of engine.new ≡ folder_of engine.old }
 {
