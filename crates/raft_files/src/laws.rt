@@ -1,5 +1,6 @@
 //! What holds of the records of files, whoever writes or reads them.
 ghost use Rattle.std.specs.Prelude.{◌≡◌, ◌⊎◌, ◌+◌, ◌<◌, ◌≤◌, ◌^◌, ◌++◌, ◌∷◌, ℕ, List, [], true, Some, None, length, take};
+ghost use Rattle.std.specs.List.{take_while};
 ghost use Rattle.raft_records.specs.FileId.{signature_in};
 ghost use Rattle.raft_records.specs.Item.{Batch};
 ghost use Rattle.raft_records.specs.Record.{record_bytes, record_of};
@@ -12,7 +13,8 @@ ghost use Rattle.raft_files.specs.Detectable.{EndsUnmarked, IsDetectable, format
 ghost use Rattle.raft_env.specs.Directory.{Directory, IsOneOf, IsRestarted, IsTruncating, Leaves, Left, Path, created, file_at};
 ghost use Rattle.raft_files.specs.Header.{HasHeader, header_bytes, header_len, header_of};
 ghost use Rattle.raft_env.specs.Outcomes.{File, is_touched};
-ghost use Rattle.raft_files.specs.Reading.{Placed, Reading, end_of_reading, is_read_to_end, readable_batches, reading};
+ghost use Rattle.raft_files.specs.Reading.{Placed, Reading, end_of_reading, is_read_to_end, readable_batches, readable_records, reading};
+ghost use Rattle.raft_files.specs.Replay.{has_sound_block_at, replayed_records};
 ghost use Rattle.raft_files.specs.Records.{FirstOf, HasLog, HasTornLog, HoldsRecords, IsKept, left_batches};
 ghost use Rattle.raft_files.specs.Told.{AreDoneAt, AreOwn, EndsInZeros, HasDoneLog, HasDoneRecords, IsBrokenFrom, IsReadAsBefore, IsTornBehind};
 ghost use Rattle.raft_files.specs.Writer.{HasChanged, IsAppended, IsAppending, IsClosed, IsClosing, IsCut, IsCutting, IsOpening, IsSynced, IsSyncing, bytes_at};
@@ -30,6 +32,13 @@ pub fn appended_record_is_read()
 /// Bytes behind those that were read hide none of their batches.
 pub fn beginning_is_read()
     ensures value { (id : FileId) (bytes more : List ℕ) → (later : List Batch) × (readable_batches id (bytes ++ more) ≡ readable_batches id bytes ++ later) }
+{}
+
+/// A replay looks at no entries block: what can be read of a file is the longest beginning of what a
+/// replay takes in which all blocks are sound.
+pub fn readable_records_are_the_replayed_with_sound_blocks()
+    ensures value { (id : FileId) (bytes : List ℕ) → readable_records id bytes
+        ≡ take_while (λ p. has_sound_block_at bytes p.at) (replayed_records id bytes) }
 {}
 
 /// What a crash leaves of a log file, where damage can be told: the first of its batches, with all synced ones
