@@ -14,8 +14,8 @@ returns-in_ok-ran-in-Ok-clause-answered g c =
     let ran = c.in_ok-ran-in-Ok.ran in
     let run = c.in_ok-ran-in-Ok.ensures in
     λ _. inl (record {
-      answers = subst (λ (m : Contents). AreAnswers m c.args.ops.now ran.outcomes.items) c.in-Ok.ensures.contents run.answers;
-      place = subst (λ (b : Bool). IsFailurePlace b c.args.ops.now ran.outcomes.items ran.failed_at) c.in-Ok.ensures.alive run.place;
+      answers = subst (λ (m : Contents). AreAnswers m c.args.ops.now ran.outcomes.items) c.in-Ok.ensures.contents run.ran.answers;
+      place = subst (λ (b : Bool). IsFailurePlace b c.args.ops.now ran.outcomes.items ran.failed_at) c.in-Ok.ensures.alive run.ran.failures.1;
     })
 
 pub returns-in_ok-ran-in-Ok-clause-behind : goal.returns-in_ok-ran-in-Ok-clause-behind
@@ -25,7 +25,7 @@ returns-in_ok-ran-in-Ok-clause-behind g c =
     let e = c.in-Ok.engine in
     let ran = c.in_ok-ran-in-Ok.ran in
     let leaves = opened_behind (folder_of e) dir m (durable_of e) (unsynced_of e) c.args.ops.now ran.outcomes.items ran.failed_at (directory_of c.run_watched.new.engine)
-    c.in-Ok.ensures.folder (c.in-Ok.ensures.synced.0 ∙ c.in-Ok.ensures.contents) c.in-Ok.ensures.synced.1 c.in_ok-ran-in-Ok.ensures.now in
+    c.in-Ok.ensures.folder (c.in-Ok.ensures.synced.0 ∙ c.in-Ok.ensures.contents) c.in-Ok.ensures.synced.1 c.in_ok-ran-in-Ok.ensures.ran.now in
     λ _. subst (λ (n : Directory). LeavesAllowedBehind ran.failed_at dir m [] c.args.ops.now ran.outcomes.items n) (sym c.give_up.ensures.files) leaves
 
 pub returns-in_ok-ran-in-Ok-clause-no_file : goal.returns-in_ok-ran-in-Ok-clause-no_file
