@@ -5,7 +5,7 @@ ghost use Rattle.raft_records.specs.Fault.{fault_code};
 ghost use Rattle.raft_records.specs.Item.{Item};
 ghost use Rattle.raft_env.specs.Refusal.{Rose};
 ghost use Rattle.raft_log_engine.specs.Crash.{LeavesAllowed};
-ghost use Rattle.raft_script.specs.Durability.{Does, HaveRun, Runs};
+ghost use Rattle.raft_script.specs.Durability.{AreAllowedInside, Does, HaveRun, Runs};
 ghost use Rattle.raft_log_engine.specs.Engine.{contents_of, directory_of, durable_of, folder_of, has_failed, refusals_of, unsynced_of};
 ghost use Rattle.raft_script.specs.Run.{accepted_of, FailsBy, IsFailing, IsUnasked, IsUnbuilt, MayBeInFlight, batch_of_acts, covers, is_covering, is_io, is_refused_by_storage, IsAnswer, IsWriteRefusal, IsWritten, item_of_act, pending_items, written};
 
@@ -33,6 +33,8 @@ pub fn run<F: FileSystem>(
     engine: &mut Engine<F>,
     ops: &[Op],
 ) -> Result<Vec<Outcome>, Fault>
+    ensures any_moment { IfOk result (λ outcomes.
+        AreAllowedInside ops.now outcomes.items engine.old engine.new) }
     ensures ran { IfOk result (λ outcomes. HaveRun ops.now outcomes.items engine.old engine.new) }
     ensures left { LeavesAllowed (folder_of engine.new) (durable_of engine.new)
         (unsynced_of engine.new) (directory_of engine.new) }
@@ -50,6 +52,8 @@ pub(crate) fn run_watched<F: FileSystem>(
     engine: &mut Engine<F>,
     ops: &[Op],
 ) -> Result<Ran, Fault>
+    ensures any_moment { IfOk result (λ ran.
+        AreAllowedInside ops.now ran.outcomes.items engine.old engine.new) }
     ensures ran { IfOk result (λ ran.
         Runs ops.now ran.outcomes.items ran.failed_at engine.old engine.new) }
     ensures left { LeavesAllowed (folder_of engine.new) (durable_of engine.new)
@@ -84,7 +88,8 @@ fn step<F: FileSystem>(alloc: Global, engine: &mut Engine<F>, op: &Op) -> Outcom
         → Rose (refusals_of engine.old) (refusals_of engine.new) }
     ensures counts { refusals_of engine.old ≤ refusals_of engine.new }
     ensures contents { has_failed engine.new ≡ false
-        → contents_of engine.new ≡ after_batches (contents_of engine.old) (accepted_of op.now result) }
+        → contents_of engine.new
+        ≡ after_batches (contents_of engine.old) (accepted_of op.now result) }
     ensures does { Does (accepted_of op.now result) (is_covering op.now result)
         (λ m. MayBeInFlight m op.now) engine.old engine.new }
     ensures still { has_failed engine.old ≡ true → has_failed engine.new ≡ true }
@@ -111,7 +116,8 @@ fn write<F: FileSystem>(
     ensures counted { is_io result ≡ true → Rose (refusals_of engine.old) (refusals_of engine.new) }
     ensures counts { refusals_of engine.old ≤ refusals_of engine.new }
     ensures contents { has_failed engine.new ≡ false
-        → contents_of engine.new ≡ after_batches (contents_of engine.old) (written acts.now result) }
+        → contents_of engine.new
+        ≡ after_batches (contents_of engine.old) (written acts.now result) }
     ensures does { Does (written acts.now result) (covers sync result)
         (λ m flight. flight ≡ pending_items m (batch_of_acts acts.now)) engine.old engine.new }
     ensures still { has_failed engine.old ≡ true → has_failed engine.new ≡ true }

@@ -100,10 +100,16 @@ returns-clause-ran g c =
       failures = (kept.6, subst (λ (l : List Op). IsFailurePlace (has_failed old) l outcomes failed_at) whole kept.7);
       counted = kept.8;
       contents = running.contents;
-      any_moment = subst (λ (l : List Op). PassesThrough (folder_of old) (durable_of old) first l outcomes (moments_of old) (moments_of e)) whole kept.5;
       now = leaves_behind (durable_of old) (unsynced_of old) ops outcomes failed_at (durability_of e) way (folder_of old) (directory_of e) (subst (λ f. LeavesAllowed f (durable_of e) (unsynced_of e) (directory_of e)) kept.3 (engine_leaves e));
       progress = durable_behind (durable_of old) (unsynced_of old) ops outcomes failed_at (durability_of e) way;
     }
+
+pub returns-clause-any_moment : goal.returns-clause-any_moment
+returns-clause-any_moment g c =
+    let old = c.args.engine.now in
+    let ops = c.args.ops.now in
+    let whole : take c.loop-op.op-index ops ≡ ops = take_all c.loop-op.op-index ops (omega (arith, c.loop-op-test.false)) in
+    subst (λ (l : List Op). PassesThrough (folder_of old) (durable_of old) (uncovered (unsynced_of old)) l c.loop-op.outcomes.items (moments_of old) (moments_of c.loop-op.engine)) whole c.loop-op.invariant.5
 
 pub returns-in_err-outcomes-clause-left : goal.returns-in_err-outcomes-clause-left
 returns-in_err-outcomes-clause-left g c = engine_leaves c.args.engine.now
