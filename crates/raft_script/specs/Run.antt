@@ -184,21 +184,21 @@ IsFailing failed Sync (Done answer) fails = FailsBy failed answer fails (λ _. �
 IsFailing failed (Get group key) (Value answer) fails = FailsBy failed answer fails (λ _. ⊥) × (fails ≡ failed)
 IsFailing failed _ _ fails = ⊥
 
--- .. in each of the operations, one after the other
-abbrev pub AreFailing : Bool → List Op → List Outcome → Bool → Type 0
-AreFailing failed [] [] fails = fails ≡ failed
-AreFailing failed (op ∷ ops) (outcome ∷ outcomes) fails = (next : Bool) × IsFailing failed op outcome next × AreFailing next ops outcomes fails
-AreFailing failed _ _ fails = ⊥
+-- each of the operations leaves the engine as it found it, failed or standing
+abbrev pub AreSteady : Bool → List Op → List Outcome → Type 0
+AreSteady failed [] [] = Unit {0}
+AreSteady failed (op ∷ ops) (outcome ∷ outcomes) = IsFailing failed op outcome failed × AreSteady failed ops outcomes
+AreSteady failed _ _ = ⊥
 
 -- the engine failed in the operation at this place: those before it left it standing, and those behind it found it failed
 abbrev pub FailsAt : ℕ → List Op → List Outcome → Type 0
-FailsAt zero (op ∷ ops) (outcome ∷ outcomes) = IsFailing false op outcome true × AreFailing true ops outcomes true
+FailsAt zero (op ∷ ops) (outcome ∷ outcomes) = IsFailing false op outcome true × AreSteady true ops outcomes
 FailsAt (suc place) (op ∷ ops) (outcome ∷ outcomes) = IsFailing false op outcome false × FailsAt place ops outcomes
 FailsAt place _ _ = ⊥
 
--- where the engine failed: in the operation at the place, or in none, and then it is behind them as it was before
+-- where the engine failed: in the operation at the place, or in none
 abbrev pub IsFailurePlace : Bool → List Op → List Outcome → Option ℕ → Type 0
-IsFailurePlace failed ops outcomes None = AreFailing failed ops outcomes failed
+IsFailurePlace failed ops outcomes None = AreSteady failed ops outcomes
 IsFailurePlace failed ops outcomes (Some place) = (failed ≡ false) × FailsAt place ops outcomes
 
 -- .. and whether it has failed behind them

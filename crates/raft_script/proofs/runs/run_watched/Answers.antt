@@ -78,7 +78,7 @@ loop-op-init g c =
       under_way_begun c.args.ops.now (durability_of e),
       refl,
       stands_so_far (has_failed e),
-      refl,
+      tt,
       omega arith,
       λ _. refl,
     )
