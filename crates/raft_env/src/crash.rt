@@ -10,6 +10,7 @@ ghost use Rattle.raft_env.specs.Consistent.{AreConsistent, NoneRenamed, OnlyWrit
 use crate::armed::Armed;
 use crate::history::History;
 use crate::memory::MemoryFileSystem;
+use crate::refusals::RefusalCount;
 use crate::slot::Slot;
 use crate::tree::{Files, Tree};
 use raft_records::Fault;
@@ -33,6 +34,7 @@ pub enum Choice {
 impl MemoryFileSystem {
     ghost use Rattle.raft_env.specs.Choice.{left_by, RefusesUnless};
     ghost use Rattle.raft_env.specs.Memory.{memory_directory, memory_moments, memory_refusals, armed_of, stop_of};
+    ghost use Rattle.raft_env.specs.Refusal.{no_refusals};
 
     /// The files after a crash now. The choices go to the files in the order of their paths' bytes, and a file that is
     /// left over keeps what was synced. Folders stay. The files are consistent, none was renamed, and of their
@@ -43,7 +45,7 @@ impl MemoryFileSystem {
         ensures ok { IfOk result (λ m. IsRestarted (memory_directory self.now)
             (left_by choices.now (memory_directory self.now)) (memory_directory m)) }
         ensures any_moment { IfOk result (λ m. memory_moments m ≡ memory_directory m ∷ []) }
-        ensures cause { IfOk result (λ m. memory_refusals m ≡ 0) }
+        ensures cause { IfOk result (λ m. memory_refusals m ≡ no_refusals) }
         ensures others { IfOk result (λ m. (armed_of m ≡ []) × (stop_of m ≡ None)) }
         ensures consistent { AreConsistent (memory_directory self.now) }
         ensures only_writes { OnlyWritesRefusedIn (memory_directory self.now) }
@@ -56,7 +58,7 @@ impl MemoryFileSystem {
             alloc: self.alloc,
             tree: self.tree.crashed(self.alloc, choices)?,
             past: History::new(),
-            refusals: 0,
+            refusals: RefusalCount::new(),
             armed: Armed::new(self.alloc),
         })
     }
