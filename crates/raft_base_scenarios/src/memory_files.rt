@@ -316,7 +316,7 @@ fn files_are_as_the_scripts_say(rt: HostRuntime) -> Result<(), Fail> {
 
 #[test]
 fn a_fault_has_the_kind_and_the_path(rt: HostRuntime) {
-    let fault = FsFault::Io(IoKind::NotFound).at(rt.alloc(), "log");
+    let fault = FsFault::Io(IoKind::NotFound).with_path(rt.alloc(), "log");
     assert!(rt; matches!(&fault, Fault::Io(IoKind::NotFound, path) if path.as_str() == "log"));
-    assert!(rt; matches!(&FsFault::Memory.at(rt.alloc(), "log"), Fault::Memory));
+    assert!(rt; matches!(&FsFault::Memory.with_path(rt.alloc(), "log"), Fault::Memory));
 }
