@@ -219,17 +219,3 @@ pub trait FileSystem: Send + Sync {
     /// Now is a moment.
     ghost now_counts: { (fs : Self) → (earlier : List Directory) × (moments fs ≡ directory fs ∷ earlier) };
 }
-
-#[cfg(test)]
-mod tests {
-    use super::*;
-    use std::test::Fail;
-
-    #[test]
-    fn a_fault_has_the_kind_and_the_path(rt: HostRuntime) -> Result<(), Fail> {
-        let fault = FsFault::Io(IoKind::NotFound).with_path(rt.alloc(), "log");
-        assert!(rt; matches!(&fault, Fault::Io(IoKind::NotFound, path) if path.as_str() == "log"));
-        assert!(rt; matches!(&FsFault::Memory.with_path(rt.alloc(), "log"), Fault::Memory));
-        Ok(())
-    }
-}

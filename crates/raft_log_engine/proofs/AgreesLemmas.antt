@@ -1,13 +1,13 @@
 -- How the tables of an engine and its file go on agreeing.
 use Rattle.std.proofs.Common.{◌≡◌, ◌≢◌, inl, inr, ℕ, ◌≤◌, Bool, true, false, List, [], ◌∷◌, ◌++◌, length, take, Option, Some, None, refl, sym, ◌∙◌, ap, subst, arith, length-append}
-use Rattle.std.specs.Prelude.{is_some, option_map, ◌&&◌}
+use Rattle.std.specs.Prelude.{is_some, option_map, unwrap_or, IsSome, ◌&&◌}
 use Rattle.std.specs.List.{list_all}
 use Rattle.std.specs.Str.{bytes_eq}
 use Rattle.std.proofs.lemmas.Bool.{cases_Bool}
 use Rattle.std.proofs.lemmas.Slice.Eq.{bytes_eq-Decides}
 use Rattle.std.proofs.lemmas.List.{take-append-le}
 use Rattle.raft_records.specs.Contents.{Contents, no_contents, after_batch, after_batches}
-use Rattle.raft_records.specs.Batch.{BatchView, with_record}
+use Rattle.raft_records.specs.Batch.{BatchView, signed_for}
 use Rattle.raft_records.specs.FileId.{file_signature, signature_in}
 use Rattle.raft_records.specs.Record.{record_of, record_bytes}
 use Rattle.raft_records.specs.declared.pipe_log.LogFileContext.{LogFileContext}
@@ -116,11 +116,14 @@ signed_record v given items signature signed given_is readable =
     ap (λ s. record_of s given) (sym signed) ∙ ap (λ l. record_of signature l) given_is ∙ readable ∙ ap (λ (l : List ℕ). Some (items, length l)) (sym given_is)
 
 -- .. as a batch that is prepared for it has it
-pub signed_bytes : (v : Version) (context : LogFileContext) (given : List ℕ) (batch prepared : BatchView) → file_signature context ≡ signature_in v 1 → prepared.encoded ≡ Some given → prepared ≡ with_record batch (record_bytes (file_signature context) batch.items)
+pub signed_bytes : (v : Version) (context : LogFileContext) (given : List ℕ) (batch prepared : BatchView) → file_signature context ≡ signature_in v 1 → given ≡ unwrap_or prepared.encoded [] → prepared ≡ signed_for (file_signature context) batch → IsSome batch.encoded
     → record_of (file_signature context) (record_bytes (file_signature context) batch.items) ≡ Some (batch.items, length (record_bytes (file_signature context) batch.items)) → record_of (signature_in v 1) given ≡ Some (batch.items, length given)
-signed_bytes v context given batch prepared signed encoded prepared_is readable =
-    let bytes = record_bytes (file_signature context) batch.items in
-    signed_record v given batch.items (file_signature context) signed (same_some given bytes (sym encoded ∙ ap (λ (b : BatchView). b.encoded) prepared_is)) readable
+signed_bytes v context given batch prepared signed encoded prepared_is populated readable =
+    signed_record v given batch.items (file_signature context) signed (encoded ∙ ap (λ (b : BatchView). unwrap_or b.encoded []) prepared_is ∙ by_record batch.encoded populated) readable
+  where
+    by_record : (found : Option (List ℕ)) → IsSome found → unwrap_or (option_map (λ _. record_bytes (file_signature context) batch.items) found) [] ≡ record_bytes (file_signature context) batch.items
+    by_record None some = cc
+    by_record (Some bytes) some = refl
 
 -- a signed record behind a whole log is one batch more
 pub written_agrees : (w w' : Writing) (n n' : Directory) (v : Version) (m m' : Contents) (given : List ℕ) (items : Batch) → Agrees w n v m → IsWriterOf w' n' → written_bytes w' n' ≡ written_bytes w n ++ given

@@ -4,7 +4,7 @@ use Rattle.std.specs.Prelude.{IfSome, option_map}
 use Rattle.std.specs.Io.BufRead.{DropsThrough, drop_through, take_through}
 use Rattle.std.specs.List.{onto_first, position_or_len}
 use Rattle.std.proofs.lemmas.Bool.{eqb-false, eqb-true, le-ltb, lt-ltb}
-use Rattle.raft_script.specs.Line.{IsNextLine, first_bad_line, is_bad, lines_in}
+use Rattle.raft_script.specs.Line.{IsNextLine, IsReading, first_bad_line, is_bad, lines_in}
 
 last-cons : (c : ℕ) (r : List ℕ) → 0 < length r → slice_index (c ∷ r) (length (c ∷ r) - 1) ≡ slice_index r (length r - 1)
 last-cons c r some = let e : length (c ∷ r) - 1 ≡ suc (length r - 1) = omega arith in ap (slice_index (c ∷ r)) e
@@ -67,12 +67,6 @@ module _ (known left : Option (List ℕ)) (old read : List ℕ) (empty : old ≡
 
   pub line_without_end : slice_index read (length read - 1) ≢ 10 → IfSome known (λ text. IsNextLine true text read left)
   line_without_end other = found read (λ text next. next.unended other)
-
--- The lines before this number are good, and these bytes are left behind them.
-abbrev pub IsReading : Option (List ℕ) → Option (List ℕ) → ℕ → Type 0
-IsReading None left number = Unit {0}
-IsReading (Some text) left number =
-    (rest : List ℕ) × (left ≡ Some rest) × (position_or_len is_bad (lines_in text) + 1 ≡ number + position_or_len is_bad (lines_in rest)) × (length (lines_in text) + 1 ≡ number + length (lines_in rest))
 
 pub reading_begins : (known : Option (List ℕ)) → IsReading known known 1
 reading_begins None = tt

@@ -1,5 +1,5 @@
 -- What a trial's crash leaves, and what its opening finds.
-use Rattle.std.proofs.Common.{◌≡◌, ◌⊎◌, ⊎_elim, inl, inr, Some, ℕ, List, [], ◌∷◌, ◌++◌, length, Option, None, refl, sym, ap, subst, ◌∙◌}
+use Rattle.std.proofs.Common.{◌≡◌, ◌⊎◌, ⊎_elim, inl, inr, Some, ℕ, List, [], ◌∷◌, ◌++◌, Option, None, refl, sym, ap, subst, ◌∙◌}
 use Rattle.std.specs.Prelude.{IsSome, is_some, option_map, IfOk, IfErr, Result, Ok, Err}
 use Rattle.std.specs.FinMap.{get-empty}
 use Rattle.raft_records.specs.Contents.{Contents, no_contents}
@@ -22,10 +22,10 @@ use Rattle.raft_records.specs.declared.errors.Fault.TheVariants as fault
 use Rattle.raft_log_engine.specs.Image.{IsImageOf}
 use Rattle.raft_log_engine.specs.declared.engine.image.Image.{Image}
 use Rattle.raft_log_engine.specs.Log.{contents_at, contents_in, first_file, log_path}
-use Rattle.raft_script.specs.Durability.{LeavesAllowedBehind, covered_behind}
+use Rattle.raft_script.specs.Durability.{LeavesAllowedBehind, Progress, progress_after_all, uncovered}
 use Rattle.raft_log_engine.specs.Open.{IsDamage, IsOpenable}
-use Rattle.raft_script.specs.Run.{IsOutside, accepted}
-use Rattle.raft_script.specs.Trial.{AreAnswered, AreNotAsked, IsLogRefusal}
+use Rattle.raft_script.specs.Run.{IsOutside}
+use Rattle.raft_script.specs.Trial.{IsLogRefusal, RunsOver}
 use Rattle.raft_log_engine.specs.declared.config.RecoveryMode.{RecoveryMode}
 use Rattle.raft_log_engine.specs.declared.config.RecoveryMode.TheVariants.{AbsoluteConsistency}
 use Rattle.raft_script.specs.declared.operation.Op.{Op}
@@ -40,22 +40,15 @@ opened_behind folder dir m durable unsynced ops outcomes failed_at n folder_is d
     subst (λ (p : Path). LeavesAllowedBehind failed_at p m [] ops outcomes n) folder_is
     (subst (λ (x : Contents). LeavesAllowedBehind failed_at folder x [] ops outcomes n) durable_is (subst (λ (b : List Batch). LeavesAllowedBehind failed_at folder durable b ops outcomes n) unsynced_is leaves))
 
-none_covered : (ops : List Op) → covered_behind 0 ops [] ≡ 0
-none_covered [] = refl
-none_covered (op ∷ ops) = refl
-
-none_accepted : (ops : List Op) → accepted ops [] ≡ []
-none_accepted [] = refl
-none_accepted (op ∷ ops) = refl
+no_progress : (p : Progress) (ops : List Op) → progress_after_all p ops [] ≡ p
+no_progress p [] = refl
+no_progress p (op ∷ ops) = refl
 
 -- where the opening was refused, no operation was done
 pub refused_behind : (folder : Path) (m : Contents) (ops : List Op) (n : Directory) → KeepsContents folder m [] n → LeavesAllowedBehind None folder m [] ops [] n
 refused_behind folder m ops n keeps =
-    let none : List Batch = [] in
-    let least_is : 0 ≡ covered_behind (length none) ops [] = sym (none_covered ops) in
-    let batches_is : none ≡ none ++ accepted ops [] ++ none = sym (ap (λ (l : List Batch). none ++ l ++ none) (none_accepted ops)) in
-    let leaves : LeavesAllowedFrom 0 folder m none n = contents_left folder m [] n keeps in
-    subst (λ (l : List Batch). LeavesAllowedFrom (covered_behind (length none) ops []) folder m l n) batches_is (subst (λ (k : ℕ). LeavesAllowedFrom k folder m none n) least_is leaves)
+    let leaves : LeavesAllowedFrom 0 folder m [] n = contents_left folder m [] n keeps in
+    ([], refl, subst (λ (p : Progress). LeavesAllowedFrom p.covered folder m (p.batches ++ []) n) (sym (no_progress (uncovered []) ops)) leaves)
 
 -- a folder without files keeps nothing
 pub nothing_kept : (folder : Path) (n : Directory) → n ≡ no_files → KeepsContents folder no_contents [] n
@@ -67,13 +60,11 @@ nothing_kept folder n is =
 
 -- what a run shows that began with no files
 pub run_shown : (dir : Path) (before n : Directory) (ops : List Op) (outcomes : List Outcome) (failed_at : Option ℕ) → before ≡ no_files
-    → (KeepsContents dir (contents_at dir before) [] before → AreAnswered (contents_at dir before) ops outcomes failed_at ⊎ AreNotAsked dir (contents_at dir before) n outcomes failed_at)
-    → (KeepsContents dir (contents_at dir before) [] before → LeavesAllowedBehind failed_at dir (contents_at dir before) [] ops outcomes n)
-    → (AreAnswered no_contents ops outcomes failed_at ⊎ AreNotAsked dir no_contents n outcomes failed_at) × LeavesAllowedBehind failed_at dir no_contents [] ops outcomes n
-run_shown dir before n ops outcomes failed_at none answered behind =
+    → (KeepsContents dir (contents_at dir before) [] before → RunsOver dir (contents_at dir before) ops outcomes failed_at n) → RunsOver dir no_contents ops outcomes failed_at n
+run_shown dir before n ops outcomes failed_at none ran =
     let empty = contents_at-no_files dir before none in
     let kept = subst (λ (m : Contents). KeepsContents dir m [] before) (sym empty) (nothing_kept dir before none) in
-    (subst (λ (m : Contents). AreAnswered m ops outcomes failed_at ⊎ AreNotAsked dir m n outcomes failed_at) empty (answered kept), subst (λ (m : Contents). LeavesAllowedBehind failed_at dir m [] ops outcomes n) empty (behind kept))
+    subst (λ (m : Contents). RunsOver dir m ops outcomes failed_at n) empty (ran kept)
 
 -- what an opening after a crash finds
 pub restarted_contents : (folder : Path) (n m : Directory) (d : Left) → IsRestarted n d m → contents_at folder m ≡ found_after folder n d

@@ -1,6 +1,6 @@
 -- The lines that the program reads, and what each asks for.
-use Rattle.std.specs.Prelude.{◌≡◌, ℕ, ◌+◌, ◌^◌, ◌==◌, ◌&&◌, not, nat_lt, Bool, true, false, List, [], ◌∷◌, length, codes, Option, Some, None, is_none, option_and_then, option_map, if◌then◌else◌}
-use Rattle.std.specs.List.{list_all, onto_first, position, slice_split}
+use Rattle.std.specs.Prelude.{◌≡◌, ℕ, ◌+◌, ◌^◌, ◌==◌, ◌&&◌, not, nat_lt, Bool, true, false, List, [], ◌∷◌, length, codes, Option, Some, None, is_none, IfSome, option_and_then, option_map, if◌then◌else◌}
+use Rattle.std.specs.List.{list_all, onto_first, position, position_or_len, slice_split}
 use Rattle.std.specs.Char.{is_ascii_graphic}
 use Rattle.std.specs.Str.{all_ascii_digits, bytes_eq}
 use Rattle.std.specs.Str.Parse.{digits_value}
@@ -134,3 +134,17 @@ EndsOn text _ = Unit {0}
 abbrev pub IsNextLine : Bool → List ℕ → List ℕ → Option (List ℕ) → Type 0
 IsNextLine true text line left = (rest : List ℕ) × (left ≡ Some rest) × (lines_in text ≡ line ∷ lines_in rest)
 IsNextLine false text line left = text ≡ []
+
+-- the lines before this number are good, and these bytes are left behind them
+abbrev pub IsReading : Option (List ℕ) → Option (List ℕ) → ℕ → Type 0
+IsReading None left number = Unit {0}
+IsReading (Some text) left number =
+    (rest : List ℕ)
+    × (left ≡ Some rest)
+    × (position_or_len is_bad (lines_in text) + 1 ≡ number + position_or_len is_bad (lines_in rest))
+    × (length (lines_in text) + 1 ≡ number + length (lines_in rest))
+
+-- the program goes on behind the line of this number, or it ends there
+abbrev pub GoesOnOrEnds : Option (List ℕ) → Option (List ℕ) → ℕ → Option Ended → Type 0
+GoesOnOrEnds known left number None = IsReading known left (number + 1)
+GoesOnOrEnds known left number (Some ended) = IfSome known (λ text. EndsOn text ended)

@@ -1,6 +1,6 @@
 //! The program `raftlog` over any reader and writer.
-ghost use Rattle.std.specs.Prelude.{IfOk, IfSome};
-ghost use Rattle.raft_script.specs.Line.{EndsOn, IsNextLine};
+ghost use Rattle.std.specs.Prelude.{IfOk, IfSome, List, Option, ℕ};
+ghost use Rattle.raft_script.specs.Line.{EndsOn, GoesOnOrEnds, IsNextLine, IsReading};
 
 use crate::line::{Left, Line, parse_line};
 use raft_env::{Choice, FileSystem, MemoryFileSystem};
@@ -66,30 +66,49 @@ fn serve_lines<R: BufRead, W: Write>(alloc: Global, input: &mut R, output: &mut 
     let mut engine = None;
     let mut text = Vec::new(alloc);
     for number in 1..u64::MAX {
-        match read_line(input, &mut text) {
-            Ok(true) => {}
-            Ok(false) => return Ended::Done,
-            Err(_) => return Ended::Input,
-        }
-        let Some(line) = parse_line(&text) else {
-            return Ended::BadLine(number);
-        };
-        let Ok(answer) = answer_line(alloc, &mut engine, &line) else {
-            return Ended::Input;
-        };
-        if print(output, &answer).is_err() {
-            return Ended::Output;
-        }
-        if let Answer::Gone(_) = answer {
-            return Ended::Opening;
+        if let Some(ended) = serve_line(alloc, &mut engine, number, &mut text, input, output) {
+            return ended;
         }
     }
     Ended::Input
 }
 
+// The next line, which has this number, and how the program ended if it ends there. The text is the line's, used again.
+fn serve_line<R: BufRead, W: Write>(
+    alloc: Global,
+    engine: &mut Option<MemoryEngine>,
+    number: u64,
+    text: &mut Vec<u8>,
+    input: &mut R,
+    output: &mut W,
+) -> Option<Ended>
+    ensures lines { (known : Option (List ℕ)) → IsReading known (R.Read.remaining input.old) number
+        → GoesOnOrEnds known (R.Read.remaining input.new) number result }
+{
+    match read_line(input, text) {
+        Ok(true) => {}
+        Ok(false) => return Some(Ended::Done),
+        Err(_) => return Some(Ended::Input),
+    }
+    let Some(line) = parse_line(text) else {
+        return Some(Ended::BadLine(number));
+    };
+    let Ok(answer) = answer_line(alloc, engine, &line) else {
+        return Some(Ended::Input);
+    };
+    if print(output, &answer).is_err() {
+        return Some(Ended::Output);
+    }
+    match answer {
+        Answer::Gone(_) => Some(Ended::Opening),
+        _ => None,
+    }
+}
+
 // The next line without its newline, if there is one.
 fn read_line<R: BufRead>(input: &mut R, line: &mut Vec<u8>) -> io::Result<bool>
-    ensures line { IfSome (R.Read.remaining input.old) (λ text. IfOk result (λ found. IsNextLine found text line.new.items (R.Read.remaining input.new))) }
+    ensures line { IfSome (R.Read.remaining input.old) (λ text. IfOk result (λ found.
+        IsNextLine found text line.new.items (R.Read.remaining input.new))) }
 {
     line.clear();
     if input.read_until(b'\n', line)? == 0 {

@@ -1,68 +1,58 @@
-//! Workloads of the checksum and of the file system alone.
+//! Workloads of the file system alone.
 
-use crate::measure::{Host, filled, mark, report, report_ceilings};
-use anyhow::{Result, anyhow};
-use raft_codec::checksum::crc32;
-use raft_env::{FileSystem, FsFault, MemoryFileSystem};
+use crate::blocks::filled;
+use crate::measure::{Host, report};
+use crate::workload::Load;
+use anyhow::{Error, Result, anyhow};
+use raft_env::{FileSystem, FsFault};
 use std::time::Instant;
 
-/// Checksums of so many blocks of 64 KB, and copies of the same bytes for comparison.
-pub(crate) fn checksum<R: Host>(rt: &R, count: u64) -> Result<()> {
-    let alloc = rt.alloc();
-    let block = filled(alloc, 65536, 1)?;
-    let mut copy = vec![in alloc; 0u8; 65536]?;
-    let bytes = count.saturating_mul(65536);
-    let start = Instant::now(rt)?;
-    for _ in 0..count {
-        copy.clear();
-        copy.extend_from_slice(&block)?;
-    }
-    report(rt, "copy", start.elapsed(rt)?, count, bytes)?;
-    let mut sum = 0u32;
-    let start = Instant::now(rt)?;
-    for number in 0..count {
-        mark(&mut copy, number);
-        sum = sum.wrapping_mul(31).wrapping_add(crc32(&copy));
-    }
-    report(rt, "crc", start.elapsed(rt)?, count, bytes)?;
-    println!(rt; "crc: {bytes} bytes, checksum {sum:08x}")?;
-    Ok(())
-}
-
 /// Appends to one file, each synced or none. Each tenth of them has a line of its own.
-pub(crate) fn append<R: Host>(
+pub(crate) fn append<R: Host, F: FileSystem>(
     rt: &R,
     name: &str,
-    count: u64,
-    size: usize,
-    sync: bool,
+    files: &mut F,
+    load: Load,
 ) -> Result<()> {
-    let alloc = rt.alloc();
-    let bytes = filled(alloc, size, 1)?;
-    let mut files = MemoryFileSystem::new(alloc);
-    let refused = |_: FsFault| anyhow!("the file system refused a call");
+    let block = filled(rt.alloc(), load.size, 1)?;
     let handle = files.create("file").map_err(refused)?;
     let mut writer = files.new_writer(&handle).map_err(refused)?;
-    let mut end = 0usize;
+    let tenth = load.count / 10;
+    let mut start = Instant::now(rt)?;
+    let mut end = 0;
     for _ in 0..10u8 {
-        let start = Instant::now(rt)?;
-        for _ in 0..count / 10 {
-            files.write(&mut writer, end, &bytes).map_err(refused)?;
-            if sync {
-                files.sync(&mut writer).map_err(refused)?;
-            }
-            end = end.saturating_add(size);
-        }
-        report(
+        end = append_tenth(files, &mut writer, end, &block, load).map_err(refused)?;
+        start = report(
             rt,
             name,
-            start.elapsed(rt)?,
-            count / 10,
-            (count / 10).saturating_mul(size as u64),
+            start,
+            tenth,
+            tenth.saturating_mul(load.size as u64),
         )?;
     }
-    report_ceilings(rt, count, size)?;
     let len = files.file_size(&handle).map_err(refused)?;
     println!(rt; "{name}: {len} bytes")?;
     Ok(())
+}
+
+fn append_tenth<F: FileSystem>(
+    files: &mut F,
+    writer: &mut F::Writer,
+    end: usize,
+    block: &[u8],
+    load: Load,
+) -> Result<usize, FsFault> {
+    let mut end = end;
+    for _ in 0..load.count / 10 {
+        files.write(writer, end, block)?;
+        if load.sync {
+            files.sync(writer)?;
+        }
+        end = end.saturating_add(block.len());
+    }
+    Ok(end)
+}
+
+fn refused(_: FsFault) -> Error {
+    anyhow!("the file system refused a call")
 }

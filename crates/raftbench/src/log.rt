@@ -1,61 +1,55 @@
 //! Workloads of the engine: 16-byte keys in 100 groups.
 
-use crate::measure::{Host, filled, next_state, report, report_ceilings};
-use anyhow::{Result, anyhow, bail};
-use raft_codec::checksum::crc32;
-use raft_env::{FileSystem, Permission};
+use crate::blocks::{filled, mark, next_state, then_sum};
+use crate::measure::{Host, report};
+use crate::workload::Load;
+use anyhow::Result;
+use raft_env::{FileSystem, FsFault, Permission};
 use raft_log_engine::{Config, Engine};
-use raft_records::{Fresh, LogBatch};
+use raft_records::{Fault, Fresh, LogBatch};
 use std::alloc::{AllocError, Global};
 use std::time::Instant;
 
 const GROUPS: u64 = 100;
 
+const FOLDER: &str = "bench";
+
 const LOG_PATH: &str = "bench/0000000000000001.raftlog";
 
-fn open<F: FileSystem + Drop>(alloc: Global, files: F) -> Result<Engine<F>> {
-    let mut config = Config::fresh(alloc);
-    config.dir.push_str("bench")?;
-    match Engine::open_in_order(alloc, config, files) {
-        Ok(engine) => Ok(engine),
-        Err(refused) => Err(anyhow!("opening: {}", refused.fault)),
-    }
+/// Puts, reads of keys in no order, and a close and an opening, over one engine. Answers the length of a record.
+pub(crate) fn put_get_reopen<R: Host, F: FileSystem + Drop>(
+    rt: &R,
+    name: &str,
+    files: F,
+    load: Load,
+) -> Result<usize> {
+    let mut engine = open(rt.alloc(), files)?;
+    let (found, sum) = put_and_get(rt, name, &mut engine, load)?;
+    let (len, last_found) = reopen(rt, engine, load)?;
+    let count = load.count;
+    println!(rt;
+        "{name}: {count} operations, {len} bytes of log\n  \
+         get: {count} operations, {found} found, checksum {sum:08x}\n  \
+         reopen: {count} records, {len} bytes of log, last found: {last_found}"
+    )?;
+    Ok(len / (count as usize).max(1))
 }
 
-fn close<F: FileSystem + Drop>(engine: Engine<F>) -> Result<F> {
-    match engine.close() {
-        Ok(files) => Ok(files),
-        Err(refused) => Err(anyhow!("closing: {}", refused.fault)),
-    }
-}
-
-fn log_len<F: FileSystem>(files: &mut F) -> Result<usize> {
-    let Ok(handle) = files.open(LOG_PATH, Permission::ReadOnly) else {
-        bail!("the log is gone");
-    };
-    match files.file_size(&handle) {
-        Ok(len) => Ok(len),
-        Err(_) => bail!("the log has no size"),
-    }
-}
-
-fn key_of(alloc: Global, number: u64) -> Result<Vec<u8>, AllocError> {
-    format!(in alloc; "{number:016}").map(String::into_bytes)
-}
-
-/// How many values are put, at as many keys at the most.
-#[derive(Clone, Copy)]
-pub(crate) struct Load {
-    pub count: u64,
-    pub keys: u64,
-    pub size: usize,
-    pub sync: bool,
-}
-
-impl Load {
-    fn bytes(self) -> u64 {
-        self.count.saturating_mul(self.size as u64)
-    }
+// How many keys are found, and the checksum of their values.
+fn put_and_get<R: Host, F: FileSystem>(
+    rt: &R,
+    name: &str,
+    engine: &mut Engine<F>,
+    load: Load,
+) -> Result<(u64, u32)> {
+    let puts = puts_of(rt.alloc(), load)?;
+    let keys = read_keys(rt.alloc(), load)?;
+    let start = Instant::now(rt)?;
+    let bytes = write_all(rt.alloc(), engine, puts, load.sync)?;
+    let start = report(rt, name, start, load.count, bytes)?;
+    let found = count_found(engine, &keys)?;
+    report(rt, "  get", start, load.count, load.bytes())?;
+    Ok((found, sum_found(engine, &keys)?))
 }
 
 #[derive(Drop)]
@@ -66,10 +60,11 @@ struct Item {
 }
 
 // Made before the clock starts.
-fn puts_of(alloc: Global, load: Load) -> Result<Vec<Item>> {
-    let value = filled(alloc, load.size, 1)?;
+fn puts_of(alloc: Global, load: Load) -> Result<Vec<Item>, AllocError> {
+    let mut value = filled(alloc, load.size, 1)?;
     let mut puts = Vec::new(alloc);
     for number in 0..load.count {
+        mark(&mut value, number);
         let key = number % load.keys.max(1);
         puts.push(Item {
             group: key % GROUPS,
@@ -80,99 +75,106 @@ fn puts_of(alloc: Global, load: Load) -> Result<Vec<Item>> {
     Ok(puts)
 }
 
-// Writes each put in a batch of its own.
+// Each in a batch of its own. Answers the bytes of their records.
 fn write_all<F: FileSystem>(
-    engine: &mut Engine<F>,
     alloc: Global,
+    engine: &mut Engine<F>,
     puts: Vec<Item>,
     sync: bool,
-) -> Result<()> {
+) -> Result<u64, Fault> {
     let mut batch = LogBatch::new(alloc);
+    let mut bytes = 0u64;
     for Item { group, key, value } in puts {
         batch.put(group, key, value)?;
-        engine.write(&mut batch, sync)?;
+        bytes = bytes.saturating_add(engine.write(&mut batch, sync)? as u64);
     }
-    Ok(())
+    Ok(bytes)
 }
 
-/// Puts, each in a batch of its own.
-pub(crate) fn put<R: Host, F: FileSystem + Drop>(
-    rt: &R,
-    name: &str,
-    files: F,
-    load: Load,
-) -> Result<()> {
-    let alloc = rt.alloc();
-    let puts = puts_of(alloc, load)?;
-    let mut engine = open(alloc, files)?;
-    let start = Instant::now(rt)?;
-    write_all(&mut engine, alloc, puts, load.sync)?;
-    let written = start.elapsed(rt)?;
-    let mut files = close(engine)?;
-    let len = log_len(&mut files)?;
-    report(rt, name, written, load.count, len as u64)?;
-    let record_len = len as u64 / load.count.max(1);
-    report_ceilings(rt, load.count, record_len as usize)?;
-    println!(rt; "{name}: {} operations, {len} bytes of log", load.count)?;
-    Ok(())
+#[derive(Drop)]
+struct Key {
+    group: u64,
+    key: Vec<u8>,
 }
 
 // Keys in no order.
-fn read_keys(alloc: Global, count: u64) -> Result<Vec<(u64, Vec<u8>)>> {
+fn read_keys(alloc: Global, load: Load) -> Result<Vec<Key>, AllocError> {
     let mut keys = Vec::new(alloc);
     let mut state = 1u64;
-    for _ in 0..count {
+    for _ in 0..load.count {
         state = next_state(state);
-        let key = (state >> 20) % count.max(1);
-        keys.push((key % GROUPS, key_of(alloc, key)?))?;
+        let key = (state >> 20) % load.keys.max(1);
+        keys.push(Key {
+            group: key % GROUPS,
+            key: key_of(alloc, key)?,
+        })?;
     }
     Ok(keys)
 }
 
-/// Reads of keys in no order, after as many puts.
-pub(crate) fn get<R: Host, F: FileSystem + Drop>(rt: &R, files: F, load: Load) -> Result<()> {
-    let alloc = rt.alloc();
-    let mut engine = open(alloc, files)?;
-    write_all(&mut engine, alloc, puts_of(alloc, load)?, load.sync)?;
-    let keys = read_keys(alloc, load.count)?;
+fn count_found<F: FileSystem>(engine: &Engine<F>, keys: &[Key]) -> Result<u64, Fault> {
     let mut found = 0u64;
-    let start = Instant::now(rt)?;
-    for (group, key) in keys.iter() {
+    for Key { group, key } in keys {
         if engine.get(*group, key)?.is_some() {
             found = found.saturating_add(1);
         }
     }
-    report(rt, "get", start.elapsed(rt)?, load.count, load.bytes())?;
-    report_ceilings(rt, load.count, load.size)?;
-    let mut sum = 0u32;
-    for (group, key) in keys.iter() {
-        if let Some(value) = engine.get(*group, key)? {
-            sum = sum.wrapping_mul(31).wrapping_add(crc32(&value));
-        }
-    }
-    println!(rt;
-        "get: {} operations, {found} found, checksum {sum:08x}",
-        load.count
-    )?;
-    Ok(())
+    Ok(found)
 }
 
-/// A close and an opening after so many puts.
-pub(crate) fn reopen<R: Host, F: FileSystem + Drop>(rt: &R, files: F, load: Load) -> Result<()> {
-    let alloc = rt.alloc();
-    let mut engine = open(alloc, files)?;
-    write_all(&mut engine, alloc, puts_of(alloc, load)?, load.sync)?;
-    let mut files = close(engine)?;
-    let len = log_len(&mut files)?;
+fn sum_found<F: FileSystem>(engine: &Engine<F>, keys: &[Key]) -> Result<u32, Fault> {
+    let mut sum = 0;
+    for Key { group, key } in keys {
+        if let Some(value) = engine.get(*group, key)? {
+            sum = then_sum(sum, &value);
+        }
+    }
+    Ok(sum)
+}
+
+// The clock runs while the log is opened. Answers its length, and whether the last key is found.
+fn reopen<R: Host, F: FileSystem + Drop>(
+    rt: &R,
+    engine: Engine<F>,
+    load: Load,
+) -> Result<(usize, bool)> {
+    let (files, len) = close(rt.alloc(), engine)?;
     let start = Instant::now(rt)?;
-    let engine = open(alloc, files)?;
-    report(rt, "reopen", start.elapsed(rt)?, load.count, len as u64)?;
-    report_ceilings(rt, load.count, load.size)?;
-    let last = load.count.saturating_sub(1);
-    let found = engine.get(last % GROUPS, &key_of(alloc, last)?)?.is_some();
-    println!(rt;
-        "reopen: {} records, {len} bytes of log, last found: {found}",
-        load.count
-    )?;
-    Ok(())
+    let engine = open(rt.alloc(), files)?;
+    report(rt, "  reopen", start, load.count, len as u64)?;
+    Ok((len, has_last(rt.alloc(), &engine, load)?))
+}
+
+fn open<F: FileSystem + Drop>(alloc: Global, files: F) -> Result<Engine<F>, Fault> {
+    let mut config = Config::fresh(alloc);
+    config.dir.push_str(FOLDER)?;
+    match Engine::open_in_order(alloc, config, files) {
+        Ok(engine) => Ok(engine),
+        Err(refused) => Err(refused.fault),
+    }
+}
+
+// With the files comes the length of the log.
+fn close<F: FileSystem + Drop>(alloc: Global, engine: Engine<F>) -> Result<(F, usize), Fault> {
+    match engine.close() {
+        Ok(mut files) => match log_len(&mut files) {
+            Ok(len) => Ok((files, len)),
+            Err(fault) => Err(fault.with_path(alloc, LOG_PATH)),
+        },
+        Err(refused) => Err(refused.fault),
+    }
+}
+
+fn log_len<F: FileSystem>(files: &mut F) -> Result<usize, FsFault> {
+    let handle = files.open(LOG_PATH, Permission::ReadOnly)?;
+    files.file_size(&handle)
+}
+
+fn has_last<F: FileSystem>(alloc: Global, engine: &Engine<F>, load: Load) -> Result<bool, Fault> {
+    let last = load.keys.saturating_sub(1);
+    Ok(engine.get(last % GROUPS, &key_of(alloc, last)?)?.is_some())
+}
+
+fn key_of(alloc: Global, number: u64) -> Result<Vec<u8>, AllocError> {
+    format!(in alloc; "{number:016}").map(String::into_bytes)
 }

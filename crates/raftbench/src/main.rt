@@ -2,6 +2,7 @@
 //! standard error. docs/PERFORMANCE.md has the workloads and what they showed.
 #![tactic(auto)]
 
+mod blocks;
 mod files;
 mod log;
 mod measure;
@@ -11,36 +12,34 @@ use anyhow::{Result, bail};
 use std::env;
 use workload::Workload;
 
-/// How many operations, and of how many bytes, each workload of a run without arguments does.
+/// How many operations, and of how many bytes, each workload does where none is asked for.
 const SMALL_COUNT: u64 = 2000;
 
-const SMALL_SIZE: usize = 100;
+const SMALL_SIZE: u64 = 100;
 
 fn main(rt: HostRuntime) -> Result<()> {
-    let mut words = Vec::new(rt.alloc());
-    for word in env::args(&rt)?.skip(1) {
-        words.push(word)?;
+    let mut words = env::args(&rt)?.skip(1);
+    let Some(name) = words.next() else {
+        return run_all(&rt);
+    };
+    let count = number_or(words.next(), SMALL_COUNT)?;
+    let size = number_or(words.next(), SMALL_SIZE)?;
+    match Workload::named(name.as_str()) {
+        Some(workload) => workload.run(&rt, count, size as usize),
+        None => bail!("usage: raftbench [WORKLOAD [COUNT [SIZE]]]"),
     }
-    let (name, count, size) = match words.as_slice() {
-        [] => return run_all(&rt),
-        [name, count] => (name, count, None),
-        [name, count, size] => (name, count, Some(size)),
-        _ => bail!("usage: raftbench [WORKLOAD COUNT [SIZE]]"),
-    };
-    let Some(workload) = Workload::named(name.as_str()) else {
-        bail!("no workload has this name");
-    };
-    let count: u64 = count.as_str().parse()?;
-    let size = match size {
-        Some(size) => size.as_str().parse()?,
-        None => SMALL_SIZE,
-    };
-    workload.run(&rt, count, size)
+}
+
+fn number_or(word: Option<String>, otherwise: u64) -> Result<u64> {
+    match word {
+        Some(word) => Ok(word.as_str().parse()?),
+        None => Ok(otherwise),
+    }
 }
 
 fn run_all<R: measure::Host>(rt: &R) -> Result<()> {
     for workload in Workload::ALL {
-        workload.run(rt, SMALL_COUNT, SMALL_SIZE)?;
+        workload.run(rt, SMALL_COUNT, SMALL_SIZE as usize)?;
     }
     Ok(())
 }

@@ -1,8 +1,9 @@
 //! The workloads by their names.
 
-use crate::log::Load;
+use crate::blocks::report_ceilings;
+use crate::files::append;
+use crate::log::put_get_reopen;
 use crate::measure::Host;
-use crate::{files, log};
 use anyhow::Result;
 use raft_env::{FileSystem, MemoryFileSystem};
 
@@ -12,20 +13,37 @@ pub(crate) enum Workload {
     Put,
     PutSync,
     Overwrite,
-    Get,
-    Reopen,
     FsAppend,
     FsSync,
 }
 
+/// How many values are written, under how many keys, of how many bytes, and whether each is synced.
+#[derive(Clone, Copy)]
+pub(crate) struct Load {
+    pub count: u64,
+    pub keys: u64,
+    pub size: usize,
+    pub sync: bool,
+}
+
+impl Load {
+    pub(crate) fn bytes(self) -> u64 {
+        self.count.saturating_mul(self.size as u64)
+    }
+}
+
+/// How many keys the workload `overwrite` has at the most.
+const FEW_KEYS: u64 = 1000;
+
+/// The blocks of the workload `crc`.
+const BLOCK_SIZE: usize = 65536;
+
 impl Workload {
-    pub(crate) const ALL: [Workload; 8] = [
+    pub(crate) const ALL: [Workload; 6] = [
         Workload::Crc,
         Workload::Put,
         Workload::PutSync,
         Workload::Overwrite,
-        Workload::Get,
-        Workload::Reopen,
         Workload::FsAppend,
         Workload::FsSync,
     ];
@@ -34,14 +52,12 @@ impl Workload {
         Workload::ALL.iter().copied().find(|w| w.name() == name)
     }
 
-    pub(crate) fn name(self) -> &'static str {
+    fn name(self) -> &'static str {
         match self {
             Workload::Crc => "crc",
             Workload::Put => "put",
             Workload::PutSync => "put-sync",
             Workload::Overwrite => "overwrite",
-            Workload::Get => "get",
-            Workload::Reopen => "reopen",
             Workload::FsAppend => "fs-append",
             Workload::FsSync => "fs-sync",
         }
@@ -49,35 +65,41 @@ impl Workload {
 
     /// Does so many operations, with values or blocks of so many bytes.
     pub(crate) fn run<R: Host>(self, rt: &R, count: u64, size: usize) -> Result<()> {
-        match self {
-            Workload::Crc => files::checksum(rt, count),
-            Workload::FsAppend => files::append(rt, self.name(), count, size, false),
-            Workload::FsSync => files::append(rt, self.name(), count, size, true),
-            _ => self.run_engine(rt, MemoryFileSystem::new(rt.alloc()), count, size),
-        }
-    }
-
-    fn run_engine<R: Host, F: FileSystem + Drop>(
-        self,
-        rt: &R,
-        files: F,
-        count: u64,
-        size: usize,
-    ) -> Result<()> {
         let load = Load {
             count,
-            keys: if let Workload::Overwrite = self {
-                1000
-            } else {
-                u64::MAX
+            keys: match self {
+                Workload::Overwrite => count.min(FEW_KEYS),
+                _ => count,
             },
             size,
-            sync: matches!(self, Workload::PutSync),
+            sync: matches!(self, Workload::PutSync | Workload::FsSync),
         };
+        self.run_over(rt, MemoryFileSystem::new(rt.alloc()), load)
+    }
+
+    fn run_over<R: Host, F: FileSystem + Drop>(
+        self,
+        rt: &R,
+        mut files: F,
+        load: Load,
+    ) -> Result<()> {
+        let count = load.count;
         match self {
-            Workload::Get => log::get(rt, files, load),
-            Workload::Reopen => log::reopen(rt, files, load),
-            _ => log::put(rt, self.name(), files, load),
+            Workload::Crc => {
+                let bytes = count.saturating_mul(BLOCK_SIZE as u64);
+                let sum = report_ceilings(rt, count, BLOCK_SIZE)?;
+                println!(rt; "crc: {bytes} bytes, checksum {sum:08x}")?;
+            }
+            Workload::FsAppend | Workload::FsSync => {
+                append(rt, self.name(), &mut files, load)?;
+                report_ceilings(rt, count, load.size)?;
+            }
+            Workload::Put | Workload::PutSync | Workload::Overwrite => {
+                let record_len = put_get_reopen(rt, self.name(), files, load)?;
+                report_ceilings(rt, count, record_len)?;
+                report_ceilings(rt, count, load.size)?;
+            }
         }
+        Ok(())
     }
 }

@@ -1,4 +1,4 @@
-use Rattle.raft_script.proofs.LinesLemmas.{IsReading}
+use Rattle.raft_script.specs.Line.{IsReading}
 use Rattle.raft_script.proofs.program.serve_lines.Given as goal
 
 abbrev pub invariant-loop-number : goal.invariant-loop-number

@@ -1,16 +1,17 @@
-use Rattle.std.proofs.Common.{◌≡◌, ◌∙◌, ℕ, ◌<◌, ◌++◌, List, get_or, length, length-take, take, Some, refl, sym, ap, subst, arith}
+use Rattle.std.proofs.Common.{◌≡◌, ◌∙◌, ℕ, ◌++◌, List, length, length-take, take, Some, refl, sym, ap, subst, arith}
 use Rattle.std.proofs.lemmas.Grind.{common_steps}
 use Rattle.std.proofs.lemmas.List.{take_all}
 use Rattle.std.proofs.lemmas.List.Elements.{All-get_or}
+use Rattle.std.proofs.lemmas.Option.{slice_get_read}
 use Rattle.raft_env.specs.Moments.{Passes}
 use Rattle.raft_log_engine.specs.Crash.{LeavesAllowed}
-use Rattle.raft_script.specs.Durability.{durability_of}
-use Rattle.raft_script.specs.Run.{IsFailurePlace, IsUnasked, in_flight}
+use Rattle.raft_script.specs.Durability.{Progress, PassesThrough, durability_of, progress_after_all, uncovered}
+use Rattle.raft_script.specs.Run.{IsFailurePlace, IsUnasked}
 use Rattle.raft_script.specs.declared.operation.Op.{Op}
 use Rattle.raft_log_engine.specs.Engine.{contents_of, directory_of, durable_of, folder_of, has_failed, moments_of, refusals_of, unsynced_of}
 use Rattle.raft_log_engine.proofs.AllowedLemmas.{engine_holds, engine_leaves}
-use Rattle.raft_script.proofs.DurabilityLemmas.{IsUnderWay, durable_behind, leaves_behind, moments_here, passed_begun, under_way_begun, way_here}
-use Rattle.raft_script.proofs.RunLemmas.{IsNextPlace, place_failing, place_more, rose_more, running_begun, running_more, stands_so_far, taken_more}
+use Rattle.raft_script.proofs.DurabilityLemmas.{IsUnderWay, durable_behind, inside_more, leaves_behind, progress_more, through_more, under_way_begun, under_way_more}
+use Rattle.raft_script.proofs.RunLemmas.{IsNextPlace, IsRunning, place_more, rose_more, running_begun, running_more, stands_so_far, taken_more, told_by}
 use Rattle.raft_script.proofs.runs.run_watched.Goals as goal
 use Rattle.raft_script.proofs.runs.run_watched.Goals.{then-stood+then-failed, else-stood, else-stood-via-then-stood+else-failed, else-stood-via-else-stood}
 
@@ -18,22 +19,20 @@ pub loop-op-preserved : goal.loop-op-preserved
 loop-op-preserved g c =
     let kept = c.loop-op.invariant in
     let step = c.step-outcome.ensures in
-    let ops = take c.loop-op.op-index c.args.ops.now in
-    let fails = has_failed c.step-outcome.new.engine in
-    let done : length ops ≡ c.loop-op.op-index = omega (arith, c.loop-op-test.true, length-take c.loop-op.op-index c.args.ops.now) in
-    let taken = taken_more c.args.ops.now c.loop-op.op-index c.op-item.result c.loop-op-test.true c.op-item.is in
-    let more = running_more (contents_of c.args.engine.now) ops c.loop-op.outcomes.items (contents_of c.loop-op.engine) (has_failed c.loop-op.engine) kept.0
-    c.op-item.result c.step-outcome.result (contents_of c.step-outcome.new.engine) fails step.answer step.contents step.still in
-    let folder = folder_of c.args.engine.now in
+    let begun = c.args.engine.now in
     let old = c.loop-op.engine in
     let new = c.step-outcome.new.engine in
     let outcomes = c.loop-op.outcomes.items in
-    let at : length outcomes ≡ c.loop-op.op-index = kept.0.len ∙ done in
-    let within : length outcomes < length c.args.ops.now = omega (arith, at, c.loop-op-test.true) in
-    let is : c.op-item.result ≡ get_or c.args.ops.now (length outcomes) c.op-item.result = subst (λ (k : ℕ). c.op-item.result ≡ get_or c.args.ops.now k c.op-item.result) (sym at) c.op-item.is in
-    let next : IsNextPlace (has_failed old) fails (length outcomes) c.loop-op.failed_at c.if-stood.failed_at = elim c.if-stood.branch [
+    let op = c.op-item.result in
+    let outcome = c.step-outcome.result in
+    let ops = take c.loop-op.op-index c.args.ops.now in
+    let fails = has_failed new in
+    let done : length ops ≡ c.loop-op.op-index = omega (arith, c.loop-op-test.true, length-take c.loop-op.op-index c.args.ops.now) in
+    let taken = taken_more c.args.ops.now c.loop-op.op-index op c.loop-op-test.true c.op-item.is in
+    let more = running_more (contents_of begun) ops outcomes (contents_of old) (has_failed old) kept.0 op outcome (contents_of new) fails step.answer step.contents step.still in
+    let next : IsNextPlace (has_failed old) fails c.loop-op.op-index c.loop-op.failed_at c.if-stood.failed_at = elim c.if-stood.branch [
       | then-stood+then-failed w ↦ record {
-        falls = λ alive fell. w.failed_at-is ∙ ap Some (w.len.ensures ∙ kept.1 ∙ sym at);
+        falls = λ alive fell. w.failed_at-is ∙ ap Some (w.len.ensures ∙ kept.1);
         rests = λ same. grind (arith, common_steps, same, w.failed.ensures.value, w.if-failed.true, c.failed-stood.ensures.value, w.if-stood);
       }
       | else-stood w ↦ record {
@@ -44,23 +43,28 @@ loop-op-preserved g c =
         rests = λ same. w.failed_at-is;
       }
     ] in
-    let way = way_here folder (durable_of c.args.engine.now) (unsynced_of c.args.engine.now) c.args.ops.now outcomes c.op-item.result c.step-outcome.result c.loop-op.failed_at (durability_of old) kept.4 within is c.if-stood.failed_at (durability_of new) next
-    (omega (arith, within, length-take (length outcomes) c.args.ops.now)) (taken_more c.args.ops.now (length outcomes) c.op-item.result within is) step.progress (engine_holds old) step.contents step.still in
-    let place = place_more ops outcomes c.op-item.result c.step-outcome.result (has_failed c.args.engine.now) (has_failed old) fails c.loop-op.failed_at c.if-stood.failed_at kept.6 kept.7 step.failing
-    (subst (λ (k : ℕ). IsNextPlace (has_failed old) fails k c.loop-op.failed_at c.if-stood.failed_at) kept.0.len next) in
-    let moments = moments_here folder (durable_of c.args.engine.now) (unsynced_of c.args.engine.now) c.args.ops.now outcomes c.op-item.result c.step-outcome.result c.loop-op.failed_at (durability_of old) kept.4 within is
-    (moments_of c.args.engine.now) (moments_of old) (moments_of new) (directory_of old) (directory_of new) kept.5
-    (λ alive. subst (λ f. Passes (moments_of old) (moments_of new) (directory_of new) (LeavesAllowed f (durable_of old) (unsynced_of old ++ in_flight c.op-item.result))) kept.3 (step.any_moment alive)) step.rests in (
+    let m = durable_of begun in
+    let first = uncovered (unsynced_of begun) in
+    let p = progress_after_all first ops outcomes in
+    let here = slice_get_read c.args.ops.now (length c.args.ops.now) c.loop-op.op-index op refl c.loop-op-test.true c.op-item.is in
+    let flight = step.does.flight in
+    let way = under_way_more m p c.args.ops.now c.loop-op.op-index c.loop-op.failed_at c.if-stood.failed_at (durability_of old) kept.4 op outcome flight (durability_of new) next here step.does.may_be step.does.progress (engine_holds old) step.contents step.still in
+    let inside = inside_more m p c.args.ops.now c.loop-op.op-index c.loop-op.failed_at c.if-stood.failed_at (durability_of old) kept.4 op outcome flight (durability_of new) next (folder_of begun) (moments_of old) (moments_of new) (directory_of new) step.does.may_be (engine_holds old)
+    (λ alive. subst (λ f. Passes (moments_of old) (moments_of new) (directory_of new) (LeavesAllowed f (durable_of old) (unsynced_of old ++ flight))) kept.3 (step.does.moments alive)) step.does.rests (told_by (has_failed old) op outcome fails step.failing) in
+    let moments = through_more (folder_of begun) m first ops outcomes op outcome (moments_of begun) (moments_of old) (moments_of new) kept.5 inside in
+    let way_more = subst (λ (q : Progress). IsUnderWay m q c.args.ops.now c.if-stood.failed_at (durability_of new)) (sym (progress_more first ops outcomes op outcome kept.0.len)) way in
+    let place = place_more ops outcomes op outcome (has_failed begun) (has_failed old) fails c.loop-op.failed_at c.if-stood.failed_at kept.6 kept.7 step.failing
+    (subst (λ (k : ℕ). IsNextPlace (has_failed old) fails k c.loop-op.failed_at c.if-stood.failed_at) (sym done) next) in (
       rw (taken, c.in_ok-push.ensures.items) more,
       omega (arith, c.in_ok-push.ensures.len, kept.1),
       omega (arith, c.in_ok-push.ensures.capacity, kept.2),
       step.folder ∙ kept.3,
-      rw c.in_ok-push.ensures.items way,
-      rw c.in_ok-push.ensures.items moments,
+      rw (taken, c.in_ok-push.ensures.items) way_more,
+      rw (taken, c.in_ok-push.ensures.items) moments,
       place.0,
       rw (taken, c.in_ok-push.ensures.items) place.1,
-      rw c.in_ok-push.ensures.items (rose_more outcomes c.step-outcome.result (refusals_of c.args.engine.now) (refusals_of old) (refusals_of new) kept.8 step.counted step.counts),
-      λ none. step.unasked (subst IsUnasked (sym c.op-item.is) (All-get_or IsUnasked c.args.ops.now c.loop-op.op-index c.op-item.result c.loop-op-test.true none)) ∙ kept.9 none,
+      rw c.in_ok-push.ensures.items (rose_more outcomes outcome (refusals_of begun) (refusals_of old) (refusals_of new) kept.8 step.counted step.counts),
+      λ none. step.unasked (subst IsUnasked (sym c.op-item.is) (All-get_or IsUnasked c.args.ops.now c.loop-op.op-index op c.loop-op-test.true none)) ∙ kept.9 none,
     )
 
 pub loop-op-init : goal.loop-op-init
@@ -72,41 +76,43 @@ loop-op-init g c =
       omega (arith, c.in_ok-outcomes.ensures.capacity),
       refl,
       under_way_begun c.args.ops.now (durability_of e),
-      passed_begun (folder_of e) (durable_of e) (unsynced_of e) c.args.ops.now (moments_of e) (directory_of e) (engine_leaves e),
-      stands_so_far (has_failed e),
       refl,
+      stands_so_far (has_failed e),
+      tt,
       omega arith,
       λ _. refl,
     )
 
-pub returns-clause-progress : goal.returns-clause-progress
-returns-clause-progress g c =
-    let kept = c.loop-op.invariant in
+pub returns-clause-ran : goal.returns-clause-ran
+returns-clause-ran g c =
     let e = c.loop-op.engine in
     let old = c.args.engine.now in
     let ops = c.args.ops.now in
     let outcomes = c.loop-op.outcomes.items in
-    let all : length outcomes ≡ length ops = omega (arith, kept.0.len, length-take c.loop-op.op-index ops, c.loop-op-test.false, c.loop-op.auto.op-index-end) in
-    durable_behind (durable_of old) (unsynced_of old) ops outcomes c.loop-op.failed_at (durability_of e)
-    (subst (λ (k : ℕ). IsUnderWay (durable_of old) (unsynced_of old) ops k outcomes c.loop-op.failed_at (durability_of e)) all kept.4)
+    let failed_at = c.loop-op.failed_at in
+    let first = uncovered (unsynced_of old) in
+    let kept = c.loop-op.invariant in
+    let whole : take c.loop-op.op-index ops ≡ ops = take_all c.loop-op.op-index ops (omega (arith, c.loop-op-test.false)) in
+    let way = subst (λ (l : List Op). IsUnderWay (durable_of old) (progress_after_all first l outcomes) ops failed_at (durability_of e)) whole kept.4 in
+    let running = subst (λ (l : List Op). IsRunning (contents_of old) l outcomes (contents_of e) (has_failed e)) whole kept.0 in
+    record {
+      answers = running.answers;
+      failures = (kept.6, subst (λ (l : List Op). IsFailurePlace (has_failed old) l outcomes failed_at) whole kept.7);
+      counted = kept.8;
+      contents = running.contents;
+      now = leaves_behind (durable_of old) (unsynced_of old) ops outcomes failed_at (durability_of e) way (folder_of old) (directory_of e) (subst (λ f. LeavesAllowed f (durable_of e) (unsynced_of e) (directory_of e)) kept.3 (engine_leaves e));
+      progress = durable_behind (durable_of old) (unsynced_of old) ops outcomes failed_at (durability_of e) way;
+    }
+
+pub returns-clause-any_moment : goal.returns-clause-any_moment
+returns-clause-any_moment g c =
+    let old = c.args.engine.now in
+    let ops = c.args.ops.now in
+    let whole : take c.loop-op.op-index ops ≡ ops = take_all c.loop-op.op-index ops (omega (arith, c.loop-op-test.false)) in
+    subst (λ (l : List Op). PassesThrough (folder_of old) (durable_of old) (uncovered (unsynced_of old)) l c.loop-op.outcomes.items (moments_of old) (moments_of c.loop-op.engine)) whole c.loop-op.invariant.5
 
 pub returns-in_err-outcomes-clause-left : goal.returns-in_err-outcomes-clause-left
 returns-in_err-outcomes-clause-left g c = engine_leaves c.args.engine.now
 
 pub returns-clause-left : goal.returns-clause-left
 returns-clause-left g c = engine_leaves c.loop-op.engine
-
-pub returns-clause-now : goal.returns-clause-now
-returns-clause-now g c =
-    let e = c.loop-op.engine in
-    let old = c.args.engine.now in
-    leaves_behind (durable_of old) (unsynced_of old) c.args.ops.now c.loop-op.outcomes.items c.loop-op.failed_at (durability_of e) (folder_of old) (directory_of e) (returns-clause-progress g c)
-    (subst (λ f. LeavesAllowed f (durable_of e) (unsynced_of e) (directory_of e)) c.loop-op.invariant.3 (engine_leaves e))
-
-pub returns-clause-failures : goal.returns-clause-failures
-returns-clause-failures g c =
-    let kept = c.loop-op.invariant in
-    let ops = c.args.ops.now in
-    let whole : take c.loop-op.op-index ops ≡ ops = take_all c.loop-op.op-index ops (omega (arith, c.loop-op-test.false)) in
-    let place = subst (λ (l : List Op). IsFailurePlace (has_failed c.args.engine.now) l c.loop-op.outcomes.items c.loop-op.failed_at) whole kept.7 in
-    place_failing (has_failed c.args.engine.now) (has_failed c.loop-op.engine) ops c.loop-op.outcomes.items c.loop-op.failed_at kept.6 place

@@ -2,8 +2,8 @@ use denote.Param.Send.{sendable}
 use Rattle.raft_env.proofs.Sent.{memory_send, memory_sync}
 use Rattle.raftbench.proofs.workload.Workload.run.Goals as goal
 
-pub run_engine-requires-send-F : goal.run_engine-requires-send-F
-run_engine-requires-send-F g c = λ κs. search (sendable, memory_send) depth 20
+pub run_over-requires-send-F : goal.run_over-requires-send-F
+run_over-requires-send-F g c = λ κs. search (sendable, memory_send) depth 20
 
-pub run_engine-requires-sync-F : goal.run_engine-requires-sync-F
-run_engine-requires-sync-F g c = λ κs. search (sendable, memory_send, memory_sync) depth 20
+pub run_over-requires-sync-F : goal.run_over-requires-sync-F
+run_over-requires-sync-F g c = λ κs. search (sendable, memory_send, memory_sync) depth 20
