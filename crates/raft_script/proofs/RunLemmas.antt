@@ -17,7 +17,7 @@ use Rattle.raft_files.specs.Writer.{bytes_of}
 use Rattle.raft_env.specs.Memory.{no_files}
 use Rattle.raft_log_engine.proofs.OpenLemmas.{nothing_holds_nothing}
 use Rattle.raft_log_engine.specs.Log.{contents_at, contents_in, log_path}
-use Rattle.raft_script.specs.Run.{accepted, accepted_of, AreAnswers, AreFailing, FailsAt, IsFailing, IsFailurePlace, RoseBy, batch_of_acts, io_count, is_refused_by_storage, IsAnswer, item_of_act, pending_items, with_first, with_items}
+use Rattle.raft_script.specs.Run.{accepted, accepted_of, AreAnswers, AreSteady, FailsAt, IsFailing, IsFailurePlace, RoseBy, batch_of_acts, io_count, is_refused_as_failed, is_refused_by_storage, IsAnswer, item_of_act, pending_items, with_first, with_items}
 use Rattle.raft_script.specs.declared.operation.Act.{Act}
 use Rattle.raft_script.specs.declared.operation.Act.TheVariants as act
 use Rattle.raft_script.specs.declared.operation.Op.{Op}
@@ -148,11 +148,11 @@ contents_at-no_files folder n is =
 
 -- Failures.
 
-pub failing_more : (failed : Bool) (ops : List Op) (outcomes : List Outcome) (mid : Bool) (op : Op) (outcome : Outcome) (fails : Bool) → AreFailing failed ops outcomes mid → IsFailing mid op outcome fails → AreFailing failed (ops ++ op ∷ []) (outcomes ++ outcome ∷ []) fails
-failing_more failed [] [] mid op outcome fails are is = (fails, subst (λ (b : Bool). IsFailing b op outcome fails) are is, refl)
-failing_more failed [] (o ∷ outcomes) mid op outcome fails are is = absurd are
-failing_more failed (p ∷ ops) [] mid op outcome fails are is = absurd are
-failing_more failed (p ∷ ops) (o ∷ outcomes) mid op outcome fails are is = (are.0, are.1, failing_more are.0 ops outcomes mid op outcome fails are.2 is)
+steady_more : (failed : Bool) (ops : List Op) (outcomes : List Outcome) (op : Op) (outcome : Outcome) → AreSteady failed ops outcomes → IsFailing failed op outcome failed → AreSteady failed (ops ++ op ∷ []) (outcomes ++ outcome ∷ [])
+steady_more failed [] [] op outcome are is = (is, tt)
+steady_more failed [] (o ∷ outcomes) op outcome are is = absurd are
+steady_more failed (p ∷ ops) [] op outcome are is = absurd are
+steady_more failed (p ∷ ops) (o ∷ outcomes) op outcome are is = (are.0, steady_more failed ops outcomes op outcome are.1 is)
 
 -- Where an engine failed.
 
@@ -168,34 +168,31 @@ still_by (Get group key) (Size answer) fails is = absurd is
 still_by (Get group key) (Done answer) fails is = absurd is
 still_by (Get group key) (Value answer) fails is = is.0.still refl
 
-still_failing : (ops : List Op) (outcomes : List Outcome) (fails : Bool) → AreFailing true ops outcomes fails → fails ≡ true
-still_failing [] [] fails are = are
-still_failing [] (o ∷ outcomes) fails are = absurd are
-still_failing (p ∷ ops) [] fails are = absurd are
-still_failing (p ∷ ops) (o ∷ outcomes) fails (next, first, are) = still_failing ops outcomes fails (subst (λ (b : Bool). AreFailing b ops outcomes fails) (still_by p o next first) are)
+-- what is refused as `Failed` an engine refused that had failed
+pub told_by : (failed : Bool) (op : Op) (outcome : Outcome) (fails : Bool) → IsFailing failed op outcome fails → is_refused_as_failed outcome ≡ true → failed ≡ true
+told_by failed (Write acts sync) (Size answer) fails is told = is.told told
+told_by failed (Write acts sync) (Done answer) fails is told = absurd is
+told_by failed (Write acts sync) (Value answer) fails is told = absurd is
+told_by failed Sync (Size answer) fails is told = absurd is
+told_by failed Sync (Done answer) fails is told = is.0.told told
+told_by failed Sync (Value answer) fails is told = absurd is
+told_by failed (Get group key) (Size answer) fails is told = absurd is
+told_by failed (Get group key) (Done answer) fails is told = absurd is
+told_by failed (Get group key) (Value answer) fails is told = is.0.told told
 
-fails_at_here : (ops : List Op) (outcomes : List Outcome) (op : Op) (outcome : Outcome) → AreFailing false ops outcomes false → IsFailing false op outcome true → FailsAt (length ops) (ops ++ op ∷ []) (outcomes ++ outcome ∷ [])
-fails_at_here [] [] op outcome are is = (is, refl)
+fails_at_here : (ops : List Op) (outcomes : List Outcome) (op : Op) (outcome : Outcome) → AreSteady false ops outcomes → IsFailing false op outcome true → FailsAt (length ops) (ops ++ op ∷ []) (outcomes ++ outcome ∷ [])
+fails_at_here [] [] op outcome are is = (is, tt)
 fails_at_here [] (o ∷ outcomes) op outcome are is = absurd are
 fails_at_here (p ∷ ops) [] op outcome are is = absurd are
-fails_at_here (p ∷ ops) (o ∷ outcomes) op outcome (false, first, are) is = (first, fails_at_here ops outcomes op outcome are is)
-fails_at_here (p ∷ ops) (o ∷ outcomes) op outcome (true, first, are) is = absurd (let clash = still_failing ops outcomes false are in cc)
+fails_at_here (p ∷ ops) (o ∷ outcomes) op outcome are is = (are.0, fails_at_here ops outcomes op outcome are.1 is)
 
 fails_at_more : (place : ℕ) (ops : List Op) (outcomes : List Outcome) (op : Op) (outcome : Outcome) → FailsAt place ops outcomes → IsFailing true op outcome true → FailsAt place (ops ++ op ∷ []) (outcomes ++ outcome ∷ [])
 fails_at_more zero [] outcomes op outcome at is = absurd at
 fails_at_more (suc place) [] outcomes op outcome at is = absurd at
 fails_at_more zero (p ∷ ops) [] op outcome at is = absurd at
 fails_at_more (suc place) (p ∷ ops) [] op outcome at is = absurd at
-fails_at_more zero (p ∷ ops) (o ∷ outcomes) op outcome at is = (at.0, failing_more true ops outcomes true op outcome true at.1 is)
+fails_at_more zero (p ∷ ops) (o ∷ outcomes) op outcome at is = (at.0, steady_more true ops outcomes op outcome at.1 is)
 fails_at_more (suc place) (p ∷ ops) (o ∷ outcomes) op outcome at is = (at.0, fails_at_more place ops outcomes op outcome at.1 is)
-
-fails_at_failing : (place : ℕ) (ops : List Op) (outcomes : List Outcome) → FailsAt place ops outcomes → AreFailing false ops outcomes true
-fails_at_failing zero [] outcomes at = absurd at
-fails_at_failing (suc place) [] outcomes at = absurd at
-fails_at_failing zero (p ∷ ops) [] at = absurd at
-fails_at_failing (suc place) (p ∷ ops) [] at = absurd at
-fails_at_failing zero (p ∷ ops) (o ∷ outcomes) at = (true, at.0, at.1)
-fails_at_failing (suc place) (p ∷ ops) (o ∷ outcomes) at = (false, at.0, fails_at_failing place ops outcomes at.1)
 
 -- where the engine failed once the operation at a place is done
 pub record IsNextPlace (failed fails : Bool) (place : ℕ) (before next : Option ℕ) : Type 0 where
@@ -205,8 +202,8 @@ pub record IsNextPlace (failed fails : Bool) (place : ℕ) (before next : Option
 module _ (ops : List Op) (outcomes : List Outcome) (op : Op) (outcome : Outcome) where
   -- the engine is as it was before the operation
   place_kept : (had failed : Bool) (failed_at : Option ℕ) → failed ≡ (had || is_some failed_at) → IsFailurePlace had ops outcomes failed_at → IsFailing failed op outcome failed → IsFailurePlace had (ops ++ op ∷ []) (outcomes ++ outcome ∷ []) failed_at
-  place_kept true failed None now at is = failing_more true ops outcomes true op outcome true at (subst (λ (b : Bool). IsFailing b op outcome b) now is)
-  place_kept false failed None now at is = failing_more false ops outcomes false op outcome false at (subst (λ (b : Bool). IsFailing b op outcome b) now is)
+  place_kept true failed None now at is = steady_more true ops outcomes op outcome at (subst (λ (b : Bool). IsFailing b op outcome b) now is)
+  place_kept false failed None now at is = steady_more false ops outcomes op outcome at (subst (λ (b : Bool). IsFailing b op outcome b) now is)
   place_kept true failed (Some place) now at is = (at.0, fails_at_more place ops outcomes op outcome at.1 (subst (λ (b : Bool). IsFailing b op outcome b) now is))
   place_kept false failed (Some place) now at is = (at.0, fails_at_more place ops outcomes op outcome at.1 (subst (λ (b : Bool). IsFailing b op outcome b) now is))
 
@@ -239,13 +236,6 @@ module _ (ops : List Op) (outcomes : List Outcome) (op : Op) (outcome : Outcome)
 pub stands_so_far : (had : Bool) → had ≡ (had || false)
 stands_so_far true = refl
 stands_so_far false = refl
-
--- the failures of operations with such a place
-pub place_failing : (had failed : Bool) (ops : List Op) (outcomes : List Outcome) (failed_at : Option ℕ) → failed ≡ (had || is_some failed_at) → IsFailurePlace had ops outcomes failed_at → AreFailing had ops outcomes failed
-place_failing true failed ops outcomes None now at = subst (AreFailing true ops outcomes) (sym now) at
-place_failing false failed ops outcomes None now at = subst (AreFailing false ops outcomes) (sym now) at
-place_failing true failed ops outcomes (Some place) now at = absurd (let clash = at.0 in cc)
-place_failing false failed ops outcomes (Some place) now at = subst (AreFailing false ops outcomes) (sym now) (fails_at_failing place ops outcomes at.1)
 
 -- Storage's refusals.
 

@@ -25,7 +25,7 @@ use Rattle.raft_log_engine.specs.Log.{contents_at, contents_in, first_file, log_
 use Rattle.raft_script.specs.Durability.{LeavesAllowedBehind, Progress, progress_after_all, uncovered}
 use Rattle.raft_log_engine.specs.Open.{IsDamage, IsOpenable}
 use Rattle.raft_script.specs.Run.{IsOutside}
-use Rattle.raft_script.specs.Trial.{AreAnswered, AreNotAsked, IsLogRefusal}
+use Rattle.raft_script.specs.Trial.{IsLogRefusal, RunsOver}
 use Rattle.raft_log_engine.specs.declared.config.RecoveryMode.{RecoveryMode}
 use Rattle.raft_log_engine.specs.declared.config.RecoveryMode.TheVariants.{AbsoluteConsistency}
 use Rattle.raft_script.specs.declared.operation.Op.{Op}
@@ -60,13 +60,11 @@ nothing_kept folder n is =
 
 -- what a run shows that began with no files
 pub run_shown : (dir : Path) (before n : Directory) (ops : List Op) (outcomes : List Outcome) (failed_at : Option ℕ) → before ≡ no_files
-    → (KeepsContents dir (contents_at dir before) [] before → AreAnswered (contents_at dir before) ops outcomes failed_at ⊎ AreNotAsked dir (contents_at dir before) n outcomes failed_at)
-    → (KeepsContents dir (contents_at dir before) [] before → LeavesAllowedBehind failed_at dir (contents_at dir before) [] ops outcomes n)
-    → (AreAnswered no_contents ops outcomes failed_at ⊎ AreNotAsked dir no_contents n outcomes failed_at) × LeavesAllowedBehind failed_at dir no_contents [] ops outcomes n
-run_shown dir before n ops outcomes failed_at none answered behind =
+    → (KeepsContents dir (contents_at dir before) [] before → RunsOver dir (contents_at dir before) ops outcomes failed_at n) → RunsOver dir no_contents ops outcomes failed_at n
+run_shown dir before n ops outcomes failed_at none ran =
     let empty = contents_at-no_files dir before none in
     let kept = subst (λ (m : Contents). KeepsContents dir m [] before) (sym empty) (nothing_kept dir before none) in
-    (subst (λ (m : Contents). AreAnswered m ops outcomes failed_at ⊎ AreNotAsked dir m n outcomes failed_at) empty (answered kept), subst (λ (m : Contents). LeavesAllowedBehind failed_at dir m [] ops outcomes n) empty (behind kept))
+    subst (λ (m : Contents). RunsOver dir m ops outcomes failed_at n) empty (ran kept)
 
 -- what an opening after a crash finds
 pub restarted_contents : (folder : Path) (n m : Directory) (d : Left) → IsRestarted n d m → contents_at folder m ≡ found_after folder n d

@@ -1,5 +1,5 @@
 -- What operations are answered, and what they leave.
-use Rattle.std.specs.Prelude.{◌≡◌, ◌⊎◌, ℕ, zero, suc, ◌+◌, ◌-◌, ◌^◌, ◌≤◌, min, Bool, true, false, List, [], ◌∷◌, ◌++◌, Option, Some, None, IsSome, option_map, Result, Ok, Err, is_none, is_ok, MatchResult, IsErrAnd, if◌then◌else◌}
+use Rattle.std.specs.Prelude.{◌≡◌, ◌⊎◌, ◌||◌, ℕ, zero, suc, ◌+◌, ◌-◌, ◌^◌, ◌≤◌, min, Bool, true, false, List, [], ◌∷◌, ◌++◌, Option, Some, None, IsSome, is_some, option_map, Result, Ok, Err, is_none, is_ok, MatchResult, IsErrAnd, if◌then◌else◌}
 use Rattle.std.specs.List.{count_by}
 use Rattle.raft_records.specs.Batch.{is_internal_key}
 use Rattle.raft_records.specs.Contents.{Contents, after_batches}
@@ -155,6 +155,12 @@ abbrev pub is_failure : {T : Type 0} → Result T Fault → Bool
 is_failure (Err fault.Failed) = true
 is_failure _ = false
 
+-- .. of an operation
+abbrev pub is_refused_as_failed : Outcome → Bool
+is_refused_as_failed (Size answer) = is_failure answer
+is_refused_as_failed (Done answer) = is_failure answer
+is_refused_as_failed (Value answer) = is_failure answer
+
 -- an engine answers so and fails, or doesn't; an answer that isn't the engine's is one of the others
 pub record FailsBy {T : Type 0} (failed : Bool) (answer : Result T Fault) (fails : Bool) (Other : Fault → Type 0) : Type 0 where
   -- it stays failed
@@ -178,19 +184,23 @@ IsFailing failed Sync (Done answer) fails = FailsBy failed answer fails (λ _. �
 IsFailing failed (Get group key) (Value answer) fails = FailsBy failed answer fails (λ _. ⊥) × (fails ≡ failed)
 IsFailing failed _ _ fails = ⊥
 
--- .. in each of the operations, one after the other
-abbrev pub AreFailing : Bool → List Op → List Outcome → Bool → Type 0
-AreFailing failed [] [] fails = fails ≡ failed
-AreFailing failed (op ∷ ops) (outcome ∷ outcomes) fails = (next : Bool) × IsFailing failed op outcome next × AreFailing next ops outcomes fails
-AreFailing failed _ _ fails = ⊥
+-- each of the operations leaves the engine as it found it, failed or standing
+abbrev pub AreSteady : Bool → List Op → List Outcome → Type 0
+AreSteady failed [] [] = Unit {0}
+AreSteady failed (op ∷ ops) (outcome ∷ outcomes) = IsFailing failed op outcome failed × AreSteady failed ops outcomes
+AreSteady failed _ _ = ⊥
 
 -- the engine failed in the operation at this place: those before it left it standing, and those behind it found it failed
 abbrev pub FailsAt : ℕ → List Op → List Outcome → Type 0
-FailsAt zero (op ∷ ops) (outcome ∷ outcomes) = IsFailing false op outcome true × AreFailing true ops outcomes true
+FailsAt zero (op ∷ ops) (outcome ∷ outcomes) = IsFailing false op outcome true × AreSteady true ops outcomes
 FailsAt (suc place) (op ∷ ops) (outcome ∷ outcomes) = IsFailing false op outcome false × FailsAt place ops outcomes
 FailsAt place _ _ = ⊥
 
--- where the engine failed: in the operation at the place, or in none, and then it is behind them as it was before
+-- where the engine failed: in the operation at the place, or in none
 abbrev pub IsFailurePlace : Bool → List Op → List Outcome → Option ℕ → Type 0
-IsFailurePlace failed ops outcomes None = AreFailing failed ops outcomes failed
+IsFailurePlace failed ops outcomes None = AreSteady failed ops outcomes
 IsFailurePlace failed ops outcomes (Some place) = (failed ≡ false) × FailsAt place ops outcomes
+
+-- .. and whether it has failed behind them
+abbrev pub AreFailures : Bool → List Op → List Outcome → Option ℕ → Bool → Type 0
+AreFailures failed ops outcomes failed_at fails = (fails ≡ (failed || is_some failed_at)) × IsFailurePlace failed ops outcomes failed_at
