@@ -9,13 +9,13 @@ use Rattle.std.proofs.lemmas.Option.{same_Some}
 use Rattle.std.specs.Ordering.{nat_cmp, eq_by_cmp}
 use Rattle.std.specs.Cmp.Lexicographic.{slice_cmp, nat_list_cmp_total}
 use Rattle.std.specs.FinMap as finite
-use Rattle.raft_env.specs.Outcomes.{File, Change, MayLeave, Outcome, IsPartOf, IsCutOf, is_within, is_touched, bytes_behind, untouched_len, least_len, greatest_len, written, resized, cut_to, synced_of, settled, padded, overlaid}
+use Rattle.raft_env.specs.Outcomes.{File, Change, MayLeave, Outcome, IsPartOf, IsCutOf, is_within, is_touched, bytes_behind, untouched_len, least_len, greatest_len, changed_by, written, lengthened_to, cut_to, synced_of, settled, padded, overlaid}
 use Rattle.raft_env.specs.Directory.{Directory, Left, Path, file_at, placed, changed, changed_at, created, folder_made, IsChanging, IsWriting, IsTruncating, IsAllocating, IsOneOf, IsRestarted}
-use Rattle.raft_env.specs.Consistent.{HasItsRange, IsPastOf, IsConsistent, AreConsistent, AreWhole}
+use Rattle.raft_env.specs.Consistent.{HasItsRange, HasItsLength, IsPastOf, IsConsistent, AreConsistent, AreWhole}
 use Rattle.raft_env.specs.declared.crash.Choice.{Choice}
 use Rattle.raft_env.specs.declared.crash.Choice.TheVariants as choice
-use Rattle.raft_env.proofs.SlotLemmas.{length-overlaid, overlaid_outside_part}
-use Rattle.raft_env.proofs.ChangeLemmas.{changed_by, not_within, cut_change, cut_is}
+use Rattle.raft_env.proofs.SlotLemmas.{overlaid_bounds, overlaid_outside_part}
+use Rattle.raft_env.proofs.ChangeLemmas.{not_within, cut_change, cut_is}
 
 -- Files.
 
@@ -33,15 +33,15 @@ or_false false b e = (refl, e)
 pub record KeepsOutside (old : List ℕ) (c : Change) : Type 0 where
   pub outside : (i : ℕ) → i < length old → is_within c.from c.size i ≡ false → (i < length c.after) × (slice_index c.after i ≡ slice_index old i)
 
-consistent_more : (file : File) (c : Change) (rewritten : Option (List (ℕ × ℕ))) → IsConsistent file → c.before ≡ file.now → HasItsRange c → KeepsOutside file.now c → IsConsistent (changed_by c rewritten file)
-consistent_more file c rewritten old before range keeps = record {
+consistent_more : (file : File) (c : Change) → IsConsistent file → c.before ≡ file.now → HasItsRange c → HasItsLength c → KeepsOutside file.now c → IsConsistent (changed_by c file)
+consistent_more file c old before range len keeps = record {
   latest = refl;
   untouched = λ i within apart.
       let each = or_false (is_within c.from c.size i) (is_touched file.changes i) apart in
       let stood = old.untouched i within each.1 in
       let stands = keeps.outside i stood.0 each.0 in
       (stands.0, stands.1 ∙ stood.1);
-  past = (refl, range, subst (λ bytes. IsPastOf bytes (file.changes ++ file.older)) (sym before) old.past);
+  past = (refl, range, len, subst (λ bytes. IsPastOf bytes (file.changes ++ file.older)) (sym before) old.past);
   earlier = old.earlier;
 }
 
@@ -52,25 +52,25 @@ part_outside at len old c from size part = record {
 
 -- a write, done or not
 pub written_consistent : (at : ℕ) (given after : List ℕ) (is_done : Bool) (file : File) → IsConsistent file → Outcome is_done (overlaid file.now at given) (IsPartOf at (length given) file.now) after → IsConsistent (written at given is_done after file)
-written_consistent at given after true file old done = consistent_more file _ _ old refl (omega arith) (record {
+written_consistent at given after true file old done = consistent_more file _ old refl (omega arith) (omega arith, omega arith) (record {
   outside = λ i within apart. (
-    omega (arith, ap length done, length-overlaid file.now at given),
+    omega (arith, ap length done, (overlaid_bounds file.now at given).0),
     ap (λ b. slice_index b i) done ∙ overlaid_outside_part file.now at (length given) given (omega arith) i apart,
   );
 })
-written_consistent at given after false file old part = consistent_more file _ _ old refl (omega arith) (part_outside at (length given) file.now _ refl refl part)
+written_consistent at given after false file old part = consistent_more file _ old refl (omega arith) (omega arith, omega arith) (part_outside at (length given) file.now _ refl refl part)
 
 -- an allocation
-pub allocated_consistent : (size : ℕ) (after : List ℕ) (is_done : Bool) (file : File) → IsConsistent file → Outcome is_done (padded file.now size) (IsPartOf (length file.now) (size - length file.now) file.now) after → IsConsistent (resized is_done after file)
+pub allocated_consistent : (size : ℕ) (after : List ℕ) (is_done : Bool) (file : File) → IsConsistent file → Outcome is_done (padded file.now size) (IsPartOf (length file.now) (size - length file.now) file.now) after → IsConsistent (lengthened_to size is_done after file)
 allocated_consistent size after true file old done =
     let zeros : List ℕ = replicate (size - length file.now) 0 in
-    consistent_more file _ file.rewritten old refl (omega arith) (record {
+    consistent_more file _ old refl (omega arith) (omega arith, omega arith) (record {
       outside = λ i within apart. (
         omega (arith, ap length done, length-append file.now zeros),
         ap (λ b. slice_index b i) done ∙ get_or_append_left file.now zeros 0 i within,
       );
     })
-allocated_consistent size after false file old part = consistent_more file _ file.rewritten old refl (omega arith) (record {
+allocated_consistent size after false file old part = consistent_more file _ old refl (omega arith) (omega arith, omega arith) (record {
   outside = λ i within apart. (omega (arith, part.no_shorter), part.elsewhere i within (not_within (length file.now) (size - length file.now) i (inl within)));
 })
 
@@ -85,7 +85,7 @@ outside_is from size i apart = elim (cases_lt i from) [
 
 -- a truncation
 pub cut_consistent : (size : ℕ) (after : List ℕ) (is_done : Bool) (file : File) → IsConsistent file → Outcome is_done (take size file.now) (IsCutOf size file.now) after → IsConsistent (cut_to size is_done after file)
-cut_consistent size after is_done file old outcome = subst IsConsistent (sym (cut_is size is_done after file)) (consistent_more file (cut_change size is_done after file.now) file.rewritten old (cut_before is_done) (omega (arith, ap length (cut_given is_done))) (by_outcome is_done outcome))
+cut_consistent size after is_done file old outcome = subst IsConsistent (sym (cut_is size is_done after file)) (consistent_more file (cut_change size is_done after file.now) old (cut_before is_done) (omega (arith, ap length (cut_given is_done))) (cut_len is_done) (by_outcome is_done outcome))
   where
     now : List ℕ
     now = file.now
@@ -97,6 +97,10 @@ cut_consistent size after is_done file old outcome = subst IsConsistent (sym (cu
     cut_given : (is_done : Bool) → (cut_change size is_done after now).given ≡ []
     cut_given true = refl
     cut_given false = refl
+
+    cut_len : (is_done : Bool) → HasItsLength (cut_change size is_done after now)
+    cut_len true = (omega arith, omega arith)
+    cut_len false = (omega arith, omega arith)
 
     by_outcome : (is_done : Bool) → Outcome is_done (take size now) (IsCutOf size now) after → KeepsOutside now (cut_change size is_done after now)
     by_outcome true done = record {
@@ -180,18 +184,17 @@ restarted_consistent n m d restarted path file stands = by_file (file_at n path)
 
 -- What storage may leave.
 
-pub least_now : (synced : List ℕ) (changes : List Change) → least_len synced changes ≤ length (bytes_behind synced changes)
-least_now synced [] = omega arith
-least_now synced (c ∷ changes) = omega arith
-
-pub greatest_now : (synced : List ℕ) (changes : List Change) → length (bytes_behind synced changes) ≤ greatest_len synced changes
-greatest_now synced [] = omega arith
-greatest_now synced (c ∷ changes) = omega arith
+pub length_now : (file : File) → IsConsistent file → (least_len file.synced file.changes ≤ length file.now) × (length file.now ≤ greatest_len file.synced file.changes)
+length_now file is = by_changes file.changes is.latest is.past
+  where
+    by_changes : (changes : List Change) → file.now ≡ bytes_behind file.synced changes → IsPastOf file.now (changes ++ file.older) → (least_len file.synced changes ≤ length file.now) × (length file.now ≤ greatest_len file.synced changes)
+    by_changes [] latest past = (omega (arith, ap length latest), omega (arith, ap length latest))
+    by_changes (c ∷ changes) latest past = (omega (arith, ap length latest, past.2.0), omega (arith, ap length latest, past.2.1))
 
 pub now_may_be_left : (file : File) → IsConsistent file → MayLeave file file.now
 now_may_be_left file is = record {
-  no_shorter = omega (arith, least_now file.synced file.changes, ap length is.latest);
-  no_longer = omega (arith, greatest_now file.synced file.changes, ap length is.latest);
+  no_shorter = (length_now file is).0;
+  no_longer = (length_now file is).1;
   untouched = λ i within stood apart. (is.untouched i stood apart).1;
 }
 

@@ -11,7 +11,7 @@ use Rattle.std.proofs.lemmas.Grind.{same_number_lists, common_steps}
 use Rattle.std.proofs.lemmas.List.{get_or-take}
 use Rattle.raft_env.specs.Outcomes.{File, MayLeave, IsPartOf, is_within, is_touched, least_len, overlaid}
 use Rattle.raft_env.specs.Directory.{Path, Directory, file_at, placed, changed, changed_at, IsChanging}
-use Rattle.raft_env.proofs.SlotLemmas.{length-overlaid, overlaid_outside_part}
+use Rattle.raft_env.proofs.SlotLemmas.{overlaid_bounds, overlaid_outside_part}
 
 pub same_path : (p : Path) → eq_by_cmp (slice_cmp nat_cmp) p p ≡ true
 same_path p = is_eq-slice_cmp p p ∙ (bytes_eq-Decides p p).1 refl
@@ -58,7 +58,7 @@ module _ (path : Path) (step : Bool → List ℕ → File → File) (wanted : Li
 
 pub writing_part : (at : ℕ) (given kept : List ℕ) → length kept ≤ length given → (now : List ℕ) → IsPartOf at (length given) now (overlaid now at kept)
 writing_part at given kept part now = record {
-  no_shorter = omega (arith, length-overlaid now at kept);
-  no_longer = omega (arith, length-overlaid now at kept);
+  no_shorter = (overlaid_bounds now at kept).0;
+  no_longer = omega (arith, (overlaid_bounds now at kept).1);
   elsewhere = λ i h out. overlaid_outside_part now at (length given) kept part i out;
 }

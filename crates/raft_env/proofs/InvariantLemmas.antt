@@ -1,10 +1,10 @@
 -- What is true of files in memory, whatever calls were made.
-use Rattle.std.proofs.Common.{◌≡◌, ℕ, ◌≤◌, true, false, Bool, cond, List, [], ◌++◌, length, take, Option, Some, None, is_some, refl, ap, sym, subst, ◌∙◌, inl, inr}
+use Rattle.std.proofs.Common.{◌≡◌, ℕ, ◌≤◌, true, false, Bool, cond, List, [], ◌++◌, length, take, Option, Some, None, is_some, refl, sym, subst, ◌∙◌, inl, inr}
 use Rattle.std.specs.Prelude.{option_map}
 use Rattle.std.specs.FinMap.{get-empty}
 use Rattle.std.proofs.lemmas.List.Elements.{All-cons, All-nil}
 use Rattle.std.proofs.lemmas.Option.{same_Some}
-use Rattle.raft_env.specs.Outcomes.{File, IsDoneOrWrite, OnlyWritesRefused, written, resized, synced_of, settled, overlaid, padded, range_noted}
+use Rattle.raft_env.specs.Outcomes.{File, IsDoneOrWrite, OnlyWritesRefused, written, resized, synced_of, settled, overlaid, padded}
 use Rattle.raft_env.specs.Directory.{Directory, Left, Path, file_at, placed, changed, changed_at, created, folder_made, IsRestarted}
 use Rattle.raft_env.specs.Consistent.{IsConsistent, AreConsistent, OnlyWritesRefusedIn, NoneRenamed}
 use Rattle.raft_env.specs.Memory.{memory_directory, no_files}
@@ -22,7 +22,7 @@ Invariant n = record { consistent : AreConsistent n; only_writes : OnlyWritesRef
 record Holds (file : File) : Type 0 where
   pub consistent : IsConsistent file
   pub only_writes : OnlyWritesRefused (file.changes ++ file.older)
-  pub not_renamed : file.rewritten ≡ None
+  pub not_renamed : file.renamed_after ≡ None
 
 settled_holds : (bytes : List ℕ) → Holds (settled bytes)
 settled_holds bytes = record { consistent = settled_consistent bytes; only_writes = All-nil IsDoneOrWrite; not_renamed = refl }
@@ -34,7 +34,7 @@ written_holds : (at : ℕ) (given after : List ℕ) (is_done : Bool) (file : Fil
 written_holds at given after is_done file old consistent = record {
   consistent = consistent;
   only_writes = All-cons IsDoneOrWrite _ (file.changes ++ file.older) (λ refused. refl) old.only_writes;
-  not_renamed = ap (λ ranges. range_noted ranges (at, length given)) old.not_renamed;
+  not_renamed = old.not_renamed;
 }
 
 resized_holds : (after : List ℕ) (file : File) → Holds file → IsConsistent (resized true after file) → Holds (resized true after file)

@@ -1,26 +1,38 @@
 -- What a change does to what a slot keeps.
 use Rattle.std.proofs.Common.{◌≡◌, ℕ, ◌+◌, ◌-◌, ◌<◌, ◌≤◌, min, max, Bool, true, false, cond, ◌||◌, List, [], ◌∷◌, ◌++◌, length, length-append, take, drop, get_or, refl, sym, ◌∙◌, ap, subst, inl, inr, ◌⊎◌, arith}
 use Rattle.std.proofs.lemmas.Bool.Decides.{nat_tests, leb_tells}
-use Rattle.raft_env.specs.Outcomes.{File, Change, MayLeave, is_within, least_len, greatest_len, written, resized, synced_of, overlaid, padded}
+use Rattle.raft_env.specs.Outcomes.{File, Change, MayLeave, is_within, least_len, greatest_len, written, resized, synced_of, longest_of, overlaid, padded}
 use Rattle.raft_env.specs.Slot.{IsSlotOf, is_covered}
 use Rattle.std.specs.Prelude.{replicate}
-use Rattle.std.proofs.lemmas.List.{take_all, drop_all, append-nil, length-replicate, get_or-append_right, get_or-take, get_or-drop, get_or_past, get_or-replicate, length-take-le, length-drop}
+use Rattle.std.proofs.lemmas.List.{take_all, drop_all, append-nil, take-append-drop, take-append-le, length-replicate, get_or-append_right, get_or-take, get_or-drop, get_or_past, get_or-replicate, length-take-le, length-drop}
 use Rattle.std.proofs.Math.ListN.{get_or-append}
+
+-- a write of some bytes, or of none up to the end
+pub overlaid_is : (bytes : List ℕ) (at : ℕ) (given : List ℕ) → (at ≤ length bytes) ⊎ (0 < length given)
+    → overlaid bytes at given ≡ take at (padded bytes (at + length given)) ++ given ++ drop (at + length given) bytes
+overlaid_is bytes at [] (inl inside) =
+    let none : at + 0 ≡ at = omega arith in
+    let whole = ap (λ (l : List ℕ). l ++ [] ++ drop at bytes) (take-append-le at bytes (replicate (at - length bytes) 0) inside)
+    ∙ ap (λ (l : List ℕ). l ++ drop at bytes) (append-nil (take at bytes)) ∙ take-append-drop at bytes in
+    sym (ap (λ (n : ℕ). take at (padded bytes n) ++ [] ++ drop n bytes) none ∙ whole)
+overlaid_is bytes at [] (inr some) = absurd (omega (arith, some))
+overlaid_is bytes at (byte ∷ given) some = refl
 
 -- the bytes are lengthened where that is needed, and then written over
 pub overlaid_long : (bytes : List ℕ) (at : ℕ) (given : List ℕ) → at + length given ≤ length bytes → take at bytes ++ given ++ drop (at + length given) bytes ≡ overlaid bytes at given
 overlaid_long bytes at given long =
     let none : at + length given - length bytes ≡ 0 = omega arith in
     let same : padded bytes (at + length given) ≡ bytes = ap (λ (n : ℕ). bytes ++ replicate n 0) none ∙ append-nil bytes in
-    ap (λ (l : List ℕ). take at l ++ given ++ drop (at + length given) bytes) (sym same)
+    ap (λ (l : List ℕ). take at l ++ given ++ drop (at + length given) bytes) (sym same) ∙ sym (overlaid_is bytes at given (inl (omega arith)))
 
-pub overlaid_short : (bytes mid : List ℕ) (at : ℕ) (given : List ℕ) → length bytes < at + length given → mid ≡ take (at + length given) bytes ++ replicate (at + length given - length bytes) 0
+pub overlaid_short : (bytes mid : List ℕ) (at : ℕ) (given : List ℕ) → 0 < length given → length bytes < at + length given → mid ≡ take (at + length given) bytes ++ replicate (at + length given - length bytes) 0
     → take at mid ++ given ++ drop (at + length given) mid ≡ overlaid bytes at given
-overlaid_short bytes mid at given short is =
+overlaid_short bytes mid at given some short is =
     let same : mid ≡ padded bytes (at + length given) = is ∙ ap (λ (l : List ℕ). l ++ replicate (at + length given - length bytes) 0) (take_all _ _ (omega arith)) in
     let long : length mid ≤ at + length given = omega (arith, ap length same, length-append bytes (replicate (at + length given - length bytes) 0), length-replicate {A = ℕ} (at + length given - length bytes) 0) in
     ap (λ (l : List ℕ). take at l ++ given ++ drop (at + length given) mid) same
     ∙ ap (λ (l : List ℕ). take at (padded bytes (at + length given)) ++ given ++ l) (drop_all _ mid long ∙ sym (drop_all _ bytes (omega arith)))
+    ∙ sym (overlaid_is bytes at given (inr some))
 
 pub lengthened : (bytes mid : List ℕ) (size : ℕ) → mid ≡ take (max size (length bytes)) bytes ++ replicate (max size (length bytes) - length bytes) 0 → mid ≡ padded bytes size
 lengthened bytes mid size is =
@@ -46,7 +58,9 @@ get_or-padded bytes n i = elim (split_at i (length bytes)) [
 
 -- a place outside the range of a write has what it had
 pub overlaid_outside : (bytes : List ℕ) (at : ℕ) (given : List ℕ) (i : ℕ) → is_within at (length given) i ≡ false → get_or (overlaid bytes at given) i 0 ≡ get_or bytes i 0
-overlaid_outside bytes at given i out =
+overlaid_outside bytes at [] i out = refl
+overlaid_outside bytes at (byte ∷ rest) i out =
+    let given : List ℕ = byte ∷ rest in
     let end = at + length given in
     let front = take at (padded bytes end) in
     let long : at ≤ length (padded bytes end) = omega (arith, length-append bytes (replicate {A = ℕ} (end - length bytes) 0), length-replicate {A = ℕ} (end - length bytes) 0) in
@@ -68,17 +82,26 @@ overlaid_outside_part bytes at len kept part i out =
     let apart : is_within at (length kept) i ≡ false = grind (arith, nat_tests) in
     overlaid_outside bytes at kept i apart
 
-pub length-overlaid : (bytes : List ℕ) (at : ℕ) (given : List ℕ) → length (overlaid bytes at given) ≡ max (length bytes) (at + length given)
-length-overlaid bytes at given =
+pub length-overlaid : (bytes : List ℕ) (at : ℕ) (given : List ℕ) → (at ≤ length bytes) ⊎ (0 < length given) → length (overlaid bytes at given) ≡ max (length bytes) (at + length given)
+length-overlaid bytes at given some =
     let end = at + length given in
     let front = take at (padded bytes end) in
     let long : at ≤ length (padded bytes end) = omega (arith, length-append bytes (replicate {A = ℕ} (end - length bytes) 0), length-replicate {A = ℕ} (end - length bytes) 0) in
     let front_len : length front ≡ at = length-take-le at (padded bytes end) long in
-    omega (arith, length-append (front ++ given) (drop end bytes), length-append front given, length-drop end bytes)
+    omega (arith, ap length (overlaid_is bytes at given some), length-append (front ++ given) (drop end bytes), length-append front given, length-drop end bytes)
+
+-- a write shortens nothing, and lengthens no further than to its end
+pub overlaid_bounds : (bytes : List ℕ) (at : ℕ) (given : List ℕ) → (length bytes ≤ length (overlaid bytes at given)) × (length (overlaid bytes at given) ≤ max (length bytes) (at + length given))
+overlaid_bounds bytes at [] = (omega arith, omega arith)
+overlaid_bounds bytes at (byte ∷ given) =
+    let len = length-overlaid bytes at (byte ∷ given) (inr (omega arith)) in
+    (omega (arith, len), omega (arith, len))
 
 -- and a place inside what was written there
 pub overlaid_inside : (bytes : List ℕ) (at : ℕ) (given : List ℕ) (i : ℕ) → at ≤ i → i < at + length given → get_or (overlaid bytes at given) i 0 ≡ get_or given (i - at) 0
-overlaid_inside bytes at given i above below =
+overlaid_inside bytes at [] i above below = absurd (omega arith)
+overlaid_inside bytes at (byte ∷ rest) i above below =
+    let given : List ℕ = byte ∷ rest in
     let end = at + length given in
     let front = take at (padded bytes end) in
     let long : at ≤ length (padded bytes end) = omega (arith, length-append bytes (replicate {A = ℕ} (end - length bytes) 0), length-replicate {A = ℕ} (end - length bytes) 0) in
@@ -95,12 +118,16 @@ or_comm true false = refl
 or_comm false true = refl
 or_comm false false = refl
 
+pub longest_of-more : (is_done : Bool) (end len : ℕ) → len ≤ longest_of is_done end len
+longest_of-more true end len = omega arith
+longest_of-more false end len = omega arith
+
 -- a change of the bytes in one range, which is added to the ranges
 module _ (bytes synced : List ℕ) (ranges more : List (ℕ × ℕ)) (low high : ℕ) (file : File) (k : IsSlotOf bytes synced ranges low high file) where
   -- after a write, the slot keeps what it should
   pub slot_written : (at : ℕ) (given after : List ℕ) (is_done : Bool) → ((i : ℕ) → is_covered more i ≡ (is_covered ranges i || is_within at (length given) i))
       → ((i : ℕ) → is_within at (length given) i ≡ false → get_or after i 0 ≡ get_or bytes i 0)
-      → IsSlotOf after synced more (min low (length after)) (max high (length after)) (written at given is_done after file)
+      → IsSlotOf after synced more (min low (length after)) (max high (longest_of is_done (at + length given) (length after))) (written at given is_done after file)
   slot_written at given after is_done added outside = record {
     now = refl;
     on_disk = k.on_disk;
@@ -109,7 +136,7 @@ module _ (bytes synced : List ℕ) (ranges more : List (ℕ × ℕ)) (low high :
     low_is = omega (arith, k.low_is);
     high_is = omega (arith, k.high_is);
     above_low = omega arith;
-    below_high = omega arith;
+    below_high = omega (arith, longest_of-more is_done (at + length given) (length after));
   }
 
   -- so it does after a change of the length, if the bytes up to the lesser length stay and zeros follow
@@ -165,7 +192,7 @@ module _ (bytes synced given : List ℕ) (from size i : ℕ) (same_len : length 
             overlaid_inside synced from given i above short ∙ ap (λ (l : List ℕ). get_or l (i - from) 0) is ∙ get_or-take (length given) (drop from bytes) (i - from) 0 (omega arith)
             ∙ get_or-drop from bytes (i - from) 0 ∙ ap (λ (n : ℕ). get_or bytes n 0) there
         | inr past ↦
-            let long : length (overlaid synced from given) ≤ i = omega (arith, length-overlaid synced from given) in
+            let long : length (overlaid synced from given) ≤ i = omega (arith, length-overlaid synced from given (inl (omega arith))) in
             get_or_past _ i 0 long ∙ sym (get_or_past bytes i 0 past)
       ]
   copied_by false e =

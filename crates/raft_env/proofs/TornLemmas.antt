@@ -14,7 +14,7 @@ use Rattle.raft_env.specs.declared.crash.Choice.{Choice}
 use Rattle.raft_env.specs.declared.crash.Choice.TheVariants as choice
 use Rattle.raft_env.proofs.ChangeLemmas.{same_front}
 use Rattle.raft_env.proofs.ChoiceLemmas.{synced_may_be_left}
-use Rattle.raft_env.proofs.ConsistentLemmas.{now_may_be_left, least_now, greatest_now}
+use Rattle.raft_env.proofs.ConsistentLemmas.{now_may_be_left, length_now}
 
 module _ (touched : ℕ → Bool) (kept fill : ℕ) (now : List ℕ) where
   pub length-torn : length (torn touched kept fill now) ≡ length now
@@ -60,8 +60,8 @@ pub torn_may_be_left : (file : File) (kept fill : ℕ) → IsConsistent file →
 torn_may_be_left file kept fill is =
     let len = length-torn (is_touched file.changes) kept fill file.now in
     record {
-      no_shorter = omega (arith, len, least_now file.synced file.changes, ap length is.latest);
-      no_longer = omega (arith, len, greatest_now file.synced file.changes, ap length is.latest);
+      no_shorter = omega (arith, len, (length_now file is).0);
+      no_longer = omega (arith, len, (length_now file is).1);
       untouched = λ i within stood apart. torn_untouched (is_touched file.changes) kept fill file.now i (omega (arith, len)) apart ∙ (is.untouched i stood apart).1;
     }
 

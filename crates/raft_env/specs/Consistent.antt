@@ -10,10 +10,14 @@ use Rattle.raft_env.specs.declared.crash.Choice.TheVariants as choice
 abbrev pub HasItsRange : Change → Type 0
 HasItsRange c = length c.given ≤ c.size
 
+-- the length that it left is one that the file may have had
+abbrev pub HasItsLength : Change → Type 0
+HasItsLength c = (c.shortest ≤ length c.after) × (length c.after ≤ c.longest)
+
 -- the newest of these changes left these bytes, and each began with what the one before it left
 abbrev pub IsPastOf : List ℕ → List Change → Type 0
 IsPastOf bytes [] = Unit {0}
-IsPastOf bytes (c ∷ changes) = (c.after ≡ bytes) × HasItsRange c × IsPastOf c.before changes
+IsPastOf bytes (c ∷ changes) = (c.after ≡ bytes) × HasItsRange c × HasItsLength c × IsPastOf c.before changes
 
 -- which is a proposition, so that a file system can keep it
 pub past_prop : (bytes : List ℕ) (changes : List Change) → IsProp (IsPastOf bytes changes)
@@ -40,7 +44,7 @@ OnlyWritesRefusedIn n = (path : Path) → OnlyWritesRefusedAt path n
 
 -- no file was renamed
 abbrev pub NoneRenamed : Directory → Type 0
-NoneRenamed n = (path : Path) (file : File) → file_at n path ≡ Some file → file.rewritten ≡ None
+NoneRenamed n = (path : Path) (file : File) → file_at n path ≡ Some file → file.renamed_after ≡ None
 
 -- each file is left with its bytes now or with those of its last sync
 abbrev pub AreWhole : List Choice → Type 0

@@ -5,7 +5,7 @@ use Rattle.std.specs.Str.{bytes_eq}
 use Rattle.std.specs.Ordering.{nat_cmp}
 use Rattle.std.specs.Cmp.Lexicographic.{slice_cmp}
 use Rattle.std.specs.FinMap as map
-use Rattle.raft_env.specs.Outcomes.{File, MayLeave, IsPartOf, IsCutOf, Outcome, written, resized, cut_to, settled, renamed_of, padded, overlaid}
+use Rattle.raft_env.specs.Outcomes.{File, MayLeave, IsPartOf, IsCutOf, Outcome, written, lengthened_to, cut_to, settled, renamed_of, padded, overlaid}
 
 abbrev pub Path : Type 0
 Path = List ℕ
@@ -64,7 +64,8 @@ IsTruncating path size = IsChanging path (cut_to size) (take size) (IsCutOf size
 
 -- what an allocation lengthens a file by begins at its end
 abbrev pub IsAllocating : Path → ℕ → Directory → Directory → Type 0
-IsAllocating path size = IsChanging path resized (λ now. padded now size) (λ now. IsPartOf (length now) (size - length now) now)
+IsAllocating path size =
+    IsChanging path (lengthened_to size) (λ now. padded now size) (λ now. IsPartOf (length now) (size - length now) now)
 
 abbrev pub IsOneOf : Directory → Directory → Directory → Type 0
 IsOneOf a b n = (n ≡ a) ⊎ (n ≡ b)

@@ -15,6 +15,9 @@ pub record Change : Type 0 where
   pub before : List ℕ
   -- the bytes of the file then
   pub after : List ℕ
+  -- the least and the greatest length that the file may have had by then; only a refused call may have left another for a moment
+  pub shortest : ℕ
+  pub longest : ℕ
 
 pub record File : Type 0 where
   pub now : List ℕ
@@ -23,8 +26,8 @@ pub record File : Type 0 where
   pub changes : List Change
   -- the changes before that, the newest first
   pub older : List Change
-  -- for a file that was renamed, the ranges that writes touched since then
-  pub rewritten : Option (List (ℕ × ℕ))
+  -- for a file that was renamed, how many of its changes came before
+  pub renamed_after : Option ℕ
 
 abbrev pub is_within : ℕ → ℕ → ℕ → Bool
 is_within from size i = nat_le from i && nat_lt i (from + size)
@@ -33,14 +36,14 @@ is_within from size i = nat_le from i && nat_lt i (from + size)
 abbrev pub is_touched : List Change → ℕ → Bool
 is_touched changes i = list_any (λ c. is_within c.from c.size i) changes
 
--- the least and the greatest length since the last sync
+-- the least and the greatest length that the file may have had since the last sync
 abbrev pub least_len : List ℕ → List Change → ℕ
 least_len synced [] = length synced
-least_len synced (c ∷ changes) = min (length c.after) (least_len synced changes)
+least_len synced (c ∷ changes) = min c.shortest (least_len synced changes)
 
 abbrev pub greatest_len : List ℕ → List Change → ℕ
 greatest_len synced [] = length synced
-greatest_len synced (c ∷ changes) = max (length c.after) (greatest_len synced changes)
+greatest_len synced (c ∷ changes) = max c.longest (greatest_len synced changes)
 
 -- what a crash may leave of the file: a length between these, and what no change touched as it was
 pub record MayLeave (file : File) (left : List ℕ) : Type 0 where
@@ -53,9 +56,15 @@ abbrev pub untouched_len : List ℕ → List Change → ℕ
 untouched_len synced [] = length synced
 untouched_len synced (c ∷ changes) = if c.size == 0 then untouched_len synced changes else min c.from (untouched_len synced changes)
 
--- no write touched this place since the file was renamed
-abbrev pub IsStaleAt : File → ℕ → Type 0
-IsStaleAt file i = (ranges : List (ℕ × ℕ)) × (file.rewritten ≡ Some ranges) × (list_any (λ r. is_within r.0 r.1 i) ranges ≡ false)
+-- a write that was done gave the byte of this place
+abbrev pub is_written : List Change → ℕ → Bool
+is_written changes i = list_any (λ c. c.is_done && is_within c.from (length c.given) i) changes
+
+-- at a moment of a file, when these were its changes, no write that was done had given this byte since it was renamed
+abbrev pub IsStaleAfter : Option ℕ → List Change → ℕ → Type 0
+IsStaleAfter renamed_after changes i =
+    (count : ℕ) × (renamed_after ≡ Some count)
+    × (is_written (take (length changes - count) changes) i ≡ false)
 
 -- the bytes that the file had at the moments since its last sync, the newest first
 abbrev pub bytes_since_sync : File → List (List ℕ)
@@ -76,48 +85,87 @@ OnlyWritesRefused changes = All IsDoneOrWrite changes
 
 -- a file of these bytes, which a crash leaves as they are
 abbrev pub settled : List ℕ → File
-settled bytes = record { now = bytes; synced = bytes; changes = []; older = []; rewritten = None }
+settled bytes = record { now = bytes; synced = bytes; changes = []; older = []; renamed_after = None }
 
-abbrev pub range_noted : Option (List (ℕ × ℕ)) → ℕ × ℕ → Option (List (ℕ × ℕ))
-range_noted None range = None
-range_noted (Some ranges) range = Some (range ∷ ranges)
+-- the file after one more change
+abbrev pub changed_by : Change → File → File
+changed_by c file = record file { now = c.after; changes = c ∷ file.changes }
+
+-- inside a write up to an end that was refused the file may have had the length of that end
+abbrev pub longest_of : Bool → ℕ → ℕ → ℕ
+longest_of true end len = len
+longest_of false end len = max len end
 
 -- the file after a write that left these bytes
 abbrev pub written : ℕ → List ℕ → Bool → List ℕ → File → File
-written at given is_done after file = record file {
-  now = after;
-  changes = record { from = at; size = length given; given = given; is_done = is_done; before = file.now; after = after } ∷ file.changes;
-  rewritten = range_noted file.rewritten (at, length given);
-}
+written at given is_done after file = changed_by (record {
+  from = at;
+  size = length given;
+  given = given;
+  is_done = is_done;
+  before = file.now;
+  after = after;
+  shortest = length after;
+  longest = longest_of is_done (at + length given) (length after);
+}) file
 
--- the same of an allocation or a truncation, which touch what lies between the two lengths
+-- the same of an allocation or a truncation that is done: it touched what lies between the two lengths
 abbrev pub resized : Bool → List ℕ → File → File
-resized is_done after file = record file {
-  now = after;
-  changes = record { from = min (length after) (length file.now); size = max (length after) (length file.now) - min (length after) (length file.now); given = []; is_done = is_done; before = file.now; after = after } ∷ file.changes;
-}
+resized is_done after file = changed_by (record {
+  from = min (length after) (length file.now);
+  size = max (length after) (length file.now) - min (length after) (length file.now);
+  given = [];
+  is_done = is_done;
+  before = file.now;
+  after = after;
+  shortest = length after;
+  longest = length after;
+}) file
+
+-- the same of an allocation, which may have touched all up to the wanted end if it is refused
+abbrev pub lengthened_to : ℕ → Bool → List ℕ → File → File
+lengthened_to size true after file = resized true after file
+lengthened_to size false after file = changed_by (record {
+  from = length file.now;
+  size = size - length file.now;
+  given = [];
+  is_done = false;
+  before = file.now;
+  after = after;
+  shortest = length after;
+  longest = max (length after) size;
+}) file
 
 -- the same of a truncation, which may have touched all behind the wanted end if it is refused
 abbrev pub cut_to : ℕ → Bool → List ℕ → File → File
 cut_to size true after file = resized true after file
-cut_to size false after file = record file {
-  now = after;
-  changes = record { from = min size (length file.now); size = length file.now - min size (length file.now); given = []; is_done = false; before = file.now; after = after } ∷ file.changes;
-}
+cut_to size false after file = changed_by (record {
+  from = min size (length file.now);
+  size = length file.now - min size (length file.now);
+  given = [];
+  is_done = false;
+  before = file.now;
+  after = after;
+  shortest = min (length after) size;
+  longest = length after;
+}) file
 
 abbrev pub synced_of : File → File
 synced_of file = record file { synced = file.now; changes = []; older = file.changes ++ file.older }
 
 abbrev pub renamed_of : File → File
-renamed_of file = record file { rewritten = Some [] }
+renamed_of file = record file { renamed_after = Some (length (file.changes ++ file.older)) }
 
 -- the bytes, with zeros behind them up to a length
 abbrev pub padded : List ℕ → ℕ → List ℕ
 padded bytes len = bytes ++ replicate (len - length bytes) 0
 
--- with these bytes at that place
+-- with these bytes at that place; none change nothing, also past the end
 abbrev pub overlaid : List ℕ → ℕ → List ℕ → List ℕ
-overlaid bytes at given = take at (padded bytes (at + length given)) ++ given ++ drop (at + length given) bytes
+overlaid bytes at [] = bytes
+overlaid bytes at (byte ∷ given) =
+    let end = at + length (byte ∷ given) in
+    take at (padded bytes end) ++ (byte ∷ given) ++ drop end bytes
 
 -- the bytes at a moment of a write: others in its range alone, and some length up to its end
 pub record IsPartOf (at len : ℕ) (old new : List ℕ) : Type 0 where

@@ -1,6 +1,6 @@
 //! A file in memory: its bytes now, what its changes since the last sync wrote over, and the ranges that they touched.
 ghost use Rattle.std.specs.Prelude.{◌≡◌, ◌≤◌, ◌<◌, ◌+◌, ◌-◌, ◌==◌, ◌&&◌, ◌++◌, ◌^◌, ◌||◌, ℕ, [], length, take, drop, if◌then◌else◌, true, OnOk, OnErr, IfOk, IfErr, MatchBool, vec_len, vec_capacity};
-ghost use Rattle.raft_env.specs.Outcomes.{File, MayLeave, settled, written, resized, synced_of, overlaid, padded, is_within};
+ghost use Rattle.raft_env.specs.Outcomes.{File, MayLeave, settled, written, resized, synced_of, longest_of, overlaid, padded, is_within};
 ghost use Rattle.raft_env.specs.Choice.{torn};
 ghost use Rattle.raft_env.specs.Slot.{IsSlotOf, IsSaved, is_covered, SameOutside};
 
@@ -72,7 +72,8 @@ impl Slot {
         overlay(&mut self.bytes, at, kept)?;
         add_range(&mut self.ranges, at, given.len());
         self.least = self.least.min(self.bytes.len());
-        self.greatest = self.greatest.max(self.bytes.len());
+        let longest = longest_of(is_done, at + given.len(), self.bytes.len());
+        self.greatest = self.greatest.max(longest);
         self.known = self
             .known
             .then(&Step::Write(at, given, is_done, &self.bytes));
@@ -237,6 +238,13 @@ fn left_after(is_covered: bool, left: usize) -> usize
     }
 }
 
+// Inside a write up to an end that was refused the file may have had the length of that end.
+fn longest_of(is_done: bool, end: usize, len: usize) -> usize
+    ensures { result ≡ longest_of is_done end len }
+{
+    if is_done { len } else { len.max(end) }
+}
+
 // A range that begins where the last one ends is joined to it, so appends stay one range.
 fn add_range(ranges: &mut Vec<(usize, usize)>, from: usize, size: usize)
     requires fits { from + size < 2 ^ 64 }
@@ -257,12 +265,15 @@ fn add_range(ranges: &mut Vec<(usize, usize)>, from: usize, size: usize)
     };
 }
 
-// Writes over what is there, and past the end.
+// Writes over what is there, and past the end; no bytes change nothing.
 fn overlay(bytes: &mut Vec<u8>, at: usize, given: &[u8]) -> Result<(), AllocError>
     requires { at + length given.now < 2 ^ 63 }
     ensures ok { OnOk result (bytes.new.items ≡ overlaid bytes.old.items at given.now) }
     ensures err { OnErr result (bytes.new.items ≡ bytes.old.items) }
 {
+    if given.is_empty() {
+        return Ok(());
+    }
     let end = at + given.len();
     if end > bytes.len() {
         bytes.resize(end, 0)?;

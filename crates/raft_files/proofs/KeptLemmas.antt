@@ -10,15 +10,16 @@ use Rattle.raft_files.specs.Header.{header_bytes, header_len}
 use Rattle.raft_env.specs.Outcomes.{File, Change, resized, cut_to, synced_of, settled, bytes_behind}
 use Rattle.raft_env.specs.Directory.{Directory, Left, Path, file_at, placed, created, changed, changed_at, IsOneOf, IsTruncating, IsRestarted}
 use Rattle.raft_files.specs.Reading.{Placed, Reading, records_behind, end_of_records, reading, records_of, readable_records, readable_batches, end_of, end_of_reading, ends_with, is_read_to_end}
-use Rattle.raft_files.specs.Detectable.{IsBeginningOf, format_of, signature_by, AreDone, IsDetectable}
+use Rattle.raft_files.specs.Detectable.{IsBeginningOf, format_of, signature_by, AreReadBehind, IsDetectable}
 use Rattle.raft_files.specs.Records.{ReadsFirst, KeepsRecords, HoldsRecords, HasLog, HasTornLog, left_of, left_bytes, FirstOf, KeepsLog, KeepsNone, HoldsNothing, IsKept}
 use Rattle.raft_files.specs.Writer.{HasChanged, IsOpening, IsAppending, IsCutting, IsSynced, IsSyncing, IsClosing, capacity_for, bytes_of, bytes_at}
 use Rattle.raft_files.proofs.DetectableLemmas.{beginning_trans, beginning_append, beginning_take}
 use Rattle.raft_env.proofs.DirectoryLemmas.{file_at-placed_same}
 use Rattle.raft_files.proofs.ExtentLemmas.{same_some}
-use Rattle.raft_files.proofs.RecordsLemmas.{reading-held, format_of_read, keeps_batches, keeps_weaker}
+use Rattle.raft_files.proofs.HeldLemmas.{reading-held, format_of_read}
+use Rattle.raft_files.proofs.RecordsLemmas.{keeps_batches, keeps_weaker}
 use Rattle.raft_files.proofs.FreshLemmas.{header_len_within, readable_records-short}
-use Rattle.raft_files.proofs.NoneLemmas.{none_left, only_moment, none_settled, none_synced, none_appending}
+use Rattle.raft_files.proofs.NoneLemmas.{none_left, read_of_bytes, only_moment, none_settled, none_synced, none_appending}
 use Rattle.raft_files.proofs.TruncationLemmas.{header_within, end_of_read_within, reading-cut, keeps_cut, none_cut}
 use Rattle.raft_files.proofs.LogLemmas.{count_of, stands_after, log_cutting, torn_log_cutting, log_found}
 
@@ -109,7 +110,7 @@ keeps_settled : (id : FileId) (bytes : List ℕ) (r : Reading) → reading id by
 keeps_settled id bytes r e = record {
   header = format_of_read id bytes r e;
   latest = refl;
-  moments = λ newer upto moment left begins done. subst (λ rs. IsBeginningOf left rs) (only_moment (λ changes. readable_records id (bytes_behind bytes changes) ≡ r.records) (ap (λ q. records_of q) e) newer upto moment) begins;
+  moments = λ newer upto moment left read. subst (λ rs. IsBeginningOf left rs) (only_moment (λ changes. readable_records id (bytes_behind bytes changes) ≡ r.records) (ap (λ q. records_of q) e) newer upto moment) read.beginning;
   few = omega arith;
   covered = subst (λ b. ReadsFirst id r.format (take (length r.records) r.records) b) (sym (take_all (length bytes) bytes (omega arith))) (reads_all id bytes r e);
 }
@@ -159,10 +160,10 @@ keeps_synced id format records synced file keeps reads = record {
 }
   where
     Allowed : List Change → Type 0
-    Allowed upto = (left : List Placed) → IsBeginningOf left (readable_records id (bytes_behind file.now upto)) → AreDone id (signature_by id format) (upto ++ (file.changes ++ file.older)) left → IsBeginningOf left records
+    Allowed upto = (left : List Placed) → AreReadBehind id (signature_by id format) (synced_of file) upto left → IsBeginningOf left records
 
     now : Allowed []
-    now left begins done = keeps.moments [] file.changes refl left (subst (λ bytes. IsBeginningOf left (readable_records id bytes)) keeps.latest begins) done
+    now left read = keeps.moments [] file.changes refl left (read_of_bytes keeps.latest read)
 
 -- a moment of a sync of the file there
 module _ (path : Path) (id : FileId) (batches : List Batch) (synced : ℕ) (old new : Directory) where

@@ -4,13 +4,13 @@ use Rattle.std.proofs.lemmas.Bool.{cases_Bool}
 use Rattle.raft_records.specs.declared.pipe_log.FileId.{FileId}
 use Rattle.raft_files.specs.declared.format.LogFileFormat.{LogFileFormat}
 use Rattle.raft_files.specs.Header.{header_bytes, header_len}
-use Rattle.raft_env.specs.Outcomes.{File, Change, IsPartOf, overlaid, written, synced_of, settled, bytes_behind}
+use Rattle.raft_env.specs.Outcomes.{File, Change, IsPartOf, overlaid, written, changed_by, synced_of, settled, bytes_behind}
 use Rattle.raft_files.specs.Reading.{Placed, readable_records, readable_batches}
-use Rattle.raft_files.specs.Detectable.{IsBeginningOf, format_of, signature_by, AreDone, IsDetectableFile}
+use Rattle.raft_files.specs.Detectable.{IsBeginningOf, format_of, signature_by, AreReadAt, AreReadBehind, IsDetectableFile}
 use Rattle.raft_files.specs.Records.{KeepsNone}
 use Rattle.raft_files.specs.Writer.{IsStep, IsLengthened, IsAppending, capacity_for}
 use Rattle.raft_files.proofs.HeaderLemmas.{length-header_bytes}
-use Rattle.raft_env.proofs.ChangeLemmas.{changed_by}
+use Rattle.raft_env.proofs.ChangeLemmas.{lengthened_change, written_change}
 use Rattle.raft_files.proofs.RecordsLemmas.{readable_without_header}
 use Rattle.raft_files.proofs.FreshLemmas.{header_len_within, readable_records-short, length-padded, length-overlaid}
 
@@ -20,7 +20,11 @@ none_left id file left none detectable = ap (λ rs. map (λ (p : Placed). p.batc
   where
     by_format : (format : Option LogFileFormat) → format_of left ≡ format → readable_records id left ≡ []
     by_format None e = readable_without_header id left e
-    by_format (Some format) e = none.moments detectable.newer detectable.upto detectable.moment format (readable_records id left) detectable.beginning (detectable.done format e)
+    by_format (Some format) e = none.moments detectable.newer detectable.upto detectable.moment format (readable_records id left) (record { beginning = detectable.beginning; done = detectable.done format e; fresh = detectable.none_stale })
+
+-- the same bytes under an equal name
+pub read_of_bytes : {id : FileId} {signature : Option ℕ} {a b : List ℕ} {renamed : Option ℕ} {changes : List Change} {left : List Placed} → a ≡ b → AreReadAt id signature a renamed changes left → AreReadAt id signature b renamed changes left
+read_of_bytes {id = id} {left = left} same read = record { beginning = subst (λ bytes. IsBeginningOf left (readable_records id bytes)) same read.beginning; done = read.done; fresh = read.fresh }
 
 pub nothing_of : (rs left : List Placed) → rs ≡ [] → IsBeginningOf left rs → left ≡ []
 nothing_of rs [] none begins = refl
@@ -37,26 +41,26 @@ only_moment P holds (c ∷ newer) upto e = cc
 pub none_settled : (id : FileId) (bytes : List ℕ) → readable_records id bytes ≡ [] → KeepsNone id (settled bytes)
 none_settled id bytes none = record {
   latest = refl;
-  moments = λ newer upto e format left begins done. nothing_of _ left (only_moment (λ changes. readable_records id (bytes_behind bytes changes) ≡ []) none newer upto e) begins;
+  moments = λ newer upto e format left read. nothing_of _ left (only_moment (λ changes. readable_records id (bytes_behind bytes changes) ≡ []) none newer upto e) read.beginning;
 }
 
 pub none_synced : (id : FileId) (file : File) → KeepsNone id file → KeepsNone id (synced_of file)
 none_synced id file none = record { latest = refl; moments = only_moment Nothing now }
   where
     Nothing : List Change → Type 0
-    Nothing upto = (format : LogFileFormat) (left : List Placed) → IsBeginningOf left (readable_records id (bytes_behind file.now upto)) → AreDone id (signature_by id format) (upto ++ (file.changes ++ file.older)) left → left ≡ []
+    Nothing upto = (format : LogFileFormat) (left : List Placed) → AreReadBehind id (signature_by id format) (synced_of file) upto left → left ≡ []
 
     now : Nothing []
-    now format left begins done = none.moments [] file.changes refl format left (subst (λ bytes. IsBeginningOf left (readable_records id bytes)) none.latest begins) done
+    now format left read = none.moments [] file.changes refl format left (read_of_bytes none.latest read)
 
 -- Changes.
 
-pub none_more : (id : FileId) (file : File) (c : Change) (rewritten : Option (List (ℕ × ℕ))) → KeepsNone id file →
-    ((format : LogFileFormat) (left : List Placed) → IsBeginningOf left (readable_records id c.after) → AreDone id (signature_by id format) (c ∷ file.changes ++ file.older) left → left ≡ []) → KeepsNone id (changed_by c rewritten file)
-none_more id file c rewritten none moment = record { latest = refl; moments = moments }
+pub none_more : (id : FileId) (file : File) (c : Change) → KeepsNone id file →
+    ((format : LogFileFormat) (left : List Placed) → AreReadAt id (signature_by id format) c.after file.renamed_after (c ∷ file.changes ++ file.older) left → left ≡ []) → KeepsNone id (changed_by c file)
+none_more id file c none moment = record { latest = refl; moments = moments }
   where
     Nothing : List Change → Type 0
-    Nothing upto = (format : LogFileFormat) (left : List Placed) → IsBeginningOf left (readable_records id (bytes_behind file.synced upto)) → AreDone id (signature_by id format) (upto ++ file.older) left → left ≡ []
+    Nothing upto = (format : LogFileFormat) (left : List Placed) → AreReadBehind id (signature_by id format) file upto left → left ≡ []
 
     moments : (newer upto : List Change) → c ∷ file.changes ≡ newer ++ upto → Nothing upto
     moments [] upto e = subst Nothing e moment
@@ -67,9 +71,9 @@ pub record KeepsNoneShort (id : FileId) (file : File) : Type 0 where
   pub none : KeepsNone id file
   pub short : length file.now ≤ 69
 
-short_more : (id : FileId) (file : File) (c : Change) (rewritten : Option (List (ℕ × ℕ))) → KeepsNone id file → length c.after ≤ 69 → KeepsNoneShort id (changed_by c rewritten file)
-short_more id file c rewritten none short = record {
-  none = none_more id file c rewritten none (λ format left begins done. nothing_of _ left (readable_records-short id c.after short) begins);
+short_more : (id : FileId) (file : File) (c : Change) → KeepsNone id file → length c.after ≤ 69 → KeepsNoneShort id (changed_by c file)
+short_more id file c none short = record {
+  none = none_more id file c none (λ format left read. nothing_of _ left (readable_records-short id c.after short) read.beginning);
   short = short;
 }
 
@@ -77,16 +81,16 @@ lengthened_short : (id : FileId) (room new_room : ℕ) (old new : File) → new_
 lengthened_short id room new_room old new within short (inl same) = subst (KeepsNoneShort id) (sym same) short
 lengthened_short id room new_room old new within short (inr (grows, inl same)) = subst (KeepsNoneShort id) (sym same) short
 lengthened_short id room new_room old new within short (inr (grows, inr (after, true, done, is))) =
-    subst (KeepsNoneShort id) (sym is) (short_more id old _ old.rewritten short.none (omega (arith, short.short, ap length done, length-padded old.now new_room)))
+    subst (KeepsNoneShort id) (sym is) (short_more id old (lengthened_change new_room true after old.now) short.none (omega (arith, short.short, ap length done, length-padded old.now new_room)))
 lengthened_short id room new_room old new within short (inr (grows, inr (after, false, part, is))) =
-    subst (KeepsNoneShort id) (sym is) (short_more id old _ old.rewritten short.none (omega (arith, short.short, part.no_longer)))
+    subst (KeepsNoneShort id) (sym is) (short_more id old (lengthened_change new_room false after old.now) short.none (omega (arith, short.short, part.no_longer)))
 
 step_short : (id : FileId) (given : List ℕ) (old new : File) → length given ≤ 69 → KeepsNoneShort id old → IsStep (written 0 given) (λ now. overlaid now 0 given) (IsPartOf 0 (length given)) old new → KeepsNoneShort id new
 step_short id given old new within short (inl same) = subst (KeepsNoneShort id) (sym same) short
 step_short id given old new within short (inr (after, true, done, is)) =
-    subst (KeepsNoneShort id) (sym is) (short_more id old _ _ short.none (omega (arith, short.short, ap length done, length-overlaid old.now given)))
+    subst (KeepsNoneShort id) (sym is) (short_more id old (written_change 0 given true after old.now) short.none (omega (arith, short.short, ap length done, length-overlaid old.now given)))
 step_short id given old new within short (inr (after, false, part, is)) =
-    subst (KeepsNoneShort id) (sym is) (short_more id old _ _ short.none (omega (arith, short.short, part.no_longer)))
+    subst (KeepsNoneShort id) (sym is) (short_more id old (written_change 0 given false after old.now) short.none (omega (arith, short.short, part.no_longer)))
 
 room_of_header : (format : LogFileFormat) (size : ℕ) → size ≤ header_len format.version → capacity_for (header_len format.version) 0 size ≤ 69
 room_of_header format size within = elim (cases_Bool (ltb size (header_len format.version))) [

@@ -18,10 +18,10 @@ use Rattle.raft_env.specs.declared.crash.Choice.TheVariants as choice
 use Rattle.raft_files.proofs.DetectableLemmas.{beginning_itself}
 use Rattle.raft_files.proofs.ExtentLemmas.{same_some, record_of_header}
 use Rattle.raft_env.proofs.ChangeLemmas.{within_is, same_front}
-use Rattle.raft_files.proofs.RecordsLemmas.{contains_cases}
+use Rattle.raft_files.proofs.PlacedLemmas.{contains_cases}
 use Rattle.raft_env.proofs.ConsistentLemmas.{before_is_untouched}
 use Rattle.raft_env.proofs.TornLemmas.{length-torn, no_bytes_at_turn, choices_may_leave}
-use Rattle.raft_files.proofs.ToldLemmas.{readable_records-take, none_stale_unnamed}
+use Rattle.raft_files.proofs.ToldLemmas.{readable_records-take, never_stale}
 
 -- Records.
 
@@ -43,7 +43,7 @@ own_done : (id : FileId) (by : Option ℕ) (bytes : List ℕ) (changes : List Ch
 own_done id by bytes [] past own r has = tt
 own_done id by bytes (c ∷ changes) past own r has =
     elim (own c (0, omega arith, refl) r (subst (λ b. Contains (readable_records id b) r) (sym past.0) has)) [
-      | inl earlier ↦ inr (earlier, own_done id by c.before changes past.2 (λ d older. own d (Contains-append_right (c ∷ []) changes d older)) r earlier)
+      | inl earlier ↦ inr (earlier, own_done id by c.before changes past.3 (λ d older. own d (Contains-append_right (c ∷ []) changes d older)) r earlier)
       | inr given ↦ inl (given_covers by c changes r past.1 given)
     ]
 
@@ -51,7 +51,7 @@ own_done id by bytes (c ∷ changes) past own r has =
 
 past_behind : (newer rest : List Change) (bytes : List ℕ) → IsPastOf bytes (newer ++ rest) → (then_bytes : List ℕ) × IsPastOf then_bytes rest
 past_behind [] rest bytes past = (bytes, past)
-past_behind (c ∷ newer) rest bytes past = past_behind newer rest c.before past.2
+past_behind (c ∷ newer) rest bytes past = past_behind newer rest c.before past.3
 
 -- the past of a file at a moment since its last sync
 past_at : (file : File) → IsConsistent file → (newer upto : List Change) → file.changes ≡ newer ++ upto → IsPastOf (bytes_behind file.synced upto) (upto ++ file.older)
@@ -59,7 +59,7 @@ past_at file is newer [] e = is.earlier
 past_at file is newer (c ∷ upto) e =
     let all : file.changes ++ file.older ≡ newer ++ (c ∷ upto ++ file.older) = ap (λ cs. cs ++ file.older) e ∙ append_assoc newer (c ∷ upto) file.older in
     let past = (past_behind newer (c ∷ upto ++ file.older) file.now (subst (IsPastOf file.now) all is.past)).1 in
-    (refl, past.1, past.2)
+    (refl, past.1, past.2, past.3)
 
 -- the bytes of a file at such a moment, by its changes
 pub record IsMoment (synced : List ℕ) (changes : List Change) (bytes : List ℕ) : Type 0 where
@@ -141,7 +141,7 @@ synced_is_read id file header unmarked = record {
   unmarked = unmarked;
 }
 
-own_is_detectable : (id : FileId) (file : File) (left : List ℕ) → IsConsistent file → file.rewritten ≡ None → AreOwn id file → MayLeave file left → untouched_len file.synced file.changes ≤ length left → IsReadAsBefore id file left → IsDetectableFile id file left
+own_is_detectable : (id : FileId) (file : File) (left : List ℕ) → IsConsistent file → file.renamed_after ≡ None → AreOwn id file → MayLeave file left → untouched_len file.synced file.changes ≤ length left → IsReadAsBefore id file left → IsDetectableFile id file left
 own_is_detectable id file left consistent never own may long reads = record {
   header = reads.header;
   newer = m.newer;
@@ -151,7 +151,7 @@ own_is_detectable id file left consistent never own may long reads = record {
   done = λ format is r has. own_done id (signature_by id format) (bytes_behind file.synced m.upto) (m.upto ++ file.older) (past_at file consistent m.newer m.upto m.split) (λ c among. own format (format_now format is) c (of_file c among)) r (read_then r has);
   untouched = untouched_is_read id file left may long;
   unmarked = reads.unmarked;
-  none_stale = λ r has. none_stale_unnamed file r.at never;
+  none_stale = λ r has. never_stale file.renamed_after (m.upto ++ file.older) r.at never;
 }
   where
     m : IsMoment file.synced file.changes reads.bytes
@@ -175,7 +175,7 @@ own_is_detectable id file left consistent never own may long reads = record {
         subst (λ cs. Contains cs c) (sym all) (Contains-append_right m.newer (m.upto ++ file.older) c among)
 
 -- the damage can be told of what choices leave that is read as it was at a moment since the last sync
-pub own_told : (path : Path) (id : FileId) (n : Directory) (file : File) → file_at n path ≡ Some file → file.rewritten ≡ None → AreConsistent n → AreOwn id file → (choices : List Choice) → NameNoBytes choices →
+pub own_told : (path : Path) (id : FileId) (n : Directory) (file : File) → file_at n path ≡ Some file → file.renamed_after ≡ None → AreConsistent n → AreOwn id file → (choices : List Choice) → NameNoBytes choices →
     IsReadAsBefore id file (left_by choices n path) → IsDetectable path id n (left_by choices n)
 own_told path id n file stands never consistent own choices none reads other is =
     let d = left_by choices n in

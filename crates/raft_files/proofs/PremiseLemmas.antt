@@ -20,7 +20,7 @@ use Rattle.raft_files.proofs.ToldLemmas.{torn_is_detectable, now_is_torn, synced
 
 -- Records that no refused call brought.
 
-module _ (path : Path) (id : FileId) (format : LogFileFormat) (batches : List Batch) (synced at : ℕ) (n : Directory) (log : HasDoneRecords path id format batches synced at n) (never : log.file.rewritten ≡ None) (consistent : AreConsistent n) where
+module _ (path : Path) (id : FileId) (format : LogFileFormat) (batches : List Batch) (synced at : ℕ) (n : Directory) (log : HasDoneRecords path id format batches synced at n) (never : log.file.renamed_after ≡ None) (consistent : AreConsistent n) where
   is_consistent : IsConsistent log.file
   is_consistent = consistent path log.file log.stands
 
@@ -56,10 +56,10 @@ module _ (path : Path) (id : FileId) (format : LogFileFormat) (batches : List Ba
         })
 
 -- .. and that of a log with all its bytes or those of its last sync
-pub log_whole : (path : Path) (id : FileId) (format : LogFileFormat) (batches : List Batch) (synced at : ℕ) (n : Directory) (log : HasDoneLog path id format batches synced at n) → log.held.file.rewritten ≡ None → AreConsistent n → (choices : List Choice) → AreWhole choices →
+pub log_whole : (path : Path) (id : FileId) (format : LogFileFormat) (batches : List Batch) (synced at : ℕ) (n : Directory) (log : HasDoneLog path id format batches synced at n) → log.held.file.renamed_after ≡ None → AreConsistent n → (choices : List Choice) → AreWhole choices →
     IsDetectable path id n (left_by choices n)
 log_whole path id format batches synced at n log never consistent choices whole = elim (whole_choice choices whole _) [
-  | inl all ↦ told choice.All all tt (now_is_torn id format held.records synced at held.file (record { written = log.written; held = held.held; refused = log.refused }))
+  | inl all ↦ told choice.All all tt (now_is_torn id format held.records synced at held.file (record { written = log.written; held = held.held; past = log.past }))
   | inr old ↦ told choice.Synced old tt (synced_is_torn id format held.records synced at held.file (consistent path held.file held.stands) held.held)
 ]
   where

@@ -6,23 +6,31 @@ use Rattle.raft_records.specs.Item.{Batch}
 use Rattle.raft_records.specs.Record.{record_header, parts_by}
 use Rattle.raft_records.specs.declared.pipe_log.FileId.{FileId}
 use Rattle.raft_files.specs.declared.format.LogFileFormat.{LogFileFormat}
-use Rattle.raft_env.specs.Outcomes.{File, Change, MayLeave, untouched_len, IsStaleAt, bytes_behind, IsDoneOrWrite, OnlyWritesRefused}
+use Rattle.raft_env.specs.Outcomes.{File, Change, MayLeave, untouched_len, bytes_behind, IsDoneOrWrite, OnlyWritesRefused}
 use Rattle.raft_files.specs.Reading.{Placed, record_place, record_at, placed_before, placed_by, end_of_records, Reading, records_behind, reading, records_of, readable_records}
-use Rattle.raft_files.specs.Detectable.{IsBeginningOf, format_of, signature_by, AreDone, IsMarkedAt, IsDetectableFile}
+use Rattle.raft_files.specs.Detectable.{IsBeginningOf, format_of, signature_by, AreDone, IsFreshAfter, IsMarkedAt, IsDetectableFile}
 use Rattle.raft_files.specs.Records.{ReadsFirst, IsEmptyFrom, HoldsRecords, IsWrittenTo}
 use Rattle.raft_env.specs.Consistent.{IsConsistent}
-use Rattle.raft_files.specs.Told.{EndsInZeros, HoldsDone, IsBrokenFrom, IsTornBehind}
+use Rattle.raft_files.specs.Told.{HasSimplePast, EndsInZeros, HoldsDone, IsBrokenFrom, IsTornBehind}
 use Rattle.raft_files.proofs.DetectableLemmas.{beginning_itself, beginning_trans, beginning_append}
 use Rattle.raft_files.proofs.ExtentLemmas.{record_header_is, same_some, some_then}
 use Rattle.raft_files.proofs.ReadingLemmas.{found_record, records_stay, reading_is}
 use Rattle.raft_env.proofs.ChangeLemmas.{same_front}
-use Rattle.raft_files.proofs.RecordsLemmas.{record_header_zeros, reading-held, readable-held, format_of_read, format_of-held, reads_first-within, holds_same, reads_first-kept}
+use Rattle.raft_files.proofs.EmptyLemmas.{record_header_zeros}
+use Rattle.raft_files.proofs.HeldLemmas.{reading-held, readable-held, format_of_read, format_of-held}
+use Rattle.raft_files.proofs.RecordsLemmas.{reads_first-within, reads_first-kept}
+use Rattle.raft_files.proofs.LengthLemmas.{holds_same}
 use Rattle.raft_env.proofs.ConsistentLemmas.{now_may_be_left, nowhere, before_is_untouched}
+
+-- no place is stale of a file that was never renamed
+pub never_stale : (renamed : Option ℕ) (changes : List Change) (i : ℕ) → renamed ≡ None → IsFreshAfter renamed changes i
+never_stale renamed changes i never stale = let some : Some stale.0 ≡ None = sym stale.1 ∙ never in absurd cc
 
 -- Zeros.
 
-pub only_zeros : (at : ℕ) (bytes : List ℕ) (changes : List Change) → IsEmptyFrom at bytes changes → OnlyWritesRefused changes → EndsInZeros at bytes
-only_zeros at bytes changes empty writes = record {
+pub only_zeros : (at : ℕ) (bytes : List ℕ) (renamed : Option ℕ) (changes : List Change) → renamed ≡ None → IsEmptyFrom at bytes renamed changes → OnlyWritesRefused changes → EndsInZeros at bytes
+only_zeros at bytes renamed changes never (inr stale) writes = absurd (never_stale renamed changes at never (stale at (omega arith)))
+only_zeros at bytes renamed changes never (inl empty) writes = record {
   zeros = λ i above below. elim (empty i above below) [
     | inl zero' ↦ zero'
     | inr q ↦
@@ -95,9 +103,6 @@ readable_records-take id n bytes = by_reading (reading id (take n bytes)) refl
         let whole = reads_first-kept id r.format r.records last (take n bytes) bytes reads same (reads_first-within id r.format r.records (take n bytes) reads) in
         subst (λ rs. IsBeginningOf r.records rs) (sym (ap (λ q. records_of q) whole.read)) whole.first
 
-pub none_stale_unnamed : (file : File) (i : ℕ) → file.rewritten ≡ None → IsStaleAt file i → ⊥
-none_stale_unnamed file i never stale = let some : Some stale.0 ≡ None = sym stale.1 ∙ never in absurd cc
-
 -- what the last sync found reads as the synced records
 readable-synced : (id : FileId) (format : LogFileFormat) (records : List Placed) (synced at : ℕ) (file : File) → HoldsDone id format records synced at file → readable_records id file.synced ≡ take synced records
 readable-synced id format records synced at file done =
@@ -113,7 +118,7 @@ synced_left id format records synced at file left done may =
     (long, same_front done.end file.synced left within long each)
 
 -- the damage of an outcome can be told that holds the first records as they stand now and is broken behind them
-pub torn_is_detectable : (id : FileId) (format : LogFileFormat) (records : List Placed) (synced at : ℕ) (file : File) (left : List ℕ) → HoldsDone id format records synced at file → file.now ≡ bytes_behind file.synced file.changes → file.rewritten ≡ None → MayLeave file left → IsTornBehind id format records file left → IsDetectableFile id file left
+pub torn_is_detectable : (id : FileId) (format : LogFileFormat) (records : List Placed) (synced at : ℕ) (file : File) (left : List ℕ) → HoldsDone id format records synced at file → file.now ≡ bytes_behind file.synced file.changes → file.renamed_after ≡ None → MayLeave file left → IsTornBehind id format records file left → IsDetectableFile id file left
 torn_is_detectable id format records synced at file left done latest never may torn = record {
   header = inl (header ∙ sym (format_of-held id format records at file.now done.holds));
   newer = [];
@@ -128,7 +133,7 @@ torn_is_detectable id format records synced at file left done latest never may t
       let whole : Reading = record { format = format; records = take torn.count records; end = torn.end } in
       let same : r ≡ whole = same_some (sym e ∙ whole_read) in
       torn.broken.1 (subst (λ (q : Reading). IsMarkedAt (signature_by id q.format) left (record_place q.format.alignment left q.end)) same marked);
-  none_stale = λ r has. none_stale_unnamed file r.at never;
+  none_stale = λ r has. never_stale file.renamed_after (file.changes ++ file.older) r.at never;
 }
   where
     whole_read : reading id left ≡ Some (record { format = format; records = take torn.count records; end = torn.end })
@@ -166,13 +171,13 @@ torn_is_detectable id format records synced at file left done latest never may t
 pub record IsDoneTo (id : FileId) (format : LogFileFormat) (records : List Placed) (synced at : ℕ) (file : File) : Type 0 where
   pub written : IsWrittenTo id format records synced at file
   pub held : HoldsDone id format records synced at file
-  pub refused : OnlyWritesRefused (file.changes ++ file.older)
+  pub past : HasSimplePast file
 
 -- what holds all bytes now is one
 pub now_is_torn : (id : FileId) (format : LogFileFormat) (records : List Placed) (synced at : ℕ) (file : File) → IsDoneTo id format records synced at file → IsTornBehind id format records file file.now
 now_is_torn id format records synced at file done =
     let all : take (length records) records ≡ records = take_all (length records) records (omega arith) in
-    let ends = only_zeros at file.now (file.changes ++ file.older) done.written.empty done.refused in
+    let ends = only_zeros at file.now file.renamed_after (file.changes ++ file.older) done.past.never_renamed done.written.empty done.past.only_writes in
     record {
       count = length records;
       end = at;

@@ -6,16 +6,21 @@ use Rattle.std.proofs.lemmas.List.Elements.{Contains-append_left}
 use Rattle.raft_records.specs.declared.pipe_log.FileId.{FileId}
 use Rattle.raft_files.specs.declared.format.LogFileFormat.{LogFileFormat}
 use Rattle.raft_files.specs.Header.{header_len}
-use Rattle.raft_env.specs.Outcomes.{File, Change, is_touched, Outcome, IsCutOf, cut_to}
-use Rattle.raft_files.specs.Reading.{Placed, end_of_records, Reading, records_behind, reading, records_of, readable_records, end_of, end_of_reading}
-use Rattle.raft_files.specs.Detectable.{IsBeginningOf, signature_by, HasNoRefusedByte, IsDone, AreDone}
+use Rattle.raft_env.specs.Outcomes.{File, Change, is_touched, changed_by, Outcome, IsCutOf, cut_to}
+use Rattle.raft_files.specs.Reading.{Placed, end_of_records, Reading, records_behind, reading, records_of, end_of, end_of_reading}
+use Rattle.raft_files.specs.Detectable.{IsBeginningOf, signature_by, HasNoRefusedByte, IsDone, AreReadAt}
 use Rattle.raft_files.specs.Records.{ReadsFirst, KeepsRecords, IsEmptyFrom, HasNothingFrom, HoldsRecords, KeepsNone}
 use Rattle.raft_files.proofs.DetectableLemmas.{beginning_itself}
 use Rattle.raft_files.proofs.ExtentLemmas.{header_of_takes}
 use Rattle.raft_files.proofs.ReadingLemmas.{placed_by_past, end_of_placed-within, records_stay, reading_is, reading-kept}
-use Rattle.raft_files.proofs.NoneLemmas.{none_more}
-use Rattle.raft_env.proofs.ChangeLemmas.{changed_by, not_within, cut_change, cut_is}
-use Rattle.raft_files.proofs.RecordsLemmas.{end_of_front, placed_stands, read_in, done_without_byte, has_nothing_after, reads_first-kept, left_of_held, format_of-held, keeps_more, holds_same, IsCutRefused, empty_cut_refused, same_cut_refused}
+use Rattle.raft_files.proofs.NoneLemmas.{none_more, read_of_bytes}
+use Rattle.raft_env.proofs.ChangeLemmas.{not_within, cut_change, cut_is}
+use Rattle.raft_files.proofs.StaleLemmas.{GivesNoneFrom, ungiven, fresh_before}
+use Rattle.raft_files.proofs.PlacedLemmas.{end_of_front, placed_stands, read_in}
+use Rattle.raft_files.proofs.EmptyLemmas.{done_without_byte, has_nothing_after}
+use Rattle.raft_files.proofs.RecordsLemmas.{reads_first-kept, keeps_more}
+use Rattle.raft_files.proofs.HeldLemmas.{left_of_held, format_of-held}
+use Rattle.raft_files.proofs.LengthLemmas.{holds_same, IsCutRefused, empty_cut_refused, same_cut_refused}
 
 -- The records up to the end of the reading.
 
@@ -72,34 +77,40 @@ done_before id by c changes r before (inl no_byte) = done_without_byte id by cha
 done_before id by c changes r before (inr earlier) = earlier.1
 
 -- a change that leaves the bytes before a place, and behind it nothing that it was to write
-pub record IsBehind (size : ℕ) (old : List ℕ) (c : Change) (changes : List Change) : Type 0 where
+pub record IsBehind (size : ℕ) (old : List ℕ) (c : Change) (renamed : Option ℕ) (changes : List Change) : Type 0 where
   pub was : c.before ≡ old
+  pub given : c.given ≡ []
+  pub shortest : size ≤ c.shortest
   pub from : size ≤ c.from
   pub long : size ≤ length c.after
   pub same : take size old ≡ take size c.after
-  pub empty : IsEmptyFrom size c.after (c ∷ changes)
+  pub empty : IsEmptyFrom size c.after renamed (c ∷ changes)
 
 -- nothing is read behind the end of the reading
-has_nothing_behind : (id : FileId) (bytes : List ℕ) (r : Reading) (changes : List Change) → reading id bytes ≡ Some r → HasNothingFrom id r.end bytes changes
-has_nothing_behind id bytes read changes e by r has behind done =
+has_nothing_behind : (id : FileId) (bytes : List ℕ) (r : Reading) (renamed : Option ℕ) (changes : List Change) → reading id bytes ≡ Some r → HasNothingFrom id r.end bytes renamed changes
+has_nothing_behind id bytes read renamed changes e by r has behind done fresh =
     let is = read_in id bytes r has in
     absurd (omega (arith, is.long, read_ends_before id bytes read e r (subst (λ q. Contains (records_of q) r) e has)))
 
 -- what a crash leaves of it was left before
-left_before : (id : FileId) (by : Option ℕ) (old : List ℕ) (c : Change) (changes : List Change) (r : Reading) → reading id old ≡ Some r → IsBehind r.end old c changes → (left : List Placed) → IsBeginningOf left (readable_records id c.after) → AreDone id by (c ∷ changes) left →
-    IsBeginningOf left (readable_records id old) × AreDone id by changes left
-left_before id by old c changes r e behind left begins done =
+left_before : (id : FileId) (by : Option ℕ) (old : List ℕ) (c : Change) (renamed : Option ℕ) (changes : List Change) (r : Reading) → reading id old ≡ Some r → IsBehind r.end old c renamed changes →
+    (left : List Placed) → AreReadAt id by c.after renamed (c ∷ changes) left → AreReadAt id by old renamed changes left
+left_before id by old c renamed changes r e behind left read =
     let holds = holds_same id r.format r.records r.end old c.after (holds_read id old r e) behind.same behind.long in
-    let earlier : HasNothingFrom id r.end c.before changes = subst (λ b. HasNothingFrom id r.end b changes) (sym behind.was) (has_nothing_behind id old r changes e) in
-    let nothing = has_nothing_after id r.end r.end c changes earlier (omega arith) behind.empty in
-    let first : IsBeginningOf left r.records = left_of_held id r.format by r.records r.end c.after (c ∷ changes) holds nothing left begins done in
+    let earlier : HasNothingFrom id r.end c.before renamed changes = subst (λ b. HasNothingFrom id r.end b renamed changes) (sym behind.was) (has_nothing_behind id old r renamed changes e) in
+    let nothing = has_nothing_after id r.end r.end c renamed changes earlier (omega arith) (ungiven r.end c behind.given) behind.empty in
+    let first : IsBeginningOf left r.records = left_of_held id r.format by r.records r.end c.after renamed (c ∷ changes) holds nothing left read in
     let before : (q : Placed) → Contains left q → q.at + q.len ≤ c.from = λ q has.
     omega (arith, behind.from, read_ends_before id old r e q (subst (λ rs. Contains rs q) (sym first.1) (Contains-append_left left first.0 q has))) in
-    (subst (λ rs. IsBeginningOf left rs) (sym (ap (λ q. records_of q) e)) first, λ q has. done_before id by c changes q (before q has) (done q has))
+    record {
+      beginning = subst (λ rs. IsBeginningOf left rs) (sym (ap (λ q. records_of q) e)) first;
+      done = λ q has. done_before id by c changes q (before q has) (read.done q has);
+      fresh = λ q has. fresh_before renamed c changes q.at q.at (ungiven q.at c behind.given) (omega arith) (read.fresh q has);
+    }
 
 -- .. so the records are kept
 keeps_behind : (id : FileId) (format : LogFileFormat) (records : List Placed) (synced : ℕ) (file : File) (c : Change) (keeps : KeepsRecords id format records synced file) (reads : ReadsFirst id format (take synced records) file.now) →
-    IsBehind reads.end file.now c (file.changes ++ file.older) → KeepsRecords id format records synced (changed_by c file.rewritten file) × ReadsFirst id format (take synced records) c.after
+    IsBehind reads.end file.now c file.renamed_after (file.changes ++ file.older) → KeepsRecords id format records synced (changed_by c file) × ReadsFirst id format (take synced records) c.after
 keeps_behind id format records synced file c keeps reads behind =
     let r : Reading = record { format = format; records = reads.all; end = reads.end } in
     let holds = holds_same id format reads.all reads.end file.now c.after (holds_read id file.now r reads.read) behind.same behind.long in
@@ -112,48 +123,53 @@ keeps_behind id format records synced file c keeps reads behind =
       ap (λ rs. end_of_records from rs) reads.first.1,
       is.end,
     ) in
-    let moment : (left : List Placed) → IsBeginningOf left (readable_records id c.after) → AreDone id (signature_by id format) (c ∷ file.changes ++ file.older) left → IsBeginningOf left records = λ left begins done.
-    let old = left_before id (signature_by id format) file.now c (file.changes ++ file.older) r reads.read behind left begins done in
-    keeps.moments [] file.changes refl left (subst (λ bytes. IsBeginningOf left (readable_records id bytes)) keeps.latest old.0) old.1 in (
-      keeps_more id format records records synced file c file.rewritten keeps (beginning_itself records) (format_of-held id format reads.all reads.end c.after holds) moment (omega (arith, before, behind.from)),
+    let moment : (left : List Placed) → AreReadAt id (signature_by id format) c.after file.renamed_after (c ∷ file.changes ++ file.older) left → IsBeginningOf left records = λ left read.
+    let old = left_before id (signature_by id format) file.now c file.renamed_after (file.changes ++ file.older) r reads.read behind left read in
+    keeps.moments [] file.changes refl left (read_of_bytes keeps.latest old) in (
+      keeps_more id format records records synced file c keeps (beginning_itself records) (format_of-held id format reads.all reads.end c.after holds) moment (omega (arith, before, behind.from)),
       reads_first-kept id format front reads.end file.now c.after reads behind.same before,
     )
 
 -- Files of which a crash leaves no record.
 
-none_behind : (id : FileId) (file : File) (c : Change) (r : Reading) → KeepsNone id file → reading id file.now ≡ Some r → IsBehind r.end file.now c (file.changes ++ file.older) → KeepsNone id (changed_by c file.rewritten file)
-none_behind id file c r none e behind = none_more id file c file.rewritten none (λ format left begins done.
-    let old = left_before id (signature_by id format) file.now c (file.changes ++ file.older) r e behind left begins done in
-    none.moments [] file.changes refl format left (subst (λ bytes. IsBeginningOf left (readable_records id bytes)) none.latest old.0) old.1)
+none_behind : (id : FileId) (file : File) (c : Change) (r : Reading) → KeepsNone id file → reading id file.now ≡ Some r → IsBehind r.end file.now c file.renamed_after (file.changes ++ file.older) → KeepsNone id (changed_by c file)
+none_behind id file c r none e behind = none_more id file c none (λ format left read.
+    let old = left_before id (signature_by id format) file.now c file.renamed_after (file.changes ++ file.older) r e behind left read in
+    none.moments [] file.changes refl format left (read_of_bytes none.latest old))
 
 -- nothing is read and done where nothing was read before
-nothing_read : (id : FileId) (by : Option ℕ) (c : Change) (changes : List Change) → reading id c.before ≡ None → IsEmptyFrom 0 c.after (c ∷ changes) → (left : List Placed) → IsBeginningOf left (readable_records id c.after) → AreDone id by (c ∷ changes) left → left ≡ []
-nothing_read id by c changes unread empty [] begins done = refl
-nothing_read id by c changes unread empty (r ∷ left) begins done =
-    let earlier : HasNothingFrom id 0 c.before changes = λ other q has behind is. absurd (omega (arith, (subst (λ read. Contains (records_of read) q) unread has).1)) in
-    let nothing = has_nothing_after id 0 0 c changes earlier (omega arith) empty in
-    absurd (nothing by r (subst (λ all. Contains all r) (sym begins.1) (0, omega arith, refl)) (omega arith) (done r (0, omega arith, refl)))
+nothing_read : (id : FileId) (by : Option ℕ) (c : Change) (renamed : Option ℕ) (changes : List Change) → reading id c.before ≡ None → GivesNoneFrom 0 c → IsEmptyFrom 0 c.after renamed (c ∷ changes) → (left : List Placed) → AreReadAt id by c.after renamed (c ∷ changes) left → left ≡ []
+nothing_read id by c renamed changes unread none empty [] read = refl
+nothing_read id by c renamed changes unread none empty (r ∷ left) read =
+    let earlier : HasNothingFrom id 0 c.before renamed changes = λ other q has behind is fresh. absurd (omega (arith, (subst (λ read. Contains (records_of read) q) unread has).1)) in
+    let nothing = has_nothing_after id 0 0 c renamed changes earlier (omega arith) none empty in
+    let first : Contains (r ∷ left) r = (0, omega arith, refl) in
+    absurd (nothing by r (subst (λ all. Contains all r) (sym read.beginning.1) (0, omega arith, refl)) (omega arith) (read.done r first) (read.fresh r first))
 
 -- Truncations.
 
-pub cut_behind : (size : ℕ) (is_done : Bool) (after old : List ℕ) (changes : List Change) → size ≤ length old → Outcome is_done (take size old) (IsCutOf size old) after → IsBehind size old (cut_change size is_done after old) changes
-cut_behind size true after old changes within done =
+pub cut_behind : (size : ℕ) (is_done : Bool) (after old : List ℕ) (renamed : Option ℕ) (changes : List Change) → size ≤ length old → Outcome is_done (take size old) (IsCutOf size old) after → IsBehind size old (cut_change size is_done after old) renamed changes
+cut_behind size true after old renamed changes within done =
     let len : length after ≡ size = ap length done ∙ length-take-le size old within in
     record {
       was = refl;
+      given = refl;
+      shortest = omega arith;
       from = omega arith;
       long = omega arith;
       same = sym (take-take size size old (omega arith)) ∙ ap (λ b. take size b) (sym done);
-      empty = λ i above below. absurd (omega arith);
+      empty = inl (λ i above below. absurd (omega arith));
     }
-cut_behind size false after old changes within part =
+cut_behind size false after old renamed changes within part =
     let refused : IsCutRefused size old (cut_change size false after old) = record { from = omega arith; to = omega arith; none = refl; refused = refl; before = refl; part = part } in
     record {
       was = refl;
+      given = refl;
+      shortest = omega (arith, part.no_shorter);
       from = omega arith;
       long = omega (arith, part.no_shorter);
       same = same_cut_refused size old (cut_change size false after old) within refused;
-      empty = empty_cut_refused size old (cut_change size false after old) changes refused;
+      empty = empty_cut_refused size old (cut_change size false after old) renamed changes refused;
     }
 
 -- a truncation to the end of the reading keeps the records
@@ -164,9 +180,9 @@ keeps_cut id format records synced size is_done after file keeps reads cuts outc
     let c = cut_change size is_done after file.now in
     let size_is : size ≡ reads.end = cuts ∙ ap end_of reads.read in
     let within = end_of_read_within id file.now _ reads.read in
-    let behind = cut_behind size is_done after file.now (file.changes ++ file.older) (omega (arith, size_is, within)) outcome in
+    let behind = cut_behind size is_done after file.now file.renamed_after (file.changes ++ file.older) (omega (arith, size_is, within)) outcome in
     subst (λ f. KeepsRecords id format records synced f × ReadsFirst id format (take synced records) f.now) (sym (cut_is size is_done after file))
-    (keeps_behind id format records synced file c keeps reads (subst (λ n. IsBehind n file.now c (file.changes ++ file.older)) size_is behind))
+    (keeps_behind id format records synced file c keeps reads (subst (λ n. IsBehind n file.now c file.renamed_after (file.changes ++ file.older)) size_is behind))
 
 -- .. and adds none
 pub none_cut : (id : FileId) (size : ℕ) (is_done : Bool) (after : List ℕ) (file : File) → KeepsNone id file → size ≡ end_of_reading id file.now → Outcome is_done (take size file.now) (IsCutOf size file.now) after →
@@ -179,13 +195,13 @@ none_cut id size is_done after file none cuts outcome = subst (KeepsNone id) (sy
     past : List Change
     past = file.changes ++ file.older
 
-    by_reading : (read : Option Reading) → reading id file.now ≡ read → KeepsNone id (changed_by c file.rewritten file)
+    by_reading : (read : Option Reading) → reading id file.now ≡ read → KeepsNone id (changed_by c file)
     by_reading None e =
         let size_is : size ≡ 0 = cuts ∙ ap end_of e in
-        let behind = cut_behind size is_done after file.now past (omega (arith, size_is)) outcome in
+        let behind = cut_behind size is_done after file.now file.renamed_after past (omega (arith, size_is)) outcome in
         let unread : reading id c.before ≡ None = ap (reading id) behind.was ∙ e in
-        none_more id file c file.rewritten none (λ format left. nothing_read id (signature_by id format) c past unread (subst (λ n. IsEmptyFrom n c.after (c ∷ past)) size_is behind.empty) left)
+        none_more id file c none (λ format left. nothing_read id (signature_by id format) c file.renamed_after past unread (ungiven 0 c behind.given) (subst (λ n. IsEmptyFrom n c.after file.renamed_after (c ∷ past)) size_is behind.empty) left)
     by_reading (Some r) e =
         let size_is : size ≡ r.end = cuts ∙ ap end_of e in
-        let behind = cut_behind size is_done after file.now past (omega (arith, size_is, end_of_read_within id file.now r e)) outcome in
-        none_behind id file c r none e (subst (λ n. IsBehind n file.now c past) size_is behind)
+        let behind = cut_behind size is_done after file.now file.renamed_after past (omega (arith, size_is, end_of_read_within id file.now r e)) outcome in
+        none_behind id file c r none e (subst (λ n. IsBehind n file.now c file.renamed_after past) size_is behind)

@@ -8,11 +8,17 @@ use Rattle.raft_records.specs.declared.pipe_log.FileId.{FileId}
 use Rattle.raft_files.specs.declared.format.LogFileFormat.{LogFileFormat}
 use Rattle.raft_env.specs.Outcomes.{File, Outcome, IsPartOf, overlaid, written}
 use Rattle.raft_files.specs.Reading.{Placed, readable_records}
-use Rattle.raft_files.specs.Detectable.{signature_by, IsDone}
+use Rattle.raft_files.specs.Detectable.{signature_by, IsDone, IsFreshAfter}
 use Rattle.raft_files.specs.Records.{HoldsRecords, IsWrittenTo, IsTornFrom}
 use Rattle.raft_files.specs.Writer.{IsStep, IsLengthened, IsAppending, IsAppended, IsCutting, IsCut, IsSynced, IsClosed}
 use Rattle.raft_files.proofs.DetectableLemmas.{beginning_append}
-use Rattle.raft_files.proofs.RecordsLemmas.{record_given, keeps_weaker, read_in, read_of_held, ends_in_held, holds_written, written_to_written, written_to_refused, written_to_cut, torn_cut, written_to_synced, torn_synced, moment_of_allocation, moment_of_cut, moment_of_cut_back}
+use Rattle.raft_files.proofs.WriteLemmas.{record_given, holds_written, written_to_written, written_to_refused}
+use Rattle.raft_files.proofs.RecordsLemmas.{keeps_weaker}
+use Rattle.raft_files.proofs.PlacedLemmas.{read_in}
+use Rattle.raft_files.proofs.HeldLemmas.{read_of_held, ends_in_held}
+use Rattle.raft_files.proofs.LengthLemmas.{written_to_cut, torn_cut}
+use Rattle.raft_files.proofs.SyncLemmas.{written_to_synced, torn_synced}
+use Rattle.raft_files.proofs.MomentLemmas.{moment_of_allocation, moment_of_cut, moment_of_cut_back}
 
 -- where nothing was written the file isn't torn
 pub torn_from_written : (id : FileId) (format : LogFileFormat) (records in_flight : List Placed) (synced at : ℕ) (file : File) → length in_flight ≤ 1 → IsWrittenTo id format records synced at file → IsTornFrom id format records in_flight synced at file
@@ -21,7 +27,7 @@ torn_from_written id format records in_flight synced at file few w = record {
   few = w.keeps.few;
   holds = w.holds;
   few_in_flight = few;
-  only = λ r has behind done. absurd (w.nothing (signature_by id format) r has behind done);
+  only = λ r has behind done fresh. absurd (w.nothing (signature_by id format) r has behind done fresh);
 }
 
 -- .. nor where the next record was written whole
@@ -35,9 +41,9 @@ torn_from_more id format records in_flight synced at end file few holds enough w
   only = only;
 }
   where
-    only : (r : Placed) → Contains (readable_records id file.now) r → at ≤ r.at → IsDone id (signature_by id format) (file.changes ++ file.older) r → Contains in_flight r
-    only r has behind done = elim (read_of_held id format (records ++ in_flight) end file.now w.holds r has) [
-      | inr further ↦ absurd (w.nothing (signature_by id format) r has further done)
+    only : (r : Placed) → Contains (readable_records id file.now) r → at ≤ r.at → IsDone id (signature_by id format) (file.changes ++ file.older) r → IsFreshAfter file.renamed_after (file.changes ++ file.older) r.at → Contains in_flight r
+    only r has behind done fresh = elim (read_of_held id format (records ++ in_flight) end file.now w.holds r has) [
+      | inr further ↦ absurd (w.nothing (signature_by id format) r has further done fresh)
       | inl inside ↦ elim (Contains-append_cases records in_flight r inside) [
         | inr last ↦ last
         | inl first ↦ absurd (omega (arith, (read_in id file.now r has).long, ends_in_held id format records at file.now holds r first))

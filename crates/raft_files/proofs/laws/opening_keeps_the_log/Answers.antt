@@ -1,5 +1,6 @@
 use Rattle.std.proofs.Common.{refl}
 use Rattle.raft_files.proofs.KeptLemmas.{kept_created, kept_truncating, kept_opening, log_found_cut}
+use Rattle.raft_files.proofs.ReusedLemmas.{kept_renamed, kept_reusing, log_reused}
 use Rattle.raft_files.proofs.laws.opening_keeps_the_log.Goals as goal
 
 pub returns-clause-created : goal.returns-clause-created
@@ -13,3 +14,14 @@ returns-clause-header c = λ path id format batches synced old n kept empty how.
 
 pub returns-clause-found : goal.returns-clause-found
 returns-clause-found c = log_found_cut
+
+pub returns-clause-renamed : goal.returns-clause-renamed
+returns-clause-renamed c = λ src path id other batches synced old kept has. kept_renamed src path other batches synced old kept has id
+
+pub returns-clause-reusing : goal.returns-clause-reusing
+returns-clause-reusing c = λ src path id other format batches synced old n room new_room kept has header_fits fits change.
+    kept_reusing src path other batches synced old kept has id format room new_room header_fits fits n change
+
+pub returns-clause-reused : goal.returns-clause-reused
+returns-clause-reused c = λ src path id other format batches synced old mid new room new_room kept has header_fits fits first change.
+    log_reused src path other batches synced old kept has id format room new_room header_fits fits mid new first change

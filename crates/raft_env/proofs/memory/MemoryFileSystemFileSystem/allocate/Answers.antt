@@ -1,6 +1,6 @@
 use Rattle.std.proofs.Common.{◌≡◌, true, ◌+◌, ◌-◌, length, ◌∷◌, map, ap, rules}
 use Rattle.std.specs.String.{string_bytes}
-use Rattle.raft_env.specs.Outcomes.{resized, padded, IsPartOf}
+use Rattle.raft_env.specs.Outcomes.{resized, lengthened_to, padded, IsPartOf}
 use Rattle.raft_env.specs.Directory.{changed}
 use Rattle.raft_env.specs.Files.{tree_directory}
 use Rattle.raft_env.proofs.MomentsLemmas.{passes_one}
@@ -11,7 +11,7 @@ use Rattle.raft_env.proofs.memory.MemoryFileSystemFileSystem.allocate.Goals as g
 pub returns-clause-any_moment : goal.returns-clause-any_moment
 returns-clause-any_moment c =
     let is : tree_directory c.lengthen.new.self ≡ changed (string_bytes c.args.writer.now.path) (λ f. resized true (padded f.now (c.args.at + c.args.size)) f) (tree_directory c.args.self.now.tree) = search rules in
-    passes_one _ _ _ _ (ap (λ l. tree_directory c.lengthen.new.self ∷ map tree_directory l) c.with-past.ensures) (changing_done (string_bytes c.args.writer.now.path) resized (λ now. padded now (c.args.at + c.args.size)) (λ now. IsPartOf (length now) (c.args.at + c.args.size - length now) now) _ _ is)
+    passes_one _ _ _ _ (ap (λ l. tree_directory c.lengthen.new.self ∷ map tree_directory l) c.with-past.ensures) (changing_done (string_bytes c.args.writer.now.path) (lengthened_to (c.args.at + c.args.size)) (λ now. padded now (c.args.at + c.args.size)) (λ now. IsPartOf (length now) (c.args.at + c.args.size - length now) now) _ _ is)
 
 pub invariant_of-self-in-Err : goal.invariant_of-self-in-Err
 invariant_of-self-in-Err c = invariant-same c.args.self.now _ c.in-Err.ensures.err
