@@ -7,6 +7,7 @@ pub mod Stepped
 pub mod PathParts
 pub mod Armed
 pub mod Files
+pub mod Counted
 pub mod Memory
 pub mod Refused
 pub mod Choice

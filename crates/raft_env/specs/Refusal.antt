@@ -1,42 +1,75 @@
--- When a count of refusals rises, and the fault of a refused call.
-use Rattle.std.specs.Prelude.{◌≡◌, ℕ, ◌+◌, ◌-◌, ◌^◌, ◌≤◌, min, Result, MatchResult, String}
+-- How often calls were refused, when these counts rise, and the fault of a refused call.
+use Rattle.std.specs.Prelude.{◌≡◌, ◌⊎◌, ℕ, ◌+◌, ◌-◌, ◌^◌, ◌<◌, ◌≤◌, min, List, [], Result, MatchResult, String}
 use Rattle.std.specs.declared.alloc.Global.{Global}
+use Rattle.std.specs.String.{string_bytes}
 use Rattle.raft_records.specs.declared.errors.Fault.{Fault}
 use Rattle.raft_records.specs.declared.errors.Fault.TheVariants as fault
 use Rattle.raft_env.specs.declared.env.FsFault.{FsFault}
 use Rattle.raft_env.specs.declared.env.FsFault.TheVariants.{Io, Memory}
 
--- the count rose, or it is full
-abbrev pub Rose : ℕ → ℕ → Type 0
-Rose old new = min (old + 1) (2 ^ 64 - 1) ≤ new
+pub record Refusals : Type 0 where
+  -- by storage, which stops at 2^64 - 1
+  pub storage : ℕ
+  -- for want of memory
+  pub memory : ℕ
 
-abbrev pub CountsFault : FsFault → ℕ → ℕ → Type 0
-CountsFault (Io kind) old new = Rose old new × (old ≤ new)
-CountsFault Memory old new = new ≡ old
+abbrev pub no_refusals : Refusals
+no_refusals = record { storage = 0; memory = 0 }
 
--- the count stays at `Ok` and where memory is wanting, and rises at each other `Err`
-abbrev pub Counts : {T : Type 0} → Result T FsFault → ℕ → ℕ → Type 0
-Counts result old new = MatchResult result (λ _. new ≡ old) (λ e. CountsFault e old new)
+-- storage's count rose, or it is full
+abbrev pub Rose : Refusals → Refusals → Type 0
+Rose old new = min (old.storage + 1) (2 ^ 64 - 1) ≤ new.storage
 
--- a saturating sum of counts
-abbrev pub added_count : ℕ → ℕ → ℕ
-added_count a b = min (a + b) (2 ^ 64 - 1)
+-- no count fell
+abbrev pub NoFewer : Refusals → Refusals → Type 0
+NoFewer old new = (old.storage ≤ new.storage) × (old.memory ≤ new.memory)
 
-abbrev pub CausedByFault : FsFault → ℕ → ℕ → Type 0
-CausedByFault (Io kind) old new = Rose old new × (old ≤ new)
-CausedByFault Memory old new = old ≤ new
+-- no count moved
+abbrev pub NoneCounted : Refusals → Refusals → Type 0
+NoneCounted old new = (new.storage ≡ old.storage) × (new.memory ≡ old.memory)
 
--- the count may rise, and rose where storage's refusal is answered
-abbrev pub CausedBy : {T : Type 0} → Result T FsFault → ℕ → ℕ → Type 0
-CausedBy result old new = MatchResult result (λ _. old ≤ new) (λ e. CausedByFault e old new)
+-- a file call's fault is counted as what it is
+abbrev pub CountsFault : FsFault → Refusals → Refusals → Type 0
+CountsFault (Io kind) old new = Rose old new × (old.storage ≤ new.storage) × (new.memory ≡ old.memory)
+CountsFault Memory old new = (new.storage ≡ old.storage) × (old.memory < new.memory)
 
--- the fault for a refused file call
-abbrev pub IsFaultOf : FsFault → Fault → Type 0
-IsFaultOf (Io kind) f = (path : String Global) × (f ≡ fault.Io kind path)
-IsFaultOf Memory f = f ≡ fault.Memory
+-- .. and at `Ok` nothing is counted
+abbrev pub Counts : {T : Type 0} → Result T FsFault → Refusals → Refusals → Type 0
+Counts result old new = MatchResult result (λ _. NoneCounted old new) (λ e. CountsFault e old new)
 
--- by storage, where its count rose in the call, or for want of memory
-abbrev pub IsFileRefusal : ℕ → ℕ → Fault → Type 0
+-- the same of a call that may also want memory of its own, which no file system counts
+abbrev pub CountsStorageFault : FsFault → Refusals → Refusals → Type 0
+CountsStorageFault (Io kind) old new = CountsFault (Io kind) old new
+CountsStorageFault Memory old new = (new.storage ≡ old.storage) × (old.memory ≤ new.memory)
+
+abbrev pub CountsStorage : {T : Type 0} → Result T FsFault → Refusals → Refusals → Type 0
+CountsStorage result old new = MatchResult result (λ _. NoneCounted old new) (λ e. CountsStorageFault e old new)
+
+-- sums of counts, the first of them saturating
+abbrev pub added_count : Refusals → Refusals → Refusals
+added_count a b = record { storage = min (a.storage + b.storage) (2 ^ 64 - 1); memory = a.memory + b.memory }
+
+-- no count fell, and storage's rose where its refusal is answered; the call may also want memory of its own
+abbrev pub CausedByFault : FsFault → Refusals → Refusals → Type 0
+CausedByFault (Io kind) old new = Rose old new × NoFewer old new
+CausedByFault Memory old new = NoFewer old new
+
+abbrev pub CausedBy : {T : Type 0} → Result T FsFault → Refusals → Refusals → Type 0
+CausedBy result old new = MatchResult result (λ _. NoFewer old new) (λ e. CausedByFault e old new)
+
+-- the fault for a refused file call; it names the path, or nothing where memory for that was wanting
+abbrev pub IsFaultOf : List ℕ → FsFault → Fault → Type 0
+IsFaultOf path (Io kind) f = (named : String Global) × (f ≡ fault.Io kind named) × ((string_bytes named ≡ path) ⊎ (string_bytes named ≡ []))
+IsFaultOf path Memory f = f ≡ fault.Memory
+
+-- by a file call: by storage or for want of memory, where that count rose in the call
+abbrev pub IsFileRefusal : Refusals → Refusals → Fault → Type 0
 IsFileRefusal old new (fault.Io kind path) = Rose old new
-IsFileRefusal old new fault.Memory = Unit {0}
+IsFileRefusal old new fault.Memory = old.memory < new.memory
 IsFileRefusal old new _ = ⊥
+
+-- the same of a call that may also want memory of its own
+abbrev pub IsRefusal : Refusals → Refusals → Fault → Type 0
+IsRefusal old new (fault.Io kind path) = Rose old new
+IsRefusal old new fault.Memory = Unit {0}
+IsRefusal old new _ = ⊥

@@ -1,5 +1,5 @@
 -- Why a call on files in memory was refused.
-use Rattle.std.specs.Prelude.{◌≡◌, ◌⊎◌, ℕ, ◌+◌, ◌<◌, ◌^◌, Bool, true, false, List, Option, None}
+use Rattle.std.specs.Prelude.{◌≡◌, ◌⊎◌, ℕ, ◌+◌, ◌<◌, ◌^◌, true, false, List, Option, Some, None, Result, Err, IfErr}
 use Rattle.std.specs.List.{list_any}
 use Rattle.std.specs.FinMap as map
 use Rattle.raft_records.specs.declared.errors.IoKind.TheVariants.{NoSpace, NotFound, Other}
@@ -7,13 +7,17 @@ use Rattle.raft_records.specs.declared.errors.IoKind.{IoKind}
 use Rattle.raft_env.specs.declared.env.FsFault.{FsFault}
 use Rattle.raft_env.specs.declared.env.FsFault.TheVariants.{Io, Memory}
 use Rattle.raft_env.specs.declared.armed.FsCall.{FsCall}
-use Rattle.raft_env.specs.Armed.{IsArmed, IsForced}
+use Rattle.raft_env.specs.Armed.{IsArmed}
 use Rattle.raft_env.specs.Directory.{Directory, Path, file_at, is_on_way}
 use Rattle.raft_env.specs.PathParts.{IsParent}
 
+-- no file stands there
+abbrev pub IsAbsent : Directory → Path → FsFault → Type 0
+IsAbsent n path fault = (fault ≡ Io NotFound) × (file_at n path ≡ None)
+
 -- memory was wanting, or no file stands there
 abbrev pub IsMissing : Directory → Path → FsFault → Type 0
-IsMissing n path fault = (fault ≡ Memory) ⊎ ((fault ≡ Io NotFound) × (file_at n path ≡ None))
+IsMissing n path fault = (fault ≡ Memory) ⊎ IsAbsent n path fault
 
 -- memory was wanting, or no folder stands there
 abbrev pub HasNoFolder : Directory → Path → FsFault → Type 0
@@ -34,16 +38,12 @@ IsBarred n path fault = (fault ≡ Memory) ⊎ ((fault ≡ Io Other) × (list_an
 abbrev pub HasNoRoom : ℕ → ℕ → FsFault → Type 0
 HasNoRoom at size fault = (fault ≡ Io NoSpace) × (2 ^ 62 < at + size)
 
--- memory was wanting, or the handle was opened to be read only
-abbrev pub MayNotWrite : Bool → FsFault → Type 0
-MayNotWrite may_write fault = (fault ≡ Memory) ⊎ ((fault ≡ Io Other) × (may_write ≡ false))
-
--- the call was armed to be refused so
+-- a refusal of this kind is armed for such calls
 abbrev pub WasArmed : List (FsCall × ℕ × IoKind) → FsCall → FsFault → Type 0
 WasArmed armed call (Io kind) = IsArmed armed call kind
 WasArmed armed call Memory = ⊥
 
--- the same of a call that changes files, or the stop came
-abbrev pub WasForced : List (FsCall × ℕ × IoKind) → Option ℕ → FsCall → FsFault → Type 0
-WasForced armed stop call (Io kind) = IsForced armed stop call kind
-WasForced armed stop call Memory = ⊥
+-- an injected refusal is answered, and without one the call is refused only for a cause of its own
+abbrev pub RefusesAs : {T : Type 0} → Option IoKind → (FsFault → Type 0) → Result T FsFault → Type 0
+RefusesAs None IsCause result = IfErr result IsCause
+RefusesAs (Some kind) IsCause result = result ≡ Err (Io kind)

@@ -1,6 +1,5 @@
 //! Refusals that a test arms in a file system in memory.
-ghost use Rattle.std.specs.Prelude.{◌≡◌, ◌<◌, [], ◌∷◌, ◌++◌, Some, None, OnOk, OnErr, IfErr, IfSome, IsTrue};
-ghost use Rattle.raft_records.specs.declared.errors.IoKind.TheVariants.{Other};
+ghost use Rattle.std.specs.Prelude.{◌≡◌, ◌<◌, [], ◌∷◌, ◌++◌, Some, None, OnOk, OnErr, IfErr, IfSome, IsTrue, not};
 ghost use Rattle.raft_env.specs.Choice.{RefusesUnless};
 
 use crate::IoKind;
@@ -33,18 +32,39 @@ pub enum FsCall {
 #[derive(Drop)]
 pub(crate) struct ArmedRefusal {
     call: FsCall,
-    nth: u64,
+    // How many calls of that sort come up to the refused one, which is one of them; reads don't count here.
+    left: u64,
     kind: IoKind,
-    // How many calls are left up to the refused one.
-    left: AtomicU64,
+    // The same of reads, which share the file system. No clause tells its value.
+    reads_left: AtomicU64,
 }
 
 impl ArmedRefusal {
-    // Counts a call of its sort, and says whether that is the refused one.
+    ghost use Rattle.raft_env.specs.Armed.{arm_of, is_due, one_less, same_call};
+
     fn is_due(&self, call: FsCall) -> bool
-        ensures { IsTrue result → self.now.call ≡ call }
+        ensures { result ≡ is_due call (arm_of self.now) }
     {
-        self.call == call && self.left.fetch_sub(1, Ordering::SeqCst) == 1
+        call == self.call && self.left <= 1
+    }
+
+    // Counts a call, and says whether the refusal stays armed.
+    fn stays_after(&mut self, call: FsCall) -> bool
+        ensures stays { result ≡ not (is_due call (arm_of self.old)) }
+        ensures less { arm_of self.new ≡ one_less call (arm_of self.old) }
+    {
+        let is_due = self.is_due(call);
+        if call == self.call {
+            self.left = self.left.saturating_sub(1);
+        }
+        !is_due
+    }
+
+    // Counts a read, and says whether that is the refused one.
+    fn is_due_read(&self) -> bool
+        ensures { IsTrue result → self.now.call ≡ FsCall.Read }
+    {
+        self.call == FsCall::Read && self.reads_left.fetch_sub(1, Ordering::SeqCst) == 1
     }
 }
 
@@ -55,7 +75,7 @@ pub(crate) struct Armed {
 }
 
 impl Armed {
-    ghost use Rattle.raft_env.specs.Armed.{IsArmed, IsForced, IsStopped, arms_of, stop_after};
+    ghost use Rattle.raft_env.specs.Armed.{IsArmed, arm_of, arms_after, arms_of, due_kind, injected, is_due, one_less, stop_after};
 
     pub(crate) fn new(alloc: Global) -> Armed
         ensures refusals { arms_of result.refusals.items ≡ [] }
@@ -67,25 +87,38 @@ impl Armed {
         }
     }
 
-    /// Counts the call, and says as what it is to be refused.
-    pub(crate) fn due(&self, call: FsCall) -> Option<IoKind>
-        ensures value { IfSome result (λ kind. IsArmed (arms_of self.now.refusals.items) call kind) }
+    // As what the next call of that sort is to be refused.
+    fn due_kind(&self, call: FsCall) -> Option<IoKind>
+        ensures { result ≡ due_kind call (arms_of self.now.refusals.items) }
     {
-        let mut due = None;
         for armed in &self.refusals {
             if armed.is_due(call) {
-                due = Some(armed.kind);
+                return Some(armed.kind);
             }
         }
+        None
+    }
+
+    /// Counts the call, and says as what it is to be refused.
+    pub(crate) fn due(&mut self, call: FsCall) -> Option<IoKind>
+        ensures value { result ≡ due_kind call (arms_of self.old.refusals.items) }
+        ensures armed { arms_of self.new.refusals.items ≡ arms_after call (arms_of self.old.refusals.items) }
+        ensures stop { self.new.stop ≡ self.old.stop }
+    {
+        let due = self.due_kind(call);
+        let stays = |armed: &mut ArmedRefusal| -> bool
+            ensures { (result ≡ not (is_due call (arm_of armed.entry.now)))
+                × (arm_of armed.exit.now ≡ one_less call (arm_of armed.entry.now)) }
+        { armed.stays_after(call) };
+        self.refusals.retain_mut(stays);
         due
     }
 
     /// The same of a call that changes files, which counts for the stop too.
     pub(crate) fn due_change(&mut self, call: FsCall) -> Option<IoKind>
-        ensures value { IfSome result (λ kind. IsForced (arms_of self.old.refusals.items) self.old.stop call kind) }
-        ensures stopped { IsStopped self.old.stop → result ≡ Some Other }
+        ensures value { result ≡ injected call (arms_of self.old.refusals.items) self.old.stop }
+        ensures armed { arms_of self.new.refusals.items ≡ arms_after call (arms_of self.old.refusals.items) }
         ensures stop { self.new.stop ≡ stop_after self.old.stop }
-        ensures unchanged { arms_of self.new.refusals.items ≡ arms_of self.old.refusals.items }
     {
         let due = self.due(call);
         match self.stop {
@@ -97,14 +130,27 @@ impl Armed {
             None => due,
         }
     }
+
+    /// The same of a read. Reads may come at once, so what is armed doesn't tell which of them is refused.
+    pub(crate) fn due_read(&self) -> Option<IoKind>
+        ensures { IfSome result (λ kind. IsArmed (arms_of self.now.refusals.items) FsCall.Read kind) }
+    {
+        let mut due = None;
+        for armed in &self.refusals {
+            if armed.is_due_read() {
+                due = Some(armed.kind);
+            }
+        }
+        due
+    }
 }
 
 impl MemoryFileSystem {
     ghost use Rattle.raft_env.specs.Memory.{memory_directory, memory_moments, memory_refusals, armed_of, stop_of};
 
-    /// Arms one more refusal: of the calls of that sort from now on, the nth, counted from 1, is refused so. A write
-    /// that is refused so has written the first half of its bytes, unless it could not have written them all, and any
-    /// other call has changed nothing.
+    /// Arms one more refusal: of the calls of that sort from now on, the nth, counted from 1, and no other is refused
+    /// so. A write that is refused so has written the first half of its bytes, if all of them had room and memory
+    /// for the half was there; any other call has changed nothing.
     pub fn refuse(&mut self, call: FsCall, nth: u64, kind: IoKind) -> Result<(), Fault>
         ensures ok { OnOk result (armed_of self.new ≡ armed_of self.old ++ (call, nth, kind) ∷ []) }
         ensures err { OnErr result (armed_of self.new ≡ armed_of self.old) }
@@ -118,12 +164,11 @@ impl MemoryFileSystem {
         if nth == 0 {
             return Err(Fault::InvalidArgument("calls are counted from 1"));
         }
-        let left = AtomicU64::new(nth);
         self.armed.refusals.push(ArmedRefusal {
             call,
-            nth,
+            left: nth,
             kind,
-            left,
+            reads_left: AtomicU64::new(nth),
         })?;
         Ok(())
     }
@@ -138,57 +183,5 @@ impl MemoryFileSystem {
         ensures cause { memory_refusals self.new ≡ memory_refusals self.old }
     {
         self.armed.stop = Some(nth);
-    }
-}
-
-#[cfg(test)]
-mod tests {
-    use super::*;
-    use crate::{FileSystem, FsFault, Permission};
-    use std::test::Fail;
-
-    fn is_full<T: Drop>(answer: Result<T, FsFault>) -> bool {
-        matches!(&answer, Err(FsFault::Io(IoKind::NoSpace)))
-    }
-
-    fn is_stopped<T: Drop>(answer: Result<T, FsFault>) -> bool {
-        matches!(&answer, Err(FsFault::Io(IoKind::Other)))
-    }
-
-    #[test]
-    fn armed_calls_are_refused(rt: HostRuntime) -> Result<(), Fail> {
-        use FsCall::*;
-        let mut fs = MemoryFileSystem::new(rt.alloc());
-        let handle = fs.create("a")?;
-        let mut writer = fs.new_writer(&handle)?;
-        let mut reader = fs.new_reader(&handle)?;
-        for call in [
-            Create, Open, NewReader, NewWriter, Write, Truncate, Allocate, Sync, FileSize, MakeDir,
-            List, Read,
-        ] {
-            fs.refuse(call, 1, IoKind::NoSpace)?;
-        }
-        fs.refuse(Write, 3, IoKind::NoSpace)?;
-        assert!(rt; fs.refuse(Sync, 0, IoKind::NoSpace).is_err());
-        assert!(rt; is_full(fs.create("b")) && is_full(fs.open("a", Permission::ReadOnly)));
-        assert!(rt; is_full(fs.new_reader(&handle)) && is_full(fs.new_writer(&handle)));
-        assert!(rt;
-            is_full(fs.write(&mut writer, 0, b"abcde")) && is_full(fs.truncate(&mut writer, 0))
-        );
-        assert!(rt; is_full(fs.allocate(&mut writer, 0, 9)) && is_full(fs.sync(&mut writer)));
-        assert!(rt;
-            is_full(fs.file_size(&handle)) && is_full(fs.make_dir("d")) && is_full(fs.list(""))
-        );
-        assert!(rt; is_full(fs.read(&mut reader, 0, &mut [0])));
-        assert_eq!(rt; fs.file_size(&handle)?, 2);
-        fs.write(&mut writer, 2, b"cd")?;
-        assert!(rt; is_full(fs.write(&mut writer, 4, b"ef")));
-        fs.stop_at(2);
-        fs.write(&mut writer, 0, b"x")?;
-        assert!(rt; is_stopped(fs.sync(&mut writer)) && is_stopped(fs.create("b")));
-        assert_eq!(rt; fs.file_size(&handle)?, 5);
-        assert_eq!(rt; fs.refusals(), 14);
-        assert_eq!(rt; fs.read_refusals(&reader), 1);
-        Ok(())
     }
 }

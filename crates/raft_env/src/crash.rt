@@ -10,6 +10,7 @@ ghost use Rattle.raft_env.specs.Consistent.{AreConsistent, NoneRenamed, OnlyWrit
 use crate::armed::Armed;
 use crate::history::History;
 use crate::memory::MemoryFileSystem;
+use crate::refusals::RefusalCount;
 use crate::slot::Slot;
 use crate::tree::{Files, Tree};
 use raft_records::Fault;
@@ -33,6 +34,7 @@ pub enum Choice {
 impl MemoryFileSystem {
     ghost use Rattle.raft_env.specs.Choice.{left_by, RefusesUnless};
     ghost use Rattle.raft_env.specs.Memory.{memory_directory, memory_moments, memory_refusals, armed_of, stop_of};
+    ghost use Rattle.raft_env.specs.Refusal.{no_refusals};
 
     /// The files after a crash now. The choices go to the files in the order of their paths' bytes, and a file that is
     /// left over keeps what was synced. Folders stay. The files are consistent, none was renamed, and of their
@@ -43,7 +45,7 @@ impl MemoryFileSystem {
         ensures ok { IfOk result (λ m. IsRestarted (memory_directory self.now)
             (left_by choices.now (memory_directory self.now)) (memory_directory m)) }
         ensures any_moment { IfOk result (λ m. memory_moments m ≡ memory_directory m ∷ []) }
-        ensures cause { IfOk result (λ m. memory_refusals m ≡ 0) }
+        ensures cause { IfOk result (λ m. memory_refusals m ≡ no_refusals) }
         ensures others { IfOk result (λ m. (armed_of m ≡ []) × (stop_of m ≡ None)) }
         ensures consistent { AreConsistent (memory_directory self.now) }
         ensures only_writes { OnlyWritesRefusedIn (memory_directory self.now) }
@@ -56,7 +58,7 @@ impl MemoryFileSystem {
             alloc: self.alloc,
             tree: self.tree.crashed(self.alloc, choices)?,
             past: History::new(),
-            refusals: 0,
+            refusals: RefusalCount::new(),
             armed: Armed::new(self.alloc),
         })
     }
@@ -126,67 +128,4 @@ fn copies_of(alloc: Global, texts: &[String]) -> Result<Vec<String>, AllocError>
         copies.push(text.clone()?)?;
     }
     Ok(copies)
-}
-
-#[cfg(test)]
-mod tests {
-    use super::*;
-    use crate::{FileSystem, Permission};
-    use std::process::Abort;
-    use std::test::Fail;
-
-    // The file `a` after a crash has this size and these bytes, with zeros behind them.
-    fn leaves(
-        rt: &impl Abort,
-        fs: &MemoryFileSystem,
-        choices: &[Choice],
-        size: usize,
-        bytes: [u8; 6],
-    ) -> Result<(), Fail> {
-        let mut left = fs.crash(choices)?;
-        let handle = left.open("a", Permission::ReadOnly)?;
-        let mut reader = left.new_reader(&handle)?;
-        let mut read = [0; 6];
-        assert_eq!(rt; left.read(&mut reader, 0, &mut read)?, size);
-        assert_eq!(rt; read, bytes);
-        Ok(())
-    }
-
-    #[test]
-    fn a_crash_leaves_what_was_chosen(rt: HostRuntime) -> Result<(), Fail> {
-        let alloc = rt.alloc();
-        let mut fs = MemoryFileSystem::new(alloc);
-        let handle = fs.create("a")?;
-        let mut writer = fs.new_writer(&handle)?;
-        fs.write(&mut writer, 0, b"abcd")?;
-        fs.sync(&mut writer)?;
-        fs.write(&mut writer, 2, b"xyz")?;
-        leaves(&rt, &fs, &[Choice::All], 5, *b"abxyz\0")?;
-        leaves(&rt, &fs, &[Choice::Synced], 4, *b"abcd\0\0")?;
-        leaves(&rt, &fs, &[], 4, *b"abcd\0\0")?;
-        leaves(&rt, &fs, &[Choice::Torn(1, b'?')], 5, *b"abx??\0")?;
-        let allowed = Choice::Bytes(b"abQR".to_vec(alloc)?);
-        leaves(&rt, &fs, &[allowed], 4, *b"abQR\0\0")?;
-        let other = Choice::Bytes(b"zbcd".to_vec(alloc)?);
-        assert!(rt; matches!(&fs.crash(&[other]), Err(Fault::InvalidArgument(_))));
-        Ok(())
-    }
-
-    #[test]
-    fn what_was_written_over_comes_back(rt: HostRuntime) -> Result<(), Fail> {
-        let mut fs = MemoryFileSystem::new(rt.alloc());
-        let handle = fs.create("a")?;
-        let mut writer = fs.new_writer(&handle)?;
-        fs.write(&mut writer, 0, b"abcdef")?;
-        fs.sync(&mut writer)?;
-        fs.write(&mut writer, 3, b"12")?;
-        fs.truncate(&mut writer, 2)?;
-        fs.write(&mut writer, 1, b"34567890")?;
-        fs.write(&mut writer, 4, b"x")?;
-        leaves(&rt, &fs, &[Choice::Synced], 6, *b"abcdef")?;
-        fs.sync(&mut writer)?;
-        fs.truncate(&mut writer, 4)?;
-        leaves(&rt, &fs, &[Choice::Synced], 6, *b"a345x7")?;
-        Ok(())
-    }
 }

@@ -1,10 +1,10 @@
 //! What the engine assumes of storage: files by their paths, and what a crash at each moment may leave of them.
-ghost use Rattle.std.specs.Prelude.{◌≡◌, ◌↔◌, ◌<◌, ◌+◌, ◌^◌, ◌∷◌, List, ℕ, Bool, true, false, length, take, map, IfOk, OnOk, OnErr, Some, is_some};
+ghost use Rattle.std.specs.Prelude.{◌≡◌, ◌⊎◌, ◌↔◌, ◌<◌, ◌+◌, ◌^◌, [], ◌∷◌, List, ℕ, Bool, true, false, length, take, map, IfOk, OnOk, OnErr, Some, is_some};
 ghost use Rattle.std.specs.String.{string_bytes};
 ghost use Rattle.raft_env.specs.Outcomes.{File, written, resized, synced_of, overlaid, padded};
 ghost use Rattle.raft_env.specs.Directory.{Path, Directory, file_at, changed, created, folder_made, IsWriting, IsTruncating, IsAllocating, IsOneOf, ReadsAt, names_in, HasFile};
 ghost use Rattle.raft_env.specs.Moments.{Passes};
-ghost use Rattle.raft_env.specs.Refusal.{Counts, added_count};
+ghost use Rattle.raft_env.specs.Refusal.{Counts, Refusals, added_count, no_refusals};
 ghost use Rattle.raft_env.specs.declared.env.FsFault.TheVariants.{Memory};
 
 use raft_records::Fault;
@@ -17,7 +17,7 @@ pub enum Permission {
     ReadWrite,
 }
 
-/// Why a file call was refused: by storage, which is counted, or for want of memory, which isn't.
+/// Why a file call was refused: by storage, or for want of memory, which is counted for clauses alone.
 #[derive(Clone, Copy, Debug, PartialEq, Eq)]
 pub enum FsFault {
     Io(IoKind),
@@ -25,21 +25,29 @@ pub enum FsFault {
 }
 
 impl FsFault {
-    ghost use Rattle.raft_env.specs.Refusal.{CausedByFault, IsFaultOf, IsFileRefusal};
+    ghost use Rattle.raft_env.specs.Refusal.{CausedByFault, CountsFault, IsFaultOf, IsFileRefusal, IsRefusal};
 
-    /// The fault of a file call that was refused so; its path is empty where there is no memory for it.
-    pub fn at(self, alloc: Global, path: &str) -> Fault
-        ensures value { IsFaultOf self result }
-        ensures cause { (old new : ℕ) → CausedByFault self old new → IsFileRefusal old new result }
+    /// The fault of a call on the file at the path; it names no path where there is no memory for it.
+    pub fn with_path(self, alloc: Global, path: &str) -> Fault
+        ensures value { IsFaultOf path.now self result }
+        ensures cause { (old new : Refusals) → CausedByFault self old new → IsRefusal old new result }
+        ensures counted { (old new : Refusals) → CountsFault self old new → IsFileRefusal old new result }
         ensures not_failed { result ≡ Fault.Failed → ⊥ }
     {
         match self {
             FsFault::Memory => Fault::Memory,
-            FsFault::Io(kind) => {
-                let path = String::from_str(alloc, path).unwrap_or(String::new(alloc));
-                Fault::Io(kind, path)
-            }
+            FsFault::Io(kind) => Fault::Io(kind, named(alloc, path)),
         }
+    }
+}
+
+// The path, or nothing where there is no memory for it.
+fn named(alloc: Global, path: &str) -> String
+    ensures { (string_bytes result ≡ path.now) ⊎ (string_bytes result ≡ []) }
+{
+    match String::from_str(alloc, path) {
+        Ok(path) => path,
+        Err(_) => String::new(alloc),
     }
 }
 
@@ -74,8 +82,8 @@ pub trait FileSystem: Send + Sync {
     /// Each directory that there was, the newest first. A crash comes at one of these moments.
     ghost moments: { Self → List Directory };
 
-    /// How many calls storage refused.
-    ghost refusals_of: { Self → ℕ };
+    /// How many calls were refused.
+    ghost refusals_of: { Self → Refusals };
 
     ghost handle_path: { Self.Handle → Path };
 
@@ -83,7 +91,7 @@ pub trait FileSystem: Send + Sync {
 
     ghost reader_path: { Self.Reader → Path };
 
-    ghost reader_refusals: { Self.Reader → ℕ };
+    ghost reader_refusals: { Self.Reader → Refusals };
 
     ghost writer_path: { Self.Writer → Path };
 
@@ -104,12 +112,12 @@ pub trait FileSystem: Send + Sync {
         ensures cause { Counts result (refusals_of self.old) (refusals_of self.new) };
 
     fn new_reader(&mut self, handle: &Self::Handle) -> Result<Self::Reader, FsFault>
-        ensures reader { IfOk result (λ r. (reader_path r ≡ handle_path handle.now) × (reader_refusals r ≡ 0)) }
+        ensures reader { IfOk result (λ r. (reader_path r ≡ handle_path handle.now) × (reader_refusals r ≡ no_refusals)) }
         ensures unchanged { directory self.new ≡ directory self.old }
         ensures any_moment { moments self.new ≡ moments self.old }
         ensures cause { Counts result (refusals_of self.old) (refusals_of self.new) };
 
-    /// Adds the reader's count of refusals to that of the file system.
+    /// Adds the reader's refusals to those of the file system.
     fn end_reader(&mut self, reader: Self::Reader)
         ensures unchanged { directory self.new ≡ directory self.old }
         ensures any_moment { moments self.new ≡ moments self.old }
@@ -202,25 +210,12 @@ pub trait FileSystem: Send + Sync {
 
     /// How many calls storage refused, but for the reads, which their readers count. It stops at 2^64 - 1.
     fn refusals(&self) -> u64
-        ensures value { result ≡ refusals_of self.now };
+        ensures value { result ≡ (refusals_of self.now).storage };
 
+    /// The same of the calls of this reader.
     fn read_refusals(&self, reader: &Self::Reader) -> u64
-        ensures value { result ≡ reader_refusals reader.now };
+        ensures value { result ≡ (reader_refusals reader.now).storage };
 
     /// Now is a moment.
     ghost now_counts: { (fs : Self) → (earlier : List Directory) × (moments fs ≡ directory fs ∷ earlier) };
-}
-
-#[cfg(test)]
-mod tests {
-    use super::*;
-    use std::test::Fail;
-
-    #[test]
-    fn a_fault_has_the_kind_and_the_path(rt: HostRuntime) -> Result<(), Fail> {
-        let fault = FsFault::Io(IoKind::NotFound).at(rt.alloc(), "log");
-        assert!(rt; matches!(&fault, Fault::Io(IoKind::NotFound, path) if path.as_str() == "log"));
-        assert!(rt; matches!(&FsFault::Memory.at(rt.alloc(), "log"), Fault::Memory));
-        Ok(())
-    }
 }

@@ -15,13 +15,3 @@ pub fn calls_keep_files_consistent()
     ensures folders { (path : Path) (old n : Directory) → AreConsistent old → IsOneOf old (folder_made path old) n → AreConsistent n }
     ensures restarted { (n m : Directory) (d : Left) → IsRestarted n d m → AreConsistent m }
 {}
-
-#[cfg(test)]
-mod tests {
-    use super::*;
-
-    #[test]
-    fn laws_can_be_called() {
-        calls_keep_files_consistent();
-    }
-}

@@ -9,6 +9,7 @@ mod known;
 pub mod laws;
 pub mod memory;
 mod paths;
+mod refusals;
 mod saved;
 mod slot;
 mod tree;

@@ -8,9 +8,11 @@ ghost use Rattle.raft_env.specs.Outcomes.{overlaid, written};
 ghost use Rattle.raft_env.specs.Directory.{IsReading, IsWriting, changed};
 ghost use Rattle.raft_env.specs.Moments.{Passes};
 ghost use Rattle.raft_env.specs.Refusal.{CountsFault};
+ghost use Rattle.raft_env.specs.Counted.{by_storage};
 
 use crate::armed::{Armed, FsCall};
 use crate::history::History;
+use crate::refusals::RefusalCount;
 use crate::tree::Tree;
 use crate::{FileSystem, FsFault, IoKind, Permission};
 use std::alloc::Global;
@@ -23,7 +25,7 @@ pub struct MemoryFileSystem {
     pub(crate) alloc: Global,
     pub(crate) tree: Tree,
     pub(crate) past: History<Tree>,
-    pub(crate) refusals: u64,
+    pub(crate) refusals: RefusalCount,
     pub(crate) armed: Armed,
     ghost consistent: { AreConsistent (tree_directory tree) } by { Prim.hlevel (props, past_prop) },
     ghost only_writes: { OnlyWritesRefusedIn (tree_directory tree) } by { Prim.hlevel props },
@@ -49,18 +51,19 @@ pub struct MemoryWriter {
 
 impl MemoryFileSystem {
     ghost use Rattle.raft_env.specs.Memory.{memory_directory, memory_moments, memory_refusals, armed_of, stop_of, no_files};
+    ghost use Rattle.raft_env.specs.Refusal.{no_refusals};
 
     pub fn new(alloc: Global) -> MemoryFileSystem
         ensures files { memory_directory result ≡ no_files }
         ensures any_moment { memory_moments result ≡ no_files ∷ [] }
-        ensures cause { memory_refusals result ≡ 0 }
+        ensures cause { memory_refusals result ≡ no_refusals }
         ensures others { (armed_of result ≡ []) × (stop_of result ≡ None) }
     {
         MemoryFileSystem {
             alloc,
             tree: Tree::new(alloc),
             past: History::new(),
-            refusals: 0,
+            refusals: RefusalCount::new(),
             armed: Armed::new(alloc),
         }
     }
@@ -73,6 +76,7 @@ impl MemoryFileSystem {
     fn write_half(&mut self, path: &str, at: usize, bytes: &[u8]) -> Result<(), FsFault>
         ensures ok { OnOk result (memory_directory self.new ≡ half_written path.now at bytes.now (memory_directory self.old)) }
         ensures err { OnErr result (memory_directory self.new ≡ memory_directory self.old) }
+        ensures fits { OnOk result (at + length bytes.now ≤ 2 ^ 62) }
         ensures any_moment { Passes (memory_moments self.old) (memory_moments self.new) (memory_directory self.new)
             (IsWriting path.now at bytes.now (memory_directory self.old)) }
         ensures cause { memory_refusals self.new ≡ memory_refusals self.old }
@@ -90,12 +94,12 @@ impl MemoryFileSystem {
 }
 
 impl FileSystem for MemoryFileSystem {
-    ghost use Rattle.raft_env.specs.Memory.{memory_directory, memory_moments, memory_refusals, armed_of, stop_of, half_written};
-    ghost use Rattle.raft_env.specs.Armed.{IsStopped, stop_after};
+    ghost use Rattle.raft_env.specs.Memory.{memory_directory, memory_moments, memory_refusals, armed_of, stop_of, LeavesHalf};
+    ghost use Rattle.raft_env.specs.Armed.{arms_after, injected, stop_after};
     ghost use Rattle.raft_env.specs.Directory.{HasFile, IsAllocating, IsOneOf, IsTruncating, ReadsAt, created, file_at, folder_made, names_in};
     ghost use Rattle.raft_env.specs.Outcomes.{File, padded, resized, synced_of};
-    ghost use Rattle.raft_env.specs.Refusal.{Counts, added_count};
-    ghost use Rattle.raft_env.specs.Refused.{HasNoFolder, HasNoPlace, HasNoRoom, IsBarred, IsMissing, MayNotWrite, WasArmed, WasForced};
+    ghost use Rattle.raft_env.specs.Refusal.{Counts, added_count, no_refusals};
+    ghost use Rattle.raft_env.specs.Refused.{HasNoFolder, HasNoPlace, HasNoRoom, IsAbsent, IsBarred, IsMissing, RefusesAs, WasArmed};
 
     type Handle = MemoryHandle;
 
@@ -115,7 +119,7 @@ impl FileSystem for MemoryFileSystem {
 
     ghost reader_path = { λ r. string_bytes r.path };
 
-    ghost reader_refusals = { λ r. r.refused };
+    ghost reader_refusals = { λ r. by_storage r.refused };
 
     ghost writer_path = { λ w. string_bytes w.path };
 
@@ -128,25 +132,27 @@ impl FileSystem for MemoryFileSystem {
         ensures any_moment { Passes (memory_moments self.old) (memory_moments self.new) (memory_directory self.new)
             (IsOneOf (memory_directory self.old) (created path.now (memory_directory self.old))) }
         ensures cause { Counts result (memory_refusals self.old) (memory_refusals self.new) }
-        ensures refused { IfErr result (λ e. WasForced (armed_of self.old) (stop_of self.old) FsCall.Create e
-            ⊎ HasNoPlace (memory_directory self.old) path.now e) }
-        ensures stopped { IsStopped (stop_of self.old) → result ≡ Err (FsFault.Io IoKind.Other) }
+        ensures refused { RefusesAs (injected FsCall.Create (armed_of self.old) (stop_of self.old))
+            (HasNoPlace (memory_directory self.old) path.now) result }
         ensures stop { stop_of self.new ≡ stop_after (stop_of self.old) }
-        ensures armed { armed_of self.new ≡ armed_of self.old }
+        ensures armed { armed_of self.new ≡ arms_after FsCall.Create (armed_of self.old) }
     {
         if let Some(kind) = self.armed.due_change(FsCall::Create) {
-            return Err(counted(&mut self.refusals, FsFault::Io(kind)));
+            return Err(self.refusals.count(FsFault::Io(kind)));
         }
-        let handle = MemoryHandle {
-            path: String::from_str(self.alloc, path)?,
-            may_write: true,
+        let stored = match String::from_str(self.alloc, path) {
+            Ok(stored) => stored,
+            Err(_) => return Err(self.refusals.count(FsFault::Memory)),
         };
         let past = self.past.with(&self.tree);
         if let Err(fault) = self.tree.create(self.alloc, path) {
-            return Err(counted(&mut self.refusals, fault));
+            return Err(self.refusals.count(fault));
         }
         self.past = past;
-        Ok(handle)
+        Ok(MemoryHandle {
+            path: stored,
+            may_write: true,
+        })
     }
 
     fn open(&mut self, path: &str, permission: Permission) -> Result<MemoryHandle, FsFault>
@@ -155,45 +161,52 @@ impl FileSystem for MemoryFileSystem {
         ensures unchanged { memory_directory self.new ≡ memory_directory self.old }
         ensures any_moment { memory_moments self.new ≡ memory_moments self.old }
         ensures cause { Counts result (memory_refusals self.old) (memory_refusals self.new) }
-        ensures refused { IfErr result (λ e. WasArmed (armed_of self.old) FsCall.Open e ⊎ IsMissing (memory_directory self.old) path.now e) }
-        ensures others { (armed_of self.new ≡ armed_of self.old) × (stop_of self.new ≡ stop_of self.old) }
+        ensures refused { RefusesAs (injected FsCall.Open (armed_of self.old) None)
+            (IsMissing (memory_directory self.old) path.now) result }
+        ensures stop { stop_of self.new ≡ stop_of self.old }
+        ensures armed { armed_of self.new ≡ arms_after FsCall.Open (armed_of self.old) }
     {
         if let Some(kind) = self.armed.due(FsCall::Open) {
-            return Err(counted(&mut self.refusals, FsFault::Io(kind)));
+            return Err(self.refusals.count(FsFault::Io(kind)));
         }
         if !self.is_file(path) {
-            return Err(counted(&mut self.refusals, FsFault::Io(IoKind::NotFound)));
+            return Err(self.refusals.count(FsFault::Io(IoKind::NotFound)));
         }
-        Ok(MemoryHandle {
-            path: String::from_str(self.alloc, path)?,
-            may_write: permission == Permission::ReadWrite,
-        })
+        match String::from_str(self.alloc, path) {
+            Ok(path) => Ok(MemoryHandle {
+                path,
+                may_write: permission == Permission::ReadWrite,
+            }),
+            Err(_) => Err(self.refusals.count(FsFault::Memory)),
+        }
     }
 
     fn new_reader(&mut self, handle: &MemoryHandle) -> Result<MemoryReader, FsFault>
-        ensures reader { IfOk result (λ r. (string_bytes r.path ≡ string_bytes handle.now.path) × (r.refused ≡ 0)) }
+        ensures reader { IfOk result (λ r. (string_bytes r.path ≡ string_bytes handle.now.path) × (by_storage r.refused ≡ no_refusals)) }
         ensures unchanged { memory_directory self.new ≡ memory_directory self.old }
         ensures any_moment { memory_moments self.new ≡ memory_moments self.old }
         ensures cause { Counts result (memory_refusals self.old) (memory_refusals self.new) }
-        ensures refused { IfErr result (λ e. WasArmed (armed_of self.old) FsCall.NewReader e ⊎ (e ≡ FsFault.Memory)) }
-        ensures others { (armed_of self.new ≡ armed_of self.old) × (stop_of self.new ≡ stop_of self.old) }
+        ensures refused { RefusesAs (injected FsCall.NewReader (armed_of self.old) None)
+            (λ e. e ≡ FsFault.Memory) result }
+        ensures stop { stop_of self.new ≡ stop_of self.old }
+        ensures armed { armed_of self.new ≡ arms_after FsCall.NewReader (armed_of self.old) }
     {
         if let Some(kind) = self.armed.due(FsCall::NewReader) {
-            return Err(counted(&mut self.refusals, FsFault::Io(kind)));
+            return Err(self.refusals.count(FsFault::Io(kind)));
         }
-        Ok(MemoryReader {
-            path: handle.path.clone()?,
-            refused: 0,
-        })
+        match handle.path.clone() {
+            Ok(path) => Ok(MemoryReader { path, refused: 0 }),
+            Err(_) => Err(self.refusals.count(FsFault::Memory)),
+        }
     }
 
     fn end_reader(&mut self, reader: MemoryReader)
         ensures unchanged { memory_directory self.new ≡ memory_directory self.old }
         ensures any_moment { memory_moments self.new ≡ memory_moments self.old }
-        ensures cause { memory_refusals self.new ≡ added_count (memory_refusals self.old) reader.refused }
+        ensures cause { memory_refusals self.new ≡ added_count (memory_refusals self.old) (by_storage reader.refused) }
         ensures others { (armed_of self.new ≡ armed_of self.old) × (stop_of self.new ≡ stop_of self.old) }
     {
-        self.refusals = self.refusals.saturating_add(reader.refused);
+        self.refusals.add(reader.refused);
     }
 
     fn new_writer(&mut self, handle: &MemoryHandle) -> Result<MemoryWriter, FsFault>
@@ -202,19 +215,22 @@ impl FileSystem for MemoryFileSystem {
         ensures unchanged { memory_directory self.new ≡ memory_directory self.old }
         ensures any_moment { memory_moments self.new ≡ memory_moments self.old }
         ensures cause { Counts result (memory_refusals self.old) (memory_refusals self.new) }
-        ensures why { IfErr result (λ e. WasArmed (armed_of self.old) FsCall.NewWriter e ⊎ MayNotWrite handle.now.may_write e) }
-        ensures others { (armed_of self.new ≡ armed_of self.old) × (stop_of self.new ≡ stop_of self.old) }
+        ensures why { handle.now.may_write ≡ true → RefusesAs (injected FsCall.NewWriter (armed_of self.old) None)
+            (λ e. e ≡ FsFault.Memory) result }
+        ensures stop { stop_of self.new ≡ stop_of self.old }
+        ensures armed { armed_of self.new ≡ arms_after FsCall.NewWriter (armed_of self.old) }
     {
         let due = self.armed.due(FsCall::NewWriter);
         if !handle.may_write {
-            return Err(counted(&mut self.refusals, FsFault::Io(IoKind::Other)));
+            return Err(self.refusals.count(FsFault::Io(IoKind::Other)));
         }
         if let Some(kind) = due {
-            return Err(counted(&mut self.refusals, FsFault::Io(kind)));
+            return Err(self.refusals.count(FsFault::Io(kind)));
         }
-        Ok(MemoryWriter {
-            path: handle.path.clone()?,
-        })
+        match handle.path.clone() {
+            Ok(path) => Ok(MemoryWriter { path }),
+            Err(_) => Err(self.refusals.count(FsFault::Memory)),
+        }
     }
 
     fn write(&mut self, writer: &mut MemoryWriter, at: usize, bytes: &[u8]) -> Result<(), FsFault>
@@ -223,31 +239,30 @@ impl FileSystem for MemoryFileSystem {
         ensures fits { OnOk result (at + length bytes.now < 2 ^ 63) }
         ensures ok { OnOk result (memory_directory self.new ≡ changed (string_bytes writer.old.path)
             (λ f. written at bytes.now true (overlaid f.now at bytes.now) f) (memory_directory self.old)) }
-        ensures err { OnErr result (IsOneOf (memory_directory self.old)
-            (half_written (string_bytes writer.old.path) at bytes.now (memory_directory self.old)) (memory_directory self.new)) }
+        ensures err { OnErr result (LeavesHalf (injected FsCall.Write (armed_of self.old) (stop_of self.old))
+            (string_bytes writer.old.path) at bytes.now (memory_directory self.old) (memory_directory self.new)) }
         ensures any_moment { Passes (memory_moments self.old) (memory_moments self.new) (memory_directory self.new)
             (IsWriting (string_bytes writer.old.path) at bytes.now (memory_directory self.old)) }
         ensures cause { Counts result (memory_refusals self.old) (memory_refusals self.new) }
-        ensures refused { IfErr result (λ e. WasForced (armed_of self.old) (stop_of self.old) FsCall.Write e
-            ⊎ ((memory_directory self.new ≡ memory_directory self.old)
-            × (HasNoRoom at (length bytes.now) e ⊎ IsMissing (memory_directory self.old) (string_bytes writer.old.path) e))) }
-        ensures stopped { IsStopped (stop_of self.old) → result ≡ Err (FsFault.Io IoKind.Other) }
+        ensures refused { RefusesAs (injected FsCall.Write (armed_of self.old) (stop_of self.old))
+            (λ e. HasNoRoom at (length bytes.now) e
+            ⊎ IsMissing (memory_directory self.old) (string_bytes writer.old.path) e) result }
         ensures stop { stop_of self.new ≡ stop_after (stop_of self.old) }
-        ensures armed { armed_of self.new ≡ armed_of self.old }
+        ensures armed { armed_of self.new ≡ arms_after FsCall.Write (armed_of self.old) }
     {
         if let Some(kind) = self.armed.due_change(FsCall::Write) {
             let _ = self.write_half(writer.path.as_str(), at, bytes);
-            return Err(counted(&mut self.refusals, FsFault::Io(kind)));
+            return Err(self.refusals.count(FsFault::Io(kind)));
         }
         if !fits(at, bytes.len()) {
-            return Err(counted(&mut self.refusals, FsFault::Io(IoKind::NoSpace)));
+            return Err(self.refusals.count(FsFault::Io(IoKind::NoSpace)));
         }
         let past = self.past.with(&self.tree);
         if let Err(fault) = self
             .tree
             .write(writer.path.as_str(), at, bytes, bytes, true)
         {
-            return Err(counted(&mut self.refusals, fault));
+            return Err(self.refusals.count(fault));
         }
         self.past = past;
         Ok(())
@@ -262,18 +277,17 @@ impl FileSystem for MemoryFileSystem {
         ensures any_moment { Passes (memory_moments self.old) (memory_moments self.new) (memory_directory self.new)
             (IsTruncating (string_bytes writer.old.path) size (memory_directory self.old)) }
         ensures cause { Counts result (memory_refusals self.old) (memory_refusals self.new) }
-        ensures refused { IfErr result (λ e. WasForced (armed_of self.old) (stop_of self.old) FsCall.Truncate e
-            ⊎ IsMissing (memory_directory self.old) (string_bytes writer.old.path) e) }
-        ensures stopped { IsStopped (stop_of self.old) → result ≡ Err (FsFault.Io IoKind.Other) }
+        ensures refused { RefusesAs (injected FsCall.Truncate (armed_of self.old) (stop_of self.old))
+            (IsMissing (memory_directory self.old) (string_bytes writer.old.path)) result }
         ensures stop { stop_of self.new ≡ stop_after (stop_of self.old) }
-        ensures armed { armed_of self.new ≡ armed_of self.old }
+        ensures armed { armed_of self.new ≡ arms_after FsCall.Truncate (armed_of self.old) }
     {
         if let Some(kind) = self.armed.due_change(FsCall::Truncate) {
-            return Err(counted(&mut self.refusals, FsFault::Io(kind)));
+            return Err(self.refusals.count(FsFault::Io(kind)));
         }
         let past = self.past.with(&self.tree);
         if let Err(fault) = self.tree.cut(writer.path.as_str(), size) {
-            return Err(counted(&mut self.refusals, fault));
+            return Err(self.refusals.count(fault));
         }
         self.past = past;
         Ok(())
@@ -289,21 +303,21 @@ impl FileSystem for MemoryFileSystem {
         ensures any_moment { Passes (memory_moments self.old) (memory_moments self.new) (memory_directory self.new)
             (IsAllocating (string_bytes writer.old.path) (at + size) (memory_directory self.old)) }
         ensures cause { Counts result (memory_refusals self.old) (memory_refusals self.new) }
-        ensures refused { IfErr result (λ e. WasForced (armed_of self.old) (stop_of self.old) FsCall.Allocate e
-            ⊎ HasNoRoom at size e ⊎ IsMissing (memory_directory self.old) (string_bytes writer.old.path) e) }
-        ensures stopped { IsStopped (stop_of self.old) → result ≡ Err (FsFault.Io IoKind.Other) }
+        ensures refused { RefusesAs (injected FsCall.Allocate (armed_of self.old) (stop_of self.old))
+            (λ e. HasNoRoom at size e
+            ⊎ IsMissing (memory_directory self.old) (string_bytes writer.old.path) e) result }
         ensures stop { stop_of self.new ≡ stop_after (stop_of self.old) }
-        ensures armed { armed_of self.new ≡ armed_of self.old }
+        ensures armed { armed_of self.new ≡ arms_after FsCall.Allocate (armed_of self.old) }
     {
         if let Some(kind) = self.armed.due_change(FsCall::Allocate) {
-            return Err(counted(&mut self.refusals, FsFault::Io(kind)));
+            return Err(self.refusals.count(FsFault::Io(kind)));
         }
         if !fits(at, size) {
-            return Err(counted(&mut self.refusals, FsFault::Io(IoKind::NoSpace)));
+            return Err(self.refusals.count(FsFault::Io(IoKind::NoSpace)));
         }
         let past = self.past.with(&self.tree);
         if let Err(fault) = self.tree.lengthen(writer.path.as_str(), at + size) {
-            return Err(counted(&mut self.refusals, fault));
+            return Err(self.refusals.count(fault));
         }
         self.past = past;
         Ok(())
@@ -317,18 +331,17 @@ impl FileSystem for MemoryFileSystem {
         ensures any_moment { Passes (memory_moments self.old) (memory_moments self.new) (memory_directory self.new)
             (IsOneOf (memory_directory self.old) (changed (string_bytes writer.old.path) synced_of (memory_directory self.old))) }
         ensures cause { Counts result (memory_refusals self.old) (memory_refusals self.new) }
-        ensures refused { IfErr result (λ e. WasForced (armed_of self.old) (stop_of self.old) FsCall.Sync e
-            ⊎ IsMissing (memory_directory self.old) (string_bytes writer.old.path) e) }
-        ensures stopped { IsStopped (stop_of self.old) → result ≡ Err (FsFault.Io IoKind.Other) }
+        ensures refused { RefusesAs (injected FsCall.Sync (armed_of self.old) (stop_of self.old))
+            (IsAbsent (memory_directory self.old) (string_bytes writer.old.path)) result }
         ensures stop { stop_of self.new ≡ stop_after (stop_of self.old) }
-        ensures armed { armed_of self.new ≡ armed_of self.old }
+        ensures armed { armed_of self.new ≡ arms_after FsCall.Sync (armed_of self.old) }
     {
         if let Some(kind) = self.armed.due_change(FsCall::Sync) {
-            return Err(counted(&mut self.refusals, FsFault::Io(kind)));
+            return Err(self.refusals.count(FsFault::Io(kind)));
         }
         let past = self.past.with(&self.tree);
         if let Err(fault) = self.tree.sync(writer.path.as_str()) {
-            return Err(counted(&mut self.refusals, fault));
+            return Err(self.refusals.count(fault));
         }
         self.past = past;
         Ok(())
@@ -337,15 +350,16 @@ impl FileSystem for MemoryFileSystem {
     fn read(&self, reader: &mut MemoryReader, at: usize, bytes: &mut [u8]) -> Result<usize, FsFault>
         ensures reader { string_bytes reader.new.path ≡ string_bytes reader.old.path }
         ensures ok { IfOk result (λ n. ReadsAt (file_at (memory_directory self.now) (string_bytes reader.old.path)) at n bytes.old bytes.new) }
-        ensures cause { Counts result reader.old.refused reader.new.refused }
-        ensures refused { IfErr result (λ e. WasArmed (armed_of self.now) FsCall.Read e ⊎ IsMissing (memory_directory self.now) (string_bytes reader.old.path) e) }
+        ensures cause { Counts result (by_storage reader.old.refused) (by_storage reader.new.refused) }
+        ensures refused { IfErr result (λ e. WasArmed (armed_of self.now) FsCall.Read e
+            ⊎ IsAbsent (memory_directory self.now) (string_bytes reader.old.path) e) }
     {
-        if let Some(kind) = self.armed.due(FsCall::Read) {
-            return Err(counted(&mut reader.refused, FsFault::Io(kind)));
+        if let Some(kind) = self.armed.due_read() {
+            return Err(refused(reader, kind));
         }
         match self.tree.files.get(reader.path.as_str()) {
             Some(slot) => Ok(copy_from(slot.bytes(), at, bytes)),
-            None => Err(counted(&mut reader.refused, FsFault::Io(IoKind::NotFound))),
+            None => Err(refused(reader, IoKind::NotFound)),
         }
     }
 
@@ -356,15 +370,17 @@ impl FileSystem for MemoryFileSystem {
         ensures unchanged { memory_directory self.new ≡ memory_directory self.old }
         ensures any_moment { memory_moments self.new ≡ memory_moments self.old }
         ensures cause { Counts result (memory_refusals self.old) (memory_refusals self.new) }
-        ensures refused { IfErr result (λ e. WasArmed (armed_of self.old) FsCall.FileSize e ⊎ IsMissing (memory_directory self.old) (string_bytes handle.now.path) e) }
-        ensures others { (armed_of self.new ≡ armed_of self.old) × (stop_of self.new ≡ stop_of self.old) }
+        ensures refused { RefusesAs (injected FsCall.FileSize (armed_of self.old) None)
+            (IsAbsent (memory_directory self.old) (string_bytes handle.now.path)) result }
+        ensures stop { stop_of self.new ≡ stop_of self.old }
+        ensures armed { armed_of self.new ≡ arms_after FsCall.FileSize (armed_of self.old) }
     {
         if let Some(kind) = self.armed.due(FsCall::FileSize) {
-            return Err(counted(&mut self.refusals, FsFault::Io(kind)));
+            return Err(self.refusals.count(FsFault::Io(kind)));
         }
         match self.tree.files.get(handle.path.as_str()) {
             Some(slot) => Ok(slot.bytes().len()),
-            None => Err(counted(&mut self.refusals, FsFault::Io(IoKind::NotFound))),
+            None => Err(self.refusals.count(FsFault::Io(IoKind::NotFound))),
         }
     }
 
@@ -374,18 +390,17 @@ impl FileSystem for MemoryFileSystem {
         ensures any_moment { Passes (memory_moments self.old) (memory_moments self.new) (memory_directory self.new)
             (IsOneOf (memory_directory self.old) (folder_made path.now (memory_directory self.old))) }
         ensures cause { Counts result (memory_refusals self.old) (memory_refusals self.new) }
-        ensures refused { IfErr result (λ e. WasForced (armed_of self.old) (stop_of self.old) FsCall.MakeDir e
-            ⊎ IsBarred (memory_directory self.old) path.now e) }
-        ensures stopped { IsStopped (stop_of self.old) → result ≡ Err (FsFault.Io IoKind.Other) }
+        ensures refused { RefusesAs (injected FsCall.MakeDir (armed_of self.old) (stop_of self.old))
+            (IsBarred (memory_directory self.old) path.now) result }
         ensures stop { stop_of self.new ≡ stop_after (stop_of self.old) }
-        ensures armed { armed_of self.new ≡ armed_of self.old }
+        ensures armed { armed_of self.new ≡ arms_after FsCall.MakeDir (armed_of self.old) }
     {
         if let Some(kind) = self.armed.due_change(FsCall::MakeDir) {
-            return Err(counted(&mut self.refusals, FsFault::Io(kind)));
+            return Err(self.refusals.count(FsFault::Io(kind)));
         }
         let past = self.past.with(&self.tree);
         if let Err(fault) = self.tree.make_folder(self.alloc, path) {
-            return Err(counted(&mut self.refusals, fault));
+            return Err(self.refusals.count(fault));
         }
         self.past = past;
         Ok(())
@@ -396,15 +411,17 @@ impl FileSystem for MemoryFileSystem {
         ensures unchanged { memory_directory self.new ≡ memory_directory self.old }
         ensures any_moment { memory_moments self.new ≡ memory_moments self.old }
         ensures cause { Counts result (memory_refusals self.old) (memory_refusals self.new) }
-        ensures refused { IfErr result (λ e. WasArmed (armed_of self.old) FsCall.List e ⊎ HasNoFolder (memory_directory self.old) dir.now e) }
-        ensures others { (armed_of self.new ≡ armed_of self.old) × (stop_of self.new ≡ stop_of self.old) }
+        ensures refused { RefusesAs (injected FsCall.List (armed_of self.old) None)
+            (HasNoFolder (memory_directory self.old) dir.now) result }
+        ensures stop { stop_of self.new ≡ stop_of self.old }
+        ensures armed { armed_of self.new ≡ arms_after FsCall.List (armed_of self.old) }
     {
         if let Some(kind) = self.armed.due(FsCall::List) {
-            return Err(counted(&mut self.refusals, FsFault::Io(kind)));
+            return Err(self.refusals.count(FsFault::Io(kind)));
         }
         match self.tree.names(self.alloc, dir) {
             Ok(names) => Ok(names),
-            Err(fault) => Err(counted(&mut self.refusals, fault)),
+            Err(fault) => Err(self.refusals.count(fault)),
         }
     }
 
@@ -417,7 +434,7 @@ impl FileSystem for MemoryFileSystem {
     }
 
     fn refusals(&self) -> u64 {
-        self.refusals
+        self.refusals.storage()
     }
 
     fn read_refusals(&self, reader: &MemoryReader) -> u64 {
@@ -431,14 +448,13 @@ fn fits(at: usize, size: usize) -> bool
     at <= MAX_LEN && size <= MAX_LEN - at
 }
 
-fn counted(count: &mut u64, fault: FsFault) -> FsFault
-    ensures value { result ≡ fault }
-    ensures cause { CountsFault fault count.old count.new }
+fn refused(reader: &mut MemoryReader, kind: IoKind) -> FsFault
+    ensures value { result ≡ FsFault.Io kind }
+    ensures reader { string_bytes reader.new.path ≡ string_bytes reader.old.path }
+    ensures cause { CountsFault result (by_storage reader.old.refused) (by_storage reader.new.refused) }
 {
-    if let FsFault::Io(_) = fault {
-        *count = count.saturating_add(1);
-    }
-    fault
+    reader.refused = reader.refused.saturating_add(1);
+    FsFault::Io(kind)
 }
 
 // As many bytes as there are from that place on, at most as many as fit.
@@ -451,61 +467,4 @@ fn copy_from(from: &[u8], at: usize, bytes: &mut [u8]) -> usize
     let count = bytes.len().min(from.len() - at);
     bytes[..count].copy_from_slice(&from[at..at + count]);
     count
-}
-
-#[cfg(test)]
-mod tests {
-    use super::*;
-    use std::test::Fail;
-
-    // Makes a file of these bytes and syncs it.
-    fn store<F: FileSystem>(fs: &mut F, path: &str, bytes: &[u8]) -> Result<F::Handle, FsFault> {
-        let stored = fs.create(path)?;
-        let mut writer = fs.new_writer(&stored)?;
-        fs.write(&mut writer, 0, bytes)?;
-        fs.sync(&mut writer)?;
-        Ok(stored)
-    }
-
-    #[test]
-    fn files_are_written_read_cut_and_listed(rt: HostRuntime) -> Result<(), Fail> {
-        let mut fs = MemoryFileSystem::new(rt.alloc());
-        fs.make_dir("log/old")?;
-        let handle = store(&mut fs, "log/b", b"first")?;
-        fs.create("log/a")?;
-        fs.create("log/old/c")?;
-        let mut writer = fs.new_writer(&handle)?;
-        fs.write(&mut writer, 7, b"third")?;
-        fs.allocate(&mut writer, 12, 2)?;
-        let mut bytes = [1; 16];
-        let mut reader = fs.new_reader(&handle)?;
-        assert_eq!(rt; fs.read(&mut reader, 0, &mut bytes)?, 14);
-        assert_eq!(rt; bytes, *b"first\0\0third\0\0\x01\x01");
-        assert_eq!(rt; fs.read_refusals(&reader), 0);
-        fs.end_reader(reader);
-        fs.truncate(&mut writer, 3)?;
-        assert_eq!(rt; fs.file_size(&handle)?, 3);
-        let names = fs.list("log")?;
-        assert_eq!(rt; names.len(), 2);
-        assert_eq!(rt; names[0].as_str(), "a");
-        assert_eq!(rt; names[1].as_str(), "b");
-        assert!(rt; fs.is_dir("log") && fs.is_dir("") && !fs.is_dir("log/b"));
-        assert!(rt; fs.is_file("log/b") && !fs.is_file("log"));
-        Ok(())
-    }
-
-    #[test]
-    fn refusals_are_counted(rt: HostRuntime) -> Result<(), Fail> {
-        let mut fs = MemoryFileSystem::new(rt.alloc());
-        let handle = fs.create("a")?;
-        assert!(rt; fs.create("b/a").is_err() && fs.create("").is_err());
-        assert!(rt; fs.make_dir("a/b").is_err() && fs.list("b").is_err());
-        assert!(rt; fs.open("b", Permission::ReadOnly).is_err());
-        let read_only = fs.open("a", Permission::ReadOnly)?;
-        assert!(rt; fs.new_writer(&read_only).is_err());
-        let mut writer = fs.new_writer(&handle)?;
-        assert!(rt; fs.write(&mut writer, usize::MAX, b"x").is_err());
-        assert_eq!(rt; fs.refusals(), 7);
-        Ok(())
-    }
 }

@@ -3,7 +3,7 @@ ghost use Rattle.std.specs.Prelude.{◌≡◌, ◌≤◌, ◌<◌, ◌+◌, ◌^
 ghost use Rattle.std.specs.String.{string_bytes};
 ghost use Rattle.raft_env.specs.Outcomes.{written, resized, synced_of, overlaid, padded};
 ghost use Rattle.raft_env.specs.Directory.{changed, created, folder_made, names_in, HasFile};
-ghost use Rattle.raft_env.specs.Refused.{HasNoFolder, HasNoPlace, IsBarred, IsMissing};
+ghost use Rattle.raft_env.specs.Refused.{HasNoFolder, HasNoPlace, IsAbsent, IsBarred, IsMissing};
 
 use crate::paths::{is_on_way, name_in, parent};
 use crate::slot::Slot;
@@ -142,7 +142,7 @@ impl Tree {
         ensures found { OnOk result (HasFile (tree_directory self.old) path.now) }
         ensures ok { OnOk result (tree_directory self.new ≡ changed path.now synced_of (tree_directory self.old)) }
         ensures err { OnErr result (tree_directory self.new ≡ tree_directory self.old) }
-        ensures refused { IfErr result (IsMissing (tree_directory self.old) path.now) }
+        ensures refused { IfErr result (IsAbsent (tree_directory self.old) path.now) }
     {
         match self.files.get_mut(path) {
             Some(slot) => {

@@ -5,6 +5,7 @@ pub mod ReaderLemmas
 pub mod RecordReaderLemmas
 pub mod ExtentLemmas
 pub mod ReadingLemmas
+pub mod ReplayLemmas
 pub mod DetectableLemmas
 pub mod StaleLemmas
 pub mod PlacedLemmas

@@ -1,5 +1,6 @@
 //! What holds of the records of files, whoever writes or reads them.
 ghost use Rattle.std.specs.Prelude.{◌≡◌, ◌+◌, ◌<◌, ◌^◌, ◌++◌, ◌∷◌, ℕ, List, [], true, None, Some, length, take};
+ghost use Rattle.std.specs.List.{take_while};
 ghost use Rattle.raft_records.specs.FileId.{signature_in};
 ghost use Rattle.raft_records.specs.Item.{Batch};
 ghost use Rattle.raft_records.specs.Record.{record_bytes, record_of};
@@ -8,7 +9,8 @@ ghost use Rattle.raft_records.specs.declared.pipe_log.FileId.{FileId};
 ghost use Rattle.raft_files.specs.Detectable.{IsDetectable, signature_by};
 ghost use Rattle.raft_env.specs.Directory.{Directory, IsOneOf, IsRestarted, IsTruncating, HasFile, Leaves, Left, Path, created, file_at, renamed};
 ghost use Rattle.raft_files.specs.Header.{HasHeader, header_bytes, header_len, header_of};
-ghost use Rattle.raft_files.specs.Reading.{Reading, end_of_reading, is_read_to_end, readable_batches, reading};
+ghost use Rattle.raft_files.specs.Reading.{Reading, end_of_reading, is_read_to_end, readable_batches, readable_records, reading};
+ghost use Rattle.raft_files.specs.Replay.{has_sound_block_at, replayed_records};
 ghost use Rattle.raft_files.specs.Records.{FirstOf, HasLog, HasTornLog, IsKept, left_batches};
 ghost use Rattle.raft_files.specs.Writer.{HasChanged, IsAppended, IsAppending, IsClosed, IsClosing, IsOpening, IsSynced, IsSyncing, bytes_at};
 ghost use Rattle.raft_files.specs.declared.format.LogFileFormat.{LogFileFormat};
@@ -30,6 +32,13 @@ pub fn appended_record_is_read()
 pub fn beginning_is_read()
     ensures value { (id : FileId) (bytes more : List ℕ) → (later : List Batch)
         × (readable_batches id (bytes ++ more) ≡ readable_batches id bytes ++ later) }
+{}
+
+/// A replay looks at no entries block: what can be read of a file is the longest beginning of what
+/// a replay takes in which all blocks are sound.
+pub fn readable_records_are_the_replayed_with_sound_blocks()
+    ensures value { (id : FileId) (bytes : List ℕ) → readable_records id bytes
+        ≡ take_while (λ p. has_sound_block_at bytes p.at) (replayed_records id bytes) }
 {}
 
 /// What a crash leaves of a log file, where damage can be told: the first of its batches, with all
@@ -152,17 +161,3 @@ pub fn opening_keeps_the_log()
         (renamed src path old) mid → HasChanged path IsSynced mid new
         → HasLog path id format [] 0 (header_len format.version) new }
 {}
-
-#[cfg(test)]
-mod tests {
-    use super::*;
-
-    #[test]
-    fn laws_can_be_called() {
-        appended_record_is_read();
-        beginning_is_read();
-        crash_leaves_a_beginning();
-        a_writer_keeps_its_log();
-        opening_keeps_the_log();
-    }
-}

@@ -120,14 +120,3 @@ pub fn damage_can_be_told()
         ⊎ (format_of file.synced ≡ None) → EndsUnmarked id file.synced
         → IsReadAsBefore id file file.synced }
 {}
-
-#[cfg(test)]
-mod tests {
-    use super::*;
-
-    #[test]
-    fn laws_can_be_called() {
-        refused_calls_bring_no_record();
-        damage_can_be_told();
-    }
-}

@@ -1,177 +1,300 @@
 //! What an opening finds behind a crash, and behind a refusal of storage.
 
+use crate::plans::{Left, choice_of};
 use crate::states::{EMPTY, State, settings, state_of};
-use raft_env::{Choice, FileSystem, FsCall, IoKind, MemoryFileSystem};
-use raft_log_engine::Engine;
+use raft_env::{FileSystem, FsCall, IoKind, MemoryFileSystem};
+use raft_log_engine::{Engine, Refused};
 use raft_records::{Fault, LogBatch};
 use std::alloc::Global;
-use std::process::Abort;
 use std::test::Fail;
 
-fn open<F: FileSystem + Drop>(alloc: Global, files: F) -> Result<Engine<F>, Fail> {
-    let opened = Engine::open_in_order(alloc, settings(alloc)?, files);
-    Ok(opened.map_err(|refused| refused.fault)?)
+/// A call of an engine, and what it is answered, or the code of its refusal.
+enum Step {
+    /// Puts the value at a key of group 1 into the batch.
+    Put(&'static [u8], &'static [u8]),
+    /// Writes the batch, synced where that is asked.
+    Write(bool, Result<usize, u8>),
+    Sync(Result<(), u8>),
+    Get(&'static [u8], Result<Option<&'static [u8]>, u8>),
+    /// The nth call of the sort is refused.
+    Refuse(FsCall, u64),
+    Stop(u64),
+    Failed(bool),
 }
 
-fn put<F: FileSystem>(
-    alloc: Global,
+/// How the files are taken from the engine.
+enum End {
+    GiveUp,
+    OpenAgain,
+    Close,
+    /// Closing is refused with this code.
+    CloseRefused(u8),
+    Reopen,
+}
+
+struct Case {
+    name: &'static str,
+    steps: &'static [Step],
+    end: End,
+    /// No crash, or what it leaves.
+    left: Option<Left>,
+    found: State,
+}
+
+const FIRST: State = State { a: 1, ..EMPTY };
+
+const BOTH: State = State { b: 2, ..FIRST };
+
+/// Puts a with a sync and b without.
+const TWO: &[Step] = &[
+    Step::Put(b"a", &[1]),
+    Step::Write(true, Ok(28)),
+    Step::Put(b"b", &[2]),
+    Step::Write(false, Ok(28)),
+];
+
+/// A value that fills the room, so that no zeros stand behind it.
+const LONG: &[Step] = &[Step::Put(b"a", &[1; 1024]), Step::Write(false, Ok(1052))];
+
+const CASES: [Case; 9] = [
+    Case {
+        name: "an unsynced write may go",
+        steps: TWO,
+        end: End::GiveUp,
+        left: Some(Left::Synced),
+        found: FIRST,
+    },
+    Case {
+        name: "an unsynced write may be torn",
+        steps: TWO,
+        end: End::GiveUp,
+        left: Some(Left::Torn(1, 0)),
+        found: FIRST,
+    },
+    Case {
+        name: "an unsynced write may stay",
+        steps: TWO,
+        end: End::GiveUp,
+        left: Some(Left::All),
+        found: BOTH,
+    },
+    Case {
+        name: "an unsynced long write may go",
+        steps: LONG,
+        end: End::GiveUp,
+        left: Some(Left::Synced),
+        found: EMPTY,
+    },
+    Case {
+        name: "an opening syncs what it found",
+        steps: LONG,
+        end: End::OpenAgain,
+        left: Some(Left::Synced),
+        found: FIRST,
+    },
+    Case {
+        name: "a refused sync fails the engine",
+        steps: &[
+            Step::Refuse(FsCall::Sync, 1),
+            Step::Put(b"a", &[1]),
+            Step::Write(true, Err(3)),
+            Step::Failed(true),
+            Step::Get(b"a", Err(11)),
+            Step::Sync(Err(11)),
+        ],
+        end: End::CloseRefused(11),
+        left: None,
+        found: FIRST,
+    },
+    Case {
+        name: "a stopped engine fails",
+        steps: &[
+            Step::Stop(1),
+            Step::Put(b"a", &[1]),
+            Step::Write(true, Err(3)),
+            Step::Failed(true),
+            Step::Get(b"a", Err(11)),
+            Step::Sync(Err(11)),
+        ],
+        end: End::CloseRefused(11),
+        left: Some(Left::Synced),
+        found: EMPTY,
+    },
+    Case {
+        name: "a closed log survives a crash",
+        steps: &[Step::Put(b"a", &[1]), Step::Write(false, Ok(28))],
+        end: End::Close,
+        left: Some(Left::Synced),
+        found: FIRST,
+    },
+    Case {
+        name: "a refused write can be repeated",
+        steps: &[
+            Step::Refuse(FsCall::Write, 1),
+            Step::Put(b"a", &[1]),
+            Step::Write(true, Err(3)),
+            Step::Failed(false),
+            Step::Get(b"a", Ok(None)),
+            Step::Write(true, Ok(28)),
+            Step::Get(b"a", Ok(Some(&[1]))),
+        ],
+        end: End::Reopen,
+        left: Some(Left::Synced),
+        found: FIRST,
+    },
+];
+
+fn open<F: FileSystem + Drop>(alloc: Global, files: F) -> Result<Engine<F>, Fault> {
+    match Engine::open_in_order(alloc, settings(alloc)?, files) {
+        Ok(engine) => Ok(engine),
+        Err(refused) => Err(refused.fault),
+    }
+}
+
+// Whether the call is answered so. A batch that was written is empty.
+fn writes<F: FileSystem>(
     engine: &mut Engine<F>,
-    key: &[u8],
-    value: &[u8],
+    batch: &mut LogBatch,
     sync: bool,
-) -> Result<(), Fault> {
-    let mut batch = LogBatch::new(alloc);
-    batch.put(1, key.to_vec(alloc)?, value.to_vec(alloc)?)?;
-    engine.write(&mut batch, sync)?;
-    Ok(())
+    wanted: &Result<usize, u8>,
+) -> bool {
+    match (engine.write(batch, sync), wanted) {
+        (Ok(size), Ok(wanted)) => size == *wanted && batch.is_empty(),
+        (Err(fault), Err(code)) => fault.code() == *code && !batch.is_empty(),
+        _ => false,
+    }
 }
 
-fn finds<F: FileSystem + Drop>(
-    rt: &impl Abort,
+fn syncs<F: FileSystem>(engine: &mut Engine<F>, wanted: &Result<(), u8>) -> bool {
+    match (engine.sync(), wanted) {
+        (Ok(()), Ok(())) => true,
+        (Err(fault), Err(code)) => fault.code() == *code,
+        _ => false,
+    }
+}
+
+fn gets<F: FileSystem>(engine: &Engine<F>, key: &[u8], wanted: &Result<Option<&[u8]>, u8>) -> bool {
+    match (engine.get(1, key), wanted) {
+        (Ok(Some(value)), Ok(Some(wanted))) => value.as_slice() == *wanted,
+        (Ok(None), Ok(None)) => true,
+        (Err(fault), Err(code)) => fault.code() == *code,
+        _ => false,
+    }
+}
+
+// Whether a call of an engine over any files is answered so.
+fn is_answered<F: FileSystem>(engine: &mut Engine<F>, batch: &mut LogBatch, step: &Step) -> bool {
+    match step {
+        Step::Write(sync, wanted) => writes(engine, batch, *sync, wanted),
+        Step::Sync(wanted) => syncs(engine, wanted),
+        Step::Get(key, wanted) => gets(engine, key, wanted),
+        Step::Failed(wanted) => engine.failed() == *wanted,
+        _ => false,
+    }
+}
+
+// Whether the step comes to what the case says.
+fn holds(
     alloc: Global,
-    files: F,
-    wanted: State,
-) -> Result<(), Fail> {
-    let mut engine = open(alloc, files)?;
-    assert_eq!(rt; state_of(&engine.image()?), wanted);
-    Ok(())
-}
-
-// Puts a with a sync and b without.
-fn put_two<F: FileSystem + Drop>(alloc: Global, files: F) -> Result<F, Fail> {
-    let mut engine = open(alloc, files)?;
-    put(alloc, &mut engine, b"a", &[1], true)?;
-    put(alloc, &mut engine, b"b", &[2], false)?;
-    Ok(engine.give_up())
-}
-
-// What an opening finds after a crash.
-fn crash_finds(
-    rt: &impl Abort,
-    alloc: Global,
-    files: &MemoryFileSystem,
-    choice: Choice,
-    wanted: State,
-) -> Result<(), Fail> {
-    finds(rt, alloc, files.crash(&[choice])?, wanted)
-}
-
-#[test]
-fn unsynced_write_may_go(rt: HostRuntime) -> Result<(), Fail> {
-    let alloc = rt.alloc();
-    let files = put_two(alloc, MemoryFileSystem::new(alloc))?;
-    let first = State { a: 1, ..EMPTY };
-    crash_finds(&rt, alloc, &files, Choice::Synced, first)?;
-    crash_finds(&rt, alloc, &files, Choice::Torn(1, 0), first)?;
-    crash_finds(&rt, alloc, &files, Choice::All, State { b: 2, ..first })
-}
-
-// Puts, without a sync, a value that fills the room, so that no zeros stand behind it.
-fn put_long<F: FileSystem + Drop>(alloc: Global, files: F) -> Result<F, Fail> {
-    let mut engine = open(alloc, files)?;
-    put(alloc, &mut engine, b"a", &[1; 1024], false)?;
-    Ok(engine.give_up())
-}
-
-fn open_and_give_up<F: FileSystem + Drop>(alloc: Global, files: F) -> Result<F, Fail> {
-    Ok(open(alloc, files)?.give_up())
-}
-
-#[test]
-fn opening_syncs_what_it_found(rt: HostRuntime) -> Result<(), Fail> {
-    let alloc = rt.alloc();
-    let files = put_long(alloc, MemoryFileSystem::new(alloc))?;
-    crash_finds(&rt, alloc, &files, Choice::Synced, EMPTY)?;
-    let files = open_and_give_up(alloc, files)?;
-    crash_finds(&rt, alloc, &files, Choice::Synced, State { a: 1, ..EMPTY })
-}
-
-// A refused sync, and what the engine answers behind it.
-fn fail_at_sync<F: FileSystem + Drop>(
-    rt: &impl Abort,
-    alloc: Global,
-    mut engine: Engine<F>,
-) -> Result<F, Fail> {
-    let refused = put(alloc, &mut engine, b"a", &[1], true);
-    assert_eq!(rt; refused.map_err(|fault| fault.code()), Err(3));
-    assert!(rt; engine.failed());
-    assert_eq!(rt; engine.get(1, b"a"), Err(Fault::Failed));
-    assert_eq!(rt; engine.sync(), Err(Fault::Failed));
-    match engine.close() {
-        Ok(files) => {
-            assert!(rt; false);
-            Ok(files)
+    engine: &mut Engine<MemoryFileSystem>,
+    batch: &mut LogBatch,
+    step: &Step,
+) -> Result<bool, Fault> {
+    match step {
+        Step::Put(key, value) => {
+            batch.put(1, key.to_vec(alloc)?, value.to_vec(alloc)?)?;
+            Ok(true)
         }
-        Err(refused) => {
-            assert_eq!(rt; refused.fault.code(), 11);
-            Ok(refused.file_system)
+        Step::Refuse(call, nth) => Ok(engine.refuse(*call, *nth, IoKind::Other).is_ok()),
+        Step::Stop(nth) => {
+            engine.stop_at(*nth);
+            Ok(true)
+        }
+        _ => Ok(is_answered(engine, batch, step)),
+    }
+}
+
+// The place of the first step that comes to something else.
+fn first_wrong(
+    alloc: Global,
+    engine: &mut Engine<MemoryFileSystem>,
+    case: &Case,
+) -> Result<Option<usize>, Fault> {
+    let mut batch = LogBatch::new(alloc);
+    for (place, step) in case.steps.iter().enumerate() {
+        if !holds(alloc, engine, &mut batch, step)? {
+            return Ok(Some(place));
+        }
+    }
+    Ok(None)
+}
+
+fn close_refused<F: FileSystem + Drop>(engine: Engine<F>, code: u8) -> Result<F, Fault> {
+    match engine.close() {
+        Ok(_files) => Err(Fault::TryAgain),
+        Err(Refused { fault, file_system }) => {
+            if fault.code() == code {
+                Ok(file_system)
+            } else {
+                Err(fault)
+            }
         }
     }
 }
 
-#[test]
-fn refused_sync_fails_engine(rt: HostRuntime) -> Result<(), Fail> {
-    let alloc = rt.alloc();
-    let mut engine = open(alloc, MemoryFileSystem::new(alloc))?;
-    engine.refuse(FsCall::Sync, 1, IoKind::Other)?;
-    let files = fail_at_sync(&rt, alloc, engine)?;
-    finds(&rt, alloc, files, State { a: 1, ..EMPTY })
-}
-
-#[test]
-fn stopped_engine_fails(rt: HostRuntime) -> Result<(), Fail> {
-    let alloc = rt.alloc();
-    let mut engine = open(alloc, MemoryFileSystem::new(alloc))?;
-    engine.stop_at(1);
-    let files = fail_at_sync(&rt, alloc, engine)?;
-    crash_finds(&rt, alloc, &files, Choice::Synced, EMPTY)
-}
-
-// Puts without a sync, and closes.
-fn put_and_close<F: FileSystem + Drop>(alloc: Global, files: F) -> Result<F, Fail> {
-    let mut engine = open(alloc, files)?;
-    put(alloc, &mut engine, b"a", &[1], false)?;
-    Ok(engine.close().map_err(|refused| refused.fault)?)
-}
-
-#[test]
-fn closed_log_survives_a_crash(rt: HostRuntime) -> Result<(), Fail> {
-    let alloc = rt.alloc();
-    let files = put_and_close(alloc, MemoryFileSystem::new(alloc))?;
-    crash_finds(&rt, alloc, &files, Choice::Synced, State { a: 1, ..EMPTY })
-}
-
-// A batch whose writing was refused is written again, and a reopening finds it.
-fn write_twice<F: FileSystem + Drop>(
-    rt: &impl Abort,
-    alloc: Global,
-    mut engine: Engine<F>,
-) -> Result<F, Fail> {
-    let mut batch = LogBatch::new(alloc);
-    batch.put(1, b"a".to_vec(alloc)?, [1].to_vec(alloc)?)?;
-    let refused = engine.write(&mut batch, true);
-    assert_eq!(rt; refused.map_err(|fault| fault.code()), Err(3));
-    assert!(rt; !engine.failed());
-    assert_eq!(rt; engine.get(1, b"a"), Ok(None));
-    assert_eq!(rt; engine.write(&mut batch, true), Ok(28));
-    assert!(rt; batch.is_empty());
+fn reopen<F: FileSystem + Drop>(engine: Engine<F>) -> Result<F, Fault> {
     let engine = engine.reopen().map_err(|refused| refused.fault)?;
-    assert_eq!(rt; engine.path(), "raft");
-    let value = engine.get(1, b"a")?;
-    assert_eq!(rt;
-        value.as_ref().map(|bytes| bytes.as_slice()),
-        Some([1].as_slice())
-    );
+    if engine.path() != "raft" {
+        return Err(Fault::TryAgain);
+    }
     Ok(engine.give_up())
 }
 
-#[test]
-fn refused_write_can_be_repeated(rt: HostRuntime) -> Result<(), Fail> {
-    let alloc = rt.alloc();
+fn files_of<F: FileSystem + Drop>(alloc: Global, engine: Engine<F>, end: &End) -> Result<F, Fault> {
+    match end {
+        End::GiveUp => Ok(engine.give_up()),
+        End::OpenAgain => Ok(open(alloc, engine.give_up())?.give_up()),
+        End::Close => engine.close().map_err(|refused| refused.fault),
+        End::CloseRefused(code) => close_refused(engine, *code),
+        End::Reopen => reopen(engine),
+    }
+}
+
+fn files_behind(
+    alloc: Global,
+    files: MemoryFileSystem,
+    left: &Option<Left>,
+) -> Result<MemoryFileSystem, Fault> {
+    match left {
+        Some(left) => files.crash(&[choice_of(alloc, left)?]),
+        None => Ok(files),
+    }
+}
+
+fn found<F: FileSystem + Drop>(alloc: Global, files: F) -> Result<State, Fault> {
+    Ok(state_of(&open(alloc, files)?.image()?))
+}
+
+// The place of the first step that comes to something else, and the state that is found.
+fn played(alloc: Global, case: &Case) -> Result<(Option<usize>, State), Fault> {
     let mut engine = open(alloc, MemoryFileSystem::new(alloc))?;
-    engine.refuse(FsCall::Write, 1, IoKind::Other)?;
-    let files = write_twice(&rt, alloc, engine)?;
-    crash_finds(&rt, alloc, &files, Choice::Synced, State { a: 1, ..EMPTY })
+    let wrong = first_wrong(alloc, &mut engine, case)?;
+    let files = files_of(alloc, engine, &case.end)?;
+    let left = files_behind(alloc, files, &case.left)?;
+    Ok((wrong, found(alloc, left)?))
+}
+
+#[test]
+fn what_is_left_is_found(rt: HostRuntime) -> Result<(), Fail> {
+    for case in &CASES {
+        assert_eq!(rt;
+            played(rt.alloc(), case)?,
+            (None, case.found),
+            "{}",
+            case.name
+        );
+    }
+    Ok(())
 }
 
 #[test]

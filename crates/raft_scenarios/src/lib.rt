@@ -7,6 +7,8 @@ mod crashes;
 #[cfg(test)]
 mod opening;
 #[cfg(test)]
+mod plans;
+#[cfg(test)]
 mod program;
 #[cfg(test)]
 mod refusals;

@@ -1,18 +1,38 @@
 //! What an opening makes of a log file that can't be read to its end.
 
-use raft_env::{FileSystem, MemoryFileSystem, Permission};
-use raft_files::LogFileFormat;
-use raft_log_engine::{Config, Engine, RecoveryMode};
-use raft_records::{Fresh, Version};
-use std::alloc::Global;
-use std::process::Abort;
+use crate::states::settings;
+use raft_env::{FileSystem, FsFault, MemoryFileSystem, Permission};
+use raft_log_engine::{Engine, RecoveryMode};
+use raft_records::Fault;
+use std::alloc::{AllocError, Global};
 use std::test::Fail;
 
 const LOG: &str = "raft/0000000000000001.raftlog";
 
+const HEADER_1: &[u8] = b"RAFT-LOG-FILE-HEADER-9986AB3E47F320B394C8E84916EB0ED5\0\0\0\0\0\0\0\x01";
+
+const HEADER_2: &[u8] =
+    b"RAFT-LOG-FILE-HEADER-9986AB3E47F320B394C8E84916EB0ED5\0\0\0\0\0\0\0\x02\0\0\0\0\0\0\0\0";
+
+/// The header of version 2 without its last byte.
+const HEADER_CUT: &[u8] =
+    b"RAFT-LOG-FILE-HEADER-9986AB3E47F320B394C8E84916EB0ED5\0\0\0\0\0\0\0\x02\0\0\0\0\0\0\0";
+
+/// The header of version 2 without its first byte.
+const HEADER_MOVED: &[u8] =
+    b"AFT-LOG-FILE-HEADER-9986AB3E47F320B394C8E84916EB0ED5\0\0\0\0\0\0\0\x02\0\0\0\0\0\0\0\0";
+
 // The records below were made by Python's struct and zlib, for file 1 in version 2.
 const PUT: &[u8] =
     b"\x00\x00\x00\x00\x00\x00\x1c\x00\x00\x00\x00\x00\x00\x00\x00\x10\x01\x01\x03\x01\x01\x6b\x01\x76\xb0\x29\x48\xe8";
+
+/// The put without its last byte.
+const PUT_CUT: &[u8] =
+    b"\x00\x00\x00\x00\x00\x00\x1c\x00\x00\x00\x00\x00\x00\x00\x00\x10\x01\x01\x03\x01\x01\x6b\x01\x76\xb0\x29\x48";
+
+/// The put without its first byte.
+const PUT_MOVED: &[u8] =
+    b"\x00\x00\x00\x00\x00\x1c\x00\x00\x00\x00\x00\x00\x00\x00\x10\x01\x01\x03\x01\x01\x6b\x01\x76\xb0\x29\x48\xe8";
 
 /// Two entries of group 7.
 const ENTRIES: &[u8] =
@@ -26,183 +46,171 @@ const BROKEN_ENTRIES: &[u8] =
 const LZ4: &[u8] =
     b"\x00\x00\x00\x00\x00\x00\x23\x01\x00\x00\x00\x00\x00\x00\x00\x17\x78\x79\x7a\x67\xba\x8e\xeb\x01\x01\x03\x01\x01\x6b\x01\x76\xb0\x29\x48\xe8";
 
-fn settings(alloc: Global, mode: RecoveryMode) -> Result<Config, Fail> {
-    let mut config = Config::fresh(alloc);
-    config.dir.push_str("raft")?;
-    config.recovery_mode = mode;
-    Ok(config)
+/// The bytes of a log part by part, and what an opening leaves of them, or the code of its refusal.
+struct Case {
+    name: &'static str,
+    mode: RecoveryMode,
+    log: &'static [&'static [u8]],
+    kept: Result<&'static [&'static [u8]], u8>,
 }
 
-fn header(alloc: Global, version: Version) -> Result<Vec<u8>, Fail> {
+const WHOLE: &[&[u8]] = &[HEADER_2, PUT];
+
+const CASES: [Case; 16] = [
+    Case {
+        name: "a cut record behind the records",
+        mode: RecoveryMode::TolerateTailCorruption,
+        log: &[HEADER_2, PUT, PUT_CUT],
+        kept: Ok(WHOLE),
+    },
+    Case {
+        name: "a record without its first byte behind the records",
+        mode: RecoveryMode::TolerateTailCorruption,
+        log: &[HEADER_2, PUT, PUT_MOVED],
+        kept: Ok(WHOLE),
+    },
+    Case {
+        name: "zeros behind the records",
+        mode: RecoveryMode::TolerateTailCorruption,
+        log: &[HEADER_2, PUT, &[0; 40]],
+        kept: Ok(WHOLE),
+    },
+    Case {
+        name: "a byte behind the records",
+        mode: RecoveryMode::TolerateTailCorruption,
+        log: &[HEADER_2, PUT, b"x"],
+        kept: Ok(WHOLE),
+    },
+    Case {
+        name: "broken entries behind the records",
+        mode: RecoveryMode::TolerateTailCorruption,
+        log: &[HEADER_2, PUT, BROKEN_ENTRIES],
+        kept: Ok(WHOLE),
+    },
+    Case {
+        name: "no bytes",
+        mode: RecoveryMode::TolerateAnyCorruption,
+        log: &[],
+        kept: Ok(&[HEADER_1]),
+    },
+    Case {
+        name: "a cut header",
+        mode: RecoveryMode::TolerateAnyCorruption,
+        log: &[HEADER_CUT],
+        kept: Ok(&[HEADER_1]),
+    },
+    Case {
+        name: "a header without its first byte",
+        mode: RecoveryMode::TolerateAnyCorruption,
+        log: &[HEADER_MOVED, PUT],
+        kept: Ok(&[HEADER_1]),
+    },
+    Case {
+        name: "zeros in place of a header",
+        mode: RecoveryMode::TolerateAnyCorruption,
+        log: &[&[0; 200]],
+        kept: Ok(&[HEADER_1]),
+    },
+    Case {
+        name: "a cut record, absolute",
+        mode: RecoveryMode::AbsoluteConsistency,
+        log: &[HEADER_2, PUT, PUT_CUT],
+        kept: Err(2),
+    },
+    Case {
+        name: "zeros, absolute",
+        mode: RecoveryMode::AbsoluteConsistency,
+        log: &[HEADER_2, PUT, &[0; 40]],
+        kept: Err(2),
+    },
+    Case {
+        name: "a cut header, absolute",
+        mode: RecoveryMode::AbsoluteConsistency,
+        log: &[HEADER_CUT],
+        kept: Err(2),
+    },
+    Case {
+        name: "no bytes, absolute",
+        mode: RecoveryMode::AbsoluteConsistency,
+        log: &[],
+        kept: Err(2),
+    },
+    Case {
+        name: "a whole log, absolute",
+        mode: RecoveryMode::AbsoluteConsistency,
+        log: WHOLE,
+        kept: Ok(WHOLE),
+    },
+    Case {
+        name: "entries",
+        mode: RecoveryMode::TolerateTailCorruption,
+        log: &[HEADER_2, PUT, ENTRIES],
+        kept: Err(2),
+    },
+    Case {
+        name: "a compressed block",
+        mode: RecoveryMode::TolerateTailCorruption,
+        log: &[HEADER_2, PUT, LZ4],
+        kept: Err(13),
+    },
+];
+
+fn joined(alloc: Global, parts: &[&[u8]]) -> Result<Vec<u8>, AllocError> {
     let mut bytes = Vec::new(alloc);
-    LogFileFormat::new(version, 0).encode(&mut bytes)?;
+    for part in parts {
+        bytes.extend_from_slice(part)?;
+    }
     Ok(bytes)
 }
 
-/// A log with one put, and these bytes behind it.
-fn log_before(alloc: Global, tail: &[u8]) -> Result<Vec<u8>, Fail> {
-    let mut bytes = header(alloc, Version::V2)?;
-    bytes.extend_from_slice(PUT)?;
-    bytes.extend_from_slice(tail)?;
-    Ok(bytes)
+fn store<F: FileSystem>(files: &mut F, bytes: &[u8]) -> Result<(), FsFault> {
+    files.make_dir("raft")?;
+    let handle = files.create(LOG)?;
+    let mut writer = files.new_writer(&handle)?;
+    files.write(&mut writer, 0, bytes)
 }
 
-fn store<F: FileSystem>(files: &mut F, bytes: &[u8]) -> Result<(), Fail> {
-    files.make_dir("raft").map_err(|_| "make_dir")?;
-    let handle = files.create(LOG).map_err(|_| "create")?;
-    let mut writer = files.new_writer(&handle).map_err(|_| "new_writer")?;
-    files.write(&mut writer, 0, bytes).map_err(|_| "write")?;
-    Ok(())
-}
-
-fn stored<F: FileSystem>(alloc: Global, files: &mut F) -> Result<Vec<u8>, Fail> {
-    let handle = files.open(LOG, Permission::ReadOnly).map_err(|_| "open")?;
-    let size = files.file_size(&handle).map_err(|_| "file_size")?;
-    let mut reader = files.new_reader(&handle).map_err(|_| "new_reader")?;
-    let mut bytes = vec![in alloc; 0; size]?;
+fn is_stored<F: FileSystem>(alloc: Global, files: &mut F, wanted: &[u8]) -> Result<bool, FsFault> {
+    let handle = files.open(LOG, Permission::ReadOnly)?;
+    let size = files.file_size(&handle)?;
+    let mut reader = files.new_reader(&handle)?;
+    let mut bytes = vec![in alloc; 0; wanted.len()]?;
     let read = files.read(&mut reader, 0, &mut bytes);
     files.end_reader(reader);
-    let count = read.map_err(|_| "read")?;
-    bytes.truncate(count);
-    Ok(bytes)
+    Ok(read? == size && bytes.as_slice() == wanted)
 }
 
-// The log is opened, what is left of it found, and closed.
-fn opens<F: FileSystem + Drop>(
-    rt: &impl Abort,
-    alloc: Global,
-    mut files: F,
-    mode: RecoveryMode,
-    bytes: &[u8],
-    kept: &[u8],
-) -> Result<(), Fail> {
-    store(&mut files, bytes)?;
-    let engine = Engine::open_in_order(alloc, settings(alloc, mode)?, files).map_err(
-        |refused| refused.fault,
-    )?;
-    let value = engine.get(1, b"k")?;
-    assert_eq!(rt; value.is_some(), kept.len() > 69);
-    let mut files = engine.close().map_err(|refused| refused.fault)?;
-    let left = stored(alloc, &mut files)?;
-    assert_eq!(rt; left.as_slice(), kept);
-    Ok(())
+// The log is opened, asked for the put, and closed: whether the put is found where more than a header is kept.
+fn closed<F: FileSystem + Drop>(engine: Engine<F>, kept: &[u8]) -> Result<(bool, F), Fault> {
+    let found = engine.get(1, b"k")?.is_some() == (kept.len() > HEADER_2.len());
+    let files = engine.close().map_err(|refused| refused.fault)?;
+    Ok((found, files))
 }
 
-// The opening is refused, and the file is as it was.
-fn refuses<F: FileSystem + Drop>(
-    rt: &impl Abort,
-    alloc: Global,
-    mut files: F,
-    mode: RecoveryMode,
-    bytes: &[u8],
-    code: u8,
-) -> Result<(), Fail> {
-    store(&mut files, bytes)?;
-    match Engine::open_in_order(alloc, settings(alloc, mode)?, files) {
-        Ok(_) => Err("it was opened".into()),
-        Err(refused) => {
-            assert_eq!(rt; refused.fault.code(), code);
-            let mut files = refused.file_system;
-            let left = stored(alloc, &mut files)?;
-            assert_eq!(rt; left.as_slice(), bytes);
-            Ok(())
+fn holds<F: FileSystem + Drop>(alloc: Global, mut files: F, case: &Case) -> Result<bool, Fail> {
+    let bytes = joined(alloc, case.log)?;
+    store(&mut files, &bytes)?;
+    let mut config = settings(alloc)?;
+    config.recovery_mode = case.mode;
+    match (Engine::open_in_order(alloc, config, files), case.kept) {
+        (Ok(engine), Ok(parts)) => {
+            let kept = joined(alloc, parts)?;
+            let (found, mut files) = closed(engine, &kept)?;
+            Ok(found && is_stored(alloc, &mut files, &kept)?)
         }
+        (Err(refused), Err(code)) => {
+            let mut files = refused.file_system;
+            Ok(refused.fault.code() == code && is_stored(alloc, &mut files, &bytes)?)
+        }
+        _ => Ok(false),
     }
 }
 
 #[test]
-fn a_broken_tail_is_cut(rt: HostRuntime) -> Result<(), Fail> {
-    let alloc = rt.alloc();
-    let tails: [&[u8]; 5] = [&PUT[..27], &PUT[1..], &[0; 40], b"x", BROKEN_ENTRIES];
-    let kept = log_before(alloc, &[])?;
-    for tail in tails {
-        let files = MemoryFileSystem::new(alloc);
-        let bytes = log_before(alloc, tail)?;
-        opens(
-            &rt,
-            alloc,
-            files,
-            RecoveryMode::TolerateTailCorruption,
-            &bytes,
-            &kept,
-        )?;
-    }
-    Ok(())
-}
-
-#[test]
-fn a_broken_header_is_written_anew(rt: HostRuntime) -> Result<(), Fail> {
-    let alloc = rt.alloc();
-    let whole = log_before(alloc, &[])?;
-    let kept = header(alloc, Version::V1)?;
-    let (cut, _) = whole.split_at_checked(68).ok_or("a short log")?;
-    let (_, moved) = whole.split_at_checked(1).ok_or("a short log")?;
-    let broken: [&[u8]; 4] = [&[], cut, moved, &[0; 200]];
-    for bytes in broken {
-        let files = MemoryFileSystem::new(alloc);
-        opens(
-            &rt,
-            alloc,
-            files,
-            RecoveryMode::TolerateAnyCorruption,
-            bytes,
-            &kept,
-        )?;
-    }
-    Ok(())
-}
-
-#[test]
-fn the_absolute_mode_cuts_nothing(rt: HostRuntime) -> Result<(), Fail> {
-    let alloc = rt.alloc();
-    let torn = log_before(alloc, &PUT[..27])?;
-    let zeros = log_before(alloc, &[0; 40])?;
-    let (cut, _) = torn.split_at_checked(68).ok_or("a short log")?;
-    let broken: [&[u8]; 4] = [&torn, &zeros, cut, &[]];
-    for bytes in broken {
-        let files = MemoryFileSystem::new(alloc);
-        refuses(
-            &rt,
-            alloc,
-            files,
-            RecoveryMode::AbsoluteConsistency,
-            bytes,
-            2,
-        )?;
-    }
-    Ok(())
-}
-
-#[test]
-fn a_whole_log_is_opened_in_the_absolute_mode(rt: HostRuntime) -> Result<(), Fail> {
-    let alloc = rt.alloc();
-    let whole = log_before(alloc, &[])?;
-    let files = MemoryFileSystem::new(alloc);
-    opens(
-        &rt,
-        alloc,
-        files,
-        RecoveryMode::AbsoluteConsistency,
-        &whole,
-        &whole,
-    )
-}
-
-#[test]
-fn records_that_are_not_decoded_are_kept(rt: HostRuntime) -> Result<(), Fail> {
-    let alloc = rt.alloc();
-    let records: [(&[u8], u8); 2] = [(ENTRIES, 2), (LZ4, 13)];
-    for (record, code) in records {
-        let files = MemoryFileSystem::new(alloc);
-        let bytes = log_before(alloc, record)?;
-        refuses(
-            &rt,
-            alloc,
-            files,
-            RecoveryMode::TolerateTailCorruption,
-            &bytes,
-            code,
-        )?;
+fn what_can_be_read_is_kept(rt: HostRuntime) -> Result<(), Fail> {
+    for case in &CASES {
+        let files = MemoryFileSystem::new(rt.alloc());
+        assert!(rt; holds(rt.alloc(), files, case)?, "{}", case.name);
     }
     Ok(())
 }

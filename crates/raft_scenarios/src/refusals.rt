@@ -1,7 +1,8 @@
 //! Operations with one call to the files refused.
 
+use crate::plans::{fault_of, ops_of};
 use crate::states::{
-    EMPTY, State, after, first_refused, is_allowed, is_done, operations, settings, state_of,
+    EMPTY, OPERATIONS, State, after, first_refused, is_allowed, is_done, settings, state_of,
     value_of,
 };
 use raft_env::{Choice, FileSystem, FsCall, IoKind, MemoryFileSystem};
@@ -84,14 +85,6 @@ fn is_refusal(fault: &Fault, kind: IoKind) -> bool {
     match fault {
         Fault::Io(by, _) => *by == kind,
         _ => false,
-    }
-}
-
-fn fault_of(outcome: &Outcome) -> Option<&Fault> {
-    match outcome {
-        Outcome::Size(answer) => answer.as_ref().err(),
-        Outcome::Done(answer) => answer.as_ref().err(),
-        Outcome::Value(answer) => answer.as_ref().err(),
     }
 }
 
@@ -183,7 +176,7 @@ fn refuse_one(
 #[test]
 fn each_call_may_be_refused(rt: HostRuntime) -> Result<(), Fail> {
     let alloc = rt.alloc();
-    let ops = operations(alloc)?;
+    let ops = ops_of(alloc, &OPERATIONS)?;
     let wanted = answered(&rt, alloc, &ops)?;
     for call in CALLS {
         for kind in KINDS {

@@ -1,5 +1,6 @@
 //! Operations on four keys, and what the keys hold: told from the operations alone, and read from an image.
 
+use crate::plans::{Change, Plan};
 use raft_log_engine::{Config, Image};
 use raft_records::{Fresh, ReadableSize};
 use raft_script::{Act, Op, Outcome};
@@ -133,30 +134,21 @@ pub(crate) fn settings(alloc: Global) -> Result<Config, AllocError> {
     Ok(config)
 }
 
-fn put(alloc: Global, group: u64, key: &[u8], value: u8, len: usize) -> Result<Act, AllocError> {
-    let mut bytes = Vec::new(alloc);
-    for _ in 0..len {
-        bytes.push(value)?;
-    }
-    Ok(Act::Put(group, key.to_vec(alloc)?, bytes))
-}
-
-fn delete(alloc: Global, group: u64, key: &[u8]) -> Result<Act, AllocError> {
-    Ok(Act::Delete(group, key.to_vec(alloc)?))
-}
-
-pub(crate) fn operations(alloc: Global) -> Result<Vec<Op>, AllocError> {
-    let mut ops = Vec::new(alloc);
-    ops.push(Op::Write(vec![in alloc; put(alloc, 1, b"a", 1, 1)?]?, true))?;
-    let both = vec![in alloc; put(alloc, 1, b"b", 2, 40)?, put(alloc, 2, b"c", 3, 1)?]?;
-    ops.push(Op::Write(both, false))?;
-    ops.push(Op::Get(1, b"b".to_vec(alloc)?))?;
-    let change = vec![in alloc; delete(alloc, 1, b"a")?, put(alloc, 2, b"d", 4, 20)?]?;
-    ops.push(Op::Write(change, false))?;
-    ops.push(Op::Sync)?;
-    ops.push(Op::Write(vec![in alloc; put(alloc, 1, b"a", 5, 900)?]?, false))?;
-    ops.push(Op::Get(1, b"a".to_vec(alloc)?))?;
-    ops.push(Op::Write(vec![in alloc; delete(alloc, 2, b"c")?]?, true))?;
-    ops.push(Op::Write(vec![in alloc; put(alloc, 2, b"c", 6, 9)?]?, false))?;
-    Ok(ops)
-}
+/// Operations on the four keys.
+pub(crate) const OPERATIONS: [Plan; 9] = [
+    Plan::Write(&[Change::Put(1, b"a", &[1])], true),
+    Plan::Write(
+        &[Change::Put(1, b"b", &[2; 40]), Change::Put(2, b"c", &[3])],
+        false,
+    ),
+    Plan::Get(1, b"b"),
+    Plan::Write(
+        &[Change::Delete(1, b"a"), Change::Put(2, b"d", &[4; 20])],
+        false,
+    ),
+    Plan::Sync,
+    Plan::Write(&[Change::Put(1, b"a", &[5; 900])], false),
+    Plan::Get(1, b"a"),
+    Plan::Write(&[Change::Delete(2, b"c")], true),
+    Plan::Write(&[Change::Put(2, b"c", &[6; 9])], false),
+];

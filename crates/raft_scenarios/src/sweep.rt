@@ -1,6 +1,7 @@
 //! Operations that are stopped at each call that changes files, and then crashed in many ways.
 
-use crate::states::{first_refused, is_allowed, is_done, operations, settings, state_of};
+use crate::plans::ops_of;
+use crate::states::{OPERATIONS, first_refused, is_allowed, is_done, settings, state_of};
 use raft_env::Choice;
 use raft_script::{Op, Trial, trial};
 use std::alloc::Global;
@@ -50,7 +51,7 @@ fn crash_at(
 #[test]
 fn every_stop_and_crash_finds_what_may_be_found(rt: HostRuntime) -> Result<(), Fail> {
     let alloc = rt.alloc();
-    let ops = operations(alloc)?;
+    let ops = ops_of(alloc, &OPERATIONS)?;
     for stop in 1..MAX_CALLS {
         let stopped = crash_at(&rt, alloc, &ops, stop, Choice::All)?;
         crash_at(&rt, alloc, &ops, stop, Choice::Synced)?;

@@ -4,7 +4,7 @@ use Rattle.std.specs.Prelude.{◌||◌, is_none, is_some, option_map, if◌then�
 use Rattle.std.proofs.lemmas.List.{append-nil, nil_from_length}
 use Rattle.std.proofs.lemmas.List.Sums.{fold-append, sum_by-append}
 use Rattle.std.proofs.Math.Seq.{take-suc}
-use Rattle.raft_env.specs.Refusal.{Rose}
+use Rattle.raft_env.specs.Refusal.{NoFewer, Refusals, Rose}
 use Rattle.raft_records.specs.Contents.{Contents, no_contents, after_batch, after_batches, after_item}
 use Rattle.raft_records.specs.Batch.{is_internal_key}
 use Rattle.raft_records.specs.Item.{Item, Batch, Put, Delete}
@@ -17,7 +17,7 @@ use Rattle.raft_files.specs.Writer.{bytes_of}
 use Rattle.raft_env.specs.Memory.{no_files}
 use Rattle.raft_log_engine.proofs.OpenLemmas.{nothing_holds_nothing}
 use Rattle.raft_log_engine.specs.Log.{contents_at, contents_in, log_path}
-use Rattle.raft_script.specs.Run.{accepted, accepted_of, AreAnswers, AreFailing, FailsAt, IsFailing, IsFailurePlace, RoseBy, batch_of_acts, io_count, is_refused_by_storage, IsAnswer, item_of_act, pending_items, with_first, with_items}
+use Rattle.raft_script.specs.Run.{accepted_batches, accepted_of, AreAnswers, AreSteady, FailsAt, IsFailing, IsFailurePlace, RoseBy, batch_of_acts, io_count, is_refused_as_failed, is_refused_by_storage, IsAnswer, item_of_act, pending_batches, with_first, written_batches}
 use Rattle.raft_script.specs.declared.operation.Act.{Act}
 use Rattle.raft_script.specs.declared.operation.Act.TheVariants as act
 use Rattle.raft_script.specs.declared.operation.Op.{Op}
@@ -25,17 +25,17 @@ use Rattle.raft_script.specs.declared.operation.Op.TheVariants.{Write, Sync, Get
 use Rattle.raft_script.specs.declared.operation.Outcome.{Outcome}
 use Rattle.raft_script.specs.declared.operation.Outcome.TheVariants.{Size, Done, Value}
 
--- items, and the batch of the acts behind them, where there is one
-abbrev pub behind : Batch → Option Batch → Option Batch
-behind items rest = option_map (λ more. items ++ more) rest
+-- items, followed by the batch of more acts, where there is one
+abbrev pub followed_by : Batch → Option Batch → Option Batch
+followed_by items rest = option_map (λ more. items ++ more) rest
 
 -- the items are those of the first acts of a list
 abbrev pub IsBuilt : Batch → ℕ → List Act → Type 0
-IsBuilt items n acts = behind items (batch_of_acts (drop n acts)) ≡ batch_of_acts acts
+IsBuilt items n acts = followed_by items (batch_of_acts (drop n acts)) ≡ batch_of_acts acts
 
-behind-with_first : (items : Batch) (item : Item) (rest : Option Batch) → behind items (with_first (Some item) rest) ≡ behind (items ++ item ∷ []) rest
-behind-with_first items item None = refl
-behind-with_first items item (Some more) = ap Some (sym (append_assoc items (item ∷ []) more))
+followed_by-with_first : (items : Batch) (item : Item) (rest : Option Batch) → followed_by items (with_first (Some item) rest) ≡ followed_by (items ++ item ∷ []) rest
+followed_by-with_first items item None = refl
+followed_by-with_first items item (Some more) = ap Some (sym (append_assoc items (item ∷ []) more))
 
 pub ahead : {X : Type 0} (xs : List X) (i : ℕ) (x : X) → i < length xs → x ≡ get_or xs i x → drop i xs ≡ x ∷ drop (i + 1) xs
 ahead xs i x within is =
@@ -44,24 +44,24 @@ ahead xs i x within is =
 
 pub built_more : (items : Batch) (n : ℕ) (acts : List Act) (act : Act) (item : Item) → n < length acts → act ≡ get_or acts n act → item_of_act act ≡ Some item → IsBuilt items n acts → IsBuilt (items ++ item ∷ []) (n + 1) acts
 built_more items n acts act item within is item_is built =
-    sym (behind-with_first items item (batch_of_acts (drop (n + 1) acts)))
-    ∙ ap (λ o. behind items (with_first o (batch_of_acts (drop (n + 1) acts)))) (sym item_is)
-    ∙ ap (λ l. behind items (batch_of_acts l)) (sym (ahead acts n act within is))
+    sym (followed_by-with_first items item (batch_of_acts (drop (n + 1) acts)))
+    ∙ ap (λ o. followed_by items (with_first o (batch_of_acts (drop (n + 1) acts)))) (sym item_is)
+    ∙ ap (λ l. followed_by items (batch_of_acts l)) (sym (ahead acts n act within is))
     ∙ built
 
 -- no batch where an act has no item
 pub built_refused : (items : Batch) (n : ℕ) (acts : List Act) (act : Act) → n < length acts → act ≡ get_or acts n act → item_of_act act ≡ None → IsBuilt items n acts → batch_of_acts acts ≡ None
 built_refused items n acts act within is none built =
     sym built
-    ∙ ap (λ l. behind items (batch_of_acts l)) (ahead acts n act within is)
-    ∙ ap (λ o. behind items (with_first o (batch_of_acts (drop (n + 1) acts)))) none
+    ∙ ap (λ l. followed_by items (batch_of_acts l)) (ahead acts n act within is)
+    ∙ ap (λ o. followed_by items (with_first o (batch_of_acts (drop (n + 1) acts)))) none
 
 pub built_ended : (items : Batch) (n : ℕ) (acts : List Act) → drop n acts ≡ [] → IsBuilt items n acts → batch_of_acts acts ≡ Some items
-built_ended items n acts none built = sym built ∙ ap (λ l. behind items (batch_of_acts l)) none ∙ ap Some (append-nil items)
+built_ended items n acts none built = sym built ∙ ap (λ l. followed_by items (batch_of_acts l)) none ∙ ap Some (append-nil items)
 
-pub after-with_items : (m : Contents) (batch : Batch) → after_batches m (with_items (Some batch)) ≡ after_batch m batch
-after-with_items m [] = refl
-after-with_items m (item ∷ items) = refl
+pub after-written_batches : (m : Contents) (batch : Batch) → after_batches m (written_batches (Some batch)) ≡ after_batch m batch
+after-written_batches m [] = refl
+after-written_batches m (item ∷ items) = refl
 
 -- a batch of puts and deletes is refused by no contents
 abbrev refusal_of : Contents → Option Batch → Option Fault
@@ -82,39 +82,39 @@ acts_refusal : (m : Contents) (acts : List Act) → refusal_of m (batch_of_acts 
 acts_refusal m [] = refl
 acts_refusal m (a ∷ acts) = act_refusal m a (batch_of_acts acts) (λ n. acts_refusal n acts)
 
-pending_all : (m : Contents) (built : Option Batch) → refusal_of m built ≡ None → with_items built ≡ pending_items m built
+pending_all : (m : Contents) (built : Option Batch) → refusal_of m built ≡ None → written_batches built ≡ pending_batches m built
 pending_all m None valid = refl
 pending_all m (Some batch) valid = ap (λ (r : Option Fault). if is_none r then written_batch batch else []) (sym valid)
 
 -- so all of it may be in flight
-pub acts_pending : (m : Contents) (acts : List Act) → with_items (batch_of_acts acts) ≡ pending_items m (batch_of_acts acts)
+pub acts_pending : (m : Contents) (acts : List Act) → written_batches (batch_of_acts acts) ≡ pending_batches m (batch_of_acts acts)
 acts_pending m acts = pending_all m (batch_of_acts acts) (acts_refusal m acts)
 
 -- what a run has come to: the operations so far, their outcomes, and what the engine holds
 pub record IsRunning (before : Contents) (ops : List Op) (outcomes : List Outcome) (now : Contents) (failed : Bool) : Type 0 where
   pub len : length outcomes ≡ length ops
   pub answers : AreAnswers before ops outcomes
-  pub contents : failed ≡ false → now ≡ after_batches before (accepted ops outcomes)
+  pub contents : failed ≡ false → now ≡ after_batches before (accepted_batches ops outcomes)
 
 pub running_begun : (m : Contents) (failed : Bool) → IsRunning m [] [] m failed
 running_begun m failed = record { len = refl; answers = tt; contents = λ _. refl }
 
-answers_more : (m : Contents) (ops : List Op) (outcomes : List Outcome) (op : Op) (outcome : Outcome) → AreAnswers m ops outcomes → IsAnswer (after_batches m (accepted ops outcomes)) op outcome
+answers_more : (m : Contents) (ops : List Op) (outcomes : List Outcome) (op : Op) (outcome : Outcome) → AreAnswers m ops outcomes → IsAnswer (after_batches m (accepted_batches ops outcomes)) op outcome
     → AreAnswers m (ops ++ op ∷ []) (outcomes ++ outcome ∷ [])
 answers_more m [] [] op outcome answers more = (more, tt)
 answers_more m [] (o ∷ outcomes) op outcome answers more = absurd answers
 answers_more m (p ∷ ops) [] op outcome answers more = absurd answers
 answers_more m (p ∷ ops) (o ∷ outcomes) op outcome answers more = (
   answers.0,
-  answers_more (after_batches m (accepted_of p o)) ops outcomes op outcome answers.1 (subst (λ (n : Contents). IsAnswer n op outcome) (fold-append after_batch m (accepted_of p o) (accepted ops outcomes)) more),
+  answers_more (after_batches m (accepted_of p o)) ops outcomes op outcome answers.1 (subst (λ (n : Contents). IsAnswer n op outcome) (fold-append after_batch m (accepted_of p o) (accepted_batches ops outcomes)) more),
 )
 
-pub accepted_more : (ops : List Op) (outcomes : List Outcome) (op : Op) (outcome : Outcome) → length outcomes ≡ length ops → accepted (ops ++ op ∷ []) (outcomes ++ outcome ∷ []) ≡ accepted ops outcomes ++ accepted_of op outcome
+pub accepted_more : (ops : List Op) (outcomes : List Outcome) (op : Op) (outcome : Outcome) → length outcomes ≡ length ops → accepted_batches (ops ++ op ∷ []) (outcomes ++ outcome ∷ []) ≡ accepted_batches ops outcomes ++ accepted_of op outcome
 accepted_more [] [] op outcome same = append-nil (accepted_of op outcome)
 accepted_more [] (o ∷ outcomes) op outcome same = absurd (omega (arith, same))
 accepted_more (p ∷ ops) [] op outcome same = absurd (omega (arith, same))
 accepted_more (p ∷ ops) (o ∷ outcomes) op outcome same =
-    ap (λ (l : List Batch). accepted_of p o ++ l) (accepted_more ops outcomes op outcome (omega (arith, same))) ∙ sym (append_assoc (accepted_of p o) (accepted ops outcomes) (accepted_of op outcome))
+    ap (λ (l : List Batch). accepted_of p o ++ l) (accepted_more ops outcomes op outcome (omega (arith, same))) ∙ sym (append_assoc (accepted_of p o) (accepted_batches ops outcomes) (accepted_of op outcome))
 
 pub taken_more : {X : Type 0} (xs : List X) (i : ℕ) (x : X) → i < length xs → x ≡ get_or xs i x → take (i + 1) xs ≡ take i xs ++ x ∷ []
 taken_more xs i x within is =
@@ -128,9 +128,9 @@ module _ (before : Contents) (ops : List Op) (outcomes : List Outcome) (now : Co
       → IsRunning before (ops ++ op ∷ []) (outcomes ++ outcome ∷ []) next fails
   running_more answer contents still = record {
     len = length-append outcomes (outcome ∷ []) ∙ ap (λ (n : ℕ). n + 1) running.len ∙ sym (length-append ops (op ∷ []));
-    answers = answers_more before ops outcomes op outcome running.answers (answer (after_batches before (accepted ops outcomes)) (λ stands. sym (running.contents stands)));
+    answers = answers_more before ops outcomes op outcome running.answers (answer (after_batches before (accepted_batches ops outcomes)) (λ stands. sym (running.contents stands)));
     contents = λ stands. contents stands ∙ ap (λ (m : Contents). after_batches m (accepted_of op outcome)) (running.contents (stood failed still stands))
-        ∙ sym (fold-append after_batch before (accepted ops outcomes) (accepted_of op outcome)) ∙ ap (after_batches before) (sym (accepted_more ops outcomes op outcome running.len));
+        ∙ sym (fold-append after_batch before (accepted_batches ops outcomes) (accepted_of op outcome)) ∙ ap (after_batches before) (sym (accepted_more ops outcomes op outcome running.len));
   }
     where
       stood : (b : Bool) → (b ≡ true → fails ≡ true) → fails ≡ false → b ≡ false
@@ -148,11 +148,11 @@ contents_at-no_files folder n is =
 
 -- Failures.
 
-pub failing_more : (failed : Bool) (ops : List Op) (outcomes : List Outcome) (mid : Bool) (op : Op) (outcome : Outcome) (fails : Bool) → AreFailing failed ops outcomes mid → IsFailing mid op outcome fails → AreFailing failed (ops ++ op ∷ []) (outcomes ++ outcome ∷ []) fails
-failing_more failed [] [] mid op outcome fails are is = (fails, subst (λ (b : Bool). IsFailing b op outcome fails) are is, refl)
-failing_more failed [] (o ∷ outcomes) mid op outcome fails are is = absurd are
-failing_more failed (p ∷ ops) [] mid op outcome fails are is = absurd are
-failing_more failed (p ∷ ops) (o ∷ outcomes) mid op outcome fails are is = (are.0, are.1, failing_more are.0 ops outcomes mid op outcome fails are.2 is)
+steady_more : (failed : Bool) (ops : List Op) (outcomes : List Outcome) (op : Op) (outcome : Outcome) → AreSteady failed ops outcomes → IsFailing failed op outcome failed → AreSteady failed (ops ++ op ∷ []) (outcomes ++ outcome ∷ [])
+steady_more failed [] [] op outcome are is = (is, tt)
+steady_more failed [] (o ∷ outcomes) op outcome are is = absurd are
+steady_more failed (p ∷ ops) [] op outcome are is = absurd are
+steady_more failed (p ∷ ops) (o ∷ outcomes) op outcome are is = (are.0, steady_more failed ops outcomes op outcome are.1 is)
 
 -- Where an engine failed.
 
@@ -168,34 +168,31 @@ still_by (Get group key) (Size answer) fails is = absurd is
 still_by (Get group key) (Done answer) fails is = absurd is
 still_by (Get group key) (Value answer) fails is = is.0.still refl
 
-still_failing : (ops : List Op) (outcomes : List Outcome) (fails : Bool) → AreFailing true ops outcomes fails → fails ≡ true
-still_failing [] [] fails are = are
-still_failing [] (o ∷ outcomes) fails are = absurd are
-still_failing (p ∷ ops) [] fails are = absurd are
-still_failing (p ∷ ops) (o ∷ outcomes) fails (next, first, are) = still_failing ops outcomes fails (subst (λ (b : Bool). AreFailing b ops outcomes fails) (still_by p o next first) are)
+-- what is refused as `Failed` an engine refused that had failed
+pub told_by : (failed : Bool) (op : Op) (outcome : Outcome) (fails : Bool) → IsFailing failed op outcome fails → is_refused_as_failed outcome ≡ true → failed ≡ true
+told_by failed (Write acts sync) (Size answer) fails is told = is.told told
+told_by failed (Write acts sync) (Done answer) fails is told = absurd is
+told_by failed (Write acts sync) (Value answer) fails is told = absurd is
+told_by failed Sync (Size answer) fails is told = absurd is
+told_by failed Sync (Done answer) fails is told = is.0.told told
+told_by failed Sync (Value answer) fails is told = absurd is
+told_by failed (Get group key) (Size answer) fails is told = absurd is
+told_by failed (Get group key) (Done answer) fails is told = absurd is
+told_by failed (Get group key) (Value answer) fails is told = is.0.told told
 
-fails_at_here : (ops : List Op) (outcomes : List Outcome) (op : Op) (outcome : Outcome) → AreFailing false ops outcomes false → IsFailing false op outcome true → FailsAt (length ops) (ops ++ op ∷ []) (outcomes ++ outcome ∷ [])
-fails_at_here [] [] op outcome are is = (is, refl)
+fails_at_here : (ops : List Op) (outcomes : List Outcome) (op : Op) (outcome : Outcome) → AreSteady false ops outcomes → IsFailing false op outcome true → FailsAt (length ops) (ops ++ op ∷ []) (outcomes ++ outcome ∷ [])
+fails_at_here [] [] op outcome are is = (is, tt)
 fails_at_here [] (o ∷ outcomes) op outcome are is = absurd are
 fails_at_here (p ∷ ops) [] op outcome are is = absurd are
-fails_at_here (p ∷ ops) (o ∷ outcomes) op outcome (false, first, are) is = (first, fails_at_here ops outcomes op outcome are is)
-fails_at_here (p ∷ ops) (o ∷ outcomes) op outcome (true, first, are) is = absurd (let clash = still_failing ops outcomes false are in cc)
+fails_at_here (p ∷ ops) (o ∷ outcomes) op outcome are is = (are.0, fails_at_here ops outcomes op outcome are.1 is)
 
 fails_at_more : (place : ℕ) (ops : List Op) (outcomes : List Outcome) (op : Op) (outcome : Outcome) → FailsAt place ops outcomes → IsFailing true op outcome true → FailsAt place (ops ++ op ∷ []) (outcomes ++ outcome ∷ [])
 fails_at_more zero [] outcomes op outcome at is = absurd at
 fails_at_more (suc place) [] outcomes op outcome at is = absurd at
 fails_at_more zero (p ∷ ops) [] op outcome at is = absurd at
 fails_at_more (suc place) (p ∷ ops) [] op outcome at is = absurd at
-fails_at_more zero (p ∷ ops) (o ∷ outcomes) op outcome at is = (at.0, failing_more true ops outcomes true op outcome true at.1 is)
+fails_at_more zero (p ∷ ops) (o ∷ outcomes) op outcome at is = (at.0, steady_more true ops outcomes op outcome at.1 is)
 fails_at_more (suc place) (p ∷ ops) (o ∷ outcomes) op outcome at is = (at.0, fails_at_more place ops outcomes op outcome at.1 is)
-
-fails_at_failing : (place : ℕ) (ops : List Op) (outcomes : List Outcome) → FailsAt place ops outcomes → AreFailing false ops outcomes true
-fails_at_failing zero [] outcomes at = absurd at
-fails_at_failing (suc place) [] outcomes at = absurd at
-fails_at_failing zero (p ∷ ops) [] at = absurd at
-fails_at_failing (suc place) (p ∷ ops) [] at = absurd at
-fails_at_failing zero (p ∷ ops) (o ∷ outcomes) at = (true, at.0, at.1)
-fails_at_failing (suc place) (p ∷ ops) (o ∷ outcomes) at = (false, at.0, fails_at_failing place ops outcomes at.1)
 
 -- where the engine failed once the operation at a place is done
 pub record IsNextPlace (failed fails : Bool) (place : ℕ) (before next : Option ℕ) : Type 0 where
@@ -205,8 +202,8 @@ pub record IsNextPlace (failed fails : Bool) (place : ℕ) (before next : Option
 module _ (ops : List Op) (outcomes : List Outcome) (op : Op) (outcome : Outcome) where
   -- the engine is as it was before the operation
   place_kept : (had failed : Bool) (failed_at : Option ℕ) → failed ≡ (had || is_some failed_at) → IsFailurePlace had ops outcomes failed_at → IsFailing failed op outcome failed → IsFailurePlace had (ops ++ op ∷ []) (outcomes ++ outcome ∷ []) failed_at
-  place_kept true failed None now at is = failing_more true ops outcomes true op outcome true at (subst (λ (b : Bool). IsFailing b op outcome b) now is)
-  place_kept false failed None now at is = failing_more false ops outcomes false op outcome false at (subst (λ (b : Bool). IsFailing b op outcome b) now is)
+  place_kept true failed None now at is = steady_more true ops outcomes op outcome at (subst (λ (b : Bool). IsFailing b op outcome b) now is)
+  place_kept false failed None now at is = steady_more false ops outcomes op outcome at (subst (λ (b : Bool). IsFailing b op outcome b) now is)
   place_kept true failed (Some place) now at is = (at.0, fails_at_more place ops outcomes op outcome at.1 (subst (λ (b : Bool). IsFailing b op outcome b) now is))
   place_kept false failed (Some place) now at is = (at.0, fails_at_more place ops outcomes op outcome at.1 (subst (λ (b : Bool). IsFailing b op outcome b) now is))
 
@@ -240,17 +237,10 @@ pub stands_so_far : (had : Bool) → had ≡ (had || false)
 stands_so_far true = refl
 stands_so_far false = refl
 
--- the failures of operations with such a place
-pub place_failing : (had failed : Bool) (ops : List Op) (outcomes : List Outcome) (failed_at : Option ℕ) → failed ≡ (had || is_some failed_at) → IsFailurePlace had ops outcomes failed_at → AreFailing had ops outcomes failed
-place_failing true failed ops outcomes None now at = subst (AreFailing true ops outcomes) (sym now) at
-place_failing false failed ops outcomes None now at = subst (AreFailing false ops outcomes) (sym now) at
-place_failing true failed ops outcomes (Some place) now at = absurd (let clash = at.0 in cc)
-place_failing false failed ops outcomes (Some place) now at = subst (AreFailing false ops outcomes) (sym now) (fails_at_failing place ops outcomes at.1)
-
 -- Storage's refusals.
 
 -- one outcome more
-pub rose_more : (outcomes : List Outcome) (outcome : Outcome) (old mid new : ℕ) → RoseBy (io_count outcomes) old mid → (is_refused_by_storage outcome ≡ true → Rose mid new) → mid ≤ new → RoseBy (io_count (outcomes ++ outcome ∷ [])) old new
+pub rose_more : (outcomes : List Outcome) (outcome : Outcome) (old mid new : Refusals) → RoseBy (io_count outcomes) old mid → (is_refused_by_storage outcome ≡ true → Rose mid new) → NoFewer mid new → RoseBy (io_count (outcomes ++ outcome ∷ [])) old new
 rose_more outcomes outcome old mid new so_far rose counts =
     subst (λ (n : ℕ). RoseBy n old new) (sym (sum_by-append _ outcomes (outcome ∷ []))) (by_case (is_refused_by_storage outcome) rose)
   where

@@ -213,7 +213,7 @@ fn crashed(
 fn count_files<F: FileSystem>(alloc: Global, files: &mut F) -> Result<usize, Fault> {
     match files.list(FOLDER) {
         Ok(names) => Ok(names.len()),
-        Err(fault) => Err(fault.at(alloc, FOLDER)),
+        Err(fault) => Err(fault.with_path(alloc, FOLDER)),
     }
 }
 

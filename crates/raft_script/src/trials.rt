@@ -9,13 +9,12 @@ ghost use Rattle.raft_files.specs.Writer.{bytes_at};
 ghost use Rattle.raft_log_engine.specs.Image.{IsImageOf};
 ghost use Rattle.raft_log_engine.specs.Log.{contents_at, log_path};
 ghost use Rattle.raft_log_engine.specs.Crash.{KeepsContents};
-ghost use Rattle.raft_script.specs.Durability.{LeavesAllowedBehind};
 ghost use Rattle.raft_log_engine.specs.Open.{IsOpenable};
-ghost use Rattle.raft_script.specs.Run.{IsOutside};
-ghost use Rattle.raft_script.specs.Trial.{AreAnswered, AreNotAllowed, AreNotAsked, IsLogRefusal, IsTrialOf};
+ghost use Rattle.raft_script.specs.Run.{IsStorageOrMemory};
+ghost use Rattle.raft_script.specs.Trial.{AreNotAllowed, IsLogRefusal, IsTrialOf, RunsOver};
 
 use crate::operation::{Op, Trial};
-use crate::runs::{Ran, run_watched};
+use crate::runs::{RunReport, run_watched};
 use raft_env::{Choice, FileSystem, MemoryFileSystem};
 use raft_log_engine::{Config, Engine, Image};
 use raft_records::Fault;
@@ -33,8 +32,11 @@ pub fn trial(
     stop: Option<u64>,
     choices: &[Choice],
 ) -> Result<Trial, Fault>
-    ensures crashed { IfOk result (IsTrialOf config.recovery_mode (string_bytes config.dir) ops.now choices.now) }
-    ensures cause { IfErr result (λ e. (e ≡ Fault.Memory) ⊎ ((fault_code e ≡ 1) × (NameNoBytes choices.now → ⊥) × AreNotAllowed (string_bytes config.dir) ops.now choices.now)) }
+    ensures crashed { IfOk result
+        (IsTrialOf config.recovery_mode (string_bytes config.dir) ops.now choices.now) }
+    ensures cause { IfErr result (λ e. (e ≡ Fault.Memory)
+        ⊎ ((fault_code e ≡ 1) × (NameNoBytes choices.now → ⊥)
+        × AreNotAllowed (string_bytes config.dir) ops.now choices.now)) }
 {
     let again = config.clone()?;
     let (ran, files) = run_over(alloc, config, new_files(alloc, stop), ops)?;
@@ -64,13 +66,11 @@ fn run_over<F: FileSystem + Drop>(
     config: Config,
     files: F,
     ops: &[Op],
-) -> Result<(Ran, F), Fault>
-    ensures answered { IfOk result (λ r. let found = contents_at (string_bytes config.dir) (F.directory files) in KeepsContents (string_bytes config.dir) found [] (F.directory files)
-        → AreAnswered found ops.now r.0.outcomes.items r.0.failed_at ⊎ AreNotAsked (string_bytes config.dir) found (F.directory r.1) r.0.outcomes.items r.0.failed_at) }
-    ensures behind { IfOk result (λ r. let found = contents_at (string_bytes config.dir) (F.directory files) in KeepsContents (string_bytes config.dir) found [] (F.directory files)
-        → LeavesAllowedBehind r.0.failed_at (string_bytes config.dir) found [] ops.now r.0.outcomes.items (F.directory r.1)) }
-    ensures no_file { IfOk result (λ r. let found = contents_at (string_bytes config.dir) (F.directory files) in KeepsContents (string_bytes config.dir) found [] (F.directory files)
-        → HasFile (F.directory r.1) (string_bytes config.dir) → ⊥) }
+) -> Result<(RunReport, F), Fault>
+    ensures ran { IfOk result (λ r. let dir = string_bytes config.dir in
+        let found = contents_at dir (F.directory files) in
+        KeepsContents dir found [] (F.directory files)
+        → RunsOver dir found ops.now r.0.outcomes.items r.0.failed_at (F.directory r.1)) }
     ensures cause { IfErr result (λ e. e ≡ Fault.Memory) }
 {
     match Engine::open_in_order(alloc, config, files) {
@@ -79,7 +79,7 @@ fn run_over<F: FileSystem + Drop>(
             Ok((ran, engine.give_up()))
         }
         Err(refused) => {
-            let nothing = Ran {
+            let nothing = RunReport {
                 outcomes: Vec::new(alloc),
                 failed_at: None,
             };
@@ -89,10 +89,15 @@ fn run_over<F: FileSystem + Drop>(
 }
 
 fn open_image<F: FileSystem + Drop>(alloc: Global, config: Config, files: F) -> Result<Image, Fault>
-    ensures value { IfOk result (λ image. IsImageOf image.groups.items (contents_at (string_bytes config.dir) (F.directory files))) }
-    ensures refused { IfErr result (λ e. IsOpenable config.recovery_mode (string_bytes config.dir) (F.directory files) → (HasFile (F.directory files) (string_bytes config.dir) → ⊥) → IsOutside e) }
-    ensures cause { IfErr result (λ e. (HasFile (F.directory files) (string_bytes config.dir) → ⊥)
-        → IsLogRefusal config.recovery_mode (log_path (string_bytes config.dir)) (F.directory files) (bytes_at (log_path (string_bytes config.dir)) (F.directory files)) e) }
+    ensures value { IfOk result (λ image.
+        IsImageOf image.groups.items (contents_at (string_bytes config.dir) (F.directory files))) }
+    ensures refused { IfErr result (λ e.
+        IsOpenable config.recovery_mode (string_bytes config.dir) (F.directory files)
+        → (HasFile (F.directory files) (string_bytes config.dir) → ⊥) → IsStorageOrMemory e) }
+    ensures cause { IfErr result (λ e. let path = log_path (string_bytes config.dir) in
+        (HasFile (F.directory files) (string_bytes config.dir) → ⊥)
+        → IsLogRefusal config.recovery_mode path (F.directory files)
+        (bytes_at path (F.directory files)) e) }
 {
     match Engine::open_in_order(alloc, config, files) {
         Ok(mut engine) => engine.image(),

@@ -4,8 +4,6 @@
 pub mod memtable;
 pub mod memtables;
 pub mod stats;
-#[cfg(test)]
-mod tests;
 
 pub use memtable::{KeyAndValue, MemTable};
 pub use memtables::MemTables;

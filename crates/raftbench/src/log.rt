@@ -159,7 +159,7 @@ fn close<F: FileSystem + Drop>(alloc: Global, engine: Engine<F>) -> Result<(F, u
     match engine.close() {
         Ok(mut files) => match log_len(&mut files) {
             Ok(len) => Ok((files, len)),
-            Err(fault) => Err(fault.at(alloc, LOG_PATH)),
+            Err(fault) => Err(fault.with_path(alloc, LOG_PATH)),
         },
         Err(refused) => Err(refused.fault),
     }

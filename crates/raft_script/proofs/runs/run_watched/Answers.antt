@@ -5,13 +5,13 @@ use Rattle.std.proofs.lemmas.List.Elements.{All-get_or}
 use Rattle.std.proofs.lemmas.Option.{slice_get_read}
 use Rattle.raft_env.specs.Moments.{Passes}
 use Rattle.raft_log_engine.specs.Crash.{LeavesAllowed}
-use Rattle.raft_script.specs.Durability.{Progress, PassesThrough, durability_of, progress_after_all, uncovered}
+use Rattle.raft_script.specs.Durability.{Progress, PassesThrough, durability_of, progress_after_all, progress_from}
 use Rattle.raft_script.specs.Run.{IsFailurePlace, IsUnasked}
 use Rattle.raft_script.specs.declared.operation.Op.{Op}
 use Rattle.raft_log_engine.specs.Engine.{contents_of, directory_of, durable_of, folder_of, has_failed, moments_of, refusals_of, unsynced_of}
 use Rattle.raft_log_engine.proofs.AllowedLemmas.{engine_holds, engine_leaves}
-use Rattle.raft_script.proofs.DurabilityLemmas.{IsUnderWay, durable_behind, inside_more, leaves_behind, progress_more, through_more, under_way_begun, under_way_more}
-use Rattle.raft_script.proofs.RunLemmas.{IsNextPlace, place_failing, place_more, rose_more, running_begun, running_more, stands_so_far, taken_more}
+use Rattle.raft_script.proofs.DurabilityLemmas.{IsUnderWay, durable_after, inside_more, leaves_after, progress_more, through_more, under_way_begun, under_way_more}
+use Rattle.raft_script.proofs.RunLemmas.{IsNextPlace, IsRunning, place_more, rose_more, running_begun, running_more, stands_so_far, taken_more, told_by}
 use Rattle.raft_script.proofs.runs.run_watched.Goals as goal
 use Rattle.raft_script.proofs.runs.run_watched.Goals.{then-stood+then-failed, else-stood, else-stood-via-then-stood+else-failed, else-stood-via-else-stood}
 
@@ -44,13 +44,13 @@ loop-op-preserved g c =
       }
     ] in
     let m = durable_of begun in
-    let first = uncovered (unsynced_of begun) in
+    let first = progress_from (unsynced_of begun) in
     let p = progress_after_all first ops outcomes in
     let here = slice_get_read c.args.ops.now (length c.args.ops.now) c.loop-op.op-index op refl c.loop-op-test.true c.op-item.is in
     let flight = step.does.flight in
     let way = under_way_more m p c.args.ops.now c.loop-op.op-index c.loop-op.failed_at c.if-stood.failed_at (durability_of old) kept.4 op outcome flight (durability_of new) next here step.does.may_be step.does.progress (engine_holds old) step.contents step.still in
     let inside = inside_more m p c.args.ops.now c.loop-op.op-index c.loop-op.failed_at c.if-stood.failed_at (durability_of old) kept.4 op outcome flight (durability_of new) next (folder_of begun) (moments_of old) (moments_of new) (directory_of new) step.does.may_be (engine_holds old)
-    (λ alive. subst (λ f. Passes (moments_of old) (moments_of new) (directory_of new) (LeavesAllowed f (durable_of old) (unsynced_of old ++ flight))) kept.3 (step.does.moments alive)) step.does.rests in
+    (λ alive. subst (λ f. Passes (moments_of old) (moments_of new) (directory_of new) (LeavesAllowed f (durable_of old) (unsynced_of old ++ flight))) kept.3 (step.does.moments alive)) step.does.rests (told_by (has_failed old) op outcome fails step.failing) in
     let moments = through_more (folder_of begun) m first ops outcomes op outcome (moments_of begun) (moments_of old) (moments_of new) kept.5 inside in
     let way_more = subst (λ (q : Progress). IsUnderWay m q c.args.ops.now c.if-stood.failed_at (durability_of new)) (sym (progress_more first ops outcomes op outcome kept.0.len)) way in
     let place = place_more ops outcomes op outcome (has_failed begun) (has_failed old) fails c.loop-op.failed_at c.if-stood.failed_at kept.6 kept.7 step.failing
@@ -78,48 +78,41 @@ loop-op-init g c =
       under_way_begun c.args.ops.now (durability_of e),
       refl,
       stands_so_far (has_failed e),
-      refl,
+      tt,
       omega arith,
       λ _. refl,
     )
+
+pub returns-clause-ran : goal.returns-clause-ran
+returns-clause-ran g c =
+    let e = c.loop-op.engine in
+    let old = c.args.engine.now in
+    let ops = c.args.ops.now in
+    let outcomes = c.loop-op.outcomes.items in
+    let failed_at = c.loop-op.failed_at in
+    let first = progress_from (unsynced_of old) in
+    let kept = c.loop-op.invariant in
+    let whole : take c.loop-op.op-index ops ≡ ops = take_all c.loop-op.op-index ops (omega (arith, c.loop-op-test.false)) in
+    let way = subst (λ (l : List Op). IsUnderWay (durable_of old) (progress_after_all first l outcomes) ops failed_at (durability_of e)) whole kept.4 in
+    let running = subst (λ (l : List Op). IsRunning (contents_of old) l outcomes (contents_of e) (has_failed e)) whole kept.0 in
+    record {
+      answers = running.answers;
+      failures = (kept.6, subst (λ (l : List Op). IsFailurePlace (has_failed old) l outcomes failed_at) whole kept.7);
+      counted = kept.8;
+      contents = running.contents;
+      now = leaves_after (durable_of old) (unsynced_of old) ops outcomes failed_at (durability_of e) way (folder_of old) (directory_of e) (subst (λ f. LeavesAllowed f (durable_of e) (unsynced_of e) (directory_of e)) kept.3 (engine_leaves e));
+      progress = durable_after (durable_of old) (unsynced_of old) ops outcomes failed_at (durability_of e) way;
+    }
 
 pub returns-clause-any_moment : goal.returns-clause-any_moment
 returns-clause-any_moment g c =
     let old = c.args.engine.now in
     let ops = c.args.ops.now in
     let whole : take c.loop-op.op-index ops ≡ ops = take_all c.loop-op.op-index ops (omega (arith, c.loop-op-test.false)) in
-    subst (λ (l : List Op). PassesThrough (folder_of old) (durable_of old) (uncovered (unsynced_of old)) l c.loop-op.outcomes.items (moments_of old) (moments_of c.loop-op.engine)) whole c.loop-op.invariant.5
-
-pub returns-clause-progress : goal.returns-clause-progress
-returns-clause-progress g c =
-    let old = c.args.engine.now in
-    let ops = c.args.ops.now in
-    let outcomes = c.loop-op.outcomes.items in
-    let whole : take c.loop-op.op-index ops ≡ ops = take_all c.loop-op.op-index ops (omega (arith, c.loop-op-test.false)) in
-    durable_behind (durable_of old) (unsynced_of old) ops outcomes c.loop-op.failed_at (durability_of c.loop-op.engine)
-    (subst (λ (l : List Op). IsUnderWay (durable_of old) (progress_after_all (uncovered (unsynced_of old)) l outcomes) ops c.loop-op.failed_at (durability_of c.loop-op.engine)) whole c.loop-op.invariant.4)
+    subst (λ (l : List Op). PassesThrough (folder_of old) (durable_of old) (progress_from (unsynced_of old)) l c.loop-op.outcomes.items (moments_of old) (moments_of c.loop-op.engine)) whole c.loop-op.invariant.5
 
 pub returns-in_err-outcomes-clause-left : goal.returns-in_err-outcomes-clause-left
 returns-in_err-outcomes-clause-left g c = engine_leaves c.args.engine.now
 
 pub returns-clause-left : goal.returns-clause-left
 returns-clause-left g c = engine_leaves c.loop-op.engine
-
-pub returns-clause-now : goal.returns-clause-now
-returns-clause-now g c =
-    let e = c.loop-op.engine in
-    let old = c.args.engine.now in
-    let ops = c.args.ops.now in
-    let outcomes = c.loop-op.outcomes.items in
-    let whole : take c.loop-op.op-index ops ≡ ops = take_all c.loop-op.op-index ops (omega (arith, c.loop-op-test.false)) in
-    leaves_behind (durable_of old) (unsynced_of old) ops outcomes c.loop-op.failed_at (durability_of e)
-    (subst (λ (l : List Op). IsUnderWay (durable_of old) (progress_after_all (uncovered (unsynced_of old)) l outcomes) ops c.loop-op.failed_at (durability_of e)) whole c.loop-op.invariant.4)
-    (folder_of old) (directory_of e) (subst (λ f. LeavesAllowed f (durable_of e) (unsynced_of e) (directory_of e)) c.loop-op.invariant.3 (engine_leaves e))
-
-pub returns-clause-failures : goal.returns-clause-failures
-returns-clause-failures g c =
-    let kept = c.loop-op.invariant in
-    let ops = c.args.ops.now in
-    let whole : take c.loop-op.op-index ops ≡ ops = take_all c.loop-op.op-index ops (omega (arith, c.loop-op-test.false)) in
-    let place = subst (λ (l : List Op). IsFailurePlace (has_failed c.args.engine.now) l c.loop-op.outcomes.items c.loop-op.failed_at) whole kept.7 in
-    place_failing (has_failed c.args.engine.now) (has_failed c.loop-op.engine) ops c.loop-op.outcomes.items c.loop-op.failed_at kept.6 place

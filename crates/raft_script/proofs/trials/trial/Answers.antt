@@ -1,15 +1,12 @@
 use denote.Param.Send.{sendable}
-use Rattle.std.proofs.Common.{[], ap, sym, subst}
-use Rattle.raft_records.specs.Contents.{Contents}
+use Rattle.std.proofs.Common.{ap}
 use Rattle.raft_env.proofs.Sent.{memory_send, memory_sync}
 use Rattle.std.proofs.lemmas.Result.{err_from_is_err_and}
 use Rattle.std.specs.String.{string_bytes}
 use Rattle.raft_env.specs.Memory.{memory_directory}
 use Rattle.raft_env.specs.Choice.{left_by}
-use Rattle.raft_log_engine.specs.Crash.{KeepsContents}
 use Rattle.raft_log_engine.specs.declared.config.Config.{Config}
-use Rattle.raft_script.proofs.TrialLemmas.{choices_refused, image_restarted, nothing_kept, opened_log, opened_outside, run_shown}
-use Rattle.raft_script.proofs.RunLemmas.{contents_at-no_files}
+use Rattle.raft_script.proofs.TrialLemmas.{choices_refused, image_restarted, opened_log, opened_outside, run_shown}
 use Rattle.raft_script.proofs.trials.trial.Goals as goal
 
 pub run_over-requires-send-F : goal.run_over-requires-send-F
@@ -33,25 +30,23 @@ returns-clause-crashed c =
     let none = c.new_files.ensures.files in
     let ran = c.in_ok-ran.ran in
     let leaves = c.in_ok-left.ensures.value in
-    let shown = run_shown dir before files c.args.ops.now ran.outcomes.items ran.failed_at none c.in_ok-ran.ensures.answered c.in_ok-ran.ensures.behind in
-    let kept = subst (λ (m : Contents). KeepsContents dir m [] before) (sym (contents_at-no_files dir before none)) (nothing_kept dir before none) in
+    let shown = run_shown dir before files c.args.ops.now ran.outcomes.items ran.failed_at none c.in_ok-ran.ensures.ran in
     record {
       files = files;
-      answered = shown.0;
+      ran = shown;
       left = leaves;
-      behind = shown.1;
       found = image_restarted (string_bytes c.in_ok-again.again.dir) dir files (memory_directory c.in_ok-left.left) left c.open_image.result c.in_ok-again.ensures.value.dir c.in_ok-left.ensures.ok c.open_image.ensures.value;
       refused = opened_outside c.args.config.recovery_mode c.in_ok-again.again.recovery_mode dir (string_bytes c.in_ok-again.again.dir) files (memory_directory c.in_ok-left.left) left c.open_image.result (ap (λ (x : Config). x.recovery_mode) c.in_ok-again.ensures.value.others)
-          c.in_ok-again.ensures.value.dir c.in_ok-left.ensures.ok leaves (λ detectable. (shown.1.2 left leaves detectable).1) c.open_image.ensures.refused;
+          c.in_ok-again.ensures.value.dir c.in_ok-left.ensures.ok leaves (λ detectable. (shown.after.2 left leaves detectable).1) c.open_image.ensures.refused;
       cause = opened_log c.args.config.recovery_mode c.in_ok-again.again.recovery_mode dir (string_bytes c.in_ok-again.again.dir) files (memory_directory c.in_ok-left.left) left c.open_image.result (ap (λ (x : Config). x.recovery_mode) c.in_ok-again.ensures.value.others)
-          c.in_ok-again.ensures.value.dir c.in_ok-left.ensures.ok (c.in_ok-ran.ensures.no_file kept) c.open_image.ensures.cause;
+          c.in_ok-again.ensures.value.dir c.in_ok-left.ensures.ok shown.no_file c.open_image.ensures.cause;
     }
 
 pub returns-in_err-left-clause-cause : goal.returns-in_err-left-clause-cause
 returns-in_err-left-clause-cause c =
     let files = memory_directory c.in_ok-ran.files in
     let ran = c.in_ok-ran.ran in
-    let shown = run_shown (string_bytes c.args.config.dir) (memory_directory c.new_files.result) files c.args.ops.now ran.outcomes.items ran.failed_at c.new_files.ensures.files c.in_ok-ran.ensures.answered c.in_ok-ran.ensures.behind in
+    let shown = run_shown (string_bytes c.args.config.dir) (memory_directory c.new_files.result) files c.args.ops.now ran.outcomes.items ran.failed_at c.new_files.ensures.files c.in_ok-ran.ensures.ran in
     let p = err_from_is_err_and c.from_residual-in_err-left.result c.from_residual-in_err-left.ensures.1 in
     rw (p.1, p.2) (choices_refused files c.args.choices.now c.in_err-left.field-0.0 c.in_err-left.ensures.consistent c.in_err-left.ensures.refused
-    (λ not_left. record { outcomes = ran.outcomes.items; failed_at = ran.failed_at; files = files; answered = shown.0; behind = shown.1; refused = not_left }))
+    (λ not_left. record { outcomes = ran.outcomes.items; failed_at = ran.failed_at; files = files; ran = shown; refused = not_left }))

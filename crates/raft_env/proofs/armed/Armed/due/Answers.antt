@@ -1,8 +1,12 @@
-use Rattle.std.proofs.Common.{IfSome, rules}
-use Rattle.raft_env.proofs.ArmedLemmas.{IsAmong, due_is_armed}
+use Rattle.std.proofs.Common.{◌≡◌, refl, not, ap, sym, ◌∙◌}
+use Rattle.raft_env.specs.Armed.{arm_of, is_due, one_less}
+use Rattle.raft_env.proofs.ArmedLemmas.{arms_of-retained}
 use Rattle.raft_env.proofs.armed.Armed.due.Goals as goal
 
-pub returns : goal.returns
-returns c =
-    let among : IfSome c.loop-armed.due (λ kind. IsAmong c.args.self.now.refusals.items c.args.call kind) = search rules in
-    record { value = due_is_armed c.args.self.now.refusals.items c.args.call c.loop-armed.due among }
+pub returns-clause-armed : goal.returns-clause-armed
+returns-clause-armed c = arms_of-retained _ c.args.call (λ s. s.0.now ≡ c.args.call) (λ s x stays t y is h.
+    let said = h.called.met.0 in (
+      said.0 ∙ (λ i. not (is_due (is i) (arm_of (h.shows i)))),
+      ap arm_of (sym h.leaves) ∙ said.1 ∙ (λ i. one_less (is i) (arm_of (h.shows i))),
+      (λ i. (h.called.met.1 i).0.now) ∙ is,
+    )) _ _ _ refl c.retain_mut.ensures.filtered

@@ -10,8 +10,8 @@ returns-clause-any_moment c =
     let is : tree_directory c.create.new.self ≡ created c.args.path.now (tree_directory c.args.self.now.tree) = search rules in
     passes_one _ _ _ _ (ap (λ l. tree_directory c.create.new.self ∷ map tree_directory l) c.with-past.ensures) (inr is)
 
-pub invariant_of-self-in-Err : goal.invariant_of-self-in-Err
-invariant_of-self-in-Err c = invariant-same c.args.self.now _ c.in-Err.ensures.err
+pub invariant_of-self-in-Err-create : goal.invariant_of-self-in-Err-create
+invariant_of-self-in-Err-create c = invariant-same c.args.self.now _ c.in-Err-create.ensures.err
 
 pub invariant_of-self-2 : goal.invariant_of-self-2
 invariant_of-self-2 c =

@@ -1,6 +1,8 @@
-use Rattle.std.proofs.Common.{◌≡◌, Some, None, inr, ap, length, ◌∙◌, rules}
+use Rattle.std.proofs.Common.{◌≡◌, Some, None, ap, length, ◌∙◌, rules}
 use Rattle.std.specs.BTreeMap as tree
 use Rattle.std.specs.String.{string_bytes}
+use Rattle.raft_env.specs.Memory.{memory_directory}
+use Rattle.raft_env.specs.Refused.{IsAbsent}
 use Rattle.raft_env.proofs.MemoryLemmas.{file_at-tree_directory}
 use Rattle.raft_env.proofs.memory.MemoryFileSystemFileSystem.file_size.Goals as goal
 
@@ -14,4 +16,5 @@ pub returns-in-None-clause-refused : goal.returns-in-None-clause-refused
 returns-in-None-clause-refused c =
     let path = string_bytes c.args.handle.now.path in
     let none : tree.get_by_text c.args.self.now.tree.files path ≡ None = search rules in
-    inr (inr (c.counted-in-None.ensures.value, file_at-tree_directory c.args.self.now.tree path ∙ none))
+    let cause : IsAbsent (memory_directory c.args.self.now) path c.count-in-None.result = (c.count-in-None.ensures.value, file_at-tree_directory c.args.self.now.tree path ∙ none) in
+    search rules

@@ -16,4 +16,4 @@ pub returns-in-None-clause-refused : goal.returns-in-None-clause-refused
 returns-in-None-clause-refused c =
     let path = string_bytes c.args.reader.now.path in
     let none : tree.get_by_text c.args.self.now.tree.files path ≡ None = search rules in
-    inr (inr (c.counted-in-None.ensures.value, file_at-tree_directory c.args.self.now.tree path ∙ none))
+    inr (c.refused-in-None.ensures.value, file_at-tree_directory c.args.self.now.tree path ∙ none)

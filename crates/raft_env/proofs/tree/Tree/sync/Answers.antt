@@ -1,4 +1,4 @@
-use Rattle.std.proofs.Common.{◌≡◌, ◌∙◌, inr, None, refl, Some, rules}
+use Rattle.std.proofs.Common.{◌≡◌, ◌∙◌, None, refl, Some, rules}
 use Rattle.std.specs.BTreeMap as tree
 use Rattle.raft_env.specs.Outcomes.{synced_of}
 use Rattle.raft_env.proofs.MemoryLemmas.{file_at-tree_directory, changed_after, found_in}
@@ -18,4 +18,4 @@ returns-in-Some-clause-ok c =
 pub returns-in-None-clause-refused : goal.returns-in-None-clause-refused
 returns-in-None-clause-refused c =
     let none : tree.get_by_text c.args.self.now.files c.args.path.now ≡ None = search rules in
-    inr (refl, file_at-tree_directory c.args.self.now c.args.path.now ∙ none)
+    (refl, file_at-tree_directory c.args.self.now c.args.path.now ∙ none)

@@ -1,0 +1,102 @@
+//! A log file that is written, cut and read back.
+ghost use Rattle.raft_files.specs.Writer.{IsWriterOf};
+
+use raft_env::{FileSystem, FsFault, MemoryFileSystem};
+use raft_files::{LogFileFormat, LogFileReader, LogFileWriter};
+use raft_records::{FileBlockHandle, FileId, LogQueue, Version};
+use std::alloc::Global;
+use std::test::Fail;
+
+const V2: LogFileFormat = LogFileFormat {
+    version: Version::V2,
+    alignment: 0,
+};
+
+/// A call, and the place of the file's end for the writer and for the files after it.
+enum Step {
+    Write(&'static [u8], usize),
+    Sync,
+    Truncate,
+    Close,
+}
+
+const STEPS: [(Step, usize, usize); 6] = [
+    (Step::Write(b"first", 100), 74, 100),
+    (Step::Write(b"second", 100), 80, 100),
+    (Step::Sync, 80, 100),
+    (Step::Truncate, 80, 80),
+    (Step::Write(b"third", 0), 85, 85),
+    (Step::Close, 85, 85),
+];
+
+fn take_step<F: FileSystem>(
+    fs: &mut F,
+    writer: &mut LogFileWriter<F>,
+    step: &Step,
+) -> Result<(), FsFault>
+    requires { IsWriterOf writer.old (F.directory fs.old) }
+    ensures writes { IsWriterOf writer.new (F.directory fs.new) }
+{
+    match step {
+        Step::Write(bytes, hint) => writer.write(fs, bytes, *hint),
+        Step::Sync => writer.sync(fs),
+        Step::Truncate => writer.truncate(fs),
+        Step::Close => writer.close(fs),
+    }
+}
+
+// The place of the first step behind which the file ends elsewhere.
+fn first_wrong<F: FileSystem>(
+    fs: &mut F,
+    alloc: Global,
+    handle: &F::Handle,
+) -> Result<Option<usize>, FsFault> {
+    let mut writer = LogFileWriter::open(fs, alloc, handle, V2, false)?;
+    for (place, (call, written, size)) in STEPS.iter().enumerate() {
+        take_step(fs, &mut writer, call)?;
+        if writer.offset() != *written || fs.file_size(handle)? != *size {
+            return Ok(Some(place));
+        }
+    }
+    Ok(None)
+}
+
+fn is_read<F: FileSystem>(fs: &mut F, alloc: Global, handle: &F::Handle) -> Result<bool, FsFault> {
+    let mut reader = LogFileReader::open(fs, handle)?;
+    let found = reader.file_size() == 85 && reader.parse_format(fs)? == Some(V2);
+    let place = FileBlockHandle {
+        id: FileId::new(LogQueue::Append, 1),
+        offset: 74,
+        len: 20,
+    };
+    let block = reader.read(fs, alloc, place)?;
+    let mut bytes = [0; 3];
+    let count = reader.read_to(fs, 83, &mut bytes)?;
+    reader.end(fs);
+    Ok(found && block.as_slice() == b"secondthird".as_slice() && count == 2 && bytes == *b"rd\0")
+}
+
+// Where the file ends for a writer that finds it, and for one that writes a header of version 1 over it.
+fn ends<F: FileSystem>(
+    fs: &mut F,
+    alloc: Global,
+    handle: &F::Handle,
+) -> Result<(usize, usize), FsFault> {
+    let found = LogFileWriter::open(fs, alloc, handle, V2, false)?;
+    let reset = LogFileWriter::open(fs, alloc, handle, LogFileFormat::default(), true)?;
+    Ok((found.offset(), reset.offset()))
+}
+
+fn is_written_and_read<F: FileSystem>(fs: &mut F, alloc: Global) -> Result<bool, FsFault> {
+    let handle = fs.create("log")?;
+    let written = first_wrong(fs, alloc, &handle)?.is_none();
+    let read = is_read(fs, alloc, &handle)?;
+    Ok(written && read && ends(fs, alloc, &handle)? == (85, 61))
+}
+
+#[test]
+fn written_bytes_are_read_back(rt: HostRuntime) -> Result<(), Fail> {
+    let mut fs = MemoryFileSystem::new(rt.alloc());
+    assert!(rt; is_written_and_read(&mut fs, rt.alloc())?);
+    Ok(())
+}

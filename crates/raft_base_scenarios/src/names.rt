@@ -1,0 +1,135 @@
+//! The names of log files, their headers, and the zeros between records.
+
+use crate::changes::joined;
+use raft_files::{FileNameExt, LogFileFormat, is_zero_padded};
+use raft_records::{Fault, FileId, LogQueue, Version};
+use std::alloc::Global;
+use std::test::Fail;
+
+/// A name, and the file that it is parsed to.
+const PARSED: [(&str, Option<(LogQueue, u64)>); 7] = [
+    ("0000000000000123.raftlog", Some((LogQueue::Append, 123))),
+    ("+000000000000123.raftlog", Some((LogQueue::Append, 123))),
+    (
+        "10000000000000000.raftlog",
+        Some((LogQueue::Append, 1_000_000_000_000_000)),
+    ),
+    ("0000000000000123.rewrite", Some((LogQueue::Rewrite, 123))),
+    ("0000000000000123.log", None),
+    ("123.rewrite", None),
+    ("000000000000000é.raftlog", None),
+];
+
+#[test]
+fn names_are_parsed(rt: HostRuntime) {
+    for (name, wanted) in &PARSED {
+        let id = wanted.map(|(queue, seq)| FileId::new(queue, seq));
+        assert_eq!(rt; FileId::parse_file_name(name), id, "{name}");
+    }
+}
+
+/// A file's number, its name, and its path in the folder `data`.
+const BUILT: [(u64, &str, &str); 2] = [
+    (
+        123,
+        "0000000000000123.raftlog",
+        "data/0000000000000123.raftlog",
+    ),
+    (
+        10_000_000_000_000_000,
+        "10000000000000000.raftlog",
+        "data/10000000000000000.raftlog",
+    ),
+];
+
+#[test]
+fn names_are_built(rt: HostRuntime) -> Result<(), Fail> {
+    for (seq, name, path) in &BUILT {
+        let id = FileId::new(LogQueue::Append, *seq);
+        assert_eq!(rt; id.build_file_name(rt.alloc())?.as_str(), *name);
+        assert_eq!(rt; id.build_file_path(rt.alloc(), "data")?.as_str(), *path);
+    }
+    Ok(())
+}
+
+const MAGIC: &[u8] = b"RAFT-LOG-FILE-HEADER-9986AB3E47F320B394C8E84916EB0ED5";
+
+/// A format, and what stands behind the fixed bytes of its header, if it has one.
+const HEADERS: [(Version, u64, Option<&[u8]>); 3] = [
+    (
+        Version::V2,
+        4096,
+        Some(&[0, 0, 0, 0, 0, 0, 0, 2, 0, 0, 0, 0, 0, 0, 16, 0]),
+    ),
+    (Version::V1, 0, Some(&[0, 0, 0, 0, 0, 0, 0, 1])),
+    (Version::V1, 4096, None),
+];
+
+// The header is these bytes, which are read as the format.
+fn has_header(alloc: Global, format: LogFileFormat, numbers: &[u8]) -> Result<bool, Fault> {
+    let wanted = joined(alloc, &[MAGIC, numbers])?;
+    let mut bytes = Vec::new(alloc);
+    format.encode(&mut bytes)?;
+    let mut rest = bytes.as_slice();
+    let read = LogFileFormat::decode(&mut rest)?;
+    Ok(bytes == wanted && read == format && rest.is_empty())
+}
+
+fn is_header_of(
+    alloc: Global,
+    format: LogFileFormat,
+    numbers: Option<&[u8]>,
+) -> Result<bool, Fault> {
+    match numbers {
+        Some(numbers) => has_header(alloc, format, numbers),
+        None => Ok(format.encode(&mut Vec::new(alloc)).is_err()),
+    }
+}
+
+#[test]
+fn headers_are_written_and_read(rt: HostRuntime) -> Result<(), Fail> {
+    for (version, alignment, numbers) in &HEADERS {
+        let format = LogFileFormat::new(*version, *alignment);
+        assert!(rt; is_header_of(rt.alloc(), format, *numbers)?, "{format:?}");
+    }
+    assert_eq!(rt; LogFileFormat::encoded_len(Version::V1), 61);
+    assert_eq!(rt; LogFileFormat::encoded_len(Version::V2), 69);
+    assert_eq!(rt; LogFileFormat::max_encoded_len(), 69);
+    Ok(())
+}
+
+/// Bytes that begin with no header.
+const NO_HEADERS: [&[u8]; 3] = [
+    b"",
+    b"RAFT-LOG-FILE-HEADER-9986AB3E47F320B394C8E84916EB0ED5\0\0\0\0\0\0\0\x04\0\0\0\0\0\0\x10\0",
+    b"RAFT-LOG-FILE-HEADER-9986AB3E47F320B394C8E84916EB0ED5\0\0\0\0\0\0\0\x02\0\0\0\0\0\0\x10",
+];
+
+#[test]
+fn other_headers_are_refused(rt: HostRuntime) {
+    for bytes in &NO_HEADERS {
+        let mut rest = *bytes;
+        assert_eq!(rt;
+            LogFileFormat::decode(&mut rest),
+            Err(Fault::Corruption),
+            "{bytes:?}"
+        );
+        assert_eq!(rt; rest.len(), bytes.len());
+    }
+}
+
+/// Bytes between records, and whether they pass for padding.
+const PADDINGS: [(&[u8], bool); 5] = [
+    (&[0; 110], true),
+    (&[0; 5], true),
+    (&[0, 0, 0, 3], false),
+    (&[], true),
+    (&[0, 7, 0], true),
+];
+
+#[test]
+fn padding_is_zero_at_both_ends(rt: HostRuntime) {
+    for (bytes, is_padded) in &PADDINGS {
+        assert_eq!(rt; is_zero_padded(bytes), *is_padded, "{bytes:?}");
+    }
+}

@@ -1,0 +1,179 @@
+//! Tables of keys and values.
+
+use crate::changes::{Change, items_of};
+use raft_records::{Fault, FileId, LogQueue};
+use raft_tables::{GlobalStats, MemTable, MemTables};
+use std::alloc::{AllocError, Global};
+use std::test::Fail;
+
+/// The numbers of the files that the changes stand in, and the changes.
+const APPLIED: [(u64, &[Change]); 2] = [
+    (
+        1,
+        &[
+            Change(1, b"a", Some(b"1")),
+            Change(1, b"b", Some(b"2")),
+            Change(2, b"a", Some(b"3")),
+        ],
+    ),
+    (
+        2,
+        &[
+            Change(1, b"a", Some(b"4")),
+            Change(1, b"b", None),
+            Change(1, b"__\x01", Some(b"\0")),
+            Change(2, b"b", Some(b"5")),
+            Change(2, b"b", None),
+            Change(2, b"b", Some(b"6")),
+            Change(3, b"a", None),
+        ],
+    ),
+];
+
+/// A group, its key, and the value there with the number of its file.
+struct Found(u64, &'static [u8], Option<(&'static [u8], u64)>);
+
+const FOUND: [Found; 7] = [
+    Found(1, b"a", Some((b"4", 2))),
+    Found(1, b"b", None),
+    Found(1, b"__\x01", None),
+    Found(2, b"a", Some((b"3", 1))),
+    Found(2, b"b", Some((b"6", 2))),
+    Found(2, b"", None),
+    Found(3, b"a", None),
+];
+
+fn file(seq: u64) -> FileId {
+    FileId::new(LogQueue::Append, seq)
+}
+
+// Whether the list is empty after it.
+fn apply(
+    alloc: Global,
+    tables: &mut MemTables,
+    seq: u64,
+    changes: &[Change],
+) -> Result<bool, Fault> {
+    let mut items = items_of(alloc, changes)?;
+    tables.apply_append_writes(&mut items, file(seq))?;
+    Ok(items.is_empty())
+}
+
+#[test]
+fn items_apply_in_order(rt: HostRuntime) -> Result<(), Fail> {
+    let mut tables = MemTables::new(rt.alloc());
+    for (seq, changes) in &APPLIED {
+        assert!(rt; apply(rt.alloc(), &mut tables, *seq, changes)?);
+    }
+    for Found(group, key, wanted) in &FOUND {
+        assert_eq!(rt;
+            tables.get(*group, key),
+            wanted.map(|found| found.0),
+            "{key:?}"
+        );
+        assert_eq!(rt;
+            tables.place_of(*group, key),
+            wanted.map(|found| file(found.1)),
+            "{key:?}"
+        );
+    }
+    Ok(())
+}
+
+const LISTED: [Change; 4] = [
+    Change(9, b"b", Some(b"1")),
+    Change(9, b"ab", Some(b"2")),
+    Change(9, b"a", Some(b"3")),
+    Change(1, b"", Some(b"")),
+];
+
+/// A group, and its keys with their values, in order.
+const PAIRS: [(u64, &[(&[u8], &[u8])]); 3] = [
+    (1, &[(b"", b"")]),
+    (2, &[]),
+    (9, &[(b"a", b"3"), (b"ab", b"2"), (b"b", b"1")]),
+];
+
+fn has_pairs(
+    tables: &MemTables,
+    group: u64,
+    wanted: &[(&[u8], &[u8])],
+) -> Result<bool, AllocError> {
+    let pairs = tables.pairs(group)?;
+    let are_equal = pairs.iter().zip(wanted.iter()).all(|(pair, wanted)| pair.0.as_slice()
+        == wanted.0
+        && pair.1.as_slice() == wanted.1);
+    Ok(pairs.len() == wanted.len() && are_equal)
+}
+
+#[test]
+fn tables_are_listed_in_order(rt: HostRuntime) -> Result<(), Fail> {
+    let mut tables = MemTables::new(rt.alloc());
+    apply(rt.alloc(), &mut tables, 1, &LISTED)?;
+    assert_eq!(rt; tables.groups()?.as_slice(), [1, 9].as_slice());
+    for (group, wanted) in &PAIRS {
+        assert!(rt; has_pairs(&tables, *group, wanted)?, "of {group}");
+    }
+    Ok(())
+}
+
+/// What a key holds, one after the other.
+const HELD: [Option<&[u8]>; 4] = [Some(&[2]), Some(&[3]), None, Some(&[4])];
+
+fn hold(
+    alloc: Global,
+    table: &mut MemTable,
+    key: &[u8],
+    value: Option<&[u8]>,
+) -> Result<(), AllocError> {
+    match value {
+        Some(value) => table.put(key.to_vec(alloc)?, value.to_vec(alloc)?, file(7)),
+        None => {
+            table.delete(key);
+            Ok(())
+        }
+    }
+}
+
+#[test]
+fn a_table_keeps_each_key_once(rt: HostRuntime) -> Result<(), Fail> {
+    let mut table = MemTable::new(rt.alloc());
+    assert!(rt; table.is_empty());
+    for value in &HELD {
+        hold(rt.alloc(), &mut table, &[1], *value)?;
+        assert_eq!(rt; table.get(&[1]), *value);
+        assert_eq!(rt; table.place(&[1]), value.map(|_| file(7)));
+        assert_eq!(rt; table.is_empty(), value.is_none());
+    }
+    Ok(())
+}
+
+enum Count {
+    Add(LogQueue, u64),
+    Delete(LogQueue, u64),
+    Reset,
+}
+
+/// What is counted, and how many are rewritten and deleted after it.
+const COUNTS: [(Count, u64, u64); 6] = [
+    (Count::Add(LogQueue::Append, 9), 0, 0),
+    (Count::Add(LogQueue::Rewrite, 5), 5, 0),
+    (Count::Delete(LogQueue::Append, 4), 5, 0),
+    (Count::Delete(LogQueue::Rewrite, 2), 5, 2),
+    (Count::Reset, 3, 0),
+    (Count::Reset, 3, 0),
+];
+
+#[test]
+fn what_was_rewritten_is_counted(rt: HostRuntime) {
+    let mut stats = GlobalStats::new();
+    for (count, rewritten, deleted) in &COUNTS {
+        match count {
+            Count::Add(queue, n) => stats.add(*queue, *n),
+            Count::Delete(queue, n) => stats.delete(*queue, *n),
+            Count::Reset => stats.reset_rewrite_counters(),
+        }
+        assert_eq!(rt; stats.rewritten_entries(), *rewritten);
+        assert_eq!(rt; stats.deleted_rewrite_entries(), *deleted);
+    }
+}

@@ -1,0 +1,40 @@
+-- The records that a replay takes of a file, one behind the other: their entries blocks may be
+-- broken.
+use Rattle.std.specs.Prelude.{ℕ, ◌-◌, Bool, List, [], length, take, drop, Option, Some, None}
+use Rattle.raft_records.specs.FileId.{signature_in}
+use Rattle.raft_records.specs.Item.{Batch}
+use Rattle.raft_records.specs.Record.{Header, is_block, record_header}
+use Rattle.raft_records.specs.Replay.{replayed_record}
+use Rattle.raft_records.specs.declared.pipe_log.FileId.{FileId}
+use Rattle.raft_files.specs.declared.format.LogFileFormat.{LogFileFormat}
+use Rattle.raft_files.specs.Header.{header_len, header_of}
+use Rattle.raft_files.specs.Reading.{Placed, placed_by, record_place}
+
+-- the batch that a replay takes at a place, and the record's length
+unfoldable pub replayed_at : Option ℕ → List ℕ → ℕ → Option (Batch × ℕ)
+replayed_at signature bytes at = replayed_record signature (drop at bytes)
+
+-- all records from a place on, in a file of this format, up to the first that a replay can't take
+abbrev pub replayed_behind : FileId → LogFileFormat → List ℕ → ℕ → List Placed
+replayed_behind id format bytes at =
+    let signature = signature_in format.version id.seq in
+    placed_by (length bytes) (record_place format.alignment bytes) (replayed_at signature bytes) at
+
+abbrev pub replayed_in : FileId → List ℕ → Option (LogFileFormat × List ℕ) → List Placed
+replayed_in id bytes None = []
+replayed_in id bytes (Some header) = replayed_behind id header.0 bytes (header_len header.0.version)
+
+-- the records that a replay takes of these bytes of a file, none where its header can't be read
+abbrev pub replayed_records : FileId → List ℕ → List Placed
+replayed_records id bytes = replayed_in id bytes (header_of bytes)
+
+-- the entries block that stands behind a header
+abbrev pub block_behind : List ℕ → Option Header → List ℕ
+block_behind bytes None = []
+block_behind bytes (Some header) = take (header.footer - 16) (drop 16 bytes)
+
+-- the entries block of the record at a place is sound
+abbrev pub has_sound_block_at : List ℕ → ℕ → Bool
+has_sound_block_at bytes at =
+    let ahead = drop at bytes in
+    is_block (block_behind ahead (record_header ahead))

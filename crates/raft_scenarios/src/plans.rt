@@ -1,0 +1,100 @@
+//! Operations, crashes and answers as rows of a table.
+
+use raft_env::Choice;
+use raft_records::Fault;
+use raft_script::{Act, Op, Outcome};
+use std::alloc::{AllocError, Global};
+
+pub(crate) enum Change {
+    Put(u64, &'static [u8], &'static [u8]),
+    Delete(u64, &'static [u8]),
+}
+
+pub(crate) enum Plan {
+    /// The changes as one batch, synced where that is asked.
+    Write(&'static [Change], bool),
+    Sync,
+    Get(u64, &'static [u8]),
+}
+
+/// What a crash is to leave of the log.
+pub(crate) enum Left {
+    All,
+    Synced,
+    Torn(usize, u8),
+    Bytes(&'static [u8]),
+}
+
+pub(crate) enum Answer {
+    Size(usize),
+    Value(Option<&'static [u8]>),
+}
+
+fn act_of(alloc: Global, change: &Change) -> Result<Act, AllocError> {
+    match change {
+        Change::Put(group, key, value) => {
+            Ok(Act::Put(*group, key.to_vec(alloc)?, value.to_vec(alloc)?))
+        }
+        Change::Delete(group, key) => Ok(Act::Delete(*group, key.to_vec(alloc)?)),
+    }
+}
+
+fn acts_of(alloc: Global, changes: &[Change]) -> Result<Vec<Act>, AllocError> {
+    let mut acts = Vec::new(alloc);
+    for change in changes {
+        acts.push(act_of(alloc, change)?)?;
+    }
+    Ok(acts)
+}
+
+fn op_of(alloc: Global, plan: &Plan) -> Result<Op, AllocError> {
+    match plan {
+        Plan::Write(changes, sync) => Ok(Op::Write(acts_of(alloc, changes)?, *sync)),
+        Plan::Sync => Ok(Op::Sync),
+        Plan::Get(group, key) => Ok(Op::Get(*group, key.to_vec(alloc)?)),
+    }
+}
+
+pub(crate) fn ops_of(alloc: Global, plans: &[Plan]) -> Result<Vec<Op>, AllocError> {
+    let mut ops = Vec::new(alloc);
+    for plan in plans {
+        ops.push(op_of(alloc, plan)?)?;
+    }
+    Ok(ops)
+}
+
+pub(crate) fn choice_of(alloc: Global, left: &Left) -> Result<Choice, AllocError> {
+    match left {
+        Left::All => Ok(Choice::All),
+        Left::Synced => Ok(Choice::Synced),
+        Left::Torn(kept, fill) => Ok(Choice::Torn(*kept, *fill)),
+        Left::Bytes(bytes) => Ok(Choice::Bytes(bytes.to_vec(alloc)?)),
+    }
+}
+
+/// The fault that an operation was refused with.
+pub(crate) fn fault_of(outcome: &Outcome) -> Option<&Fault> {
+    match outcome {
+        Outcome::Size(answer) => answer.as_ref().err(),
+        Outcome::Done(answer) => answer.as_ref().err(),
+        Outcome::Value(answer) => answer.as_ref().err(),
+    }
+}
+
+fn is_answer(outcome: &Outcome, answer: &Answer) -> bool {
+    match (outcome, answer) {
+        (Outcome::Size(Ok(size)), Answer::Size(wanted)) => *size == *wanted,
+        (Outcome::Value(Ok(Some(value))), Answer::Value(Some(wanted))) => value.as_slice()
+            == *wanted,
+        (Outcome::Value(Ok(None)), Answer::Value(None)) => true,
+        _ => false,
+    }
+}
+
+pub(crate) fn are_answers(outcomes: &[Outcome], answers: &[Answer]) -> bool {
+    let mut equal = outcomes.len() == answers.len();
+    for (outcome, answer) in outcomes.iter().zip(answers.iter()) {
+        equal = equal && is_answer(outcome, answer);
+    }
+    equal
+}
