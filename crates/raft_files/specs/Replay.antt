@@ -1,4 +1,5 @@
--- The records that a replay takes of a file, one behind the other: their entries blocks may be broken.
+-- The records that a replay takes of a file, one behind the other: their entries blocks may be
+-- broken.
 use Rattle.std.specs.Prelude.{ℕ, ◌-◌, Bool, List, [], length, take, drop, Option, Some, None}
 use Rattle.raft_records.specs.FileId.{signature_in}
 use Rattle.raft_records.specs.Item.{Batch}
@@ -34,4 +35,6 @@ block_behind bytes (Some header) = take (header.footer - 16) (drop 16 bytes)
 
 -- the entries block of the record at a place is sound
 abbrev pub has_sound_block_at : List ℕ → ℕ → Bool
-has_sound_block_at bytes at = is_block (block_behind (drop at bytes) (record_header (drop at bytes)))
+has_sound_block_at bytes at =
+    let ahead = drop at bytes in
+    is_block (block_behind ahead (record_header ahead))

@@ -17,7 +17,7 @@ use Rattle.raft_files.specs.Writer.{bytes_of}
 use Rattle.raft_env.specs.Memory.{no_files}
 use Rattle.raft_log_engine.proofs.OpenLemmas.{nothing_holds_nothing}
 use Rattle.raft_log_engine.specs.Log.{contents_at, contents_in, log_path}
-use Rattle.raft_script.specs.Run.{accepted, accepted_of, AreAnswers, AreSteady, FailsAt, IsFailing, IsFailurePlace, RoseBy, batch_of_acts, io_count, is_refused_as_failed, is_refused_by_storage, IsAnswer, item_of_act, pending_items, with_first, with_items}
+use Rattle.raft_script.specs.Run.{accepted_batches, accepted_of, AreAnswers, AreSteady, FailsAt, IsFailing, IsFailurePlace, RoseBy, batch_of_acts, io_count, is_refused_as_failed, is_refused_by_storage, IsAnswer, item_of_act, pending_batches, with_first, written_batches}
 use Rattle.raft_script.specs.declared.operation.Act.{Act}
 use Rattle.raft_script.specs.declared.operation.Act.TheVariants as act
 use Rattle.raft_script.specs.declared.operation.Op.{Op}
@@ -25,17 +25,17 @@ use Rattle.raft_script.specs.declared.operation.Op.TheVariants.{Write, Sync, Get
 use Rattle.raft_script.specs.declared.operation.Outcome.{Outcome}
 use Rattle.raft_script.specs.declared.operation.Outcome.TheVariants.{Size, Done, Value}
 
--- items, and the batch of the acts behind them, where there is one
-abbrev pub behind : Batch → Option Batch → Option Batch
-behind items rest = option_map (λ more. items ++ more) rest
+-- items, followed by the batch of more acts, where there is one
+abbrev pub followed_by : Batch → Option Batch → Option Batch
+followed_by items rest = option_map (λ more. items ++ more) rest
 
 -- the items are those of the first acts of a list
 abbrev pub IsBuilt : Batch → ℕ → List Act → Type 0
-IsBuilt items n acts = behind items (batch_of_acts (drop n acts)) ≡ batch_of_acts acts
+IsBuilt items n acts = followed_by items (batch_of_acts (drop n acts)) ≡ batch_of_acts acts
 
-behind-with_first : (items : Batch) (item : Item) (rest : Option Batch) → behind items (with_first (Some item) rest) ≡ behind (items ++ item ∷ []) rest
-behind-with_first items item None = refl
-behind-with_first items item (Some more) = ap Some (sym (append_assoc items (item ∷ []) more))
+followed_by-with_first : (items : Batch) (item : Item) (rest : Option Batch) → followed_by items (with_first (Some item) rest) ≡ followed_by (items ++ item ∷ []) rest
+followed_by-with_first items item None = refl
+followed_by-with_first items item (Some more) = ap Some (sym (append_assoc items (item ∷ []) more))
 
 pub ahead : {X : Type 0} (xs : List X) (i : ℕ) (x : X) → i < length xs → x ≡ get_or xs i x → drop i xs ≡ x ∷ drop (i + 1) xs
 ahead xs i x within is =
@@ -44,24 +44,24 @@ ahead xs i x within is =
 
 pub built_more : (items : Batch) (n : ℕ) (acts : List Act) (act : Act) (item : Item) → n < length acts → act ≡ get_or acts n act → item_of_act act ≡ Some item → IsBuilt items n acts → IsBuilt (items ++ item ∷ []) (n + 1) acts
 built_more items n acts act item within is item_is built =
-    sym (behind-with_first items item (batch_of_acts (drop (n + 1) acts)))
-    ∙ ap (λ o. behind items (with_first o (batch_of_acts (drop (n + 1) acts)))) (sym item_is)
-    ∙ ap (λ l. behind items (batch_of_acts l)) (sym (ahead acts n act within is))
+    sym (followed_by-with_first items item (batch_of_acts (drop (n + 1) acts)))
+    ∙ ap (λ o. followed_by items (with_first o (batch_of_acts (drop (n + 1) acts)))) (sym item_is)
+    ∙ ap (λ l. followed_by items (batch_of_acts l)) (sym (ahead acts n act within is))
     ∙ built
 
 -- no batch where an act has no item
 pub built_refused : (items : Batch) (n : ℕ) (acts : List Act) (act : Act) → n < length acts → act ≡ get_or acts n act → item_of_act act ≡ None → IsBuilt items n acts → batch_of_acts acts ≡ None
 built_refused items n acts act within is none built =
     sym built
-    ∙ ap (λ l. behind items (batch_of_acts l)) (ahead acts n act within is)
-    ∙ ap (λ o. behind items (with_first o (batch_of_acts (drop (n + 1) acts)))) none
+    ∙ ap (λ l. followed_by items (batch_of_acts l)) (ahead acts n act within is)
+    ∙ ap (λ o. followed_by items (with_first o (batch_of_acts (drop (n + 1) acts)))) none
 
 pub built_ended : (items : Batch) (n : ℕ) (acts : List Act) → drop n acts ≡ [] → IsBuilt items n acts → batch_of_acts acts ≡ Some items
-built_ended items n acts none built = sym built ∙ ap (λ l. behind items (batch_of_acts l)) none ∙ ap Some (append-nil items)
+built_ended items n acts none built = sym built ∙ ap (λ l. followed_by items (batch_of_acts l)) none ∙ ap Some (append-nil items)
 
-pub after-with_items : (m : Contents) (batch : Batch) → after_batches m (with_items (Some batch)) ≡ after_batch m batch
-after-with_items m [] = refl
-after-with_items m (item ∷ items) = refl
+pub after-written_batches : (m : Contents) (batch : Batch) → after_batches m (written_batches (Some batch)) ≡ after_batch m batch
+after-written_batches m [] = refl
+after-written_batches m (item ∷ items) = refl
 
 -- a batch of puts and deletes is refused by no contents
 abbrev refusal_of : Contents → Option Batch → Option Fault
@@ -82,39 +82,39 @@ acts_refusal : (m : Contents) (acts : List Act) → refusal_of m (batch_of_acts 
 acts_refusal m [] = refl
 acts_refusal m (a ∷ acts) = act_refusal m a (batch_of_acts acts) (λ n. acts_refusal n acts)
 
-pending_all : (m : Contents) (built : Option Batch) → refusal_of m built ≡ None → with_items built ≡ pending_items m built
+pending_all : (m : Contents) (built : Option Batch) → refusal_of m built ≡ None → written_batches built ≡ pending_batches m built
 pending_all m None valid = refl
 pending_all m (Some batch) valid = ap (λ (r : Option Fault). if is_none r then written_batch batch else []) (sym valid)
 
 -- so all of it may be in flight
-pub acts_pending : (m : Contents) (acts : List Act) → with_items (batch_of_acts acts) ≡ pending_items m (batch_of_acts acts)
+pub acts_pending : (m : Contents) (acts : List Act) → written_batches (batch_of_acts acts) ≡ pending_batches m (batch_of_acts acts)
 acts_pending m acts = pending_all m (batch_of_acts acts) (acts_refusal m acts)
 
 -- what a run has come to: the operations so far, their outcomes, and what the engine holds
 pub record IsRunning (before : Contents) (ops : List Op) (outcomes : List Outcome) (now : Contents) (failed : Bool) : Type 0 where
   pub len : length outcomes ≡ length ops
   pub answers : AreAnswers before ops outcomes
-  pub contents : failed ≡ false → now ≡ after_batches before (accepted ops outcomes)
+  pub contents : failed ≡ false → now ≡ after_batches before (accepted_batches ops outcomes)
 
 pub running_begun : (m : Contents) (failed : Bool) → IsRunning m [] [] m failed
 running_begun m failed = record { len = refl; answers = tt; contents = λ _. refl }
 
-answers_more : (m : Contents) (ops : List Op) (outcomes : List Outcome) (op : Op) (outcome : Outcome) → AreAnswers m ops outcomes → IsAnswer (after_batches m (accepted ops outcomes)) op outcome
+answers_more : (m : Contents) (ops : List Op) (outcomes : List Outcome) (op : Op) (outcome : Outcome) → AreAnswers m ops outcomes → IsAnswer (after_batches m (accepted_batches ops outcomes)) op outcome
     → AreAnswers m (ops ++ op ∷ []) (outcomes ++ outcome ∷ [])
 answers_more m [] [] op outcome answers more = (more, tt)
 answers_more m [] (o ∷ outcomes) op outcome answers more = absurd answers
 answers_more m (p ∷ ops) [] op outcome answers more = absurd answers
 answers_more m (p ∷ ops) (o ∷ outcomes) op outcome answers more = (
   answers.0,
-  answers_more (after_batches m (accepted_of p o)) ops outcomes op outcome answers.1 (subst (λ (n : Contents). IsAnswer n op outcome) (fold-append after_batch m (accepted_of p o) (accepted ops outcomes)) more),
+  answers_more (after_batches m (accepted_of p o)) ops outcomes op outcome answers.1 (subst (λ (n : Contents). IsAnswer n op outcome) (fold-append after_batch m (accepted_of p o) (accepted_batches ops outcomes)) more),
 )
 
-pub accepted_more : (ops : List Op) (outcomes : List Outcome) (op : Op) (outcome : Outcome) → length outcomes ≡ length ops → accepted (ops ++ op ∷ []) (outcomes ++ outcome ∷ []) ≡ accepted ops outcomes ++ accepted_of op outcome
+pub accepted_more : (ops : List Op) (outcomes : List Outcome) (op : Op) (outcome : Outcome) → length outcomes ≡ length ops → accepted_batches (ops ++ op ∷ []) (outcomes ++ outcome ∷ []) ≡ accepted_batches ops outcomes ++ accepted_of op outcome
 accepted_more [] [] op outcome same = append-nil (accepted_of op outcome)
 accepted_more [] (o ∷ outcomes) op outcome same = absurd (omega (arith, same))
 accepted_more (p ∷ ops) [] op outcome same = absurd (omega (arith, same))
 accepted_more (p ∷ ops) (o ∷ outcomes) op outcome same =
-    ap (λ (l : List Batch). accepted_of p o ++ l) (accepted_more ops outcomes op outcome (omega (arith, same))) ∙ sym (append_assoc (accepted_of p o) (accepted ops outcomes) (accepted_of op outcome))
+    ap (λ (l : List Batch). accepted_of p o ++ l) (accepted_more ops outcomes op outcome (omega (arith, same))) ∙ sym (append_assoc (accepted_of p o) (accepted_batches ops outcomes) (accepted_of op outcome))
 
 pub taken_more : {X : Type 0} (xs : List X) (i : ℕ) (x : X) → i < length xs → x ≡ get_or xs i x → take (i + 1) xs ≡ take i xs ++ x ∷ []
 taken_more xs i x within is =
@@ -128,9 +128,9 @@ module _ (before : Contents) (ops : List Op) (outcomes : List Outcome) (now : Co
       → IsRunning before (ops ++ op ∷ []) (outcomes ++ outcome ∷ []) next fails
   running_more answer contents still = record {
     len = length-append outcomes (outcome ∷ []) ∙ ap (λ (n : ℕ). n + 1) running.len ∙ sym (length-append ops (op ∷ []));
-    answers = answers_more before ops outcomes op outcome running.answers (answer (after_batches before (accepted ops outcomes)) (λ stands. sym (running.contents stands)));
+    answers = answers_more before ops outcomes op outcome running.answers (answer (after_batches before (accepted_batches ops outcomes)) (λ stands. sym (running.contents stands)));
     contents = λ stands. contents stands ∙ ap (λ (m : Contents). after_batches m (accepted_of op outcome)) (running.contents (stood failed still stands))
-        ∙ sym (fold-append after_batch before (accepted ops outcomes) (accepted_of op outcome)) ∙ ap (after_batches before) (sym (accepted_more ops outcomes op outcome running.len));
+        ∙ sym (fold-append after_batch before (accepted_batches ops outcomes) (accepted_of op outcome)) ∙ ap (after_batches before) (sym (accepted_more ops outcomes op outcome running.len));
   }
     where
       stood : (b : Bool) → (b ≡ true → fails ≡ true) → fails ≡ false → b ≡ false

@@ -22,9 +22,9 @@ use Rattle.raft_records.specs.declared.errors.Fault.TheVariants as fault
 use Rattle.raft_log_engine.specs.Image.{IsImageOf}
 use Rattle.raft_log_engine.specs.declared.engine.image.Image.{Image}
 use Rattle.raft_log_engine.specs.Log.{contents_at, contents_in, first_file, log_path}
-use Rattle.raft_script.specs.Durability.{LeavesAllowedBehind, Progress, progress_after_all, uncovered}
+use Rattle.raft_script.specs.Durability.{LeavesAllowedAfter, Progress, progress_after_all, progress_from}
 use Rattle.raft_log_engine.specs.Open.{IsDamage, IsOpenable}
-use Rattle.raft_script.specs.Run.{IsOutside}
+use Rattle.raft_script.specs.Run.{IsStorageOrMemory}
 use Rattle.raft_script.specs.Trial.{IsLogRefusal, RunsOver}
 use Rattle.raft_log_engine.specs.declared.config.RecoveryMode.{RecoveryMode}
 use Rattle.raft_log_engine.specs.declared.config.RecoveryMode.TheVariants.{AbsoluteConsistency}
@@ -35,20 +35,20 @@ use Rattle.raft_log_engine.proofs.SoundLemmas.{restarted_bytes, restarted_no_fil
 use Rattle.raft_script.proofs.RunLemmas.{contents_at-no_files}
 
 -- the run of an engine that was opened with all synced
-pub opened_behind : (folder dir : Path) (m durable : Contents) (unsynced : List Batch) (ops : List Op) (outcomes : List Outcome) (failed_at : Option ℕ) (n : Directory) → folder ≡ dir → durable ≡ m → unsynced ≡ [] → LeavesAllowedBehind failed_at folder durable unsynced ops outcomes n → LeavesAllowedBehind failed_at dir m [] ops outcomes n
-opened_behind folder dir m durable unsynced ops outcomes failed_at n folder_is durable_is unsynced_is leaves =
-    subst (λ (p : Path). LeavesAllowedBehind failed_at p m [] ops outcomes n) folder_is
-    (subst (λ (x : Contents). LeavesAllowedBehind failed_at folder x [] ops outcomes n) durable_is (subst (λ (b : List Batch). LeavesAllowedBehind failed_at folder durable b ops outcomes n) unsynced_is leaves))
+pub opened_after : (folder dir : Path) (m durable : Contents) (unsynced : List Batch) (ops : List Op) (outcomes : List Outcome) (failed_at : Option ℕ) (n : Directory) → folder ≡ dir → durable ≡ m → unsynced ≡ [] → LeavesAllowedAfter failed_at folder durable unsynced ops outcomes n → LeavesAllowedAfter failed_at dir m [] ops outcomes n
+opened_after folder dir m durable unsynced ops outcomes failed_at n folder_is durable_is unsynced_is leaves =
+    subst (λ (p : Path). LeavesAllowedAfter failed_at p m [] ops outcomes n) folder_is
+    (subst (λ (x : Contents). LeavesAllowedAfter failed_at folder x [] ops outcomes n) durable_is (subst (λ (b : List Batch). LeavesAllowedAfter failed_at folder durable b ops outcomes n) unsynced_is leaves))
 
 no_progress : (p : Progress) (ops : List Op) → progress_after_all p ops [] ≡ p
 no_progress p [] = refl
 no_progress p (op ∷ ops) = refl
 
 -- where the opening was refused, no operation was done
-pub refused_behind : (folder : Path) (m : Contents) (ops : List Op) (n : Directory) → KeepsContents folder m [] n → LeavesAllowedBehind None folder m [] ops [] n
-refused_behind folder m ops n keeps =
+pub refused_after : (folder : Path) (m : Contents) (ops : List Op) (n : Directory) → KeepsContents folder m [] n → LeavesAllowedAfter None folder m [] ops [] n
+refused_after folder m ops n keeps =
     let leaves : LeavesAllowedFrom 0 folder m [] n = contents_left folder m [] n keeps in
-    ([], refl, subst (λ (p : Progress). LeavesAllowedFrom p.covered folder m (p.batches ++ []) n) (sym (no_progress (uncovered []) ops)) leaves)
+    ([], refl, subst (λ (p : Progress). LeavesAllowedFrom p.covered folder m (p.batches ++ []) n) (sym (no_progress (progress_from []) ops)) leaves)
 
 -- a folder without files keeps nothing
 pub nothing_kept : (folder : Path) (n : Directory) → n ≡ no_files → KeepsContents folder no_contents [] n
@@ -82,7 +82,7 @@ image_restarted dir folder n m d opened same restarted is = same_opened opened (
 
 -- an opening of files that a crash left sound
 pub opened_outside : (mode again : RecoveryMode) (folder dir : Path) (n m : Directory) (d : Left) (opened : Result Image Fault) → again ≡ mode → dir ≡ folder → IsRestarted n d m → Leaves n d → (IsDetectable (log_path folder) first_file n d → IsSound folder n d)
-    → IfErr opened (λ e. IsOpenable again dir m → (HasFile m dir → ⊥) → IsOutside e) → IsDetectable (log_path folder) first_file n d → (mode ≡ AbsoluteConsistency → ⊥) → IfErr opened IsOutside
+    → IfErr opened (λ e. IsOpenable again dir m → (HasFile m dir → ⊥) → IsStorageOrMemory e) → IsDetectable (log_path folder) first_file n d → (mode ≡ AbsoluteConsistency → ⊥) → IfErr opened IsStorageOrMemory
 opened_outside mode again folder dir n m d opened mode_is dir_is restarted leaves sound refused detectable tolerant =
     let is_sound = sound detectable in
     let openable : IsOpenable again dir m = subst (λ (x : RecoveryMode). IsOpenable x dir m) (sym mode_is) (subst (λ (p : Path). IsOpenable mode p m) (sym dir_is) (sound_opens folder n d m (restarted_bytes folder n d m restarted) mode is_sound tolerant)) in

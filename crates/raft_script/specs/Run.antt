@@ -34,48 +34,48 @@ batch_of_acts [] = Some []
 batch_of_acts (a ∷ acts) = with_first (item_of_act a) (batch_of_acts acts)
 
 -- what is written of it
-abbrev pub with_items : Option Batch → List Batch
-with_items None = []
-with_items (Some batch) = written_batch batch
+abbrev pub written_batches : Option Batch → List Batch
+written_batches None = []
+written_batches (Some batch) = written_batch batch
 
 -- the batch of a write that was answered
-abbrev pub written : List Act → Result ℕ Fault → List Batch
-written acts (Ok len) = with_items (batch_of_acts acts)
-written acts (Err e) = []
+abbrev pub batches_of_write : List Act → Result ℕ Fault → List Batch
+batches_of_write acts (Ok len) = written_batches (batch_of_acts acts)
+batches_of_write acts (Err e) = []
 
 -- the batch that the operation wrote
 abbrev pub accepted_of : Op → Outcome → List Batch
-accepted_of (Write acts sync) (Size answer) = written acts.items answer
+accepted_of (Write acts sync) (Size answer) = batches_of_write acts.items answer
 accepted_of _ _ = []
 
 -- the batches of the accepted writes, in order
-abbrev pub accepted : List Op → List Outcome → List Batch
-accepted (op ∷ ops) (outcome ∷ outcomes) = accepted_of op outcome ++ accepted ops outcomes
-accepted _ _ = []
+abbrev pub accepted_batches : List Op → List Outcome → List Batch
+accepted_batches (op ∷ ops) (outcome ∷ outcomes) = accepted_of op outcome ++ accepted_batches ops outcomes
+accepted_batches _ _ = []
 
 -- a write that was answered made sure of what stood before it where it asked for that
-abbrev pub covers : Bool → Result ℕ Fault → Bool
-covers sync (Ok len) = sync
-covers sync (Err e) = false
+abbrev pub write_covers : Bool → Result ℕ Fault → Bool
+write_covers sync (Ok len) = sync
+write_covers sync (Err e) = false
 
 -- the operation made sure of all that was accepted up to it: a sync that was answered, or a write that asked for one
 abbrev pub is_covering : Op → Outcome → Bool
-is_covering (Write acts sync) (Size answer) = covers sync answer
+is_covering (Write acts sync) (Size answer) = write_covers sync answer
 is_covering Sync (Done answer) = is_ok answer
 is_covering _ _ = false
 
 -- what of a batch a crash may find written: nothing where these contents refuse it
-abbrev pub pending : Contents → Batch → List Batch
-pending m batch = if is_none (batch_refusal m batch) then written_batch batch else []
+abbrev pub pending_of : Contents → Batch → List Batch
+pending_of m batch = if is_none (batch_refusal m batch) then written_batch batch else []
 
 -- .. where there is a batch
-abbrev pub pending_items : Contents → Option Batch → List Batch
-pending_items m None = []
-pending_items m (Some batch) = pending m batch
+abbrev pub pending_batches : Contents → Option Batch → List Batch
+pending_batches m None = []
+pending_batches m (Some batch) = pending_of m batch
 
 -- what may have been written in part, or whole, when a crash came in the operation
 abbrev pub MayBeInFlight : Contents → Op → List Batch → Type 0
-MayBeInFlight m (Write acts sync) flight = flight ≡ pending_items m (batch_of_acts acts.items)
+MayBeInFlight m (Write acts sync) flight = flight ≡ pending_batches m (batch_of_acts acts.items)
 MayBeInFlight m Sync flight = flight ≡ []
 MayBeInFlight m (Get group key) flight = flight ≡ []
 
@@ -146,10 +146,10 @@ abbrev pub RoseBy : ℕ → Refusals → Refusals → Type 0
 RoseBy count old new = min (old.storage + count) (2 ^ 64 - 1) ≤ new.storage
 
 -- by storage, or for want of memory
-abbrev pub IsOutside : Fault → Type 0
-IsOutside (fault.Io kind path) = Unit {0}
-IsOutside fault.Memory = Unit {0}
-IsOutside _ = ⊥
+abbrev pub IsStorageOrMemory : Fault → Type 0
+IsStorageOrMemory (fault.Io kind path) = Unit {0}
+IsStorageOrMemory fault.Memory = Unit {0}
+IsStorageOrMemory _ = ⊥
 
 -- the answer of an engine that had failed
 abbrev pub is_failure : {T : Type 0} → Result T Fault → Bool
@@ -170,7 +170,7 @@ pub record FailsBy {T : Type 0} (failed : Bool) (answer : Result T Fault) (fails
   pub told : is_failure answer ≡ true → failed ≡ true
   pub refused : failed ≡ true → (is_failure answer ≡ true) ⊎ IsErrAnd answer Other
   -- it fails by storage or for want of memory alone
-  pub cause : failed ≡ false → fails ≡ true → IsErrAnd answer IsOutside
+  pub cause : failed ≡ false → fails ≡ true → IsErrAnd answer IsStorageOrMemory
 
 -- the batch of these acts can't be built, or there is no memory for it
 abbrev pub IsUnbuilt : List Act → Fault → Type 0
@@ -191,7 +191,7 @@ AreSteady failed [] [] = Unit {0}
 AreSteady failed (op ∷ ops) (outcome ∷ outcomes) = IsFailing failed op outcome failed × AreSteady failed ops outcomes
 AreSteady failed _ _ = ⊥
 
--- the engine failed in the operation at this place: those before it left it standing, and those behind it found it failed
+-- the engine failed in the operation at this place: those before it left it standing, and those after it found it failed
 abbrev pub FailsAt : ℕ → List Op → List Outcome → Type 0
 FailsAt zero (op ∷ ops) (outcome ∷ outcomes) = IsFailing false op outcome true × AreSteady true ops outcomes
 FailsAt (suc place) (op ∷ ops) (outcome ∷ outcomes) = IsFailing false op outcome false × FailsAt place ops outcomes
@@ -202,6 +202,6 @@ abbrev pub IsFailurePlace : Bool → List Op → List Outcome → Option ℕ →
 IsFailurePlace failed ops outcomes None = AreSteady failed ops outcomes
 IsFailurePlace failed ops outcomes (Some place) = (failed ≡ false) × FailsAt place ops outcomes
 
--- .. and whether it has failed behind them
+-- .. and whether it has failed after them
 abbrev pub AreFailures : Bool → List Op → List Outcome → Option ℕ → Bool → Type 0
 AreFailures failed ops outcomes failed_at fails = (fails ≡ (failed || is_some failed_at)) × IsFailurePlace failed ops outcomes failed_at

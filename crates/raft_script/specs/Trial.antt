@@ -9,10 +9,10 @@ use Rattle.raft_files.specs.Records.{left_bytes}
 use Rattle.raft_env.specs.declared.crash.Choice.{Choice}
 use Rattle.raft_log_engine.specs.Crash.{KeepsContents, found_after}
 use Rattle.raft_log_engine.specs.Image.{IsImageOf}
-use Rattle.raft_script.specs.Durability.{LeavesAllowedBehind}
+use Rattle.raft_script.specs.Durability.{LeavesAllowedAfter}
 use Rattle.raft_log_engine.specs.Log.{first_file, log_path}
 use Rattle.raft_log_engine.specs.Open.{IsDamage}
-use Rattle.raft_script.specs.Run.{AreAnswers, IsFailurePlace, IsOutside}
+use Rattle.raft_script.specs.Run.{AreAnswers, IsFailurePlace, IsStorageOrMemory}
 use Rattle.raft_log_engine.specs.declared.config.RecoveryMode.{RecoveryMode}
 use Rattle.raft_log_engine.specs.declared.config.RecoveryMode.TheVariants.{AbsoluteConsistency}
 use Rattle.raft_script.specs.declared.operation.Op.{Op}
@@ -34,7 +34,7 @@ pub record AreNotAsked (folder : Path) (m : Contents) (files : Directory) (outco
 pub record RunsOver (folder : Path) (m : Contents) (ops : List Op) (outcomes : List Outcome) (failed_at : Option ℕ) (files : Directory) : Type 0 where
   pub answered : AreAnswered m ops outcomes failed_at ⊎ AreNotAsked folder m files outcomes failed_at
   -- a crash leaves of them a prefix of what was accepted, and of what the operation had in flight in which the engine failed
-  pub behind : LeavesAllowedBehind failed_at folder m [] ops outcomes files
+  pub after : LeavesAllowedAfter failed_at folder m [] ops outcomes files
   -- no file stands in the folder's place
   pub no_file : HasFile files folder → ⊥
 
@@ -48,7 +48,7 @@ pub record AreNotAllowed (folder : Path) (ops : List Op) (choices : List Choice)
 
 -- an opening is refused by storage, for want of memory, or for the bytes of a log that stands at the path
 abbrev pub IsLogRefusal : RecoveryMode → Path → Directory → List ℕ → Fault → Type 0
-IsLogRefusal mode path files bytes e = IsOutside e ⊎ (HasFile files path × IsDamage mode bytes e)
+IsLogRefusal mode path files bytes e = IsStorageOrMemory e ⊎ (HasFile files path × IsDamage mode bytes e)
 
 -- operations over files that were empty, then a crash by these choices, then an opening in this mode
 pub record IsTrialOf (mode : RecoveryMode) (folder : Path) (ops : List Op) (choices : List Choice) (t : Trial) : Type 0 where
@@ -59,6 +59,6 @@ pub record IsTrialOf (mode : RecoveryMode) (folder : Path) (ops : List Op) (choi
   -- the opening found what the choices leave
   pub found : IfOk t.opened (λ image. IsImageOf image.groups.items (found_after folder files (left_by choices files)))
   -- a tolerant one is not refused for what they leave, where its damage can be told
-  pub refused : IsDetectable (log_path folder) first_file files (left_by choices files) → (mode ≡ AbsoluteConsistency → ⊥) → IfErr t.opened IsOutside
+  pub refused : IsDetectable (log_path folder) first_file files (left_by choices files) → (mode ≡ AbsoluteConsistency → ⊥) → IfErr t.opened IsStorageOrMemory
   -- in any mode and of any damage it is refused by storage, for want of memory, or for what is left of the log
   pub cause : IfErr t.opened (IsLogRefusal mode (log_path folder) files (left_bytes (log_path folder) files (left_by choices files)))

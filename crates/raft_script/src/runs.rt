@@ -7,7 +7,7 @@ ghost use Rattle.raft_env.specs.Refusal.{NoFewer, Rose};
 ghost use Rattle.raft_log_engine.specs.Crash.{LeavesAllowed};
 ghost use Rattle.raft_script.specs.Durability.{AreAllowedInside, Does, HaveRun, Runs};
 ghost use Rattle.raft_log_engine.specs.Engine.{contents_of, directory_of, durable_of, folder_of, has_failed, refusals_of, unsynced_of};
-ghost use Rattle.raft_script.specs.Run.{accepted_of, FailsBy, IsFailing, IsUnasked, IsUnbuilt, MayBeInFlight, batch_of_acts, covers, is_covering, is_io, is_refused_by_storage, IsAnswer, IsWriteRefusal, IsWritten, item_of_act, pending_items, written};
+ghost use Rattle.raft_script.specs.Run.{accepted_of, FailsBy, IsFailing, IsUnasked, IsUnbuilt, MayBeInFlight, batch_of_acts, write_covers, is_covering, is_io, is_refused_by_storage, IsAnswer, IsWriteRefusal, IsWritten, item_of_act, pending_batches, batches_of_write};
 
 use crate::operation::{Act, Op, Outcome};
 use raft_env::FileSystem;
@@ -17,14 +17,14 @@ use std::alloc::Global;
 
 /// Outcomes, and the place of the operation in which the engine failed.
 #[derive(Drop)]
-pub(crate) struct Ran {
+pub(crate) struct RunReport {
     pub outcomes: Vec<Outcome>,
     pub failed_at: Option<usize>,
 }
 
 /// Does the operations in order, each with its outcome. Where there is no memory for the list of outcomes, the engine
 /// is not asked. A crash at any moment leaves, where its damage can be told, a beginning of the accepted writes, perhaps
-/// with the batch of the operation in which it came, and all that a sync made sure of by then. Behind the operations the
+/// with the batch of the operation in which it came, and all that a sync made sure of by then. HoldsAfter the operations the
 /// accepted batches that are covered are durable, and no more, and the others stand unsynced. At least as many calls as
 /// answer `Io` were refused by storage. Where all operations are gets and writes of acts without a batch, the engine
 /// stays as it was.
@@ -51,7 +51,7 @@ pub(crate) fn run_watched<F: FileSystem>(
     alloc: Global,
     engine: &mut Engine<F>,
     ops: &[Op],
-) -> Result<Ran, Fault>
+) -> Result<RunReport, Fault>
     ensures any_moment { IfOk result (λ ran.
         AreAllowedInside ops.now ran.outcomes.items engine.old engine.new) }
     ensures ran { IfOk result (λ ran.
@@ -73,7 +73,7 @@ pub(crate) fn run_watched<F: FileSystem>(
         }
         outcomes.push(outcome)?;
     }
-    Ok(Ran {
+    Ok(RunReport {
         outcomes,
         failed_at,
     })
@@ -117,9 +117,9 @@ fn write<F: FileSystem>(
     ensures counts { NoFewer (refusals_of engine.old) (refusals_of engine.new) }
     ensures contents { has_failed engine.new ≡ false
         → contents_of engine.new
-        ≡ after_batches (contents_of engine.old) (written acts.now result) }
-    ensures does { Does (written acts.now result) (covers sync result)
-        (λ m flight. flight ≡ pending_items m (batch_of_acts acts.now)) engine.old engine.new }
+        ≡ after_batches (contents_of engine.old) (batches_of_write acts.now result) }
+    ensures does { Does (batches_of_write acts.now result) (write_covers sync result)
+        (λ m flight. flight ≡ pending_batches m (batch_of_acts acts.now)) engine.old engine.new }
     ensures still { has_failed engine.old ≡ true → has_failed engine.new ≡ true }
     ensures folder { folder_of engine.new ≡ folder_of engine.old }
 {

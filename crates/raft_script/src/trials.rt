@@ -10,11 +10,11 @@ ghost use Rattle.raft_log_engine.specs.Image.{IsImageOf};
 ghost use Rattle.raft_log_engine.specs.Log.{contents_at, log_path};
 ghost use Rattle.raft_log_engine.specs.Crash.{KeepsContents};
 ghost use Rattle.raft_log_engine.specs.Open.{IsOpenable};
-ghost use Rattle.raft_script.specs.Run.{IsOutside};
+ghost use Rattle.raft_script.specs.Run.{IsStorageOrMemory};
 ghost use Rattle.raft_script.specs.Trial.{AreNotAllowed, IsLogRefusal, IsTrialOf, RunsOver};
 
 use crate::operation::{Op, Trial};
-use crate::runs::{Ran, run_watched};
+use crate::runs::{RunReport, run_watched};
 use raft_env::{Choice, FileSystem, MemoryFileSystem};
 use raft_log_engine::{Config, Engine, Image};
 use raft_records::Fault;
@@ -66,7 +66,7 @@ fn run_over<F: FileSystem + Drop>(
     config: Config,
     files: F,
     ops: &[Op],
-) -> Result<(Ran, F), Fault>
+) -> Result<(RunReport, F), Fault>
     ensures ran { IfOk result (λ r. let dir = string_bytes config.dir in
         let found = contents_at dir (F.directory files) in
         KeepsContents dir found [] (F.directory files)
@@ -79,7 +79,7 @@ fn run_over<F: FileSystem + Drop>(
             Ok((ran, engine.give_up()))
         }
         Err(refused) => {
-            let nothing = Ran {
+            let nothing = RunReport {
                 outcomes: Vec::new(alloc),
                 failed_at: None,
             };
@@ -93,7 +93,7 @@ fn open_image<F: FileSystem + Drop>(alloc: Global, config: Config, files: F) -> 
         IsImageOf image.groups.items (contents_at (string_bytes config.dir) (F.directory files))) }
     ensures refused { IfErr result (λ e.
         IsOpenable config.recovery_mode (string_bytes config.dir) (F.directory files)
-        → (HasFile (F.directory files) (string_bytes config.dir) → ⊥) → IsOutside e) }
+        → (HasFile (F.directory files) (string_bytes config.dir) → ⊥) → IsStorageOrMemory e) }
     ensures cause { IfErr result (λ e. let path = log_path (string_bytes config.dir) in
         (HasFile (F.directory files) (string_bytes config.dir) → ⊥)
         → IsLogRefusal config.recovery_mode path (F.directory files)

@@ -5,12 +5,12 @@ use Rattle.std.proofs.lemmas.List.Elements.{All-get_or}
 use Rattle.std.proofs.lemmas.Option.{slice_get_read}
 use Rattle.raft_env.specs.Moments.{Passes}
 use Rattle.raft_log_engine.specs.Crash.{LeavesAllowed}
-use Rattle.raft_script.specs.Durability.{Progress, PassesThrough, durability_of, progress_after_all, uncovered}
+use Rattle.raft_script.specs.Durability.{Progress, PassesThrough, durability_of, progress_after_all, progress_from}
 use Rattle.raft_script.specs.Run.{IsFailurePlace, IsUnasked}
 use Rattle.raft_script.specs.declared.operation.Op.{Op}
 use Rattle.raft_log_engine.specs.Engine.{contents_of, directory_of, durable_of, folder_of, has_failed, moments_of, refusals_of, unsynced_of}
 use Rattle.raft_log_engine.proofs.AllowedLemmas.{engine_holds, engine_leaves}
-use Rattle.raft_script.proofs.DurabilityLemmas.{IsUnderWay, durable_behind, inside_more, leaves_behind, progress_more, through_more, under_way_begun, under_way_more}
+use Rattle.raft_script.proofs.DurabilityLemmas.{IsUnderWay, durable_after, inside_more, leaves_after, progress_more, through_more, under_way_begun, under_way_more}
 use Rattle.raft_script.proofs.RunLemmas.{IsNextPlace, IsRunning, place_more, rose_more, running_begun, running_more, stands_so_far, taken_more, told_by}
 use Rattle.raft_script.proofs.runs.run_watched.Goals as goal
 use Rattle.raft_script.proofs.runs.run_watched.Goals.{then-stood+then-failed, else-stood, else-stood-via-then-stood+else-failed, else-stood-via-else-stood}
@@ -44,7 +44,7 @@ loop-op-preserved g c =
       }
     ] in
     let m = durable_of begun in
-    let first = uncovered (unsynced_of begun) in
+    let first = progress_from (unsynced_of begun) in
     let p = progress_after_all first ops outcomes in
     let here = slice_get_read c.args.ops.now (length c.args.ops.now) c.loop-op.op-index op refl c.loop-op-test.true c.op-item.is in
     let flight = step.does.flight in
@@ -90,7 +90,7 @@ returns-clause-ran g c =
     let ops = c.args.ops.now in
     let outcomes = c.loop-op.outcomes.items in
     let failed_at = c.loop-op.failed_at in
-    let first = uncovered (unsynced_of old) in
+    let first = progress_from (unsynced_of old) in
     let kept = c.loop-op.invariant in
     let whole : take c.loop-op.op-index ops ≡ ops = take_all c.loop-op.op-index ops (omega (arith, c.loop-op-test.false)) in
     let way = subst (λ (l : List Op). IsUnderWay (durable_of old) (progress_after_all first l outcomes) ops failed_at (durability_of e)) whole kept.4 in
@@ -100,8 +100,8 @@ returns-clause-ran g c =
       failures = (kept.6, subst (λ (l : List Op). IsFailurePlace (has_failed old) l outcomes failed_at) whole kept.7);
       counted = kept.8;
       contents = running.contents;
-      now = leaves_behind (durable_of old) (unsynced_of old) ops outcomes failed_at (durability_of e) way (folder_of old) (directory_of e) (subst (λ f. LeavesAllowed f (durable_of e) (unsynced_of e) (directory_of e)) kept.3 (engine_leaves e));
-      progress = durable_behind (durable_of old) (unsynced_of old) ops outcomes failed_at (durability_of e) way;
+      now = leaves_after (durable_of old) (unsynced_of old) ops outcomes failed_at (durability_of e) way (folder_of old) (directory_of e) (subst (λ f. LeavesAllowed f (durable_of e) (unsynced_of e) (directory_of e)) kept.3 (engine_leaves e));
+      progress = durable_after (durable_of old) (unsynced_of old) ops outcomes failed_at (durability_of e) way;
     }
 
 pub returns-clause-any_moment : goal.returns-clause-any_moment
@@ -109,7 +109,7 @@ returns-clause-any_moment g c =
     let old = c.args.engine.now in
     let ops = c.args.ops.now in
     let whole : take c.loop-op.op-index ops ≡ ops = take_all c.loop-op.op-index ops (omega (arith, c.loop-op-test.false)) in
-    subst (λ (l : List Op). PassesThrough (folder_of old) (durable_of old) (uncovered (unsynced_of old)) l c.loop-op.outcomes.items (moments_of old) (moments_of c.loop-op.engine)) whole c.loop-op.invariant.5
+    subst (λ (l : List Op). PassesThrough (folder_of old) (durable_of old) (progress_from (unsynced_of old)) l c.loop-op.outcomes.items (moments_of old) (moments_of c.loop-op.engine)) whole c.loop-op.invariant.5
 
 pub returns-in_err-outcomes-clause-left : goal.returns-in_err-outcomes-clause-left
 returns-in_err-outcomes-clause-left g c = engine_leaves c.args.engine.now

@@ -1,5 +1,5 @@
 use Rattle.std.proofs.Common.{All, ◌≡◌, ◌||◌, ◌≤◌, is_some, length, take, vec_len, vec_capacity}
-use Rattle.raft_script.specs.Durability.{PassesThrough, durability_of, progress_after_all, uncovered}
+use Rattle.raft_script.specs.Durability.{PassesThrough, durability_of, progress_after_all, progress_from}
 use Rattle.raft_log_engine.specs.Engine.{contents_of, durable_of, folder_of, has_failed, moments_of, refusals_of, unsynced_of}
 use Rattle.raft_script.specs.Run.{IsFailurePlace, IsUnasked, RoseBy, io_count}
 use Rattle.raft_script.proofs.DurabilityLemmas.{IsUnderWay}
@@ -12,8 +12,8 @@ invariant-loop-op g l =
     × (vec_len l.outcomes ≡ l.op-index)
     × (length l.ops ≤ vec_capacity l.outcomes)
     × (folder_of l.engine ≡ folder_of l.initial.engine)
-    × IsUnderWay (durable_of l.initial.engine) (progress_after_all (uncovered (unsynced_of l.initial.engine)) (take l.op-index l.ops) l.outcomes.items) l.ops l.failed_at (durability_of l.engine)
-    × PassesThrough (folder_of l.initial.engine) (durable_of l.initial.engine) (uncovered (unsynced_of l.initial.engine)) (take l.op-index l.ops) l.outcomes.items (moments_of l.initial.engine) (moments_of l.engine)
+    × IsUnderWay (durable_of l.initial.engine) (progress_after_all (progress_from (unsynced_of l.initial.engine)) (take l.op-index l.ops) l.outcomes.items) l.ops l.failed_at (durability_of l.engine)
+    × PassesThrough (folder_of l.initial.engine) (durable_of l.initial.engine) (progress_from (unsynced_of l.initial.engine)) (take l.op-index l.ops) l.outcomes.items (moments_of l.initial.engine) (moments_of l.engine)
     × (has_failed l.engine ≡ (has_failed l.initial.engine || is_some l.failed_at))
     × IsFailurePlace (has_failed l.initial.engine) (take l.op-index l.ops) l.outcomes.items l.failed_at
     × RoseBy (io_count l.outcomes.items) (refusals_of l.initial.engine) (refusals_of l.engine)

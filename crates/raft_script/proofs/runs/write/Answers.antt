@@ -2,7 +2,7 @@ use Rattle.std.proofs.Common.{refl, inl}
 use Rattle.std.proofs.lemmas.Result.{err_from_is_err_and}
 use Rattle.raft_script.specs.Durability.{durability_of}
 use Rattle.raft_log_engine.specs.Engine.{contents_of, directory_of, durable_of, folder_of, moments_of, unsynced_of}
-use Rattle.raft_script.specs.Run.{batch_of_acts, with_items}
+use Rattle.raft_script.specs.Run.{batch_of_acts, written_batches}
 use Rattle.raft_log_engine.proofs.AllowedLemmas.{engine_still_more}
 use Rattle.raft_script.proofs.DurabilityLemmas.{moments_of_batch, written_contents, written_progress}
 use Rattle.raft_script.proofs.RunLemmas.{acts_pending}
@@ -14,10 +14,10 @@ returns-in_err-batch-clause-does g c =
     let acts = c.args.acts.now in
     let p = err_from_is_err_and c.from_residual.result c.from_residual.ensures.1 in
     record {
-      flight = with_items (batch_of_acts acts);
+      flight = written_batches (batch_of_acts acts);
       may_be = acts_pending (contents_of e) acts;
       progress = rw (p.1) (inl (record { none = refl; covers_none = refl; failed = refl; durable = refl; unsynced = refl }));
-      moments = λ alive. engine_still_more e (with_items (batch_of_acts acts));
+      moments = λ alive. engine_still_more e (written_batches (batch_of_acts acts));
       rests = λ failed. refl;
     }
 
@@ -34,7 +34,7 @@ returns-clause-does g c =
     let e = c.args.engine.now in
     let n = c.write.new.self in
     record {
-      flight = with_items (batch_of_acts acts);
+      flight = written_batches (batch_of_acts acts);
       may_be = acts_pending (contents_of e) acts;
       progress = written_progress acts items c.args.sync c.write.result (durability_of e) (durability_of n) c.in_ok-batch.ensures.ok write.alive write.synced write.unsynced write.durable write.refused write.in_flight write.still;
       moments = λ alive. moments_of_batch (folder_of e) (durable_of e) (unsynced_of e) items (batch_of_acts acts) (moments_of e) (moments_of n) (directory_of n) c.in_ok-batch.ensures.ok write.any_moment;

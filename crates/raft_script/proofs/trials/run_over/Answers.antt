@@ -2,11 +2,11 @@ use Rattle.std.proofs.Common.{◌∙◌, Bool, [], inl, inr, refl, sym, subst}
 use Rattle.std.specs.String.{string_bytes}
 use Rattle.raft_records.specs.Contents.{Contents}
 use Rattle.raft_env.specs.Directory.{Directory, HasFile, Path}
-use Rattle.raft_script.specs.Durability.{LeavesAllowedBehind}
+use Rattle.raft_script.specs.Durability.{LeavesAllowedAfter}
 use Rattle.raft_log_engine.specs.Engine.{directory_of, durable_of, folder_of, unsynced_of}
 use Rattle.raft_log_engine.specs.Log.{contents_at}
 use Rattle.raft_script.specs.Run.{AreAnswers, IsFailurePlace}
-use Rattle.raft_script.proofs.TrialLemmas.{opened_behind, refused_behind}
+use Rattle.raft_script.proofs.TrialLemmas.{opened_after, refused_after}
 use Rattle.raft_script.proofs.trials.run_over.Goals as goal
 
 pub returns-in_ok-ran-in-Ok-clause-ran : goal.returns-in_ok-ran-in-Ok-clause-ran
@@ -18,14 +18,14 @@ returns-in_ok-ran-in-Ok-clause-ran g c =
     let ran = c.in_ok-ran-in-Ok.ran in
     let outcomes = ran.outcomes.items in
     let run = c.in_ok-ran-in-Ok.ensures in
-    let behind = opened_behind (folder_of e) dir m (durable_of e) (unsynced_of e) ops outcomes ran.failed_at (directory_of c.run_watched.new.engine)
+    let after = opened_after (folder_of e) dir m (durable_of e) (unsynced_of e) ops outcomes ran.failed_at (directory_of c.run_watched.new.engine)
     c.in-Ok.ensures.folder (c.in-Ok.ensures.synced.0 ∙ c.in-Ok.ensures.contents) c.in-Ok.ensures.synced.1 run.ran.now in
     λ _. record {
       answered = inl (record {
         answers = subst (λ (x : Contents). AreAnswers x ops outcomes) c.in-Ok.ensures.contents run.ran.answers;
         place = subst (λ (b : Bool). IsFailurePlace b ops outcomes ran.failed_at) c.in-Ok.ensures.alive run.ran.failures.1;
       });
-      behind = subst (λ (n : Directory). LeavesAllowedBehind ran.failed_at dir m [] ops outcomes n) (sym c.give_up.ensures.files) behind;
+      after = subst (λ (n : Directory). LeavesAllowedAfter ran.failed_at dir m [] ops outcomes n) (sym c.give_up.ensures.files) after;
       no_file = subst (λ (p : Path). HasFile (g.F.FileSystem.directory c.give_up.result) p → ⊥) (run.folder ∙ c.in-Ok.ensures.folder) c.give_up.ensures.kept.0;
     }
 
@@ -38,6 +38,6 @@ returns-in-Err-clause-ran g c =
     let kept = c.in-Err.ensures.any_moment_refused.here m [] keeps in
     record {
       answered = inr (record { none = c.new.ensures.items; stands = refl; files_keep = kept });
-      behind = rw c.new.ensures.items (refused_behind dir m c.args.ops.now files kept);
+      after = rw c.new.ensures.items (refused_after dir m c.args.ops.now files kept);
       no_file = kept.0;
     }

@@ -37,7 +37,7 @@ returns-clause-crashed c =
       left = leaves;
       found = image_restarted (string_bytes c.in_ok-again.again.dir) dir files (memory_directory c.in_ok-left.left) left c.open_image.result c.in_ok-again.ensures.value.dir c.in_ok-left.ensures.ok c.open_image.ensures.value;
       refused = opened_outside c.args.config.recovery_mode c.in_ok-again.again.recovery_mode dir (string_bytes c.in_ok-again.again.dir) files (memory_directory c.in_ok-left.left) left c.open_image.result (ap (λ (x : Config). x.recovery_mode) c.in_ok-again.ensures.value.others)
-          c.in_ok-again.ensures.value.dir c.in_ok-left.ensures.ok leaves (λ detectable. (shown.behind.2 left leaves detectable).1) c.open_image.ensures.refused;
+          c.in_ok-again.ensures.value.dir c.in_ok-left.ensures.ok leaves (λ detectable. (shown.after.2 left leaves detectable).1) c.open_image.ensures.refused;
       cause = opened_log c.args.config.recovery_mode c.in_ok-again.again.recovery_mode dir (string_bytes c.in_ok-again.again.dir) files (memory_directory c.in_ok-left.left) left c.open_image.result (ap (λ (x : Config). x.recovery_mode) c.in_ok-again.ensures.value.others)
           c.in_ok-again.ensures.value.dir c.in_ok-left.ensures.ok shown.no_file c.open_image.ensures.cause;
     }
