@@ -1,5 +1,5 @@
 -- Paths to files, and what each call makes of them.
-use Rattle.std.specs.Prelude.{◌≡◌, ◌⊎◌, ℕ, ◌+◌, ◌-◌, ◌≤◌, Bool, cond, List, [], ◌∷◌, ◌++◌, length, Option, Some, None, is_some, IsSome, if◌then◌else◌, not, ◌==◌, ◌||◌, take, drop, option_map}
+use Rattle.std.specs.Prelude.{◌≡◌, ◌⊎◌, ℕ, ◌+◌, ◌-◌, ◌≤◌, Bool, true, cond, List, [], ◌∷◌, ◌++◌, length, Option, Some, None, is_some, IsSome, if◌then◌else◌, not, ◌==◌, ◌||◌, take, drop, option_map}
 use Rattle.std.specs.List.{list_any, filter_map}
 use Rattle.std.specs.Str.{bytes_eq}
 use Rattle.std.specs.Ordering.{nat_cmp}
@@ -118,6 +118,12 @@ is_on_way folder path = bytes_eq folder path || is_some (after_folder folder pat
 -- a folder is made with those on the way to it
 abbrev pub folder_made : Path → Directory → Directory
 folder_made path n = record n { is_folder = λ q. is_on_way q path || n.is_folder q }
+
+-- a moment of making a folder: the files are as before, and none, some or all of the folders to be made are there
+pub record IsMakingFolder (path : Path) (old new : Directory) : Type 0 where
+  pub files : new.files ≡ old.files
+  pub kept : (q : Path) → old.is_folder q ≡ true → new.is_folder q ≡ true
+  pub made : (q : Path) → new.is_folder q ≡ true → (folder_made path old).is_folder q ≡ true
 
 abbrev pub removed : Path → Directory → Directory
 removed path n = record n { files = map.remove n.files path }

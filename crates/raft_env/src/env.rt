@@ -2,7 +2,7 @@
 ghost use Rattle.std.specs.Prelude.{◌≡◌, ◌⊎◌, ◌↔◌, ◌<◌, ◌+◌, ◌^◌, [], ◌∷◌, List, ℕ, Bool, true, false, length, take, map, IfOk, OnOk, OnErr, Some, is_some};
 ghost use Rattle.std.specs.String.{string_bytes};
 ghost use Rattle.raft_env.specs.Outcomes.{File, written, resized, synced_of, overlaid, padded};
-ghost use Rattle.raft_env.specs.Directory.{Path, Directory, file_at, changed, created, folder_made, IsWriting, IsTruncating, IsAllocating, IsOneOf, ReadsAt, names_in, HasFile};
+ghost use Rattle.raft_env.specs.Directory.{Path, Directory, file_at, changed, created, folder_made, IsWriting, IsTruncating, IsAllocating, IsMakingFolder, IsOneOf, ReadsAt, names_in, HasFile};
 ghost use Rattle.raft_env.specs.Moments.{Passes};
 ghost use Rattle.raft_env.specs.Refusal.{Counts, Refusals, added_count, no_refusals};
 ghost use Rattle.raft_env.specs.declared.env.FsFault.TheVariants.{Memory};
@@ -187,12 +187,11 @@ pub trait FileSystem: Send + Sync {
         ensures any_moment { moments self.new ≡ moments self.old }
         ensures cause { Counts result (refusals_of self.old) (refusals_of self.new) };
 
-    /// Makes a folder, with those on the way to it. A folder that stands stays.
+    /// Makes a folder, with those on the way to it. A folder that stands stays. A refusal may leave some of them made.
     fn make_dir(&mut self, path: &str) -> Result<(), FsFault>
         ensures ok { OnOk result (directory self.new ≡ folder_made path.now (directory self.old)) }
-        ensures err { OnErr result (directory self.new ≡ directory self.old) }
         ensures any_moment { Passes (moments self.old) (moments self.new) (directory self.new)
-            (IsOneOf (directory self.old) (folder_made path.now (directory self.old))) }
+            (IsMakingFolder path.now (directory self.old)) }
         ensures cause { Counts result (refusals_of self.old) (refusals_of self.new) };
 
     /// The names of the files in a folder, in the order of their bytes.

@@ -96,7 +96,7 @@ impl MemoryFileSystem {
 impl FileSystem for MemoryFileSystem {
     ghost use Rattle.raft_env.specs.Memory.{memory_directory, memory_moments, memory_refusals, armed_of, stop_of, LeavesHalf};
     ghost use Rattle.raft_env.specs.Armed.{arms_after, injected, stop_after};
-    ghost use Rattle.raft_env.specs.Directory.{HasFile, IsAllocating, IsOneOf, IsTruncating, ReadsAt, created, file_at, folder_made, names_in};
+    ghost use Rattle.raft_env.specs.Directory.{HasFile, IsAllocating, IsMakingFolder, IsOneOf, IsTruncating, ReadsAt, created, file_at, folder_made, names_in};
     ghost use Rattle.raft_env.specs.Outcomes.{File, padded, resized, synced_of};
     ghost use Rattle.raft_env.specs.Refusal.{Counts, added_count, no_refusals};
     ghost use Rattle.raft_env.specs.Refused.{HasNoFolder, HasNoPlace, HasNoRoom, IsAbsent, IsBarred, IsMissing, RefusesAs, WasArmed};
@@ -388,7 +388,7 @@ impl FileSystem for MemoryFileSystem {
         ensures ok { OnOk result (memory_directory self.new ≡ folder_made path.now (memory_directory self.old)) }
         ensures err { OnErr result (memory_directory self.new ≡ memory_directory self.old) }
         ensures any_moment { Passes (memory_moments self.old) (memory_moments self.new) (memory_directory self.new)
-            (IsOneOf (memory_directory self.old) (folder_made path.now (memory_directory self.old))) }
+            (IsMakingFolder path.now (memory_directory self.old)) }
         ensures cause { Counts result (memory_refusals self.old) (memory_refusals self.new) }
         ensures refused { RefusesAs (injected FsCall.MakeDir (armed_of self.old) (stop_of self.old))
             (IsBarred (memory_directory self.old) path.now) result }
