@@ -41,7 +41,7 @@ const FILE_2: LogFileContext = LogFileContext {
     version: Version::V2,
 };
 
-const RECORDS: [Record; 33] = [
+const RECORDS: [Record; 34] = [
     Record {
         name: "no items",
         file: UNSIGNED,
