@@ -51,13 +51,17 @@ abbrev pub HasFile : Directory → Path → Type 0
 HasFile n path = IsSome (file_at n path)
 
 -- a moment of a call that changes one file: nothing has changed, or the call is done, or its range holds other bytes
-abbrev pub IsChanging : Path → (Bool → List ℕ → File → File) → (List ℕ → List ℕ) → (List ℕ → List ℕ → Type 0) → Directory → Directory → Type 0
+abbrev pub IsChanging : Path → (Bool → List ℕ → File → File) → (List ℕ → List ℕ)
+    → (List ℕ → List ℕ → Type 0) → Directory → Directory → Type 0
 IsChanging path step wanted IsPart old new =
-    (new ≡ old) ⊎ ((file : File) × (after : List ℕ) × (is_done : Bool) × (file_at old path ≡ Some file)
-    × Outcome is_done (wanted file.now) (IsPart file.now) after × (new ≡ placed path (step is_done after file) old))
+    (new ≡ old) ⊎ ((file : File) × (after : List ℕ) × (is_done : Bool)
+    × (file_at old path ≡ Some file)
+    × Outcome is_done (wanted file.now) (IsPart file.now) after
+    × (new ≡ placed path (step is_done after file) old))
 
 abbrev pub IsWriting : Path → ℕ → List ℕ → Directory → Directory → Type 0
-IsWriting path at given = IsChanging path (written at given) (λ now. overlaid now at given) (IsPartOf at (length given))
+IsWriting path at given = IsChanging path (written at given) (λ now. overlaid now at given)
+    (IsPartOf at (length given))
 
 abbrev pub IsTruncating : Path → ℕ → Directory → Directory → Type 0
 IsTruncating path size = IsChanging path (cut_to size) (take size) (IsCutOf size)
@@ -65,7 +69,8 @@ IsTruncating path size = IsChanging path (cut_to size) (take size) (IsCutOf size
 -- what an allocation lengthens a file by begins at its end
 abbrev pub IsAllocating : Path → ℕ → Directory → Directory → Type 0
 IsAllocating path size =
-    IsChanging path (lengthened_to size) (λ now. padded now size) (λ now. IsPartOf (length now) (size - length now) now)
+    IsChanging path (lengthened_to size) (λ now. padded now size)
+    (λ now. IsPartOf (length now) (size - length now) now)
 
 abbrev pub IsOneOf : Directory → Directory → Directory → Type 0
 IsOneOf a b n = (n ≡ a) ⊎ (n ≡ b)

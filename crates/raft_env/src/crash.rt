@@ -50,9 +50,11 @@ impl MemoryFileSystem {
         ensures consistent { AreConsistent (memory_directory self.now) }
         ensures only_writes { OnlyWritesRefusedIn (memory_directory self.now) }
         ensures not_renamed { NoneRenamed (memory_directory self.now) }
-        ensures value { OnOk result (Leaves (memory_directory self.now) (left_by choices.now (memory_directory self.now))) }
+        ensures value { OnOk result (Leaves (memory_directory self.now)
+            (left_by choices.now (memory_directory self.now))) }
         ensures refused { IfErr result (RefusesUnless
-            (Leaves (memory_directory self.now) (left_by choices.now (memory_directory self.now)))) }
+            (Leaves (memory_directory self.now)
+            (left_by choices.now (memory_directory self.now)))) }
     {
         Ok(MemoryFileSystem {
             alloc: self.alloc,
@@ -71,7 +73,8 @@ impl Tree {
     fn crashed(&self, alloc: Global, choices: &[Choice]) -> Result<Tree, Fault>
         ensures ok { IfOk result (λ t. IsRestarted (tree_directory self.now)
             (left_by choices.now (tree_directory self.now)) (tree_directory t)) }
-        ensures allowed { OnOk result (Leaves (tree_directory self.now) (left_by choices.now (tree_directory self.now))) }
+        ensures allowed { OnOk result (Leaves (tree_directory self.now)
+            (left_by choices.now (tree_directory self.now))) }
         ensures refused { IfErr result (RefusesUnless
             (Leaves (tree_directory self.now) (left_by choices.now (tree_directory self.now)))) }
     {
@@ -101,9 +104,11 @@ fn put_left(
     slot: &Slot,
     choice: &Choice,
 ) -> Result<(), Fault>
-    ensures ok { OnOk result (Puts files.old files.new path.now (settled (chosen choice.now slot.now))) }
+    ensures ok { OnOk result (Puts files.old files.new path.now
+        (settled (chosen choice.now slot.now))) }
     ensures allowed { OnOk result (MayLeave slot.now (chosen choice.now slot.now)) }
-    ensures refused { IfErr result (RefusesUnless (MayLeave slot.now (chosen choice.now slot.now))) }
+    ensures refused { IfErr result (RefusesUnless
+        (MayLeave slot.now (chosen choice.now slot.now))) }
 {
     let left = slot.left(alloc, choice)?;
     let key = String::from_str(alloc, path)?;
