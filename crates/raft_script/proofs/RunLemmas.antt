@@ -4,7 +4,7 @@ use Rattle.std.specs.Prelude.{◌||◌, is_none, is_some, option_map, if◌then�
 use Rattle.std.proofs.lemmas.List.{append-nil, nil_from_length}
 use Rattle.std.proofs.lemmas.List.Sums.{fold-append, sum_by-append}
 use Rattle.std.proofs.Math.Seq.{take-suc}
-use Rattle.raft_env.specs.Refusal.{Rose}
+use Rattle.raft_env.specs.Refusal.{NoFewer, Refusals, Rose}
 use Rattle.raft_records.specs.Contents.{Contents, no_contents, after_batch, after_batches, after_item}
 use Rattle.raft_records.specs.Batch.{is_internal_key}
 use Rattle.raft_records.specs.Item.{Item, Batch, Put, Delete}
@@ -240,10 +240,10 @@ stands_so_far false = refl
 -- Storage's refusals.
 
 -- one outcome more
-pub rose_more : (outcomes : List Outcome) (outcome : Outcome) (old mid new : ℕ) → RoseBy (io_count outcomes) old mid → (is_refused_by_storage outcome ≡ true → Rose mid new) → mid ≤ new → RoseBy (io_count (outcomes ++ outcome ∷ [])) old new
+pub rose_more : (outcomes : List Outcome) (outcome : Outcome) (old mid new : Refusals) → RoseBy (io_count outcomes) old mid → (is_refused_by_storage outcome ≡ true → Rose mid new) → NoFewer mid new → RoseBy (io_count (outcomes ++ outcome ∷ [])) old new
 rose_more outcomes outcome old mid new so_far rose counts =
     subst (λ (n : ℕ). RoseBy n old new) (sym (sum_by-append _ outcomes (outcome ∷ []))) (by_case (is_refused_by_storage outcome) rose)
   where
     by_case : (b : Bool) → (b ≡ true → Rose mid new) → RoseBy (io_count outcomes + (0 + cond b 1 0)) old new
     by_case true rose = let one = rose refl in omega (arith, so_far, one)
-    by_case false rose = omega (arith, so_far, counts)
+    by_case false rose = omega (arith, so_far, counts.0)

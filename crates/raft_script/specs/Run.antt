@@ -7,6 +7,7 @@ use Rattle.raft_records.specs.Item.{Item, Batch, Put, Delete}
 use Rattle.raft_records.specs.Validity.{batch_refusal}
 use Rattle.raft_records.specs.declared.errors.Fault.{Fault}
 use Rattle.raft_records.specs.declared.errors.Fault.TheVariants as fault
+use Rattle.raft_env.specs.Refusal.{Refusals}
 use Rattle.raft_log_engine.specs.Crash.{written_batch}
 use Rattle.raft_log_engine.specs.Engine.{record_len}
 use Rattle.raft_script.specs.declared.operation.Act.{Act}
@@ -140,9 +141,9 @@ is_refused_by_storage (Value answer) = is_io answer
 abbrev pub io_count : List Outcome → ℕ
 io_count outcomes = count_by is_refused_by_storage outcomes
 
--- a count rose by so many at least, or it is full
-abbrev pub RoseBy : ℕ → ℕ → ℕ → Type 0
-RoseBy count old new = min (old + count) (2 ^ 64 - 1) ≤ new
+-- storage's count rose by so many at least, or it is full
+abbrev pub RoseBy : ℕ → Refusals → Refusals → Type 0
+RoseBy count old new = min (old.storage + count) (2 ^ 64 - 1) ≤ new.storage
 
 -- by storage, or for want of memory
 abbrev pub IsStorageOrMemory : Fault → Type 0

@@ -3,7 +3,7 @@ ghost use Rattle.std.specs.Prelude.{All, ◌≡◌, ◌⊎◌, ◌≤◌, ◌++�
 ghost use Rattle.raft_records.specs.Contents.{Contents, after_batches};
 ghost use Rattle.raft_records.specs.Fault.{fault_code};
 ghost use Rattle.raft_records.specs.Item.{Item};
-ghost use Rattle.raft_env.specs.Refusal.{Rose};
+ghost use Rattle.raft_env.specs.Refusal.{NoFewer, Rose};
 ghost use Rattle.raft_log_engine.specs.Crash.{LeavesAllowed};
 ghost use Rattle.raft_script.specs.Durability.{AreAllowedInside, Does, HaveRun, Runs};
 ghost use Rattle.raft_log_engine.specs.Engine.{contents_of, directory_of, durable_of, folder_of, has_failed, refusals_of, unsynced_of};
@@ -86,7 +86,7 @@ fn step<F: FileSystem>(alloc: Global, engine: &mut Engine<F>, op: &Op) -> Outcom
     ensures unasked { IsUnasked op.now → engine.new ≡ engine.old }
     ensures counted { is_refused_by_storage result ≡ true
         → Rose (refusals_of engine.old) (refusals_of engine.new) }
-    ensures counts { refusals_of engine.old ≤ refusals_of engine.new }
+    ensures counts { NoFewer (refusals_of engine.old) (refusals_of engine.new) }
     ensures contents { has_failed engine.new ≡ false
         → contents_of engine.new
         ≡ after_batches (contents_of engine.old) (accepted_of op.now result) }
@@ -114,7 +114,7 @@ fn write<F: FileSystem>(
         (IsUnbuilt acts.now) }
     ensures unasked { batch_of_acts acts.now ≡ None → engine.new ≡ engine.old }
     ensures counted { is_io result ≡ true → Rose (refusals_of engine.old) (refusals_of engine.new) }
-    ensures counts { refusals_of engine.old ≤ refusals_of engine.new }
+    ensures counts { NoFewer (refusals_of engine.old) (refusals_of engine.new) }
     ensures contents { has_failed engine.new ≡ false
         → contents_of engine.new
         ≡ after_batches (contents_of engine.old) (batches_of_write acts.now result) }
