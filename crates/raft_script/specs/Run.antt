@@ -156,12 +156,6 @@ abbrev pub is_failure : {T : Type 0} → Result T Fault → Bool
 is_failure (Err fault.Failed) = true
 is_failure _ = false
 
--- .. of an operation
-abbrev pub is_refused_as_failed : Outcome → Bool
-is_refused_as_failed (Size answer) = is_failure answer
-is_refused_as_failed (Done answer) = is_failure answer
-is_refused_as_failed (Value answer) = is_failure answer
-
 -- an engine answers so and fails, or doesn't; an answer that isn't the engine's is one of the others
 pub record FailsBy {T : Type 0} (failed : Bool) (answer : Result T Fault) (fails : Bool) (Other : Fault → Type 0) : Type 0 where
   -- it stays failed
