@@ -1,11 +1,5 @@
-pub mod AgreesLemmas
-pub mod WrittenLemmas
-pub mod OthersLemmas
-pub mod SoundLemmas
+pub mod BatchLemmas
 pub mod AllowedLemmas
-pub mod LogLemmas
-pub mod OpenLemmas
+pub mod EngineLemmas
 pub mod ImageLemmas
-pub mod RecoverLemmas
-pub mod StaysLemmas
 pub mod ReopenLemmas

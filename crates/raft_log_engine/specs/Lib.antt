@@ -1,10 +1,5 @@
-pub mod Log
-pub mod Config
-pub mod Open
-pub mod Agrees
+pub mod Contents
+pub mod Crash
 pub mod Cause
-pub mod Append
 pub mod Engine
 pub mod Image
-pub mod Crash
-pub mod Written

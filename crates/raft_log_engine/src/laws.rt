@@ -1,15 +1,15 @@
 //! What a crash leaves of an engine, whatever calls came before.
-ghost use Rattle.std.specs.Prelude.{◌≡◌, List, [], None};
+ghost use Rattle.std.specs.Prelude.{◌≡◌, List, []};
 ghost use Rattle.raft_records.specs.Contents.{Contents, no_contents};
 ghost use Rattle.raft_records.specs.Item.{Batch};
-ghost use Rattle.raft_files.specs.Detectable.{IsDetectable};
-ghost use Rattle.raft_env.specs.Directory.{Directory, HasFile, IsRestarted, Left, Path, file_at};
+ghost use Rattle.raft_env.specs.Directory.{Directory, HasFile, IsRestarted, Left, Path};
 ghost use Rattle.raft_log_engine.specs.Crash.{IsAllowedFrom, IsSound, KeepsContents, LeavesAllowed, found_after};
 ghost use Rattle.raft_files.specs.Records.{as_it_is};
-ghost use Rattle.raft_log_engine.specs.Log.{contents_at, first_file, log_path};
-ghost use Rattle.raft_log_engine.specs.Open.{IsOpenable};
-ghost use Rattle.raft_log_engine.specs.declared.config.RecoveryMode.{RecoveryMode};
-ghost use Rattle.raft_log_engine.specs.declared.config.RecoveryMode.TheVariants.{AbsoluteConsistency};
+ghost use Rattle.raft_log_engine.specs.Contents.{contents_at};
+ghost use Rattle.raft_pipes.specs.Folder.{HasNoLog, IsDetectableIn};
+ghost use Rattle.raft_pipes.specs.Queue.{IsOpenableIn};
+ghost use Rattle.raft_pipes.specs.declared.config.RecoveryMode.{RecoveryMode};
+ghost use Rattle.raft_pipes.specs.declared.config.RecoveryMode.TheVariants.{AbsoluteConsistency};
 
 /// A folder that keeps contents through a crash leaves them then, perhaps with a beginning of the batches behind
 /// them, where damage can be told. A restart after a crash finds what the crash left. Where that is sound, it
@@ -20,9 +20,11 @@ pub fn crash_leaves_contents()
     ensures left { (folder : Path) (m : Contents) (batches : List Batch) (n : Directory) → KeepsContents folder m batches n → LeavesAllowed folder m batches n }
     ensures restarted { (folder : Path) (n m : Directory) (d : Left) → IsRestarted n d m → IsSound folder n d → KeepsContents folder (found_after folder n d) [] m }
     ensures found { (folder : Path) (n m : Directory) (d : Left) → IsRestarted n d m → contents_at folder m ≡ found_after folder n d }
-    ensures opens { (folder : Path) (n m : Directory) (d : Left) → IsRestarted n d m → IsSound folder n d → (mode : RecoveryMode) → (mode ≡ AbsoluteConsistency → ⊥) → IsOpenable mode folder m }
-    ensures as_they_are { (folder : Path) (m : Contents) (batches : List Batch) (n : Directory) → KeepsContents folder m batches n → IsDetectable (log_path folder) first_file n (as_it_is n)
-        → IsAllowedFrom 0 m batches (contents_at folder n) × ((mode : RecoveryMode) → (mode ≡ AbsoluteConsistency → ⊥) → IsOpenable mode folder n) }
-    ensures none { (folder : Path) (n : Directory) → file_at n (log_path folder) ≡ None → (HasFile n folder → ⊥) → KeepsContents folder no_contents [] n }
+    ensures opens { (folder : Path) (n m : Directory) (d : Left) → IsRestarted n d m → IsSound folder n d → (mode : RecoveryMode) → (mode ≡ AbsoluteConsistency → ⊥) → IsOpenableIn mode folder m }
+    ensures as_they_are { (folder : Path) (m : Contents) (batches : List Batch) (n : Directory) → KeepsContents folder m batches n → IsDetectableIn folder n (as_it_is n)
+        → IsAllowedFrom 0 m batches (contents_at folder n) × ((mode : RecoveryMode) → (mode ≡ AbsoluteConsistency → ⊥) → IsOpenableIn mode folder n) }
+    ensures none { (folder : Path) (n : Directory) → HasNoLog folder n → (HasFile n folder → ⊥) → KeepsContents folder no_contents [] n }
+    ensures folder { (folder : Path) (m : Contents) (batches : List Batch) (n : Directory)
+        → KeepsContents folder m batches n → HasFile n folder → ⊥ }
     ensures no_file { (folder : Path) (n m : Directory) (d : Left) → IsRestarted n d m → IsSound folder n d → HasFile m folder → ⊥ }
 {}

@@ -1,9 +1,8 @@
 //! The engine: writes batches to its log, keeps an index of what they hold, and finds it again at an opening.
 #![tactic(auto)]
 
-pub mod config;
 pub mod engine;
 pub mod laws;
 
-pub use config::{Config, RecoveryMode};
 pub use engine::{Engine, GroupImage, Image, Refused};
+pub use raft_pipes::{Config, RecoveryMode};

@@ -13,10 +13,9 @@ use Rattle.raft_records.specs.declared.errors.Fault.{Fault}
 use Rattle.raft_log_engine.specs.Crash.{written_batch}
 use Rattle.std.specs.FinMap.{get-empty}
 use Rattle.raft_env.specs.Directory.{Directory, Path, file_at}
-use Rattle.raft_files.specs.Writer.{bytes_of}
 use Rattle.raft_env.specs.Memory.{no_files}
-use Rattle.raft_log_engine.proofs.OpenLemmas.{nothing_holds_nothing}
-use Rattle.raft_log_engine.specs.Log.{contents_at, contents_in, log_path}
+use Rattle.raft_pipes.proofs.SoundLemmas.{readable_none}
+use Rattle.raft_log_engine.specs.Contents.{contents_at, recovered}
 use Rattle.raft_script.specs.Run.{accepted_batches, accepted_of, AreAnswers, AreSteady, FailsAt, IsFailing, IsFailurePlace, RoseBy, batch_of_acts, io_count, is_refused_by_storage, IsAnswer, item_of_act, pending_batches, with_first, written_batches}
 use Rattle.raft_script.specs.declared.operation.Act.{Act}
 use Rattle.raft_script.specs.declared.operation.Act.TheVariants as act
@@ -142,9 +141,7 @@ acts_ended items n acts past built = built_ended items n acts (nil_from_length (
 
 -- a folder without files holds nothing
 pub contents_at-no_files : (folder : Path) (n : Directory) → n ≡ no_files → contents_at folder n ≡ no_contents
-contents_at-no_files folder n is =
-    let absent : file_at no_files (log_path folder) ≡ None = get-empty _ (log_path folder) in
-    ap (contents_at folder) is ∙ ap (λ file. contents_in (bytes_of file)) absent ∙ nothing_holds_nothing
+contents_at-no_files folder n is = ap (contents_at folder) is ∙ ap recovered (readable_none folder no_files (get-empty _ _))
 
 -- Failures.
 

@@ -1,37 +1,34 @@
 -- What a trial's crash leaves, and what its opening finds.
 use Rattle.std.proofs.Common.{◌≡◌, ◌⊎◌, ⊎_elim, inl, inr, Some, ℕ, List, [], ◌∷◌, ◌++◌, Option, None, refl, sym, ap, subst, ◌∙◌}
-use Rattle.std.specs.Prelude.{IsSome, is_some, option_map, IfOk, IfErr, Result, Ok, Err}
+use Rattle.std.specs.Prelude.{IsSome, IfOk, IfErr, Result, Ok, Err}
 use Rattle.std.specs.FinMap.{get-empty}
 use Rattle.raft_records.specs.Contents.{Contents, no_contents}
 use Rattle.raft_records.specs.Item.{Batch}
 use Rattle.raft_records.specs.Fault.{fault_code}
 use Rattle.raft_env.specs.Choice.{RefusesUnless, left_by, NameNoBytes}
 use Rattle.raft_env.specs.Consistent.{AreConsistent}
-use Rattle.raft_files.specs.Detectable.{IsDetectable}
 use Rattle.raft_env.specs.Directory.{Directory, HasFile, IsRestarted, Leaves, Left, Path, file_at}
 use Rattle.raft_env.specs.Memory.{no_files}
-use Rattle.raft_env.specs.Outcomes.{File, settled}
-use Rattle.raft_files.specs.Records.{left_bytes}
-use Rattle.raft_files.specs.Writer.{bytes_at}
 use Rattle.raft_env.specs.declared.crash.Choice.{Choice}
-use Rattle.raft_files.proofs.KeptLemmas.{kept_none}
 use Rattle.raft_env.proofs.TornLemmas.{choices_may_leave}
 use Rattle.raft_log_engine.specs.Crash.{IsSound, KeepsContents, LeavesAllowedFrom, found_after}
 use Rattle.raft_records.specs.declared.errors.Fault.{Fault}
 use Rattle.raft_records.specs.declared.errors.Fault.TheVariants as fault
 use Rattle.raft_log_engine.specs.Image.{IsImageOf}
 use Rattle.raft_log_engine.specs.declared.engine.image.Image.{Image}
-use Rattle.raft_log_engine.specs.Log.{contents_at, contents_in, first_file, log_path}
+use Rattle.raft_log_engine.specs.Contents.{contents_at, recovered}
+use Rattle.raft_pipes.specs.Folder.{IsDetectableIn}
 use Rattle.raft_script.specs.Durability.{LeavesAllowedAfter, Progress, progress_after_all, progress_from}
-use Rattle.raft_log_engine.specs.Open.{IsDamage, IsOpenable}
+use Rattle.raft_pipes.specs.Queue.{IsOpenableIn}
 use Rattle.raft_script.specs.Run.{IsStorageOrMemory}
-use Rattle.raft_script.specs.Trial.{IsLogRefusal, RunsOver}
-use Rattle.raft_log_engine.specs.declared.config.RecoveryMode.{RecoveryMode}
-use Rattle.raft_log_engine.specs.declared.config.RecoveryMode.TheVariants.{AbsoluteConsistency}
+use Rattle.raft_script.specs.Trial.{IsLeftRefusal, IsLogRefusal, RunsOver}
+use Rattle.raft_pipes.specs.declared.config.RecoveryMode.{RecoveryMode}
+use Rattle.raft_pipes.specs.declared.config.RecoveryMode.TheVariants.{AbsoluteConsistency}
 use Rattle.raft_script.specs.declared.operation.Op.{Op}
 use Rattle.raft_script.specs.declared.operation.Outcome.{Outcome}
-use Rattle.raft_log_engine.proofs.AllowedLemmas.{contents_left, if_err}
-use Rattle.raft_log_engine.proofs.SoundLemmas.{restarted_bytes, restarted_no_file, sound_opens}
+use Rattle.raft_log_engine.proofs.AllowedLemmas.{contents_left, contents_none}
+use Rattle.raft_pipes.proofs.ResultLemmas.{if_err}
+use Rattle.raft_pipes.proofs.SoundLemmas.{readable_restarted, restarted_damage, restarted_no_file, restarted_opens, restarted_stood}
 use Rattle.raft_script.proofs.RunLemmas.{contents_at-no_files}
 
 -- the run of an engine that was opened with all synced
@@ -53,10 +50,8 @@ refused_after folder m ops n keeps =
 -- a folder without files keeps nothing
 pub nothing_kept : (folder : Path) (n : Directory) → n ≡ no_files → KeepsContents folder no_contents [] n
 nothing_kept folder n is =
-    let absent : (path : Path) → file_at n path ≡ None = λ path. ap (λ (x : Directory). file_at x path) is ∙ get-empty _ path in (
-      λ found. let clash = subst IsSome (absent folder) found in absurd cc,
-      ∣ ([], 0, kept_none (log_path folder) first_file [] n (absent (log_path folder)), refl, refl, refl) ∣₁,
-    )
+    let absent : (path : Path) → file_at n path ≡ None = λ path. ap (λ (x : Directory). file_at x path) is ∙ get-empty _ path in
+    contents_none folder n (absent _) (λ found. let clash = subst IsSome (absent folder) found in absurd cc)
 
 -- what a run shows that began with no files
 pub run_shown : (dir : Path) (before n : Directory) (ops : List Op) (outcomes : List Outcome) (failed_at : Option ℕ) → before ≡ no_files
@@ -68,7 +63,7 @@ run_shown dir before n ops outcomes failed_at none ran =
 
 -- what an opening after a crash finds
 pub restarted_contents : (folder : Path) (n m : Directory) (d : Left) → IsRestarted n d m → contents_at folder m ≡ found_after folder n d
-restarted_contents folder n m d restarted = ap contents_in (restarted_bytes folder n d m restarted)
+restarted_contents folder n m d restarted = ap recovered (readable_restarted folder n m d restarted)
 
 same_opened : {m m' : Contents} (opened : Result Image Fault) → m ≡ m' → IfOk opened (λ image. IsImageOf image.groups.items m) → IfOk opened (λ image. IsImageOf image.groups.items m')
 same_opened (Ok image) same is = subst (IsImageOf image.groups.items) same is
@@ -81,33 +76,22 @@ image_restarted dir folder n m d opened same restarted is = same_opened opened (
 -- Why the opening after a crash is refused.
 
 -- an opening of files that a crash left sound
-pub opened_outside : (mode again : RecoveryMode) (folder dir : Path) (n m : Directory) (d : Left) (opened : Result Image Fault) → again ≡ mode → dir ≡ folder → IsRestarted n d m → Leaves n d → (IsDetectable (log_path folder) first_file n d → IsSound folder n d)
-    → IfErr opened (λ e. IsOpenable again dir m → (HasFile m dir → ⊥) → IsStorageOrMemory e) → IsDetectable (log_path folder) first_file n d → (mode ≡ AbsoluteConsistency → ⊥) → IfErr opened IsStorageOrMemory
+pub opened_outside : (mode again : RecoveryMode) (folder dir : Path) (n m : Directory) (d : Left) (opened : Result Image Fault) → again ≡ mode → dir ≡ folder → IsRestarted n d m → Leaves n d → (IsDetectableIn folder n d → IsSound folder n d)
+    → IfErr opened (λ e. IsOpenableIn again dir m → (HasFile m dir → ⊥) → IsStorageOrMemory e) → IsDetectableIn folder n d → (mode ≡ AbsoluteConsistency → ⊥) → IfErr opened IsStorageOrMemory
 opened_outside mode again folder dir n m d opened mode_is dir_is restarted leaves sound refused detectable tolerant =
     let is_sound = sound detectable in
-    let openable : IsOpenable again dir m = subst (λ (x : RecoveryMode). IsOpenable x dir m) (sym mode_is) (subst (λ (p : Path). IsOpenable mode p m) (sym dir_is) (sound_opens folder n d m (restarted_bytes folder n d m restarted) mode is_sound tolerant)) in
-    let none : HasFile m dir → ⊥ = subst (λ (p : Path). HasFile m p → ⊥) (sym dir_is) (restarted_no_file folder n d m restarted is_sound) in
+    let openable : IsOpenableIn again dir m = subst (λ (x : RecoveryMode). IsOpenableIn x dir m) (sym mode_is) (subst (λ (p : Path). IsOpenableIn mode p m) (sym dir_is) (restarted_opens folder n m d restarted is_sound mode tolerant)) in
+    let none : HasFile m dir → ⊥ = subst (λ (p : Path). HasFile m p → ⊥) (sym dir_is) (restarted_no_file folder n m d restarted is_sound) in
     if_err _ _ opened (λ e outside. outside openable none) refused
-
--- a path at which a file stands after a crash is one at which a file stood before it
-has_file_before : (path : Path) (n m : Directory) (d : Left) → IsRestarted n d m → HasFile m path → HasFile n path
-has_file_before path n m d restarted there = sym (by_file (file_at n path)) ∙ ap is_some (sym (restarted.each path)) ∙ there
-  where
-    by_file : (found : Option File) → is_some (option_map (λ _. settled (d path)) found) ≡ is_some found
-    by_file None = refl
-    by_file (Some file) = refl
 
 -- an opening of files that a crash left, in whose folder's place no file stood
 pub opened_log : (mode again : RecoveryMode) (folder dir : Path) (n m : Directory) (d : Left) (opened : Result Image Fault) → again ≡ mode → dir ≡ folder → IsRestarted n d m → (HasFile n folder → ⊥)
-    → IfErr opened (λ e. (HasFile m dir → ⊥) → IsLogRefusal again (log_path dir) m (bytes_at (log_path dir) m) e) → IfErr opened (IsLogRefusal mode (log_path folder) n (left_bytes (log_path folder) n d))
+    → IfErr opened (λ e. (HasFile m dir → ⊥) → IsLogRefusal again dir m e) → IfErr opened (IsLeftRefusal mode folder n d)
 opened_log mode again folder dir n m d opened mode_is dir_is restarted none refused =
     if_err _ _ opened (λ e cause.
-    let absent : HasFile m dir → ⊥ = λ there. none (has_file_before folder n m d restarted (subst (λ (p : Path). HasFile m p) dir_is there)) in
-    let there : IsLogRefusal again (log_path folder) m (bytes_at (log_path folder) m) e = subst (λ (p : Path). IsLogRefusal again (log_path p) m (bytes_at (log_path p) m) e) dir_is (cause absent) in
-    ⊎_elim inl (λ damage. inr (
-      has_file_before (log_path folder) n m d restarted damage.0,
-      subst (λ (x : RecoveryMode). IsDamage x (left_bytes (log_path folder) n d) e) mode_is (subst (λ (bytes : List ℕ). IsDamage again bytes e) (restarted_bytes folder n d m restarted) damage.1),
-    )) there) refused
+    let absent : HasFile m dir → ⊥ = λ there. none (restarted_stood folder n m d restarted (subst (λ (p : Path). HasFile m p) dir_is there)) in
+    let there : IsLogRefusal mode folder m e = subst (λ (x : RecoveryMode). IsLogRefusal x folder m e) mode_is (subst (λ (p : Path). IsLogRefusal again p m e) dir_is (cause absent)) in
+    ⊎_elim inl (λ damage. inr (restarted_damage mode folder n m d e restarted damage)) there) refused
 
 -- Why the choices are refused.
 

@@ -3,18 +3,16 @@ use Rattle.std.specs.Prelude.{◌≡◌, ◌⊎◌, ℕ, false, List, [], Option
 use Rattle.raft_records.specs.Contents.{Contents, no_contents}
 use Rattle.raft_records.specs.declared.errors.Fault.{Fault}
 use Rattle.raft_env.specs.Choice.{left_by}
-use Rattle.raft_files.specs.Detectable.{IsDetectable}
-use Rattle.raft_env.specs.Directory.{Directory, HasFile, Leaves, Path}
-use Rattle.raft_files.specs.Records.{left_bytes}
+use Rattle.raft_env.specs.Directory.{Directory, HasFile, Leaves, Left, Path}
 use Rattle.raft_env.specs.declared.crash.Choice.{Choice}
 use Rattle.raft_log_engine.specs.Crash.{KeepsContents, found_after}
 use Rattle.raft_log_engine.specs.Image.{IsImageOf}
 use Rattle.raft_script.specs.Durability.{LeavesAllowedAfter}
-use Rattle.raft_log_engine.specs.Log.{first_file, log_path}
-use Rattle.raft_log_engine.specs.Open.{IsDamage}
+use Rattle.raft_pipes.specs.Folder.{IsDetectableIn}
+use Rattle.raft_pipes.specs.Queue.{HasDamageIn, HasLeftDamage}
 use Rattle.raft_script.specs.Run.{AreAnswers, IsFailurePlace, IsStorageOrMemory}
-use Rattle.raft_log_engine.specs.declared.config.RecoveryMode.{RecoveryMode}
-use Rattle.raft_log_engine.specs.declared.config.RecoveryMode.TheVariants.{AbsoluteConsistency}
+use Rattle.raft_pipes.specs.declared.config.RecoveryMode.{RecoveryMode}
+use Rattle.raft_pipes.specs.declared.config.RecoveryMode.TheVariants.{AbsoluteConsistency}
 use Rattle.raft_script.specs.declared.operation.Op.{Op}
 use Rattle.raft_script.specs.declared.operation.Outcome.{Outcome}
 use Rattle.raft_script.specs.declared.operation.Trial.{Trial}
@@ -46,9 +44,13 @@ pub record AreNotAllowed (folder : Path) (ops : List Op) (choices : List Choice)
   pub ran : RunsOver folder no_contents ops outcomes failed_at files
   pub refused : Leaves files (left_by choices files) → ⊥
 
--- an opening is refused by storage, for want of memory, or for the bytes of a log that stands at the path
-abbrev pub IsLogRefusal : RecoveryMode → Path → Directory → List ℕ → Fault → Type 0
-IsLogRefusal mode path files bytes e = IsStorageOrMemory e ⊎ (HasFile files path × IsDamage mode bytes e)
+-- an opening is refused by storage, for want of memory, or for the damage of the log in the folder
+abbrev pub IsLogRefusal : RecoveryMode → Path → Directory → Fault → Type 0
+IsLogRefusal mode folder files e = IsStorageOrMemory e ⊎ HasDamageIn mode folder files e
+
+-- .. of what a crash left of it
+abbrev pub IsLeftRefusal : RecoveryMode → Path → Directory → Left → Fault → Type 0
+IsLeftRefusal mode folder files d e = IsStorageOrMemory e ⊎ HasLeftDamage mode folder files d e
 
 -- operations over files that were empty, then a crash by these choices, then an opening in this mode
 pub record IsTrialOf (mode : RecoveryMode) (folder : Path) (ops : List Op) (choices : List Choice) (t : Trial) : Type 0 where
@@ -59,6 +61,6 @@ pub record IsTrialOf (mode : RecoveryMode) (folder : Path) (ops : List Op) (choi
   -- the opening found what the choices leave
   pub found : IfOk t.opened (λ image. IsImageOf image.groups.items (found_after folder files (left_by choices files)))
   -- a tolerant one is not refused for what they leave, where its damage can be told
-  pub refused : IsDetectable (log_path folder) first_file files (left_by choices files) → (mode ≡ AbsoluteConsistency → ⊥) → IfErr t.opened IsStorageOrMemory
+  pub refused : IsDetectableIn folder files (left_by choices files) → (mode ≡ AbsoluteConsistency → ⊥) → IfErr t.opened IsStorageOrMemory
   -- in any mode and of any damage it is refused by storage, for want of memory, or for what is left of the log
-  pub cause : IfErr t.opened (IsLogRefusal mode (log_path folder) files (left_bytes (log_path folder) files (left_by choices files)))
+  pub cause : IfErr t.opened (IsLeftRefusal mode folder files (left_by choices files))

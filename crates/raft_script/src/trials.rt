@@ -5,11 +5,10 @@ ghost use Rattle.raft_records.specs.Fault.{fault_code};
 ghost use Rattle.raft_env.specs.Directory.{HasFile};
 ghost use Rattle.raft_env.specs.Choice.{NameNoBytes};
 ghost use Rattle.raft_env.specs.Memory.{memory_directory, memory_moments, no_files, stop_of};
-ghost use Rattle.raft_files.specs.Writer.{bytes_at};
 ghost use Rattle.raft_log_engine.specs.Image.{IsImageOf};
-ghost use Rattle.raft_log_engine.specs.Log.{contents_at, log_path};
+ghost use Rattle.raft_log_engine.specs.Contents.{contents_at};
 ghost use Rattle.raft_log_engine.specs.Crash.{KeepsContents};
-ghost use Rattle.raft_log_engine.specs.Open.{IsOpenable};
+ghost use Rattle.raft_pipes.specs.Queue.{IsOpenableIn};
 ghost use Rattle.raft_script.specs.Run.{IsStorageOrMemory};
 ghost use Rattle.raft_script.specs.Trial.{AreNotAllowed, IsLogRefusal, IsTrialOf, RunsOver};
 
@@ -92,12 +91,10 @@ fn open_image<F: FileSystem + Drop>(alloc: Global, config: Config, files: F) -> 
     ensures value { IfOk result (λ image.
         IsImageOf image.groups.items (contents_at (string_bytes config.dir) (F.directory files))) }
     ensures refused { IfErr result (λ e.
-        IsOpenable config.recovery_mode (string_bytes config.dir) (F.directory files)
+        IsOpenableIn config.recovery_mode (string_bytes config.dir) (F.directory files)
         → (HasFile (F.directory files) (string_bytes config.dir) → ⊥) → IsStorageOrMemory e) }
-    ensures cause { IfErr result (λ e. let path = log_path (string_bytes config.dir) in
-        (HasFile (F.directory files) (string_bytes config.dir) → ⊥)
-        → IsLogRefusal config.recovery_mode path (F.directory files)
-        (bytes_at path (F.directory files)) e) }
+    ensures cause { IfErr result (λ e. (HasFile (F.directory files) (string_bytes config.dir) → ⊥)
+        → IsLogRefusal config.recovery_mode (string_bytes config.dir) (F.directory files) e) }
 {
     match Engine::open_in_order(alloc, config, files) {
         Ok(mut engine) => engine.image(),

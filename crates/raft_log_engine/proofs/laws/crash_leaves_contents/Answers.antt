@@ -1,7 +1,7 @@
 use Rattle.std.proofs.Common.{ap}
-use Rattle.raft_log_engine.specs.Log.{contents_in}
-use Rattle.raft_log_engine.proofs.AllowedLemmas.{contents_as_they_are, contents_left, contents_none, contents_restarted}
-use Rattle.raft_log_engine.proofs.SoundLemmas.{restarted_bytes, restarted_no_file, sound_opens}
+use Rattle.raft_pipes.proofs.SoundLemmas.{readable_restarted, restarted_no_file, restarted_opens}
+use Rattle.raft_log_engine.specs.Contents.{recovered}
+use Rattle.raft_log_engine.proofs.AllowedLemmas.{contents_as_they_are, contents_folder, contents_left, contents_none, contents_restarted}
 use Rattle.raft_log_engine.proofs.laws.crash_leaves_contents.Goals as goal
 
 pub returns-clause-left : goal.returns-clause-left
@@ -11,13 +11,16 @@ pub returns-clause-restarted : goal.returns-clause-restarted
 returns-clause-restarted c = contents_restarted
 
 pub returns-clause-found : goal.returns-clause-found
-returns-clause-found c = λ folder n m d restarted. ap contents_in (restarted_bytes folder n d m restarted)
+returns-clause-found c = λ folder n m d restarted. ap recovered (readable_restarted folder n m d restarted)
 
 pub returns-clause-opens : goal.returns-clause-opens
-returns-clause-opens c = λ folder n m d restarted sound mode tolerant. sound_opens folder n d m (restarted_bytes folder n d m restarted) mode sound tolerant
+returns-clause-opens c = restarted_opens
 
 pub returns-clause-no_file : goal.returns-clause-no_file
-returns-clause-no_file c = λ folder n m d restarted sound. restarted_no_file folder n d m restarted sound
+returns-clause-no_file c = restarted_no_file
+
+pub returns-clause-folder : goal.returns-clause-folder
+returns-clause-folder c = contents_folder
 
 pub returns-clause-as_they_are : goal.returns-clause-as_they_are
 returns-clause-as_they_are c = contents_as_they_are

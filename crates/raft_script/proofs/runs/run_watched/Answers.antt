@@ -9,7 +9,7 @@ use Rattle.raft_script.specs.Durability.{Progress, PassesThrough, durability_of,
 use Rattle.raft_script.specs.Run.{IsFailurePlace, IsUnasked}
 use Rattle.raft_script.specs.declared.operation.Op.{Op}
 use Rattle.raft_log_engine.specs.Engine.{contents_of, directory_of, durable_of, folder_of, has_failed, moments_of, refusals_of, unsynced_of}
-use Rattle.raft_log_engine.proofs.AllowedLemmas.{engine_holds, engine_leaves}
+use Rattle.raft_log_engine.proofs.EngineLemmas.{engine_holds, engine_leaves}
 use Rattle.raft_script.proofs.DurabilityLemmas.{IsUnderWay, durable_after, inside_more, leaves_after, progress_more, through_more, under_way_begun, under_way_more}
 use Rattle.raft_script.proofs.RunLemmas.{IsNextPlace, IsRunning, place_more, rose_more, running_begun, running_more, stands_so_far, taken_more}
 use Rattle.raft_script.proofs.runs.run_watched.Goals as goal

@@ -1,5 +1,5 @@
 use Rattle.std.proofs.Common.{[], refl, rules}
-use Rattle.raft_log_engine.proofs.AllowedLemmas.{engine_still_more}
+use Rattle.raft_log_engine.proofs.EngineLemmas.{engine_still_more}
 use Rattle.raft_script.proofs.runs.step.Goals as goal
 
 pub returns-in-Get-clause-does : goal.returns-in-Get-clause-does

@@ -3,7 +3,7 @@ use Rattle.std.proofs.lemmas.Result.{err_from_is_err_and}
 use Rattle.raft_script.specs.Durability.{durability_of}
 use Rattle.raft_log_engine.specs.Engine.{contents_of, directory_of, durable_of, folder_of, moments_of, unsynced_of}
 use Rattle.raft_script.specs.Run.{batch_of_acts, written_batches}
-use Rattle.raft_log_engine.proofs.AllowedLemmas.{engine_still_more}
+use Rattle.raft_log_engine.proofs.EngineLemmas.{engine_still_more}
 use Rattle.raft_script.proofs.DurabilityLemmas.{moments_of_batch, written_contents, written_progress}
 use Rattle.raft_script.proofs.RunLemmas.{acts_pending}
 use Rattle.raft_script.proofs.runs.write.Goals as goal

@@ -4,7 +4,8 @@ use Rattle.raft_records.specs.Contents.{Contents}
 use Rattle.raft_env.specs.Directory.{Directory, HasFile, Path}
 use Rattle.raft_script.specs.Durability.{LeavesAllowedAfter}
 use Rattle.raft_log_engine.specs.Engine.{directory_of, durable_of, folder_of, unsynced_of}
-use Rattle.raft_log_engine.specs.Log.{contents_at}
+use Rattle.raft_log_engine.specs.Contents.{contents_at}
+use Rattle.raft_log_engine.proofs.AllowedLemmas.{contents_folder}
 use Rattle.raft_script.specs.Run.{AreAnswers, IsFailurePlace}
 use Rattle.raft_script.proofs.TrialLemmas.{opened_after, refused_after}
 use Rattle.raft_script.proofs.trials.run_over.Goals as goal
@@ -26,7 +27,8 @@ returns-in_ok-ran-in-Ok-clause-ran g c =
         place = subst (λ (b : Bool). IsFailurePlace b ops outcomes ran.failed_at) c.in-Ok.ensures.alive run.ran.failures.1;
       });
       after = subst (λ (n : Directory). LeavesAllowedAfter ran.failed_at dir m [] ops outcomes n) (sym c.give_up.ensures.files) after;
-      no_file = subst (λ (p : Path). HasFile (g.F.FileSystem.directory c.give_up.result) p → ⊥) (run.folder ∙ c.in-Ok.ensures.folder) c.give_up.ensures.kept.0;
+      no_file = subst (λ (p : Path). HasFile (g.F.FileSystem.directory c.give_up.result) p → ⊥) (run.folder ∙ c.in-Ok.ensures.folder)
+          (contents_folder (folder_of c.run_watched.new.engine) (durable_of c.run_watched.new.engine) (unsynced_of c.run_watched.new.engine) (g.F.FileSystem.directory c.give_up.result) c.give_up.ensures.kept);
     }
 
 pub returns-in-Err-clause-ran : goal.returns-in-Err-clause-ran
@@ -39,5 +41,5 @@ returns-in-Err-clause-ran g c =
     record {
       answered = inr (record { none = c.new.ensures.items; stands = refl; files_keep = kept });
       after = rw c.new.ensures.items (refused_after dir m c.args.ops.now files kept);
-      no_file = kept.0;
+      no_file = contents_folder dir m [] files kept;
     }

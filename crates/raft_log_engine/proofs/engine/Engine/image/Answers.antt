@@ -1,4 +1,4 @@
-use Rattle.std.proofs.Common.{◌≡◌, ◌+◌, [], drop, refl, ap, arith}
+use Rattle.std.proofs.Common.{◌≡◌, ℕ, ◌+◌, ◌==◌, true, false, List, [], ◌∷◌, length, drop, refl, ap, arith}
 use Rattle.std.proofs.lemmas.Grind.{common_steps}
 use Rattle.raft_tables.specs.Tables as held
 use Rattle.raft_tables.specs.Listing.{listed}
@@ -6,6 +6,13 @@ use Rattle.raft_log_engine.specs.Image.{entries_of}
 use Rattle.raft_log_engine.proofs.ImageLemmas.{building_begun, building_without, building_with, building_ended}
 use Rattle.raft_log_engine.proofs.engine.Engine.image.Goals as goal
 use Rattle.raft_log_engine.proofs.engine.Engine.image.Goals.{then-not-is_empty+in_ok-push, else-not-is_empty}
+
+not_empty : {A : Type 0} (xs : List A) (len : ℕ) → len ≡ length xs → false ≡ (len == 0) → xs ≡ [] → ⊥
+not_empty xs len len_is is nil = grind (arith, common_steps)
+
+is_empty : {A : Type 0} (xs : List A) (len : ℕ) → len ≡ length xs → true ≡ (len == 0) → xs ≡ []
+is_empty [] len len_is is = refl
+is_empty (x ∷ xs) len len_is is = grind (arith, common_steps)
 
 pub loop-group-init : goal.loop-group-init
 loop-group-init g c =
@@ -21,11 +28,11 @@ loop-group-preserved g c =
     let listing = c.in_ok-pairs.ensures.value in
     elim c.if-not-is_empty.branch [
       | then-not-is_empty+in_ok-push w ↦
-          let some : c.in_ok-pairs.pairs.items ≡ [] → ⊥ = λ nil. grind (arith, common_steps, w.if-not-is_empty.ensures, nil) in
+          let some : c.in_ok-pairs.pairs.items ≡ [] → ⊥ = not_empty c.in_ok-pairs.pairs.items c.in_ok-pairs.pairs.len (omega (arith, c.in_ok-pairs.pairs.ok.0)) w.if-not-is_empty.ensures in
           let pushed = building_with m c.loop-group.groups.items _ items c.loop-group.group-index c.loop-group-test.true c.loop-group.invariant refl (ap entries_of w.new.ensures.items) listing some in
           rw (ap (λ v. v.items) w.groups-is, w.in_ok-push.ensures.items) pushed
       | else-not-is_empty w ↦
-          let none : c.in_ok-pairs.pairs.items ≡ [] = grind (arith, common_steps, w.if-not-is_empty.ensures) in
+          let none : c.in_ok-pairs.pairs.items ≡ [] = is_empty c.in_ok-pairs.pairs.items c.in_ok-pairs.pairs.len (omega (arith, c.in_ok-pairs.pairs.ok.0)) w.if-not-is_empty.ensures in
           rw (ap (λ v. v.items) w.groups-is) (building_without m c.loop-group.groups.items items c.loop-group.group-index c.loop-group-test.true c.loop-group.invariant refl _ listing (ap listed none))
     ]
 

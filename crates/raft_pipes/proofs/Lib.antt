@@ -1,0 +1,9 @@
+pub mod ResultLemmas
+pub mod LogFileLemmas
+pub mod OthersLemmas
+pub mod StaysLemmas
+pub mod WrittenLemmas
+pub mod ReplayLemmas
+pub mod OpenLemmas
+pub mod SoundLemmas
+pub mod QueueLemmas

@@ -1,0 +1,7 @@
+pub mod Config
+pub mod Folder
+pub mod LogFile
+pub mod Open
+pub mod Pipe
+pub mod Queue
+pub mod Written
