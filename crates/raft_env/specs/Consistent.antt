@@ -1,4 +1,6 @@
--- What every call keeps of a file: outside the ranges of its changes it holds the bytes of the last sync, and each change began with what the one before it left. Files in memory keep more: of their changes only writes were refused, and none was renamed.
+-- What every call keeps of a file: outside the ranges of its changes it holds the bytes of the last
+-- sync, and each change began with what the one before it left. Files in memory keep more: of their
+-- changes only writes were refused, and none was renamed.
 use Rattle.std.specs.Prelude.{◌≡◌, ◌⊎◌, ℕ, ◌<◌, ◌≤◌, ◌++◌, false, List, [], ◌∷◌, length, All, Some, None, slice_index}
 use Rattle.std.proofs.Props.{props}
 use Rattle.raft_env.specs.Outcomes.{File, Change, OnlyWritesRefused, bytes_behind, is_touched}
@@ -17,7 +19,8 @@ HasItsLength c = (c.shortest ≤ length c.after) × (length c.after ≤ c.longes
 -- the newest of these changes left these bytes, and each began with what the one before it left
 abbrev pub IsPastOf : List ℕ → List Change → Type 0
 IsPastOf bytes [] = Unit {0}
-IsPastOf bytes (c ∷ changes) = (c.after ≡ bytes) × HasItsRange c × HasItsLength c × IsPastOf c.before changes
+IsPastOf bytes (c ∷ changes) = (c.after ≡ bytes) × HasItsRange c × HasItsLength c
+    × IsPastOf c.before changes
 
 -- which is a proposition, so that a file system can keep it
 pub past_prop : (bytes : List ℕ) (changes : List Change) → IsProp (IsPastOf bytes changes)
@@ -26,7 +29,8 @@ past_prop bytes (c ∷ changes) = Prim.hlevel (props, past_prop c.before changes
 
 pub record IsConsistent (file : File) : Type 0 where
   pub latest : file.now ≡ bytes_behind file.synced file.changes
-  pub untouched : (i : ℕ) → i < length file.synced → is_touched file.changes i ≡ false → (i < length file.now) × (slice_index file.now i ≡ slice_index file.synced i)
+  pub untouched : (i : ℕ) → i < length file.synced → is_touched file.changes i ≡ false
+      → (i < length file.now) × (slice_index file.now i ≡ slice_index file.synced i)
   -- its changes, and those before its last sync
   pub past : IsPastOf file.now (file.changes ++ file.older)
   pub earlier : IsPastOf file.synced file.older
@@ -36,7 +40,8 @@ AreConsistent n = (path : Path) (file : File) → file_at n path ≡ Some file �
 
 -- only writes were refused among all changes of the file at a path
 abbrev pub OnlyWritesRefusedAt : Path → Directory → Type 0
-OnlyWritesRefusedAt path n = (file : File) → file_at n path ≡ Some file → OnlyWritesRefused (file.changes ++ file.older)
+OnlyWritesRefusedAt path n = (file : File) → file_at n path ≡ Some file
+    → OnlyWritesRefused (file.changes ++ file.older)
 
 -- .. of the files at all paths
 abbrev pub OnlyWritesRefusedIn : Directory → Type 0

@@ -15,7 +15,8 @@ pub record Change : Type 0 where
   pub before : List ℕ
   -- the bytes of the file then
   pub after : List ℕ
-  -- the least and the greatest length that the file may have had by then; only a refused call may have left another for a moment
+  -- the least and the greatest length that the file may have had by then; only inside a refused
+  -- call may it have had another than it was left with
   pub shortest : ℕ
   pub longest : ℕ
 
@@ -49,18 +50,22 @@ greatest_len synced (c ∷ changes) = max c.longest (greatest_len synced changes
 pub record MayLeave (file : File) (left : List ℕ) : Type 0 where
   pub no_shorter : least_len file.synced file.changes ≤ length left
   pub no_longer : length left ≤ greatest_len file.synced file.changes
-  pub untouched : (i : ℕ) → i < length left → i < length file.synced → is_touched file.changes i ≡ false → slice_index left i ≡ slice_index file.synced i
+  pub untouched : (i : ℕ) → i < length left → i < length file.synced
+      → is_touched file.changes i ≡ false → slice_index left i ≡ slice_index file.synced i
 
 -- the length of the longest beginning that no change since the last sync touched
 abbrev pub untouched_len : List ℕ → List Change → ℕ
 untouched_len synced [] = length synced
-untouched_len synced (c ∷ changes) = if c.size == 0 then untouched_len synced changes else min c.from (untouched_len synced changes)
+untouched_len synced (c ∷ changes) =
+    if c.size == 0 then untouched_len synced changes
+    else min c.from (untouched_len synced changes)
 
 -- a write that was done gave the byte of this place
 abbrev pub is_written : List Change → ℕ → Bool
 is_written changes i = list_any (λ c. c.is_done && is_within c.from (length c.given) i) changes
 
--- at a moment of a file, when these were its changes, no write that was done had given this byte since it was renamed
+-- at a moment of a file, when these were its changes, no write that was done had given this byte
+-- since it was renamed
 abbrev pub IsStaleAfter : Option ℕ → List Change → ℕ → Type 0
 IsStaleAfter renamed_after changes i =
     (count : ℕ) × (renamed_after ≡ Some count)
@@ -85,7 +90,8 @@ OnlyWritesRefused changes = All IsDoneOrWrite changes
 
 -- a file of these bytes, which a crash leaves as they are
 abbrev pub settled : List ℕ → File
-settled bytes = record { now = bytes; synced = bytes; changes = []; older = []; renamed_after = None }
+settled bytes =
+    record { now = bytes; synced = bytes; changes = []; older = []; renamed_after = None }
 
 -- the file after one more change
 abbrev pub changed_by : Change → File → File
@@ -109,7 +115,7 @@ written at given is_done after file = changed_by (record {
   longest = longest_of is_done (at + length given) (length after);
 }) file
 
--- the same of an allocation or a truncation that is done: it touched what lies between the two lengths
+-- the same of an allocation or a truncation that is done: it touched what lies between the lengths
 abbrev pub resized : Bool → List ℕ → File → File
 resized is_done after file = changed_by (record {
   from = min (length after) (length file.now);
@@ -171,9 +177,11 @@ overlaid bytes at (byte ∷ given) =
 pub record IsPartOf (at len : ℕ) (old new : List ℕ) : Type 0 where
   pub no_shorter : length old ≤ length new
   pub no_longer : length new ≤ max (length old) (at + len)
-  pub elsewhere : (i : ℕ) → i < length old → is_within at len i ≡ false → slice_index new i ≡ slice_index old i
+  pub elsewhere : (i : ℕ) → i < length old → is_within at len i ≡ false
+      → slice_index new i ≡ slice_index old i
 
--- the bytes at a moment of a truncation that is refused: some length between, and what stands before the wanted end
+-- the bytes at a moment of a truncation that is refused: some length between, and what stands
+-- before the wanted end
 pub record IsCutOf (size : ℕ) (old new : List ℕ) : Type 0 where
   pub no_shorter : min size (length old) ≤ length new
   pub no_longer : length new ≤ length old
