@@ -41,7 +41,7 @@ const FILE_2: LogFileContext = LogFileContext {
     version: Version::V2,
 };
 
-const RECORDS: [Record; 33] = [
+const RECORDS: [Record; 34] = [
     Record {
         name: "no items",
         file: UNSIGNED,
@@ -98,8 +98,15 @@ const RECORDS: [Record; 33] = [
         name: "a compressed block of one byte",
         file: UNSIGNED,
         bytes: b"\x00\x00\x00\x00\x00\x00\x16\x01\x00\x00\x00\x00\x00\x00\x00\x11\x01\x00\x8d\xef\x02\xd2",
-        decoded: Err(13),
+        decoded: Err(2),
         begins: false,
+    },
+    Record {
+        name: "a compressed block whose checksum holds",
+        file: UNSIGNED,
+        bytes: b"\x00\x00\x00\x00\x00\x00\x1c\x01\x00\x00\x00\x00\x00\x00\x00\x17\x78\x79\x7a\x67\xba\x8e\xeb\x00\x8d\xef\x02\xd2",
+        decoded: Err(13),
+        begins: true,
     },
     Record {
         name: "two entries",

@@ -10,10 +10,11 @@ use Rattle.std.specs.Ordering.{nat_cmp, eq_by_cmp}
 use Rattle.std.specs.Cmp.Lexicographic.{slice_cmp, nat_list_cmp_total}
 use Rattle.std.specs.FinMap as finite
 use Rattle.raft_env.specs.Outcomes.{File, Change, MayLeave, Outcome, IsPartOf, IsCutOf, is_within, is_touched, bytes_behind, untouched_len, least_len, greatest_len, changed_by, written, lengthened_to, cut_to, synced_of, settled, padded, overlaid}
-use Rattle.raft_env.specs.Directory.{Directory, Left, Path, file_at, placed, changed, changed_at, created, folder_made, IsChanging, IsWriting, IsTruncating, IsAllocating, IsOneOf, IsRestarted}
+use Rattle.raft_env.specs.Directory.{Directory, Left, Path, file_at, placed, changed, changed_at, created, IsMakingFolder, IsChanging, IsWriting, IsTruncating, IsAllocating, IsOneOf, IsRestarted}
 use Rattle.raft_env.specs.Consistent.{HasItsRange, HasItsLength, IsPastOf, IsConsistent, AreConsistent, AreWhole}
 use Rattle.raft_env.specs.declared.crash.Choice.{Choice}
 use Rattle.raft_env.specs.declared.crash.Choice.TheVariants as choice
+use Rattle.raft_env.proofs.DirectoryLemmas.{file_at-making}
 use Rattle.raft_env.proofs.SlotLemmas.{overlaid_bounds, overlaid_outside_part}
 use Rattle.raft_env.proofs.ChangeLemmas.{not_within, cut_change, cut_is}
 
@@ -171,9 +172,8 @@ creating_consistent path old new all (inr is) = subst AreConsistent (sym is) (by
     by_test true = all
     by_test false = placed_consistent path (settled []) old all (settled_consistent [])
 
-pub folders_consistent : (path : Path) (old new : Directory) → AreConsistent old → IsOneOf old (folder_made path old) new → AreConsistent new
-folders_consistent path old new all (inl same) = subst AreConsistent (sym same) all
-folders_consistent path old new all (inr is) = subst AreConsistent (sym is) all
+pub folders_consistent : (path : Path) (old new : Directory) → AreConsistent old → IsMakingFolder path old new → AreConsistent new
+folders_consistent path old new all making q file stands = all q file (sym (file_at-making path q old new making) ∙ stands)
 
 pub restarted_consistent : (n m : Directory) (d : Left) → IsRestarted n d m → AreConsistent m
 restarted_consistent n m d restarted path file stands = by_file (file_at n path) (sym (restarted.each path) ∙ stands)

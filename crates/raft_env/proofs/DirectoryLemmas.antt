@@ -1,16 +1,16 @@
 -- What stands at a path after a change, and what a crash leaves of it.
-use Rattle.std.proofs.Common.{◌≡◌, ◌≢◌, ℕ, ◌<◌, ◌≤◌, Bool, true, false, cond, List, length, take, Option, Some, None, refl, sym, ◌∙◌, ap, inl, inr, arith}
+use Rattle.std.proofs.Common.{◌≡◌, ◌≢◌, ℕ, ◌<◌, ◌≤◌, Bool, true, false, cond, List, length, take, Option, Some, None, refl, subst, sym, ◌∙◌, ap, inl, inr, arith}
 use Rattle.std.specs.Ordering.{nat_cmp, eq_by_cmp}
 use Rattle.std.specs.Cmp.Lexicographic.{slice_cmp, nat_list_cmp_total}
 use Rattle.std.specs.FinMap as map
 use Rattle.std.proofs.lemmas.Map.Text.{is_eq-slice_cmp}
 use Rattle.std.proofs.lemmas.Slice.Eq.{bytes_eq-Decides}
-use Rattle.std.proofs.lemmas.Bool.{false_from_ne_true}
+use Rattle.std.proofs.lemmas.Bool.{false_from_ne_true, or_right}
 use Rattle.std.proofs.lemmas.Bool.Decides.{nat_tests}
 use Rattle.std.proofs.lemmas.Grind.{same_number_lists, common_steps}
 use Rattle.std.proofs.lemmas.List.{get_or-take}
 use Rattle.raft_env.specs.Outcomes.{File, MayLeave, IsPartOf, is_within, is_touched, least_len, overlaid}
-use Rattle.raft_env.specs.Directory.{Path, Directory, file_at, placed, changed, changed_at, IsChanging}
+use Rattle.raft_env.specs.Directory.{Path, Directory, file_at, placed, changed, changed_at, folder_made, is_on_way, IsChanging, IsMakingFolder}
 use Rattle.raft_env.proofs.SlotLemmas.{overlaid_bounds, overlaid_outside_part}
 
 pub same_path : (p : Path) → eq_by_cmp (slice_cmp nat_cmp) p p ≡ true
@@ -62,3 +62,25 @@ writing_part at given kept part now = record {
   no_longer = omega (arith, (overlaid_bounds now at kept).1);
   elsewhere = λ i h out. overlaid_outside_part now at (length given) kept part i out;
 }
+
+-- Folders.
+
+-- none of them is made yet
+pub making_none : (path : Path) (old new : Directory) → new ≡ old → IsMakingFolder path old new
+making_none path old new same = subst (IsMakingFolder path old) (sym same) (record {
+  files = refl;
+  kept = λ q stands. stands;
+  made = λ q stands. or_right (is_on_way q path) (old.is_folder q) stands;
+})
+
+-- all of them are made
+pub making_done : (path : Path) (old new : Directory) → new ≡ folder_made path old → IsMakingFolder path old new
+making_done path old new is = subst (IsMakingFolder path old) (sym is) (record {
+  files = refl;
+  kept = λ q stands. or_right (is_on_way q path) (old.is_folder q) stands;
+  made = λ q stands. stands;
+})
+
+-- the files stay
+pub file_at-making : (dir path : Path) (old new : Directory) → IsMakingFolder dir old new → file_at new path ≡ file_at old path
+file_at-making dir path old new making = ap (λ files. map.get files path) making.files

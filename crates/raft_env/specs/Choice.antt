@@ -17,7 +17,8 @@ touched_before touched (suc i) = touched_before touched i + (if touched i then 1
 
 -- the byte there, but the fill where so many places before it were touched and it was too
 abbrev pub torn_byte : (ℕ → Bool) → ℕ → ℕ → List ℕ → ℕ → ℕ
-torn_byte touched kept fill now i = if touched i && nat_le kept (touched_before touched i) then fill else slice_index now i
+torn_byte touched kept fill now i = if touched i && nat_le kept (touched_before touched i) then fill
+    else slice_index now i
 
 -- the bytes now, of which only the first few touched ones reached the disk
 abbrev pub torn : (ℕ → Bool) → ℕ → ℕ → List ℕ → List ℕ
@@ -32,7 +33,8 @@ chosen (choice.Bytes bytes) file = bytes.items
 
 -- the choices go to the paths in order, and `Synced` to those that are left over
 abbrev pub choice_for : List Choice → List Path → Path → Choice
-choice_for choices paths path = slice_index_or choices (position_or_len (bytes_eq path) paths) choice.Synced
+choice_for choices paths path = slice_index_or choices (position_or_len (bytes_eq path) paths)
+    choice.Synced
 
 abbrev pub chosen_at : Choice → Option File → List ℕ
 chosen_at c None = []

@@ -12,7 +12,8 @@ use Rattle.raft_env.specs.Files.{Files}
 
 -- the file is put at that path, and the others stay
 abbrev pub Puts : Files → Files → Path → File → Type 0
-Puts old new path file = tree.UpdatesBy string_cmp (λ k. slice_cmp nat_cmp path (string_bytes k)) old new (Some file)
+Puts old new path file = tree.UpdatesBy string_cmp (λ k. slice_cmp nat_cmp path (string_bytes k))
+    old new (Some file)
 
 -- each file that stands has its copy, and R holds of them
 abbrev pub Stands : (File → File → Type 0) → Option File → Option File → Type 0
@@ -25,7 +26,8 @@ abbrev pub at_path : Path → List (String Global × File) → Option File
 at_path p es = lookup (tree.is_at (λ k. slice_cmp nat_cmp p (string_bytes k))) es
 
 -- the files of these entries are copied
-pub record Copied (R : Path → File → File → Type 0) (es : List (String Global × File)) (files : Files) : Type 0 where
+pub record Copied (R : Path → File → File → Type 0) (es : List (String Global × File))
+    (files : Files) : Type 0 where
   pub each : (p : Path) → Stands (R p) (at_path p es) (tree.get_by_text files p)
 
 -- the copy holds what is left, which storage may leave

@@ -1,5 +1,5 @@
 -- Paths to files, and what each call makes of them.
-use Rattle.std.specs.Prelude.{◌≡◌, ◌⊎◌, ℕ, ◌+◌, ◌-◌, ◌≤◌, Bool, cond, List, [], ◌∷◌, ◌++◌, length, Option, Some, None, is_some, IsSome, if◌then◌else◌, not, ◌==◌, ◌||◌, take, drop, option_map}
+use Rattle.std.specs.Prelude.{◌≡◌, ◌⊎◌, ℕ, ◌+◌, ◌-◌, ◌≤◌, Bool, true, cond, List, [], ◌∷◌, ◌++◌, length, Option, Some, None, is_some, IsSome, if◌then◌else◌, not, ◌==◌, ◌||◌, take, drop, option_map}
 use Rattle.std.specs.List.{list_any, filter_map}
 use Rattle.std.specs.Str.{bytes_eq}
 use Rattle.std.specs.Ordering.{nat_cmp}
@@ -51,13 +51,17 @@ abbrev pub HasFile : Directory → Path → Type 0
 HasFile n path = IsSome (file_at n path)
 
 -- a moment of a call that changes one file: nothing has changed, or the call is done, or its range holds other bytes
-abbrev pub IsChanging : Path → (Bool → List ℕ → File → File) → (List ℕ → List ℕ) → (List ℕ → List ℕ → Type 0) → Directory → Directory → Type 0
+abbrev pub IsChanging : Path → (Bool → List ℕ → File → File) → (List ℕ → List ℕ)
+    → (List ℕ → List ℕ → Type 0) → Directory → Directory → Type 0
 IsChanging path step wanted IsPart old new =
-    (new ≡ old) ⊎ ((file : File) × (after : List ℕ) × (is_done : Bool) × (file_at old path ≡ Some file)
-    × Outcome is_done (wanted file.now) (IsPart file.now) after × (new ≡ placed path (step is_done after file) old))
+    (new ≡ old) ⊎ ((file : File) × (after : List ℕ) × (is_done : Bool)
+    × (file_at old path ≡ Some file)
+    × Outcome is_done (wanted file.now) (IsPart file.now) after
+    × (new ≡ placed path (step is_done after file) old))
 
 abbrev pub IsWriting : Path → ℕ → List ℕ → Directory → Directory → Type 0
-IsWriting path at given = IsChanging path (written at given) (λ now. overlaid now at given) (IsPartOf at (length given))
+IsWriting path at given = IsChanging path (written at given) (λ now. overlaid now at given)
+    (IsPartOf at (length given))
 
 abbrev pub IsTruncating : Path → ℕ → Directory → Directory → Type 0
 IsTruncating path size = IsChanging path (cut_to size) (take size) (IsCutOf size)
@@ -65,7 +69,8 @@ IsTruncating path size = IsChanging path (cut_to size) (take size) (IsCutOf size
 -- what an allocation lengthens a file by begins at its end
 abbrev pub IsAllocating : Path → ℕ → Directory → Directory → Type 0
 IsAllocating path size =
-    IsChanging path (lengthened_to size) (λ now. padded now size) (λ now. IsPartOf (length now) (size - length now) now)
+    IsChanging path (lengthened_to size) (λ now. padded now size)
+    (λ now. IsPartOf (length now) (size - length now) now)
 
 abbrev pub IsOneOf : Directory → Directory → Directory → Type 0
 IsOneOf a b n = (n ≡ a) ⊎ (n ≡ b)
@@ -118,6 +123,12 @@ is_on_way folder path = bytes_eq folder path || is_some (after_folder folder pat
 -- a folder is made with those on the way to it
 abbrev pub folder_made : Path → Directory → Directory
 folder_made path n = record n { is_folder = λ q. is_on_way q path || n.is_folder q }
+
+-- a moment of making a folder: the files are as before, and none, some or all of the folders to be made are there
+pub record IsMakingFolder (path : Path) (old new : Directory) : Type 0 where
+  pub files : new.files ≡ old.files
+  pub kept : (q : Path) → old.is_folder q ≡ true → new.is_folder q ≡ true
+  pub made : (q : Path) → new.is_folder q ≡ true → (folder_made path old).is_folder q ≡ true
 
 abbrev pub removed : Path → Directory → Directory
 removed path n = record n { files = map.remove n.files path }

@@ -21,7 +21,10 @@ abbrev pub folders_of : List (String Global) → Path → Bool
 folders_of made q = (length q == 0) || list_any (λ p. is_on_way q (string_bytes p)) made
 
 abbrev pub directory_of : Files → (Path → Bool) → Directory
-directory_of files is_folder = record { files = finite.from_entries (by_bytes files.entries); is_folder = is_folder }
+directory_of files is_folder = record {
+  files = finite.from_entries (by_bytes files.entries);
+  is_folder = is_folder;
+}
 
 abbrev pub tree_directory : Tree → Directory
 tree_directory tree = directory_of tree.files (folders_of tree.folders.items)

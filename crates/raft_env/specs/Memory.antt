@@ -37,7 +37,8 @@ stop_of memory = memory.armed.stop
 
 -- with the first half of the bytes, rounded down, written there by a call that was refused
 abbrev pub half_written : Path → ℕ → List ℕ → Directory → Directory
-half_written path at given n = changed path (λ f. written at given false (overlaid f.now at (take (length given / 2) given)) f) n
+half_written path at given n = changed path (λ f. written at given false
+    (overlaid f.now at (take (length given / 2) given)) f) n
 
 -- what a refused write leaves: where it was injected the first half, if the whole has room; memory for the half may be wanting, and then nothing is written
 abbrev pub LeavesHalf : Option IoKind → Path → ℕ → List ℕ → Directory → Directory → Type 0

@@ -14,4 +14,5 @@ IsName path = All (λ c. c ≢ 47) path
 
 -- what stands before the last slash, or nothing where there is none
 abbrev pub IsParent : Path → Path → Type 0
-IsParent path folder = (IsName path × (folder ≡ [])) ⊎ ((name : Path) × IsName name × (path ≡ folder ++ 47 ∷ name))
+IsParent path folder = (IsName path × (folder ≡ []))
+    ⊎ ((name : Path) × IsName name × (path ≡ folder ++ 47 ∷ name))

@@ -30,7 +30,8 @@ NoneCounted old new = (new.storage ≡ old.storage) × (new.memory ≡ old.memor
 
 -- a file call's fault is counted as what it is
 abbrev pub CountsFault : FsFault → Refusals → Refusals → Type 0
-CountsFault (Io kind) old new = Rose old new × (old.storage ≤ new.storage) × (new.memory ≡ old.memory)
+CountsFault (Io kind) old new = Rose old new × (old.storage ≤ new.storage)
+    × (new.memory ≡ old.memory)
 CountsFault Memory old new = (new.storage ≡ old.storage) × (old.memory < new.memory)
 
 -- .. and at `Ok` nothing is counted
@@ -43,11 +44,15 @@ CountsStorageFault (Io kind) old new = CountsFault (Io kind) old new
 CountsStorageFault Memory old new = (new.storage ≡ old.storage) × (old.memory ≤ new.memory)
 
 abbrev pub CountsStorage : {T : Type 0} → Result T FsFault → Refusals → Refusals → Type 0
-CountsStorage result old new = MatchResult result (λ _. NoneCounted old new) (λ e. CountsStorageFault e old new)
+CountsStorage result old new = MatchResult result (λ _. NoneCounted old new)
+    (λ e. CountsStorageFault e old new)
 
 -- sums of counts, the first of them saturating
 abbrev pub added_count : Refusals → Refusals → Refusals
-added_count a b = record { storage = min (a.storage + b.storage) (2 ^ 64 - 1); memory = a.memory + b.memory }
+added_count a b = record {
+  storage = min (a.storage + b.storage) (2 ^ 64 - 1);
+  memory = a.memory + b.memory;
+}
 
 -- no count fell, and storage's rose where its refusal is answered; the call may also want memory of its own
 abbrev pub CausedByFault : FsFault → Refusals → Refusals → Type 0
@@ -59,7 +64,8 @@ CausedBy result old new = MatchResult result (λ _. NoFewer old new) (λ e. Caus
 
 -- the fault for a refused file call; it names the path, or nothing where memory for that was wanting
 abbrev pub IsFaultOf : List ℕ → FsFault → Fault → Type 0
-IsFaultOf path (Io kind) f = (named : String Global) × (f ≡ fault.Io kind named) × ((string_bytes named ≡ path) ⊎ (string_bytes named ≡ []))
+IsFaultOf path (Io kind) f = (named : String Global) × (f ≡ fault.Io kind named)
+    × ((string_bytes named ≡ path) ⊎ (string_bytes named ≡ []))
 IsFaultOf path Memory f = f ≡ fault.Memory
 
 -- by a file call: by storage or for want of memory, where that count rose in the call

@@ -28,11 +28,13 @@ abbrev pub HasNoPlace : Directory → Path → FsFault → Type 0
 HasNoPlace n path fault =
     (fault ≡ Memory)
     ⊎ ((fault ≡ Io Other) × (n.is_folder path ≡ true))
-    ⊎ ((fault ≡ Io NotFound) × (folder : Path) × IsParent path folder × (n.is_folder folder ≡ false))
+    ⊎ ((fault ≡ Io NotFound) × (folder : Path) × IsParent path folder
+    × (n.is_folder folder ≡ false))
 
 -- memory was wanting, or a file stands there or on the way there
 abbrev pub IsBarred : Directory → Path → FsFault → Type 0
-IsBarred n path fault = (fault ≡ Memory) ⊎ ((fault ≡ Io Other) × (list_any (λ file. is_on_way file path) (map.keys n.files) ≡ true))
+IsBarred n path fault = (fault ≡ Memory) ⊎ ((fault ≡ Io Other)
+    × (list_any (λ file. is_on_way file path) (map.keys n.files) ≡ true))
 
 -- a file has room for 2^62 bytes, and the call asks for more
 abbrev pub HasNoRoom : ℕ → ℕ → FsFault → Type 0

@@ -32,7 +32,7 @@ pub enum FsCall {
 #[derive(Drop)]
 pub(crate) struct ArmedRefusal {
     call: FsCall,
-    // How many calls of that sort come up to the refused one, which is one of them; reads don't count here.
+    // How many calls of that sort come up to the refused one, with it; reads don't count here.
     left: u64,
     kind: IoKind,
     // The same of reads, which share the file system. No clause tells its value.
@@ -102,7 +102,8 @@ impl Armed {
     /// Counts the call, and says as what it is to be refused.
     pub(crate) fn due(&mut self, call: FsCall) -> Option<IoKind>
         ensures value { result ≡ due_kind call (arms_of self.old.refusals.items) }
-        ensures armed { arms_of self.new.refusals.items ≡ arms_after call (arms_of self.old.refusals.items) }
+        ensures armed { arms_of self.new.refusals.items
+            ≡ arms_after call (arms_of self.old.refusals.items) }
         ensures stop { self.new.stop ≡ self.old.stop }
     {
         let due = self.due_kind(call);
@@ -117,7 +118,8 @@ impl Armed {
     /// The same of a call that changes files, which counts for the stop too.
     pub(crate) fn due_change(&mut self, call: FsCall) -> Option<IoKind>
         ensures value { result ≡ injected call (arms_of self.old.refusals.items) self.old.stop }
-        ensures armed { arms_of self.new.refusals.items ≡ arms_after call (arms_of self.old.refusals.items) }
+        ensures armed { arms_of self.new.refusals.items
+            ≡ arms_after call (arms_of self.old.refusals.items) }
         ensures stop { self.new.stop ≡ stop_after self.old.stop }
     {
         let due = self.due(call);
@@ -131,9 +133,10 @@ impl Armed {
         }
     }
 
-    /// The same of a read. Reads may come at once, so what is armed doesn't tell which of them is refused.
+    /// The same of a read. Reads may come at once, so no clause tells which of them is refused.
     pub(crate) fn due_read(&self) -> Option<IoKind>
-        ensures { IfSome result (λ kind. IsArmed (arms_of self.now.refusals.items) FsCall.Read kind) }
+        ensures { IfSome result (λ kind. IsArmed (arms_of self.now.refusals.items) FsCall.Read
+            kind) }
     {
         let mut due = None;
         for armed in &self.refusals {
@@ -148,9 +151,9 @@ impl Armed {
 impl MemoryFileSystem {
     ghost use Rattle.raft_env.specs.Memory.{memory_directory, memory_moments, memory_refusals, armed_of, stop_of};
 
-    /// Arms one more refusal: of the calls of that sort from now on, the nth, counted from 1, and no other is refused
-    /// so. A write that is refused so has written the first half of its bytes, if all of them had room and memory
-    /// for the half was there; any other call has changed nothing.
+    /// Arms one more refusal: of the calls of that sort from now on the nth, counted from 1, and no
+    /// other is refused so. A write that is refused so has written the first half of its bytes, if
+    /// all of them had room and memory for the half was there; any other call has changed nothing.
     pub fn refuse(&mut self, call: FsCall, nth: u64, kind: IoKind) -> Result<(), Fault>
         ensures ok { OnOk result (armed_of self.new ≡ armed_of self.old ++ (call, nth, kind) ∷ []) }
         ensures err { OnErr result (armed_of self.new ≡ armed_of self.old) }
@@ -173,8 +176,9 @@ impl MemoryFileSystem {
         Ok(())
     }
 
-    /// Of the calls from now on that may change files, the nth, counted from 1, and each later one are refused as
-    /// `Other`. These are to create, delete, rename, delete metadata, write, truncate, allocate, sync and make a folder.
+    /// Of the calls from now on that may change files the nth, counted from 1, and each later one
+    /// are refused as `Other`. These are to create, delete, rename, delete metadata, write, truncate,
+    /// allocate, sync and make a folder.
     pub fn stop_at(&mut self, nth: u64)
         ensures ok { stop_of self.new ≡ Some nth }
         ensures others { armed_of self.new ≡ armed_of self.old }

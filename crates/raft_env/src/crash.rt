@@ -38,8 +38,8 @@ impl MemoryFileSystem {
 
     /// The files after a crash now. The choices go to the files in the order of their paths' bytes, and a file that is
     /// left over keeps what was synced. Folders stay. The files are consistent, none was renamed, and of their
-    /// changes only writes were refused. So by `raft_files::laws::damage_can_be_told` the damage of `All` and `Synced` can
-    /// be told of a log that `raft_files::laws::refused_calls_bring_no_record` keeps, and that of `Torn` where the torn
+    /// changes only writes were refused. So by `raft_premise::laws::damage_can_be_told` the damage of `All` and `Synced` can
+    /// be told of a log that `raft_premise::laws::refused_calls_bring_no_record` keeps, and that of `Torn` where the torn
     /// record doesn't decode.
     pub fn crash(&self, choices: &[Choice]) -> Result<MemoryFileSystem, Fault>
         ensures ok { IfOk result (λ m. IsRestarted (memory_directory self.now)
@@ -50,9 +50,11 @@ impl MemoryFileSystem {
         ensures consistent { AreConsistent (memory_directory self.now) }
         ensures only_writes { OnlyWritesRefusedIn (memory_directory self.now) }
         ensures not_renamed { NoneRenamed (memory_directory self.now) }
-        ensures value { OnOk result (Leaves (memory_directory self.now) (left_by choices.now (memory_directory self.now))) }
+        ensures value { OnOk result (Leaves (memory_directory self.now)
+            (left_by choices.now (memory_directory self.now))) }
         ensures refused { IfErr result (RefusesUnless
-            (Leaves (memory_directory self.now) (left_by choices.now (memory_directory self.now)))) }
+            (Leaves (memory_directory self.now)
+            (left_by choices.now (memory_directory self.now)))) }
     {
         Ok(MemoryFileSystem {
             alloc: self.alloc,
@@ -71,7 +73,8 @@ impl Tree {
     fn crashed(&self, alloc: Global, choices: &[Choice]) -> Result<Tree, Fault>
         ensures ok { IfOk result (λ t. IsRestarted (tree_directory self.now)
             (left_by choices.now (tree_directory self.now)) (tree_directory t)) }
-        ensures allowed { OnOk result (Leaves (tree_directory self.now) (left_by choices.now (tree_directory self.now))) }
+        ensures allowed { OnOk result (Leaves (tree_directory self.now)
+            (left_by choices.now (tree_directory self.now))) }
         ensures refused { IfErr result (RefusesUnless
             (Leaves (tree_directory self.now) (left_by choices.now (tree_directory self.now)))) }
     {
@@ -101,9 +104,11 @@ fn put_left(
     slot: &Slot,
     choice: &Choice,
 ) -> Result<(), Fault>
-    ensures ok { OnOk result (Puts files.old files.new path.now (settled (chosen choice.now slot.now))) }
+    ensures ok { OnOk result (Puts files.old files.new path.now
+        (settled (chosen choice.now slot.now))) }
     ensures allowed { OnOk result (MayLeave slot.now (chosen choice.now slot.now)) }
-    ensures refused { IfErr result (RefusesUnless (MayLeave slot.now (chosen choice.now slot.now))) }
+    ensures refused { IfErr result (RefusesUnless
+        (MayLeave slot.now (chosen choice.now slot.now))) }
 {
     let left = slot.left(alloc, choice)?;
     let key = String::from_str(alloc, path)?;

@@ -2,8 +2,8 @@
 ghost use Rattle.std.specs.Prelude.{◌≡◌, ◌⊎◌, ◌↔◌, ◌<◌, ◌+◌, ◌^◌, [], ◌∷◌, List, ℕ, Bool, true, false, length, take, map, IfOk, OnOk, OnErr, Some, is_some};
 ghost use Rattle.std.specs.String.{string_bytes};
 ghost use Rattle.raft_env.specs.Outcomes.{File, written, resized, synced_of, overlaid, padded};
-ghost use Rattle.raft_env.specs.Directory.{Path, Directory, file_at, changed, created, folder_made, IsWriting, IsTruncating, IsAllocating, IsOneOf, ReadsAt, names_in, HasFile};
-ghost use Rattle.raft_env.specs.Moments.{Passes};
+ghost use Rattle.raft_env.specs.Directory.{Path, Directory, file_at, changed, created, folder_made, IsWriting, IsTruncating, IsAllocating, IsMakingFolder, IsOneOf, ReadsAt, names_in, HasFile};
+ghost use Rattle.raft_env.specs.Moments.{MovesBy, OnlyReads};
 ghost use Rattle.raft_env.specs.Refusal.{Counts, Refusals, added_count, no_refusals};
 ghost use Rattle.raft_env.specs.declared.env.FsFault.TheVariants.{Memory};
 
@@ -17,7 +17,7 @@ pub enum Permission {
     ReadWrite,
 }
 
-/// Why a file call was refused: by storage, or for want of memory, which is counted for clauses alone.
+/// Why a file call was refused: by storage, or for want of memory, which only clauses count.
 #[derive(Clone, Copy, Debug, PartialEq, Eq)]
 pub enum FsFault {
     Io(IoKind),
@@ -27,11 +27,13 @@ pub enum FsFault {
 impl FsFault {
     ghost use Rattle.raft_env.specs.Refusal.{CausedByFault, CountsFault, IsFaultOf, IsFileRefusal, IsRefusal};
 
-    /// The fault of a call on the file at the path; it names no path where there is no memory for it.
+    /// The fault of a call on the file at the path. It names none where there is no memory for that.
     pub fn with_path(self, alloc: Global, path: &str) -> Fault
         ensures value { IsFaultOf path.now self result }
-        ensures cause { (old new : Refusals) → CausedByFault self old new → IsRefusal old new result }
-        ensures counted { (old new : Refusals) → CountsFault self old new → IsFileRefusal old new result }
+        ensures cause { (old new : Refusals) → CausedByFault self old new
+            → IsRefusal old new result }
+        ensures counted { (old new : Refusals) → CountsFault self old new
+            → IsFileRefusal old new result }
         ensures not_failed { result ≡ Fault.Failed → ⊥ }
     {
         match self {
@@ -67,8 +69,9 @@ impl<T: Drop> From<AllocFailed<T>> for FsFault {
     }
 }
 
-/// Files by their paths. A path is never normalised: its folder is what stands before its last `/`, and the
-/// empty path is the root. A handle, a reader or a writer means the file that stands at its path when it is used.
+/// Files by their paths. A path is never normalised: its folder is what stands before its last `/`,
+/// and the empty path is the root. A handle, a reader or a writer means the file that stands at its
+/// path when it is used.
 pub trait FileSystem: Send + Sync {
     type Handle: Send + Drop;
 
@@ -100,35 +103,36 @@ pub trait FileSystem: Send + Sync {
         ensures handle { IfOk result (λ h. (handle_path h ≡ path.now) × (may_write h ≡ true)) }
         ensures ok { OnOk result (directory self.new ≡ created path.now (directory self.old)) }
         ensures err { OnErr result (directory self.new ≡ directory self.old) }
-        ensures any_moment { Passes (moments self.old) (moments self.new) (directory self.new)
-            (IsOneOf (directory self.old) (created path.now (directory self.old))) }
+        ensures any_moment { MovesBy directory moments (λ old. IsOneOf old (created path.now old))
+            self.old self.new }
         ensures cause { Counts result (refusals_of self.old) (refusals_of self.new) };
 
     fn open(&mut self, path: &str, permission: Permission) -> Result<Self::Handle, FsFault>
-        ensures handle { IfOk result (λ h. (handle_path h ≡ path.now) × HasFile (directory self.old) path.now) }
-        ensures may_write { IfOk result (λ h. may_write h ≡ true ↔ (permission ≡ Permission.ReadWrite)) }
-        ensures unchanged { directory self.new ≡ directory self.old }
-        ensures any_moment { moments self.new ≡ moments self.old }
+        ensures handle { IfOk result (λ h. (handle_path h ≡ path.now)
+            × HasFile (directory self.old) path.now) }
+        ensures may_write { IfOk result (λ h. may_write h ≡ true
+            ↔ (permission ≡ Permission.ReadWrite)) }
+        ensures unchanged { OnlyReads directory moments self.old self.new }
         ensures cause { Counts result (refusals_of self.old) (refusals_of self.new) };
 
     fn new_reader(&mut self, handle: &Self::Handle) -> Result<Self::Reader, FsFault>
-        ensures reader { IfOk result (λ r. (reader_path r ≡ handle_path handle.now) × (reader_refusals r ≡ no_refusals)) }
-        ensures unchanged { directory self.new ≡ directory self.old }
-        ensures any_moment { moments self.new ≡ moments self.old }
+        ensures reader { IfOk result (λ r. (reader_path r ≡ handle_path handle.now)
+            × (reader_refusals r ≡ no_refusals)) }
+        ensures unchanged { OnlyReads directory moments self.old self.new }
         ensures cause { Counts result (refusals_of self.old) (refusals_of self.new) };
 
     /// Adds the reader's refusals to those of the file system.
     fn end_reader(&mut self, reader: Self::Reader)
-        ensures unchanged { directory self.new ≡ directory self.old }
-        ensures any_moment { moments self.new ≡ moments self.old }
-        ensures cause { refusals_of self.new ≡ added_count (refusals_of self.old) (reader_refusals reader) };
+        ensures unchanged { OnlyReads directory moments self.old self.new }
+        ensures cause { refusals_of self.new ≡ added_count (refusals_of self.old)
+            (reader_refusals reader) };
 
     /// Refused as `Other` for a handle that was opened to be read only.
     fn new_writer(&mut self, handle: &Self::Handle) -> Result<Self::Writer, FsFault>
-        ensures writer { IfOk result (λ w. (writer_path w ≡ handle_path handle.now) × (may_write handle.now ≡ true)) }
+        ensures writer { IfOk result (λ w. (writer_path w ≡ handle_path handle.now)
+            × (may_write handle.now ≡ true)) }
         ensures refused { may_write handle.now ≡ false → result ≡ Err (FsFault.Io IoKind.Other) }
-        ensures unchanged { directory self.new ≡ directory self.old }
-        ensures any_moment { moments self.new ≡ moments self.old }
+        ensures unchanged { OnlyReads directory moments self.old self.new }
         ensures cause { Counts result (refusals_of self.old) (refusals_of self.new) };
 
     /// Writes over what stands there, and past the end.
@@ -138,8 +142,8 @@ pub trait FileSystem: Send + Sync {
         ensures fits { OnOk result (at + length bytes.now < 2 ^ 63) }
         ensures ok { OnOk result (directory self.new ≡ changed (writer_path writer.old)
             (λ f. written at bytes.now true (overlaid f.now at bytes.now) f) (directory self.old)) }
-        ensures any_moment { Passes (moments self.old) (moments self.new) (directory self.new)
-            (IsWriting (writer_path writer.old) at bytes.now (directory self.old)) }
+        ensures any_moment { MovesBy directory moments
+            (IsWriting (writer_path writer.old) at bytes.now) self.old self.new }
         ensures cause { Counts result (refusals_of self.old) (refusals_of self.new) };
 
     /// Cuts the file to a length; at or past its end it stays as it is.
@@ -148,8 +152,8 @@ pub trait FileSystem: Send + Sync {
         ensures found { OnOk result (HasFile (directory self.old) (writer_path writer.old)) }
         ensures ok { OnOk result (directory self.new ≡ changed (writer_path writer.old)
             (λ f. resized true (take size f.now) f) (directory self.old)) }
-        ensures any_moment { Passes (moments self.old) (moments self.new) (directory self.new)
-            (IsTruncating (writer_path writer.old) size (directory self.old)) }
+        ensures any_moment { MovesBy directory moments (IsTruncating (writer_path writer.old) size)
+            self.old self.new }
         ensures cause { Counts result (refusals_of self.old) (refusals_of self.new) };
 
     /// Lengthens the file with zeros to `at + size` bytes; a file that is as long stays as it is.
@@ -159,47 +163,49 @@ pub trait FileSystem: Send + Sync {
         ensures fits { OnOk result (at + size < 2 ^ 63) }
         ensures ok { OnOk result (directory self.new ≡ changed (writer_path writer.old)
             (λ f. resized true (padded f.now (at + size)) f) (directory self.old)) }
-        ensures any_moment { Passes (moments self.old) (moments self.new) (directory self.new)
-            (IsAllocating (writer_path writer.old) (at + size) (directory self.old)) }
+        ensures any_moment { MovesBy directory moments
+            (IsAllocating (writer_path writer.old) (at + size)) self.old self.new }
         ensures cause { Counts result (refusals_of self.old) (refusals_of self.new) };
 
     /// After `Ok` a crash leaves the bytes now and nothing else.
     fn sync(&mut self, writer: &mut Self::Writer) -> Result<(), FsFault>
         ensures writer { writer_path writer.new ≡ writer_path writer.old }
         ensures found { OnOk result (HasFile (directory self.old) (writer_path writer.old)) }
-        ensures ok { OnOk result (directory self.new ≡ changed (writer_path writer.old) synced_of (directory self.old)) }
+        ensures ok { OnOk result (directory self.new
+            ≡ changed (writer_path writer.old) synced_of (directory self.old)) }
         ensures err { OnErr result (directory self.new ≡ directory self.old) }
-        ensures any_moment { Passes (moments self.old) (moments self.new) (directory self.new)
-            (IsOneOf (directory self.old) (changed (writer_path writer.old) synced_of (directory self.old))) }
+        ensures any_moment { MovesBy directory moments
+            (λ old. IsOneOf old (changed (writer_path writer.old) synced_of old)) self.old
+            self.new }
         ensures cause { Counts result (refusals_of self.old) (refusals_of self.new) };
 
     /// The number of bytes read: 0 only at the end or for an empty slice.
     fn read(&self, reader: &mut Self::Reader, at: usize, bytes: &mut [u8]) -> Result<usize, FsFault>
         ensures reader { reader_path reader.new ≡ reader_path reader.old }
-        ensures ok { IfOk result (λ n. ReadsAt (file_at (directory self.now) (reader_path reader.old)) at n bytes.old bytes.new) }
+        ensures ok { IfOk result (λ n. ReadsAt
+            (file_at (directory self.now) (reader_path reader.old)) at n bytes.old bytes.new) }
         ensures cause { Counts result (reader_refusals reader.old) (reader_refusals reader.new) };
 
     fn file_size(&mut self, handle: &Self::Handle) -> Result<usize, FsFault>
         ensures size { IfOk result (λ n. (file : File)
-            × (file_at (directory self.old) (handle_path handle.now) ≡ Some file) × (n ≡ length file.now)) }
+            × (file_at (directory self.old) (handle_path handle.now) ≡ Some file)
+            × (n ≡ length file.now)) }
         ensures fits { IfOk result (λ n. n < 2 ^ 63) }
-        ensures unchanged { directory self.new ≡ directory self.old }
-        ensures any_moment { moments self.new ≡ moments self.old }
+        ensures unchanged { OnlyReads directory moments self.old self.new }
         ensures cause { Counts result (refusals_of self.old) (refusals_of self.new) };
 
-    /// Makes a folder, with those on the way to it. A folder that stands stays.
+    /// Makes a folder, with those on the way to it. A folder that stands stays. A refusal may leave
+    /// some of them made.
     fn make_dir(&mut self, path: &str) -> Result<(), FsFault>
         ensures ok { OnOk result (directory self.new ≡ folder_made path.now (directory self.old)) }
-        ensures err { OnErr result (directory self.new ≡ directory self.old) }
-        ensures any_moment { Passes (moments self.old) (moments self.new) (directory self.new)
-            (IsOneOf (directory self.old) (folder_made path.now (directory self.old))) }
+        ensures any_moment { MovesBy directory moments (IsMakingFolder path.now) self.old self.new }
         ensures cause { Counts result (refusals_of self.old) (refusals_of self.new) };
 
     /// The names of the files in a folder, in the order of their bytes.
     fn list(&mut self, dir: &str) -> Result<Vec<String>, FsFault>
-        ensures names { IfOk result (λ names. map string_bytes names.items ≡ names_in dir.now (directory self.old)) }
-        ensures unchanged { directory self.new ≡ directory self.old }
-        ensures any_moment { moments self.new ≡ moments self.old }
+        ensures names { IfOk result (λ names. map string_bytes names.items
+            ≡ names_in dir.now (directory self.old)) }
+        ensures unchanged { OnlyReads directory moments self.old self.new }
         ensures cause { Counts result (refusals_of self.old) (refusals_of self.new) };
 
     fn is_dir(&self, path: &str) -> bool
@@ -208,7 +214,8 @@ pub trait FileSystem: Send + Sync {
     fn is_file(&self, path: &str) -> bool
         ensures value { result ≡ is_some (file_at (directory self.now) path.now) };
 
-    /// How many calls storage refused, but for the reads, which their readers count. It stops at 2^64 - 1.
+    /// How many calls storage refused, but for the reads, which their readers count. It stops at
+    /// 2^64 - 1.
     fn refusals(&self) -> u64
         ensures value { result ≡ (refusals_of self.now).storage };
 
@@ -217,5 +224,6 @@ pub trait FileSystem: Send + Sync {
         ensures value { result ≡ (reader_refusals reader.now).storage };
 
     /// Now is a moment.
-    ghost now_counts: { (fs : Self) → (earlier : List Directory) × (moments fs ≡ directory fs ∷ earlier) };
+    ghost now_counts: { (fs : Self) → (earlier : List Directory)
+        × (moments fs ≡ directory fs ∷ earlier) };
 }

@@ -6,7 +6,7 @@ ghost use Rattle.raft_env.specs.Consistent.{AreConsistent, NoneRenamed, OnlyWrit
 ghost use Rattle.raft_env.specs.Files.{tree_directory};
 ghost use Rattle.raft_env.specs.Outcomes.{overlaid, written};
 ghost use Rattle.raft_env.specs.Directory.{IsReading, IsWriting, changed};
-ghost use Rattle.raft_env.specs.Moments.{Passes};
+ghost use Rattle.raft_env.specs.Moments.{MovesBy, OnlyReads};
 ghost use Rattle.raft_env.specs.Refusal.{CountsFault};
 ghost use Rattle.raft_env.specs.Counted.{by_storage};
 
@@ -74,13 +74,15 @@ impl MemoryFileSystem {
 
     // Writes the first half of the bytes, if there is room for all of them.
     fn write_half(&mut self, path: &str, at: usize, bytes: &[u8]) -> Result<(), FsFault>
-        ensures ok { OnOk result (memory_directory self.new ≡ half_written path.now at bytes.now (memory_directory self.old)) }
+        ensures ok { OnOk result (memory_directory self.new
+            ≡ half_written path.now at bytes.now (memory_directory self.old)) }
         ensures err { OnErr result (memory_directory self.new ≡ memory_directory self.old) }
         ensures fits { OnOk result (at + length bytes.now ≤ 2 ^ 62) }
-        ensures any_moment { Passes (memory_moments self.old) (memory_moments self.new) (memory_directory self.new)
-            (IsWriting path.now at bytes.now (memory_directory self.old)) }
+        ensures any_moment { MovesBy memory_directory memory_moments
+            (IsWriting path.now at bytes.now) self.old self.new }
         ensures cause { memory_refusals self.new ≡ memory_refusals self.old }
-        ensures others { (armed_of self.new ≡ armed_of self.old) × (stop_of self.new ≡ stop_of self.old) }
+        ensures others { (armed_of self.new ≡ armed_of self.old)
+            × (stop_of self.new ≡ stop_of self.old) }
     {
         if !fits(at, bytes.len()) {
             return Err(FsFault::Io(IoKind::NoSpace));
@@ -96,7 +98,7 @@ impl MemoryFileSystem {
 impl FileSystem for MemoryFileSystem {
     ghost use Rattle.raft_env.specs.Memory.{memory_directory, memory_moments, memory_refusals, armed_of, stop_of, LeavesHalf};
     ghost use Rattle.raft_env.specs.Armed.{arms_after, injected, stop_after};
-    ghost use Rattle.raft_env.specs.Directory.{HasFile, IsAllocating, IsOneOf, IsTruncating, ReadsAt, created, file_at, folder_made, names_in};
+    ghost use Rattle.raft_env.specs.Directory.{HasFile, IsAllocating, IsMakingFolder, IsOneOf, IsTruncating, ReadsAt, created, file_at, folder_made, names_in};
     ghost use Rattle.raft_env.specs.Outcomes.{File, padded, resized, synced_of};
     ghost use Rattle.raft_env.specs.Refusal.{Counts, added_count, no_refusals};
     ghost use Rattle.raft_env.specs.Refused.{HasNoFolder, HasNoPlace, HasNoRoom, IsAbsent, IsBarred, IsMissing, RefusesAs, WasArmed};
@@ -126,11 +128,13 @@ impl FileSystem for MemoryFileSystem {
     ghost now_counts = { λ m. (map tree_directory m.past.items, refl) };
 
     fn create(&mut self, path: &str) -> Result<MemoryHandle, FsFault>
-        ensures handle { IfOk result (λ h. (string_bytes h.path ≡ path.now) × (h.may_write ≡ true)) }
-        ensures ok { OnOk result (memory_directory self.new ≡ created path.now (memory_directory self.old)) }
+        ensures handle { IfOk result (λ h. (string_bytes h.path ≡ path.now)
+            × (h.may_write ≡ true)) }
+        ensures ok { OnOk result (memory_directory self.new
+            ≡ created path.now (memory_directory self.old)) }
         ensures err { OnErr result (memory_directory self.new ≡ memory_directory self.old) }
-        ensures any_moment { Passes (memory_moments self.old) (memory_moments self.new) (memory_directory self.new)
-            (IsOneOf (memory_directory self.old) (created path.now (memory_directory self.old))) }
+        ensures any_moment { MovesBy memory_directory memory_moments
+            (λ old. IsOneOf old (created path.now old)) self.old self.new }
         ensures cause { Counts result (memory_refusals self.old) (memory_refusals self.new) }
         ensures refused { RefusesAs (injected FsCall.Create (armed_of self.old) (stop_of self.old))
             (HasNoPlace (memory_directory self.old) path.now) result }
@@ -156,10 +160,11 @@ impl FileSystem for MemoryFileSystem {
     }
 
     fn open(&mut self, path: &str, permission: Permission) -> Result<MemoryHandle, FsFault>
-        ensures handle { IfOk result (λ h. (string_bytes h.path ≡ path.now) × HasFile (memory_directory self.old) path.now) }
-        ensures may_write { IfOk result (λ h. h.may_write ≡ true ↔ (permission ≡ Permission.ReadWrite)) }
-        ensures unchanged { memory_directory self.new ≡ memory_directory self.old }
-        ensures any_moment { memory_moments self.new ≡ memory_moments self.old }
+        ensures handle { IfOk result (λ h. (string_bytes h.path ≡ path.now)
+            × HasFile (memory_directory self.old) path.now) }
+        ensures may_write { IfOk result (λ h. h.may_write ≡ true
+            ↔ (permission ≡ Permission.ReadWrite)) }
+        ensures unchanged { OnlyReads memory_directory memory_moments self.old self.new }
         ensures cause { Counts result (memory_refusals self.old) (memory_refusals self.new) }
         ensures refused { RefusesAs (injected FsCall.Open (armed_of self.old) None)
             (IsMissing (memory_directory self.old) path.now) result }
@@ -182,9 +187,9 @@ impl FileSystem for MemoryFileSystem {
     }
 
     fn new_reader(&mut self, handle: &MemoryHandle) -> Result<MemoryReader, FsFault>
-        ensures reader { IfOk result (λ r. (string_bytes r.path ≡ string_bytes handle.now.path) × (by_storage r.refused ≡ no_refusals)) }
-        ensures unchanged { memory_directory self.new ≡ memory_directory self.old }
-        ensures any_moment { memory_moments self.new ≡ memory_moments self.old }
+        ensures reader { IfOk result (λ r. (string_bytes r.path ≡ string_bytes handle.now.path)
+            × (by_storage r.refused ≡ no_refusals)) }
+        ensures unchanged { OnlyReads memory_directory memory_moments self.old self.new }
         ensures cause { Counts result (memory_refusals self.old) (memory_refusals self.new) }
         ensures refused { RefusesAs (injected FsCall.NewReader (armed_of self.old) None)
             (λ e. e ≡ FsFault.Memory) result }
@@ -201,21 +206,23 @@ impl FileSystem for MemoryFileSystem {
     }
 
     fn end_reader(&mut self, reader: MemoryReader)
-        ensures unchanged { memory_directory self.new ≡ memory_directory self.old }
-        ensures any_moment { memory_moments self.new ≡ memory_moments self.old }
-        ensures cause { memory_refusals self.new ≡ added_count (memory_refusals self.old) (by_storage reader.refused) }
-        ensures others { (armed_of self.new ≡ armed_of self.old) × (stop_of self.new ≡ stop_of self.old) }
+        ensures unchanged { OnlyReads memory_directory memory_moments self.old self.new }
+        ensures cause { memory_refusals self.new
+            ≡ added_count (memory_refusals self.old) (by_storage reader.refused) }
+        ensures others { (armed_of self.new ≡ armed_of self.old)
+            × (stop_of self.new ≡ stop_of self.old) }
     {
         self.refusals.add(reader.refused);
     }
 
     fn new_writer(&mut self, handle: &MemoryHandle) -> Result<MemoryWriter, FsFault>
-        ensures writer { IfOk result (λ w. (string_bytes w.path ≡ string_bytes handle.now.path) × (handle.now.may_write ≡ true)) }
+        ensures writer { IfOk result (λ w. (string_bytes w.path ≡ string_bytes handle.now.path)
+            × (handle.now.may_write ≡ true)) }
         ensures refused { handle.now.may_write ≡ false → result ≡ Err (FsFault.Io IoKind.Other) }
-        ensures unchanged { memory_directory self.new ≡ memory_directory self.old }
-        ensures any_moment { memory_moments self.new ≡ memory_moments self.old }
+        ensures unchanged { OnlyReads memory_directory memory_moments self.old self.new }
         ensures cause { Counts result (memory_refusals self.old) (memory_refusals self.new) }
-        ensures why { handle.now.may_write ≡ true → RefusesAs (injected FsCall.NewWriter (armed_of self.old) None)
+        ensures why { handle.now.may_write ≡ true
+            → RefusesAs (injected FsCall.NewWriter (armed_of self.old) None)
             (λ e. e ≡ FsFault.Memory) result }
         ensures stop { stop_of self.new ≡ stop_of self.old }
         ensures armed { armed_of self.new ≡ arms_after FsCall.NewWriter (armed_of self.old) }
@@ -235,14 +242,19 @@ impl FileSystem for MemoryFileSystem {
 
     fn write(&mut self, writer: &mut MemoryWriter, at: usize, bytes: &[u8]) -> Result<(), FsFault>
         ensures writer { string_bytes writer.new.path ≡ string_bytes writer.old.path }
-        ensures found { OnOk result (HasFile (memory_directory self.old) (string_bytes writer.old.path)) }
+        ensures found { OnOk result (HasFile (memory_directory self.old)
+            (string_bytes writer.old.path)) }
         ensures fits { OnOk result (at + length bytes.now < 2 ^ 63) }
-        ensures ok { OnOk result (memory_directory self.new ≡ changed (string_bytes writer.old.path)
-            (λ f. written at bytes.now true (overlaid f.now at bytes.now) f) (memory_directory self.old)) }
-        ensures err { OnErr result (LeavesHalf (injected FsCall.Write (armed_of self.old) (stop_of self.old))
-            (string_bytes writer.old.path) at bytes.now (memory_directory self.old) (memory_directory self.new)) }
-        ensures any_moment { Passes (memory_moments self.old) (memory_moments self.new) (memory_directory self.new)
-            (IsWriting (string_bytes writer.old.path) at bytes.now (memory_directory self.old)) }
+        ensures ok { OnOk result (memory_directory self.new
+            ≡ changed (string_bytes writer.old.path)
+            (λ f. written at bytes.now true (overlaid f.now at bytes.now) f)
+            (memory_directory self.old)) }
+        ensures err { OnErr result (LeavesHalf
+            (injected FsCall.Write (armed_of self.old) (stop_of self.old))
+            (string_bytes writer.old.path) at bytes.now (memory_directory self.old)
+            (memory_directory self.new)) }
+        ensures any_moment { MovesBy memory_directory memory_moments
+            (IsWriting (string_bytes writer.old.path) at bytes.now) self.old self.new }
         ensures cause { Counts result (memory_refusals self.old) (memory_refusals self.new) }
         ensures refused { RefusesAs (injected FsCall.Write (armed_of self.old) (stop_of self.old))
             (λ e. HasNoRoom at (length bytes.now) e
@@ -270,15 +282,17 @@ impl FileSystem for MemoryFileSystem {
 
     fn truncate(&mut self, writer: &mut MemoryWriter, size: usize) -> Result<(), FsFault>
         ensures writer { string_bytes writer.new.path ≡ string_bytes writer.old.path }
-        ensures found { OnOk result (HasFile (memory_directory self.old) (string_bytes writer.old.path)) }
+        ensures found { OnOk result (HasFile (memory_directory self.old)
+            (string_bytes writer.old.path)) }
         ensures ok { OnOk result (memory_directory self.new ≡ changed (string_bytes writer.old.path)
             (λ f. resized true (take size f.now) f) (memory_directory self.old)) }
         ensures err { OnErr result (memory_directory self.new ≡ memory_directory self.old) }
-        ensures any_moment { Passes (memory_moments self.old) (memory_moments self.new) (memory_directory self.new)
-            (IsTruncating (string_bytes writer.old.path) size (memory_directory self.old)) }
+        ensures any_moment { MovesBy memory_directory memory_moments
+            (IsTruncating (string_bytes writer.old.path) size) self.old self.new }
         ensures cause { Counts result (memory_refusals self.old) (memory_refusals self.new) }
-        ensures refused { RefusesAs (injected FsCall.Truncate (armed_of self.old) (stop_of self.old))
-            (IsMissing (memory_directory self.old) (string_bytes writer.old.path)) result }
+        ensures refused { RefusesAs (injected FsCall.Truncate (armed_of self.old)
+            (stop_of self.old)) (IsMissing (memory_directory self.old)
+            (string_bytes writer.old.path)) result }
         ensures stop { stop_of self.new ≡ stop_after (stop_of self.old) }
         ensures armed { armed_of self.new ≡ arms_after FsCall.Truncate (armed_of self.old) }
     {
@@ -295,16 +309,17 @@ impl FileSystem for MemoryFileSystem {
 
     fn allocate(&mut self, writer: &mut MemoryWriter, at: usize, size: usize) -> Result<(), FsFault>
         ensures writer { string_bytes writer.new.path ≡ string_bytes writer.old.path }
-        ensures found { OnOk result (HasFile (memory_directory self.old) (string_bytes writer.old.path)) }
+        ensures found { OnOk result (HasFile (memory_directory self.old)
+            (string_bytes writer.old.path)) }
         ensures fits { OnOk result (at + size < 2 ^ 63) }
         ensures ok { OnOk result (memory_directory self.new ≡ changed (string_bytes writer.old.path)
             (λ f. resized true (padded f.now (at + size)) f) (memory_directory self.old)) }
         ensures err { OnErr result (memory_directory self.new ≡ memory_directory self.old) }
-        ensures any_moment { Passes (memory_moments self.old) (memory_moments self.new) (memory_directory self.new)
-            (IsAllocating (string_bytes writer.old.path) (at + size) (memory_directory self.old)) }
+        ensures any_moment { MovesBy memory_directory memory_moments
+            (IsAllocating (string_bytes writer.old.path) (at + size)) self.old self.new }
         ensures cause { Counts result (memory_refusals self.old) (memory_refusals self.new) }
-        ensures refused { RefusesAs (injected FsCall.Allocate (armed_of self.old) (stop_of self.old))
-            (λ e. HasNoRoom at size e
+        ensures refused { RefusesAs (injected FsCall.Allocate (armed_of self.old)
+            (stop_of self.old)) (λ e. HasNoRoom at size e
             ⊎ IsMissing (memory_directory self.old) (string_bytes writer.old.path) e) result }
         ensures stop { stop_of self.new ≡ stop_after (stop_of self.old) }
         ensures armed { armed_of self.new ≡ arms_after FsCall.Allocate (armed_of self.old) }
@@ -325,11 +340,14 @@ impl FileSystem for MemoryFileSystem {
 
     fn sync(&mut self, writer: &mut MemoryWriter) -> Result<(), FsFault>
         ensures writer { string_bytes writer.new.path ≡ string_bytes writer.old.path }
-        ensures found { OnOk result (HasFile (memory_directory self.old) (string_bytes writer.old.path)) }
-        ensures ok { OnOk result (memory_directory self.new ≡ changed (string_bytes writer.old.path) synced_of (memory_directory self.old)) }
+        ensures found { OnOk result (HasFile (memory_directory self.old)
+            (string_bytes writer.old.path)) }
+        ensures ok { OnOk result (memory_directory self.new
+            ≡ changed (string_bytes writer.old.path) synced_of (memory_directory self.old)) }
         ensures err { OnErr result (memory_directory self.new ≡ memory_directory self.old) }
-        ensures any_moment { Passes (memory_moments self.old) (memory_moments self.new) (memory_directory self.new)
-            (IsOneOf (memory_directory self.old) (changed (string_bytes writer.old.path) synced_of (memory_directory self.old))) }
+        ensures any_moment { MovesBy memory_directory memory_moments
+            (λ old. IsOneOf old (changed (string_bytes writer.old.path) synced_of old)) self.old
+            self.new }
         ensures cause { Counts result (memory_refusals self.old) (memory_refusals self.new) }
         ensures refused { RefusesAs (injected FsCall.Sync (armed_of self.old) (stop_of self.old))
             (IsAbsent (memory_directory self.old) (string_bytes writer.old.path)) result }
@@ -349,8 +367,11 @@ impl FileSystem for MemoryFileSystem {
 
     fn read(&self, reader: &mut MemoryReader, at: usize, bytes: &mut [u8]) -> Result<usize, FsFault>
         ensures reader { string_bytes reader.new.path ≡ string_bytes reader.old.path }
-        ensures ok { IfOk result (λ n. ReadsAt (file_at (memory_directory self.now) (string_bytes reader.old.path)) at n bytes.old bytes.new) }
-        ensures cause { Counts result (by_storage reader.old.refused) (by_storage reader.new.refused) }
+        ensures ok { IfOk result (λ n. ReadsAt
+            (file_at (memory_directory self.now) (string_bytes reader.old.path)) at n bytes.old
+            bytes.new) }
+        ensures cause { Counts result (by_storage reader.old.refused)
+            (by_storage reader.new.refused) }
         ensures refused { IfErr result (λ e. WasArmed (armed_of self.now) FsCall.Read e
             ⊎ IsAbsent (memory_directory self.now) (string_bytes reader.old.path) e) }
     {
@@ -365,10 +386,10 @@ impl FileSystem for MemoryFileSystem {
 
     fn file_size(&mut self, handle: &MemoryHandle) -> Result<usize, FsFault>
         ensures size { IfOk result (λ n. (file : File)
-            × (file_at (memory_directory self.old) (string_bytes handle.now.path) ≡ Some file) × (n ≡ length file.now)) }
+            × (file_at (memory_directory self.old) (string_bytes handle.now.path) ≡ Some file)
+            × (n ≡ length file.now)) }
         ensures fits { IfOk result (λ n. n < 2 ^ 63) }
-        ensures unchanged { memory_directory self.new ≡ memory_directory self.old }
-        ensures any_moment { memory_moments self.new ≡ memory_moments self.old }
+        ensures unchanged { OnlyReads memory_directory memory_moments self.old self.new }
         ensures cause { Counts result (memory_refusals self.old) (memory_refusals self.new) }
         ensures refused { RefusesAs (injected FsCall.FileSize (armed_of self.old) None)
             (IsAbsent (memory_directory self.old) (string_bytes handle.now.path)) result }
@@ -385,10 +406,11 @@ impl FileSystem for MemoryFileSystem {
     }
 
     fn make_dir(&mut self, path: &str) -> Result<(), FsFault>
-        ensures ok { OnOk result (memory_directory self.new ≡ folder_made path.now (memory_directory self.old)) }
+        ensures ok { OnOk result (memory_directory self.new
+            ≡ folder_made path.now (memory_directory self.old)) }
         ensures err { OnErr result (memory_directory self.new ≡ memory_directory self.old) }
-        ensures any_moment { Passes (memory_moments self.old) (memory_moments self.new) (memory_directory self.new)
-            (IsOneOf (memory_directory self.old) (folder_made path.now (memory_directory self.old))) }
+        ensures any_moment { MovesBy memory_directory memory_moments (IsMakingFolder path.now)
+            self.old self.new }
         ensures cause { Counts result (memory_refusals self.old) (memory_refusals self.new) }
         ensures refused { RefusesAs (injected FsCall.MakeDir (armed_of self.old) (stop_of self.old))
             (IsBarred (memory_directory self.old) path.now) result }
@@ -407,9 +429,9 @@ impl FileSystem for MemoryFileSystem {
     }
 
     fn list(&mut self, dir: &str) -> Result<Vec<String>, FsFault>
-        ensures names { IfOk result (λ names. map string_bytes names.items ≡ names_in dir.now (memory_directory self.old)) }
-        ensures unchanged { memory_directory self.new ≡ memory_directory self.old }
-        ensures any_moment { memory_moments self.new ≡ memory_moments self.old }
+        ensures names { IfOk result (λ names. map string_bytes names.items
+            ≡ names_in dir.now (memory_directory self.old)) }
+        ensures unchanged { OnlyReads memory_directory memory_moments self.old self.new }
         ensures cause { Counts result (memory_refusals self.old) (memory_refusals self.new) }
         ensures refused { RefusesAs (injected FsCall.List (armed_of self.old) None)
             (HasNoFolder (memory_directory self.old) dir.now) result }
@@ -451,7 +473,8 @@ fn fits(at: usize, size: usize) -> bool
 fn refused(reader: &mut MemoryReader, kind: IoKind) -> FsFault
     ensures value { result ≡ FsFault.Io kind }
     ensures reader { string_bytes reader.new.path ≡ string_bytes reader.old.path }
-    ensures cause { CountsFault result (by_storage reader.old.refused) (by_storage reader.new.refused) }
+    ensures cause { CountsFault result (by_storage reader.old.refused)
+        (by_storage reader.new.refused) }
 {
     reader.refused = reader.refused.saturating_add(1);
     FsFault::Io(kind)

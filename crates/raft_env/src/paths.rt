@@ -25,7 +25,8 @@ pub(crate) fn is_on_way(folder: &str, path: &str) -> bool
 
 /// The name of a path that stands in the folder itself.
 pub(crate) fn name_in<'a>(folder: &str, path: &'a str) -> Option<&'a str>
-    ensures value { MatchOption result (name_in folder.now path.now ≡ None) (λ name. name_in folder.now path.now ≡ Some name.now) }
+    ensures value { MatchOption result (name_in folder.now path.now ≡ None)
+        (λ name. name_in folder.now path.now ≡ Some name.now) }
 {
     let name = below(folder, path)?;
     if name.as_bytes().contains(&b'/') {
@@ -36,7 +37,8 @@ pub(crate) fn name_in<'a>(folder: &str, path: &'a str) -> Option<&'a str>
 
 // What follows a folder's path and a slash. All paths are below the root.
 fn below<'a>(folder: &str, path: &'a str) -> Option<&'a str>
-    ensures value { MatchOption result (path_below folder.now path.now ≡ None) (λ rest. path_below folder.now path.now ≡ Some rest.now) }
+    ensures value { MatchOption result (path_below folder.now path.now ≡ None)
+        (λ rest. path_below folder.now path.now ≡ Some rest.now) }
 {
     if folder.is_empty() {
         return Some(path);

@@ -23,7 +23,3 @@ pub mod NoneLemmas
 pub mod TruncationLemmas
 pub mod KeptLemmas
 pub mod ReusedLemmas
-pub mod ToldLemmas
-pub mod DoneLemmas
-pub mod PremiseLemmas
-pub mod PastLemmas

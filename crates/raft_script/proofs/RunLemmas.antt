@@ -16,7 +16,7 @@ use Rattle.raft_env.specs.Directory.{Directory, Path, file_at}
 use Rattle.raft_env.specs.Memory.{no_files}
 use Rattle.raft_pipes.proofs.SoundLemmas.{readable_none}
 use Rattle.raft_log_engine.specs.Contents.{contents_at, recovered}
-use Rattle.raft_script.specs.Run.{accepted_batches, accepted_of, AreAnswers, AreSteady, FailsAt, IsFailing, IsFailurePlace, RoseBy, batch_of_acts, io_count, is_refused_as_failed, is_refused_by_storage, IsAnswer, item_of_act, pending_batches, with_first, written_batches}
+use Rattle.raft_script.specs.Run.{accepted_batches, accepted_of, AreAnswers, AreSteady, FailsAt, IsFailing, IsFailurePlace, RoseBy, batch_of_acts, io_count, is_refused_by_storage, IsAnswer, item_of_act, pending_batches, with_first, written_batches}
 use Rattle.raft_script.specs.declared.operation.Act.{Act}
 use Rattle.raft_script.specs.declared.operation.Act.TheVariants as act
 use Rattle.raft_script.specs.declared.operation.Op.{Op}
@@ -165,18 +165,6 @@ still_by (Get group key) (Size answer) fails is = absurd is
 still_by (Get group key) (Done answer) fails is = absurd is
 still_by (Get group key) (Value answer) fails is = is.0.still refl
 
--- what is refused as `Failed` an engine refused that had failed
-pub told_by : (failed : Bool) (op : Op) (outcome : Outcome) (fails : Bool) → IsFailing failed op outcome fails → is_refused_as_failed outcome ≡ true → failed ≡ true
-told_by failed (Write acts sync) (Size answer) fails is told = is.told told
-told_by failed (Write acts sync) (Done answer) fails is told = absurd is
-told_by failed (Write acts sync) (Value answer) fails is told = absurd is
-told_by failed Sync (Size answer) fails is told = absurd is
-told_by failed Sync (Done answer) fails is told = is.0.told told
-told_by failed Sync (Value answer) fails is told = absurd is
-told_by failed (Get group key) (Size answer) fails is told = absurd is
-told_by failed (Get group key) (Done answer) fails is told = absurd is
-told_by failed (Get group key) (Value answer) fails is told = is.0.told told
-
 fails_at_here : (ops : List Op) (outcomes : List Outcome) (op : Op) (outcome : Outcome) → AreSteady false ops outcomes → IsFailing false op outcome true → FailsAt (length ops) (ops ++ op ∷ []) (outcomes ++ outcome ∷ [])
 fails_at_here [] [] op outcome are is = (is, tt)
 fails_at_here [] (o ∷ outcomes) op outcome are is = absurd are
@@ -243,4 +231,4 @@ rose_more outcomes outcome old mid new so_far rose counts =
   where
     by_case : (b : Bool) → (b ≡ true → Rose mid new) → RoseBy (io_count outcomes + (0 + cond b 1 0)) old new
     by_case true rose = let one = rose refl in omega (arith, so_far, one)
-    by_case false rose = omega (arith, so_far, counts)
+    by_case false rose = omega (arith, so_far, counts.0)

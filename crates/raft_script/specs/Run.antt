@@ -8,6 +8,7 @@ use Rattle.raft_records.specs.Item.{Item, Batch, Put, Delete}
 use Rattle.raft_records.specs.Validity.{batch_refusal}
 use Rattle.raft_records.specs.declared.errors.Fault.{Fault}
 use Rattle.raft_records.specs.declared.errors.Fault.TheVariants as fault
+use Rattle.raft_env.specs.Refusal.{Refusals}
 use Rattle.raft_log_engine.specs.Crash.{written_batch}
 use Rattle.raft_log_engine.specs.Engine.{record_len}
 use Rattle.raft_script.specs.declared.operation.Act.{Act}
@@ -155,12 +156,6 @@ IsStorageOrMemory _ = ⊥
 abbrev pub is_failure : {T : Type 0} → Result T Fault → Bool
 is_failure (Err fault.Failed) = true
 is_failure _ = false
-
--- .. of an operation
-abbrev pub is_refused_as_failed : Outcome → Bool
-is_refused_as_failed (Size answer) = is_failure answer
-is_refused_as_failed (Done answer) = is_failure answer
-is_refused_as_failed (Value answer) = is_failure answer
 
 -- an engine answers so and fails, or doesn't; an answer that isn't the engine's is one of the others
 pub record FailsBy {T : Type 0} (failed : Bool) (answer : Result T Fault) (fails : Bool) (Other : Fault → Type 0) : Type 0 where

@@ -23,8 +23,8 @@ pub(crate) struct RunReport {
 }
 
 /// Does the operations in order, each with its outcome. Where there is no memory for the list of outcomes, the engine
-/// is not asked. A crash at any moment leaves, where its damage can be told, a beginning of the accepted writes, perhaps
-/// with the batch of the operation in which it came, and all that a sync made sure of by then. HoldsAfter the operations the
+/// is not asked. A crash at any moment leaves, where its damage can be told, a prefix of the accepted writes, perhaps
+/// with the batch of the operation in which it came, and all that a sync made sure of by then. After the operations the
 /// accepted batches that are covered are durable, and no more, and the others stand unsynced. At least as many calls as
 /// answer `Io` were refused by storage. Where all operations are gets and writes of acts without a batch, the engine
 /// stays as it was.

@@ -1,5 +1,5 @@
-use Rattle.raft_files.proofs.LogLemmas.{log_appended, log_appending, log_synced}
-use Rattle.raft_files.proofs.KeptLemmas.{kept_left, log_kept, torn_log_kept, log_closing_kept, kept_syncing, kept_restarted}
+use Rattle.raft_files.proofs.LogLemmas.{log_appending}
+use Rattle.raft_files.proofs.KeptLemmas.{kept_left, log_kept, torn_log_kept, log_closing_kept, torn_log_closing_kept, kept_syncing, kept_restarted, kept_none, kept_more, kept_beside}
 use Rattle.raft_files.proofs.laws.crash_leaves_a_beginning.Goals as goal
 
 pub returns-clause-left : goal.returns-clause-left
@@ -15,18 +15,23 @@ pub returns-clause-appending : goal.returns-clause-appending
 returns-clause-appending c = λ path id format batches synced at old n room new_room given batch log is change.
     torn_log_kept path id format batches _ synced at n (log_appending path old n id format batches synced at log room new_room given batch is change)
 
-pub returns-clause-appended : goal.returns-clause-appended
-returns-clause-appended c = λ path id format batches synced at old new room new_room given batch log is change.
-    log_appended path old new id format batches synced at log room new_room given batch is change
-
-pub returns-clause-durable : goal.returns-clause-durable
-returns-clause-durable c = λ path id format batches synced at old new log change. log_synced path old new id format batches synced at log change
+pub returns-clause-syncing : goal.returns-clause-syncing
+returns-clause-syncing c = λ path id batches synced old n kept change. kept_syncing path id batches synced old n change kept
 
 pub returns-clause-closing : goal.returns-clause-closing
 returns-clause-closing c = λ path id format batches synced at old n log change. log_closing_kept path old n id format batches synced at log change
 
-pub returns-clause-syncing : goal.returns-clause-syncing
-returns-clause-syncing c = λ path id batches synced old n kept change. kept_syncing path id batches synced old n change kept
+pub returns-clause-torn_closing : goal.returns-clause-torn_closing
+returns-clause-torn_closing c = λ path id format batches in_flight synced at old n log change. torn_log_closing_kept path old n id format batches synced at in_flight log change
 
 pub returns-clause-restarted : goal.returns-clause-restarted
 returns-clause-restarted c = kept_restarted
+
+pub returns-clause-none : goal.returns-clause-none
+returns-clause-none c = kept_none
+
+pub returns-clause-more : goal.returns-clause-more
+returns-clause-more c = kept_more
+
+pub returns-clause-beside : goal.returns-clause-beside
+returns-clause-beside c = λ path id batches synced old n same kept. kept_beside path id batches synced old n same kept

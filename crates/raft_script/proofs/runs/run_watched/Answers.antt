@@ -12,7 +12,7 @@ use Rattle.raft_script.specs.declared.operation.Op.{Op}
 use Rattle.raft_log_engine.specs.Engine.{contents_of, directory_of, durable_of, folder_of, has_failed, moments_of, refusals_of, unsynced_of}
 use Rattle.raft_log_engine.proofs.EngineLemmas.{engine_holds, engine_leaves}
 use Rattle.raft_script.proofs.DurabilityLemmas.{IsUnderWay, durable_after, inside_more, leaves_after, progress_more, through_more, under_way_begun, under_way_more}
-use Rattle.raft_script.proofs.RunLemmas.{IsNextPlace, IsRunning, place_more, rose_more, running_begun, running_more, stands_so_far, taken_more, told_by}
+use Rattle.raft_script.proofs.RunLemmas.{IsNextPlace, IsRunning, place_more, rose_more, running_begun, running_more, stands_so_far, taken_more}
 use Rattle.raft_script.proofs.runs.run_watched.Goals as goal
 use Rattle.raft_script.proofs.runs.run_watched.Goals.{then-stood+then-failed, else-stood, else-stood-via-then-stood+else-failed, else-stood-via-else-stood}
 
@@ -50,9 +50,11 @@ loop-op-preserved g c =
     let here = slice_get_read c.args.ops.now (length c.args.ops.now) c.loop-op.op-index op refl c.loop-op-test.true c.op-item.is in
     let flight = step.does.flight in
     let way = under_way_more m p c.args.ops.now c.loop-op.op-index c.loop-op.failed_at c.if-stood.failed_at (durability_of old) kept.4 op outcome flight (durability_of new) next here step.does.may_be step.does.progress (engine_holds old) step.contents step.still in
-    let inside = inside_more m p c.args.ops.now c.loop-op.op-index c.loop-op.failed_at c.if-stood.failed_at (durability_of old) kept.4 op outcome flight (durability_of new) next (folder_of begun) (moments_of old) (moments_of new) (directory_of new) step.does.may_be (engine_holds old)
-    (λ alive. subst (λ f. Passes (moments_of old) (moments_of new) (directory_of new) (LeavesAllowed f (durable_of old) (unsynced_of old ++ flight))) kept.3 (step.does.moments alive)) step.does.rests (told_by (has_failed old) op outcome fails step.failing) in
-    let moments = through_more (folder_of begun) m first ops outcomes op outcome (moments_of begun) (moments_of old) (moments_of new) kept.5 inside in
+    let now = (g.met.F.FileSystem g.world.𝓛 g.world.𝓜 g.world.𝓡 ((λ s allowed. allowed), (λ patient. patient), (λ solo. solo), (λ cuts. cuts))).now_counts new.file_system in
+    let leaves = subst (λ f. LeavesAllowed f (durable_of new) (unsynced_of new) (directory_of new)) (step.folder ∙ kept.3) (engine_leaves new) in
+    let inside = inside_more m p c.args.ops.now c.loop-op.op-index c.loop-op.failed_at c.if-stood.failed_at (durability_of old) kept.4 op outcome flight (durability_of new) next (folder_of begun) (moments_of old) (moments_of new) now.0 (directory_of new) step.does.may_be (engine_holds old) step.failing
+    (λ alive. subst (λ f. Passes (moments_of old) (moments_of new) (directory_of new) (LeavesAllowed f (durable_of old) (unsynced_of old ++ flight))) kept.3 (step.does.moments alive)) step.does.rests way now.1 leaves in
+    let moments = through_more (folder_of begun) m op outcome (has_failed old) fails (moments_of old) (moments_of new) first (has_failed begun) ops outcomes (moments_of begun) kept.5 inside in
     let way_more = subst (λ (q : Progress). IsUnderWay m q c.args.ops.now c.if-stood.failed_at (durability_of new)) (sym (progress_more first ops outcomes op outcome kept.0.len)) way in
     let place = place_more ops outcomes op outcome (has_failed begun) (has_failed old) fails c.loop-op.failed_at c.if-stood.failed_at kept.6 kept.7 step.failing
     (subst (λ (k : ℕ). IsNextPlace (has_failed old) fails k c.loop-op.failed_at c.if-stood.failed_at) (sym done) next) in (
@@ -77,7 +79,7 @@ loop-op-init g c =
       omega (arith, c.in_ok-outcomes.ensures.capacity),
       refl,
       under_way_begun c.args.ops.now (durability_of e),
-      refl,
+      (refl, refl),
       stands_so_far (has_failed e),
       tt,
       omega arith,
@@ -110,7 +112,7 @@ returns-clause-any_moment g c =
     let old = c.args.engine.now in
     let ops = c.args.ops.now in
     let whole : take c.loop-op.op-index ops ≡ ops = take_all c.loop-op.op-index ops (omega (arith, c.loop-op-test.false)) in
-    subst (λ (l : List Op). PassesThrough (folder_of old) (durable_of old) (progress_from (unsynced_of old)) l c.loop-op.outcomes.items (moments_of old) (moments_of c.loop-op.engine)) whole c.loop-op.invariant.5
+    subst (λ (l : List Op). PassesThrough (folder_of old) (durable_of old) (progress_from (unsynced_of old)) (has_failed old) (has_failed c.loop-op.engine) l c.loop-op.outcomes.items (moments_of old) (moments_of c.loop-op.engine)) whole c.loop-op.invariant.5
 
 pub returns-in_err-outcomes-clause-left : goal.returns-in_err-outcomes-clause-left
 returns-in_err-outcomes-clause-left g c = engine_leaves c.args.engine.now

@@ -1,14 +1,15 @@
-use Rattle.std.proofs.Common.{◌≡◌, inr, ◌∷◌, map, ap, rules}
+use Rattle.std.proofs.Common.{◌≡◌, ◌∷◌, map, ap, rules}
 use Rattle.raft_env.specs.Directory.{folder_made}
 use Rattle.raft_env.specs.Files.{tree_directory}
-use Rattle.raft_env.proofs.MomentsLemmas.{passes_one}
+use Rattle.raft_env.proofs.DirectoryLemmas.{making_done, making_none}
+use Rattle.raft_env.proofs.MomentsLemmas.{passes_none, passes_one}
 use Rattle.raft_env.proofs.InvariantLemmas.{invariant-folder_made, invariant-same}
 use Rattle.raft_env.proofs.memory.MemoryFileSystemFileSystem.make_dir.Goals as goal
 
 pub returns-clause-any_moment : goal.returns-clause-any_moment
 returns-clause-any_moment c =
     let is : tree_directory c.make_folder.new.self ≡ folder_made c.args.path.now (tree_directory c.args.self.now.tree) = search rules in
-    passes_one _ _ _ _ (ap (λ l. tree_directory c.make_folder.new.self ∷ map tree_directory l) c.with-past.ensures) (inr is)
+    passes_one _ _ _ _ (ap (λ l. tree_directory c.make_folder.new.self ∷ map tree_directory l) c.with-past.ensures) (making_done c.args.path.now (tree_directory c.args.self.now.tree) (tree_directory c.make_folder.new.self) is)
 
 pub invariant_of-self-in-Err : goal.invariant_of-self-in-Err
 invariant_of-self-in-Err c = invariant-same c.args.self.now _ c.in-Err.ensures.err
@@ -17,3 +18,8 @@ pub invariant_of-self-2 : goal.invariant_of-self-2
 invariant_of-self-2 c =
     let is : tree_directory c.make_folder.new.self ≡ folder_made c.args.path.now (tree_directory c.args.self.now.tree) = search rules in
     invariant-folder_made c.args.self.now _ c.args.path.now is
+
+pub returns-in-Err-clause-any_moment : goal.returns-in-Err-clause-any_moment
+returns-in-Err-clause-any_moment c =
+    let same : tree_directory c.make_folder.new.self ≡ tree_directory c.args.self.now.tree = c.in-Err.ensures.err in
+    passes_none _ _ _ _ (ap (λ n. n ∷ map tree_directory c.args.self.now.past.items) same) (making_none c.args.path.now _ _ same)

@@ -11,7 +11,7 @@ use Rattle.raft_files.specs.Reading.{Placed, record_place, record_at, placed_bef
 use Rattle.raft_files.specs.Detectable.{IsBeginningOf, format_of, signature_by, AreDone, IsFreshAfter, IsMarkedAt, IsDetectableFile}
 use Rattle.raft_files.specs.Records.{ReadsFirst, IsEmptyFrom, HoldsRecords, IsWrittenTo}
 use Rattle.raft_env.specs.Consistent.{IsConsistent}
-use Rattle.raft_files.specs.Told.{HasSimplePast, EndsInZeros, HoldsDone, IsBrokenFrom, IsTornBehind}
+use Rattle.raft_premise.specs.Told.{HasSimplePast, EndsInZeros, HoldsDone, IsBrokenFrom, IsTornBehind}
 use Rattle.raft_files.proofs.DetectableLemmas.{beginning_itself, beginning_trans, beginning_append}
 use Rattle.raft_files.proofs.ExtentLemmas.{record_header_is, same_some, some_then}
 use Rattle.raft_files.proofs.ReadingLemmas.{found_record, records_stay, reading_is}

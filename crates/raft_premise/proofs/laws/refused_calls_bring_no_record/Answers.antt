@@ -1,5 +1,5 @@
-use Rattle.raft_files.proofs.DoneLemmas.{log_of_done, done_log_made, done_log_found, done_restarted, done_cut, done_log_appended, done_log_appending, done_records_cutting, done_log_undone, done_log_synced, done_log_closed}
-use Rattle.raft_files.proofs.laws.refused_calls_bring_no_record.Goals as goal
+use Rattle.raft_premise.proofs.DoneLemmas.{log_of_done, done_log_made, done_log_found, done_restarted, done_cut, done_log_appended, done_log_appending, done_records_cutting, done_log_undone, done_log_synced, done_log_closed}
+use Rattle.raft_premise.proofs.laws.refused_calls_bring_no_record.Goals as goal
 
 pub returns-clause-log : goal.returns-clause-log
 returns-clause-log c = log_of_done

@@ -10,13 +10,13 @@ use Rattle.raft_env.specs.Choice.{torn, touched_before, chosen, chosen_at, choic
 use Rattle.raft_env.specs.Consistent.{IsConsistent, AreConsistent, AreWhole}
 use Rattle.raft_files.specs.Detectable.{IsDetectableFile, IsDetectable}
 use Rattle.raft_files.specs.Records.{HoldsRecords}
-use Rattle.raft_files.specs.Told.{HasDoneRecords, HasDoneLog, IsBrokenFrom, IsTornBehind}
+use Rattle.raft_premise.specs.Told.{HasDoneRecords, HasDoneLog, IsBrokenFrom, IsTornBehind}
 use Rattle.raft_env.specs.declared.crash.Choice.{Choice}
 use Rattle.raft_env.specs.declared.crash.Choice.TheVariants as choice
 use Rattle.raft_files.proofs.ExtentLemmas.{same_some}
 use Rattle.raft_env.proofs.ConsistentLemmas.{whole_choice}
 use Rattle.raft_env.proofs.TornLemmas.{choice_may_leave, length-torn, take-torn}
-use Rattle.raft_files.proofs.ToldLemmas.{torn_is_detectable, now_is_torn, synced_is_torn}
+use Rattle.raft_premise.proofs.ToldLemmas.{torn_is_detectable, now_is_torn, synced_is_torn}
 
 -- Records that no refused call brought.
 

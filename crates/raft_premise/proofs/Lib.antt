@@ -1,0 +1,4 @@
+pub mod ToldLemmas
+pub mod DoneLemmas
+pub mod PremiseLemmas
+pub mod PastLemmas
