@@ -214,9 +214,6 @@ module _ (path : Path) (old new : Directory) (id : FileId) (format : LogFileForm
       let mid = placed path change.how.0 old in
       then_synced batches change (log_kept path id format batches synced at mid (log_cutting path old mid id format batches synced at log (halfway change)))
 
-  pub torn_log_syncing_kept : (in_flight : List Batch) → HasTornLog path id format batches in_flight synced at old → HasChanged path IsSyncing old new → IsKept path id (batches ++ in_flight) synced new
-  torn_log_syncing_kept in_flight log change = kept_syncing path id (batches ++ in_flight) synced old new change (torn_log_kept path id format batches in_flight synced at old log)
-
   pub torn_log_closing_kept : (in_flight : List Batch) → HasTornLog path id format batches in_flight synced at old → HasChanged path (IsClosing at) old new → IsKept path id (batches ++ in_flight) synced new
   torn_log_closing_kept in_flight log change =
       let mid = placed path change.how.0 old in

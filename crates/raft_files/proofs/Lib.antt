@@ -21,5 +21,6 @@ pub mod FreshLemmas
 pub mod LogLemmas
 pub mod NoneLemmas
 pub mod TruncationLemmas
+pub mod SealedLemmas
 pub mod KeptLemmas
 pub mod ReusedLemmas

@@ -1,37 +1,12 @@
 -- A log file at a moment of a call.
-use Rattle.std.proofs.Common.{◌≡◌, ◌⊎◌, ℕ, ◌-◌, ◌≤◌, Bool, true, false, List, [], ◌∷◌, ◌++◌, length, take, Some, refl, sym, subst, inl, inr, arith}
-use Rattle.raft_records.specs.Item.{Batch}
-use Rattle.raft_records.specs.Record.{record_of}
+use Rattle.std.proofs.Common.{◌≡◌, ◌⊎◌, ℕ, ◌-◌, ◌≤◌, Bool, true, false, List, length, take, refl, sym, subst, inl, inr, arith}
 use Rattle.raft_records.specs.declared.pipe_log.FileId.{FileId}
 use Rattle.raft_files.specs.declared.format.LogFileFormat.{LogFileFormat}
-use Rattle.raft_env.specs.Outcomes.{File, written, resized, lengthened_to, cut_to, padded, overlaid, Outcome, IsPartOf, IsCutOf}
+use Rattle.raft_env.specs.Outcomes.{File, resized, lengthened_to, cut_to, padded, Outcome, IsPartOf, IsCutOf}
 use Rattle.raft_files.specs.Reading.{Placed}
-use Rattle.raft_files.specs.Detectable.{signature_by}
-use Rattle.raft_files.specs.Records.{KeepsRecords, IsWrittenTo, IsTornFrom}
+use Rattle.raft_files.specs.Records.{IsWrittenTo, IsTornFrom}
 use Rattle.raft_env.proofs.ChangeLemmas.{cut_change}
-use Rattle.raft_files.proofs.DetectableLemmas.{beginning_append}
-use Rattle.raft_files.proofs.RecordsLemmas.{keeps_weaker}
 use Rattle.raft_files.proofs.LengthLemmas.{written_to_allocated, written_to_allocation_refused, written_to_cut, torn_cut, IsCutRefused, written_to_cut_refused, torn_cut_refused}
-use Rattle.raft_files.proofs.WriteLemmas.{record_given, written_to_refused, written_to_written}
-
--- a file at a moment of a write: as it was, written, or written in part
-pub moment_of_write : (id : FileId) (format : LogFileFormat) (records : List Placed) (synced at : ℕ) (old new : File) (given : List ℕ) (batch : Batch) → IsWrittenTo id format records synced at old → record_of (signature_by id format) given ≡ Some (batch, length given) →
-    (new ≡ old) ⊎ ((after : List ℕ) × (is_done : Bool) × Outcome is_done (overlaid old.now at given) (IsPartOf at (length given) old.now) after × (new ≡ written at given is_done after old)) →
-    KeepsRecords id format (records ++ record_given at given batch ∷ []) synced new
-moment_of_write id format records synced at old new given batch written_to is how = elim how [
-  | inl same ↦ subst (λ f. KeepsRecords id format all synced f) (sym same) (keeps_weaker id format records all synced synced old written_to.keeps (beginning_append records one) (omega arith))
-  | inr step ↦ subst (λ f. KeepsRecords id format all synced f) (sym step.3) (by_outcome step.1 step.0 step.2)
-]
-  where
-    one : List Placed
-    one = record_given at given batch ∷ []
-
-    all : List Placed
-    all = records ++ one
-
-    by_outcome : (is_done : Bool) (after : List ℕ) → Outcome is_done (overlaid old.now at given) (IsPartOf at (length given) old.now) after → KeepsRecords id format all synced (written at given is_done after old)
-    by_outcome true after done = subst (λ bytes. KeepsRecords id format all synced (written at given true bytes old)) (sym done) ((written_to_written id format records synced at old given batch written_to is).keeps)
-    by_outcome false after part = (written_to_refused id format records synced at old given batch after written_to is part).keeps
 
 -- a file at a moment of an allocation
 pub moment_of_allocation : (id : FileId) (format : LogFileFormat) (records : List Placed) (synced at size : ℕ) (old new : File) → IsWrittenTo id format records synced at old →

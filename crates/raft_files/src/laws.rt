@@ -11,7 +11,8 @@ ghost use Rattle.raft_env.specs.Directory.{Directory, IsOneOf, IsRestarted, IsTr
 ghost use Rattle.raft_files.specs.Header.{HasHeader, header_bytes, header_len, header_of};
 ghost use Rattle.raft_files.specs.Reading.{Reading, end_of_reading, is_read_to_end, readable_batches, readable_records, reading};
 ghost use Rattle.raft_files.specs.Replay.{has_sound_block_at, replayed_records};
-ghost use Rattle.raft_files.specs.Records.{FirstOf, HasLog, HasTornLog, IsKept, left_batches};
+ghost use Rattle.raft_files.specs.Records.{FirstOf, HasLog, HasTornLog, IsKept, left_batches, left_bytes};
+ghost use Rattle.raft_files.specs.Sealed.{IsSealed};
 ghost use Rattle.raft_files.specs.Writer.{HasChanged, IsAppended, IsAppending, IsClosed, IsClosing, IsOpening, IsSynced, IsSyncing, bytes_at};
 ghost use Rattle.raft_files.specs.declared.format.LogFileFormat.{LogFileFormat};
 
@@ -89,7 +90,7 @@ pub fn crash_leaves_a_beginning()
 /// What a writer's calls make of a log file. A header that is synced is a log without batches
 /// (`begun`), an append adds its batch, and after a sync all batches are synced. A refused append
 /// may have left its record behind the log (`torn`); the log that is then closed doesn't hold it
-/// (`torn_closed`).
+/// (`torn_closed`). A change of other files leaves the log as it is (`beside`).
 pub fn a_writer_keeps_its_log()
     ensures begun { (path : Path) (id : FileId) (format : LogFileFormat) (old new : Directory)
         → HasHeader format → format.alignment < 2 ^ 64 → bytes_at path old ≡ header_bytes format
@@ -119,6 +120,31 @@ pub fn a_writer_keeps_its_log()
         → HasTornLog path id format batches in_flight synced at old
         → HasChanged path (IsClosed at) old new
         → HasLog path id format batches (length batches) at new }
+    ensures beside { (path : Path) (id : FileId) (format : LogFileFormat) (batches : List Batch)
+        (synced at : ℕ) (old n : Directory) → file_at n path ≡ file_at old path
+        → HasLog path id format batches synced at old → HasLog path id format batches synced at n }
+{}
+
+/// A log file that is closed is sealed (`sealed`): a crash leaves all of it, with no premise on
+/// damage (`left`), and it stays sealed after a crash (`restarted`), while other files change
+/// (`beside`), and at each moment of a further closing (`closing`).
+pub fn a_sealed_file_stays()
+    ensures left { (path : Path) (id : FileId) (batches : List Batch) (n : Directory)
+        → IsSealed path id batches n → (d : Left) → Leaves n d
+        → (left_batches path id n d ≡ batches) × (is_read_to_end id (left_bytes path n d) ≡ true) }
+    ensures sealed { (path : Path) (id : FileId) (format : LogFileFormat) (batches : List Batch)
+        (synced at : ℕ) (old new : Directory) → HasLog path id format batches synced at old
+        → HasChanged path (IsClosed at) old new → IsSealed path id batches new }
+    ensures restarted { (path : Path) (id : FileId) (batches : List Batch) (n m : Directory)
+        (d : Left) → IsSealed path id batches n → Leaves n d → IsRestarted n d m
+        → IsSealed path id batches m }
+    ensures beside { (path : Path) (id : FileId) (batches : List Batch) (old n : Directory)
+        → file_at n path ≡ file_at old path → IsSealed path id batches old
+        → IsSealed path id batches n }
+    ensures closing { (path : Path) (id : FileId) (batches : List Batch) (at : ℕ)
+        (old n : Directory) → IsSealed path id batches old → at ≡ length (bytes_at path old)
+        → HasChanged path (IsClosing at) old n
+        → IsSealed path id batches n × (bytes_at path n ≡ bytes_at path old) }
 {}
 
 /// An opening loses nothing of a log file: while the file is made, while it is cut where its

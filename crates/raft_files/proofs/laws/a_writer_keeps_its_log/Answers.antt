@@ -1,4 +1,4 @@
-use Rattle.raft_files.proofs.LogLemmas.{log_begun, log_appended, log_appending, log_synced, log_closed, torn_log_closed}
+use Rattle.raft_files.proofs.LogLemmas.{log_begun, log_appended, log_appending, log_synced, log_closed, torn_log_closed, log_beside}
 use Rattle.raft_files.proofs.laws.a_writer_keeps_its_log.Goals as goal
 
 pub returns-clause-begun : goal.returns-clause-begun
@@ -20,3 +20,6 @@ returns-clause-torn c = λ path id format batches synced at old n room new_room 
 
 pub returns-clause-torn_closed : goal.returns-clause-torn_closed
 returns-clause-torn_closed c = λ path id format batches in_flight synced at old new log change. torn_log_closed path old new id format batches in_flight synced at log change
+
+pub returns-clause-beside : goal.returns-clause-beside
+returns-clause-beside c = log_beside
