@@ -177,8 +177,8 @@ impl MemoryFileSystem {
     }
 
     /// Of the calls from now on that may change files the nth, counted from 1, and each later one
-    /// are refused as `Other`. These are to create, delete, rename, delete metadata, write, truncate,
-    /// allocate, sync and make a folder.
+    /// are refused as `Other`. These are to create, delete, rename, delete metadata, write,
+    /// truncate, allocate, sync and make a folder.
     pub fn stop_at(&mut self, nth: u64)
         ensures ok { stop_of self.new ≡ Some nth }
         ensures others { armed_of self.new ≡ armed_of self.old }

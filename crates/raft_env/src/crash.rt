@@ -24,8 +24,8 @@ pub enum Choice {
     All,
     /// The bytes of the last sync.
     Synced,
-    /// The bytes now, but of the places that were touched since the last sync only so many, the first ones, hold them;
-    /// the others hold the byte.
+    /// The bytes now, but of the places that were touched since the last sync only so many, the
+    /// first ones, hold them; the others hold the byte.
     Torn(usize, u8),
     /// These bytes.
     Bytes(Vec<u8>),
@@ -36,11 +36,12 @@ impl MemoryFileSystem {
     ghost use Rattle.raft_env.specs.Memory.{memory_directory, memory_moments, memory_refusals, armed_of, stop_of};
     ghost use Rattle.raft_env.specs.Refusal.{no_refusals};
 
-    /// The files after a crash now. The choices go to the files in the order of their paths' bytes, and a file that is
-    /// left over keeps what was synced. Folders stay. The files are consistent, none was renamed, and of their
-    /// changes only writes were refused. So by `raft_premise::laws::damage_can_be_told` the damage of `All` and `Synced` can
-    /// be told of a log that `raft_premise::laws::refused_calls_bring_no_record` keeps, and that of `Torn` where the torn
-    /// record doesn't decode.
+    /// The files after a crash now. The choices go to the files in the order of their paths' bytes,
+    /// and a file that is left over keeps what was synced. Folders stay. The files are consistent,
+    /// none was renamed, and of their changes only writes were refused. So by
+    /// `raft_premise::laws::damage_can_be_told` the damage of `All` and `Synced` can be told of a log
+    /// that `raft_premise::laws::refused_calls_bring_no_record` keeps, and that of `Torn` where the
+    /// torn record doesn't decode.
     pub fn crash(&self, choices: &[Choice]) -> Result<MemoryFileSystem, Fault>
         ensures ok { IfOk result (λ m. IsRestarted (memory_directory self.now)
             (left_by choices.now (memory_directory self.now)) (memory_directory m)) }

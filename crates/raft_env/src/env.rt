@@ -1,4 +1,5 @@
-//! What the engine assumes of storage: files by their paths, and what a crash at each moment may leave of them.
+//! What the engine assumes of storage: files by their paths, and what a crash at each moment may
+//! leave of them.
 ghost use Rattle.std.specs.Prelude.{◌≡◌, ◌⊎◌, ◌↔◌, ◌<◌, ◌+◌, ◌^◌, [], ◌∷◌, List, ℕ, Bool, true, false, length, take, map, IfOk, OnOk, OnErr, Some, is_some};
 ghost use Rattle.std.specs.String.{string_bytes};
 ghost use Rattle.raft_env.specs.Outcomes.{File, written, resized, synced_of, overlaid, padded};

@@ -1,4 +1,5 @@
-//! Earlier values that only clauses read. It takes no memory, and its methods do nothing at run time.
+//! Earlier values that only clauses read. They take no memory, and the methods do nothing at run
+//! time.
 ghost use Rattle.std.specs.Prelude.{◌≡◌, List, [], ◌∷◌};
 ghost use Rattle.std.specs.Borrow.{ftrue};
 

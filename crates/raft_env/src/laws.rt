@@ -4,8 +4,9 @@ ghost use Rattle.raft_env.specs.Consistent.{AreConsistent};
 ghost use Rattle.raft_env.specs.Directory.{Directory, IsOneOf, IsAllocating, IsMakingFolder, IsRestarted, IsTruncating, IsWriting, Left, Path, changed, created};
 ghost use Rattle.raft_env.specs.Outcomes.{synced_of};
 
-/// Each call keeps files consistent: outside the ranges of its changes a file holds the bytes of its last sync, and
-/// each change began with what the one before it left. What a crash left is consistent.
+/// Each call keeps files consistent: outside the ranges of its changes a file holds the bytes of its
+/// last sync, and each change began with what the one before it left. What a crash left is
+/// consistent.
 pub fn calls_keep_files_consistent()
     ensures writing { (path : Path) (at : ℕ) (given : List ℕ) (old n : Directory)
         → AreConsistent old → IsWriting path at given old n → AreConsistent n }

@@ -1,4 +1,4 @@
-//! What the engine assumes of storage: files, what a crash may leave of them, and a file system in memory.
+//! What the engine assumes of storage: files, what a crash may leave of them, and files in memory.
 #![tactic(auto)]
 
 pub mod armed;

@@ -19,7 +19,8 @@ use std::alloc::Global;
 
 const MAX_LEN: usize = 1 << 62;
 
-/// Files by their paths, in memory. It shows its files as `memory_directory` and its moments as `memory_moments`.
+/// Files by their paths, in memory. It shows its files as `memory_directory` and its moments as
+/// `memory_moments`.
 #[derive(Drop)]
 pub struct MemoryFileSystem {
     pub(crate) alloc: Global,

@@ -1,5 +1,6 @@
 pub mod BatchLemmas
 pub mod AllowedLemmas
 pub mod EngineLemmas
+pub mod DurabilityLemmas
 pub mod ImageLemmas
 pub mod ReopenLemmas

@@ -3,3 +3,4 @@ pub mod Crash
 pub mod Cause
 pub mod Engine
 pub mod Image
+pub mod Durability

@@ -1,15 +1,19 @@
 //! What a crash leaves of an engine, whatever calls came before.
-ghost use Rattle.std.specs.Prelude.{◌≡◌, List, []};
-ghost use Rattle.raft_records.specs.Contents.{Contents, no_contents};
+ghost use Rattle.std.specs.Prelude.{◌≡◌, List, [], false};
+ghost use Rattle.raft_records.specs.Contents.{Contents, after_batches, no_contents};
 ghost use Rattle.raft_records.specs.Item.{Batch};
 ghost use Rattle.raft_env.specs.Directory.{Directory, HasFile, IsRestarted, Left, Path};
 ghost use Rattle.raft_log_engine.specs.Crash.{IsAllowedFrom, IsSound, KeepsContents, LeavesAllowed, found_after};
 ghost use Rattle.raft_files.specs.Records.{as_it_is};
 ghost use Rattle.raft_log_engine.specs.Contents.{contents_at};
+ghost use Rattle.raft_log_engine.specs.Engine.{contents_of, directory_of, durable_of, folder_of, has_failed, unsynced_of};
 ghost use Rattle.raft_pipes.specs.Folder.{HasNoLog, IsDetectableIn};
 ghost use Rattle.raft_pipes.specs.Queue.{IsOpenableIn};
 ghost use Rattle.raft_pipes.specs.declared.config.RecoveryMode.{RecoveryMode};
 ghost use Rattle.raft_pipes.specs.declared.config.RecoveryMode.TheVariants.{AbsoluteConsistency};
+
+use crate::Engine;
+use raft_env::FileSystem;
 
 /// A folder that keeps contents through a crash leaves them then, perhaps with a beginning of the batches behind
 /// them, where damage can be told. A restart after a crash finds what the crash left. Where that is sound, it
@@ -17,14 +21,32 @@ ghost use Rattle.raft_pipes.specs.declared.config.RecoveryMode.TheVariants.{Abso
 /// Files that no crash met, as an engine gave them up, stand for what a crash could leave, and their log can be opened,
 /// where their damage can be told: what a refused write left of its record may be any bytes.
 pub fn crash_leaves_contents()
-    ensures left { (folder : Path) (m : Contents) (batches : List Batch) (n : Directory) → KeepsContents folder m batches n → LeavesAllowed folder m batches n }
-    ensures restarted { (folder : Path) (n m : Directory) (d : Left) → IsRestarted n d m → IsSound folder n d → KeepsContents folder (found_after folder n d) [] m }
-    ensures found { (folder : Path) (n m : Directory) (d : Left) → IsRestarted n d m → contents_at folder m ≡ found_after folder n d }
-    ensures opens { (folder : Path) (n m : Directory) (d : Left) → IsRestarted n d m → IsSound folder n d → (mode : RecoveryMode) → (mode ≡ AbsoluteConsistency → ⊥) → IsOpenableIn mode folder m }
-    ensures as_they_are { (folder : Path) (m : Contents) (batches : List Batch) (n : Directory) → KeepsContents folder m batches n → IsDetectableIn folder n (as_it_is n)
-        → IsAllowedFrom 0 m batches (contents_at folder n) × ((mode : RecoveryMode) → (mode ≡ AbsoluteConsistency → ⊥) → IsOpenableIn mode folder n) }
-    ensures none { (folder : Path) (n : Directory) → HasNoLog folder n → (HasFile n folder → ⊥) → KeepsContents folder no_contents [] n }
+    ensures left { (folder : Path) (m : Contents) (batches : List Batch) (n : Directory)
+        → KeepsContents folder m batches n → LeavesAllowed folder m batches n }
+    ensures restarted { (folder : Path) (n m : Directory) (d : Left) → IsRestarted n d m
+        → IsSound folder n d → KeepsContents folder (found_after folder n d) [] m }
+    ensures found { (folder : Path) (n m : Directory) (d : Left) → IsRestarted n d m
+        → contents_at folder m ≡ found_after folder n d }
+    ensures opens { (folder : Path) (n m : Directory) (d : Left) → IsRestarted n d m
+        → IsSound folder n d → (mode : RecoveryMode) → (mode ≡ AbsoluteConsistency → ⊥)
+        → IsOpenableIn mode folder m }
+    ensures as_they_are { (folder : Path) (m : Contents) (batches : List Batch) (n : Directory)
+        → KeepsContents folder m batches n → IsDetectableIn folder n (as_it_is n)
+        → IsAllowedFrom 0 m batches (contents_at folder n)
+        × ((mode : RecoveryMode) → (mode ≡ AbsoluteConsistency → ⊥) → IsOpenableIn mode folder n) }
+    ensures none { (folder : Path) (n : Directory) → HasNoLog folder n → (HasFile n folder → ⊥)
+        → KeepsContents folder no_contents [] n }
     ensures folder { (folder : Path) (m : Contents) (batches : List Batch) (n : Directory)
         → KeepsContents folder m batches n → HasFile n folder → ⊥ }
-    ensures no_file { (folder : Path) (n m : Directory) (d : Left) → IsRestarted n d m → IsSound folder n d → HasFile m folder → ⊥ }
+    ensures no_file { (folder : Path) (n m : Directory) (d : Left) → IsRestarted n d m
+        → IsSound folder n d → HasFile m folder → ⊥ }
+{}
+
+/// What an engine keeps a crash leaves now: what is durable, and a prefix of what is unsynced. Both make up what an
+/// engine holds that hasn't failed.
+pub fn an_engine_recovers_what_it_keeps<F: FileSystem>(engine: &Engine<F>)
+    ensures crash { LeavesAllowed (folder_of engine.now) (durable_of engine.now)
+        (unsynced_of engine.now) (directory_of engine.now) }
+    ensures contents { has_failed engine.now ≡ false
+        → contents_of engine.now ≡ after_batches (durable_of engine.now) (unsynced_of engine.now) }
 {}

@@ -7,3 +7,4 @@ pub mod ReplayLemmas
 pub mod OpenLemmas
 pub mod SoundLemmas
 pub mod QueueLemmas
+pub mod DoubtLemmas

@@ -50,7 +50,8 @@ pub(crate) fn parse_line(text: &[u8]) -> Option<Line<'_>>
 }
 
 fn parse_asked<'a>(verb: &[u8], rest: &'a [u8]) -> Option<Line<'a>>
-    ensures value { option_map asked_of result ≡ option_and_then (λ words. asked_by (verb.now ∷ words)) (words_in rest.now) }
+    ensures value { option_map asked_of result
+        ≡ option_and_then (λ words. asked_by (verb.now ∷ words)) (words_in rest.now) }
 {
     if verb == b"put".as_slice() {
         parse_put(rest)
@@ -133,7 +134,8 @@ fn parse_delete(rest: &[u8]) -> Option<Line<'_>>
 // The first word, and what follows the space behind it: a word is of printable characters, and one space stands
 // between two words. Behind the last word nothing follows.
 fn split_word(text: &[u8]) -> Option<(&[u8], &[u8])>
-    ensures value { MatchOption result (HasNoWord text.now) (λ found. BeginsWith text.now found.0.now found.1.now) }
+    ensures value { MatchOption result (HasNoWord text.now)
+        (λ found. BeginsWith text.now found.0.now found.1.now) }
 {
     let (word, rest) = text.split_at(word_len(text));
     if !is_word(word) {
@@ -171,8 +173,10 @@ fn is_word(text: &[u8]) -> bool
 }
 
 fn parse_number(text: &[u8]) -> Option<(u64, &[u8])>
-    ensures value { MatchOption result ((word : List ℕ) (words : List (List ℕ)) → words_in text.now ≡ Some (word ∷ words) → number_in word ≡ None)
-        (λ found. (word : List ℕ) × (number_in word ≡ Some found.0) × BeginsWith text.now word found.1.now) }
+    ensures value { MatchOption result ((word : List ℕ) (words : List (List ℕ)) → words_in text.now
+        ≡ Some (word ∷ words) → number_in word ≡ None)
+        (λ found. (word : List ℕ) × (number_in word ≡ Some found.0)
+        × BeginsWith text.now word found.1.now) }
 {
     let (word, rest) = split_word(text)?;
     Some((number_of(word)?, rest))

@@ -7,7 +7,8 @@ use raft_env::{FsCall, IoKind, MemoryFileSystem};
 use raft_records::Fault;
 
 impl Engine<MemoryFileSystem> {
-    ghost use Rattle.raft_log_engine.specs.Engine.{armed_in, contents_of, directory_of, durable_of, folder_of, has_failed, moments_of, refusals_of, stop_in, unsynced_of};
+    ghost use Rattle.raft_log_engine.specs.Durability.{SameButArmed};
+    ghost use Rattle.raft_log_engine.specs.Engine.{armed_in, stop_in};
 
     /// Arms one more refusal: of the calls of that sort from now on, the nth, counted from 1, is refused so.
     pub fn refuse(&mut self, call: FsCall, nth: u64, kind: IoKind) -> Result<(), Fault>
@@ -16,14 +17,7 @@ impl Engine<MemoryFileSystem> {
         ensures refused { IfErr result (RefusesUnless (0 < nth)) }
         ensures err { OnErr result (armed_in self.new ≡ armed_in self.old) }
         ensures others { stop_in self.new ≡ stop_in self.old }
-        ensures files { directory_of self.new ≡ directory_of self.old }
-        ensures any_moment { moments_of self.new ≡ moments_of self.old }
-        ensures cause { refusals_of self.new ≡ refusals_of self.old }
-        ensures contents { contents_of self.new ≡ contents_of self.old }
-        ensures alive { has_failed self.new ≡ has_failed self.old }
-        ensures folder { folder_of self.new ≡ folder_of self.old }
-        ensures durable { durable_of self.new ≡ durable_of self.old }
-        ensures unsynced { unsynced_of self.new ≡ unsynced_of self.old }
+        ensures unchanged { SameButArmed self.old self.new }
     {
         self.file_system.refuse(call, nth, kind)
     }
@@ -33,14 +27,7 @@ impl Engine<MemoryFileSystem> {
     pub fn stop_at(&mut self, nth: u64)
         ensures ok { stop_in self.new ≡ Some nth }
         ensures others { armed_in self.new ≡ armed_in self.old }
-        ensures files { directory_of self.new ≡ directory_of self.old }
-        ensures any_moment { moments_of self.new ≡ moments_of self.old }
-        ensures cause { refusals_of self.new ≡ refusals_of self.old }
-        ensures contents { contents_of self.new ≡ contents_of self.old }
-        ensures alive { has_failed self.new ≡ has_failed self.old }
-        ensures folder { folder_of self.new ≡ folder_of self.old }
-        ensures durable { durable_of self.new ≡ durable_of self.old }
-        ensures unsynced { unsynced_of self.new ≡ unsynced_of self.old }
+        ensures unchanged { SameButArmed self.old self.new }
     {
         self.file_system.stop_at(nth);
     }

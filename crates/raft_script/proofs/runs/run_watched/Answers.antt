@@ -5,7 +5,8 @@ use Rattle.std.proofs.lemmas.List.Elements.{All-get_or}
 use Rattle.std.proofs.lemmas.Option.{slice_get_read}
 use Rattle.raft_env.specs.Moments.{Passes}
 use Rattle.raft_log_engine.specs.Crash.{LeavesAllowed}
-use Rattle.raft_script.specs.Durability.{Progress, PassesThrough, durability_of, progress_after_all, progress_from}
+use Rattle.raft_script.specs.Durability.{Progress, PassesThrough, progress_after_all, progress_from}
+use Rattle.raft_log_engine.specs.Durability.{durability_of}
 use Rattle.raft_script.specs.Run.{IsFailurePlace, IsUnasked}
 use Rattle.raft_script.specs.declared.operation.Op.{Op}
 use Rattle.raft_log_engine.specs.Engine.{contents_of, directory_of, durable_of, folder_of, has_failed, moments_of, refusals_of, unsynced_of}

@@ -1,5 +1,6 @@
 use Rattle.std.proofs.Common.{All, ◌≡◌, ◌||◌, ◌≤◌, is_some, length, take, vec_len, vec_capacity}
-use Rattle.raft_script.specs.Durability.{PassesThrough, durability_of, progress_after_all, progress_from}
+use Rattle.raft_script.specs.Durability.{PassesThrough, progress_after_all, progress_from}
+use Rattle.raft_log_engine.specs.Durability.{durability_of}
 use Rattle.raft_log_engine.specs.Engine.{contents_of, durable_of, folder_of, has_failed, moments_of, refusals_of, unsynced_of}
 use Rattle.raft_script.specs.Run.{IsFailurePlace, IsUnasked, RoseBy, io_count}
 use Rattle.raft_script.proofs.DurabilityLemmas.{IsUnderWay}

@@ -1,10 +1,11 @@
 use Rattle.std.proofs.Common.{refl, inl}
 use Rattle.std.proofs.lemmas.Result.{err_from_is_err_and}
-use Rattle.raft_script.specs.Durability.{durability_of}
+use Rattle.raft_log_engine.specs.Durability.{durability_of}
 use Rattle.raft_log_engine.specs.Engine.{contents_of, directory_of, durable_of, folder_of, moments_of, unsynced_of}
 use Rattle.raft_script.specs.Run.{batch_of_acts, written_batches}
 use Rattle.raft_log_engine.proofs.EngineLemmas.{engine_still_more}
 use Rattle.raft_script.proofs.DurabilityLemmas.{moments_of_batch, written_contents, written_progress}
+use Rattle.raft_pipes.proofs.ResultLemmas.{on_err_of, on_ok_of}
 use Rattle.raft_script.proofs.RunLemmas.{acts_pending}
 use Rattle.raft_script.proofs.runs.write.Goals as goal
 
@@ -24,7 +25,7 @@ returns-in_err-batch-clause-does g c =
 pub returns-clause-contents : goal.returns-clause-contents
 returns-clause-contents g c =
     let write = c.write.ensures in
-    written_contents c.args.acts.now c.in_ok-batch.batch.items c.write.result (durability_of c.args.engine.now) (durability_of c.write.new.self) c.in_ok-batch.ensures.ok write.contents write.unchanged
+    written_contents c.args.acts.now c.in_ok-batch.batch.items c.write.result (durability_of c.args.engine.now) (durability_of c.write.new.self) c.in_ok-batch.ensures.ok (on_ok_of _ _ c.write.result (λ len w. w.contents) write.ok) (on_err_of _ _ c.write.result (λ kept stands. (kept stands).0) write.err)
 
 pub returns-clause-does : goal.returns-clause-does
 returns-clause-does g c =
@@ -36,7 +37,7 @@ returns-clause-does g c =
     record {
       flight = written_batches (batch_of_acts acts);
       may_be = acts_pending (contents_of e) acts;
-      progress = written_progress acts items c.args.sync c.write.result (durability_of e) (durability_of n) c.in_ok-batch.ensures.ok write.alive write.synced write.unsynced write.durable write.refused write.in_flight write.still;
+      progress = written_progress acts items c.args.sync c.write.result (durability_of e) (durability_of n) c.in_ok-batch.ensures.ok write.progress;
       moments = λ alive. moments_of_batch (folder_of e) (durable_of e) (unsynced_of e) items (batch_of_acts acts) (moments_of e) (moments_of n) (directory_of n) c.in_ok-batch.ensures.ok write.any_moment;
-      rests = write.rests;
+      rests = λ failed. (write.unchanged failed).0.moments;
     }
