@@ -56,9 +56,9 @@ module _ (path : Path) (id : FileId) (format : LogFileFormat) (batches : List Ba
         })
 
 -- .. and that of a log with all its bytes or those of its last sync
-pub log_whole : (path : Path) (id : FileId) (format : LogFileFormat) (batches : List Batch) (synced at : ℕ) (n : Directory) (log : HasDoneLog path id format batches synced at n) → log.held.file.renamed_after ≡ None → AreConsistent n → (choices : List Choice) → AreWhole choices →
+pub log_whole : (path : Path) (id : FileId) (format : LogFileFormat) (batches : List Batch) (synced at : ℕ) (n : Directory) → HasDoneLog path id format batches synced at n → AreConsistent n → (choices : List Choice) → AreWhole choices →
     IsDetectable path id n (left_by choices n)
-log_whole path id format batches synced at n log never consistent choices whole = elim (whole_choice choices whole _) [
+log_whole path id format batches synced at n log consistent choices whole = elim (whole_choice choices whole _) [
   | inl all ↦ told choice.All all tt (now_is_torn id format held.records synced at held.file (record { written = log.written; held = held.held; past = log.past }))
   | inr old ↦ told choice.Synced old tt (synced_is_torn id format held.records synced at held.file (consistent path held.file held.stands) held.held)
 ]
@@ -67,4 +67,4 @@ log_whole path id format batches synced at n log never consistent choices whole 
     held = log.held
 
     told : (c : Choice) → choice_for choices (finite.keys n.files) path ≡ c → NamesNoBytes c → IsTornBehind id format held.records held.file (chosen c held.file) → IsDetectable path id n (left_by choices n)
-    told = told_by path id format batches synced at n held never consistent choices
+    told = told_by path id format batches synced at n held log.past.never_renamed consistent choices

@@ -106,9 +106,9 @@ pub fn damage_can_be_told()
     ensures zeros { (id : FileId) (format : LogFileFormat) (at : ℕ) (bytes : List ℕ)
         → EndsInZeros at bytes → IsBrokenFrom id format at bytes }
     ensures detectable { (path : Path) (id : FileId) (format : LogFileFormat) (batches : List Batch)
-        (synced at : ℕ) (n : Directory) (log : HasDoneLog path id format batches synced at n)
-        → log.held.file.renamed_after ≡ None → AreConsistent n → (choices : List Choice)
-        → AreWhole choices → IsDetectable path id n (left_by choices n) }
+        (synced at : ℕ) (n : Directory) → HasDoneLog path id format batches synced at n
+        → AreConsistent n → (choices : List Choice) → AreWhole choices
+        → IsDetectable path id n (left_by choices n) }
     ensures own { (path : Path) (id : FileId) (n : Directory) (file : File)
         → file_at n path ≡ Some file → file.renamed_after ≡ None → AreConsistent n → AreOwn id file
         → (choices : List Choice) → NameNoBytes choices
