@@ -1,8 +1,9 @@
 //! A log file that is written, cut and read back.
 ghost use Rattle.raft_files.specs.Writer.{IsWriterOf};
 
-use raft_env::{FileSystem, FsFault, MemoryFileSystem};
+use raft_env::{FileSystem, FsFault};
 use raft_files::{LogFileFormat, LogFileReader, LogFileWriter};
+use raft_memory::MemoryFileSystem;
 use raft_records::{FileBlockHandle, FileId, LogQueue, Version};
 use std::alloc::Global;
 use std::test::Fail;

@@ -1,6 +1,7 @@
 //! Files in memory: calls and looks at them, refusals and crashes, one after the other.
 
-use raft_env::{Choice, FileSystem, FsCall, FsFault, IoKind, MemoryFileSystem, Permission};
+use raft_env::{FileSystem, FsFault, IoKind, Permission};
+use raft_memory::{Choice, FsCall, MemoryFileSystem};
 use raft_records::Fault;
 use std::alloc::{AllocError, Global};
 use std::test::Fail;

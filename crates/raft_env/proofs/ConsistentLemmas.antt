@@ -11,11 +11,9 @@ use Rattle.std.specs.Cmp.Lexicographic.{slice_cmp, nat_list_cmp_total}
 use Rattle.std.specs.FinMap as finite
 use Rattle.raft_env.specs.Outcomes.{File, Change, MayLeave, Outcome, IsPartOf, IsCutOf, is_within, is_touched, bytes_behind, untouched_len, least_len, greatest_len, changed_by, written, lengthened_to, cut_to, synced_of, settled, padded, overlaid}
 use Rattle.raft_env.specs.Directory.{Directory, Left, Path, file_at, placed, changed, changed_at, created, IsMakingFolder, IsChanging, IsWriting, IsTruncating, IsAllocating, IsOneOf, IsRestarted}
-use Rattle.raft_env.specs.Consistent.{HasItsRange, HasItsLength, IsPastOf, IsConsistent, AreConsistent, AreWhole}
-use Rattle.raft_env.specs.declared.crash.Choice.{Choice}
-use Rattle.raft_env.specs.declared.crash.Choice.TheVariants as choice
+use Rattle.raft_env.specs.Consistent.{HasItsRange, HasItsLength, IsPastOf, IsConsistent, AreConsistent}
 use Rattle.raft_env.proofs.DirectoryLemmas.{file_at-making}
-use Rattle.raft_env.proofs.SlotLemmas.{overlaid_bounds, overlaid_outside_part}
+use Rattle.raft_env.proofs.OverlaidLemmas.{overlaid_bounds, overlaid_outside_part}
 use Rattle.raft_env.proofs.ChangeLemmas.{not_within, cut_change, cut_is}
 
 -- Files.
@@ -197,12 +195,6 @@ now_may_be_left file is = record {
   no_longer = (length_now file is).1;
   untouched = λ i within stood apart. (is.untouched i stood apart).1;
 }
-
-pub whole_choice : (choices : List Choice) → AreWhole choices → (i : ℕ) → (slice_index_or choices i choice.Synced ≡ choice.All) ⊎ (slice_index_or choices i choice.Synced ≡ choice.Synced)
-whole_choice choices whole i = elim (cases_lt i (length choices)) [
-  | inl within ↦ All-get_or (λ c. (c ≡ choice.All) ⊎ (c ≡ choice.Synced)) choices i choice.Synced within whole
-  | inr past ↦ inr (get_or_past choices i choice.Synced past)
-]
 
 -- What no change touched.
 

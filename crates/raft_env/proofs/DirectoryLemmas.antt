@@ -11,7 +11,7 @@ use Rattle.std.proofs.lemmas.Grind.{same_number_lists, common_steps}
 use Rattle.std.proofs.lemmas.List.{get_or-take}
 use Rattle.raft_env.specs.Outcomes.{File, MayLeave, IsPartOf, is_within, is_touched, least_len, overlaid}
 use Rattle.raft_env.specs.Directory.{Path, Directory, file_at, placed, changed, changed_at, folder_made, is_on_way, IsChanging, IsMakingFolder}
-use Rattle.raft_env.proofs.SlotLemmas.{overlaid_bounds, overlaid_outside_part}
+use Rattle.raft_env.proofs.OverlaidLemmas.{overlaid_bounds, overlaid_outside_part}
 
 pub same_path : (p : Path) → eq_by_cmp (slice_cmp nat_cmp) p p ≡ true
 same_path p = is_eq-slice_cmp p p ∙ (bytes_eq-Decides p p).1 refl

@@ -1,16 +1,6 @@
-pub mod Walks
-pub mod ArmedLemmas
-pub mod SlotLemmas
-pub mod SavedLemmas
 pub mod MomentsLemmas
 pub mod DirectoryLemmas
-pub mod MemoryLemmas
 pub mod PathPartsLemmas
-pub mod ListedLemmas
-pub mod Sent
 pub mod ChangeLemmas
-pub mod ChoiceLemmas
 pub mod ConsistentLemmas
-pub mod TornLemmas
-pub mod InvariantLemmas
-pub mod CrashedLemmas
+pub mod OverlaidLemmas

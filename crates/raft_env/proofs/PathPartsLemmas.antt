@@ -16,7 +16,6 @@ use Rattle.std.proofs.lemmas.List.Elements.{All-from_get_or}
 use Rattle.std.proofs.lemmas.List.{append_cancel_left, append-nil, length-append}
 use Rattle.raft_env.specs.Directory.{Path, after_folder, is_on_way, folder_made, name_in, kept_name}
 use Rattle.raft_env.specs.PathParts.{IsName, IsParent, path_below}
-use Rattle.raft_env.specs.Files.{Files, folders_of, directory_of}
 
 pub after_folder-below : (folder rest : Path) → after_folder folder (folder ++ 47 ∷ rest) ≡ Some rest
 after_folder-below [] rest = refl
@@ -45,7 +44,7 @@ after_folder_tells (c ∷ folder) (x ∷ path) rest is =
     let behind : path ≡ folder ++ 47 ∷ rest = after_folder_tells folder path rest found.1 in
     cc
 
-either : (a b : Bool) → (a || b) ≡ true → (a ≡ true) ⊎ (b ≡ true)
+pub either : (a b : Bool) → (a || b) ≡ true → (a ≡ true) ⊎ (b ≡ true)
 either true b is = inl refl
 either false b is = inr is
 
@@ -60,7 +59,7 @@ is_on_way_tells folder path is = elim (either (bytes_eq folder path) (is_some (a
   | inr found ↦ let rest = some_of (after_folder folder path) found in inr (rest.0, after_folder_tells folder path rest.0 rest.1)
 ]
 
-or_second : (a b : Bool) → b ≡ true → (a || b) ≡ true
+pub or_second : (a b : Bool) → b ≡ true → (a || b) ≡ true
 or_second true b is = refl
 or_second false b is = is
 
@@ -137,7 +136,7 @@ pub path_below_answer : (folder path rest : Path) (r : Option (Bor Path)) → (l
 path_below_answer [] path rest r some is tells = absurd (some refl)
 path_below_answer (c ∷ folder) path rest r some is tells = below_answer c folder path rest r is tells
 
-any_further : (made : List (String Global)) (q folder : Path) → is_on_way q folder ≡ true → list_any (λ p. is_on_way folder (string_bytes p)) made ≡ true → list_any (λ p. is_on_way q (string_bytes p)) made ≡ true
+pub any_further : (made : List (String Global)) (q folder : Path) → is_on_way q folder ≡ true → list_any (λ p. is_on_way folder (string_bytes p)) made ≡ true → list_any (λ p. is_on_way q (string_bytes p)) made ≡ true
 any_further [] q folder first found = absurd cc
 any_further (p ∷ made) q folder first found = elim (either (is_on_way folder (string_bytes p)) _ found) [
   | inl here ↦ ap (λ b. b || list_any (λ s. is_on_way q (string_bytes s)) made) (is_on_way_further q folder (string_bytes p) first here)
@@ -148,28 +147,15 @@ pub no_bytes : (path : Path) → eqb (length path) 0 ≡ true → path ≡ []
 no_bytes [] is = refl
 no_bytes (c ∷ path) is = absurd (omega (arith, eqb-true (length (c ∷ path)) 0 is))
 
-on_way_to_root : (q folder : Path) → folder ≡ [] → is_on_way q folder ≡ true → eqb (length q) 0 ≡ true
+pub on_way_to_root : (q folder : Path) → folder ≡ [] → is_on_way q folder ≡ true → eqb (length q) 0 ≡ true
 on_way_to_root q folder root found = elim (is_on_way_tells q folder found) [
   | inl same ↦ eq-eqb (length q) 0 (ap length (sym same ∙ root))
   | inr below ↦ absurd (omega (arith, ap length (sym below.1 ∙ root), length-append q (47 ∷ below.0)))
 ]
 
--- each folder on the way to a folder is one
-pub folders_of_further : (made : List (String Global)) (q folder : Path) → folders_of made folder ≡ true → is_on_way q folder ≡ true → folders_of made q ≡ true
-folders_of_further made q folder stands first = elim (either (eqb (length folder) 0) _ stands) [
-  | inl root ↦ ap (λ b. b || list_any (λ s. is_on_way q (string_bytes s)) made) (on_way_to_root q folder (no_bytes folder root) first)
-  | inr later ↦ or_second _ _ (any_further made q folder first later)
-]
-
-absorbs : (a b : Bool) → (a ≡ true → b ≡ true) → b ≡ (a || b)
+pub absorbs : (a b : Bool) → (a ≡ true → b ≡ true) → b ≡ (a || b)
 absorbs true b implied = implied refl
 absorbs false b implied = refl
-
--- making a folder that stands changes nothing
-pub folder_made_again : (files : Files) (made : List (String Global)) (folder : Path) → folders_of made folder ≡ true → directory_of files (folders_of made) ≡ folder_made folder (directory_of files (folders_of made))
-folder_made_again files made folder stands =
-    let same : (q : Path) → folders_of made q ≡ (is_on_way q folder || folders_of made q) = λ q. absorbs _ _ (folders_of_further made q folder stands) in
-    λ i. record { files = (directory_of files (folders_of made)).files; is_folder = λ q. same q i }
 
 name_in-path_below : (folder path : Path) → name_in folder path ≡ kept_name (path_below folder path)
 name_in-path_below [] path = refl

@@ -5,8 +5,6 @@ use Rattle.std.specs.Prelude.{◌≡◌, ◌⊎◌, ℕ, ◌<◌, ◌≤◌, ◌
 use Rattle.std.proofs.Props.{props}
 use Rattle.raft_env.specs.Outcomes.{File, Change, OnlyWritesRefused, bytes_behind, is_touched}
 use Rattle.raft_env.specs.Directory.{Directory, Path, file_at}
-use Rattle.raft_env.specs.declared.crash.Choice.{Choice}
-use Rattle.raft_env.specs.declared.crash.Choice.TheVariants as choice
 
 -- the range of a change holds the bytes that it gave
 abbrev pub HasItsRange : Change → Type 0
@@ -50,7 +48,3 @@ OnlyWritesRefusedIn n = (path : Path) → OnlyWritesRefusedAt path n
 -- no file was renamed
 abbrev pub NoneRenamed : Directory → Type 0
 NoneRenamed n = (path : Path) (file : File) → file_at n path ≡ Some file → file.renamed_after ≡ None
-
--- each file is left with its bytes now or with those of its last sync
-abbrev pub AreWhole : List Choice → Type 0
-AreWhole choices = All (λ c. (c ≡ choice.All) ⊎ (c ≡ choice.Synced)) choices

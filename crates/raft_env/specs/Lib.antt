@@ -2,14 +2,5 @@ pub mod Outcomes
 pub mod Directory
 pub mod Moments
 pub mod Refusal
-pub mod Slot
-pub mod Stepped
 pub mod PathParts
-pub mod Armed
-pub mod Files
-pub mod Counted
-pub mod Memory
-pub mod Refused
-pub mod Choice
 pub mod Consistent
-pub mod Crashed

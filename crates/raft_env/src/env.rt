@@ -8,8 +8,8 @@ ghost use Rattle.raft_env.specs.Moments.{MovesBy, OnlyReads};
 ghost use Rattle.raft_env.specs.Refusal.{Counts, Refusals, added_count, no_refusals};
 ghost use Rattle.raft_env.specs.declared.env.FsFault.TheVariants.{Memory};
 
-use raft_records::Fault;
-pub use raft_records::IoKind;
+use raft_base::Fault;
+pub use raft_base::IoKind;
 use std::alloc::{AllocError, AllocFailed, Global};
 
 #[derive(Clone, Copy, Debug, PartialEq, Eq)]

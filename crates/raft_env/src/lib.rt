@@ -1,20 +1,8 @@
-//! What the engine assumes of storage: files, what a crash may leave of them, and files in memory.
+//! What the engine assumes of storage: files, and what a crash may leave of them.
 #![tactic(auto)]
 
-pub mod armed;
-pub mod crash;
 pub mod env;
-mod history;
-mod known;
 pub mod laws;
-pub mod memory;
-mod paths;
-mod refusals;
-mod saved;
-mod slot;
-mod tree;
+pub mod paths;
 
-pub use armed::FsCall;
-pub use crash::Choice;
 pub use env::{FileSystem, FsFault, IoKind, Permission};
-pub use memory::{MemoryFileSystem, MemoryHandle, MemoryReader, MemoryWriter};

@@ -4,7 +4,7 @@ ghost use Rattle.raft_env.specs.Directory.{name_in, is_on_way};
 ghost use Rattle.raft_env.specs.PathParts.{IsParent, path_below};
 
 /// The folder of a path: what stands before its last `/`, or the root.
-pub(crate) fn parent(path: &str) -> &str
+pub fn parent(path: &str) -> &str
     ensures value { IsParent path.now result.now }
 {
     match path.rsplit_once('/') {
@@ -14,7 +14,7 @@ pub(crate) fn parent(path: &str) -> &str
 }
 
 /// Whether the folder is the path itself or one on the way to it.
-pub(crate) fn is_on_way(folder: &str, path: &str) -> bool
+pub fn is_on_way(folder: &str, path: &str) -> bool
     ensures value { result ≡ is_on_way folder.now path.now }
 {
     match path.strip_prefix(folder) {
@@ -24,7 +24,7 @@ pub(crate) fn is_on_way(folder: &str, path: &str) -> bool
 }
 
 /// The name of a path that stands in the folder itself.
-pub(crate) fn name_in<'a>(folder: &str, path: &'a str) -> Option<&'a str>
+pub fn name_in<'a>(folder: &str, path: &'a str) -> Option<&'a str>
     ensures value { MatchOption result (name_in folder.now path.now ≡ None)
         (λ name. name_in folder.now path.now ≡ Some name.now) }
 {

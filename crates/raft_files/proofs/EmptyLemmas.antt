@@ -8,7 +8,7 @@ use Rattle.raft_codec.specs.Number.{take_u64}
 use Rattle.raft_codec.proofs.NumberLemmas.{take_u64_long}
 use Rattle.raft_records.specs.Item.{Batch}
 use Rattle.raft_records.specs.Record.{Header, header_in, record_header, record_of}
-use Rattle.raft_records.specs.declared.pipe_log.FileId.{FileId}
+use Rattle.raft_base.specs.declared.pipe_log.FileId.{FileId}
 use Rattle.raft_env.specs.Outcomes.{Change}
 use Rattle.raft_files.specs.Reading.{Placed, record_at}
 use Rattle.raft_files.specs.Detectable.{HasNoRefusedByte, IsDone, IsFreshAfter}

@@ -4,7 +4,7 @@ use Rattle.std.specs.Prelude.{option_map}
 use Rattle.std.proofs.lemmas.List.{append-nil, map-append, take_all, take-append-le, length-take, length-take-le}
 use Rattle.std.proofs.lemmas.Bool.{eq-eqb}
 use Rattle.raft_records.specs.Item.{Batch}
-use Rattle.raft_records.specs.declared.pipe_log.FileId.{FileId}
+use Rattle.raft_base.specs.declared.pipe_log.FileId.{FileId}
 use Rattle.raft_files.specs.declared.format.LogFileFormat.{LogFileFormat}
 use Rattle.raft_files.specs.Header.{header_bytes, header_len}
 use Rattle.raft_env.specs.Outcomes.{File, Change, resized, cut_to, synced_of, settled, bytes_behind}

@@ -3,7 +3,7 @@ use Rattle.std.proofs.Common.{◌≡◌, ◌⊎◌, ℕ, ◌+◌, ◌-◌, ◌<�
 use Rattle.std.specs.Prelude.{◌||◌}
 use Rattle.std.proofs.lemmas.Bool.{cases_Bool, cases_lt}
 use Rattle.std.proofs.lemmas.List.{take-take, take-append-le, length-append, length-take-le, length-replicate, get_or-replicate, get_or-append_right, get_or_append_left}
-use Rattle.raft_records.specs.declared.pipe_log.FileId.{FileId}
+use Rattle.raft_base.specs.declared.pipe_log.FileId.{FileId}
 use Rattle.raft_files.specs.declared.format.LogFileFormat.{LogFileFormat}
 use Rattle.raft_files.specs.Header.{header_len}
 use Rattle.raft_env.specs.Outcomes.{File, Change, is_touched, changed_by, written, resized, lengthened_to, padded, IsPartOf, IsCutOf}

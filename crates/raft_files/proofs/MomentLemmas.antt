@@ -1,6 +1,6 @@
 -- A log file at a moment of a call.
 use Rattle.std.proofs.Common.{◌≡◌, ◌⊎◌, ℕ, ◌-◌, ◌≤◌, Bool, true, false, List, length, take, refl, sym, subst, inl, inr, arith}
-use Rattle.raft_records.specs.declared.pipe_log.FileId.{FileId}
+use Rattle.raft_base.specs.declared.pipe_log.FileId.{FileId}
 use Rattle.raft_files.specs.declared.format.LogFileFormat.{LogFileFormat}
 use Rattle.raft_env.specs.Outcomes.{File, resized, lengthened_to, cut_to, padded, Outcome, IsPartOf, IsCutOf}
 use Rattle.raft_files.specs.Reading.{Placed}

@@ -9,10 +9,10 @@ use Rattle.raft_records.specs.Item.{Batch}
 use Rattle.raft_records.specs.ItemBatch.{are_key_values, compressed_refusal, parts_refusal, record_refusal}
 use Rattle.raft_records.specs.Record.{Header, Parts, Stored, batch_by, fills_block, footer_items, is_block, is_lz4_block, items_from, parts_by, record_header, record_of, record_parts}
 use Rattle.raft_records.specs.Replay.{replayed_by, replayed_record}
-use Rattle.raft_records.specs.declared.errors.Fault.{Fault}
-use Rattle.raft_records.specs.declared.errors.Fault.TheVariants as fault
-use Rattle.raft_records.specs.declared.pipe_log.FileId.{FileId}
-use Rattle.raft_records.specs.FileId.{signature_in}
+use Rattle.raft_base.specs.declared.errors.Fault.{Fault}
+use Rattle.raft_base.specs.declared.errors.Fault.TheVariants as fault
+use Rattle.raft_base.specs.declared.pipe_log.FileId.{FileId}
+use Rattle.raft_base.specs.FileId.{signature_in}
 use Rattle.raft_records.proofs.ItemBatchLemmas.{fills_block_of_key_values}
 use Rattle.raft_files.specs.Header.{header_len, header_of}
 use Rattle.raft_files.specs.Reading.{Placed, placed_before, placed_by, readable_records, reading_behind, record_at, record_place, records_behind, records_of}

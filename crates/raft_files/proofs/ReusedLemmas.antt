@@ -2,7 +2,7 @@
 use Rattle.std.proofs.Common.{◌≡◌, ℕ, ◌+◌, ◌-◌, ◌^◌, ◌<◌, ◌≤◌, true, false, List, [], ◌∷◌, ◌++◌, length, take, Option, Some, None, IsSome, Contains, refl, ap, sym, subst, ◌∙◌, inl, inr, arith}
 use Rattle.std.proofs.lemmas.List.{take_at, length-append, length-take}
 use Rattle.raft_records.specs.Item.{Batch}
-use Rattle.raft_records.specs.declared.pipe_log.FileId.{FileId}
+use Rattle.raft_base.specs.declared.pipe_log.FileId.{FileId}
 use Rattle.raft_files.specs.declared.format.LogFileFormat.{LogFileFormat}
 use Rattle.raft_files.specs.Header.{HasHeader, header_bytes, header_len}
 use Rattle.raft_env.specs.Outcomes.{File, Change, IsStaleAfter, is_written, IsPartOf, changed_by, written, overlaid, synced_of, renamed_of, bytes_behind}
@@ -13,7 +13,7 @@ use Rattle.raft_files.specs.Records.{HoldsRecords, IsWrittenTo, KeepsNone, IsKep
 use Rattle.raft_files.specs.Writer.{HasChanged, IsStep, IsLengthened, IsAppending, IsAppended, IsSynced}
 use Rattle.raft_env.proofs.ChangeLemmas.{resized_change, lengthened_change, written_change}
 use Rattle.raft_env.proofs.DirectoryLemmas.{file_at-placed_same}
-use Rattle.raft_env.proofs.SlotLemmas.{overlaid_is}
+use Rattle.raft_env.proofs.OverlaidLemmas.{overlaid_is}
 use Rattle.raft_files.proofs.HeaderLemmas.{length-header_bytes}
 use Rattle.raft_files.proofs.ExtentLemmas.{same_some}
 use Rattle.raft_files.proofs.ReadingLemmas.{reading-header_bytes}

@@ -6,7 +6,7 @@ use Rattle.std.proofs.lemmas.Bool.{eq-eqb}
 use Rattle.std.specs.List.{AllByRecursion}
 use Rattle.std.proofs.lemmas.List.{length-take-le, take_all}
 use Rattle.raft_records.specs.Item.{Batch}
-use Rattle.raft_records.specs.declared.pipe_log.FileId.{FileId}
+use Rattle.raft_base.specs.declared.pipe_log.FileId.{FileId}
 use Rattle.raft_env.specs.Outcomes.{File, Change, MayLeave, least_len, greatest_len, is_touched, settled}
 use Rattle.raft_env.specs.Directory.{Directory, Left, Leaves, Path, IsRestarted, file_at}
 use Rattle.raft_files.specs.declared.format.LogFileFormat.{LogFileFormat}

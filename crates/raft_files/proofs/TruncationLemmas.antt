@@ -3,7 +3,7 @@ use Rattle.std.proofs.Common.{◌≡◌, ℕ, ◌+◌, ◌≤◌, Bool, true, fa
 use Rattle.std.specs.Prelude.{◌||◌}
 use Rattle.std.proofs.lemmas.List.{append-nil, take-take, length-append, length-take-le}
 use Rattle.std.proofs.lemmas.List.Elements.{Contains-append_left}
-use Rattle.raft_records.specs.declared.pipe_log.FileId.{FileId}
+use Rattle.raft_base.specs.declared.pipe_log.FileId.{FileId}
 use Rattle.raft_files.specs.declared.format.LogFileFormat.{LogFileFormat}
 use Rattle.raft_files.specs.Header.{header_len}
 use Rattle.raft_env.specs.Outcomes.{File, Change, is_touched, changed_by, Outcome, IsCutOf, cut_to}

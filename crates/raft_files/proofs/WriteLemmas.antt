@@ -4,7 +4,7 @@ use Rattle.std.proofs.lemmas.Bool.{cases_lt}
 use Rattle.std.proofs.lemmas.List.{take-append-le, length-append, length-take-le, get_or-drop, get_or-append_right, take_at}
 use Rattle.raft_records.specs.Item.{Batch}
 use Rattle.raft_records.specs.Record.{record_of}
-use Rattle.raft_records.specs.declared.pipe_log.FileId.{FileId}
+use Rattle.raft_base.specs.declared.pipe_log.FileId.{FileId}
 use Rattle.raft_files.specs.declared.format.LogFileFormat.{LogFileFormat}
 use Rattle.raft_env.specs.Outcomes.{File, Change, written, padded, overlaid, IsPartOf}
 use Rattle.raft_files.specs.Reading.{Placed, reading, readable_records}
@@ -14,7 +14,7 @@ use Rattle.raft_env.proofs.ChangeLemmas.{within_is, not_within, same_front, writ
 use Rattle.raft_files.proofs.DetectableLemmas.{beginning_itself, beginning_append}
 use Rattle.raft_files.proofs.ExtentLemmas.{same_some}
 use Rattle.raft_files.proofs.ReadingLemmas.{reading-append}
-use Rattle.raft_env.proofs.SlotLemmas.{overlaid_is, overlaid_bounds}
+use Rattle.raft_env.proofs.OverlaidLemmas.{overlaid_is, overlaid_bounds}
 use Rattle.raft_files.proofs.StaleLemmas.{GivesNoneFrom, refused_gives_none, gives_none_before, stale_from_more, fresh_before}
 use Rattle.raft_files.proofs.PlacedLemmas.{read_in}
 use Rattle.raft_files.proofs.EmptyLemmas.{none_done, has_nothing_after}

@@ -4,7 +4,7 @@ use Rattle.std.proofs.lemmas.List.{length-take-le}
 use Rattle.std.proofs.lemmas.List.Elements.{Contains-append_cases}
 use Rattle.raft_records.specs.Item.{Batch}
 use Rattle.raft_records.specs.Record.{record_of}
-use Rattle.raft_records.specs.declared.pipe_log.FileId.{FileId}
+use Rattle.raft_base.specs.declared.pipe_log.FileId.{FileId}
 use Rattle.raft_files.specs.declared.format.LogFileFormat.{LogFileFormat}
 use Rattle.raft_env.specs.Outcomes.{File, Outcome, IsPartOf, overlaid, written}
 use Rattle.raft_files.specs.Reading.{Placed, readable_records}

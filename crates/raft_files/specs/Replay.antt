@@ -1,11 +1,11 @@
 -- The records that a replay takes of a file, one behind the other: their entries blocks may be
 -- broken.
 use Rattle.std.specs.Prelude.{ℕ, ◌-◌, Bool, List, [], length, take, drop, Option, Some, None}
-use Rattle.raft_records.specs.FileId.{signature_in}
+use Rattle.raft_base.specs.FileId.{signature_in}
 use Rattle.raft_records.specs.Item.{Batch}
 use Rattle.raft_records.specs.Record.{Header, is_block, record_header}
 use Rattle.raft_records.specs.Replay.{replayed_record}
-use Rattle.raft_records.specs.declared.pipe_log.FileId.{FileId}
+use Rattle.raft_base.specs.declared.pipe_log.FileId.{FileId}
 use Rattle.raft_files.specs.declared.format.LogFileFormat.{LogFileFormat}
 use Rattle.raft_files.specs.Header.{header_len, header_of}
 use Rattle.raft_files.specs.Reading.{Placed, placed_by, record_place}

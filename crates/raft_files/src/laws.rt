@@ -1,11 +1,11 @@
 //! What holds of the records of files, whoever writes or reads them.
 ghost use Rattle.std.specs.Prelude.{◌≡◌, ◌+◌, ◌<◌, ◌^◌, ◌++◌, ◌∷◌, ℕ, List, [], true, None, Some, length, take};
 ghost use Rattle.std.specs.List.{take_while};
-ghost use Rattle.raft_records.specs.FileId.{signature_in};
+ghost use Rattle.raft_base.specs.FileId.{signature_in};
 ghost use Rattle.raft_records.specs.Item.{Batch};
 ghost use Rattle.raft_records.specs.Record.{record_bytes, record_of};
 ghost use Rattle.raft_records.specs.RecordLimits.{FitsRecord};
-ghost use Rattle.raft_records.specs.declared.pipe_log.FileId.{FileId};
+ghost use Rattle.raft_base.specs.declared.pipe_log.FileId.{FileId};
 ghost use Rattle.raft_files.specs.Detectable.{IsDetectable, signature_by};
 ghost use Rattle.raft_env.specs.Directory.{Directory, IsOneOf, IsRestarted, IsTruncating, HasFile, Leaves, Left, Path, created, file_at, renamed};
 ghost use Rattle.raft_files.specs.Header.{HasHeader, header_bytes, header_len, header_of};

@@ -1,7 +1,7 @@
 -- The default settings.
 use Rattle.std.specs.Prelude.{◌≡◌, ◌*◌, ◌^◌, true, false, [], None, option_map}
 use Rattle.std.specs.String.{string_bytes}
-use Rattle.raft_records.specs.declared.pipe_log.Version.TheVariants.{V2}
+use Rattle.raft_base.specs.declared.pipe_log.Version.TheVariants.{V2}
 use Rattle.raft_pipes.specs.declared.config.Config.{Config}
 use Rattle.raft_pipes.specs.declared.config.RecoveryMode.TheVariants.{TolerateTailCorruption}
 

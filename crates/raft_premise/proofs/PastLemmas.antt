@@ -4,23 +4,23 @@ use Rattle.std.specs.Prelude.{◌||◌}
 use Rattle.std.proofs.lemmas.Bool.{cases_Bool, cases_lt}
 use Rattle.std.proofs.lemmas.List.Elements.{Contains-append_left, Contains-append_right}
 use Rattle.std.specs.FinMap as finite
-use Rattle.raft_records.specs.declared.pipe_log.FileId.{FileId}
+use Rattle.raft_base.specs.declared.pipe_log.FileId.{FileId}
 use Rattle.raft_files.specs.declared.format.LogFileFormat.{LogFileFormat}
 use Rattle.raft_env.specs.Outcomes.{File, Change, MayLeave, is_within, is_touched, untouched_len, bytes_since_sync, bytes_behind}
 use Rattle.raft_env.specs.Directory.{Directory, Path, file_at}
 use Rattle.raft_files.specs.Reading.{Placed, readable_records}
-use Rattle.raft_env.specs.Choice.{chosen, chosen_at, choice_for, left_by, NamesNoBytes, NameNoBytes}
+use Rattle.raft_memory.specs.Choice.{chosen, chosen_at, choice_for, left_by, NamesNoBytes, NameNoBytes}
 use Rattle.raft_env.specs.Consistent.{HasItsRange, IsPastOf, IsConsistent, AreConsistent}
 use Rattle.raft_files.specs.Detectable.{IsBeginningOf, format_of, signature_by, IsGivenBy, HasNoRefusedByte, IsDone, EndsUnmarked, IsDetectableFile, IsDetectable}
 use Rattle.raft_premise.specs.Told.{BringsOnlyGiven, AreOwn, IsReadAsBefore}
-use Rattle.raft_env.specs.declared.crash.Choice.{Choice}
-use Rattle.raft_env.specs.declared.crash.Choice.TheVariants as choice
+use Rattle.raft_memory.specs.declared.crash.Choice.{Choice}
+use Rattle.raft_memory.specs.declared.crash.Choice.TheVariants as choice
 use Rattle.raft_files.proofs.DetectableLemmas.{beginning_itself}
 use Rattle.raft_files.proofs.ExtentLemmas.{same_some, record_of_header}
 use Rattle.raft_env.proofs.ChangeLemmas.{within_is, same_front}
 use Rattle.raft_files.proofs.PlacedLemmas.{contains_cases}
 use Rattle.raft_env.proofs.ConsistentLemmas.{before_is_untouched}
-use Rattle.raft_env.proofs.TornLemmas.{length-torn, no_bytes_at_turn, choices_may_leave}
+use Rattle.raft_memory.proofs.TornLemmas.{length-torn, no_bytes_at_turn, choices_may_leave}
 use Rattle.raft_premise.proofs.ToldLemmas.{readable_records-take, never_stale}
 
 -- Records.

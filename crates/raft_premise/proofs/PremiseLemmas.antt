@@ -2,20 +2,21 @@
 use Rattle.std.proofs.Common.{◌≡◌, ℕ, ◌≤◌, List, take, None, ap, sym, subst, ◌∙◌, inl, inr, arith}
 use Rattle.std.specs.FinMap as finite
 use Rattle.raft_records.specs.Item.{Batch}
-use Rattle.raft_records.specs.declared.pipe_log.FileId.{FileId}
+use Rattle.raft_base.specs.declared.pipe_log.FileId.{FileId}
 use Rattle.raft_files.specs.declared.format.LogFileFormat.{LogFileFormat}
 use Rattle.raft_env.specs.Outcomes.{MayLeave, is_touched}
 use Rattle.raft_env.specs.Directory.{Directory, Left, Path, Leaves, file_at}
-use Rattle.raft_env.specs.Choice.{torn, touched_before, chosen, chosen_at, choice_for, left_by, NamesNoBytes}
-use Rattle.raft_env.specs.Consistent.{IsConsistent, AreConsistent, AreWhole}
+use Rattle.raft_memory.specs.Choice.{torn, touched_before, chosen, chosen_at, choice_for, left_by, NamesNoBytes}
+use Rattle.raft_env.specs.Consistent.{IsConsistent, AreConsistent}
+use Rattle.raft_memory.specs.Choice.{AreWhole}
 use Rattle.raft_files.specs.Detectable.{IsDetectableFile, IsDetectable}
 use Rattle.raft_files.specs.Records.{HoldsRecords}
 use Rattle.raft_premise.specs.Told.{HasDoneRecords, HasDoneLog, IsBrokenFrom, IsTornBehind}
-use Rattle.raft_env.specs.declared.crash.Choice.{Choice}
-use Rattle.raft_env.specs.declared.crash.Choice.TheVariants as choice
+use Rattle.raft_memory.specs.declared.crash.Choice.{Choice}
+use Rattle.raft_memory.specs.declared.crash.Choice.TheVariants as choice
 use Rattle.raft_files.proofs.ExtentLemmas.{same_some}
-use Rattle.raft_env.proofs.ConsistentLemmas.{whole_choice}
-use Rattle.raft_env.proofs.TornLemmas.{choice_may_leave, length-torn, take-torn}
+use Rattle.raft_memory.proofs.WholeLemmas.{whole_choice}
+use Rattle.raft_memory.proofs.TornLemmas.{choice_may_leave, length-torn, take-torn}
 use Rattle.raft_premise.proofs.ToldLemmas.{torn_is_detectable, now_is_torn, synced_is_torn}
 
 -- Records that no refused call brought.

@@ -4,7 +4,7 @@ use Rattle.std.proofs.lemmas.List.{append-nil, take_all, take-take, take-append-
 use Rattle.std.proofs.lemmas.List.Elements.{All-contains, Contains-append_left, Contains-append_right}
 use Rattle.raft_records.specs.Item.{Batch}
 use Rattle.raft_records.specs.Record.{record_header, parts_by}
-use Rattle.raft_records.specs.declared.pipe_log.FileId.{FileId}
+use Rattle.raft_base.specs.declared.pipe_log.FileId.{FileId}
 use Rattle.raft_files.specs.declared.format.LogFileFormat.{LogFileFormat}
 use Rattle.raft_env.specs.Outcomes.{File, Change, MayLeave, untouched_len, bytes_behind, IsDoneOrWrite, OnlyWritesRefused}
 use Rattle.raft_files.specs.Reading.{Placed, record_place, record_at, placed_before, placed_by, end_of_records, Reading, records_behind, reading, records_of, readable_records}

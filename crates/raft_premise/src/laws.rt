@@ -2,10 +2,11 @@
 ghost use Rattle.std.specs.Prelude.{◌≡◌, ◌⊎◌, ◌+◌, ◌<◌, ◌≤◌, ◌^◌, ◌++◌, ◌∷◌, ℕ, List, [], Some, None, length, take};
 ghost use Rattle.raft_records.specs.Item.{Batch};
 ghost use Rattle.raft_records.specs.Record.{record_of};
-ghost use Rattle.raft_records.specs.declared.pipe_log.FileId.{FileId};
+ghost use Rattle.raft_base.specs.declared.pipe_log.FileId.{FileId};
 ghost use Rattle.std.specs.FinMap as finite;
-ghost use Rattle.raft_env.specs.Choice.{choice_for, left_by, touched_before, NameNoBytes};
-ghost use Rattle.raft_env.specs.Consistent.{AreConsistent, AreWhole, IsConsistent};
+ghost use Rattle.raft_memory.specs.Choice.{choice_for, left_by, touched_before, NameNoBytes};
+ghost use Rattle.raft_env.specs.Consistent.{AreConsistent, IsConsistent};
+ghost use Rattle.raft_memory.specs.Choice.{AreWhole};
 ghost use Rattle.raft_files.specs.Detectable.{EndsUnmarked, IsDetectable, format_of, signature_by};
 ghost use Rattle.raft_env.specs.Directory.{Directory, IsRestarted, Leaves, Left, Path, file_at};
 ghost use Rattle.raft_files.specs.Header.{HasHeader, header_bytes, header_len};
@@ -14,8 +15,8 @@ ghost use Rattle.raft_files.specs.Reading.{Placed, Reading, readable_batches, re
 ghost use Rattle.raft_files.specs.Records.{HasLog, HoldsRecords};
 ghost use Rattle.raft_premise.specs.Told.{AreDoneAt, AreOwn, EndsInZeros, HasDoneLog, HasDoneRecords, HasSimplePastAt, IsBrokenFrom, IsReadAsBefore, IsTornBehind};
 ghost use Rattle.raft_files.specs.Writer.{HasChanged, IsAppended, IsAppending, IsClosed, IsCut, IsCutting, IsSynced, bytes_at};
-ghost use Rattle.raft_env.specs.declared.crash.Choice.{Choice};
-ghost use Rattle.raft_env.specs.declared.crash.Choice.TheVariants as choice;
+ghost use Rattle.raft_memory.specs.declared.crash.Choice.{Choice};
+ghost use Rattle.raft_memory.specs.declared.crash.Choice.TheVariants as choice;
 ghost use Rattle.raft_files.specs.declared.format.LogFileFormat.{LogFileFormat};
 
 /// A record that can be read and that no refused call brought stays so in every further call. So

@@ -2,8 +2,9 @@
 
 use crate::plans::{Left, choice_of};
 use crate::states::{EMPTY, State, settings, state_of};
-use raft_env::{FileSystem, FsCall, IoKind, MemoryFileSystem};
+use raft_env::{FileSystem, IoKind};
 use raft_log_engine::{Engine, Refused};
+use raft_memory::{FsCall, MemoryFileSystem};
 use raft_records::{Fault, LogBatch};
 use std::alloc::Global;
 use std::test::Fail;

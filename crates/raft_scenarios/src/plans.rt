@@ -1,6 +1,6 @@
 //! Operations, crashes and answers as rows of a table.
 
-use raft_env::Choice;
+use raft_memory::Choice;
 use raft_records::Fault;
 use raft_script::{Act, Op, Outcome};
 use std::alloc::{AllocError, Global};

@@ -5,8 +5,9 @@ use crate::states::{
     EMPTY, OPERATIONS, State, after, first_refused, is_allowed, is_done, settings, state_of,
     value_of,
 };
-use raft_env::{Choice, FileSystem, FsCall, IoKind, MemoryFileSystem};
+use raft_env::{FileSystem, IoKind};
 use raft_log_engine::Engine;
+use raft_memory::{Choice, FsCall, MemoryFileSystem};
 use raft_records::Fault;
 use raft_script::{Op, Outcome, run};
 use std::alloc::Global;

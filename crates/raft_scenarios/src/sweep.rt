@@ -2,7 +2,7 @@
 
 use crate::plans::ops_of;
 use crate::states::{OPERATIONS, first_refused, is_allowed, is_done, settings, state_of};
-use raft_env::Choice;
+use raft_memory::Choice;
 use raft_script::{Op, Trial, trial};
 use std::alloc::Global;
 use std::process::Abort;

@@ -9,11 +9,11 @@ use Rattle.raft_records.specs.Contents.{Contents, no_contents, after_batch, afte
 use Rattle.raft_records.specs.Batch.{is_internal_key}
 use Rattle.raft_records.specs.Item.{Item, Batch, Put, Delete}
 use Rattle.raft_records.specs.Validity.{batch_refusal}
-use Rattle.raft_records.specs.declared.errors.Fault.{Fault}
+use Rattle.raft_base.specs.declared.errors.Fault.{Fault}
 use Rattle.raft_log_engine.specs.Crash.{written_batch}
 use Rattle.std.specs.FinMap.{get-empty}
 use Rattle.raft_env.specs.Directory.{Directory, Path, file_at}
-use Rattle.raft_env.specs.Memory.{no_files}
+use Rattle.raft_memory.specs.Memory.{no_files}
 use Rattle.raft_pipes.proofs.SoundLemmas.{readable_none}
 use Rattle.raft_log_engine.specs.Contents.{contents_at, recovered}
 use Rattle.raft_script.specs.Run.{accepted_batches, accepted_of, AreAnswers, AreSteady, FailsAt, IsFailing, IsFailurePlace, RoseBy, batch_of_acts, io_count, is_refused_by_storage, IsAnswer, item_of_act, pending_batches, with_first, written_batches}

@@ -4,16 +4,16 @@ use Rattle.std.specs.Prelude.{IsSome, IfOk, IfErr, Result, Ok, Err}
 use Rattle.std.specs.FinMap.{get-empty}
 use Rattle.raft_records.specs.Contents.{Contents, no_contents}
 use Rattle.raft_records.specs.Item.{Batch}
-use Rattle.raft_records.specs.Fault.{fault_code}
-use Rattle.raft_env.specs.Choice.{RefusesUnless, left_by, NameNoBytes}
+use Rattle.raft_base.specs.Fault.{fault_code}
+use Rattle.raft_memory.specs.Choice.{RefusesUnless, left_by, NameNoBytes}
 use Rattle.raft_env.specs.Consistent.{AreConsistent}
 use Rattle.raft_env.specs.Directory.{Directory, HasFile, IsRestarted, Leaves, Left, Path, file_at}
-use Rattle.raft_env.specs.Memory.{no_files}
-use Rattle.raft_env.specs.declared.crash.Choice.{Choice}
-use Rattle.raft_env.proofs.TornLemmas.{choices_may_leave}
+use Rattle.raft_memory.specs.Memory.{no_files}
+use Rattle.raft_memory.specs.declared.crash.Choice.{Choice}
+use Rattle.raft_memory.proofs.TornLemmas.{choices_may_leave}
 use Rattle.raft_log_engine.specs.Crash.{IsSound, KeepsContents, LeavesAllowedFrom, found_after}
-use Rattle.raft_records.specs.declared.errors.Fault.{Fault}
-use Rattle.raft_records.specs.declared.errors.Fault.TheVariants as fault
+use Rattle.raft_base.specs.declared.errors.Fault.{Fault}
+use Rattle.raft_base.specs.declared.errors.Fault.TheVariants as fault
 use Rattle.raft_log_engine.specs.Image.{IsImageOf}
 use Rattle.raft_log_engine.specs.declared.engine.image.Image.{Image}
 use Rattle.raft_log_engine.specs.Contents.{contents_at, recovered}

@@ -6,8 +6,8 @@ use Rattle.raft_records.specs.Batch.{is_internal_key}
 use Rattle.raft_records.specs.Contents.{Contents, after_batches}
 use Rattle.raft_records.specs.Item.{Item, Batch, Put, Delete}
 use Rattle.raft_records.specs.Validity.{batch_refusal}
-use Rattle.raft_records.specs.declared.errors.Fault.{Fault}
-use Rattle.raft_records.specs.declared.errors.Fault.TheVariants as fault
+use Rattle.raft_base.specs.declared.errors.Fault.{Fault}
+use Rattle.raft_base.specs.declared.errors.Fault.TheVariants as fault
 use Rattle.raft_env.specs.Refusal.{Refusals}
 use Rattle.raft_log_engine.specs.Crash.{written_batch}
 use Rattle.raft_log_engine.specs.Engine.{record_len}

@@ -1,10 +1,10 @@
 -- What a trial shows.
 use Rattle.std.specs.Prelude.{◌≡◌, ◌⊎◌, ℕ, false, List, [], Option, None, IfOk, IfErr}
 use Rattle.raft_records.specs.Contents.{Contents, no_contents}
-use Rattle.raft_records.specs.declared.errors.Fault.{Fault}
-use Rattle.raft_env.specs.Choice.{left_by}
+use Rattle.raft_base.specs.declared.errors.Fault.{Fault}
+use Rattle.raft_memory.specs.Choice.{left_by}
 use Rattle.raft_env.specs.Directory.{Directory, HasFile, Leaves, Left, Path}
-use Rattle.raft_env.specs.declared.crash.Choice.{Choice}
+use Rattle.raft_memory.specs.declared.crash.Choice.{Choice}
 use Rattle.raft_log_engine.specs.Crash.{KeepsContents, found_after}
 use Rattle.raft_log_engine.specs.Image.{IsImageOf}
 use Rattle.raft_script.specs.Durability.{LeavesAllowedAfter}

@@ -3,8 +3,9 @@ ghost use Rattle.std.specs.Prelude.{IfOk, IfSome, List, Option, ℕ};
 ghost use Rattle.raft_script.specs.Line.{EndsOn, GoesOnOrEnds, IsNextLine, IsReading};
 
 use crate::line::{Left, Line, parse_line};
-use raft_env::{Choice, FileSystem, MemoryFileSystem};
+use raft_env::FileSystem;
 use raft_log_engine::{Config, Engine, Refused};
+use raft_memory::{Choice, MemoryFileSystem};
 use raft_records::{Fault, Fresh, LogBatch, ReadableSize};
 use std::alloc::{AllocError, Global};
 use std::io;

@@ -1,7 +1,7 @@
 //! Operations one after the other, each with its outcome.
 ghost use Rattle.std.specs.Prelude.{All, ◌≡◌, ◌⊎◌, ◌≤◌, ◌++◌, [], ◌∷◌, true, false, Some, None, IfOk, IfErr, OnOk, OnErr, MatchResult};
 ghost use Rattle.raft_records.specs.Contents.{Contents, after_batches};
-ghost use Rattle.raft_records.specs.Fault.{fault_code};
+ghost use Rattle.raft_base.specs.Fault.{fault_code};
 ghost use Rattle.raft_records.specs.Item.{Item};
 ghost use Rattle.raft_env.specs.Refusal.{NoFewer, Rose};
 ghost use Rattle.raft_log_engine.specs.Crash.{LeavesAllowed};

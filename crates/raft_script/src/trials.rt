@@ -1,10 +1,10 @@
 //! Operations over files in memory, then a crash, then an opening.
 ghost use Rattle.std.specs.Prelude.{◌≡◌, ◌⊎◌, [], ◌∷◌, IfOk, IfErr};
 ghost use Rattle.std.specs.String.{string_bytes};
-ghost use Rattle.raft_records.specs.Fault.{fault_code};
+ghost use Rattle.raft_base.specs.Fault.{fault_code};
 ghost use Rattle.raft_env.specs.Directory.{HasFile};
-ghost use Rattle.raft_env.specs.Choice.{NameNoBytes};
-ghost use Rattle.raft_env.specs.Memory.{memory_directory, memory_moments, no_files, stop_of};
+ghost use Rattle.raft_memory.specs.Choice.{NameNoBytes};
+ghost use Rattle.raft_memory.specs.Memory.{memory_directory, memory_moments, no_files, stop_of};
 ghost use Rattle.raft_log_engine.specs.Image.{IsImageOf};
 ghost use Rattle.raft_log_engine.specs.Contents.{contents_at};
 ghost use Rattle.raft_log_engine.specs.Crash.{KeepsContents};
@@ -14,8 +14,9 @@ ghost use Rattle.raft_script.specs.Trial.{AreNotAllowed, IsLogRefusal, IsTrialOf
 
 use crate::operation::{Op, Trial};
 use crate::runs::{RunReport, run_watched};
-use raft_env::{Choice, FileSystem, MemoryFileSystem};
+use raft_env::FileSystem;
 use raft_log_engine::{Config, Engine, Image};
+use raft_memory::{Choice, MemoryFileSystem};
 use raft_records::Fault;
 use std::alloc::Global;
 

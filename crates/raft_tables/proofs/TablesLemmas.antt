@@ -14,7 +14,7 @@ use Rattle.raft_records.specs.Contents.{Contents, with_value, after_item, after_
 use Rattle.raft_records.specs.Item.{Batch, Item, Put, Delete, group_mark_key}
 use Rattle.raft_records.specs.LogItem.{item_of}
 use Rattle.raft_records.specs.declared.log_item.LogItem.{LogItem}
-use Rattle.raft_records.specs.declared.pipe_log.FileId.{FileId}
+use Rattle.raft_base.specs.declared.pipe_log.FileId.{FileId}
 use Rattle.raft_tables.specs.Places.{Places, with_place, places_after, places_after_content}
 use Rattle.raft_tables.specs.Table.{Place, stored_at, with_key}
 use Rattle.raft_tables.specs.Tables.{stored_in, with_key_in, contents_of, place_of, Applies}

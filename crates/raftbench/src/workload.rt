@@ -5,7 +5,8 @@ use crate::files::append;
 use crate::log::put_get_reopen;
 use crate::measure::Host;
 use anyhow::Result;
-use raft_env::{FileSystem, MemoryFileSystem};
+use raft_env::FileSystem;
+use raft_memory::MemoryFileSystem;
 
 #[derive(Clone, Copy)]
 pub(crate) enum Workload {

@@ -1,9 +1,10 @@
 //! Refusals that a test arms in the files of an engine over memory.
 ghost use Rattle.std.specs.Prelude.{◌≡◌, ◌<◌, ◌++◌, [], ◌∷◌, Some, OnOk, OnErr, IfErr};
-ghost use Rattle.raft_env.specs.Choice.{RefusesUnless};
+ghost use Rattle.raft_memory.specs.Choice.{RefusesUnless};
 
 use super::Engine;
-use raft_env::{FsCall, IoKind, MemoryFileSystem};
+use raft_env::IoKind;
+use raft_memory::{FsCall, MemoryFileSystem};
 use raft_records::Fault;
 
 impl Engine<MemoryFileSystem> {

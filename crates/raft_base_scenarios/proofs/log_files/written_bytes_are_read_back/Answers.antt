@@ -1,5 +1,5 @@
 use denote.Param.Send.{sendable}
-use Rattle.raft_env.proofs.Sent.{memory_send, memory_sync}
+use Rattle.raft_memory.proofs.Sent.{memory_send, memory_sync}
 use Rattle.raft_base_scenarios.proofs.log_files.written_bytes_are_read_back.Goals as goal
 
 pub is_written_and_read-requires-send-F : goal.is_written_and_read-requires-send-F

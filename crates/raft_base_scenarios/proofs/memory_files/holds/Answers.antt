@@ -1,5 +1,5 @@
 use denote.Param.Send.{sendable}
-use Rattle.raft_env.proofs.Sent.{memory_send, memory_sync}
+use Rattle.raft_memory.proofs.Sent.{memory_send, memory_sync}
 use Rattle.raft_base_scenarios.proofs.memory_files.holds.Goals as goal
 
 pub is_answered-requires-send-F : goal.is_answered-requires-send-F

@@ -1,4 +1,4 @@
-use Rattle.raft_env.proofs.TornLemmas.{choices_may_leave}
+use Rattle.raft_memory.proofs.TornLemmas.{choices_may_leave}
 use Rattle.raft_premise.proofs.PremiseLemmas.{records_told, records_torn, log_whole}
 use Rattle.raft_premise.proofs.PastLemmas.{own_told, now_is_read, synced_is_read}
 use Rattle.raft_premise.proofs.ToldLemmas.{broken_zeros}

@@ -1,5 +1,5 @@
 use denote.Param.Send.{sendable}
-use Rattle.raft_env.proofs.Sent.{memory_send, memory_sync}
+use Rattle.raft_memory.proofs.Sent.{memory_send, memory_sync}
 use Rattle.raft_scenarios.proofs.crashes.played.Goals as goal
 
 pub open-requires-send-F : goal.open-requires-send-F

@@ -1,5 +1,5 @@
 use denote.Param.Send.{sendable}
-use Rattle.raft_env.proofs.Sent.{memory_send, memory_sync}
+use Rattle.raft_memory.proofs.Sent.{memory_send, memory_sync}
 use Rattle.raft_scenarios.proofs.opening.what_can_be_read_is_kept.Goals as goal
 
 pub holds-requires-send-F : goal.holds-requires-send-F

@@ -1,5 +1,5 @@
 use denote.Param.Send.{sendable}
-use Rattle.raft_env.proofs.Sent.{memory_send, memory_sync}
+use Rattle.raft_memory.proofs.Sent.{memory_send, memory_sync}
 use Rattle.raft_script.proofs.program.crash.Goals as goal
 
 pub give_up-requires-send-F : goal.give_up-requires-send-F

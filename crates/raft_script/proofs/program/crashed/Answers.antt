@@ -1,5 +1,5 @@
 use denote.Param.Send.{sendable}
-use Rattle.raft_env.proofs.Sent.{memory_send, memory_sync}
+use Rattle.raft_memory.proofs.Sent.{memory_send, memory_sync}
 use Rattle.raft_script.proofs.program.crashed.Goals as goal
 
 pub count_files-requires-send-F : goal.count_files-requires-send-F

@@ -1,5 +1,5 @@
 use denote.Param.Send.{sendable}
-use Rattle.raft_env.proofs.Sent.{memory_send, memory_sync}
+use Rattle.raft_memory.proofs.Sent.{memory_send, memory_sync}
 use Rattle.raft_script.proofs.program.open.Goals as goal
 
 pub open_in_order-requires-send-F : goal.open_in_order-requires-send-F

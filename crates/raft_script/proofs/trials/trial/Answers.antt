@@ -1,10 +1,10 @@
 use denote.Param.Send.{sendable}
 use Rattle.std.proofs.Common.{ap}
-use Rattle.raft_env.proofs.Sent.{memory_send, memory_sync}
+use Rattle.raft_memory.proofs.Sent.{memory_send, memory_sync}
 use Rattle.std.proofs.lemmas.Result.{err_from_is_err_and}
 use Rattle.std.specs.String.{string_bytes}
-use Rattle.raft_env.specs.Memory.{memory_directory}
-use Rattle.raft_env.specs.Choice.{left_by}
+use Rattle.raft_memory.specs.Memory.{memory_directory}
+use Rattle.raft_memory.specs.Choice.{left_by}
 use Rattle.raft_pipes.specs.declared.config.Config.{Config}
 use Rattle.raft_script.proofs.TrialLemmas.{choices_refused, image_restarted, opened_log, opened_outside, run_shown}
 use Rattle.raft_script.proofs.trials.trial.Goals as goal

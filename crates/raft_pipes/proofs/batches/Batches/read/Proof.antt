@@ -26,7 +26,7 @@ use denote.Triple.Entry.{alive}
 use denote.Triple.Spec.{Meets, triple_of}
 use denote.Triple.Table.{entered}
 use denote.Triple.Walked.{says, Stays, stay_dropped, walk_of, ends_at, walk_Meets, Goes-dropped}
-use Rattle.raft_env.proofs.Walks.{none, none_made}
+use Rattle.raft_base.proofs.Walks.{none, none_made}
 use Rattle.raft_files.specs.Reading.{readable_batches}
 use Rattle.raft_pipes.specs.Folder.{first_file}
 use Rattle.raft_pipes.specs.contracts.batches.Batches as Batches

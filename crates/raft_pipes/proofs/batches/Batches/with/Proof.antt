@@ -25,7 +25,7 @@ use denote.Triple.Entry.{alive}
 use denote.Triple.Spec.{Meets, triple_of}
 use denote.Triple.Table.{entered}
 use denote.Triple.Walked.{says, Stays, stay_dropped, walk_of, ends_at, walk_Meets, Goes-dropped}
-use Rattle.raft_env.proofs.Walks.{none, none_made}
+use Rattle.raft_base.proofs.Walks.{none, none_made}
 use Rattle.raft_pipes.specs.contracts.batches.Batches as Batches
 use Rattle.raft_records.specs.contracts.log_batch.LogBatch as LogBatch
 use Rattle.raft_pipes.specs.contracts.batches.Batches.with as F

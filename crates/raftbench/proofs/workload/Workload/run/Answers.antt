@@ -1,5 +1,5 @@
 use denote.Param.Send.{sendable}
-use Rattle.raft_env.proofs.Sent.{memory_send, memory_sync}
+use Rattle.raft_memory.proofs.Sent.{memory_send, memory_sync}
 use Rattle.raftbench.proofs.workload.Workload.run.Goals as goal
 
 pub run_over-requires-send-F : goal.run_over-requires-send-F

@@ -1,0 +1,12 @@
+//! What all crates share: faults, files and places in them, sizes as they are written, and earlier values for clauses.
+#![tactic(auto)]
+
+pub mod errors;
+pub mod history;
+pub mod pipe_log;
+pub mod readable_size;
+
+pub use errors::{Fault, IoKind};
+pub use history::History;
+pub use pipe_log::{FileBlockHandle, FileId, LogFileContext, LogQueue, Version};
+pub use readable_size::ReadableSize;

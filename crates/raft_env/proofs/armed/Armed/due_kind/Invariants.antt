@@ -1,6 +1,0 @@
-use Rattle.std.proofs.Common.{◌≡◌, drop}
-use Rattle.raft_env.specs.Armed.{arms_of, due_kind}
-use Rattle.raft_env.proofs.armed.Armed.due_kind.Given as goal
-
-abbrev pub invariant-loop-armed : goal.invariant-loop-armed
-invariant-loop-armed l = due_kind l.call (arms_of (drop l.armed-index l.armed-items)) ≡ due_kind l.call (arms_of l.armed-items)

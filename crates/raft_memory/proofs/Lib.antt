@@ -1,0 +1,12 @@
+pub mod ArmedLemmas
+pub mod MemoryFileLemmas
+pub mod BeforeImagesLemmas
+pub mod MemoryLemmas
+pub mod ListedLemmas
+pub mod Sent
+pub mod ChoiceLemmas
+pub mod TornLemmas
+pub mod InvariantLemmas
+pub mod CrashedLemmas
+pub mod WholeLemmas
+pub mod FolderLemmas

@@ -1,0 +1,61 @@
+-- What a change of one file does to the directory that a map of files shows.
+use Rattle.std.proofs.Common.{◌≡◌, Bool, false, cond, List, [], ◌∷◌, Some, refl, sym, ◌∙◌, ap}
+use Rattle.std.specs.Prelude.{String, IsSome, is_some}
+use Rattle.std.specs.declared.alloc.Global.{Global}
+use Rattle.std.specs.String.{string_bytes, string_cmp}
+use Rattle.std.specs.Str.{bytes_eq}
+use Rattle.std.specs.Ordering.{nat_cmp, eq_by_cmp}
+use Rattle.std.specs.Cmp.Lexicographic.{slice_cmp, nat_list_cmp_total}
+use Rattle.std.specs.Cmp.{eq_by_cmp_equiv}
+use Rattle.std.specs.BTreeMap as tree
+use Rattle.std.specs.Map.{lookup, set_value}
+use Rattle.std.specs.FinMap as finite
+use Rattle.std.proofs.lemmas.Map.Text.{btree_map_updates_text, is_eq-slice_cmp}
+use Rattle.std.proofs.lemmas.Map.Steps.{set_value_same}
+use Rattle.raft_env.specs.Outcomes.{File, settled}
+use Rattle.raft_env.specs.Directory.{Path, file_at, placed, changed, changed_at, created}
+use Rattle.raft_memory.specs.declared.namespace.Namespace.{Namespace}
+use Rattle.raft_memory.specs.Files.{Files, by_bytes, directory_of, folders_of, namespace_directory}
+
+pub path_cmp-IsAntisymmetric : finite.IsAntisymmetric (slice_cmp nat_cmp)
+path_cmp-IsAntisymmetric = finite.slice_cmp-IsAntisymmetric finite.nat_cmp-IsAntisymmetric
+
+find-by_bytes : (es : List (String Global × File)) (p : Path) → finite.find (slice_cmp nat_cmp) p (by_bytes es) ≡ lookup (tree.is_at (λ k. slice_cmp nat_cmp p (string_bytes k))) es
+find-by_bytes [] p = refl
+find-by_bytes (e ∷ es) p = ap (λ o. cond (eq_by_cmp (slice_cmp nat_cmp) p (string_bytes e.0)) (Some e.1) o) (find-by_bytes es p)
+
+pub file_at-directory_of : (m : Files) (is_folder : Path → Bool) (p : Path) → file_at (directory_of m is_folder) p ≡ tree.get_by_text m p
+file_at-directory_of m is_folder p = finite.get-from_entries nat_list_cmp_total (by_bytes m.entries) p ∙ find-by_bytes m.entries p
+
+turned : (p q : Path) → bytes_eq p q ≡ eq_by_cmp (slice_cmp nat_cmp) q p
+turned p q = sym (is_eq-slice_cmp p q) ∙ (eq_by_cmp_equiv nat_list_cmp_total).symm p q
+
+-- with another file at a path
+pub placed_after : (m n : Files) (is_folder : Path → Bool) (p : Path) (w : File) → tree.UpdatesBy string_cmp (λ k. slice_cmp nat_cmp p (string_bytes k)) m n (Some w) → directory_of n is_folder ≡ placed p w (directory_of m is_folder)
+placed_after m n is_folder p w updates =
+    let same = finite.same_map nat_list_cmp_total path_cmp-IsAntisymmetric (directory_of n is_folder).files (finite.insert (directory_of m is_folder).files p w) (λ q.
+    file_at-directory_of n is_folder q ∙ btree_map_updates_text p m n (Some w) updates q ∙ ap (λ b. cond b (Some w) (tree.get_by_text m q)) (turned p q) ∙ ap (cond (eq_by_cmp (slice_cmp nat_cmp) q p) (Some w)) (sym (file_at-directory_of m is_folder q))
+    ∙ sym (finite.get-insert nat_list_cmp_total (directory_of m is_folder).files p w q)) in
+    λ i. record { files = same i; is_folder = is_folder }
+
+-- the same file at its path again
+pub same_after : (m n : Files) (is_folder : Path → Bool) (p : Path) (w : File) → tree.get_by_text m p ≡ Some w → n.entries ≡ set_value (tree.is_at (λ k. slice_cmp nat_cmp p (string_bytes k))) m.entries w → directory_of n is_folder ≡ directory_of m is_folder
+same_after m n is_folder p w is written =
+    let same : n.entries ≡ m.entries = written ∙ set_value_same _ m.entries w is in
+    λ i. record { files = finite.from_entries (by_bytes (same i)); is_folder = is_folder }
+
+-- the file at a path, changed
+pub changed_after : (m n : Files) (is_folder : Path → Bool) (p : Path) (f : File → File) (old w : File) → tree.get_by_text m p ≡ Some old → w ≡ f old → tree.UpdatesBy string_cmp (λ k. slice_cmp nat_cmp p (string_bytes k)) m n (Some w)
+    → directory_of n is_folder ≡ changed p f (directory_of m is_folder)
+changed_after m n is_folder p f old w is done updates =
+    placed_after m n is_folder p w updates ∙ ap (λ (x : File). placed p x (directory_of m is_folder)) done ∙ ap (λ o. changed_at p f o (directory_of m is_folder)) (sym (file_at-directory_of m is_folder p ∙ is))
+
+pub created_after : (m n : Files) (is_folder : Path → Bool) (p : Path) → is_some (tree.get_by_text m p) ≡ false → tree.UpdatesBy string_cmp (λ k. slice_cmp nat_cmp p (string_bytes k)) m n (Some (settled [])) → directory_of n is_folder ≡ created p (directory_of m is_folder)
+created_after m n is_folder p none updates = rw (ap is_some (file_at-directory_of m is_folder p) ∙ none) (placed_after m n is_folder p (settled []) updates)
+
+-- the same of a tree
+pub file_at-namespace_directory : (t : Namespace) (p : Path) → file_at (namespace_directory t) p ≡ tree.get_by_text t.files p
+file_at-namespace_directory t p = file_at-directory_of t.files (folders_of t.folders.items) p
+
+pub found_in : (t : Namespace) (p : Path) (file : File) → tree.get_by_text t.files p ≡ Some file → IsSome (file_at (namespace_directory t) p)
+found_in t p file stands = ap is_some (file_at-namespace_directory t p ∙ stands)

@@ -1,0 +1,9 @@
+pub mod MemoryFile
+pub mod Stepped
+pub mod Armed
+pub mod Files
+pub mod Counted
+pub mod Memory
+pub mod Refused
+pub mod Choice
+pub mod Crashed

@@ -1,0 +1,47 @@
+-- What a file system in memory shows.
+use Rattle.std.specs.Prelude.{◌≡◌, ℕ, ◌+◌, ◌<◌, ◌^◌, ◌==◌, ◌/◌, false, List, ◌∷◌, length, map, take, Option, Some, None}
+use Rattle.std.specs.FinMap as finite
+use Rattle.raft_env.specs.Outcomes.{written, overlaid}
+use Rattle.raft_env.specs.Directory.{Directory, IsOneOf, Path, changed}
+use Rattle.raft_base.specs.declared.errors.IoKind.{IoKind}
+use Rattle.raft_memory.specs.declared.armed.FsCall.{FsCall}
+use Rattle.raft_memory.specs.Armed.{arms_of}
+use Rattle.raft_memory.specs.Counted.{refusals_in}
+use Rattle.raft_memory.specs.Files.{namespace_directory}
+use Rattle.raft_env.specs.Refusal.{Refusals}
+use Rattle.raft_memory.specs.declared.memory.MemoryFileSystem.{MemoryFileSystem}
+
+-- the files and folders as they are now
+abbrev pub memory_directory : MemoryFileSystem → Directory
+memory_directory memory = namespace_directory memory.namespace
+
+-- each directory that there was, the newest first
+abbrev pub memory_moments : MemoryFileSystem → List Directory
+memory_moments memory = namespace_directory memory.namespace ∷ map namespace_directory memory.past.items
+
+-- how many calls were refused
+abbrev pub memory_refusals : MemoryFileSystem → Refusals
+memory_refusals memory = refusals_in memory.refusals
+
+-- no file, and only the root folder
+abbrev pub no_files : Directory
+no_files = record { files = finite.empty; is_folder = λ q. length q == 0 }
+
+-- the refusals that are armed, in that order: the sort of calls, which of them from now on (of reads, from the arming on), and as what it is refused
+abbrev pub armed_of : MemoryFileSystem → List (FsCall × ℕ × IoKind)
+armed_of memory = arms_of memory.armed.refusals.items
+
+-- which of the changing calls from now on is the first that is refused
+abbrev pub stop_of : MemoryFileSystem → Option ℕ
+stop_of memory = memory.armed.stop
+
+-- with the first half of the bytes, rounded down, written there by a call that was refused
+abbrev pub half_written : Path → ℕ → List ℕ → Directory → Directory
+half_written path at given n = changed path (λ f. written at given false
+    (overlaid f.now at (take (length given / 2) given)) f) n
+
+-- what a refused write leaves: where it was injected the first half, if the whole has room; memory for the half may be wanting, and then nothing is written
+abbrev pub LeavesHalf : Option IoKind → Path → ℕ → List ℕ → Directory → Directory → Type 0
+LeavesHalf None path at given old new = new ≡ old
+LeavesHalf (Some kind) path at given old new =
+    (2 ^ 62 < at + length given → new ≡ old) × IsOneOf old (half_written path at given old) new

@@ -1,0 +1,47 @@
+//! What only clauses read of a file. It takes no memory, and its methods do nothing at run time.
+ghost use Rattle.std.specs.Prelude.{◌≡◌, []};
+ghost use Rattle.std.specs.Borrow.{ftrue};
+ghost use Rattle.raft_env.specs.Outcomes.{File, settled};
+
+use std::marker::Model;
+
+#[derive(Drop)]
+pub(crate) struct Known {
+    pub ghost file: { File },
+}
+
+impl Model for Known {
+    ghost also_owns = { λ _. ftrue };
+}
+
+// It owns nothing.
+unsafe impl Send for Known {}
+
+unsafe impl Sync for Known {}
+
+/// What became of a file. The last slice of a step has the file's bytes then.
+#[derive(Clone, Copy, Drop)]
+pub(crate) enum Step<'a> {
+    Write(usize, &'a [u8], bool, &'a [u8]),
+    Resize(bool, &'a [u8]),
+    Sync,
+    /// A crash left these bytes.
+    Restart(&'a [u8]),
+}
+
+impl Known {
+    ghost use Rattle.raft_memory.specs.Stepped.{stepped};
+
+    pub(crate) fn new() -> Known
+        ensures { result.file ≡ settled [] }
+    {
+        Known {}
+    }
+
+    #[inline(always)]
+    pub(crate) fn then(&self, _step: &Step<'_>) -> Known
+        ensures { result.file ≡ stepped _step.now self.now.file }
+    {
+        Known {}
+    }
+}

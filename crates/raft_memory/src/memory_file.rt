@@ -1,0 +1,291 @@
+//! A file in memory: its bytes now, what its changes since the last sync wrote over, and the ranges that they touched.
+ghost use Rattle.std.specs.Prelude.{◌≡◌, ◌≤◌, ◌<◌, ◌+◌, ◌-◌, ◌==◌, ◌&&◌, ◌++◌, ◌^◌, ◌||◌, ℕ, [], length, take, drop, if◌then◌else◌, true, OnOk, OnErr, IfOk, IfErr, MatchBool, vec_len, vec_capacity};
+ghost use Rattle.raft_env.specs.Outcomes.{File, MayLeave, settled, written, resized, synced_of, longest_of, overlaid, padded, is_within};
+ghost use Rattle.raft_memory.specs.Choice.{torn};
+ghost use Rattle.raft_memory.specs.MemoryFile.{IsFileOf, IsSaved, is_covered, SameOutside};
+
+use crate::before_images::BeforeImages;
+use crate::crash::Choice;
+use crate::known::{Known, Step};
+use raft_base::Fault;
+use std::alloc::{AllocError, Global};
+use std::marker::Model;
+
+#[derive(Drop)]
+pub(crate) struct MemoryFile {
+    bytes: Vec<u8>,
+    synced_len: usize,
+    saved: BeforeImages,
+    ranges: Vec<(usize, usize)>,
+    least: usize,
+    greatest: usize,
+    known: Known,
+}
+
+impl Model for MemoryFile {
+    ghost Value = { File };
+
+    ghost view = { λ s. s.known.file };
+
+    ghost invariant = { λ s. IsFileOf s.bytes.items s.known.file.synced s.ranges.items s.least s.greatest s.known.file × IsSaved s.bytes.items s.saved s.synced_len s.known.file.synced };
+}
+
+impl MemoryFile {
+    pub(crate) fn new(alloc: Global) -> MemoryFile
+        ensures { result ≡ settled [] }
+    {
+        MemoryFile {
+            bytes: Vec::new(alloc),
+            synced_len: 0,
+            saved: BeforeImages::new(alloc),
+            ranges: Vec::new(alloc),
+            least: 0,
+            greatest: 0,
+            known: Known::new(),
+        }
+    }
+
+    pub(crate) fn bytes(&self) -> &[u8]
+        ensures value { result.now ≡ self.now.now }
+        ensures fits { length result.now < 2 ^ 63 }
+    {
+        let _known = &self.known;
+        &self.bytes
+    }
+
+    /// A write of `given`, of which `kept` reached the file.
+    pub(crate) fn write(
+        &mut self,
+        at: usize,
+        given: &[u8],
+        kept: &[u8],
+        is_done: bool,
+    ) -> Result<(), AllocError>
+        requires fits { at + length given.now < 2 ^ 63 }
+        requires part { length kept.now ≤ length given.now }
+        ensures ok { OnOk result (self.new ≡ written at given.now is_done (overlaid self.old.now at kept.now) self.old) }
+        ensures err { OnErr result (self.new ≡ self.old) }
+    {
+        self.ranges.reserve(1)?;
+        let end = self.synced_len.min(at + given.len());
+        self.saved.save(&self.bytes, at, end)?;
+        overlay(&mut self.bytes, at, kept)?;
+        add_range(&mut self.ranges, at, given.len());
+        self.least = self.least.min(self.bytes.len());
+        let longest = longest_of(is_done, at + given.len(), self.bytes.len());
+        self.greatest = self.greatest.max(longest);
+        self.known = self
+            .known
+            .then(&Step::Write(at, given, is_done, &self.bytes));
+        Ok(())
+    }
+}
+
+impl MemoryFile {
+    pub(crate) fn cut(&mut self, size: usize) -> Result<(), AllocError>
+        ensures ok { OnOk result (self.new ≡ resized true (take size self.old.now) self.old) }
+        ensures err { OnErr result (self.new ≡ self.old) }
+    {
+        self.ranges.reserve(1)?;
+        let from = size.min(self.bytes.len());
+        self.saved.save(&self.bytes, from, self.synced_len)?;
+        add_range(&mut self.ranges, from, self.bytes.len() - from);
+        self.bytes.truncate(from);
+        self.least = self.least.min(from);
+        self.greatest = self.greatest.max(from);
+        self.known = self.known.then(&Step::Resize(true, &self.bytes));
+        Ok(())
+    }
+
+    pub(crate) fn lengthen(&mut self, size: usize) -> Result<(), AllocError>
+        ensures ok { OnOk result (self.new ≡ resized true (padded self.old.now size) self.old) }
+        ensures err { OnErr result (self.new ≡ self.old) }
+    {
+        self.ranges.reserve(1)?;
+        let from = self.bytes.len();
+        let len = size.max(from);
+        self.bytes.resize(len, 0)?;
+        add_range(&mut self.ranges, from, len - from);
+        self.least = self.least.min(len);
+        self.greatest = self.greatest.max(len);
+        self.known = self.known.then(&Step::Resize(true, &self.bytes));
+        Ok(())
+    }
+
+    /// Takes no time for the bytes.
+    pub(crate) fn sync(&mut self)
+        ensures { self.new ≡ synced_of self.old }
+    {
+        self.saved.clear();
+        self.synced_len = self.bytes.len();
+        self.ranges.clear();
+        self.least = self.bytes.len();
+        self.greatest = self.bytes.len();
+        self.known = self.known.then(&Step::Sync);
+    }
+}
+
+impl MemoryFile {
+    ghost use Rattle.raft_memory.specs.Choice.{chosen, RefusesUnless};
+
+    /// A file of these bytes, which a crash leaves as they are.
+    pub(crate) fn restarted(alloc: Global, bytes: Vec<u8>) -> MemoryFile
+        ensures { result ≡ settled bytes.items }
+    {
+        let known = Known::new().then(&Step::Restart(&bytes));
+        MemoryFile {
+            synced_len: bytes.len(),
+            saved: BeforeImages::new(alloc),
+            ranges: Vec::new(alloc),
+            least: bytes.len(),
+            greatest: bytes.len(),
+            known,
+            bytes,
+        }
+    }
+
+    // The bytes of the last sync.
+    fn synced(&self, alloc: Global) -> Result<Vec<u8>, AllocError>
+        ensures ok { IfOk result (λ synced. synced.items ≡ self.now.synced) }
+    {
+        let mut synced = self.bytes.to_vec(alloc)?;
+        synced.resize(self.synced_len, 0)?;
+        self.saved.restore(&mut synced);
+        Ok(synced)
+    }
+
+    /// What the choice leaves of the file.
+    pub(crate) fn left(&self, alloc: Global, choice: &Choice) -> Result<Vec<u8>, Fault>
+        ensures ok { IfOk result (λ left. left.items ≡ chosen choice.now self.now) }
+        ensures allowed { OnOk result (MayLeave self.now (chosen choice.now self.now)) }
+        ensures refused { IfErr result (RefusesUnless (MayLeave self.now (chosen choice.now self.now))) }
+    {
+        match choice {
+            Choice::All => Ok(self.bytes.to_vec(alloc)?),
+            Choice::Synced => Ok(self.synced(alloc)?),
+            Choice::Torn(kept, fill) => Ok(torn_bytes(
+                alloc,
+                &self.bytes,
+                &self.ranges,
+                *kept,
+                *fill,
+            )?),
+            Choice::Bytes(bytes) => {
+                let synced = self.synced(alloc)?;
+                if bytes.len() < self.least
+                    || bytes.len() > self.greatest
+                    || !same_outside(bytes, &synced, &self.ranges)
+                {
+                    return Err(Fault::InvalidArgument("no crash leaves these bytes"));
+                }
+                Ok(bytes.to_vec(alloc)?)
+            }
+        }
+    }
+}
+
+// Whether the bytes are those of the last sync but in the ranges.
+fn same_outside(bytes: &[u8], synced: &[u8], ranges: &[(usize, usize)]) -> bool
+    ensures { MatchBool result (SameOutside ranges.now synced.now bytes.now) (SameOutside ranges.now synced.now bytes.now → ⊥) }
+{
+    for (i, byte) in bytes.iter().enumerate() {
+        if i < synced.len() && *byte != synced[i] && !covers(ranges, i) {
+            return false;
+        }
+    }
+    true
+}
+
+fn covers(ranges: &[(usize, usize)], i: usize) -> bool
+    ensures { result ≡ is_covered ranges.now i }
+{
+    ranges.iter().any(|r| r.0 <= i && i - r.0 < r.1)
+}
+
+// The bytes now, of which only the first few that the ranges cover are kept.
+fn torn_bytes(
+    alloc: Global,
+    now: &[u8],
+    ranges: &[(usize, usize)],
+    kept: usize,
+    fill: u8,
+) -> Result<Vec<u8>, AllocError>
+    ensures { IfOk result (λ bytes. bytes.items ≡ torn (is_covered ranges.now) kept fill now.now) }
+{
+    let mut bytes = Vec::new(alloc);
+    let mut left = kept;
+    for (i, byte) in now.iter().enumerate() {
+        let is_covered = covers(ranges, i);
+        bytes.push(byte_of(is_covered, left, *byte, fill))?;
+        left = left_after(is_covered, left);
+    }
+    Ok(bytes)
+}
+
+fn byte_of(is_covered: bool, left: usize, byte: u8, fill: u8) -> u8
+    ensures { result ≡ (if is_covered && left == 0 then fill else byte) }
+{
+    if is_covered && left == 0 { fill } else { byte }
+}
+
+fn left_after(is_covered: bool, left: usize) -> usize
+    ensures { result ≡ left - (if is_covered then 1 else 0) }
+{
+    if is_covered {
+        left.saturating_sub(1)
+    } else {
+        left
+    }
+}
+
+// Inside a write up to an end that was refused the file may have had the length of that end.
+fn longest_of(is_done: bool, end: usize, len: usize) -> usize
+    ensures { result ≡ longest_of is_done end len }
+{
+    if is_done { len } else { len.max(end) }
+}
+
+// A range that begins where the last one ends is joined to it, so appends stay one range.
+fn add_range(ranges: &mut Vec<(usize, usize)>, from: usize, size: usize)
+    requires fits { from + size < 2 ^ 64 }
+    requires room { vec_len ranges.old < vec_capacity ranges.old }
+    ensures { (i : ℕ) → is_covered ranges.new.items i ≡ (is_covered ranges.old.items i || is_within from size i) }
+{
+    let mut start = from;
+    if let Some(last) = ranges.last() {
+        if last.0 < from && from - last.0 == last.1 {
+            start = last.0;
+        }
+    }
+    if start < from {
+        ranges.pop();
+    }
+    let Ok(()) = ranges.push((start, from - start + size)) else {
+        unreachable!()
+    };
+}
+
+// Writes over what is there, and past the end; no bytes change nothing.
+fn overlay(bytes: &mut Vec<u8>, at: usize, given: &[u8]) -> Result<(), AllocError>
+    requires { at + length given.now < 2 ^ 63 }
+    ensures ok { OnOk result (bytes.new.items ≡ overlaid bytes.old.items at given.now) }
+    ensures err { OnErr result (bytes.new.items ≡ bytes.old.items) }
+{
+    if given.is_empty() {
+        return Ok(());
+    }
+    let end = at + given.len();
+    if end > bytes.len() {
+        bytes.resize(end, 0)?;
+    }
+    put(bytes, at, given);
+    Ok(())
+}
+
+fn put(bytes: &mut [u8], at: usize, given: &[u8])
+    requires { at + length given.now ≤ length bytes.old }
+    ensures len { length bytes.new ≡ length bytes.old }
+    ensures put { bytes.new ≡ take at bytes.old ++ given.now ++ drop (at + length given.now) bytes.old }
+{
+    bytes[at..at + given.len()].copy_from_slice(given);
+}

@@ -1,0 +1,171 @@
+//! The files and folders of a file system in memory.
+ghost use Rattle.std.specs.Prelude.{◌≡◌, ◌≤◌, ◌<◌, ◌+◌, ◌^◌, length, take, map, true, OnOk, OnErr, IfOk, IfErr};
+ghost use Rattle.std.specs.String.{string_bytes};
+ghost use Rattle.raft_env.specs.Outcomes.{written, resized, synced_of, overlaid, padded};
+ghost use Rattle.raft_env.specs.Directory.{changed, created, folder_made, names_in, HasFile};
+ghost use Rattle.raft_memory.specs.Refused.{HasNoFolder, HasNoPlace, IsAbsent, IsBarred, IsMissing};
+
+use crate::memory_file::MemoryFile;
+use raft_env::paths::{is_on_way, name_in, parent};
+use raft_env::{FsFault, IoKind};
+use std::alloc::Global;
+use std::collections::BTreeMap;
+
+pub(crate) type Files = BTreeMap<String, MemoryFile>;
+
+#[derive(Drop)]
+pub(crate) struct Namespace {
+    pub(crate) files: Files,
+    pub(crate) folders: Vec<String>,
+}
+
+impl Namespace {
+    ghost use Rattle.raft_memory.specs.Files.{namespace_directory, folders_of};
+    ghost use Rattle.raft_memory.specs.Memory.{no_files};
+
+    pub(crate) fn new(alloc: Global) -> Namespace
+        ensures value { namespace_directory result ≡ no_files }
+    {
+        Namespace {
+            files: BTreeMap::new(alloc),
+            folders: Vec::new(alloc),
+        }
+    }
+
+    pub(crate) fn has_folder(&self, path: &str) -> bool
+        ensures value { result ≡ folders_of self.now.folders.items path.now }
+    {
+        path.is_empty()
+            || self
+                .folders
+                .iter()
+                .any(|made| is_on_way(path, made.as_str()))
+    }
+
+    /// A path that stands keeps its file.
+    pub(crate) fn create(&mut self, alloc: Global, path: &str) -> Result<(), FsFault>
+        ensures ok { OnOk result (namespace_directory self.new ≡ created path.now (namespace_directory self.old)) }
+        ensures err { OnErr result (namespace_directory self.new ≡ namespace_directory self.old) }
+        ensures refused { IfErr result (HasNoPlace (namespace_directory self.old) path.now) }
+    {
+        if self.files.contains_key(path) {
+            return Ok(());
+        }
+        if self.has_folder(path) {
+            return Err(FsFault::Io(IoKind::Other));
+        }
+        if !self.has_folder(parent(path)) {
+            return Err(FsFault::Io(IoKind::NotFound));
+        }
+        self.files
+            .insert(String::from_str(alloc, path)?, MemoryFile::new(alloc))?;
+        Ok(())
+    }
+
+    pub(crate) fn make_folder(&mut self, alloc: Global, path: &str) -> Result<(), FsFault>
+        ensures ok { OnOk result (namespace_directory self.new ≡ folder_made path.now (namespace_directory self.old)) }
+        ensures err { OnErr result (namespace_directory self.new ≡ namespace_directory self.old) }
+        ensures refused { IfErr result (IsBarred (namespace_directory self.old) path.now) }
+    {
+        if self.has_folder(path) {
+            return Ok(());
+        }
+        if self.files.keys().any(|file| is_on_way(file.as_str(), path)) {
+            return Err(FsFault::Io(IoKind::Other));
+        }
+        self.folders.push(String::from_str(alloc, path)?)?;
+        Ok(())
+    }
+}
+
+impl Namespace {
+    ghost use Rattle.raft_memory.specs.Files.{namespace_directory};
+
+    pub(crate) fn write(
+        &mut self,
+        path: &str,
+        at: usize,
+        given: &[u8],
+        kept: &[u8],
+        is_done: bool,
+    ) -> Result<(), FsFault>
+        requires fits { at + length given.now < 2 ^ 63 }
+        requires part { length kept.now ≤ length given.now }
+        ensures found { OnOk result (HasFile (namespace_directory self.old) path.now) }
+        ensures ok { OnOk result (namespace_directory self.new ≡ changed path.now
+            (λ f. written at given.now is_done (overlaid f.now at kept.now) f) (namespace_directory self.old)) }
+        ensures err { OnErr result (namespace_directory self.new ≡ namespace_directory self.old) }
+        ensures refused { IfErr result (IsMissing (namespace_directory self.old) path.now) }
+    {
+        match self.files.get_mut(path) {
+            Some(file) => {
+                file.write(at, given, kept, is_done)?;
+                Ok(())
+            }
+            None => Err(FsFault::Io(IoKind::NotFound)),
+        }
+    }
+
+    pub(crate) fn cut(&mut self, path: &str, size: usize) -> Result<(), FsFault>
+        ensures found { OnOk result (HasFile (namespace_directory self.old) path.now) }
+        ensures ok { OnOk result (namespace_directory self.new ≡ changed path.now
+            (λ f. resized true (take size f.now) f) (namespace_directory self.old)) }
+        ensures err { OnErr result (namespace_directory self.new ≡ namespace_directory self.old) }
+        ensures refused { IfErr result (IsMissing (namespace_directory self.old) path.now) }
+    {
+        match self.files.get_mut(path) {
+            Some(file) => {
+                file.cut(size)?;
+                Ok(())
+            }
+            None => Err(FsFault::Io(IoKind::NotFound)),
+        }
+    }
+
+    pub(crate) fn lengthen(&mut self, path: &str, size: usize) -> Result<(), FsFault>
+        ensures found { OnOk result (HasFile (namespace_directory self.old) path.now) }
+        ensures ok { OnOk result (namespace_directory self.new ≡ changed path.now
+            (λ f. resized true (padded f.now size) f) (namespace_directory self.old)) }
+        ensures err { OnErr result (namespace_directory self.new ≡ namespace_directory self.old) }
+        ensures refused { IfErr result (IsMissing (namespace_directory self.old) path.now) }
+    {
+        match self.files.get_mut(path) {
+            Some(file) => {
+                file.lengthen(size)?;
+                Ok(())
+            }
+            None => Err(FsFault::Io(IoKind::NotFound)),
+        }
+    }
+
+    pub(crate) fn sync(&mut self, path: &str) -> Result<(), FsFault>
+        ensures found { OnOk result (HasFile (namespace_directory self.old) path.now) }
+        ensures ok { OnOk result (namespace_directory self.new ≡ changed path.now synced_of (namespace_directory self.old)) }
+        ensures err { OnErr result (namespace_directory self.new ≡ namespace_directory self.old) }
+        ensures refused { IfErr result (IsAbsent (namespace_directory self.old) path.now) }
+    {
+        match self.files.get_mut(path) {
+            Some(file) => {
+                file.sync();
+                Ok(())
+            }
+            None => Err(FsFault::Io(IoKind::NotFound)),
+        }
+    }
+
+    pub(crate) fn names(&self, alloc: Global, folder: &str) -> Result<Vec<String>, FsFault>
+        ensures value { IfOk result (λ names. map string_bytes names.items ≡ names_in folder.now (namespace_directory self.now)) }
+        ensures refused { IfErr result (HasNoFolder (namespace_directory self.now) folder.now) }
+    {
+        if !self.has_folder(folder) {
+            return Err(FsFault::Io(IoKind::NotFound));
+        }
+        let mut names = Vec::new(alloc);
+        for path in self.files.keys() {
+            if let Some(name) = name_in(folder, path.as_str()) {
+                names.push(String::from_str(alloc, name)?)?;
+            }
+        }
+        Ok(names)
+    }
+}

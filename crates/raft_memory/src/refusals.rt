@@ -1,0 +1,51 @@
+//! How often calls on files in memory were refused.
+ghost use Rattle.std.specs.Prelude.{◌≡◌};
+ghost use Rattle.raft_env.specs.Refusal.{CountsFault, added_count, no_refusals};
+
+use raft_base::History;
+use raft_env::FsFault;
+
+/// The count for want of memory is for clauses alone.
+#[derive(Drop)]
+pub(crate) struct RefusalCount {
+    storage: u64,
+    memory: History<()>,
+}
+
+impl RefusalCount {
+    ghost use Rattle.raft_memory.specs.Counted.{by_storage, refusals_in};
+
+    pub(crate) fn new() -> RefusalCount
+        ensures { refusals_in result ≡ no_refusals }
+    {
+        RefusalCount {
+            storage: 0,
+            memory: History::new(),
+        }
+    }
+
+    /// Counts the refusal, and gives it back.
+    pub(crate) fn count(&mut self, fault: FsFault) -> FsFault
+        ensures value { result ≡ fault }
+        ensures cause { CountsFault fault (refusals_in self.old) (refusals_in self.new) }
+    {
+        match fault {
+            FsFault::Io(_) => self.storage = self.storage.saturating_add(1),
+            FsFault::Memory => self.memory = self.memory.with(&()),
+        }
+        fault
+    }
+
+    /// Adds refusals by storage.
+    pub(crate) fn add(&mut self, count: u64)
+        ensures { refusals_in self.new ≡ added_count (refusals_in self.old) (by_storage count) }
+    {
+        self.storage = self.storage.saturating_add(count);
+    }
+
+    pub(crate) fn storage(&self) -> u64
+        ensures { result ≡ (refusals_in self.now).storage }
+    {
+        self.storage
+    }
+}
