@@ -1,10 +1,9 @@
 //! What an opening finds behind a crash, and behind a refusal of storage.
 
-use crate::plans::{Left, choice_of};
-use crate::states::{EMPTY, State, settings, state_of};
 use raft_env::{FileSystem, IoKind};
 use raft_log_engine::{Engine, Refused};
 use raft_memory::{FsCall, MemoryFileSystem};
+use raft_plans::{EMPTY, Left, State, choice_of, settings, state_of};
 use raft_records::{Fault, LogBatch};
 use std::alloc::Global;
 use std::test::Fail;

@@ -1,5 +1,4 @@
-//! Tests that cross crates: the program line by line, an engine over files in memory, and what is found after crashes,
-//! stops and refusals.
+//! Tests that cross crates: the program line by line, an engine over files in memory, and what is found after crashes.
 #![tactic(auto)]
 
 #[cfg(test)]
@@ -7,14 +6,4 @@ mod crashes;
 #[cfg(test)]
 mod opening;
 #[cfg(test)]
-mod plans;
-#[cfg(test)]
 mod program;
-#[cfg(test)]
-mod refusals;
-#[cfg(test)]
-mod states;
-#[cfg(test)]
-mod sweep;
-#[cfg(test)]
-mod trials;

@@ -1,9 +1,9 @@
 //! What an opening makes of a log file that can't be read to its end.
 
-use crate::states::settings;
 use raft_env::{FileSystem, FsFault, Permission};
 use raft_log_engine::{Engine, RecoveryMode};
 use raft_memory::MemoryFileSystem;
+use raft_plans::settings;
 use raft_records::Fault;
 use std::alloc::{AllocError, Global};
 use std::test::Fail;

@@ -1,7 +1,8 @@
 //! Trials: operations, a crash and an opening in one call.
 
-use crate::plans::{Answer, Change, Left, Plan, are_answers, choice_of, ops_of};
-use crate::states::{EMPTY, State, settings, state_of};
+use raft_plans::{
+    Answer, Change, EMPTY, Left, Plan, State, are_answers, choice_of, ops_of, settings, state_of,
+};
 use raft_records::Fault;
 use raft_script::{Trial, trial};
 use std::alloc::Global;

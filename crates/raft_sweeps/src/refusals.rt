@@ -1,13 +1,12 @@
 //! Operations with one call to the files refused.
 
-use crate::plans::{fault_of, ops_of};
-use crate::states::{
-    EMPTY, OPERATIONS, State, after, first_refused, is_allowed, is_done, settings, state_of,
-    value_of,
-};
 use raft_env::{FileSystem, IoKind};
 use raft_log_engine::Engine;
 use raft_memory::{Choice, FsCall, MemoryFileSystem};
+use raft_plans::{
+    EMPTY, OPERATIONS, State, after, fault_of, first_refused, is_allowed, is_done, ops_of,
+    settings, state_of, value_of,
+};
 use raft_records::Fault;
 use raft_script::{Op, Outcome, run};
 use std::alloc::Global;

@@ -1,6 +1,6 @@
 use denote.Param.Send.{sendable}
 use Rattle.raft_memory.proofs.Sent.{memory_send, memory_sync}
-use Rattle.raft_scenarios.proofs.refusals.answered.Goals as goal
+use Rattle.raft_sweeps.proofs.refusals.answered.Goals as goal
 
 pub run_over-requires-send-F : goal.run_over-requires-send-F
 run_over-requires-send-F g c = λ κs. search (sendable, memory_send) depth 20

@@ -5,12 +5,12 @@ use raft_records::Fault;
 use raft_script::{Act, Op, Outcome};
 use std::alloc::{AllocError, Global};
 
-pub(crate) enum Change {
+pub enum Change {
     Put(u64, &'static [u8], &'static [u8]),
     Delete(u64, &'static [u8]),
 }
 
-pub(crate) enum Plan {
+pub enum Plan {
     /// The changes as one batch, synced where that is asked.
     Write(&'static [Change], bool),
     Sync,
@@ -18,14 +18,14 @@ pub(crate) enum Plan {
 }
 
 /// What a crash is to leave of the log.
-pub(crate) enum Left {
+pub enum Left {
     All,
     Synced,
     Torn(usize, u8),
     Bytes(&'static [u8]),
 }
 
-pub(crate) enum Answer {
+pub enum Answer {
     Size(usize),
     Value(Option<&'static [u8]>),
 }
@@ -55,7 +55,7 @@ fn op_of(alloc: Global, plan: &Plan) -> Result<Op, AllocError> {
     }
 }
 
-pub(crate) fn ops_of(alloc: Global, plans: &[Plan]) -> Result<Vec<Op>, AllocError> {
+pub fn ops_of(alloc: Global, plans: &[Plan]) -> Result<Vec<Op>, AllocError> {
     let mut ops = Vec::new(alloc);
     for plan in plans {
         ops.push(op_of(alloc, plan)?)?;
@@ -63,7 +63,7 @@ pub(crate) fn ops_of(alloc: Global, plans: &[Plan]) -> Result<Vec<Op>, AllocErro
     Ok(ops)
 }
 
-pub(crate) fn choice_of(alloc: Global, left: &Left) -> Result<Choice, AllocError> {
+pub fn choice_of(alloc: Global, left: &Left) -> Result<Choice, AllocError> {
     match left {
         Left::All => Ok(Choice::All),
         Left::Synced => Ok(Choice::Synced),
@@ -73,7 +73,7 @@ pub(crate) fn choice_of(alloc: Global, left: &Left) -> Result<Choice, AllocError
 }
 
 /// The fault that an operation was refused with.
-pub(crate) fn fault_of(outcome: &Outcome) -> Option<&Fault> {
+pub fn fault_of(outcome: &Outcome) -> Option<&Fault> {
     match outcome {
         Outcome::Size(answer) => answer.as_ref().err(),
         Outcome::Done(answer) => answer.as_ref().err(),
@@ -91,7 +91,7 @@ fn is_answer(outcome: &Outcome, answer: &Answer) -> bool {
     }
 }
 
-pub(crate) fn are_answers(outcomes: &[Outcome], answers: &[Answer]) -> bool {
+pub fn are_answers(outcomes: &[Outcome], answers: &[Answer]) -> bool {
     let mut equal = outcomes.len() == answers.len();
     for (outcome, answer) in outcomes.iter().zip(answers.iter()) {
         equal = equal && is_answer(outcome, answer);

@@ -1,8 +1,7 @@
 //! Operations that are stopped at each call that changes files, and then crashed in many ways.
 
-use crate::plans::ops_of;
-use crate::states::{OPERATIONS, first_refused, is_allowed, is_done, settings, state_of};
 use raft_memory::Choice;
+use raft_plans::{OPERATIONS, first_refused, is_allowed, is_done, ops_of, settings, state_of};
 use raft_script::{Op, Trial, trial};
 use std::alloc::Global;
 use std::process::Abort;

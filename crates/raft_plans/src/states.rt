@@ -9,7 +9,7 @@ use std::alloc::{AllocError, Global};
 /// The first byte of the value at each key, 0 where there is none: `a` and `b` are keys of group 1, `c` and `d` of
 /// group 2.
 #[derive(Clone, Copy, Debug, PartialEq, Eq)]
-pub(crate) struct State {
+pub struct State {
     pub a: u8,
     pub b: u8,
     pub c: u8,
@@ -18,7 +18,7 @@ pub(crate) struct State {
     pub other: bool,
 }
 
-pub(crate) const EMPTY: State = State {
+pub const EMPTY: State = State {
     a: 0,
     b: 0,
     c: 0,
@@ -47,7 +47,7 @@ fn first_byte(value: &[u8]) -> u8 {
 }
 
 /// The value's byte at a key.
-pub(crate) fn value_of(state: State, group: u64, key: &[u8]) -> u8 {
+pub fn value_of(state: State, group: u64, key: &[u8]) -> u8 {
     match (group, key) {
         (1, b"a") => state.a,
         (1, b"b") => state.b,
@@ -58,7 +58,7 @@ pub(crate) fn value_of(state: State, group: u64, key: &[u8]) -> u8 {
 }
 
 /// The state after an operation that was done.
-pub(crate) fn after(state: State, op: &Op) -> State {
+pub fn after(state: State, op: &Op) -> State {
     let mut state = state;
     if let Op::Write(acts, _) = op {
         for act in acts {
@@ -72,7 +72,7 @@ pub(crate) fn after(state: State, op: &Op) -> State {
 }
 
 /// What an image shows.
-pub(crate) fn state_of(image: &Image) -> State {
+pub fn state_of(image: &Image) -> State {
     let mut state = EMPTY;
     for group in &image.groups {
         for pair in &group.pairs {
@@ -83,7 +83,7 @@ pub(crate) fn state_of(image: &Image) -> State {
 }
 
 /// Whether the operation was done: a write with its record, a sync, a look-up.
-pub(crate) fn is_done(outcome: &Outcome) -> bool {
+pub fn is_done(outcome: &Outcome) -> bool {
     match outcome {
         Outcome::Size(answer) => answer.is_ok(),
         Outcome::Done(answer) => answer.is_ok(),
@@ -92,7 +92,7 @@ pub(crate) fn is_done(outcome: &Outcome) -> bool {
 }
 
 /// The place of the first operation that was refused.
-pub(crate) fn first_refused(outcomes: &[Outcome]) -> Option<usize> {
+pub fn first_refused(outcomes: &[Outcome]) -> Option<usize> {
     outcomes.iter().position(|outcome| !is_done(outcome))
 }
 
@@ -107,7 +107,7 @@ fn covers(op: &Op) -> bool {
 
 /// Whether a log that was answered so may hold the state after a crash: that of the operations done up to a place at
 /// or behind the last one that made sure of them, or of all of them and the one in which the engine failed.
-pub(crate) fn is_allowed(
+pub fn is_allowed(
     ops: &[Op],
     outcomes: &[Outcome],
     failed_at: Option<usize>,
@@ -127,7 +127,7 @@ pub(crate) fn is_allowed(
     }
 }
 
-pub(crate) fn settings(alloc: Global) -> Result<Config, AllocError> {
+pub fn settings(alloc: Global) -> Result<Config, AllocError> {
     let mut config = Config::fresh(alloc);
     config.dir.push_str("raft")?;
     config.target_file_size = ReadableSize::kb(1);
@@ -135,7 +135,7 @@ pub(crate) fn settings(alloc: Global) -> Result<Config, AllocError> {
 }
 
 /// Operations on the four keys.
-pub(crate) const OPERATIONS: [Plan; 9] = [
+pub const OPERATIONS: [Plan; 9] = [
     Plan::Write(&[Change::Put(1, b"a", &[1])], true),
     Plan::Write(
         &[Change::Put(1, b"b", &[2; 40]), Change::Put(2, b"c", &[3])],
