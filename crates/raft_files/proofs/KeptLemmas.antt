@@ -21,7 +21,7 @@ use Rattle.raft_files.proofs.RecordsLemmas.{keeps_batches, keeps_weaker}
 use Rattle.raft_files.proofs.FreshLemmas.{header_len_within, readable_records-short}
 use Rattle.raft_files.proofs.NoneLemmas.{none_left, read_of_bytes, only_moment, none_settled, none_synced, none_appending}
 use Rattle.raft_files.proofs.TruncationLemmas.{header_within, end_of_read_within, reading-cut, keeps_cut, none_cut}
-use Rattle.raft_files.proofs.LogLemmas.{count_of, stands_after, log_cutting, torn_log_cutting, log_found}
+use Rattle.raft_files.proofs.LogLemmas.{count_of, stands_after, torn_of_log, torn_log_cutting, log_found}
 
 -- What a crash then leaves.
 
@@ -209,15 +209,13 @@ module _ (path : Path) (old new : Directory) (id : FileId) (format : LogFileForm
   pub log_syncing_kept : HasLog path id format batches synced at old → HasChanged path IsSyncing old new → IsKept path id batches synced new
   log_syncing_kept log change = kept_syncing path id batches synced old new change (log_kept path id format batches synced at old log)
 
-  pub log_closing_kept : HasLog path id format batches synced at old → HasChanged path (IsClosing at) old new → IsKept path id batches synced new
-  log_closing_kept log change =
-      let mid = placed path change.how.0 old in
-      then_synced batches change (log_kept path id format batches synced at mid (log_cutting path old mid id format batches synced at log (halfway change)))
-
   pub torn_log_closing_kept : (in_flight : List Batch) → HasTornLog path id format batches in_flight synced at old → HasChanged path (IsClosing at) old new → IsKept path id (batches ++ in_flight) synced new
   torn_log_closing_kept in_flight log change =
       let mid = placed path change.how.0 old in
       then_synced (batches ++ in_flight) change (torn_log_kept path id format batches in_flight synced at mid (torn_log_cutting path old mid id format batches in_flight synced at log (halfway change)))
+
+  pub log_closing_kept : HasLog path id format batches synced at old → HasChanged path (IsClosing at) old new → IsKept path id batches synced new
+  log_closing_kept log change = subst (λ bs. IsKept path id bs synced new) (append-nil batches) (torn_log_closing_kept [] (torn_of_log path old new id format batches synced at log) change)
 
 -- Moments of an opening.
 

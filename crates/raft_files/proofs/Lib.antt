@@ -15,7 +15,6 @@ pub mod RecordsLemmas
 pub mod LengthLemmas
 pub mod WriteLemmas
 pub mod SyncLemmas
-pub mod MomentLemmas
 pub mod WrittenLemmas
 pub mod FreshLemmas
 pub mod LogLemmas

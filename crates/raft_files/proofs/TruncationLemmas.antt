@@ -20,7 +20,7 @@ use Rattle.raft_files.proofs.PlacedLemmas.{end_of_front, placed_stands, read_in}
 use Rattle.raft_files.proofs.EmptyLemmas.{done_without_byte, has_nothing_after}
 use Rattle.raft_files.proofs.RecordsLemmas.{reads_first-kept, keeps_more}
 use Rattle.raft_files.proofs.HeldLemmas.{left_of_held, format_of-held}
-use Rattle.raft_files.proofs.LengthLemmas.{holds_same, IsCutRefused, empty_cut_refused, same_cut_refused}
+use Rattle.raft_files.proofs.LengthLemmas.{holds_same, IsBehind, cut_behind}
 
 -- The records up to the end of the reading.
 
@@ -75,16 +75,6 @@ has_no_refused_byte_before by c changes r before no_byte later d earlier e refus
 done_before : (id : FileId) (by : Option ℕ) (c : Change) (changes : List Change) (r : Placed) → r.at + r.len ≤ c.from → IsDone id by (c ∷ changes) r → IsDone id by changes r
 done_before id by c changes r before (inl no_byte) = done_without_byte id by changes r (has_no_refused_byte_before by c changes r before no_byte)
 done_before id by c changes r before (inr earlier) = earlier.1
-
--- a change that leaves the bytes before a place, and behind it nothing that it was to write
-pub record IsBehind (size : ℕ) (old : List ℕ) (c : Change) (renamed : Option ℕ) (changes : List Change) : Type 0 where
-  pub was : c.before ≡ old
-  pub given : c.given ≡ []
-  pub shortest : size ≤ c.shortest
-  pub from : size ≤ c.from
-  pub long : size ≤ length c.after
-  pub same : take size old ≡ take size c.after
-  pub empty : IsEmptyFrom size c.after renamed (c ∷ changes)
 
 -- nothing is read behind the end of the reading
 has_nothing_behind : (id : FileId) (bytes : List ℕ) (r : Reading) (renamed : Option ℕ) (changes : List Change) → reading id bytes ≡ Some r → HasNothingFrom id r.end bytes renamed changes
@@ -147,30 +137,6 @@ nothing_read id by c renamed changes unread none empty (r ∷ left) read =
     absurd (nothing by r (subst (λ all. Contains all r) (sym read.beginning.1) (0, omega arith, refl)) (omega arith) (read.done r first) (read.fresh r first))
 
 -- Truncations.
-
-pub cut_behind : (size : ℕ) (is_done : Bool) (after old : List ℕ) (renamed : Option ℕ) (changes : List Change) → size ≤ length old → Outcome is_done (take size old) (IsCutOf size old) after → IsBehind size old (cut_change size is_done after old) renamed changes
-cut_behind size true after old renamed changes within done =
-    let len : length after ≡ size = ap length done ∙ length-take-le size old within in
-    record {
-      was = refl;
-      given = refl;
-      shortest = omega arith;
-      from = omega arith;
-      long = omega arith;
-      same = sym (take-take size size old (omega arith)) ∙ ap (λ b. take size b) (sym done);
-      empty = inl (λ i above below. absurd (omega arith));
-    }
-cut_behind size false after old renamed changes within part =
-    let refused : IsCutRefused size old (cut_change size false after old) = record { from = omega arith; to = omega arith; none = refl; refused = refl; before = refl; part = part } in
-    record {
-      was = refl;
-      given = refl;
-      shortest = omega (arith, part.no_shorter);
-      from = omega arith;
-      long = omega (arith, part.no_shorter);
-      same = same_cut_refused size old (cut_change size false after old) within refused;
-      empty = empty_cut_refused size old (cut_change size false after old) renamed changes refused;
-    }
 
 -- a truncation to the end of the reading keeps the records
 pub keeps_cut : (id : FileId) (format : LogFileFormat) (records : List Placed) (synced size : ℕ) (is_done : Bool) (after : List ℕ) (file : File) → KeepsRecords id format records synced file → ReadsFirst id format (take synced records) file.now →
