@@ -1,5 +1,7 @@
 pub mod NameLemmas
 pub mod HeaderLemmas
+pub mod ChangedLemmas
+pub mod PartLemmas
 pub mod WriterLemmas
 pub mod ReaderLemmas
 pub mod RecordReaderLemmas

@@ -12,7 +12,9 @@ use Rattle.raft_files.specs.Writer.{IsStep, IsLengthened, IsAppending, capacity_
 use Rattle.raft_files.proofs.HeaderLemmas.{length-header_bytes}
 use Rattle.raft_env.proofs.ChangeLemmas.{lengthened_change, written_change}
 use Rattle.raft_files.proofs.RecordsLemmas.{readable_without_header}
-use Rattle.raft_files.proofs.FreshLemmas.{header_len_within, readable_records-short, length-padded, length-overlaid}
+use Rattle.raft_env.proofs.OverlaidLemmas.{overlaid_bounds}
+use Rattle.raft_files.proofs.PartLemmas.{length-padded}
+use Rattle.raft_files.proofs.FreshLemmas.{header_len_within, readable_records-short}
 
 -- what a crash then leaves has no batch
 pub none_left : (id : FileId) (file : File) (left : List ℕ) → KeepsNone id file → IsDetectableFile id file left → readable_batches id left ≡ []
@@ -88,7 +90,7 @@ lengthened_short id room new_room old new within short (inr (grows, inr (after, 
 step_short : (id : FileId) (given : List ℕ) (old new : File) → length given ≤ 69 → KeepsNoneShort id old → IsStep (written 0 given) (λ now. overlaid now 0 given) (IsPartOf 0 (length given)) old new → KeepsNoneShort id new
 step_short id given old new within short (inl same) = subst (KeepsNoneShort id) (sym same) short
 step_short id given old new within short (inr (after, true, done, is)) =
-    subst (KeepsNoneShort id) (sym is) (short_more id old (written_change 0 given true after old.now) short.none (omega (arith, short.short, ap length done, length-overlaid old.now given)))
+    subst (KeepsNoneShort id) (sym is) (short_more id old (written_change 0 given true after old.now) short.none (omega (arith, short.short, ap length done, (overlaid_bounds old.now 0 given).1)))
 step_short id given old new within short (inr (after, false, part, is)) =
     subst (KeepsNoneShort id) (sym is) (short_more id old (written_change 0 given false after old.now) short.none (omega (arith, short.short, part.no_longer)))
 

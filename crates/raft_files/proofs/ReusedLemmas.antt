@@ -21,7 +21,7 @@ use Rattle.raft_files.proofs.StaleLemmas.{GivesNoneFrom, ungiven, refused_gives_
 use Rattle.raft_files.proofs.HeldLemmas.{read_of_held}
 use Rattle.raft_files.proofs.SyncLemmas.{written_to_still}
 use Rattle.raft_files.proofs.NoneLemmas.{none_more}
-use Rattle.raft_files.proofs.LogLemmas.{stands_after, was_file}
+use Rattle.raft_files.proofs.ChangedLemmas.{stands_after, was_file}
 
 -- where each place is stale no record is fresh
 nothing_fresh : (renamed_after : Option ℕ) (changes : List Change) (left : List Placed) → ((i : ℕ) → IsStaleAfter renamed_after changes i) → AreFresh renamed_after changes left → left ≡ []
