@@ -16,7 +16,7 @@ use Rattle.raft_files.specs.Records.{IsRefusedAt, IsEmptyFrom, HasNothingFrom}
 use Rattle.raft_files.proofs.ExtentLemmas.{record_header_is, record_of_header}
 use Rattle.raft_files.proofs.ReadingLemmas.{found_record}
 use Rattle.raft_files.proofs.StaleLemmas.{GivesNoneFrom, fresh_before}
-use Rattle.raft_files.proofs.PlacedLemmas.{read_in}
+use Rattle.raft_files.proofs.ReadingLemmas.{read_in}
 
 header_in_zero : (footer : ℕ) → header_in 0 footer ≡ None
 header_in_zero footer = grind (arith, nat_tests)
@@ -65,16 +65,16 @@ record_of_none signature batch len e =
     absurd (omega (arith, has.long))
 
 -- what is read where zeros and bytes of refused calls stand, or stale ones, isn't done or begins at a stale place, by whatever signature what these calls were to write is judged
-pub none_done : (signature by : Option ℕ) (bytes : List ℕ) (renamed : Option ℕ) (changes : List Change) (from : ℕ) → IsEmptyFrom from bytes renamed changes → (r : Placed) → from ≤ r.at → record_at signature bytes r.at ≡ Some (r.batch, r.len) → HasNoRefusedByte by changes r → IsFreshAfter renamed changes r.at → ⊥
+pub none_done : (signature by : Option ℕ) (bytes : List ℕ) (renamed : Option ℕ) (changes : List Change) (from : ℕ) → IsEmptyFrom from bytes renamed changes → (r : Placed) → from ≤ r.at → record_at signature bytes r.at ≡ Some r → HasNoRefusedByte by changes r → IsFreshAfter renamed changes r.at → ⊥
 none_done signature by bytes renamed changes from (inr stale) r behind is no_byte fresh = fresh (stale r.at behind)
 none_done signature by bytes renamed changes from (inl empty) r behind is no_byte fresh =
-    let found = found_record signature bytes r.at r.batch r.len is in
-    elim (search_bytes (IsRefusedAt changes) bytes 8 r.at (λ i above below. empty i (omega arith) (omega (arith, found.2, found.3)))) [
-      | inl zeros ↦ record_header_zeros bytes r.at found.0 (omega (arith, found.2, found.3)) zeros found.1
+    let found = found_record signature bytes r.at r is in
+    elim (search_bytes (IsRefusedAt changes) bytes 8 r.at (λ i above below. empty i (omega arith) (omega (arith, found.long, found.within)))) [
+      | inl zeros ↦ record_header_zeros bytes r.at found.header (omega (arith, found.long, found.within)) zeros found.has
       | inr refused ↦
           let i = refused.0 in
           let q : IsRefusedAt changes i = refused.3 in
-          let given = no_byte q.0 q.1 q.2 q.3 q.4 (i, refused.1, omega (arith, refused.2, found.2), q.6, q.7) in
+          let given = no_byte q.0 q.1 q.2 q.3 q.4 (i, refused.1, omega (arith, refused.2, found.long), q.6, q.7) in
           record_of_none by r.batch r.len (sym (ap (λ b. record_of by b) q.5) ∙ given.1)
     ]
 

@@ -13,7 +13,7 @@ use Rattle.raft_files.specs.Records.{IsRefusedAt, IsEmptyFrom, HasNothingFrom, H
 use Rattle.raft_env.proofs.ChangeLemmas.{within_is, not_within, same_front, resized_change, lengthened_change, cut_change}
 use Rattle.raft_files.proofs.DetectableLemmas.{beginning_itself}
 use Rattle.raft_files.proofs.StaleLemmas.{ungiven, stale_from_more, fresh_before}
-use Rattle.raft_files.proofs.PlacedLemmas.{read_in}
+use Rattle.raft_files.proofs.ReadingLemmas.{read_in}
 use Rattle.raft_files.proofs.EmptyLemmas.{none_done, has_nothing_after}
 use Rattle.raft_files.proofs.HeldLemmas.{format_of-held, left_of_torn}
 use Rattle.raft_files.proofs.RecordsLemmas.{keeps_more, keeps_held, synced_within}

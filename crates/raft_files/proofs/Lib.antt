@@ -6,11 +6,11 @@ pub mod WriterLemmas
 pub mod ReaderLemmas
 pub mod RecordReaderLemmas
 pub mod ExtentLemmas
+pub mod PlacedLemmas
 pub mod ReadingLemmas
 pub mod ReplayLemmas
 pub mod DetectableLemmas
 pub mod StaleLemmas
-pub mod PlacedLemmas
 pub mod EmptyLemmas
 pub mod HeldLemmas
 pub mod RecordsLemmas

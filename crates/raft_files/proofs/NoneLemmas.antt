@@ -6,8 +6,8 @@ use Rattle.raft_files.specs.declared.format.LogFileFormat.{LogFileFormat}
 use Rattle.raft_files.specs.Header.{header_bytes, header_len}
 use Rattle.raft_env.specs.Outcomes.{File, Change, IsPartOf, overlaid, written, changed_by, synced_of, settled, bytes_behind}
 use Rattle.raft_files.specs.Reading.{Placed, readable_records, readable_batches}
-use Rattle.raft_files.specs.Detectable.{IsBeginningOf, format_of, signature_by, AreReadAt, AreReadBehind, IsDetectableFile}
-use Rattle.raft_files.specs.Records.{KeepsNone}
+use Rattle.raft_files.specs.Detectable.{IsBeginningOf, format_of, signature_by, IsDetectableFile}
+use Rattle.raft_files.specs.Records.{AreReadAt, AreReadBehind, KeepsNone}
 use Rattle.raft_files.specs.Writer.{IsStep, IsLengthened, IsAppending, capacity_for}
 use Rattle.raft_files.proofs.HeaderLemmas.{length-header_bytes}
 use Rattle.raft_env.proofs.ChangeLemmas.{lengthened_change, written_change}

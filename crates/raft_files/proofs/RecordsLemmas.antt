@@ -9,13 +9,13 @@ use Rattle.raft_files.specs.declared.format.LogFileFormat.{LogFileFormat}
 use Rattle.raft_files.specs.Header.{header_len, header_of}
 use Rattle.raft_env.specs.Outcomes.{File, Change, untouched_len, changed_by}
 use Rattle.raft_env.specs.Directory.{Directory, Left, Path, file_at}
-use Rattle.raft_files.specs.Reading.{Placed, end_of_records, Reading, records_behind, records_in, reading_behind, records_of, readable_records, readable_batches}
-use Rattle.raft_files.specs.Detectable.{IsBeginningOf, format_of, signature_by, AreReadAt, AreReadBehind, IsDetectableFile, IsDetectable}
-use Rattle.raft_files.specs.Records.{ReadsFirst, KeepsRecords, HasNothingFrom, HoldsRecords, FirstOf}
+use Rattle.raft_files.specs.Reading.{Placed, end_of_records, Reading, records_behind, records_in, reading_in, records_of, readable_records, readable_batches}
+use Rattle.raft_files.specs.Detectable.{IsBeginningOf, format_of, signature_by, IsDetectableFile, IsDetectable}
+use Rattle.raft_files.specs.Records.{AreReadAt, AreReadBehind, ReadsFirst, KeepsRecords, HasNothingFrom, HoldsRecords, FirstOf}
 use Rattle.raft_files.proofs.DetectableLemmas.{beginning_trans, beginning_append, beginning_take, beginning_length, beginning_is}
 use Rattle.raft_files.proofs.ExtentLemmas.{header_of_takes}
-use Rattle.raft_files.proofs.ReadingLemmas.{end_of_placed-within, records_stay, reading_is, reading-kept}
-use Rattle.raft_files.proofs.PlacedLemmas.{end_of_front}
+use Rattle.raft_files.proofs.ReadingLemmas.{records_stay, reading_is, reading-kept}
+use Rattle.raft_files.proofs.PlacedLemmas.{end_of_front, end_of_placed-within}
 use Rattle.raft_files.proofs.HeldLemmas.{format_of-held, left_of_held}
 
 -- The synced records.
@@ -24,13 +24,13 @@ pub reads_first-within : (id : FileId) (format : LogFileFormat) (records : List 
 reads_first-within id format records bytes reads =
     let is = reading_is id bytes (record { format = format; records = reads.all; end = reads.end }) reads.read in
     let from = header_len format.version in
-    let stays = records_stay format.alignment (signature_by id format) bytes in
+    let stays = records_stay id format bytes in
     let all : records_in id format bytes ≡ records ++ reads.first.0 = sym is.records ∙ reads.first.1 in
     let front = end_of_front stays (length bytes) from records reads.first.0 all in
     let taken = header_of_takes bytes format is.rest is.header in
     let long : from ≤ length bytes = omega (arith, taken.long, ap length taken.whole, length-append taken.front is.rest) in
-    let within = end_of_placed-within stays (length bytes) from long in
-    omega (arith, front, within, ap (λ rs. end_of_records from rs) all)
+    let within = end_of_placed-within stays (length bytes) from (records ++ reads.first.0) all long in
+    omega (arith, front, within)
 
 pub reads_first-kept : (id : FileId) (format : LogFileFormat) (records : List Placed) (last : ℕ) (a b : List ℕ) → ReadsFirst id format records a → take last a ≡ take last b → end_of_records (header_len format.version) records ≤ last → ReadsFirst id format records b
 reads_first-kept id format records last a b reads same within =
@@ -94,7 +94,7 @@ synced_within id format records synced at bytes holds =
     let is = reading_is id (take at bytes) r holds.read in
     let from = header_len format.version in
     let front = beginning_take synced records in
-    let stays = records_stay format.alignment (signature_by id format) (take at bytes) in
+    let stays = records_stay id format (take at bytes) in
     let before = end_of_front stays (length (take at bytes)) from (take synced records) front.0 (sym is.records ∙ front.1) in
     omega (arith, before, ap (λ rs. end_of_records from rs) front.1, is.end)
 
@@ -122,7 +122,7 @@ keeps_weaker id format records all synced fewer file keeps more less = record {
 pub readable_without_header : (id : FileId) (bytes : List ℕ) → format_of bytes ≡ None → readable_records id bytes ≡ []
 readable_without_header id bytes none = by_header (header_of bytes) none
   where
-    by_header : (header : Option (LogFileFormat × List ℕ)) → option_map (λ (h : LogFileFormat × List ℕ). h.0) header ≡ None → records_of (reading_behind id bytes header) ≡ []
+    by_header : (header : Option (LogFileFormat × List ℕ)) → option_map (λ (h : LogFileFormat × List ℕ). h.0) header ≡ None → records_of (option_map (λ (h : LogFileFormat × List ℕ). reading_in id h.0 bytes) header) ≡ []
     by_header None e = refl
     by_header (Some h) e = cc
 

@@ -7,8 +7,8 @@ use Rattle.raft_files.specs.declared.format.LogFileFormat.{LogFileFormat}
 use Rattle.raft_files.specs.Header.{HasHeader, header_bytes, header_len}
 use Rattle.raft_env.specs.Outcomes.{File, Change, synced_of}
 use Rattle.raft_files.specs.Reading.{Placed, end_of_records, Reading, records_behind, reading, records_of, readable_records, ends_with, is_read_to_end}
-use Rattle.raft_files.specs.Detectable.{IsBeginningOf, format_of, signature_by, AreReadBehind}
-use Rattle.raft_files.specs.Records.{ReadsFirst, IsEmptyFrom, HasNothingFrom, HoldsRecords, IsWrittenTo, IsTornFrom}
+use Rattle.raft_files.specs.Detectable.{IsBeginningOf, format_of, signature_by}
+use Rattle.raft_files.specs.Records.{AreReadBehind, ReadsFirst, IsEmptyFrom, HasNothingFrom, HoldsRecords, IsWrittenTo, IsTornFrom}
 use Rattle.raft_files.proofs.HeaderLemmas.{length-header_bytes}
 use Rattle.raft_files.proofs.ExtentLemmas.{same_some}
 use Rattle.raft_files.proofs.ReadingLemmas.{reading-header_bytes}

@@ -8,15 +8,15 @@ use Rattle.raft_files.specs.declared.format.LogFileFormat.{LogFileFormat}
 use Rattle.raft_files.specs.Header.{header_len}
 use Rattle.raft_env.specs.Outcomes.{File, Change, is_touched, changed_by, Outcome, IsCutOf, cut_to}
 use Rattle.raft_files.specs.Reading.{Placed, end_of_records, Reading, records_behind, reading, records_of, end_of, end_of_reading}
-use Rattle.raft_files.specs.Detectable.{IsBeginningOf, signature_by, HasNoRefusedByte, IsDone, AreReadAt}
-use Rattle.raft_files.specs.Records.{ReadsFirst, KeepsRecords, IsEmptyFrom, HasNothingFrom, HoldsRecords, KeepsNone}
+use Rattle.raft_files.specs.Detectable.{IsBeginningOf, signature_by, HasNoRefusedByte, IsDone}
+use Rattle.raft_files.specs.Records.{AreReadAt, ReadsFirst, KeepsRecords, IsEmptyFrom, HasNothingFrom, HoldsRecords, KeepsNone}
 use Rattle.raft_files.proofs.DetectableLemmas.{beginning_itself}
 use Rattle.raft_files.proofs.ExtentLemmas.{header_of_takes}
-use Rattle.raft_files.proofs.ReadingLemmas.{placed_by_past, end_of_placed-within, records_stay, reading_is, reading-kept}
+use Rattle.raft_files.proofs.ReadingLemmas.{records_stay, reading_is, reading-kept, read_in}
 use Rattle.raft_files.proofs.NoneLemmas.{none_more, read_of_bytes}
 use Rattle.raft_env.proofs.ChangeLemmas.{not_within, cut_change, cut_is}
 use Rattle.raft_files.proofs.StaleLemmas.{GivesNoneFrom, ungiven, fresh_before}
-use Rattle.raft_files.proofs.PlacedLemmas.{end_of_front, placed_stands, read_in}
+use Rattle.raft_files.proofs.PlacedLemmas.{end_of_front, placed_stands, placed_by_past, end_of_placed-within}
 use Rattle.raft_files.proofs.EmptyLemmas.{done_without_byte, has_nothing_after}
 use Rattle.raft_files.proofs.RecordsLemmas.{reads_first-kept, keeps_more}
 use Rattle.raft_files.proofs.HeldLemmas.{left_of_held, format_of-held}
@@ -34,8 +34,8 @@ pub end_of_read_within : (id : FileId) (bytes : List ℕ) (r : Reading) → read
 end_of_read_within id bytes r e =
     let is = reading_is id bytes r e in
     let from = header_len r.format.version in
-    let within = end_of_placed-within (records_stay r.format.alignment (signature_by id r.format) bytes) (length bytes) from (header_within id bytes r e) in
-    omega (arith, within, is.end, ap (λ rs. end_of_records from rs) is.records)
+    let within = end_of_placed-within (records_stay id r.format bytes) (length bytes) from r.records (sym is.records) (header_within id bytes r e) in
+    omega (arith, within, is.end)
 
 -- bytes cut where the reading ends are read to their end
 pub reading-cut : (id : FileId) (bytes : List ℕ) (r : Reading) → reading id bytes ≡ Some r → reading id (take r.end bytes) ≡ Some r
@@ -47,7 +47,7 @@ reading-cut id bytes r e =
     let ends : end_of_records from r.records ≡ r.end = sym is.end in
     let len : length cut ≡ r.end = length-take-le r.end bytes (end_of_read_within id bytes r e) in
     let none : records_behind id format cut (end_of_records from r.records) ≡ [] =
-    placed_by_past (records_stay format.alignment (signature_by id format) cut) (length cut) (end_of_records from r.records) (omega (arith, len, ends)) in
+    placed_by_past (records_stay id format cut) (length cut) (end_of_records from r.records) (omega (arith, len, ends)) in
     reading-kept id r.end bytes cut r r.records [] (sym (take-take r.end r.end bytes (omega arith))) e (sym (append-nil r.records)) (omega (arith, ends))
     ∙ ap (λ rs. Some (record { format = format; records = r.records ++ rs; end = end_of_records (end_of_records from r.records) rs })) none
     ∙ ap (λ rs. Some (record { format = format; records = rs; end = end_of_records from r.records })) (append-nil r.records)
@@ -61,7 +61,7 @@ holds_read id bytes r e = record { within = end_of_read_within id bytes r e; rea
 read_ends_before : (id : FileId) (bytes : List ℕ) (read : Reading) → reading id bytes ≡ Some read → (r : Placed) → Contains read.records r → r.at + r.len ≤ read.end
 read_ends_before id bytes read e r has =
     let is = reading_is id bytes read e in
-    omega (arith, is.end, (placed_stands (records_stay read.format.alignment (signature_by id read.format) bytes) (length bytes) (header_len read.format.version) read.records (sym is.records) r has).before)
+    omega (arith, is.end, (placed_stands (records_stay id read.format bytes) (length bytes) (header_len read.format.version) read.records (sym is.records) r has).before)
 
 -- A change behind the records that are read.
 
@@ -109,7 +109,7 @@ keeps_behind id format records synced file c keeps reads behind =
     let front = take synced records in
     let before : end_of_records from front ≤ reads.end = omega (
       arith,
-      end_of_front (records_stay format.alignment (signature_by id format) file.now) (length file.now) from front reads.first.0 (sym is.records ∙ reads.first.1),
+      end_of_front (records_stay id format file.now) (length file.now) from front reads.first.0 (sym is.records ∙ reads.first.1),
       ap (λ rs. end_of_records from rs) reads.first.1,
       is.end,
     ) in

@@ -18,7 +18,7 @@ use Rattle.raft_env.proofs.OverlaidLemmas.{length-overlaid, overlaid_outside}
 use Rattle.raft_env.proofs.DirectoryLemmas.{writing_part}
 use Rattle.raft_files.proofs.PartLemmas.{part_keeps, take-overlaid_whole}
 use Rattle.raft_files.proofs.StaleLemmas.{GivesNoneFrom, refused_gives_none, gives_none_before, stale_from_more, fresh_before}
-use Rattle.raft_files.proofs.PlacedLemmas.{read_in}
+use Rattle.raft_files.proofs.ReadingLemmas.{read_in}
 use Rattle.raft_files.proofs.EmptyLemmas.{none_done, has_nothing_after}
 use Rattle.raft_files.proofs.HeldLemmas.{format_of-held, left_of_torn}
 use Rattle.raft_files.proofs.RecordsLemmas.{keeps_more, keeps_held, synced_within}

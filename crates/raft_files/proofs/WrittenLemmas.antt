@@ -14,7 +14,7 @@ use Rattle.raft_files.specs.Writer.{IsStep, IsLengthened, IsAppending, IsAppende
 use Rattle.raft_files.proofs.DetectableLemmas.{beginning_append}
 use Rattle.raft_files.proofs.WriteLemmas.{record_given, holds_written, written_to_written, written_to_refused}
 use Rattle.raft_files.proofs.RecordsLemmas.{keeps_weaker}
-use Rattle.raft_files.proofs.PlacedLemmas.{read_in}
+use Rattle.raft_files.proofs.ReadingLemmas.{read_in}
 use Rattle.raft_files.proofs.HeldLemmas.{read_of_held, ends_in_held}
 use Rattle.raft_env.proofs.ChangeLemmas.{lengthened_is, cut_is}
 use Rattle.raft_files.proofs.LengthLemmas.{written_to_changed, torn_changed, allocation_behind, cut_behind}
