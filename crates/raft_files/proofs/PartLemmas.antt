@@ -1,6 +1,6 @@
 -- The bytes of a file at a moment of a call: others in its range alone.
 use Rattle.std.proofs.Common.{◌≡◌, ℕ, ◌+◌, ◌-◌, ◌≤◌, min, max, Bool, true, false, List, ◌++◌, length, take, drop, replicate, refl, sym, ◌∙◌, ap, subst, inl, inr, arith, length-append, length-take-le}
-use Rattle.std.proofs.lemmas.List.{take_at, take-append-le, take-take, length-replicate, length-take}
+use Rattle.std.proofs.lemmas.List.{append-nil, take_at, take-append-le, take-take, length-replicate, length-take}
 use Rattle.raft_env.specs.Outcomes.{File, IsPartOf, IsCutOf, overlaid, padded, lengthened_to, cut_to, written}
 use Rattle.raft_env.proofs.ChangeLemmas.{same_front}
 use Rattle.raft_env.proofs.DirectoryLemmas.{outside, writing_part}
@@ -33,7 +33,7 @@ step_part step wanted IsPart old new leaves none whole (inr (after, true, done, 
 step_part step wanted IsPart old new leaves none whole (inr (after, false, part, is)) = subst (IsPart old.now) (sym (ap (λ (f : File). f.now) is ∙ leaves false after)) part
 
 none_written : (at len : ℕ) (bytes : List ℕ) → IsPartOf at len bytes bytes
-none_written at len bytes = record { no_shorter = omega arith; no_longer = omega arith; elsewhere = λ i within out. refl }
+none_written at len bytes = record { no_shorter = omega arith; no_longer = omega arith; elsewhere = λ i within out. refl; unchanged = λ none. refl }
 
 pub write_part : (at : ℕ) (given : List ℕ) (old new : File) → IsStep (written at given) (λ now. overlaid now at given) (IsPartOf at (length given)) old new → IsPartOf at (length given) old.now new.now
 write_part at given old new how =
@@ -53,6 +53,7 @@ lengthened_part room new_room old new (inr (grows, how)) =
       no_shorter = omega (arith, length-padded old.now new_room);
       no_longer = omega (arith, length-padded old.now new_room);
       elsewhere = λ i within out. get_or-padded old.now new_room i;
+      unchanged = λ none. ap (λ n. old.now ++ replicate n 0) none ∙ append-nil old.now;
     }
 
 pub cutting_part : (size : ℕ) (old new : File) → IsCutting size old new → IsCutOf size old.now new.now
