@@ -1,11 +1,9 @@
 -- What stands behind the records of a log file.
-use Rattle.std.proofs.Common.{◌≡◌, ◌⊎◌, ℕ, zero, suc, ◌+◌, ◌<◌, ◌≤◌, List, [], ◌∷◌, length, take, drop, replicate, slice_index, Option, Some, None, option_and_then, refl, ap, sym, ◌∙◌, inl, inr, arith, length-drop}
+use Rattle.std.proofs.Common.{◌≡◌, ◌⊎◌, ℕ, zero, suc, ◌+◌, ◌<◌, ◌≤◌, List, [], ◌∷◌, length, take, drop, replicate, slice_index, Option, Some, None, refl, ap, sym, ◌∙◌, inl, inr, arith}
 use Rattle.std.proofs.lemmas.Bool.{cases_lt}
 use Rattle.std.proofs.lemmas.Bool.Decides.{nat_tests}
 use Rattle.std.proofs.lemmas.List.{length-take-le, length-replicate, get_or-take, get_or-drop, get_or-replicate, ext_get_or}
 use Rattle.std.specs.Int.{w64, from_be_bytes}
-use Rattle.raft_codec.specs.Number.{take_u64}
-use Rattle.raft_codec.proofs.NumberLemmas.{take_u64_long}
 use Rattle.raft_records.specs.Item.{Batch}
 use Rattle.raft_records.specs.Record.{Header, header_in, record_header, record_of}
 use Rattle.raft_base.specs.declared.pipe_log.FileId.{FileId}
@@ -13,7 +11,7 @@ use Rattle.raft_env.specs.Outcomes.{Change}
 use Rattle.raft_files.specs.Reading.{Placed, record_at}
 use Rattle.raft_files.specs.Detectable.{HasNoRefusedByte, IsDone, IsFreshAfter}
 use Rattle.raft_files.specs.Records.{IsRefusedAt, IsEmptyFrom, HasNothingFrom}
-use Rattle.raft_files.proofs.ExtentLemmas.{record_header_is, record_of_header}
+use Rattle.raft_files.proofs.ExtentLemmas.{record_header_is, record_header_long, record_of_header}
 use Rattle.raft_files.proofs.ReadingLemmas.{found_record}
 use Rattle.raft_files.proofs.StaleLemmas.{GivesNoneFrom, fresh_before}
 use Rattle.raft_files.proofs.ReadingLemmas.{read_in}
@@ -30,16 +28,11 @@ record_header_zeros bytes at header long zeros e =
     let has = record_header_is (drop at bytes) header e in
     let front = take 8 (drop at bytes) in
     let len : length front ≡ 8 = length-take-le 8 (drop at bytes) (omega (arith, has.long)) in
-    let first = take_u64_long (drop at bytes) (omega (arith, has.long)) in
-    let second = take_u64_long (drop 8 (drop at bytes)) (omega (arith, has.long, length-drop 8 (drop at bytes))) in
     let none : front ≡ replicate 8 0 =
     ext_get_or 0 front (replicate 8 0) (omega (arith, len, length-replicate {A = ℕ} 8 0))
     (λ i within. get_or-take 8 (drop at bytes) i 0 (omega (arith, len)) ∙ get_or-drop at bytes i 0 ∙ zeros (at + i) (omega arith) (omega (arith, len)) ∙ sym (get_or-replicate {A = ℕ} 8 i 0 0 (omega (arith, len)))) in
     let other = from_be_bytes w64 (take 8 (drop 8 (drop at bytes))) in
-    let read : record_header (drop at bytes) ≡ header_in (from_be_bytes w64 front) other =
-    ap (λ taken. option_and_then (λ first. option_and_then (λ second. header_in first.0 second.0) (take_u64 first.1)) taken) first
-    ∙ ap (λ taken. option_and_then (λ second. header_in (from_be_bytes w64 front) second.0) taken) second in
-    let nothing : record_header (drop at bytes) ≡ None = read ∙ ap (λ b. header_in (from_be_bytes w64 b) other) none ∙ ap (λ n. header_in n other) zero_number ∙ header_in_zero other in
+    let nothing : record_header (drop at bytes) ≡ None = record_header_long (drop at bytes) has.long ∙ ap (λ b. header_in (from_be_bytes w64 b) other) none ∙ ap (λ n. header_in n other) zero_number ∙ header_in_zero other in
     absurd cc
 
 -- so many bytes are zeros, or one of them is found

@@ -20,7 +20,8 @@ use Rattle.raft_files.proofs.HeldLemmas.{reading-held, format_of_read}
 use Rattle.raft_files.proofs.RecordsLemmas.{keeps_batches, keeps_weaker}
 use Rattle.raft_files.proofs.FreshLemmas.{header_len_within, readable_records-short}
 use Rattle.raft_files.proofs.NoneLemmas.{none_left, read_of_bytes, only_moment, none_settled, none_synced, none_appending}
-use Rattle.raft_files.proofs.TruncationLemmas.{header_within, end_of_read_within, reading-cut, keeps_cut, none_cut}
+use Rattle.raft_files.proofs.TruncationLemmas.{reading-cut, keeps_cut, none_cut}
+use Rattle.raft_files.proofs.ReadingLemmas.{header_within, end_of_read_within}
 use Rattle.raft_files.proofs.LogLemmas.{count_of, torn_of_log, torn_log_cutting, log_found}
 use Rattle.raft_files.proofs.ChangedLemmas.{stands_after}
 

@@ -1,7 +1,7 @@
 -- What a truncation to the end of what is read leaves of a file.
 use Rattle.std.proofs.Common.{◌≡◌, ℕ, ◌+◌, ◌≤◌, Bool, false, List, [], ◌∷◌, ◌++◌, length, take, Option, Some, None, Contains, refl, ap, sym, subst, ◌∙◌, inl, inr, arith}
 use Rattle.std.specs.Prelude.{◌||◌}
-use Rattle.std.proofs.lemmas.List.{append-nil, take-take, length-append, length-take-le}
+use Rattle.std.proofs.lemmas.List.{append-nil, take-take, length-take-le}
 use Rattle.std.proofs.lemmas.List.Elements.{Contains-append_left}
 use Rattle.raft_base.specs.declared.pipe_log.FileId.{FileId}
 use Rattle.raft_files.specs.declared.format.LogFileFormat.{LogFileFormat}
@@ -11,31 +11,17 @@ use Rattle.raft_files.specs.Reading.{Placed, end_of_records, Reading, records_be
 use Rattle.raft_files.specs.Detectable.{IsBeginningOf, signature_by, HasNoRefusedByte, IsDone}
 use Rattle.raft_files.specs.Records.{AreReadAt, ReadsFirst, KeepsRecords, IsEmptyFrom, HasNothingFrom, HoldsRecords, KeepsNone}
 use Rattle.raft_files.proofs.DetectableLemmas.{beginning_itself}
-use Rattle.raft_files.proofs.ExtentLemmas.{header_of_takes}
-use Rattle.raft_files.proofs.ReadingLemmas.{records_stay, reading_is, reading-kept, read_in}
+use Rattle.raft_files.proofs.ReadingLemmas.{records_stay, reading_is, reading-kept, end_of_read_within, read_in}
 use Rattle.raft_files.proofs.NoneLemmas.{none_more, read_of_bytes}
 use Rattle.raft_env.proofs.ChangeLemmas.{not_within, cut_change, cut_is}
 use Rattle.raft_files.proofs.StaleLemmas.{GivesNoneFrom, ungiven, fresh_before}
-use Rattle.raft_files.proofs.PlacedLemmas.{end_of_front, placed_stands, placed_by_past, end_of_placed-within}
+use Rattle.raft_files.proofs.PlacedLemmas.{end_of_front, placed_stands, placed_by_past}
 use Rattle.raft_files.proofs.EmptyLemmas.{done_without_byte, has_nothing_after}
 use Rattle.raft_files.proofs.RecordsLemmas.{reads_first-kept, keeps_more}
 use Rattle.raft_files.proofs.HeldLemmas.{left_of_held, format_of-held}
 use Rattle.raft_files.proofs.LengthLemmas.{holds_same, IsBehind, cut_behind}
 
 -- The records up to the end of the reading.
-
-pub header_within : (id : FileId) (bytes : List ℕ) (r : Reading) → reading id bytes ≡ Some r → header_len r.format.version ≤ length bytes
-header_within id bytes r e =
-    let is = reading_is id bytes r e in
-    let header = header_of_takes bytes r.format is.rest is.header in
-    omega (arith, header.long, ap length header.whole, length-append header.front is.rest)
-
-pub end_of_read_within : (id : FileId) (bytes : List ℕ) (r : Reading) → reading id bytes ≡ Some r → r.end ≤ length bytes
-end_of_read_within id bytes r e =
-    let is = reading_is id bytes r e in
-    let from = header_len r.format.version in
-    let within = end_of_placed-within (records_stay id r.format bytes) (length bytes) from r.records (sym is.records) (header_within id bytes r e) in
-    omega (arith, within, is.end)
 
 -- bytes cut where the reading ends are read to their end
 pub reading-cut : (id : FileId) (bytes : List ℕ) (r : Reading) → reading id bytes ≡ Some r → reading id (take r.end bytes) ≡ Some r
