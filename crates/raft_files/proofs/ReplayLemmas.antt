@@ -1,13 +1,13 @@
 -- What a replay takes of a file, and what can be read of it.
-use Rattle.std.proofs.Common.{◌≡◌, ℕ, zero, suc, ◌+◌, ◌-◌, ◌≤◌, ◌&&◌, not, Bool, true, false, cond, List, [], ◌∷◌, length, take, drop, Option, Some, None, option_and_then, refl, ap, sym, subst, ◌∙◌, inl, inr, arith, ltb, length-drop}
+use Rattle.std.proofs.Common.{◌≡◌, ℕ, zero, suc, ◌+◌, ◌-◌, ◌&&◌, not, Bool, true, false, cond, List, [], ◌∷◌, length, take, drop, Option, Some, None, option_and_then, refl, ap, sym, ◌∙◌, inl, inr, arith, length-drop}
 use Rattle.std.specs.Prelude.{◌||◌, option_map}
 use Rattle.std.specs.List.{take_while}
-use Rattle.std.proofs.lemmas.Bool.{cases_Bool, eqb-true, ltb-false}
+use Rattle.std.proofs.lemmas.Bool.{cases_Bool, eqb-true}
 use Rattle.std.proofs.lemmas.List.{length-take-le}
 use Rattle.std.proofs.lemmas.List.Sums.{take_while-cons}
 use Rattle.raft_records.specs.Item.{Batch}
 use Rattle.raft_records.specs.ItemBatch.{are_key_values, compressed_refusal, parts_refusal, record_refusal}
-use Rattle.raft_records.specs.Record.{Header, Parts, Stored, batch_by, fills_block, footer_items, is_block, is_lz4_block, items_from, parts_by, record_header, record_of, record_parts}
+use Rattle.raft_records.specs.Record.{Parts, batch_by, fills_block, is_block, is_lz4_block, items_from, record_header, record_of, record_parts}
 use Rattle.raft_records.specs.Replay.{replayed_by, replayed_record}
 use Rattle.raft_base.specs.declared.errors.Fault.{Fault}
 use Rattle.raft_base.specs.declared.errors.Fault.TheVariants as fault
@@ -18,39 +18,9 @@ use Rattle.raft_files.specs.Header.{header_len, header_of}
 use Rattle.raft_files.specs.Reading.{Placed, placed_by, readable_records, reading_in, record_at, record_place, next_record, records_behind, records_of}
 use Rattle.raft_files.specs.Replay.{block_behind, has_sound_block_at, next_replayed, replayed_at, replayed_behind, replayed_in, replayed_records}
 use Rattle.raft_files.specs.declared.format.LogFileFormat.{LogFileFormat}
-use Rattle.raft_files.proofs.ExtentLemmas.{record_header_is, same_some, some_if_true, some_then}
+use Rattle.raft_files.proofs.ExtentLemmas.{parts_there, some_if, record_header_is, same_some, some_then}
 use Rattle.raft_files.proofs.ReadingLemmas.{placed_there, record_place-forward}
 use Rattle.raft_files.proofs.PlacedLemmas.{StaysBefore, cases_next, first_placed}
-
--- The parts of a record.
-
--- what stands where a record's parts were found
-record ArePartsOf (bytes : List ℕ) (p : Parts) : Type 0 where
-  pub header : record_header bytes ≡ Some p.header
-  pub within : p.header.len ≤ length bytes
-  pub block : block_behind bytes (record_header bytes) ≡ p.block
-  pub fills : (is_lz4_block p.header.is_lz4 (p.header.footer - 16) || fills_block p.items (p.header.footer - 16)) ≡ true
-
-parts_made : (short : Bool) (found : Option (List (ℕ × Stored))) (fills : List (ℕ × Stored) → Bool) (header : Header) (block : List ℕ) (parts : Parts) →
-    cond short None (option_and_then (λ items. cond (fills items) (Some (record { header = header; items = items; block = block })) None) found) ≡ Some parts →
-    (short ≡ false) × (fills parts.items ≡ true) × (header ≡ parts.header) × (block ≡ parts.block)
-parts_made true found fills header block parts e = cc
-parts_made false None fills header block parts e = cc
-parts_made false (Some items) fills header block parts e =
-    let is = some_if_true (fills items) (record { header = header; items = items; block = block }) parts e in
-    (refl, ap fills (sym (ap (λ (p : Parts). p.items) is.1)) ∙ is.0, ap (λ (p : Parts). p.header) is.1, ap (λ (p : Parts). p.block) is.1)
-
-parts_there : (signature : Option ℕ) (bytes : List ℕ) (p : Parts) → record_parts signature bytes ≡ Some p → ArePartsOf bytes p
-parts_there signature bytes p e =
-    let found = some_then (parts_by signature bytes) (record_header bytes) p e in
-    let header = found.0 in
-    let made = parts_made (ltb (length bytes) header.len) (footer_items signature (drop header.footer (take header.len bytes))) (λ items. is_lz4_block header.is_lz4 (header.footer - 16) || fills_block items (header.footer - 16)) header (take (header.footer - 16) (drop 16 bytes)) p found.2 in
-    record {
-      header = found.1 ∙ ap Some made.2;
-      within = subst (λ (h : Header). h.len ≤ length bytes) made.2 (ltb-false (length bytes) header.len made.0);
-      block = ap (block_behind bytes) found.1 ∙ made.3;
-      fills = subst (λ (h : Header). (is_lz4_block h.is_lz4 (h.footer - 16) || fills_block p.items (h.footer - 16)) ≡ true) made.2 made.1;
-    }
 
 -- a record that isn't refused has no block
 accepted_block : (signature : Option ℕ) (bytes : List ℕ) → record_refusal signature bytes ≡ None → is_block (block_behind bytes (record_header bytes)) ≡ true
@@ -119,11 +89,7 @@ record_at-replayed_at signature bytes at = ap (option_map placed) (record_of-rep
 -- a record that can be read is taken by a replay
 pub replayed_of_record : (signature : Option ℕ) (bytes : List ℕ) (x : Batch × ℕ) → record_of signature bytes ≡ Some x → replayed_record signature bytes ≡ Some x
 replayed_of_record signature bytes x e =
-    some_if_sound (is_block (block_behind bytes (record_header bytes))) (replayed_record signature bytes) (sym (record_of-replayed_record signature bytes) ∙ e)
-  where
-    some_if_sound : (b : Bool) (o : Option (Batch × ℕ)) → cond b o None ≡ Some x → o ≡ Some x
-    some_if_sound true o e = e
-    some_if_sound false o e = cc
+    some_if (is_block (block_behind bytes (record_header bytes))) (replayed_record signature bytes) x (sym (record_of-replayed_record signature bytes) ∙ e)
 
 -- one search stops where what the other finds isn't sound
 placed_by-sound : (sound : ℕ → Bool) (next next' : ℕ → Option Placed) → ((at : ℕ) → next at ≡ option_and_then (λ p. cond (sound p.at) (Some p) None) (next' at)) →

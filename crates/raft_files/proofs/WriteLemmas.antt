@@ -48,10 +48,7 @@ abbrev pub record_given : ℕ → List ℕ → Batch → Placed
 record_given at given batch = record { at = at; len = length given; batch = batch }
 
 same_placed : (r : Placed) (at len : ℕ) (batch : Batch) → r.at ≡ at → batch ≡ r.batch → len ≡ r.len → r ≡ record { at = at; len = len; batch = batch }
-same_placed r at len batch stands same_batch same_len =
-    ap (λ a. record { at = a; len = r.len; batch = r.batch }) stands
-    ∙ ap (λ l. record { at = at; len = l; batch = r.batch }) (sym same_len)
-    ∙ ap (λ b. record { at = at; len = len; batch = b }) (sym same_batch)
+same_placed r at len batch stands same_batch same_len = rw (← stands, same_batch, same_len) refl
 
 -- behind the records a crash leaves nothing but the record that the write was to write
 only_given : (id : FileId) (signature : Option ℕ) (c : Change) (renamed : Option ℕ) (changes : List Change) (batch : Batch) → HasNothingFrom id c.from c.before renamed changes → c.is_done ≡ false → c.size ≡ length c.given → record_of signature c.given ≡ Some (batch, length c.given) →
