@@ -13,7 +13,7 @@ use Rattle.raft_env.specs.Directory.{Directory, Left, Path, file_at, placed, cha
 use Rattle.raft_env.specs.Consistent.{HasItsRange, HasItsLength, IsPastOf, IsConsistent, AreConsistent}
 use Rattle.raft_env.proofs.DirectoryLemmas.{file_at-making}
 use Rattle.raft_env.proofs.OverlaidLemmas.{overlaid_bounds, overlaid_outside_part, longest_of-more}
-use Rattle.raft_env.proofs.ChangeLemmas.{not_within, cut_change, cut_is}
+use Rattle.raft_env.proofs.ChangeLemmas.{not_within}
 
 -- Files.
 
@@ -83,44 +83,26 @@ outside_is from size i apart = elim (cases_lt i from) [
 
 -- a truncation
 pub cut_consistent : (size : ℕ) (after : List ℕ) (is_done : Bool) (file : File) → IsConsistent file → Outcome is_done (take size file.now) (IsCutOf size file.now) after → IsConsistent (cut_to size is_done after file)
-cut_consistent size after is_done file old outcome = subst IsConsistent (sym (cut_is size is_done after file)) (consistent_more file (cut_change size is_done after file.now) old (cut_before is_done) (omega (arith, ap length (cut_given is_done))) (cut_len is_done) (by_outcome is_done outcome))
-  where
-    now : List ℕ
-    now = file.now
-
-    cut_before : (is_done : Bool) → (cut_change size is_done after now).before ≡ now
-    cut_before true = refl
-    cut_before false = refl
-
-    cut_given : (is_done : Bool) → (cut_change size is_done after now).given ≡ []
-    cut_given true = refl
-    cut_given false = refl
-
-    cut_len : (is_done : Bool) → HasItsLength (cut_change size is_done after now)
-    cut_len true = (omega arith, omega arith)
-    cut_len false = (omega arith, omega arith)
-
-    by_outcome : (is_done : Bool) → Outcome is_done (take size now) (IsCutOf size now) after → KeepsOutside now (cut_change size is_done after now)
-    by_outcome true done = record {
-      outside = λ i within apart.
-          let len = ap length done ∙ length-take size now in
-          let before : i < length after = elim (outside_is (min (length after) (length now)) (max (length after) (length now) - min (length after) (length now)) i apart) [
-            | inl front ↦ omega arith
-            | inr behind ↦ absurd (omega arith)
-          ] in
-          (before, ap (λ b. slice_index b i) done ∙ get_or-take size now i 0 (omega (arith, len)));
-    }
-    by_outcome false part = record {
-      outside = λ i within apart.
-          let most = min size (length now) in
-          let before : i < most = elim (outside_is most (length now - most) i apart) [
-            | inl front ↦ front
-            | inr behind ↦ absurd (omega arith)
-          ] in (
-            omega (arith, part.no_shorter),
-            sym (get_or-take most after i 0 before) ∙ ap (λ b. slice_index b i) part.kept ∙ get_or-take most now i 0 before,
-          );
-    }
+cut_consistent size after true file old done = consistent_more file _ old refl (omega arith) (omega arith, omega arith) (record {
+  outside = λ i within apart.
+      let len = ap length done ∙ length-take size file.now in
+      let before : i < length after = elim (outside_is (min (length after) (length file.now)) (max (length after) (length file.now) - min (length after) (length file.now)) i apart) [
+        | inl front ↦ omega arith
+        | inr behind ↦ absurd (omega arith)
+      ] in
+      (before, ap (λ b. slice_index b i) done ∙ get_or-take size file.now i 0 (omega (arith, len)));
+})
+cut_consistent size after false file old part = consistent_more file _ old refl (omega arith) (omega arith, omega arith) (record {
+  outside = λ i within apart.
+      let most = min size (length file.now) in
+      let before : i < most = elim (outside_is most (length file.now - most) i apart) [
+        | inl front ↦ front
+        | inr behind ↦ absurd (omega arith)
+      ] in (
+        omega (arith, part.no_shorter),
+        sym (get_or-take most after i 0 before) ∙ ap (λ b. slice_index b i) part.kept ∙ get_or-take most file.now i 0 before,
+      );
+})
 
 -- Directories.
 

@@ -25,17 +25,6 @@ file_at-placed_same path file n = map.get-insert nat_list_cmp_total n.files path
 pub file_at-placed_other : (path : Path) (file : File) (n : Directory) (q : Path) → q ≢ path → file_at (placed path file n) q ≡ file_at n q
 file_at-placed_other path file n q apart = map.get-insert nat_list_cmp_total n.files path file q ∙ ap (λ b. cond b (Some file) (file_at n q)) (other_path q path apart)
 
--- a crash leaves the beginning that no change touched
-pub untouched_stays : (file : File) (len : ℕ) (left : List ℕ) → MayLeave file left → len ≤ length file.synced → len ≤ least_len file.synced file.changes → ((i : ℕ) → i < len → is_touched file.changes i ≡ false)
-    → take len left ≡ take len file.synced
-untouched_stays file len left may fits low apart =
-    let long : len ≤ length left = omega (arith, may.no_shorter) in
-    let a : length (take len left) ≡ len = grind (arith, common_steps) in
-    let b : length (take len file.synced) ≡ len = grind (arith, common_steps) in
-    same_number_lists _ _ (a ∙ sym b) (λ k h.
-    let below : k < len = omega arith in
-    get_or-take len left k 0 below ∙ may.untouched k (omega arith) (omega arith) (apart k below) ∙ sym (get_or-take len file.synced k 0 below))
-
 pub outside : (at len i : ℕ) → i < at → is_within at len i ≡ false
 outside at len i h = grind (arith, nat_tests)
 

@@ -96,44 +96,10 @@ overlaid_bounds bytes at (byte ∷ given) =
     let len = length-overlaid bytes at (byte ∷ given) (inr (omega arith)) in
     (omega (arith, len), omega (arith, len))
 
--- and a place inside what was written there
-pub overlaid_inside : (bytes : List ℕ) (at : ℕ) (given : List ℕ) (i : ℕ) → at ≤ i → i < at + length given → get_or (overlaid bytes at given) i 0 ≡ get_or given (i - at) 0
-overlaid_inside bytes at [] i above below = absurd (omega arith)
-overlaid_inside bytes at (byte ∷ rest) i above below =
-    let given : List ℕ = byte ∷ rest in
-    let end = at + length given in
-    let front = take at (padded bytes end) in
-    let long : at ≤ length (padded bytes end) = omega (arith, length-append bytes (replicate {A = ℕ} (end - length bytes) 0), length-replicate {A = ℕ} (end - length bytes) 0) in
-    let front_len : length front ≡ at = length-take-le at (padded bytes end) long in
-    get_or-append (front ++ given) _ 0 i (omega (arith, length-append front given)) ∙ get_or-append_right front given at i 0 front_len above
-
 pub longest_of-more : (is_done : Bool) (at size left : ℕ) → left ≤ longest_of is_done at size left
 longest_of-more true at size left = omega arith
 longest_of-more false at zero left = omega arith
 longest_of-more false at (suc size) left = omega arith
-
-module _ (bytes synced given : List ℕ) (from size i : ℕ) (same_len : length synced ≡ length bytes) (end_is : from + length given ≡ min (from + size) (length bytes)) (low : from < length bytes) (is : given ≡ take (length given) (drop from bytes)) where
-  copied_by : (b : Bool) → is_within from size i ≡ b → get_or (overlaid synced from given) i 0 ≡ cond b (get_or bytes i 0) (get_or synced i 0)
-  copied_by true e =
-      let above : from ≤ i = grind (arith, nat_tests) in
-      let below : i < from + size = grind (arith, nat_tests) in
-      elim (split_at i (length bytes)) [
-        | inl inside ↦
-            let short : i < from + length given = omega arith in
-            let there : from + (i - from) ≡ i = omega arith in
-            overlaid_inside synced from given i above short ∙ ap (λ (l : List ℕ). get_or l (i - from) 0) is ∙ get_or-take (length given) (drop from bytes) (i - from) 0 (omega arith)
-            ∙ get_or-drop from bytes (i - from) 0 ∙ ap (λ (n : ℕ). get_or bytes n 0) there
-        | inr past ↦
-            let long : length (overlaid synced from given) ≤ i = omega (arith, length-overlaid synced from given (inl (omega arith))) in
-            get_or_past _ i 0 long ∙ sym (get_or_past bytes i 0 past)
-      ]
-  copied_by false e =
-      let out : is_within from (length given) i ≡ false = grind (arith, nat_tests) in
-      overlaid_outside synced from given i out
-
-  -- a range copied from the bytes
-  pub copied : get_or (overlaid synced from given) i 0 ≡ cond (is_within from size i) (get_or bytes i 0) (get_or synced i 0)
-  copied = copied_by (is_within from size i) refl
 
 -- the length at the last sync counts too
 pub least_synced : (synced : List ℕ) (changes : List Change) → least_len synced changes ≤ length synced

@@ -14,8 +14,8 @@ use Rattle.std.proofs.lemmas.Slice.Eq.{bytes_eq-Decides}
 use Rattle.std.proofs.lemmas.Str.Pattern.{NoCharPasses-char, drop_at_char}
 use Rattle.std.proofs.lemmas.List.Elements.{All-from_get_or}
 use Rattle.std.proofs.lemmas.List.{append_cancel_left, append-nil, length-append}
-use Rattle.raft_env.specs.Directory.{Path, after_folder, is_on_way, name_in, kept_name}
-use Rattle.raft_env.specs.PathParts.{IsName, IsParent, path_below}
+use Rattle.raft_env.specs.Directory.{Path, after_folder, is_on_way}
+use Rattle.raft_env.specs.PathParts.{IsName, IsParent}
 
 pub after_folder-below : (folder rest : Path) → after_folder folder (folder ++ 47 ∷ rest) ≡ Some rest
 after_folder-below [] rest = refl
@@ -79,62 +79,17 @@ is_on_way_further q folder path first second = elim (is_on_way_tells folder path
   ]
 ]
 
--- what follows a folder's path is empty or begins with a slash
-abbrev pub begins : Path → Bool
-begins [] = true
-begins (c ∷ rest) = eqb c 47
-
-pub is_on_way_begins : (folder path rest : Path) → path ≡ folder ++ rest → is_on_way folder path ≡ begins rest
-is_on_way_begins folder path [] is = is_on_way_same folder path (is ∙ append-nil folder)
-is_on_way_begins folder path (c ∷ rest) is = at_slash (eqb c 47) refl
-  where
-    longer : path ≢ folder
-    longer same = omega (arith, ap length (sym is ∙ same), length-append folder (c ∷ rest))
-
-    other : eqb c 47 ≡ false → is_on_way folder path ≢ true
-    other apart found = elim (is_on_way_tells folder path found) [
-      | inl same ↦ absurd (longer same)
-      | inr below ↦
-          let behind : c ∷ rest ≡ 47 ∷ below.0 = append_cancel_left folder _ _ (sym is ∙ below.1) in
-          let slash : c ≡ 47 = cc in
-          let yes_slash : eqb c 47 ≡ true = eq-eqb c 47 slash in
-          absurd cc
-    ]
-
-    at_slash : (b : Bool) → eqb c 47 ≡ b → is_on_way folder path ≡ eqb c 47
-    at_slash true e = is_on_way_below folder path rest (is ∙ ap (λ x. folder ++ x ∷ rest) (eqb-true c 47 e)) ∙ sym e
-    at_slash false e = false_from_ne_true _ (other e) ∙ sym e
-
-pub begins_slash : (rest : Path) (r : Bool) → (length rest ≡ 0 → ⊥) → Decides r (get_or rest 0 0 ≡ 47) → r ≡ begins rest
-begins_slash [] r some tells = absurd (some refl)
-begins_slash (c ∷ rest) r some tells = same_from_decides r (eqb c 47) tells (Decides-eqb c 47)
-
-pub not_on_way : (folder path : Path) → ((rest : Path) → path ≢ folder ++ rest) → is_on_way folder path ≡ false
-not_on_way folder path lacks = false_from_ne_true _ (λ found. elim (is_on_way_tells folder path found) [
-  | inl same ↦ absurd (lacks [] (same ∙ sym (append-nil folder)))
-  | inr below ↦ absurd (lacks (47 ∷ below.0) below.1)
-])
-
-none_after : (folder path : Path) → ((rest : Path) → path ≢ folder ++ 47 ∷ rest) → after_folder folder path ≡ None
+pub none_after : (folder path : Path) → ((rest : Path) → path ≢ folder ++ 47 ∷ rest) → after_folder folder path ≡ None
 none_after folder path lacks = at_answer (after_folder folder path) refl
   where
     at_answer : (o : Option Path) → after_folder folder path ≡ o → after_folder folder path ≡ None
     at_answer None e = e
     at_answer (Some rest) e = absurd (lacks rest (after_folder_tells folder path rest e))
 
-pub path_below_none : (folder path : Path) → (length folder ≡ 0 → ⊥) → ((rest : Path) → path ≢ folder ++ rest) → path_below folder path ≡ None
-path_below_none [] path some lacks = absurd (some refl)
-path_below_none (c ∷ folder) path some lacks = none_after (c ∷ folder) path (λ rest. lacks (47 ∷ rest))
-
-below_answer : (c : ℕ) (folder path rest : Path) (r : Option (Bor Path)) → path ≡ (c ∷ folder) ++ rest → MatchOption r ((behind : Path) → rest ≢ 47 ∷ behind) (λ x. rest ≡ 47 ∷ x.now)
-    → MatchOption r (after_folder (c ∷ folder) path ≡ None) (λ x. after_folder (c ∷ folder) path ≡ Some x.now)
-below_answer c folder path rest None is tells = none_after (c ∷ folder) path (λ behind e. tells behind (append_cancel_left (c ∷ folder) _ _ (sym is ∙ e)))
-below_answer c folder path rest (Some x) is tells = ap (λ (p : Path). after_folder (c ∷ folder) p) (is ∙ ap (λ (l : Path). (c ∷ folder) ++ l) tells) ∙ after_folder-below (c ∷ folder) x.now
-
-pub path_below_answer : (folder path rest : Path) (r : Option (Bor Path)) → (length folder ≡ 0 → ⊥) → path ≡ folder ++ rest → MatchOption r ((behind : Path) → rest ≢ 47 ∷ behind) (λ x. rest ≡ 47 ∷ x.now)
-    → MatchOption r (path_below folder path ≡ None) (λ x. path_below folder path ≡ Some x.now)
-path_below_answer [] path rest r some is tells = absurd (some refl)
-path_below_answer (c ∷ folder) path rest r some is tells = below_answer c folder path rest r is tells
+pub after_folder_answer : (folder path rest : Path) (r : Option (Bor Path)) → path ≡ folder ++ rest → MatchOption r ((behind : Path) → rest ≢ 47 ∷ behind) (λ x. rest ≡ 47 ∷ x.now)
+    → MatchOption r (after_folder folder path ≡ None) (λ x. after_folder folder path ≡ Some x.now)
+after_folder_answer folder path rest None is tells = none_after folder path (λ behind e. tells behind (append_cancel_left folder _ _ (sym is ∙ e)))
+after_folder_answer folder path rest (Some x) is tells = ap (after_folder folder) (is ∙ ap (λ (l : Path). folder ++ l) tells) ∙ after_folder-below folder x.now
 
 pub any_further : (made : List (String Global)) (q folder : Path) → is_on_way q folder ≡ true → list_any (λ p. is_on_way folder (string_bytes p)) made ≡ true → list_any (λ p. is_on_way q (string_bytes p)) made ≡ true
 any_further [] q folder first found = absurd cc
@@ -156,14 +111,6 @@ on_way_to_root q folder root found = elim (is_on_way_tells q folder found) [
 pub absorbs : (a b : Bool) → (a ≡ true → b ≡ true) → b ≡ (a || b)
 absorbs true b implied = implied refl
 absorbs false b implied = refl
-
-name_in-path_below : (folder path : Path) → name_in folder path ≡ kept_name (path_below folder path)
-name_in-path_below [] path = refl
-name_in-path_below (c ∷ folder) path = refl
-
--- what holds a slash is no name
-pub name_in_none : (folder path name : Path) → path_below folder path ≡ Some name → list_any (λ c. eqb c 47) name ≡ true → name_in folder path ≡ None
-name_in_none folder path name below slash = name_in-path_below folder path ∙ ap kept_name below ∙ ap (λ b. cond (not b) (Some name) None) slash
 
 no_slash : (path : Path) → NoCharPasses (λ d. eqb d 47) path → IsName path
 no_slash path none = All-from_get_or (λ c. c ≢ 47) path 0 (λ i within. NoCharPasses-char 47 path i none (lit< tt) within)

@@ -103,14 +103,19 @@ after_folder [] (x ∷ rest) = if x == 47 then Some rest else None
 after_folder (f ∷ folder) [] = None
 after_folder (f ∷ folder) (x ∷ path) = if f == x then after_folder folder path else None
 
+-- the name, if it is one
 abbrev pub kept_name : Option (List ℕ) → Option (List ℕ)
 kept_name None = None
 kept_name (Some name) = if is_name name then Some name else None
 
+-- what follows a folder's path; each path is below the root
+abbrev pub path_below : Path → Path → Option Path
+path_below [] path = Some path
+path_below (c ∷ folder) path = after_folder (c ∷ folder) path
+
 -- the name of a path that stands in the folder itself
 abbrev pub name_in : Path → Path → Option (List ℕ)
-name_in [] path = kept_name (Some path)
-name_in (c ∷ folder) path = kept_name (after_folder (c ∷ folder) path)
+name_in folder path = kept_name (path_below folder path)
 
 -- the names of the files in a folder, in the order of their bytes
 abbrev pub names_in : Path → Directory → List (List ℕ)
