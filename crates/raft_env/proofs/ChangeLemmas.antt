@@ -1,8 +1,9 @@
 -- One change of a file, and places in its range.
-use Rattle.std.proofs.Common.{◌≡◌, ◌⊎◌, ℕ, ◌+◌, ◌-◌, ◌<◌, ◌≤◌, min, max, Bool, true, false, List, [], length, take, slice_index, refl, sym, ◌∙◌, arith}
+use Rattle.std.proofs.Common.{◌≡◌, ◌⊎◌, ℕ, ◌+◌, ◌<◌, ◌≤◌, Bool, true, false, List, length, take, slice_index, refl, sym, ◌∙◌, arith}
 use Rattle.std.proofs.lemmas.Bool.Decides.{nat_tests}
 use Rattle.std.proofs.lemmas.List.{length-take-le, get_or-take, ext_get_or}
-use Rattle.raft_env.specs.Outcomes.{File, is_within, changed_by, lengthened_to, cut_to, lengthened_change, cut_change}
+use Rattle.raft_env.specs.Outcomes.{File, is_within, changed_by, lengthened_to, cut_to}
+pub use Rattle.raft_env.specs.Outcomes.{written_change, resized_change, lengthened_change, cut_change}
 
 pub within_is : (from size i : ℕ) → from ≤ i → i < from + size → is_within from size i ≡ true
 within_is from size i above below = grind (arith, nat_tests)

@@ -1,7 +1,7 @@
 -- Calls keep files consistent, and storage may leave of such a file all bytes now.
 use Rattle.std.proofs.Common.{◌≡◌, ◌⊎◌, ℕ, ◌+◌, ◌-◌, ◌<◌, ◌≤◌, ◌==◌, min, max, Bool, true, false, cond, List, [], ◌∷◌, ◌++◌, length, take, replicate, slice_index, Option, Some, None, is_some, refl, ap, sym, subst, ◌∙◌, inl, inr, arith}
-use Rattle.std.specs.Prelude.{◌||◌, option_map}
-use Rattle.std.proofs.lemmas.Bool.{cases_Bool, cases_lt, eqb-true}
+use Rattle.std.specs.Prelude.{option_map}
+use Rattle.std.proofs.lemmas.Bool.{cases_Bool, cases_lt, eqb-true, or_parts, or_from}
 use Rattle.std.proofs.lemmas.Bool.Decides.{nat_tests}
 use Rattle.std.proofs.lemmas.List.{get_or-take, get_or_append_left, length-append, length-take}
 use Rattle.std.proofs.lemmas.Option.{same_Some}
@@ -23,10 +23,6 @@ settled_consistent bytes = record { latest = refl; untouched = λ i within apart
 pub synced_consistent : (file : File) → IsConsistent file → IsConsistent (synced_of file)
 synced_consistent file is = record { latest = refl; untouched = λ i within apart. (within, refl); past = is.past; earlier = is.past }
 
-or_false : (a b : Bool) → a || b ≡ false → (a ≡ false) × (b ≡ false)
-or_false true b e = cc
-or_false false b e = (refl, e)
-
 -- outside its range a change leaves what stood there
 pub record KeepsOutside (old : List ℕ) (c : Change) : Type 0 where
   pub outside : (i : ℕ) → i < length old → is_within c.from c.size i ≡ false → (i < length c.after) × (slice_index c.after i ≡ slice_index old i)
@@ -35,7 +31,7 @@ consistent_more : (file : File) (c : Change) → IsConsistent file → c.before 
 consistent_more file c old before range len keeps = record {
   latest = refl;
   untouched = λ i within apart.
-      let each = or_false (is_within c.from c.size i) (is_touched file.changes i) apart in
+      let each = or_parts (is_within c.from c.size i) (is_touched file.changes i) apart in
       let stood = old.untouched i within each.1 in
       let stands = keeps.outside i stood.0 each.0 in
       (stands.0, stands.1 ∙ stood.1);
@@ -185,16 +181,13 @@ nowhere from size i none = elim (cases_lt i from) [
   | inr behind ↦ not_within from size i (inr (omega (arith, none)))
 ]
 
-touched_later : (c : Change) (changes : List Change) (i : ℕ) → is_within c.from c.size i ≡ false → is_touched changes i ≡ false → is_touched (c ∷ changes) i ≡ false
-touched_later c changes i apart further = ap (λ b. b || is_touched changes i) apart ∙ further
-
 pub before_is_untouched : (synced : List ℕ) (changes : List Change) (i : ℕ) → i < untouched_len synced changes → is_touched changes i ≡ false
 before_is_untouched synced [] i before = refl
 before_is_untouched synced (c ∷ changes) i before = elim (cases_Bool (c.size == 0)) [
   | inl none ↦
       let len = ap (λ b. cond b (untouched_len synced changes) (min c.from (untouched_len synced changes))) none in
-      touched_later c changes i (nowhere c.from c.size i (eqb-true c.size 0 none)) (before_is_untouched synced changes i (omega (arith, len)))
+      or_from _ _ (nowhere c.from c.size i (eqb-true c.size 0 none)) (before_is_untouched synced changes i (omega (arith, len)))
   | inr some ↦
       let len = ap (λ b. cond b (untouched_len synced changes) (min c.from (untouched_len synced changes))) some in
-      touched_later c changes i (not_within c.from c.size i (inl (omega (arith, len)))) (before_is_untouched synced changes i (omega (arith, len)))
+      or_from _ _ (not_within c.from c.size i (inl (omega (arith, len)))) (before_is_untouched synced changes i (omega (arith, len)))
 ]

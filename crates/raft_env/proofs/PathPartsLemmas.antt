@@ -1,20 +1,14 @@
--- What stands below a folder, and which folders are on the way to a path.
-use Rattle.std.proofs.Common.{◌≡◌, ◌≢◌, ℕ, Bool, true, false, cond, eqb, ◌||◌, List, [], ◌∷◌, ◌++◌, length, get_or, take, drop, take-append-drop, lit<, Option, Some, None, refl, sym, ◌∙◌, ap, subst, inl, inr, ◌⊎◌, Decides, append_assoc, arith}
-use Rattle.std.specs.Prelude.{is_some, not, String}
-use Rattle.std.specs.List.{list_any}
+-- What stands below a folder, and the folder of a path.
+use Rattle.std.proofs.Common.{◌≡◌, ◌≢◌, ℕ, Bool, true, false, cond, eqb, [], ◌∷◌, ◌++◌, take, drop, take-append-drop, lit<, Option, Some, None, refl, sym, ◌∙◌, ap, inl, inr}
 use Rattle.std.specs.Option.{MatchOption}
-use Rattle.std.specs.String.{string_bytes}
-use Rattle.std.specs.Str.{NoCharPasses, bytes_eq}
+use Rattle.std.specs.Str.{NoCharPasses}
 use Rattle.std.specs.Str.Pattern.{HasCharAt}
-use Rattle.std.specs.declared.alloc.Global.{Global}
 use denote.Ref.{Bor}
-use Rattle.std.proofs.lemmas.Bool.{eq-eqb, eqb-true, false_from_ne_true}
-use Rattle.std.proofs.lemmas.Bool.Decides.{Decides-eqb, same_from_decides}
-use Rattle.std.proofs.lemmas.Slice.Eq.{bytes_eq-Decides}
+use Rattle.std.proofs.lemmas.Bool.{eq-eqb, eqb-true}
 use Rattle.std.proofs.lemmas.Str.Pattern.{NoCharPasses-char, drop_at_char}
 use Rattle.std.proofs.lemmas.List.Elements.{All-from_get_or}
-use Rattle.std.proofs.lemmas.List.{append_cancel_left, append-nil, length-append}
-use Rattle.raft_env.specs.Directory.{Path, after_folder, is_on_way}
+use Rattle.std.proofs.lemmas.List.{append_cancel_left}
+use Rattle.raft_env.specs.Directory.{Path, after_folder}
 use Rattle.raft_env.specs.PathParts.{IsName, IsParent}
 
 pub after_folder-below : (folder rest : Path) → after_folder folder (folder ++ 47 ∷ rest) ≡ Some rest
@@ -22,10 +16,6 @@ after_folder-below [] rest = refl
 after_folder-below (c ∷ folder) rest = ap (λ b. cond b (after_folder folder (folder ++ 47 ∷ rest)) None) (eq-eqb c c refl) ∙ after_folder-below folder rest
 
 -- a slash, or the same byte, was found
-first_is : (b : Bool) (path rest : Path) → cond b (Some path) None ≡ Some rest → (b ≡ true) × (path ≡ rest)
-first_is true path rest is = (refl, cc)
-first_is false path rest is = absurd cc
-
 head_is : (b : Bool) (o : Option Path) (rest : Path) → cond b o None ≡ Some rest → (b ≡ true) × (o ≡ Some rest)
 head_is true o rest is = (refl, is)
 head_is false o rest is = absurd cc
@@ -33,9 +23,9 @@ head_is false o rest is = absurd cc
 pub after_folder_tells : (folder path rest : Path) → after_folder folder path ≡ Some rest → path ≡ folder ++ 47 ∷ rest
 after_folder_tells [] [] rest is = absurd cc
 after_folder_tells [] (x ∷ path) rest is =
-    let found = first_is (eqb x 47) path rest is in
+    let found = head_is (eqb x 47) (Some path) rest is in
     let slash : x ≡ 47 = eqb-true x 47 found.0 in
-    let same : path ≡ rest = found.1 in
+    let same : Some path ≡ Some rest = found.1 in
     cc
 after_folder_tells (c ∷ folder) [] rest is = absurd cc
 after_folder_tells (c ∷ folder) (x ∷ path) rest is =
@@ -43,41 +33,6 @@ after_folder_tells (c ∷ folder) (x ∷ path) rest is =
     let first : c ≡ x = eqb-true c x found.0 in
     let behind : path ≡ folder ++ 47 ∷ rest = after_folder_tells folder path rest found.1 in
     cc
-
-pub either : (a b : Bool) → (a || b) ≡ true → (a ≡ true) ⊎ (b ≡ true)
-either true b is = inl refl
-either false b is = inr is
-
-some_of : (o : Option Path) → is_some o ≡ true → (rest : Path) × (o ≡ Some rest)
-some_of None is = absurd cc
-some_of (Some rest) is = (rest, refl)
-
--- the folder is the path, or what stands before one of its slashes
-pub is_on_way_tells : (folder path : Path) → is_on_way folder path ≡ true → (path ≡ folder) ⊎ ((rest : Path) × (path ≡ folder ++ 47 ∷ rest))
-is_on_way_tells folder path is = elim (either (bytes_eq folder path) (is_some (after_folder folder path)) is) [
-  | inl same ↦ inl (sym ((bytes_eq-Decides folder path).0 same))
-  | inr found ↦ let rest = some_of (after_folder folder path) found in inr (rest.0, after_folder_tells folder path rest.0 rest.1)
-]
-
-pub or_second : (a b : Bool) → b ≡ true → (a || b) ≡ true
-or_second true b is = refl
-or_second false b is = is
-
-pub is_on_way_same : (folder path : Path) → path ≡ folder → is_on_way folder path ≡ true
-is_on_way_same folder path is = ap (λ b. b || is_some (after_folder folder path)) ((bytes_eq-Decides folder path).1 (sym is))
-
-pub is_on_way_below : (folder path rest : Path) → path ≡ folder ++ 47 ∷ rest → is_on_way folder path ≡ true
-is_on_way_below folder path rest is = or_second _ _ (ap (λ (p : Path). is_some (after_folder folder p)) is ∙ ap is_some (after_folder-below folder rest))
-
--- a folder on the way to a folder is on the way to what stands in it
-pub is_on_way_further : (q folder path : Path) → is_on_way q folder ≡ true → is_on_way folder path ≡ true → is_on_way q path ≡ true
-is_on_way_further q folder path first second = elim (is_on_way_tells folder path second) [
-  | inl same ↦ subst (λ (p : Path). is_on_way q p ≡ true) (sym same) first
-  | inr below ↦ elim (is_on_way_tells q folder first) [
-    | inl same ↦ is_on_way_below q path below.0 (below.1 ∙ ap (λ (p : Path). p ++ 47 ∷ below.0) same)
-    | inr above ↦ is_on_way_below q path (above.0 ++ 47 ∷ below.0) (below.1 ∙ ap (λ (p : Path). p ++ 47 ∷ below.0) above.1 ∙ append_assoc q (47 ∷ above.0) (47 ∷ below.0))
-  ]
-]
 
 pub none_after : (folder path : Path) → ((rest : Path) → path ≢ folder ++ 47 ∷ rest) → after_folder folder path ≡ None
 none_after folder path lacks = at_answer (after_folder folder path) refl
@@ -90,27 +45,6 @@ pub after_folder_answer : (folder path rest : Path) (r : Option (Bor Path)) → 
     → MatchOption r (after_folder folder path ≡ None) (λ x. after_folder folder path ≡ Some x.now)
 after_folder_answer folder path rest None is tells = none_after folder path (λ behind e. tells behind (append_cancel_left folder _ _ (sym is ∙ e)))
 after_folder_answer folder path rest (Some x) is tells = ap (after_folder folder) (is ∙ ap (λ (l : Path). folder ++ l) tells) ∙ after_folder-below folder x.now
-
-pub any_further : (made : List (String Global)) (q folder : Path) → is_on_way q folder ≡ true → list_any (λ p. is_on_way folder (string_bytes p)) made ≡ true → list_any (λ p. is_on_way q (string_bytes p)) made ≡ true
-any_further [] q folder first found = absurd cc
-any_further (p ∷ made) q folder first found = elim (either (is_on_way folder (string_bytes p)) _ found) [
-  | inl here ↦ ap (λ b. b || list_any (λ s. is_on_way q (string_bytes s)) made) (is_on_way_further q folder (string_bytes p) first here)
-  | inr later ↦ or_second _ _ (any_further made q folder first later)
-]
-
-pub no_bytes : (path : Path) → eqb (length path) 0 ≡ true → path ≡ []
-no_bytes [] is = refl
-no_bytes (c ∷ path) is = absurd (omega (arith, eqb-true (length (c ∷ path)) 0 is))
-
-pub on_way_to_root : (q folder : Path) → folder ≡ [] → is_on_way q folder ≡ true → eqb (length q) 0 ≡ true
-on_way_to_root q folder root found = elim (is_on_way_tells q folder found) [
-  | inl same ↦ eq-eqb (length q) 0 (ap length (sym same ∙ root))
-  | inr below ↦ absurd (omega (arith, ap length (sym below.1 ∙ root), length-append q (47 ∷ below.0)))
-]
-
-pub absorbs : (a b : Bool) → (a ≡ true → b ≡ true) → b ≡ (a || b)
-absorbs true b implied = implied refl
-absorbs false b implied = refl
 
 no_slash : (path : Path) → NoCharPasses (λ d. eqb d 47) path → IsName path
 no_slash path none = All-from_get_or (λ c. c ≢ 47) path 0 (λ i within. NoCharPasses-char 47 path i none (lit< tt) within)

@@ -50,7 +50,8 @@ created path n = cond (is_some (file_at n path)) n (placed path (settled []) n)
 abbrev pub HasFile : Directory → Path → Type 0
 HasFile n path = IsSome (file_at n path)
 
--- a moment of a call that changes one file: nothing has changed, or the call is done, or its range holds other bytes
+-- a moment of a call that changes one file: nothing has changed, or the call is done, or its range
+-- holds other bytes
 abbrev pub IsChanging : Path → (Bool → List ℕ → File → File) → (List ℕ → List ℕ)
     → (List ℕ → List ℕ → Type 0) → Directory → Directory → Type 0
 IsChanging path step wanted IsPart old new =
@@ -75,7 +76,8 @@ IsAllocating path size =
 abbrev pub IsOneOf : Directory → Directory → Directory → Type 0
 IsOneOf a b n = (n ≡ a) ⊎ (n ≡ b)
 
--- the first bytes of the slice are those of the file from that place on; none only at the end or for an empty slice
+-- the first bytes of the slice are those of the file from that place on; none only at the end or
+-- for an empty slice
 pub record IsReading (bytes : List ℕ) (at count : ℕ) (old new : List ℕ) : Type 0 where
   pub fits : count ≤ length old
   pub front : take count new ≡ take count (drop at bytes)
@@ -129,7 +131,8 @@ is_on_way folder path = bytes_eq folder path || is_some (after_folder folder pat
 abbrev pub folder_made : Path → Directory → Directory
 folder_made path n = record n { is_folder = λ q. is_on_way q path || n.is_folder q }
 
--- a moment of making a folder: the files are as before, and none, some or all of the folders to be made are there
+-- a moment of making a folder: the files are as before, and none, some or all of the folders to be
+-- made are there
 pub record IsMakingFolder (path : Path) (old new : Directory) : Type 0 where
   pub files : new.files ≡ old.files
   pub kept : (q : Path) → old.is_folder q ≡ true → new.is_folder q ≡ true

@@ -144,17 +144,17 @@ same_folders made copies is =
 -- at the end each file of the old tree has its copy
 module _ (d : Left) (t n : Namespace) (all : Copied (IsLeft d) t.files.entries n.files) where
   leaves_at : (p : Path) (file : File) (o c : Option File) → Stands (IsLeft d p) o c → o ≡ Some file → MayLeave file (d p)
-  leaves_at p file None c stands is = absurd cc
-  leaves_at p file (Some f) None stands is = absurd stands
-  leaves_at p file (Some f) (Some copy) stands is =
+  leaves_at p file None c pair is = absurd cc
+  leaves_at p file (Some f) None pair is = absurd pair
+  leaves_at p file (Some f) (Some copy) pair is =
       let same : f ≡ file = cc in
-      subst (λ (x : File). MayLeave x (d p)) same stands.0
+      subst (λ (x : File). MayLeave x (d p)) same pair.0
 
   holds_at : (p : Path) (o c : Option File) → Stands (IsLeft d p) o c → c ≡ option_map (λ _. settled (d p)) o
-  holds_at p None None stands = refl
-  holds_at p None (Some copy) stands = absurd stands
-  holds_at p (Some f) None stands = absurd stands
-  holds_at p (Some f) (Some copy) stands = ap Some stands.1
+  holds_at p None None pair = refl
+  holds_at p None (Some copy) pair = absurd pair
+  holds_at p (Some f) None pair = absurd pair
+  holds_at p (Some f) (Some copy) pair = ap Some pair.1
 
   pub leaves_all : Leaves (namespace_directory t) d
   leaves_all = record { each = λ p file is. leaves_at p file (at_path p t.files.entries) (tree.get_by_text n.files p) (all.each p) (sym (file_at-namespace_directory t p) ∙ is) }

@@ -1,4 +1,5 @@
-//! A file in memory: its bytes now, what its changes since the last sync wrote over, and the ranges that they touched.
+//! A file in memory: its bytes now, what its changes since the last sync wrote over, and the ranges
+//! that they touched.
 ghost use Rattle.std.specs.Prelude.{◌≡◌, ◌≤◌, ◌<◌, ◌+◌, ◌-◌, ◌==◌, ◌&&◌, ◌++◌, ◌^◌, ◌||◌, ℕ, [], length, take, drop, if◌then◌else◌, true, OnOk, OnErr, IfOk, IfErr, MatchBool, vec_len, vec_capacity};
 ghost use Rattle.raft_env.specs.Outcomes.{File, MayLeave, settled, written, resized, synced_of, longest_of, overlaid, padded, is_within};
 ghost use Rattle.raft_memory.specs.Choice.{torn};

@@ -1,4 +1,4 @@
-use Rattle.std.proofs.Common.{◌≡◌, ◌++◌, ◌∷◌, sym, ap, ◌∙◌, lit<}
+use Rattle.std.proofs.Common.{◌++◌, ◌∷◌, sym, ap, ◌∙◌, lit<}
 use Rattle.std.proofs.lemmas.Str.Pattern.{strip_prefix_char}
 use Rattle.raft_env.proofs.PathPartsLemmas.{none_after, after_folder_answer}
 use Rattle.raft_env.proofs.paths.after_folder.Goals as goal

@@ -2,8 +2,7 @@ use Rattle.std.proofs.Common.{◌≡◌, ◌-◌, ◌++◌, length, take, ◌∙
 use Rattle.std.specs.Prelude.{replicate}
 use Rattle.std.proofs.lemmas.Grind.{common_steps}
 use Rattle.raft_env.specs.Outcomes.{resized, padded}
-use Rattle.raft_memory.proofs.MemoryFileLemmas.{file_lengthened}
-use Rattle.raft_env.proofs.OverlaidLemmas.{lengthened}
+use Rattle.raft_memory.proofs.MemoryFileLemmas.{file_lengthened, lengthened}
 use Rattle.raft_memory.proofs.BeforeImagesLemmas.{saved_lengthened}
 use Rattle.raft_memory.proofs.memory_file.MemoryFile.lengthen.Goals as goal
 
