@@ -23,9 +23,6 @@ is_on_way_tells folder path is = elim (or_cases (bytes_eq folder path) (is_some 
   | inr found ↦ let rest = some_of (after_folder folder path) found in inr (rest.0, after_folder_tells folder path rest.0 rest.1)
 ]
 
-is_on_way_same : (folder path : Path) → path ≡ folder → is_on_way folder path ≡ true
-is_on_way_same folder path is = ap (λ b. b || is_some (after_folder folder path)) ((bytes_eq-Decides folder path).1 (sym is))
-
 is_on_way_below : (folder path rest : Path) → path ≡ folder ++ 47 ∷ rest → is_on_way folder path ≡ true
 is_on_way_below folder path rest is = or_right _ _ (ap (λ (p : Path). is_some (after_folder folder p)) is ∙ ap is_some (after_folder-below folder rest))
 

@@ -1,8 +1,8 @@
 -- What a change does to what a file keeps.
 use Rattle.std.proofs.lemmas.Bool.{or_parts, cases_lt}
-use Rattle.std.proofs.Common.{◌≡◌, ℕ, ◌-◌, ◌<◌, ◌≤◌, min, max, Bool, true, false, ◌||◌, List, [], length, length-append, take, get_or, refl, sym, ◌∙◌, ap, subst, inl, inr, arith, ◌+◌, ◌++◌, drop}
+use Rattle.std.proofs.Common.{◌≡◌, ℕ, ◌-◌, ◌<◌, ◌≤◌, min, max, Bool, true, false, ◌||◌, List, length, length-append, take, get_or, refl, sym, ◌∙◌, ap, subst, inl, inr, arith, ◌+◌, ◌++◌, drop}
 use Rattle.std.proofs.lemmas.Bool.Decides.{nat_tests}
-use Rattle.raft_env.specs.Outcomes.{File, MayLeave, is_within, written, resized, synced_of, longest_of, padded, overlaid}
+use Rattle.raft_env.specs.Outcomes.{File, MayLeave, is_within, written, resized, longest_of, padded, overlaid}
 use Rattle.raft_memory.specs.MemoryFile.{IsFileOf, is_covered}
 use Rattle.std.specs.Prelude.{replicate}
 use Rattle.std.proofs.lemmas.List.{length-replicate, get_or-take, get_or_past, length-take-le, take_all, drop_all, append-nil}
@@ -67,10 +67,6 @@ module _ (bytes synced : List ℕ) (ranges more : List (ℕ × ℕ)) (low high :
       let len : length (padded bytes size) ≡ max size (length bytes) = omega (arith, length-append bytes (replicate {A = ℕ} (size - length bytes) 0), length-replicate {A = ℕ} (size - length bytes) 0) in
       let kept = file_resized (padded bytes size) (length bytes) (max size (length bytes) - length bytes) (omega arith) (omega arith) added (λ i out. get_or-padded bytes size i) in
       subst (λ n. IsFileOf (padded bytes size) synced more (min low n) (max high n) (resized (padded bytes size) file)) len kept
-
--- and a sync
-pub file_synced : (bytes synced : List ℕ) (ranges : List (ℕ × ℕ)) (low high : ℕ) (file : File) → IsFileOf bytes synced ranges low high file → IsFileOf bytes bytes [] (length bytes) (length bytes) (synced_of file)
-file_synced bytes synced ranges low high file k = record { now = k.now; on_disk = k.now; touched = λ i. refl; agree = record { each = λ i out. refl }; low_is = ap length k.now; high_is = ap length k.now; above_low = omega arith; below_high = omega arith }
 
 module _ (bytes synced : List ℕ) (ranges : List (ℕ × ℕ)) (low high : ℕ) (file : File) (k : IsFileOf bytes synced ranges low high file) where
   -- what differs from the bytes in touched places alone may be left
