@@ -1,5 +1,7 @@
 -- What stands at a path after a change, and what a crash leaves of it.
-use Rattle.std.proofs.Common.{◌≡◌, ◌≢◌, ℕ, ◌<◌, true, false, cond, Some, refl, ◌∙◌, ap, arith}
+use Rattle.std.proofs.lemmas.List.{nil_from_length}
+use Rattle.raft_env.proofs.OverlaidLemmas.{overlaid_bounds, overlaid_outside_part}
+use Rattle.std.proofs.Common.{◌≡◌, ◌≢◌, ℕ, ◌<◌, true, false, cond, Some, refl, ◌∙◌, ap, arith, ◌≤◌, List, length}
 use Rattle.std.specs.Ordering.{nat_cmp, eq_by_cmp}
 use Rattle.std.specs.Cmp.Lexicographic.{slice_cmp, nat_list_cmp_total}
 use Rattle.std.specs.FinMap as map
@@ -7,7 +9,7 @@ use Rattle.std.proofs.lemmas.Map.Text.{is_eq-slice_cmp}
 use Rattle.std.proofs.lemmas.Slice.Eq.{bytes_eq-Decides}
 use Rattle.std.proofs.lemmas.Bool.{false_from_ne_true}
 use Rattle.std.proofs.lemmas.Bool.Decides.{nat_tests}
-use Rattle.raft_env.specs.Outcomes.{File, is_within}
+use Rattle.raft_env.specs.Outcomes.{File, is_within, IsPartOf, overlaid}
 use Rattle.raft_env.specs.Directory.{Path, Directory, file_at, placed, IsMakingFolder}
 
 pub same_path : (p : Path) → eq_by_cmp (slice_cmp nat_cmp) p p ≡ true
@@ -24,6 +26,15 @@ file_at-placed_other path file n q apart = map.get-insert nat_list_cmp_total n.f
 
 pub outside : (at len i : ℕ) → i < at → is_within at len i ≡ false
 outside at len i h = grind (arith, nat_tests)
+
+-- a write of a part of its bytes leaves others in its range alone
+pub writing_part : (at : ℕ) (given kept : List ℕ) → length kept ≤ length given → (now : List ℕ) → IsPartOf at (length given) now (overlaid now at kept)
+writing_part at given kept part now = record {
+  no_shorter = (overlaid_bounds now at kept).0;
+  no_longer = omega (arith, (overlaid_bounds now at kept).1);
+  unchanged = λ none. ap (overlaid now at) (nil_from_length kept (omega arith));
+  elsewhere = λ i h out. overlaid_outside_part now at (length given) kept part i out;
+}
 
 -- the files stay where a folder is made
 pub file_at-making : (dir path : Path) (old new : Directory) → IsMakingFolder dir old new → file_at new path ≡ file_at old path

@@ -7,7 +7,7 @@ use Rattle.raft_env.specs.Directory.{Directory, Path, file_at, placed, changed, 
 use Rattle.raft_env.specs.Consistent.{IsConsistent, AreConsistent, OnlyWritesRefusedIn, NoneRenamed}
 use Rattle.raft_memory.specs.Memory.{memory_directory, no_files}
 use Rattle.raft_memory.specs.declared.memory.MemoryFileSystem.{MemoryFileSystem}
-use Rattle.raft_memory.proofs.MemoryLemmas.{writing_part}
+use Rattle.raft_env.proofs.DirectoryLemmas.{writing_part}
 use Rattle.raft_env.proofs.ConsistentLemmas.{placed_cases, settled_consistent, synced_consistent, written_consistent, allocated_consistent, cut_consistent}
 
 -- the ghost fields of a file system in memory

@@ -1,5 +1,5 @@
 -- What a change of one file does to the directory that a map of files shows.
-use Rattle.std.proofs.Common.{◌≡◌, ℕ, ◌≤◌, Bool, false, cond, List, [], ◌∷◌, length, Option, Some, None, refl, sym, ◌∙◌, ap, inl, inr, arith}
+use Rattle.std.proofs.Common.{◌≡◌, ℕ, Bool, false, cond, List, [], ◌∷◌, Option, Some, None, refl, sym, ◌∙◌, ap, inl, inr}
 use Rattle.std.specs.Prelude.{String, IsSome, is_some}
 use Rattle.std.specs.declared.alloc.Global.{Global}
 use Rattle.std.specs.String.{string_bytes, string_cmp}
@@ -12,9 +12,7 @@ use Rattle.std.specs.Map.{lookup, set_value}
 use Rattle.std.specs.FinMap as finite
 use Rattle.std.proofs.lemmas.Map.Text.{btree_map_updates_text, is_eq-slice_cmp}
 use Rattle.std.proofs.lemmas.Map.Steps.{set_value_same}
-use Rattle.raft_env.specs.Outcomes.{File, settled, Outcome, IsPartOf, overlaid}
-use Rattle.raft_env.proofs.OverlaidLemmas.{overlaid_bounds, overlaid_outside_part}
-use Rattle.std.proofs.lemmas.List.{nil_from_length}
+use Rattle.raft_env.specs.Outcomes.{File, settled, Outcome}
 use Rattle.raft_env.specs.Directory.{Path, Directory, file_at, placed, changed, changed_at, created, IsChanging}
 use Rattle.raft_memory.specs.declared.namespace.Namespace.{Namespace}
 use Rattle.raft_memory.specs.Files.{Files, by_bytes, directory_of, folders_of, namespace_directory}
@@ -72,11 +70,3 @@ changing path step wanted IsPart old new is_done left outcome is = at_file (file
     at_file : (o : Option File) → file_at old path ≡ o → IsChanging path step wanted IsPart old new
     at_file None e = inl (is ∙ ap (λ o. changed_at path (λ f. step is_done (left f.now) f) o old) e)
     at_file (Some file) e = inr (file, left file.now, is_done, e, outcome file.now, is ∙ ap (λ o. changed_at path (λ f. step is_done (left f.now) f) o old) e)
-
-pub writing_part : (at : ℕ) (given kept : List ℕ) → length kept ≤ length given → (now : List ℕ) → IsPartOf at (length given) now (overlaid now at kept)
-writing_part at given kept part now = record {
-  no_shorter = (overlaid_bounds now at kept).0;
-  no_longer = omega (arith, (overlaid_bounds now at kept).1);
-  unchanged = λ none. ap (overlaid now at) (nil_from_length kept (omega arith));
-  elsewhere = λ i h out. overlaid_outside_part now at (length given) kept part i out;
-}

@@ -4,7 +4,8 @@ use Rattle.raft_env.specs.Outcomes.{written, overlaid}
 use Rattle.raft_env.specs.Directory.{changed}
 use Rattle.raft_memory.specs.Files.{namespace_directory}
 use Rattle.raft_env.proofs.MomentsLemmas.{passes_one}
-use Rattle.raft_memory.proofs.MemoryLemmas.{changing, writing_part}
+use Rattle.raft_memory.proofs.MemoryLemmas.{changing}
+use Rattle.raft_env.proofs.DirectoryLemmas.{writing_part}
 use Rattle.raft_memory.proofs.InvariantLemmas.{invariant-written_part, invariant-same}
 use Rattle.raft_memory.proofs.memory.MemoryFileSystem.write_half.Goals as goal
 
