@@ -1,4 +1,2 @@
-pub mod ToldLemmas
+pub mod ZerosLemmas
 pub mod DoneLemmas
-pub mod PremiseLemmas
-pub mod PastLemmas

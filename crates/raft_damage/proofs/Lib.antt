@@ -1,0 +1,3 @@
+pub mod ToldLemmas
+pub mod PremiseLemmas
+pub mod PastLemmas
