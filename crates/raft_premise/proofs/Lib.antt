@@ -1,2 +1,3 @@
 pub mod ZerosLemmas
 pub mod DoneLemmas
+pub mod OpeningLemmas

@@ -60,8 +60,8 @@ pub fn refused_calls_bring_no_record()
         (synced at : ℕ) (old mid new : Directory) (room new_room : ℕ) (given : List ℕ)
         (batch : Batch) → HasDoneLog path id format batches synced at old
         → record_of (signature_by id format) given ≡ Some (batch, length given)
-        → HasChanged path (IsAppending room new_room at given) old mid → HasSimplePastAt path mid
-        → HasChanged path (IsClosed at) mid new
+        → HasChanged path (IsAppending room new_room at given) old mid
+        → HasChanged path (IsClosed at) mid new → HasSimplePastAt path new
         → HasDoneLog path id format batches (length batches) at new }
     ensures durable { (path : Path) (id : FileId) (format : LogFileFormat) (batches : List Batch)
         (synced at : ℕ) (old new : Directory) → HasDoneLog path id format batches synced at old
