@@ -1,21 +1,20 @@
 //! The premise on damage can be met.
-ghost use Rattle.std.specs.Prelude.{◌≡◌, ◌⊎◌, ◌+◌, ◌<◌, ◌≤◌, ◌^◌, ◌++◌, ◌∷◌, ℕ, List, [], Some, None, length, take};
+ghost use Rattle.std.specs.Prelude.{◌≡◌, ◌⊎◌, ◌≤◌, ℕ, List, Some, None, take};
 ghost use Rattle.raft_records.specs.Item.{Batch};
-ghost use Rattle.raft_records.specs.Record.{record_of};
 ghost use Rattle.raft_base.specs.declared.pipe_log.FileId.{FileId};
+ghost use Rattle.raft_base.specs.declared.pipe_log.Version.{Version};
 ghost use Rattle.std.specs.FinMap as finite;
-ghost use Rattle.raft_memory.specs.Choice.{choice_for, left_by, touched_before, NameNoBytes};
+ghost use Rattle.raft_memory.specs.Choice.{AreWhole, choice_for, left_by, touched_before, NameNoBytes};
 ghost use Rattle.raft_env.specs.Consistent.{AreConsistent, IsConsistent};
-ghost use Rattle.raft_memory.specs.Choice.{AreWhole};
-ghost use Rattle.raft_files.specs.Detectable.{EndsUnmarked, IsDetectable, format_of, signature_by};
-ghost use Rattle.raft_env.specs.Directory.{Directory, IsRestarted, Leaves, Left, Path, file_at};
-ghost use Rattle.raft_files.specs.Header.{HasHeader, header_bytes, header_len};
+ghost use Rattle.raft_files.specs.Detectable.{EndsUnmarked, IsDetectable, format_of};
+ghost use Rattle.raft_env.specs.Directory.{Directory, Leaves, Left, Path, file_at};
 ghost use Rattle.raft_env.specs.Outcomes.{File, is_touched};
-ghost use Rattle.raft_files.specs.Reading.{Placed, Reading, readable_batches, reading};
-ghost use Rattle.raft_files.specs.Records.{HasLog, HoldsRecords};
+ghost use Rattle.raft_files.specs.Records.{HoldsRecords};
 ghost use Rattle.raft_premise.specs.Done.{EndsInZeros, HasDoneLog, HasDoneRecords};
 ghost use Rattle.raft_damage.specs.Told.{AreOwn, IsBrokenFrom, IsReadAsBefore, IsTornBehind};
-ghost use Rattle.raft_files.specs.Writer.{HasChanged, IsAppended, IsAppending, IsClosed, IsCut, IsCutting, IsSynced, bytes_at};
+ghost use Rattle.raft_files.specs.Writer.{Writing};
+ghost use Rattle.raft_pipes.specs.Done.{IsDoneQueue};
+ghost use Rattle.raft_pipes.specs.Folder.{IsDetectableIn};
 ghost use Rattle.raft_memory.specs.declared.crash.Choice.{Choice};
 ghost use Rattle.raft_memory.specs.declared.crash.Choice.TheVariants as choice;
 ghost use Rattle.raft_files.specs.declared.format.LogFileFormat.{LogFileFormat};
@@ -62,4 +61,15 @@ pub fn damage_can_be_told()
     ensures read_synced { (id : FileId) (file : File) → (format_of file.synced ≡ format_of file.now)
         ⊎ (format_of file.synced ≡ None) → EndsUnmarked id file.synced
         → IsReadAsBefore id file file.synced }
+{}
+
+/// The damage of a crash that leaves each file with all its bytes now or those of its last sync is
+/// detectable of a queue of whose log only writes were refused, and no refused call brought a
+/// record (`detectable`). `raft_pipes` `pipe_builder::open` gives such a queue, and the pipe's calls
+/// keep it.
+pub fn a_queue_can_be_told()
+    ensures detectable { (w : Writing) (version : Version) (folder : Path) (n : Directory)
+        → IsDoneQueue w version folder n → AreConsistent n
+        → (choices : List Choice) → AreWhole choices
+        → ∥ IsDetectableIn folder n (left_by choices n) ∥₁ }
 {}

@@ -1,16 +1,14 @@
 //! Which calls of a log file bring it no record but those that were written.
-ghost use Rattle.std.specs.Prelude.{◌≡◌, ◌⊎◌, ◌+◌, ◌<◌, ◌≤◌, ◌^◌, ◌++◌, ◌∷◌, ℕ, List, [], Some, None, length, take};
+ghost use Rattle.std.specs.Prelude.{◌≡◌, ◌+◌, ◌<◌, ◌^◌, ◌++◌, ◌∷◌, ℕ, List, [], Some, length, take};
 ghost use Rattle.raft_records.specs.Item.{Batch};
 ghost use Rattle.raft_records.specs.Record.{record_of};
 ghost use Rattle.raft_base.specs.declared.pipe_log.FileId.{FileId};
-ghost use Rattle.raft_env.specs.Consistent.{AreConsistent, IsConsistent};
-ghost use Rattle.raft_files.specs.Detectable.{EndsUnmarked, IsDetectable, format_of, signature_by};
-ghost use Rattle.raft_env.specs.Directory.{Directory, IsRestarted, Leaves, Left, Path, file_at};
+ghost use Rattle.raft_files.specs.Detectable.{signature_by};
+ghost use Rattle.raft_env.specs.Directory.{Directory, IsRestarted, Left, Path};
 ghost use Rattle.raft_files.specs.Header.{HasHeader, header_bytes, header_len};
-ghost use Rattle.raft_env.specs.Outcomes.{File, is_touched};
 ghost use Rattle.raft_files.specs.Reading.{Placed, Reading, readable_batches, reading};
-ghost use Rattle.raft_files.specs.Records.{HasLog, HoldsRecords};
-ghost use Rattle.raft_premise.specs.Done.{AreDoneAt, EndsInZeros, HasDoneLog, HasDoneRecords, HasSimplePastAt};
+ghost use Rattle.raft_files.specs.Records.{HasLog};
+ghost use Rattle.raft_premise.specs.Done.{AreDoneAt, HasDoneLog, HasDoneRecords, HasSimplePastAt};
 ghost use Rattle.raft_files.specs.Writer.{HasChanged, IsAppended, IsAppending, IsClosed, IsCut, IsCutting, IsSynced, bytes_at};
 ghost use Rattle.raft_files.specs.declared.format.LogFileFormat.{LogFileFormat};
 
