@@ -1,14 +1,14 @@
 -- The damage of a crash can be told.
-use Rattle.std.proofs.Common.{◌≡◌, ℕ, ◌<◌, ◌≤◌, List, [], ◌∷◌, ◌++◌, length, take, drop, slice_index, Option, Some, None, Contains, refl, ap, sym, subst, ◌∙◌, inl, inr, arith, length-drop}
+use Rattle.std.proofs.Common.{◌≡◌, ℕ, ◌<◌, ◌≤◌, List, [], ◌++◌, length, take, drop, slice_index, Option, Some, None, Contains, refl, ap, sym, subst, ◌∙◌, inl, arith, length-drop}
 use Rattle.std.proofs.lemmas.List.{append-nil, take_all, take-take, take-append-drop, length-take}
-use Rattle.std.proofs.lemmas.List.Elements.{All-contains, Contains-append_left, Contains-append_right}
+use Rattle.std.proofs.lemmas.List.Elements.{Contains-append_left}
 use Rattle.raft_records.specs.Record.{record_header, parts_by}
 use Rattle.raft_base.specs.declared.pipe_log.FileId.{FileId}
 use Rattle.raft_files.specs.declared.format.LogFileFormat.{LogFileFormat}
-use Rattle.raft_env.specs.Outcomes.{File, Change, MayLeave, untouched_len, bytes_behind, IsDoneOrWrite, OnlyWritesRefused}
+use Rattle.raft_env.specs.Outcomes.{File, MayLeave, untouched_len, bytes_behind}
 use Rattle.raft_files.specs.Reading.{Placed, record_place, record_at, next_record, end_of_records, Reading, records_behind, reading, records_of, readable_records}
-use Rattle.raft_files.specs.Detectable.{IsBeginningOf, format_of, signature_by, AreDone, IsFreshAfter, IsMarkedAt, IsDetectableFile}
-use Rattle.raft_files.specs.Records.{ReadsFirst, IsEmptyFrom, HoldsRecords, IsWrittenTo}
+use Rattle.raft_files.specs.Detectable.{IsBeginningOf, format_of, signature_by, AreDone, IsMarkedAt, IsDetectableFile}
+use Rattle.raft_files.specs.Records.{ReadsFirst, HoldsRecords}
 use Rattle.raft_env.specs.Consistent.{IsConsistent}
 use Rattle.raft_premise.specs.Done.{EndsInZeros, HoldsDone}
 use Rattle.raft_damage.specs.Told.{IsBrokenFrom, IsTornBehind}
