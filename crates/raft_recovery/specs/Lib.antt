@@ -1,0 +1,4 @@
+pub mod Groups
+pub mod Recovered
+pub mod Joined
+pub mod Consecutive

@@ -1,0 +1,1 @@
+//! What stays recovered through each step.

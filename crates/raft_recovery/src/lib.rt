@@ -1,0 +1,4 @@
+//! The laws of recovered contents.
+#![tactic(auto)]
+
+pub mod laws;
