@@ -1,0 +1,4 @@
+pub mod KeyLemmas
+pub mod GroupLemmas
+pub mod KeptLemmas
+pub mod AscendingLemmas
