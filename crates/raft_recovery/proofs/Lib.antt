@@ -2,3 +2,5 @@ pub mod KeyLemmas
 pub mod GroupLemmas
 pub mod KeptLemmas
 pub mod AscendingLemmas
+pub mod RewriteLemmas
+pub mod MarkLemmas
