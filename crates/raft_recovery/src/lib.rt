@@ -1,5 +1,7 @@
 //! The laws of recovered contents.
 #![tactic(auto)]
 
+pub mod change;
 pub mod group_laws;
 pub mod laws;
+pub mod recovered;
