@@ -1,3 +1,5 @@
+pub mod ListLemmas
+pub mod AppendLemmas
 pub mod KeyLemmas
 pub mod GroupLemmas
 pub mod KeptLemmas
