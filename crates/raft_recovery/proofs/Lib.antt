@@ -6,3 +6,4 @@ pub mod KeptLemmas
 pub mod AscendingLemmas
 pub mod RewriteLemmas
 pub mod MarkLemmas
+pub mod ProgramLemmas
