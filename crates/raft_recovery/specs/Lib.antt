@@ -2,3 +2,4 @@ pub mod Groups
 pub mod Recovered
 pub mod Joined
 pub mod Consecutive
+pub mod Rewriting

@@ -1,4 +1,5 @@
 //! The laws of recovered contents.
 #![tactic(auto)]
 
+pub mod group_laws;
 pub mod laws;
