@@ -6,7 +6,7 @@ use Rattle.std.proofs.lemmas.List.Elements.{filter-append}
 use Rattle.std.proofs.lemmas.List.Folds.{list_any-append}
 use Rattle.raft_records.specs.Item.{Entry}
 use Rattle.raft_records.specs.Contents.{entries_below}
-use Rattle.raft_recovery.proofs.ListLemmas.{Runs, AreRun, Above, From, Below, has_before, put_on, each_append, each_filter, each_weaker, each_passes, filter_all, filter_none, filter_filter, below_all, below_none, no_before_below, no_before_from, runs_from, runs_tail_above, run_above, run_put_on, put_on-before, put_on-apart}
+use Rattle.raft_recovery.proofs.ListLemmas.{Runs, AreRun, Above, From, Below, has_before, put_on, each_append, each_filter, each_weaker, each_passes, filter_all, filter_none, filter_filter, below_all, below_none, no_before_below, no_before_from, runs_from, runs_tail_above, runs_below, run_above, run_put_on, put_on-before, put_on-apart}
 
 -- what an item changes of a group's entries
 pub data EntryChange : Type 0 where
@@ -109,6 +109,27 @@ run_after_change a (Cut index) run (n, runs) = run_above n index a runs
 pub run_after_changes : (cs : List EntryChange) (a : List Entry) → Each IsRun cs → AreRun a → AreRun (after_changes a cs)
 run_after_changes [] a _ is = is
 run_after_changes (c ∷ cs) a (run, runs) is = run_after_changes cs (after_change a c) runs (run_after_change a c run is)
+
+each_refl : {X : Type 0} (b : Bool) (xs : List X) → Each (λ x. b ≡ b) xs
+each_refl b [] = tt
+each_refl b (x ∷ xs) = (refl, each_refl b xs)
+
+pub kept_by-stay : (w : List Entry) → kept_by Stay w ≡ w
+kept_by-stay w = filter_all (λ x. true) w (each_refl true w)
+
+pub kept_by-empty : (w : List Entry) → kept_by Empty w ≡ []
+kept_by-empty w = filter_none (λ x. false) w (each_refl false w)
+
+run_kept_by : (c : EntryChange) (w : List Entry) → AreRun w → AreRun (kept_by c w)
+run_kept_by Stay w run = subst AreRun (sym (kept_by-stay w)) run
+run_kept_by (Place e es) w (n, runs) = (n, runs_below n e.0 w runs)
+run_kept_by Empty w run = subst AreRun (sym (kept_by-empty w)) (0, tt)
+run_kept_by (Cut index) w (n, runs) = run_above n index w runs
+
+-- .. and what is left alone of consecutive entries is consecutive
+pub run_kept : (cs : List EntryChange) (w : List Entry) → AreRun w → AreRun (kept cs w)
+run_kept [] w run = subst AreRun (sym (kept_by-stay w)) run
+run_kept (c ∷ cs) w run = subst AreRun (sym (kept-cons c cs w)) (run_kept cs (kept_by c w) (run_kept_by c w run))
 
 -- The index before, in a part of a list.
 
@@ -252,21 +273,13 @@ cut_apart w f r index runs apart = elim (cases_lt index f.0) [
     cut xs = filter (λ x. leb index x.0) xs
 
 pub put_on-after_change : (w a : List Entry) (c : EntryChange) → IsRun c → AreRun a → Apart w a → Fits (put_on w a) c → put_on (kept_by c w) (after_change a c) ≡ after_change (put_on w a) c
-put_on-after_change w a Stay run runs apart fits = ap (λ xs. put_on xs a) (filter_all (λ x. true) w (each_true w))
-  where
-    each_true : (xs : List Entry) → Each (λ x. true ≡ true) xs
-    each_true [] = tt
-    each_true (x ∷ xs) = (refl, each_true xs)
+put_on-after_change w a Stay run runs apart fits = ap (λ xs. put_on xs a) (kept_by-stay w)
 put_on-after_change w [] (Place e es) run runs apart fits = put_on-below w e es
 put_on-after_change w (f ∷ r) (Place e es) run (n, runs) apart fits = elim (cases_lt f.0 e.0) [
   | inl later ↦ ap (λ xs. put_on xs (put_on (f ∷ r) (e ∷ es))) (below_all e.0 w (each_weaker (λ (x : Entry). x.0 < f.0) (λ x. x.0 < e.0) (λ x less. omega arith) w (below_first w f r apart))) ∙ place_later w f r e es apart later
   | inr early ↦ place_before w f r e es (refl, subst (λ k. Runs (k + 1) r) (sym runs.0) runs.1) apart early fits
 ]
-put_on-after_change w a Empty run runs apart fits = filter_none (λ x. false) w (each_false w)
-  where
-    each_false : (xs : List Entry) → Each (λ x. false ≡ false) xs
-    each_false [] = tt
-    each_false (x ∷ xs) = (refl, each_false xs)
+put_on-after_change w a Empty run runs apart fits = kept_by-empty w
 put_on-after_change w [] (Cut index) run runs apart fits = refl
 put_on-after_change w (f ∷ r) (Cut index) run (n, runs) apart fits = cut_apart w f r index (refl, subst (λ k. Runs (k + 1) r) (sym runs.0) runs.1) apart
 
@@ -276,11 +289,7 @@ AllFit old [] = Unit {0}
 AllFit old (c ∷ cs) = Fits old c × AllFit (after_change old c) cs
 
 pub put_on-after_changes : (cs : List EntryChange) (w a : List Entry) → Each IsRun cs → AreRun a → Apart w a → AllFit (put_on w a) cs → put_on (kept cs w) (after_changes a cs) ≡ after_changes (put_on w a) cs
-put_on-after_changes [] w a _ runs apart fit = ap (λ xs. put_on xs a) (filter_all (λ x. true) w (each_true w))
-  where
-    each_true : (xs : List Entry) → Each (λ x. true ≡ true) xs
-    each_true [] = tt
-    each_true (x ∷ xs) = (refl, each_true xs)
+put_on-after_changes [] w a _ runs apart fit = ap (λ xs. put_on xs a) (kept_by-stay w)
 put_on-after_changes (c ∷ cs) w a (run, others) runs apart (fits, fit) =
     let step = put_on-after_change w a c run runs apart fits in
     ap (λ xs. put_on xs (after_changes (after_change a c) cs)) (kept-cons c cs w)

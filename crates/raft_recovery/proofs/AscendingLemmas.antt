@@ -1,9 +1,9 @@
 -- Lists whose indexes rise: those with the same entries are equal.
-use Rattle.std.proofs.Common.{◌≡◌, ℕ, ◌+◌, ◌<◌, ◌≤◌, Bool, true, false, cond, eqb, nat_le, nat_lt, ◌&&◌, ◌⊎◌, inl, inr, List, [], ◌∷◌, ◌++◌, length, append-nil, filter, refl, sym, ◌∙◌, ap, subst, ⊎_elim, arith}
+use Rattle.std.proofs.Common.{◌≡◌, ℕ, ◌+◌, ◌<◌, ◌≤◌, Bool, true, false, eqb, nat_le, nat_lt, ◌&&◌, ◌⊎◌, inl, inr, List, [], ◌∷◌, ◌++◌, filter, refl, sym, ◌∙◌, ap, subst, ⊎_elim, arith}
 use Rattle.std.specs.List.{All, Contains}
 use Rattle.std.proofs.lemmas.Bool.{cases_Bool, false≢true, le-leb, eqb-true}
 use Rattle.std.proofs.lemmas.Bool.Decides.{nat_tests}
-use Rattle.std.proofs.lemmas.List.Elements.{All-cons, All-contains, All-head, All-nil, All-tail, All-weaker, Contains-append_cases, Contains-append_right, Contains-push_cases, filter_passes}
+use Rattle.std.proofs.lemmas.List.Elements.{All-cons, All-contains, All-nil, All-weaker, Contains-append_cases, Contains-append_right, Contains-push_cases, filter_passes}
 use Rattle.raft_records.specs.Item.{Entry}
 use Rattle.raft_records.specs.Validity.{are_consecutive_from}
 use Rattle.raft_recovery.proofs.KeptLemmas.{filter_yes, filter_no, kept_all, kept_none}
@@ -61,11 +61,11 @@ Contains-filter q (y ∷ ys) x is passes =
     ⊎_elim
     (λ same. subst (λ zs. Contains zs x) (sym (filter_yes q y ys (ap q same ∙ passes))) (subst (λ z. Contains (y ∷ filter q ys) z) same (Contains-head y (filter q ys))))
     (λ behind.
-      let rest = Contains-filter q ys x behind passes in
-      ⊎_elim
-      (λ at. subst (λ zs. Contains zs x) (sym (filter_yes q y ys at)) (Contains-tail y (filter q ys) x rest))
-      (λ at. subst (λ zs. Contains zs x) (sym (filter_no q y ys at)) rest)
-      (cases_Bool (q y)))
+    let rest = Contains-filter q ys x behind passes in
+    ⊎_elim
+    (λ at. subst (λ zs. Contains zs x) (sym (filter_yes q y ys at)) (Contains-tail y (filter q ys) x rest))
+    (λ at. subst (λ zs. Contains zs x) (sym (filter_no q y ys at)) rest)
+    (cases_Bool (q y)))
     (Contains-cons_cases y ys x is)
 
 pub Contains-unfilter : {X : Type 0} (q : X → Bool) (xs : List X) (x : X) → Contains (filter q xs) x → Contains xs x × (q x ≡ true)
@@ -79,6 +79,11 @@ Contains-unfilter {X = X} q xs x is = (inside xs is, All-contains (λ z. q z ≡
         (λ at. Contains-tail y ys x (inside ys (subst (λ zs. Contains zs x) (filter_no q y ys at) h)))
         (cases_Bool (q y))
 
+-- a list that holds nothing is empty
+pub empty_unless : {X : Type 0} (xs : List X) → ((x : X) → Contains xs x → ⊥) → xs ≡ []
+empty_unless [] none = refl
+empty_unless (x ∷ xs) none = absurd (none x (Contains-head x xs))
+
 -- lists whose indexes rise and that hold the same entries are equal
 pub ascending_same : (s : ℕ) (xs ys : List Entry) → IsAscending s xs → IsAscending s ys → ((e : Entry) → Contains xs e → Contains ys e) → ((e : Entry) → Contains ys e → Contains xs e) → xs ≡ ys
 ascending_same s [] [] up_x up_y to from = refl
@@ -89,14 +94,15 @@ ascending_same s (x ∷ xs) (y ∷ ys) up_x up_y to from =
     let later_y : (e : Entry) → Contains ys e → y.0 < e.0 = λ e is. omega (arith, All-contains (λ (z : Entry). y.0 + 1 ≤ z.0) ys e (above_start (y.0 + 1) ys up_y.1) is) in
     let first : y ≡ x = first_same later_x later_y (Contains-cons_cases y ys x (to x (Contains-head x xs))) (Contains-cons_cases x xs y (from y (Contains-head y ys))) in
     let rest : xs ≡ ys = ascending_same (x.0 + 1) xs ys up_x.1 (subst (λ (z : Entry). IsAscending (z.0 + 1) ys) first up_y.1)
-      (λ e is. other (λ same. let at : y.0 ≡ e.0 = ap (λ (z : Entry). z.0) same in let also : y.0 ≡ x.0 = ap (λ (z : Entry). z.0) first in omega (arith, later_x e is)) (Contains-cons_cases y ys e (to e (Contains-tail x xs e is))))
-      (λ e is. other (λ same. let at : x.0 ≡ e.0 = ap (λ (z : Entry). z.0) same in let also : y.0 ≡ x.0 = ap (λ (z : Entry). z.0) first in omega (arith, later_y e is)) (Contains-cons_cases x xs e (from e (Contains-tail y ys e is)))) in
+    (λ e is. other (λ same. let at : y.0 ≡ e.0 = ap (λ (z : Entry). z.0) same in let also : y.0 ≡ x.0 = ap (λ (z : Entry). z.0) first in omega (arith, later_x e is)) (Contains-cons_cases y ys e (to e (Contains-tail x xs e is))))
+    (λ e is. other (λ same. let at : x.0 ≡ e.0 = ap (λ (z : Entry). z.0) same in let also : y.0 ≡ x.0 = ap (λ (z : Entry). z.0) first in omega (arith, later_y e is)) (Contains-cons_cases x xs e (from e (Contains-tail y ys e is)))) in
     ap (λ z. z ∷ xs) (sym first) ∙ ap (λ zs. y ∷ zs) rest
   where
     first_same : ((e : Entry) → Contains xs e → x.0 < e.0) → ((e : Entry) → Contains ys e → y.0 < e.0) → (y ≡ x) ⊎ Contains ys x → (x ≡ y) ⊎ Contains xs y → y ≡ x
     first_same later_x later_y (inl same) b = same
     first_same later_x later_y (inr a) (inl same) = sym same
     first_same later_x later_y (inr a) (inr b) = absurd (omega (arith, later_y x a, later_x y b))
+
     other : {A B : Type 0} → (A → ⊥) → A ⊎ B → B
     other never (inl a) = absurd (never a)
     other never (inr b) = b
@@ -123,7 +129,7 @@ below_and_above t s (e ∷ es) up =
     ⊎_elim
     (λ yes. ap (λ ys. ys ++ filter (λ x. nat_le s x.0) (e ∷ es)) (filter_yes (λ x. nat_lt x.0 s) e es yes) ∙ ap (λ ys. e ∷ (filter (λ x. nat_lt x.0 s) es ++ ys)) (filter_no (λ x. nat_le s x.0) e es (below_is_not_above s e yes)) ∙ ap (λ ys. e ∷ ys) (below_and_above (e.0 + 1) s es up.1))
     (λ no.
-      let here : s ≤ e.0 = at_or_above s e no in
-      let all : All (λ x. s ≤ x.0) (e ∷ es) = above_start s (e ∷ es) (here, up.1) in
-      ap (λ ys. ys ++ filter (λ x. nat_le s x.0) (e ∷ es)) (none_below s (e ∷ es) all) ∙ all_above s (e ∷ es) all)
+    let here : s ≤ e.0 = at_or_above s e no in
+    let all : All (λ x. s ≤ x.0) (e ∷ es) = above_start s (e ∷ es) (here, up.1) in
+    ap (λ ys. ys ++ filter (λ x. nat_le s x.0) (e ∷ es)) (none_below s (e ∷ es) all) ∙ all_above s (e ∷ es) all)
     (cases_Bool (nat_lt e.0 s))

@@ -1,9 +1,11 @@
 pub mod ListLemmas
 pub mod AppendLemmas
+pub mod EntryLemmas
 pub mod KeyLemmas
 pub mod GroupLemmas
 pub mod KeptLemmas
 pub mod AscendingLemmas
 pub mod RewriteLemmas
 pub mod MarkLemmas
+pub mod UnchangedLemmas
 pub mod ProgramLemmas

@@ -1,19 +1,18 @@
 -- Items at the end of the Rewrite queue that change nothing of what is recovered.
-use Rattle.std.proofs.Common.{◌≡◌, ℕ, ◌+◌, ◌<◌, ◌≤◌, Bool, true, false, cond, eqb, nat_le, ◌&&◌, ◌||◌, ◌⊎◌, List, [], ◌∷◌, ◌++◌, Option, Some, None, filter, fold, refl, sym, ◌∙◌, ap, subst, ⊎_elim, arith}
+use Rattle.std.proofs.Common.{◌≡◌, ℕ, Bool, true, false, cond, eqb, ◌&&◌, List, [], ◌∷◌, Option, Some, None, refl, sym, ◌∙◌, ap, subst}
 use Rattle.std.proofs.Math.Path.{fun_ext}
-use Rattle.std.specs.List.{All, Contains, list_all}
+use Rattle.std.specs.List.{list_all}
 use Rattle.std.specs.Str.{bytes_eq}
 use Rattle.std.specs.Cmp.Lexicographic.{bytes_decides}
-use Rattle.std.proofs.lemmas.Bool.{cases_Bool, cond-true, cond-false, false≢true, eqb-true}
-use Rattle.std.proofs.lemmas.List.Elements.{All-weaker}
-use Rattle.raft_records.specs.Item.{Entry, Content, Entries, Clean, Compact, Put, Delete, Item, Batch, group_mark_key}
-use Rattle.raft_records.specs.Contents.{Contents, no_contents, with_entries, with_entries_in, with_value, without_group, after_item, after_batch, after_batches}
+use Rattle.std.proofs.lemmas.Bool.{eqb-true}
+use Rattle.raft_records.specs.Item.{Entry, Put, Delete, Item, Batch, group_mark_key}
+use Rattle.raft_records.specs.Contents.{Contents, no_contents, with_entries, with_entries_in, with_value, after_item, after_batch, after_batches}
 use Rattle.raft_recovery.specs.Recovered.{items_of, item_leaves_key, leaves, leaves_key, replay}
-use Rattle.raft_recovery.specs.Rewriting.{ChangesNothing, EachChangesNothing, EachLeft, FitsRewrite, IsSetByAppend}
+use Rattle.raft_recovery.specs.Rewriting.{ChangesNothing, EachChangesNothing}
 use Rattle.raft_recovery.proofs.KeyLemmas.{value_after, items_leave, value-replay}
-use Rattle.raft_recovery.proofs.KeptLemmas.{kept, joined, joined-nothing, joined-compacted, filter_comm}
+use Rattle.raft_recovery.proofs.KeptLemmas.{passing}
 
-contents_ext : (m n : Contents) → ((g : ℕ) → m.entries g ≡ n.entries g) → ((g : ℕ) (k : List ℕ) → m.value g k ≡ n.value g k) → m ≡ n
+pub contents_ext : (m n : Contents) → ((g : ℕ) → m.entries g ≡ n.entries g) → ((g : ℕ) (k : List ℕ) → m.value g k ≡ n.value g k) → m ≡ n
 contents_ext m n same_entries same_values =
     ap (λ f. let c : Contents = record { entries = f; value = m.value } in c) (fun_ext same_entries) ∙ ap (λ f. let c : Contents = record { entries = n.entries; value = f } in c) (fun_ext (λ g. fun_ext (same_values g)))
 
@@ -47,12 +46,12 @@ value_set : (x : Contents) (appended : List Batch) (group : ℕ) (key : List ℕ
 value_set x appended group key value same =
     contents_ext _ _ (λ g. refl)
     (λ g k. value-replay_same (with_value group key value x) x appended g k
-      (λ left. set_at (eqb g group) (bytes_eq k key) value (x.value g k)
-        (λ same_group same_key.
-          let at_g : g ≡ group = eqb-true g group same_group in
-          let at_k : k ≡ key = (bytes_decides k key).0 same_key in
-          let here : leaves_key appended group key ≡ true = subst (λ h. leaves_key appended h key ≡ true) at_g (subst (λ l. leaves_key appended g l ≡ true) at_k left) in
-          sym (same here) ∙ value-left x appended group key here ∙ sym (ap (λ h. x.value h k) at_g ∙ ap (λ l. x.value group l) at_k))))
+    (λ left. set_at (eqb g group) (bytes_eq k key) value (x.value g k)
+    (λ same_group same_key.
+    let at_g : g ≡ group = eqb-true g group same_group in
+    let at_k : k ≡ key = (bytes_decides k key).0 same_key in
+    let here : leaves_key appended group key ≡ true = subst (λ h. leaves_key appended h key ≡ true) at_g (subst (λ l. leaves_key appended g l ≡ true) at_k left) in
+    sym (same here) ∙ value-left x appended group key here ∙ sym (ap (λ h. x.value h k) at_g ∙ ap (λ l. x.value group l) at_k))))
 
 pub deleted_changes_nothing : (x : Contents) (appended : List Batch) (group : ℕ) (key : List ℕ) → (leaves_key appended group key ≡ true → (replay x appended).value group key ≡ None) → ChangesNothing x appended (record { group = group; content = Delete key })
 deleted_changes_nothing x appended group key none = value_set x appended group key None none
@@ -68,21 +67,16 @@ pub each_changes_nothing : (x : Contents) (appended : List Batch) (items : List 
 each_changes_nothing x appended [] each = refl
 each_changes_nothing x appended (item ∷ items) each = each_changes_nothing (after_item x item) appended items each.1 ∙ each.0
 
--- the batches' entries of a group come after those that they leave alone, and are set on them where
--- they touch them
-pub record SetsEntries (appended : List Batch) (group : ℕ) : Type 0 where
-  pub after : kept (leaves appended group) ((after_batches no_contents appended).entries group) ≡ []
-
 -- entries of one group that give the same where the batches' own are set on them
-entries_at : (b : Bool) (appended : List Batch) (g : ℕ) (new old : List Entry) → (b ≡ true → with_entries (kept (leaves appended g) new) ((after_batches no_contents appended).entries g) ≡ with_entries (kept (leaves appended g) old) ((after_batches no_contents appended).entries g))
-    → with_entries (kept (leaves appended g) (cond b new old)) ((after_batches no_contents appended).entries g) ≡ with_entries (kept (leaves appended g) old) ((after_batches no_contents appended).entries g)
+entries_at : (b : Bool) (appended : List Batch) (g : ℕ) (new old : List Entry) → (b ≡ true → with_entries (passing (leaves appended g) new) ((after_batches no_contents appended).entries g) ≡ with_entries (passing (leaves appended g) old) ((after_batches no_contents appended).entries g))
+    → with_entries (passing (leaves appended g) (cond b new old)) ((after_batches no_contents appended).entries g) ≡ with_entries (passing (leaves appended g) old) ((after_batches no_contents appended).entries g)
 entries_at true appended g new old same = same refl
 entries_at false appended g new old same = refl
 
 pub entries_set : (x : Contents) (appended : List Batch) (group : ℕ) (new : List Entry)
-    → with_entries (kept (leaves appended group) new) ((after_batches no_contents appended).entries group) ≡ (replay x appended).entries group
+    → with_entries (passing (leaves appended group) new) ((after_batches no_contents appended).entries group) ≡ (replay x appended).entries group
     → (g : ℕ) → (replay (with_entries_in group new x) appended).entries g ≡ (replay x appended).entries g
 entries_set x appended group new same g =
     entries_at (eqb g group) appended g new (x.entries g)
-    (λ at. let P : ℕ → Type 0 = λ h. with_entries (kept (leaves appended h) new) ((after_batches no_contents appended).entries h) ≡ (replay x appended).entries h in
-      subst P (sym (eqb-true g group at)) same)
+    (λ at. let P : ℕ → Type 0 = λ h. with_entries (passing (leaves appended h) new) ((after_batches no_contents appended).entries h) ≡ (replay x appended).entries h in
+    subst P (sym (eqb-true g group at)) same)

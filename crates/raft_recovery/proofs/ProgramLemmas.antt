@@ -1,9 +1,8 @@
 -- What the program's loops compute.
-use Rattle.std.proofs.Common.{◌≡◌, ℕ, Bool, true, false, ◌&&◌, List, [], ◌∷◌, ◌++◌, map, filter, refl, sym, ◌∙◌, ap, arith}
+use Rattle.std.proofs.Common.{◌≡◌, ℕ, ◌&&◌, List, [], ◌∷◌, map, refl, ◌∙◌, ap}
 use Rattle.std.specs.Borrow.{Bor}
-use Rattle.std.specs.List.{list_all, flat_map}
+use Rattle.std.specs.List.{list_all}
 use Rattle.std.proofs.lemmas.List.Folds.{list_all-append, list_all-map}
-use Rattle.raft_records.specs.Item.{Batch}
 use Rattle.raft_recovery.specs.Change.{item_of, batches_of}
 use Rattle.raft_recovery.specs.Recovered.{items_of, item_leaves, leaves}
 use Rattle.raft_recovery.specs.declared.change.GroupChange.{GroupChange}

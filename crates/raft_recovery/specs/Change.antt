@@ -1,5 +1,5 @@
 -- The items and batches that borrowed changes stand for.
-use Rattle.std.specs.Prelude.{ℕ, List, map}
+use Rattle.std.specs.Prelude.{List, map}
 use Rattle.std.specs.Borrow.{Bor}
 use Rattle.raft_records.specs.Item as item
 use Rattle.raft_records.specs.Item.{Entry, Content, Item, Batch}

@@ -4,4 +4,4 @@
 pub mod change;
 pub mod group_laws;
 pub mod laws;
-pub mod recovered;
+pub mod rewrite_laws;
