@@ -9,3 +9,4 @@ pub mod RewriteLemmas
 pub mod MarkLemmas
 pub mod UnchangedLemmas
 pub mod ProgramLemmas
+pub mod JoinedLemmas

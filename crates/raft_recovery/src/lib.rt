@@ -3,5 +3,6 @@
 
 pub mod change;
 pub mod group_laws;
+pub mod joined_laws;
 pub mod laws;
 pub mod rewrite_laws;
