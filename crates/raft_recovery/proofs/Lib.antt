@@ -1,5 +1,6 @@
 pub mod ListLemmas
 pub mod AppendLemmas
+pub mod FrontLemmas
 pub mod EntryLemmas
 pub mod KeyLemmas
 pub mod GroupLemmas
