@@ -1,15 +1,15 @@
 -- The steps by which an opening joins the queues give what is recovered.
-use Rattle.std.proofs.Common.{◌≡◌, ℕ, ◌+◌, min, Bool, true, false, cond, eqb, nat_le, nat_lt, ◌&&◌, ◌||◌, List, [], ◌∷◌, ◌++◌, Option, Some, None, filter, fold, refl, sym, ◌∙◌, ap, subst, ⊎_elim, arith}
+use Rattle.std.proofs.Common.{◌≡◌, ℕ, min, Bool, true, false, cond, eqb, nat_le, nat_lt, ◌&&◌, List, [], ◌∷◌, Option, Some, None, filter, fold, refl, sym, ◌∙◌, ap, arith}
 use Rattle.std.specs.List.{list_all}
 use Rattle.std.specs.Option.{option_or}
 use Rattle.std.specs.Str.{bytes_eq}
-use Rattle.std.proofs.lemmas.Bool.{cases_Bool, cond-true, cond-false, eqb-true}
+use Rattle.std.proofs.lemmas.Bool.{eqb-true}
 use Rattle.std.proofs.lemmas.Bool.Decides.{nat_tests}
 use Rattle.std.proofs.lemmas.List.Elements.{filter_agree}
 use Rattle.raft_records.specs.Item.{Entry, Content, Entries, Clean, Compact, Put, Delete, Item, Batch, group_mark_key}
-use Rattle.raft_records.specs.Contents.{Contents, no_contents, with_entries, entries_below, after_content, after_item, after_batches}
+use Rattle.raft_records.specs.Contents.{Contents, no_contents, with_entries, after_item, after_batches}
 use Rattle.raft_recovery.specs.Joined.{is_removal, after_removals, least_with, least_start_after, least_start, entries_before, joined}
-use Rattle.raft_recovery.specs.Recovered.{items_of, content_leaves, item_leaves, leaves, effect, recovered}
+use Rattle.raft_recovery.specs.Recovered.{items_of, content_leaves, item_leaves, effect, recovered}
 use Rattle.raft_recovery.proofs.KeyLemmas.{value_after_content, value_after_item, value_after, value-after_item, value-after_batches, value-replay}
 use Rattle.raft_recovery.proofs.KeptLemmas.{filter_comm}
 use Rattle.raft_recovery.proofs.ListLemmas.{filter_filter}
