@@ -11,3 +11,4 @@ pub mod MarkLemmas
 pub mod UnchangedLemmas
 pub mod ProgramLemmas
 pub mod JoinedLemmas
+pub mod DropRewriteLemmas
