@@ -139,8 +139,8 @@ whole-unmarked old b unmarked =
     ∙ ap (λ x. whole old ++ cond x (b ∷ []) []) (ap (mark_counts (old ++ b ∷ [])) unmarked)
 
 -- the contents of the Rewrite queue after these changes of it
-pub effect-open_group : (id : ℕ) (old bs more : List Batch) → places_in id old ≡ [] → places_in id more ≡ [] → list_all (is_of_group id) bs ≡ true → has_last (places_in id bs) ≡ false → effect (old ++ bs ++ more) ≡ effect (old ++ more)
-effect-open_group id old bs more none_before none_after all no_last = ap (after_batches no_contents) (whole-open_group id old bs more none_before none_after all (no_last_is_open (places_in id bs) no_last))
+pub effect-open_group : (id : ℕ) (old bs more : List Batch) → places_in id old ≡ [] → places_in id more ≡ [] → list_all (is_of_group id) bs ≡ true → is_complete (places_in id bs) ≡ false → effect (old ++ bs ++ more) ≡ effect (old ++ more)
+effect-open_group id old bs more none_before none_after all incomplete = ap (after_batches no_contents) (whole-open_group id old bs more none_before none_after all incomplete)
 
 pub effect-complete_group : (id : ℕ) (old bs : List Batch) → places_in id old ≡ [] → list_all (is_of_group id) bs ≡ true → is_complete (places_in id bs) ≡ true → effect (old ++ bs) ≡ after_batches (effect old) bs
 effect-complete_group id old bs none_before all complete = ap (after_batches no_contents) (whole-complete_group id old bs none_before all complete) ∙ fold-append after_batch no_contents (whole old) bs

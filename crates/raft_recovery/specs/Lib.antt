@@ -5,3 +5,4 @@ pub mod Consecutive
 pub mod Rewriting
 pub mod Change
 pub mod Dropping
+pub mod Program

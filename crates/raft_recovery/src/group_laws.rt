@@ -3,7 +3,7 @@ ghost use Rattle.std.specs.Prelude.{◌≡◌, ◌++◌, ◌∷◌, ℕ, List, [
 ghost use Rattle.std.specs.List.{list_all};
 ghost use Rattle.raft_records.specs.Contents.{after_batch, after_batches};
 ghost use Rattle.raft_records.specs.Item.{Batch};
-ghost use Rattle.raft_recovery.specs.Groups.{has_last, is_complete, is_of_group, mark_of, places_in};
+ghost use Rattle.raft_recovery.specs.Groups.{is_complete, is_of_group, mark_of, places_in};
 ghost use Rattle.raft_recovery.specs.Recovered.{effect};
 
 /// Batches of an atomic group that isn't complete change nothing of the Rewrite queue's contents,
@@ -12,7 +12,7 @@ ghost use Rattle.raft_recovery.specs.Recovered.{effect};
 pub fn an_atomic_group_counts_when_complete()
     ensures incomplete { (id : ℕ) (old group more : List Batch) → places_in id old ≡ []
         → places_in id more ≡ [] → list_all (is_of_group id) group ≡ true
-        → has_last (places_in id group) ≡ false
+        → is_complete (places_in id group) ≡ false
         → effect (old ++ group ++ more) ≡ effect (old ++ more) }
     ensures complete { (id : ℕ) (old group : List Batch) → places_in id old ≡ []
         → list_all (is_of_group id) group ≡ true → is_complete (places_in id group) ≡ true

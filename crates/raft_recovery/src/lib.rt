@@ -6,4 +6,5 @@ pub mod drop_rewrite_laws;
 pub mod group_laws;
 pub mod joined_laws;
 pub mod laws;
+pub mod recovered;
 pub mod rewrite_laws;
