@@ -9,6 +9,5 @@ pub mod AscendingLemmas
 pub mod RewriteLemmas
 pub mod MarkLemmas
 pub mod UnchangedLemmas
-pub mod ProgramLemmas
 pub mod JoinedLemmas
 pub mod DropRewriteLemmas

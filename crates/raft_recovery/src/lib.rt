@@ -1,10 +1,8 @@
 //! The laws of recovered contents.
 #![tactic(auto)]
 
-pub mod change;
 pub mod drop_rewrite_laws;
 pub mod group_laws;
 pub mod joined_laws;
 pub mod laws;
-pub mod recovered;
 pub mod rewrite_laws;
