@@ -8,3 +8,5 @@ pub mod KeptLemmas
 pub mod AscendingLemmas
 pub mod RewriteLemmas
 pub mod MarkLemmas
+pub mod ContentsLemmas
+pub mod FixedLemmas

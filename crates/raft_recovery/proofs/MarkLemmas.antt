@@ -12,7 +12,7 @@ use Rattle.raft_recovery.specs.Rewriting.{ChangesNothing, EachChangesNothing}
 use Rattle.raft_recovery.proofs.KeyLemmas.{value_after, items_leave, value-replay}
 use Rattle.raft_recovery.proofs.KeptLemmas.{kept}
 
-contents_ext : (m n : Contents) → ((g : ℕ) → m.entries g ≡ n.entries g) → ((g : ℕ) (k : List ℕ) → m.value g k ≡ n.value g k) → m ≡ n
+pub contents_ext : (m n : Contents) → ((g : ℕ) → m.entries g ≡ n.entries g) → ((g : ℕ) (k : List ℕ) → m.value g k ≡ n.value g k) → m ≡ n
 contents_ext m n same_entries same_values =
     ap (λ f. let c : Contents = record { entries = f; value = m.value } in c) (fun_ext same_entries) ∙ ap (λ f. let c : Contents = record { entries = n.entries; value = f } in c) (fun_ext (λ g. fun_ext (same_values g)))
 

@@ -3,3 +3,4 @@ pub mod Recovered
 pub mod Joined
 pub mod Consecutive
 pub mod Rewriting
+pub mod Valid
