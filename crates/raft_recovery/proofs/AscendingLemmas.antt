@@ -79,6 +79,11 @@ Contains-unfilter {X = X} q xs x is = (inside xs is, All-contains (λ z. q z ≡
         (λ at. Contains-tail y ys x (inside ys (subst (λ zs. Contains zs x) (filter_no q y ys at) h)))
         (cases_Bool (q y))
 
+-- a list that holds nothing is empty
+pub empty_unless : {X : Type 0} (xs : List X) → ((x : X) → Contains xs x → ⊥) → xs ≡ []
+empty_unless [] none = refl
+empty_unless (x ∷ xs) none = absurd (none x (Contains-head x xs))
+
 -- lists whose indexes rise and that hold the same entries are equal
 pub ascending_same : (s : ℕ) (xs ys : List Entry) → IsAscending s xs → IsAscending s ys → ((e : Entry) → Contains xs e → Contains ys e) → ((e : Entry) → Contains ys e → Contains xs e) → xs ≡ ys
 ascending_same s [] [] up_x up_y to from = refl

@@ -8,7 +8,7 @@ use Rattle.std.proofs.lemmas.List.Elements.{filter-append, filter_agree, filter_
 use Rattle.std.proofs.lemmas.List.Sums.{fold-append}
 use Rattle.raft_records.specs.Item.{Batch}
 use Rattle.raft_records.specs.Contents.{no_contents, after_batch, after_batches}
-use Rattle.raft_recovery.specs.Groups.{Mark, mark_of, place_by, places_in, first_place, last_place, has_last, has_id, is_of_group, is_complete, mark_counts, batch_counts, whole}
+use Rattle.raft_recovery.specs.Groups.{GroupMark, mark_of, place_by, places_in, first_place, last_place, has_last, has_id, is_of_group, is_complete, mark_counts, batch_counts, whole}
 use Rattle.raft_recovery.specs.Recovered.{effect}
 
 places-append : (id : ℕ) (xs ys : List Batch) → places_in id (xs ++ ys) ≡ places_in id xs ++ places_in id ys
@@ -18,7 +18,7 @@ places-append id xs ys = filter_map-append (λ b. place_by id (mark_of b)) xs ys
 abbrev SameForOthers : ℕ → List Batch → List Batch → Type 0
 SameForOthers id xs ys = (other : ℕ) → eqb other id ≡ false → places_in other xs ≡ places_in other ys
 
-counts_same : (id : ℕ) (xs ys : List Batch) (m : Option Mark) → SameForOthers id xs ys → has_id id m ≡ false → mark_counts xs m ≡ mark_counts ys m
+counts_same : (id : ℕ) (xs ys : List Batch) (m : Option GroupMark) → SameForOthers id xs ys → has_id id m ≡ false → mark_counts xs m ≡ mark_counts ys m
 counts_same id xs ys None same other = refl
 counts_same id xs ys (Some mark) same other = ap is_complete (same mark.id other)
 
@@ -27,7 +27,7 @@ no_place_at : (same : Bool) (place : List ℕ) (rest : List (List ℕ)) → cons
 no_place_at true place rest is = absurd cc
 no_place_at false place rest is = (refl, is)
 
-no_place : (id : ℕ) (m : Option Mark) (rest : List (List ℕ)) → cons_option (place_by id m) rest ≡ [] → (has_id id m ≡ false) × (rest ≡ [])
+no_place : (id : ℕ) (m : Option GroupMark) (rest : List (List ℕ)) → cons_option (place_by id m) rest ≡ [] → (has_id id m ≡ false) × (rest ≡ [])
 no_place id None rest is = (refl, is)
 no_place id (Some mark) rest is = no_place_at (eqb mark.id id) mark.place rest is
 
@@ -44,7 +44,7 @@ others_count_as_before id old new same (b ∷ bs) none =
 other_id : (a b c : ℕ) → eqb a b ≡ true → eqb c b ≡ false → eqb a c ≡ false
 other_id a b c same apart = grind (arith, nat_tests)
 
-place_of_other : (id other : ℕ) (m : Option Mark) (rest : List (List ℕ)) → has_id id m ≡ true → eqb other id ≡ false → cons_option (place_by other m) rest ≡ rest
+place_of_other : (id other : ℕ) (m : Option GroupMark) (rest : List (List ℕ)) → has_id id m ≡ true → eqb other id ≡ false → cons_option (place_by other m) rest ≡ rest
 place_of_other id other None rest is apart = absurd (false≢true is)
 place_of_other id other (Some mark) rest is apart = ap (λ b. cons_option (cond b (Some mark.place) None) rest) (other_id mark.id id other is apart)
 
@@ -63,7 +63,7 @@ none_of_others id other (b ∷ bs) all apart =
     place_of_other id other (mark_of b) (places_in other bs) each.0 apart ∙ none_of_others id other bs each.1 apart
 
 -- all batches of one group count, or none
-group_counts : (id : ℕ) (batches : List Batch) (m : Option Mark) → has_id id m ≡ true → mark_counts batches m ≡ is_complete (places_in id batches)
+group_counts : (id : ℕ) (batches : List Batch) (m : Option GroupMark) → has_id id m ≡ true → mark_counts batches m ≡ is_complete (places_in id batches)
 group_counts id batches None is = absurd (false≢true is)
 group_counts id batches (Some mark) is = ap (λ i. is_complete (places_in i batches)) (eqb-true mark.id id is)
 
@@ -128,7 +128,7 @@ whole-complete_group id old bs none_before all complete =
 unmarked_places : (id : ℕ) (b : Batch) (old : List Batch) → mark_of b ≡ None → places_in id (old ++ b ∷ []) ≡ places_in id old
 unmarked_places id b old unmarked = places-append id old (b ∷ []) ∙ ap (λ m. places_in id old ++ cons_option (place_by id m) []) unmarked ∙ append-nil (places_in id old)
 
-counts_with_unmarked : (old : List Batch) (b : Batch) (m : Option Mark) → mark_of b ≡ None → mark_counts (old ++ b ∷ []) m ≡ mark_counts old m
+counts_with_unmarked : (old : List Batch) (b : Batch) (m : Option GroupMark) → mark_of b ≡ None → mark_counts (old ++ b ∷ []) m ≡ mark_counts old m
 counts_with_unmarked old b None unmarked = refl
 counts_with_unmarked old b (Some mark) unmarked = ap is_complete (unmarked_places mark.id b old unmarked)
 

@@ -10,3 +10,6 @@ pub mod RewriteLemmas
 pub mod MarkLemmas
 pub mod ContentsLemmas
 pub mod FixedLemmas
+pub mod UnchangedLemmas
+pub mod ProgramLemmas
+pub mod JoinedLemmas

@@ -10,7 +10,7 @@ use Rattle.raft_records.specs.Contents.{Contents, no_contents, with_entries, wit
 use Rattle.raft_recovery.specs.Recovered.{items_of, item_leaves_key, leaves, leaves_key, replay}
 use Rattle.raft_recovery.specs.Rewriting.{ChangesNothing, EachChangesNothing}
 use Rattle.raft_recovery.proofs.KeyLemmas.{value_after, items_leave, value-replay}
-use Rattle.raft_recovery.proofs.KeptLemmas.{kept}
+use Rattle.raft_recovery.proofs.KeptLemmas.{passing}
 
 pub contents_ext : (m n : Contents) → ((g : ℕ) → m.entries g ≡ n.entries g) → ((g : ℕ) (k : List ℕ) → m.value g k ≡ n.value g k) → m ≡ n
 contents_ext m n same_entries same_values =
@@ -67,21 +67,16 @@ pub each_changes_nothing : (x : Contents) (appended : List Batch) (items : List 
 each_changes_nothing x appended [] each = refl
 each_changes_nothing x appended (item ∷ items) each = each_changes_nothing (after_item x item) appended items each.1 ∙ each.0
 
--- the batches' entries of a group come after those that they leave alone, and are set on them where
--- they touch them
-pub record SetsEntries (appended : List Batch) (group : ℕ) : Type 0 where
-  pub after : kept (leaves appended group) ((after_batches no_contents appended).entries group) ≡ []
-
 -- entries of one group that give the same where the batches' own are set on them
-entries_at : (b : Bool) (appended : List Batch) (g : ℕ) (new old : List Entry) → (b ≡ true → with_entries (kept (leaves appended g) new) ((after_batches no_contents appended).entries g) ≡ with_entries (kept (leaves appended g) old) ((after_batches no_contents appended).entries g))
-    → with_entries (kept (leaves appended g) (cond b new old)) ((after_batches no_contents appended).entries g) ≡ with_entries (kept (leaves appended g) old) ((after_batches no_contents appended).entries g)
+entries_at : (b : Bool) (appended : List Batch) (g : ℕ) (new old : List Entry) → (b ≡ true → with_entries (passing (leaves appended g) new) ((after_batches no_contents appended).entries g) ≡ with_entries (passing (leaves appended g) old) ((after_batches no_contents appended).entries g))
+    → with_entries (passing (leaves appended g) (cond b new old)) ((after_batches no_contents appended).entries g) ≡ with_entries (passing (leaves appended g) old) ((after_batches no_contents appended).entries g)
 entries_at true appended g new old same = same refl
 entries_at false appended g new old same = refl
 
 pub entries_set : (x : Contents) (appended : List Batch) (group : ℕ) (new : List Entry)
-    → with_entries (kept (leaves appended group) new) ((after_batches no_contents appended).entries group) ≡ (replay x appended).entries group
+    → with_entries (passing (leaves appended group) new) ((after_batches no_contents appended).entries group) ≡ (replay x appended).entries group
     → (g : ℕ) → (replay (with_entries_in group new x) appended).entries g ≡ (replay x appended).entries g
 entries_set x appended group new same g =
     entries_at (eqb g group) appended g new (x.entries g)
-    (λ at. let P : ℕ → Type 0 = λ h. with_entries (kept (leaves appended h) new) ((after_batches no_contents appended).entries h) ≡ (replay x appended).entries h in
+    (λ at. let P : ℕ → Type 0 = λ h. with_entries (passing (leaves appended h) new) ((after_batches no_contents appended).entries h) ≡ (replay x appended).entries h in
     subst P (sym (eqb-true g group at)) same)

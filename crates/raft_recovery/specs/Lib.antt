@@ -4,3 +4,4 @@ pub mod Joined
 pub mod Consecutive
 pub mod Rewriting
 pub mod Valid
+pub mod Change

@@ -1,5 +1,8 @@
 //! The laws of recovered contents.
 #![tactic(auto)]
 
+pub mod change;
 pub mod group_laws;
+pub mod joined_laws;
 pub mod laws;
+pub mod rewrite_laws;
