@@ -105,6 +105,9 @@ one_more appended b = items-append appended (b ∷ []) ∙ ap (λ is. items_of a
 pub consecutive-append : (older newer : List Batch) → HaveConsecutiveEntries older → HaveConsecutiveEntries newer → HaveConsecutiveEntries (older ++ newer)
 consecutive-append older newer left right = ap (list_all (λ item. content_is_consecutive item.content)) (items-append older newer) ∙ list_all-append (λ item. content_is_consecutive item.content) (items_of older) (items_of newer) ∙ and_from _ _ left right
 
+pub consecutive_one : (b : Batch) → list_all (λ item. content_is_consecutive item.content) b ≡ true → HaveConsecutiveEntries (b ∷ [])
+consecutive_one b is = ap (list_all (λ item. content_is_consecutive item.content)) (append-nil b) ∙ is
+
 consecutive_more : (appended : List Batch) (b : Batch) → HaveConsecutiveEntries appended → list_all (λ item. content_is_consecutive item.content) b ≡ true → HaveConsecutiveEntries (appended ++ b ∷ [])
 consecutive_more appended b left right = consecutive-append appended (b ∷ []) left (ap (list_all (λ item. content_is_consecutive item.content)) (append-nil b) ∙ right)
 

@@ -13,3 +13,4 @@ pub mod FixedLemmas
 pub mod UnchangedLemmas
 pub mod ProgramLemmas
 pub mod JoinedLemmas
+pub mod StandsLemmas

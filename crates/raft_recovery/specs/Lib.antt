@@ -5,3 +5,4 @@ pub mod Consecutive
 pub mod Rewriting
 pub mod Valid
 pub mod Change
+pub mod Stands
