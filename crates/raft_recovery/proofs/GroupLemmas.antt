@@ -11,7 +11,7 @@ use Rattle.raft_records.specs.Contents.{no_contents, after_batch, after_batches}
 use Rattle.raft_recovery.specs.Groups.{GroupMark, mark_of, place_by, places_in, first_place, last_place, has_last, has_id, is_of_group, is_complete, mark_counts, batch_counts, whole}
 use Rattle.raft_recovery.specs.Recovered.{effect}
 
-places-append : (id : ℕ) (xs ys : List Batch) → places_in id (xs ++ ys) ≡ places_in id xs ++ places_in id ys
+pub places-append : (id : ℕ) (xs ys : List Batch) → places_in id (xs ++ ys) ≡ places_in id xs ++ places_in id ys
 places-append id xs ys = filter_map-append (λ b. place_by id (mark_of b)) xs ys
 
 -- the marks of other groups are the same in both lists
@@ -27,11 +27,11 @@ no_place_at : (same : Bool) (place : List ℕ) (rest : List (List ℕ)) → cons
 no_place_at true place rest is = absurd cc
 no_place_at false place rest is = (refl, is)
 
-no_place : (id : ℕ) (m : Option GroupMark) (rest : List (List ℕ)) → cons_option (place_by id m) rest ≡ [] → (has_id id m ≡ false) × (rest ≡ [])
+pub no_place : (id : ℕ) (m : Option GroupMark) (rest : List (List ℕ)) → cons_option (place_by id m) rest ≡ [] → (has_id id m ≡ false) × (rest ≡ [])
 no_place id None rest is = (refl, is)
 no_place id (Some mark) rest is = no_place_at (eqb mark.id id) mark.place rest is
 
-filter_next : {X : Type 0} (p q : X → Bool) (x : X) (xs : List X) → p x ≡ q x → filter p xs ≡ filter q xs → filter p (x ∷ xs) ≡ filter q (x ∷ xs)
+pub filter_next : {X : Type 0} (p q : X → Bool) (x : X) (xs : List X) → p x ≡ q x → filter p xs ≡ filter q xs → filter p (x ∷ xs) ≡ filter q (x ∷ xs)
 filter_next p q x xs at_first rest = ap (λ b. cond b (x ∷ filter p xs) (filter p xs)) at_first ∙ ap (λ ys. cond (q x) (x ∷ ys) ys) rest
 
 -- the batches of other groups, and of none, count as before

@@ -14,3 +14,4 @@ pub mod UnchangedLemmas
 pub mod ProgramLemmas
 pub mod JoinedLemmas
 pub mod StandsLemmas
+pub mod DropRewriteLemmas

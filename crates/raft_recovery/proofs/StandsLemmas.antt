@@ -162,15 +162,24 @@ stands_rewritten_synced q m s = record {
   valid = s.valid;
 }
 
--- the Rewrite queue's batches are others, all synced, of which the same is recovered
-pub stands_rewrite_dropped : (q : Queues) (m : Contents) (left : List Batch) → Stands q m → HaveConsecutiveEntries left → recovered left q.appended ≡ m → Stands (record q { rewritten = left; rewritten_since = [] }) m
-stands_rewrite_dropped q m left s consecutive found = record {
-  rewritten_consecutive = subst HaveConsecutiveEntries (sym (append-nil left)) consecutive;
+pub all_rewritten : (q : Queues) (m : Contents) → Stands q m → recovered (q.rewritten ++ q.rewritten_since) q.appended ≡ m
+all_rewritten q m s = ap (λ bs. recovered (q.rewritten ++ bs) q.appended) (sym (take-length q.rewritten_since)) ∙ s.now (length q.rewritten_since)
+
+-- a queue of which all is synced
+rewritten_alone : (q : Queues) (left appended : List Batch) (m : Contents) (j : ℕ) → q.rewritten_since ≡ [] → recovered left appended ≡ m → recovered (left ++ take j q.rewritten_since) appended ≡ m
+rewritten_alone q left appended m j none found = ap (λ bs. recovered (left ++ take j bs) appended) none ∙ ap (λ bs. recovered (left ++ bs) appended) (take_nothing j) ∙ ap (λ bs. recovered bs appended) (append-nil left) ∙ found
+
+pub stands_rewrite_dropped : (q : Queues) (m : Contents) (old new : List Batch) → Stands q m → q.rewritten_since ≡ [] → q.rewritten ≡ old ++ new → recovered new q.appended ≡ recovered (old ++ new) q.appended → Stands (record q { rewritten = new }) m
+stands_rewrite_dropped q m old new s none is same = record {
+  rewritten_consecutive = subst (λ bs. HaveConsecutiveEntries (new ++ bs)) (sym none) (subst HaveConsecutiveEntries (sym (append-nil new)) (consecutive_parts old new (subst HaveConsecutiveEntries is (consecutive_parts q.rewritten q.rewritten_since s.rewritten_consecutive).0)).1);
   appended_consecutive = s.appended_consecutive;
-  now = λ j. ap (λ bs. recovered (left ++ bs) q.appended) (take_nothing j) ∙ ap (λ bs. recovered bs q.appended) (append-nil left) ∙ found;
+  now = λ j. rewritten_alone q new q.appended m j none (same ∙ ap (λ bs. recovered bs q.appended) (sym is ∙ sym (append-nil q.rewritten) ∙ ap (λ bs. q.rewritten ++ bs) (sym none)) ∙ all_rewritten q m s);
   past = s.past;
   valid = s.valid;
 }
+
+pub stands_front_dropped : (q : Queues) (m : Contents) (front rest : List Batch) → Stands q m → q.rewritten_since ≡ [] → q.appended ≡ front ++ rest → recovered q.rewritten rest ≡ m → Stands (record q { older = q.older ++ front; appended = rest }) m
+stands_front_dropped q m front rest s none is found = stands_dropped q m front rest s is (λ j. rewritten_alone q q.rewritten rest m j none found)
 
 pub stands_opened : (rewritten appended : List Batch) → HaveConsecutiveEntries rewritten → HaveConsecutiveEntries appended → Stands (synced_queues rewritten appended) (recovered rewritten appended)
 stands_opened rewritten appended run consecutive = record {

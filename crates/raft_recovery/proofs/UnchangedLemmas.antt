@@ -38,11 +38,11 @@ pub entries_joined : (x : Contents) (appended : List Batch) (g : ℕ) → HaveCo
 entries_joined x appended g consecutive run =
     entries-replay x appended g consecutive run ∙ put_on-joined _ _ (apart_kept (changes appended g) (x.entries g) (runs_of_items g (items_of appended) consecutive))
 
-kept_twice : (cs : List EntryChange) (w : List Entry) → passing (all_keep cs) (kept cs w) ≡ kept cs w
+pub kept_twice : (cs : List EntryChange) (w : List Entry) → passing (all_keep cs) (kept cs w) ≡ kept cs w
 kept_twice cs w = kept_all (λ (e : Entry). all_keep cs e.0) (kept cs w) (filter_passes (λ (e : Entry). all_keep cs e.0) w)
 
 -- the batches leave none of their own entries alone
-own_not_kept : (cs : List EntryChange) → Each IsRun cs → passing (all_keep cs) (after_changes [] cs) ≡ []
+pub own_not_kept : (cs : List EntryChange) → Each IsRun cs → passing (all_keep cs) (after_changes [] cs) ≡ []
 own_not_kept cs runs =
     kept_none (λ (e : Entry). all_keep cs e.0) (after_changes [] cs)
     (λ k d within.

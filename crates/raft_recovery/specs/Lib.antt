@@ -6,3 +6,4 @@ pub mod Rewriting
 pub mod Valid
 pub mod Change
 pub mod Stands
+pub mod Dropping

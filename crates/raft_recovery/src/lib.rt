@@ -2,7 +2,9 @@
 #![tactic(auto)]
 
 pub mod change;
+pub mod drop_rewrite_laws;
 pub mod group_laws;
 pub mod joined_laws;
 pub mod laws;
 pub mod rewrite_laws;
+pub mod stands_laws;
