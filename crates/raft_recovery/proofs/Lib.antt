@@ -10,6 +10,8 @@ pub mod RewriteLemmas
 pub mod MarkLemmas
 pub mod ContentsLemmas
 pub mod FixedLemmas
+pub mod DropLemmas
+pub mod DropFrontLemmas
 pub mod UnchangedLemmas
 pub mod ProgramLemmas
 pub mod JoinedLemmas

@@ -7,3 +7,4 @@ pub mod Valid
 pub mod Change
 pub mod Stands
 pub mod Dropping
+pub mod DroppingFront

@@ -2,6 +2,7 @@
 #![tactic(auto)]
 
 pub mod change;
+pub mod drop_append_laws;
 pub mod drop_rewrite_laws;
 pub mod group_laws;
 pub mod joined_laws;
