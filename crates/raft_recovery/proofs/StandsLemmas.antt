@@ -9,7 +9,7 @@ use Rattle.raft_records.specs.Validity.{IsValidBatch}
 use Rattle.raft_recovery.specs.Recovered.{effect, recovered, replay}
 use Rattle.raft_recovery.specs.Consecutive.{HaveConsecutiveEntries, HasConsecutiveEntries}
 use Rattle.raft_recovery.specs.Valid.{AreValidBatches}
-use Rattle.raft_recovery.specs.Stands.{Queues, Stands, found_after_crash, synced_queues}
+use Rattle.raft_recovery.specs.Stands.{Queues, Stands, found_after_crash, left_by_crash, synced_queues}
 use Rattle.raft_recovery.proofs.ContentsLemmas.{consecutive_one, consecutive-append, effect_consecutive, replay_consecutive, replay-all_appended, valid_is_consecutive}
 use Rattle.raft_recovery.proofs.FixedLemmas.{consecutive_parts, replay-replay, replay-later, replay-more}
 
@@ -178,8 +178,10 @@ stands_rewrite_dropped q m old new s none is same = record {
   valid = s.valid;
 }
 
-pub stands_front_dropped : (q : Queues) (m : Contents) (front rest : List Batch) → Stands q m → q.rewritten_since ≡ [] → q.appended ≡ front ++ rest → recovered q.rewritten rest ≡ m → Stands (record q { older = q.older ++ front; appended = rest }) m
-stands_front_dropped q m front rest s none is found = stands_dropped q m front rest s is (λ j. rewritten_alone q q.rewritten rest m j none found)
+pub stands_front_dropped : (q : Queues) (m : Contents) (front rest : List Batch) → Stands q m → q.rewritten_since ≡ [] → q.appended ≡ front ++ rest → recovered q.rewritten rest ≡ recovered q.rewritten (front ++ rest) → Stands (record q { older = q.older ++ front; appended = rest }) m
+stands_front_dropped q m front rest s none is same =
+    let all : recovered q.rewritten q.appended ≡ m = ap (λ bs. recovered bs q.appended) (sym (append-nil q.rewritten) ∙ ap (λ bs. q.rewritten ++ bs) (sym none)) ∙ all_rewritten q m s in
+    stands_dropped q m front rest s is (λ j. rewritten_alone q q.rewritten rest m j none (same ∙ ap (recovered q.rewritten) (sym is) ∙ all))
 
 pub stands_opened : (rewritten appended : List Batch) → HaveConsecutiveEntries rewritten → HaveConsecutiveEntries appended → Stands (synced_queues rewritten appended) (recovered rewritten appended)
 stands_opened rewritten appended run consecutive = record {
@@ -189,3 +191,9 @@ stands_opened rewritten appended run consecutive = record {
   past = replay-replay (effect rewritten) appended (effect_consecutive rewritten run) consecutive;
   valid = tt;
 }
+
+pub stands_reopened : (q : Queues) (m : Contents) (i j k : ℕ) → Stands q m → Stands (left_by_crash q i j k) (after_batches m (take k q.appended_since))
+stands_reopened q m i j k s =
+    let bs = take k q.appended_since in
+    subst (Stands (left_by_crash q i j k)) (found_prefix q m i j k s)
+    (stands_opened (q.rewritten ++ take j q.rewritten_since) (drop i q.older ++ q.appended ++ bs) (rewritten_part q m j s) (consecutive-append (drop i q.older ++ q.appended) bs (standing_consecutive q m i s) (valid_consecutive m bs (valid_take m k q.appended_since s.valid))))

@@ -5,18 +5,20 @@ ghost use Rattle.raft_records.specs.Item.{Batch};
 ghost use Rattle.raft_records.specs.Validity.{IsValidBatch};
 ghost use Rattle.raft_recovery.specs.Consecutive.{HaveConsecutiveEntries};
 ghost use Rattle.raft_recovery.specs.Recovered.{effect, recovered};
-ghost use Rattle.raft_recovery.specs.Stands.{Queues, Stands, found_after_crash, synced_queues};
+ghost use Rattle.raft_recovery.specs.Stands.{Queues, Stands, found_after_crash, left_by_crash, synced_queues};
 
 /// After every crash, whatever it leaves of the unsynced ends of both queues and of dropped files
 /// of the Append queue, the durable contents are found, with a prefix of the batches written since
 /// (`crash`). Queues of which all is synced stand for what is recovered of them, whatever they hold
-/// (`opened`).
+/// (`opened`); so where an opening syncs what a crash left, it stands for that (`reopened`).
 pub fn a_crash_finds_what_the_queues_stand_for()
     ensures crash { (q : Queues) (m : Contents) (i j k : ℕ) → Stands q m
         → found_after_crash q i j k ≡ after_batches m (take k q.appended_since) }
     ensures opened { (rewritten appended : List Batch) → HaveConsecutiveEntries rewritten
         → HaveConsecutiveEntries appended
         → Stands (synced_queues rewritten appended) (recovered rewritten appended) }
+    ensures reopened { (q : Queues) (m : Contents) (i j k : ℕ) → Stands q m
+        → Stands (left_by_crash q i j k) (after_batches m (take k q.appended_since)) }
 {}
 
 /// Steps of the Append queue. A valid batch may be written at any time (`written`), and what was
@@ -35,7 +37,7 @@ pub fn steps_of_the_append_queue_keep_contents()
         (after_batches m q.appended_since) }
     ensures dropped { (q : Queues) (m : Contents) (front rest : List Batch) → Stands q m
         → q.rewritten_since ≡ [] → q.appended ≡ front ++ rest
-        → recovered q.rewritten rest ≡ m
+        → recovered q.rewritten rest ≡ recovered q.rewritten (front ++ rest)
         → Stands (record q { older = q.older ++ front; appended = rest }) m }
     ensures gone { (q : Queues) (m : Contents) (count : ℕ) → Stands q m
         → Stands (record q { older = drop count q.older }) m }
