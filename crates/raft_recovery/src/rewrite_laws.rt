@@ -3,6 +3,7 @@ ghost use Rattle.std.specs.Prelude.{◌≡◌, ◌≤◌, ◌++◌, ◌∷◌, �
 ghost use Rattle.std.specs.List.{list_all};
 ghost use Rattle.raft_records.specs.Contents.{Contents, after_batch};
 ghost use Rattle.raft_records.specs.Item.{Batch, Clean, Compact, Delete, Entries, Entry, Put};
+ghost use Rattle.raft_records.specs.Record.{Mark, mark_item};
 ghost use Rattle.raft_recovery.specs.Consecutive.{HaveConsecutiveEntries, are_consecutive};
 ghost use Rattle.raft_recovery.specs.Groups.{is_complete, is_of_group, mark_of, places_in};
 ghost use Rattle.raft_recovery.specs.Recovered.{effect, items_of, leaves_key, recovered, replay};
@@ -27,7 +28,7 @@ pub fn marks_change_nothing()
 {}
 
 /// What is there may be written again: a key with the value that it has, or that the Append queue
-/// sets (`key`), and entries that fit (`entries`).
+/// sets (`key`), and entries that fit (`entries`); the mark of an atomic group is no key (`mark`).
 pub fn rewriting_changes_nothing()
     ensures key { (x : Contents) (appended : List Batch) (group : ℕ) (key value : List ℕ)
         → (leaves_key appended group key ≡ true
@@ -38,6 +39,8 @@ pub fn rewriting_changes_nothing()
         → IsTrue (are_consecutive (x.entries group)) → IsTrue (are_consecutive (e ∷ es))
         → FitsRewrite x appended group e es
         → ChangesNothing x appended (record { group = group; content = Entries (e ∷ es) }) }
+    ensures mark { (x : Contents) (appended : List Batch) (id : ℕ) (mark : Mark)
+        → ChangesNothing x appended (mark_item id mark) }
 {}
 
 /// Where each item changes nothing after those before it, their batch changes nothing: one without
