@@ -32,7 +32,7 @@ changes_of group items = map (change_in group) items
 
 -- Consecutive entries.
 
-runs_when_consecutive : (n : ℕ) (es : List Entry) → are_consecutive_from n es ≡ true → Runs n es
+pub runs_when_consecutive : (n : ℕ) (es : List Entry) → are_consecutive_from n es ≡ true → Runs n es
 runs_when_consecutive n [] is = tt
 runs_when_consecutive n (e ∷ es) is =
     let both = and_parts (eqb e.0 n) (are_consecutive_from (n + 1) es) is in

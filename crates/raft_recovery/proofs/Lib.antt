@@ -8,6 +8,11 @@ pub mod KeptLemmas
 pub mod AscendingLemmas
 pub mod RewriteLemmas
 pub mod MarkLemmas
+pub mod ContentsLemmas
+pub mod FixedLemmas
+pub mod DropLemmas
+pub mod DropFrontLemmas
 pub mod UnchangedLemmas
 pub mod JoinedLemmas
+pub mod StandsLemmas
 pub mod DropRewriteLemmas

@@ -3,4 +3,7 @@ pub mod Recovered
 pub mod Joined
 pub mod Consecutive
 pub mod Rewriting
+pub mod Valid
+pub mod Stands
 pub mod Dropping
+pub mod DroppingFront
