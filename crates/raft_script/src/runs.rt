@@ -79,7 +79,7 @@ pub(crate) fn run_watched<F: FileSystem>(
     })
 }
 
-fn step<F: FileSystem>(alloc: Global, engine: &mut Engine<F>, op: &Op) -> Outcome
+pub(crate) fn step<F: FileSystem>(alloc: Global, engine: &mut Engine<F>, op: &Op) -> Outcome
     ensures answer { (m : Contents) → (has_failed engine.old ≡ false → m ≡ contents_of engine.old)
         → IsAnswer m op.now result }
     ensures failing { IsFailing (has_failed engine.old) op.now result (has_failed engine.new) }
