@@ -1,3 +1,4 @@
+pub mod Answered
 pub mod Contents
 pub mod Crash
 pub mod Cause
