@@ -40,7 +40,7 @@ written_change at given is_done after old = record {
   before = old;
   after = after;
   shortest = length after;
-  longest = longest_of is_done (at + length given) (length after);
+  longest = longest_of is_done at (length given) (length after);
 }
 
 -- what an allocation notes

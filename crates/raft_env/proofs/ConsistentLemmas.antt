@@ -1,10 +1,9 @@
 -- Calls keep files consistent, and storage may leave of such a file all bytes now.
-use Rattle.std.proofs.Common.{◌≡◌, ◌⊎◌, ℕ, ◌+◌, ◌-◌, ◌<◌, ◌≤◌, ◌==◌, min, max, Bool, true, false, cond, List, [], ◌∷◌, ◌++◌, length, take, replicate, slice_index, slice_index_or, Option, Some, None, is_some, refl, ap, sym, subst, ◌∙◌, inl, inr, arith}
+use Rattle.std.proofs.Common.{◌≡◌, ◌⊎◌, ℕ, ◌+◌, ◌-◌, ◌<◌, ◌≤◌, ◌==◌, min, max, Bool, true, false, cond, List, [], ◌∷◌, ◌++◌, length, take, replicate, slice_index, Option, Some, None, is_some, refl, ap, sym, subst, ◌∙◌, inl, inr, arith}
 use Rattle.std.specs.Prelude.{◌||◌, option_map}
 use Rattle.std.proofs.lemmas.Bool.{cases_Bool, cases_lt, eqb-true}
 use Rattle.std.proofs.lemmas.Bool.Decides.{nat_tests}
-use Rattle.std.proofs.lemmas.List.{get_or-take, get_or_append_left, get_or_past, length-append, length-take}
-use Rattle.std.proofs.lemmas.List.Elements.{All-get_or}
+use Rattle.std.proofs.lemmas.List.{get_or-take, get_or_append_left, length-append, length-take}
 use Rattle.std.proofs.lemmas.Option.{same_Some}
 use Rattle.std.specs.Ordering.{nat_cmp, eq_by_cmp}
 use Rattle.std.specs.Cmp.Lexicographic.{slice_cmp, nat_list_cmp_total}
@@ -13,7 +12,7 @@ use Rattle.raft_env.specs.Outcomes.{File, Change, MayLeave, Outcome, IsPartOf, I
 use Rattle.raft_env.specs.Directory.{Directory, Left, Path, file_at, placed, changed, changed_at, created, IsMakingFolder, IsChanging, IsWriting, IsTruncating, IsAllocating, IsOneOf, IsRestarted}
 use Rattle.raft_env.specs.Consistent.{HasItsRange, HasItsLength, IsPastOf, IsConsistent, AreConsistent}
 use Rattle.raft_env.proofs.DirectoryLemmas.{file_at-making}
-use Rattle.raft_env.proofs.OverlaidLemmas.{overlaid_bounds, overlaid_outside_part}
+use Rattle.raft_env.proofs.OverlaidLemmas.{overlaid_bounds, overlaid_outside_part, longest_of-more}
 use Rattle.raft_env.proofs.ChangeLemmas.{not_within, cut_change, cut_is}
 
 -- Files.
@@ -57,7 +56,7 @@ written_consistent at given after true file old done = consistent_more file _ ol
     ap (λ b. slice_index b i) done ∙ overlaid_outside_part file.now at (length given) given (omega arith) i apart,
   );
 })
-written_consistent at given after false file old part = consistent_more file _ old refl (omega arith) (omega arith, omega arith) (part_outside at (length given) file.now _ refl refl part)
+written_consistent at given after false file old part = consistent_more file _ old refl (omega arith) (omega arith, longest_of-more false at (length given) (length after)) (part_outside at (length given) file.now _ refl refl part)
 
 -- an allocation
 pub allocated_consistent : (size : ℕ) (after : List ℕ) (is_done : Bool) (file : File) → IsConsistent file → Outcome is_done (padded file.now size) (IsPartOf (length file.now) (size - length file.now) file.now) after → IsConsistent (lengthened_to size is_done after file)

@@ -8,7 +8,7 @@ use Rattle.std.proofs.lemmas.Slice.Eq.{bytes_eq-Decides}
 use Rattle.std.proofs.lemmas.Bool.{false_from_ne_true, or_right}
 use Rattle.std.proofs.lemmas.Bool.Decides.{nat_tests}
 use Rattle.std.proofs.lemmas.Grind.{same_number_lists, common_steps}
-use Rattle.std.proofs.lemmas.List.{get_or-take}
+use Rattle.std.proofs.lemmas.List.{get_or-take, nil_from_length}
 use Rattle.raft_env.specs.Outcomes.{File, MayLeave, IsPartOf, is_within, is_touched, least_len, overlaid}
 use Rattle.raft_env.specs.Directory.{Path, Directory, file_at, placed, changed, changed_at, folder_made, is_on_way, IsChanging, IsMakingFolder}
 use Rattle.raft_env.proofs.OverlaidLemmas.{overlaid_bounds, overlaid_outside_part}
@@ -60,6 +60,7 @@ pub writing_part : (at : ℕ) (given kept : List ℕ) → length kept ≤ length
 writing_part at given kept part now = record {
   no_shorter = (overlaid_bounds now at kept).0;
   no_longer = omega (arith, (overlaid_bounds now at kept).1);
+  unchanged = λ none. ap (overlaid now at) (nil_from_length kept (omega arith));
   elsewhere = λ i h out. overlaid_outside_part now at (length given) kept part i out;
 }
 

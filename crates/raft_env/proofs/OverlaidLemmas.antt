@@ -1,7 +1,7 @@
 -- The bytes of a file with others written over them, and the lengths that a crash may leave.
-use Rattle.std.proofs.Common.{◌≡◌, ℕ, ◌+◌, ◌-◌, ◌<◌, ◌≤◌, min, max, Bool, true, false, cond, ◌||◌, List, [], ◌∷◌, ◌++◌, length, length-append, take, drop, get_or, refl, sym, ◌∙◌, ap, subst, inl, inr, ◌⊎◌, arith}
+use Rattle.std.proofs.Common.{◌≡◌, ℕ, zero, suc, ◌+◌, ◌-◌, ◌<◌, ◌≤◌, min, max, Bool, true, false, cond, List, [], ◌∷◌, ◌++◌, length, length-append, take, drop, get_or, refl, sym, ◌∙◌, ap, inl, inr, ◌⊎◌, arith}
 use Rattle.std.proofs.lemmas.Bool.Decides.{nat_tests, leb_tells}
-use Rattle.raft_env.specs.Outcomes.{File, Change, MayLeave, is_within, least_len, greatest_len, written, resized, synced_of, longest_of, overlaid, padded}
+use Rattle.raft_env.specs.Outcomes.{Change, is_within, least_len, greatest_len, longest_of, overlaid, padded}
 use Rattle.std.specs.Prelude.{replicate}
 use Rattle.std.proofs.lemmas.List.{take_all, drop_all, append-nil, take-append-drop, take-append-le, length-replicate, get_or-append_right, get_or-take, get_or-drop, get_or_past, get_or-replicate, length-take-le, length-drop}
 use Rattle.std.proofs.Math.ListN.{get_or-append}
@@ -107,9 +107,10 @@ overlaid_inside bytes at (byte ∷ rest) i above below =
     let front_len : length front ≡ at = length-take-le at (padded bytes end) long in
     get_or-append (front ++ given) _ 0 i (omega (arith, length-append front given)) ∙ get_or-append_right front given at i 0 front_len above
 
-pub longest_of-more : (is_done : Bool) (end len : ℕ) → len ≤ longest_of is_done end len
-longest_of-more true end len = omega arith
-longest_of-more false end len = omega arith
+pub longest_of-more : (is_done : Bool) (at size left : ℕ) → left ≤ longest_of is_done at size left
+longest_of-more true at size left = omega arith
+longest_of-more false at zero left = omega arith
+longest_of-more false at (suc size) left = omega arith
 
 module _ (bytes synced given : List ℕ) (from size i : ℕ) (same_len : length synced ≡ length bytes) (end_is : from + length given ≡ min (from + size) (length bytes)) (low : from < length bytes) (is : given ≡ take (length given) (drop from bytes)) where
   copied_by : (b : Bool) → is_within from size i ≡ b → get_or (overlaid synced from given) i 0 ≡ cond b (get_or bytes i 0) (get_or synced i 0)

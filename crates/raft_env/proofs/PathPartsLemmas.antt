@@ -14,7 +14,7 @@ use Rattle.std.proofs.lemmas.Slice.Eq.{bytes_eq-Decides}
 use Rattle.std.proofs.lemmas.Str.Pattern.{NoCharPasses-char, drop_at_char}
 use Rattle.std.proofs.lemmas.List.Elements.{All-from_get_or}
 use Rattle.std.proofs.lemmas.List.{append_cancel_left, append-nil, length-append}
-use Rattle.raft_env.specs.Directory.{Path, after_folder, is_on_way, folder_made, name_in, kept_name}
+use Rattle.raft_env.specs.Directory.{Path, after_folder, is_on_way, name_in, kept_name}
 use Rattle.raft_env.specs.PathParts.{IsName, IsParent, path_below}
 
 pub after_folder-below : (folder rest : Path) → after_folder folder (folder ++ 47 ∷ rest) ≡ Some rest

@@ -296,11 +296,11 @@ read_to_end-cut id bytes r e =
     let len : length (take r.end bytes) ≡ r.end = length-take-le r.end bytes (end_of_read_within id bytes r e) in
     ap (λ read. ends_with (length (take r.end bytes)) read) (reading-cut id bytes r e) ∙ eq-eqb r.end (length (take r.end bytes)) (sym len)
 
-pub bytes_truncated : (path : Path) (size : ℕ) (old new : Directory) → new ≡ changed path (λ f. resized true (take size f.now) f) old → bytes_at path new ≡ take size (bytes_at path old)
+pub bytes_truncated : (path : Path) (size : ℕ) (old new : Directory) → new ≡ changed path (λ f. resized (take size f.now) f) old → bytes_at path new ≡ take size (bytes_at path old)
 bytes_truncated path size old new is = by_file (file_at old path) refl
   where
     cut : File → File
-    cut f = resized true (take size f.now) f
+    cut f = resized (take size f.now) f
 
     by_file : (found : Option File) → file_at old path ≡ found → bytes_at path new ≡ take size (bytes_of found)
     by_file None e =

@@ -145,7 +145,7 @@ written_to_allocation_refused id format records synced at file size after writte
 pub length_cut : (at : ℕ) (bytes : List ℕ) → at ≤ length bytes → length (take at bytes) ≡ at
 length_cut at bytes long = length-take-le at bytes long
 
-pub written_to_cut : (id : FileId) (format : LogFileFormat) (records : List Placed) (synced at : ℕ) (file : File) → IsWrittenTo id format records synced at file → IsWrittenTo id format records synced at (resized true (take at file.now) file)
+pub written_to_cut : (id : FileId) (format : LogFileFormat) (records : List Placed) (synced at : ℕ) (file : File) → IsWrittenTo id format records synced at file → IsWrittenTo id format records synced at (resized (take at file.now) file)
 written_to_cut id format records synced at file written =
     let after = take at file.now in
     let len : length after ≡ at = length_cut at file.now written.holds.within in
@@ -153,7 +153,7 @@ written_to_cut id format records synced at file written =
     let c = resized_change after file.now in
     written_to_changed id format records synced at file c written refl (sym (take-take at at file.now (omega arith))) (omega arith) (ungiven at c refl) (inl (λ i behind within. absurd (omega arith))) (omega arith)
 
-pub torn_cut : (id : FileId) (format : LogFileFormat) (records in_flight : List Placed) (synced at : ℕ) (file : File) → IsTornFrom id format records in_flight synced at file → IsTornFrom id format records in_flight synced at (resized true (take at file.now) file)
+pub torn_cut : (id : FileId) (format : LogFileFormat) (records in_flight : List Placed) (synced at : ℕ) (file : File) → IsTornFrom id format records in_flight synced at file → IsTornFrom id format records in_flight synced at (resized (take at file.now) file)
 torn_cut id format records in_flight synced at file torn =
     let after = take at file.now in
     let len : length after ≡ at = length_cut at file.now torn.holds.within in

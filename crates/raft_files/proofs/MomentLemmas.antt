@@ -34,7 +34,7 @@ moment_of_cut id format records synced at old new written_to how = elim how [
 ]
   where
     by_outcome : (is_done : Bool) (after : List ℕ) → Outcome is_done (take at old.now) (IsCutOf at old.now) after → IsWrittenTo id format records synced at (cut_to at is_done after old)
-    by_outcome true after done = subst (λ bytes. IsWrittenTo id format records synced at (resized true bytes old)) (sym done) (written_to_cut id format records synced at old written_to)
+    by_outcome true after done = subst (λ bytes. IsWrittenTo id format records synced at (resized bytes old)) (sym done) (written_to_cut id format records synced at old written_to)
     by_outcome false after part = written_to_cut_refused id format records synced at old _ written_to (cut_refused_is at old after written_to.holds.within part)
 
 -- .. and of one that takes a refused write back
@@ -46,5 +46,5 @@ moment_of_cut_back id format records in_flight synced at old new torn how = elim
 ]
   where
     by_outcome : (is_done : Bool) (after : List ℕ) → Outcome is_done (take at old.now) (IsCutOf at old.now) after → IsTornFrom id format records in_flight synced at (cut_to at is_done after old)
-    by_outcome true after done = subst (λ bytes. IsTornFrom id format records in_flight synced at (resized true bytes old)) (sym done) (torn_cut id format records in_flight synced at old torn)
+    by_outcome true after done = subst (λ bytes. IsTornFrom id format records in_flight synced at (resized bytes old)) (sym done) (torn_cut id format records in_flight synced at old torn)
     by_outcome false after part = torn_cut_refused id format records in_flight synced at old _ torn (cut_refused_is at old after torn.holds.within part)

@@ -1,21 +1,10 @@
 -- The folders that were made.
-use Rattle.std.proofs.Common.{◌≡◌, ◌≢◌, ℕ, Bool, true, false, cond, eqb, ◌||◌, List, [], ◌∷◌, ◌++◌, length, get_or, take, drop, take-append-drop, lit<, Option, Some, None, refl, sym, ◌∙◌, ap, subst, inl, inr, ◌⊎◌, Decides, append_assoc, arith}
-use Rattle.std.specs.Prelude.{is_some, not, String}
+use Rattle.std.proofs.Common.{◌≡◌, true, eqb, ◌||◌, List, length, ap, inl, inr}
+use Rattle.std.specs.Prelude.{String}
 use Rattle.std.specs.List.{list_any}
-use Rattle.std.specs.Option.{MatchOption}
 use Rattle.std.specs.String.{string_bytes}
-use Rattle.std.specs.Str.{NoCharPasses, bytes_eq}
-use Rattle.std.specs.Str.Pattern.{HasCharAt}
 use Rattle.std.specs.declared.alloc.Global.{Global}
-use denote.Ref.{Bor}
-use Rattle.std.proofs.lemmas.Bool.{eq-eqb, eqb-true, false_from_ne_true}
-use Rattle.std.proofs.lemmas.Bool.Decides.{Decides-eqb, same_from_decides}
-use Rattle.std.proofs.lemmas.Slice.Eq.{bytes_eq-Decides}
-use Rattle.std.proofs.lemmas.Str.Pattern.{NoCharPasses-char, drop_at_char}
-use Rattle.std.proofs.lemmas.List.Elements.{All-from_get_or}
-use Rattle.std.proofs.lemmas.List.{append_cancel_left, append-nil, length-append}
-use Rattle.raft_env.specs.Directory.{Path, after_folder, is_on_way, folder_made, name_in, kept_name}
-use Rattle.raft_env.specs.PathParts.{IsName, IsParent, path_below}
+use Rattle.raft_env.specs.Directory.{Path, is_on_way, folder_made}
 use Rattle.raft_memory.specs.Files.{Files, folders_of, directory_of}
 use Rattle.raft_env.proofs.PathPartsLemmas.{either, or_second, any_further, no_bytes, on_way_to_root, absorbs}
 

@@ -37,7 +37,7 @@ written_holds at given after is_done file old consistent = record {
   not_renamed = old.not_renamed;
 }
 
-resized_holds : (after : List ℕ) (file : File) → Holds file → IsConsistent (resized true after file) → Holds (resized true after file)
+resized_holds : (after : List ℕ) (file : File) → Holds file → IsConsistent (resized after file) → Holds (resized after file)
 resized_holds after file old consistent = record {
   consistent = consistent;
   only_writes = All-cons IsDoneOrWrite _ (file.changes ++ file.older) (λ refused. absurd cc) old.only_writes;
@@ -83,10 +83,10 @@ module _ (m : MemoryFileSystem) (new : Directory) where
   pub invariant-written_part : (path : Path) (at : ℕ) (given kept : List ℕ) → length kept ≤ length given → new ≡ changed path (λ f. written at given false (overlaid f.now at kept) f) (memory_directory m) → Invariant new
   invariant-written_part path at given kept part = invariant-changed path _ (λ file holds. written_holds at given _ false file holds (written_consistent at given _ false file holds.consistent (writing_part at given kept part file.now)))
 
-  pub invariant-cut : (path : Path) (size : ℕ) → new ≡ changed path (λ f. resized true (take size f.now) f) (memory_directory m) → Invariant new
+  pub invariant-cut : (path : Path) (size : ℕ) → new ≡ changed path (λ f. resized (take size f.now) f) (memory_directory m) → Invariant new
   invariant-cut path size = invariant-changed path _ (λ file holds. resized_holds _ file holds (cut_consistent size _ true file holds.consistent refl))
 
-  pub invariant-lengthened : (path : Path) (size : ℕ) → new ≡ changed path (λ f. resized true (padded f.now size) f) (memory_directory m) → Invariant new
+  pub invariant-lengthened : (path : Path) (size : ℕ) → new ≡ changed path (λ f. resized (padded f.now size) f) (memory_directory m) → Invariant new
   invariant-lengthened path size = invariant-changed path _ (λ file holds. resized_holds _ file holds (allocated_consistent size _ true file holds.consistent refl))
 
   pub invariant-synced : (path : Path) → new ≡ changed path synced_of (memory_directory m) → Invariant new

@@ -1,11 +1,10 @@
 -- What a change does to what a file keeps.
-use Rattle.std.proofs.Common.{◌≡◌, ℕ, ◌+◌, ◌-◌, ◌<◌, ◌≤◌, min, max, Bool, true, false, cond, ◌||◌, List, [], ◌∷◌, ◌++◌, length, length-append, take, drop, get_or, refl, sym, ◌∙◌, ap, subst, inl, inr, ◌⊎◌, arith}
-use Rattle.std.proofs.lemmas.Bool.Decides.{nat_tests, leb_tells}
-use Rattle.raft_env.specs.Outcomes.{File, Change, MayLeave, is_within, least_len, greatest_len, written, resized, synced_of, longest_of, overlaid, padded}
+use Rattle.std.proofs.Common.{◌≡◌, ℕ, ◌-◌, ◌<◌, ◌≤◌, min, max, Bool, true, false, ◌||◌, List, [], length, length-append, take, get_or, refl, sym, ◌∙◌, ap, subst, inl, inr, arith}
+use Rattle.std.proofs.lemmas.Bool.Decides.{nat_tests}
+use Rattle.raft_env.specs.Outcomes.{File, MayLeave, is_within, written, resized, synced_of, longest_of, padded}
 use Rattle.raft_memory.specs.MemoryFile.{IsFileOf, is_covered}
 use Rattle.std.specs.Prelude.{replicate}
-use Rattle.std.proofs.lemmas.List.{take_all, drop_all, append-nil, take-append-drop, take-append-le, length-replicate, get_or-append_right, get_or-take, get_or-drop, get_or_past, get_or-replicate, length-take-le, length-drop}
-use Rattle.std.proofs.Math.ListN.{get_or-append}
+use Rattle.std.proofs.lemmas.List.{length-replicate, get_or-take, get_or_past, length-take-le}
 use Rattle.raft_env.proofs.OverlaidLemmas.{split_at, get_or-padded, longest_of-more}
 
 or_none : (a b : Bool) → (a || b) ≡ false → (a ≡ false) × (b ≡ false)
@@ -23,7 +22,7 @@ module _ (bytes synced : List ℕ) (ranges more : List (ℕ × ℕ)) (low high :
   -- after a write, the file keeps what it should
   pub file_written : (at : ℕ) (given after : List ℕ) (is_done : Bool) → ((i : ℕ) → is_covered more i ≡ (is_covered ranges i || is_within at (length given) i))
       → ((i : ℕ) → is_within at (length given) i ≡ false → get_or after i 0 ≡ get_or bytes i 0)
-      → IsFileOf after synced more (min low (length after)) (max high (longest_of is_done (at + length given) (length after))) (written at given is_done after file)
+      → IsFileOf after synced more (min low (length after)) (max high (longest_of is_done at (length given) (length after))) (written at given is_done after file)
   file_written at given after is_done added outside = record {
     now = refl;
     on_disk = k.on_disk;
@@ -32,14 +31,14 @@ module _ (bytes synced : List ℕ) (ranges more : List (ℕ × ℕ)) (low high :
     low_is = omega (arith, k.low_is);
     high_is = omega (arith, k.high_is);
     above_low = omega arith;
-    below_high = omega (arith, longest_of-more is_done (at + length given) (length after));
+    below_high = omega (arith, longest_of-more is_done at (length given) (length after));
   }
 
   -- so it does after a change of the length, if the bytes up to the lesser length stay and zeros follow
   file_resized : (after : List ℕ) (from len : ℕ) → from ≡ min (length after) (length bytes) → len ≡ max (length after) (length bytes) - from
       → ((i : ℕ) → is_covered more i ≡ (is_covered ranges i || is_within from len i))
       → ((i : ℕ) → is_within from len i ≡ false → get_or after i 0 ≡ get_or bytes i 0)
-      → IsFileOf after synced more (min low (length after)) (max high (length after)) (resized true after file)
+      → IsFileOf after synced more (min low (length after)) (max high (length after)) (resized after file)
   file_resized after from len from_is len_is added outside =
       let now_len : length file.now ≡ length bytes = ap length k.now in
       let first : min (length after) (length file.now) ≡ from = omega arith in
@@ -56,21 +55,21 @@ module _ (bytes synced : List ℕ) (ranges more : List (ℕ × ℕ)) (low high :
       }
 
   pub file_cut : (from : ℕ) → from ≤ length bytes → ((i : ℕ) → is_covered more i ≡ (is_covered ranges i || is_within from (length bytes - from) i))
-      → IsFileOf (take from bytes) synced more (min low from) (max high from) (resized true (take from bytes) file)
+      → IsFileOf (take from bytes) synced more (min low from) (max high from) (resized (take from bytes) file)
   file_cut from fits added =
       let len : length (take from bytes) ≡ from = length-take-le from bytes fits in
       let kept = file_resized (take from bytes) from (length bytes - from) (omega arith) (omega arith) added (λ i out. elim (split_at i from) [
         | inl inside ↦ get_or-take from bytes i 0 inside
         | inr behind ↦ let past : length bytes ≤ i = grind (arith, nat_tests) in get_or_past _ i 0 (omega arith) ∙ sym (get_or_past bytes i 0 past)
       ]) in
-      subst (λ n. IsFileOf (take from bytes) synced more (min low n) (max high n) (resized true (take from bytes) file)) len kept
+      subst (λ n. IsFileOf (take from bytes) synced more (min low n) (max high n) (resized (take from bytes) file)) len kept
 
   pub file_lengthened : (size : ℕ) → ((i : ℕ) → is_covered more i ≡ (is_covered ranges i || is_within (length bytes) (max size (length bytes) - length bytes) i))
-      → IsFileOf (padded bytes size) synced more (min low (max size (length bytes))) (max high (max size (length bytes))) (resized true (padded bytes size) file)
+      → IsFileOf (padded bytes size) synced more (min low (max size (length bytes))) (max high (max size (length bytes))) (resized (padded bytes size) file)
   file_lengthened size added =
       let len : length (padded bytes size) ≡ max size (length bytes) = omega (arith, length-append bytes (replicate {A = ℕ} (size - length bytes) 0), length-replicate {A = ℕ} (size - length bytes) 0) in
       let kept = file_resized (padded bytes size) (length bytes) (max size (length bytes) - length bytes) (omega arith) (omega arith) added (λ i out. get_or-padded bytes size i) in
-      subst (λ n. IsFileOf (padded bytes size) synced more (min low n) (max high n) (resized true (padded bytes size) file)) len kept
+      subst (λ n. IsFileOf (padded bytes size) synced more (min low n) (max high n) (resized (padded bytes size) file)) len kept
 
 -- and a sync
 pub file_synced : (bytes synced : List ℕ) (ranges : List (ℕ × ℕ)) (low high : ℕ) (file : File) → IsFileOf bytes synced ranges low high file → IsFileOf bytes bytes [] (length bytes) (length bytes) (synced_of file)

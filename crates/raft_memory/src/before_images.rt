@@ -79,7 +79,7 @@ impl BeforeImages {
 // Appends so many bytes from that place on, with zeros for those behind the end.
 fn push_part(saved: &mut Vec<u8>, bytes: &[u8], from: usize, size: usize) -> Result<(), AllocError>
     ensures len { OnOk result (length saved.new.items ≡ length saved.old.items + size) }
-    ensures kept { OnOk result ((i : ℕ) → i < length saved.old.items → slice_index saved.new.items i ≡ slice_index saved.old.items i) }
+    ensures unchanged { OnOk result ((i : ℕ) → i < length saved.old.items → slice_index saved.new.items i ≡ slice_index saved.old.items i) }
     ensures added { OnOk result ((i : ℕ) → i < size → slice_index saved.new.items (length saved.old.items + i) ≡ slice_index bytes.now (from + i)) }
     ensures err { OnErr result (saved.new.items ≡ saved.old.items) }
 {

@@ -23,7 +23,7 @@ unsafe impl Sync for Known {}
 #[derive(Clone, Copy, Drop)]
 pub(crate) enum Step<'a> {
     Write(usize, &'a [u8], bool, &'a [u8]),
-    Resize(bool, &'a [u8]),
+    Resize(&'a [u8]),
     Sync,
     /// A crash left these bytes.
     Restart(&'a [u8]),

@@ -72,7 +72,7 @@ impl MemoryFile {
         overlay(&mut self.bytes, at, kept)?;
         add_range(&mut self.ranges, at, given.len());
         self.least = self.least.min(self.bytes.len());
-        let longest = longest_of(is_done, at + given.len(), self.bytes.len());
+        let longest = longest_of(is_done, at, given.len(), self.bytes.len());
         self.greatest = self.greatest.max(longest);
         self.known = self
             .known
@@ -83,7 +83,7 @@ impl MemoryFile {
 
 impl MemoryFile {
     pub(crate) fn cut(&mut self, size: usize) -> Result<(), AllocError>
-        ensures ok { OnOk result (self.new ≡ resized true (take size self.old.now) self.old) }
+        ensures ok { OnOk result (self.new ≡ resized (take size self.old.now) self.old) }
         ensures err { OnErr result (self.new ≡ self.old) }
     {
         self.ranges.reserve(1)?;
@@ -93,12 +93,12 @@ impl MemoryFile {
         self.bytes.truncate(from);
         self.least = self.least.min(from);
         self.greatest = self.greatest.max(from);
-        self.known = self.known.then(&Step::Resize(true, &self.bytes));
+        self.known = self.known.then(&Step::Resize(&self.bytes));
         Ok(())
     }
 
     pub(crate) fn lengthen(&mut self, size: usize) -> Result<(), AllocError>
-        ensures ok { OnOk result (self.new ≡ resized true (padded self.old.now size) self.old) }
+        ensures ok { OnOk result (self.new ≡ resized (padded self.old.now size) self.old) }
         ensures err { OnErr result (self.new ≡ self.old) }
     {
         self.ranges.reserve(1)?;
@@ -108,7 +108,7 @@ impl MemoryFile {
         add_range(&mut self.ranges, from, len - from);
         self.least = self.least.min(len);
         self.greatest = self.greatest.max(len);
-        self.known = self.known.then(&Step::Resize(true, &self.bytes));
+        self.known = self.known.then(&Step::Resize(&self.bytes));
         Ok(())
     }
 
@@ -238,11 +238,16 @@ fn left_after(is_covered: bool, left: usize) -> usize
     }
 }
 
-// Inside a write up to an end that was refused the file may have had the length of that end.
-fn longest_of(is_done: bool, end: usize, len: usize) -> usize
-    ensures { result ≡ longest_of is_done end len }
+// The greatest length that the file may have had inside a write that left it with this one.
+fn longest_of(is_done: bool, at: usize, size: usize, left: usize) -> usize
+    requires { at + size < 2 ^ 63 }
+    ensures { result ≡ longest_of is_done at size left }
 {
-    if is_done { len } else { len.max(end) }
+    if is_done || size == 0 {
+        left
+    } else {
+        left.max(at + size)
+    }
 }
 
 // A range that begins where the last one ends is joined to it, so appends stay one range.

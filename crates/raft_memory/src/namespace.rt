@@ -91,7 +91,7 @@ impl Namespace {
     ) -> Result<(), FsFault>
         requires fits { at + length given.now < 2 ^ 63 }
         requires part { length kept.now ≤ length given.now }
-        ensures found { OnOk result (HasFile (namespace_directory self.old) path.now) }
+        ensures value { OnOk result (HasFile (namespace_directory self.old) path.now) }
         ensures ok { OnOk result (namespace_directory self.new ≡ changed path.now
             (λ f. written at given.now is_done (overlaid f.now at kept.now) f) (namespace_directory self.old)) }
         ensures err { OnErr result (namespace_directory self.new ≡ namespace_directory self.old) }
@@ -107,9 +107,9 @@ impl Namespace {
     }
 
     pub(crate) fn cut(&mut self, path: &str, size: usize) -> Result<(), FsFault>
-        ensures found { OnOk result (HasFile (namespace_directory self.old) path.now) }
+        ensures value { OnOk result (HasFile (namespace_directory self.old) path.now) }
         ensures ok { OnOk result (namespace_directory self.new ≡ changed path.now
-            (λ f. resized true (take size f.now) f) (namespace_directory self.old)) }
+            (λ f. resized (take size f.now) f) (namespace_directory self.old)) }
         ensures err { OnErr result (namespace_directory self.new ≡ namespace_directory self.old) }
         ensures refused { IfErr result (IsMissing (namespace_directory self.old) path.now) }
     {
@@ -123,9 +123,9 @@ impl Namespace {
     }
 
     pub(crate) fn lengthen(&mut self, path: &str, size: usize) -> Result<(), FsFault>
-        ensures found { OnOk result (HasFile (namespace_directory self.old) path.now) }
+        ensures value { OnOk result (HasFile (namespace_directory self.old) path.now) }
         ensures ok { OnOk result (namespace_directory self.new ≡ changed path.now
-            (λ f. resized true (padded f.now size) f) (namespace_directory self.old)) }
+            (λ f. resized (padded f.now size) f) (namespace_directory self.old)) }
         ensures err { OnErr result (namespace_directory self.new ≡ namespace_directory self.old) }
         ensures refused { IfErr result (IsMissing (namespace_directory self.old) path.now) }
     {
@@ -139,7 +139,7 @@ impl Namespace {
     }
 
     pub(crate) fn sync(&mut self, path: &str) -> Result<(), FsFault>
-        ensures found { OnOk result (HasFile (namespace_directory self.old) path.now) }
+        ensures value { OnOk result (HasFile (namespace_directory self.old) path.now) }
         ensures ok { OnOk result (namespace_directory self.new ≡ changed path.now synced_of (namespace_directory self.old)) }
         ensures err { OnErr result (namespace_directory self.new ≡ namespace_directory self.old) }
         ensures refused { IfErr result (IsAbsent (namespace_directory self.old) path.now) }

@@ -1,4 +1,4 @@
-use Rattle.std.proofs.Common.{◌≡◌, true, ◌+◌, ◌-◌, length, ◌∷◌, map, ap, rules}
+use Rattle.std.proofs.Common.{◌≡◌, ◌+◌, ◌-◌, length, ◌∷◌, map, ap, rules}
 use Rattle.std.specs.String.{string_bytes}
 use Rattle.raft_env.specs.Outcomes.{resized, lengthened_to, padded, IsPartOf}
 use Rattle.raft_env.specs.Directory.{changed}
@@ -10,7 +10,7 @@ use Rattle.raft_memory.proofs.memory.MemoryFileSystemFileSystem.allocate.Goals a
 
 pub returns-clause-any_moment : goal.returns-clause-any_moment
 returns-clause-any_moment c =
-    let is : namespace_directory c.lengthen.new.self ≡ changed (string_bytes c.args.writer.now.path) (λ f. resized true (padded f.now (c.args.at + c.args.size)) f) (namespace_directory c.args.self.now.namespace) = search rules in
+    let is : namespace_directory c.lengthen.new.self ≡ changed (string_bytes c.args.writer.now.path) (λ f. resized (padded f.now (c.args.at + c.args.size)) f) (namespace_directory c.args.self.now.namespace) = search rules in
     passes_one _ _ _ _ (ap (λ l. namespace_directory c.lengthen.new.self ∷ map namespace_directory l) c.with-past.ensures) (changing_done (string_bytes c.args.writer.now.path) (lengthened_to (c.args.at + c.args.size)) (λ now. padded now (c.args.at + c.args.size)) (λ now. IsPartOf (length now) (c.args.at + c.args.size - length now) now) _ _ is)
 
 pub invariant_of-self-in-Err : goal.invariant_of-self-in-Err
@@ -18,5 +18,5 @@ invariant_of-self-in-Err c = invariant-same c.args.self.now _ c.in-Err.ensures.e
 
 pub invariant_of-self-2 : goal.invariant_of-self-2
 invariant_of-self-2 c =
-    let is : namespace_directory c.lengthen.new.self ≡ changed (string_bytes c.args.writer.now.path) (λ f. resized true (padded f.now (c.args.at + c.args.size)) f) (namespace_directory c.args.self.now.namespace) = search rules in
+    let is : namespace_directory c.lengthen.new.self ≡ changed (string_bytes c.args.writer.now.path) (λ f. resized (padded f.now (c.args.at + c.args.size)) f) (namespace_directory c.args.self.now.namespace) = search rules in
     invariant-lengthened c.args.self.now _ (string_bytes c.args.writer.now.path) (c.args.at + c.args.size) is

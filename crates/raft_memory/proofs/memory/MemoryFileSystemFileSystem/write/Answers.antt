@@ -13,8 +13,8 @@ returns-clause-any_moment c =
     let is : namespace_directory c.write.new.self ≡ changed (string_bytes c.args.writer.now.path) (λ f. written c.args.at c.args.bytes.now true (overlaid f.now c.args.at c.args.bytes.now) f) (namespace_directory c.args.self.now.namespace) = search rules in
     passes_one _ _ _ _ (ap (λ l. namespace_directory c.write.new.self ∷ map namespace_directory l) c.with-past.ensures) (changing_done (string_bytes c.args.writer.now.path) (written c.args.at c.args.bytes.now) (λ now. overlaid now c.args.at c.args.bytes.now) (IsPartOf c.args.at (length c.args.bytes.now)) _ _ is)
 
-pub invariant_of-self-in-Err : goal.invariant_of-self-in-Err
-invariant_of-self-in-Err c = invariant-same c.args.self.now _ c.in-Err.ensures.err
+pub invariant_of-self-in-Err-write : goal.invariant_of-self-in-Err-write
+invariant_of-self-in-Err-write c = invariant-same c.args.self.now _ c.in-Err-write.ensures.err
 
 pub invariant_of-self-2 : goal.invariant_of-self-2
 invariant_of-self-2 c =

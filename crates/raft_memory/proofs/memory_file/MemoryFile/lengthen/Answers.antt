@@ -1,4 +1,4 @@
-use Rattle.std.proofs.Common.{◌≡◌, ◌-◌, ◌++◌, length, take, true, ◌∙◌, ap, min, max, rules, arith}
+use Rattle.std.proofs.Common.{◌≡◌, ◌-◌, ◌++◌, length, take, ◌∙◌, ap, min, max, rules, arith}
 use Rattle.std.specs.Prelude.{replicate}
 use Rattle.std.proofs.lemmas.Grind.{common_steps}
 use Rattle.raft_env.specs.Outcomes.{resized, padded}
@@ -18,5 +18,5 @@ invariant_of-self-2 c =
     let kept = file_lengthened _ _ _ c.add_range.new.ranges.items _ _ _ c.self.invariant.0 c.args.size (rw (reserved, end, from) at c.add_range.ensures) in
     let low : c.min-self-inside.result ≡ min c.self.inside.least (max c.args.size (length bytes)) = c.min-self-inside.ensures ∙ ap (min c.self.inside.least) end in
     let high : c.max-self-inside.result ≡ max c.self.inside.greatest (max c.args.size (length bytes)) = c.max-self-inside.ensures ∙ ap (max c.self.inside.greatest) end in
-    let file : c.then-self-inside.result.file ≡ resized true c.resize.new.self.items c.self.inside.known.file = search rules in
+    let file : c.then-self-inside.result.file ≡ resized c.resize.new.self.items c.self.inside.known.file = search rules in
     rw (low, high, file, after) (kept, saved_lengthened _ _ _ _ c.self.invariant.1 c.args.size)
