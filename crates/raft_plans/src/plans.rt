@@ -76,7 +76,6 @@ pub fn choice_of(alloc: Global, left: &Left) -> Result<Choice, AllocError> {
 pub fn fault_of(outcome: &Outcome) -> Option<&Fault> {
     match outcome {
         Outcome::Size(answer) => answer.as_ref().err(),
-        Outcome::NoBatch(fault) => Some(fault),
         Outcome::Done(answer) => answer.as_ref().err(),
         Outcome::Value(answer) => answer.as_ref().err(),
     }

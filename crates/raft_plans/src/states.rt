@@ -86,7 +86,6 @@ pub fn state_of(image: &Image) -> State {
 pub fn is_done(outcome: &Outcome) -> bool {
     match outcome {
         Outcome::Size(answer) => answer.is_ok(),
-        Outcome::NoBatch(_) => false,
         Outcome::Done(answer) => answer.is_ok(),
         Outcome::Value(answer) => answer.is_ok(),
     }

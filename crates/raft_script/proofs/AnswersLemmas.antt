@@ -1,8 +1,6 @@
 -- The moments of operations on an engine, divided by its answers.
-use Rattle.std.proofs.Common.{◌≡◌, true, false, List, [], ◌∷◌, ◌++◌, refl, sym, subst, ◌∙◌, ap, inl, inr}
-use Rattle.std.specs.Prelude.{reverse}
+use Rattle.std.proofs.Common.{◌≡◌, ◌⊎◌, true, false, List, [], ◌∷◌, ◌++◌, refl, subst, ap, inl, inr}
 use Rattle.std.proofs.lemmas.Bool.{cases_Bool}
-use Rattle.std.proofs.lemmas.List.{append-nil, reverse-append}
 use Rattle.raft_env.proofs.MomentsLemmas.{passes_weaker}
 use Rattle.raft_env.specs.Directory.{Directory, Path}
 use Rattle.raft_env.specs.Moments.{Passes}
@@ -14,25 +12,22 @@ use Rattle.raft_log_engine.specs.Engine.{answered_of, durable_of, folder_of, not
 use Rattle.raft_log_engine.specs.declared.engine.Engine.{Engine}
 use Rattle.raft_records.specs.Contents.{Contents, after_batches}
 use Rattle.raft_records.specs.Item.{Batch}
-use Rattle.raft_script.specs.Durability.{Answers, AreAllowedInside, Asks, IsAllowedInside, LeavesInside, PassesThrough, Progress, progress_after, progress_after_all, progress_from}
+use Rattle.raft_script.specs.Durability.{Answers, AreAllowedInside, IsAllowedInside, LeavesInside, PassesThrough, Progress, progress_after, progress_after_all, progress_from}
+use Rattle.raft_script.specs.Run.{IsUnnoted}
 use Rattle.raft_script.specs.declared.operation.Op.{Op}
 use Rattle.raft_script.specs.declared.operation.Outcome.{Outcome}
-use Rattle.raft_script.specs.declared.operation.Outcome.TheVariants.{Size, Done, Value, NoBatch}
 
 -- operations after others
-module _ (folder : Path) (m : Contents) (mid now : Answered) (more : List Op) (more_outcomes : List Outcome) (more_answers : List Answered) where
-  pub through-append : (p : Progress) (before : Answered) (ops : List Op) (outcomes : List Outcome) (answers : List Answered) → PassesThrough folder m p before mid ops outcomes answers
-      → PassesThrough folder m (progress_after_all p ops outcomes) mid now more more_outcomes more_answers → PassesThrough folder m p before now (ops ++ more) (outcomes ++ more_outcomes) (answers ++ more_answers)
-  through-append p before [] [] [] passed rest = subst (λ (x : Answered). PassesThrough folder m p x now more more_outcomes more_answers) passed rest
-  through-append p before [] [] (a ∷ answers) passed rest = absurd passed
-  through-append p before [] (o ∷ outcomes) answers passed rest = absurd passed
-  through-append p before (op ∷ ops) [] answers passed rest = absurd passed
-  through-append p before (op ∷ ops) (Value r ∷ outcomes) answers passed rest = through-append (progress_after p op (Value r)) before ops outcomes answers passed rest
-  through-append p before (op ∷ ops) (NoBatch e ∷ outcomes) answers passed rest = through-append (progress_after p op (NoBatch e)) before ops outcomes answers passed rest
-  through-append p before (op ∷ ops) (Size r ∷ outcomes) [] passed rest = absurd passed
-  through-append p before (op ∷ ops) (Done r ∷ outcomes) [] passed rest = absurd passed
-  through-append p before (op ∷ ops) (Size r ∷ outcomes) (a ∷ answers) passed rest = (passed.0, through-append (progress_after p op (Size r)) a ops outcomes answers passed.1 rest)
-  through-append p before (op ∷ ops) (Done r ∷ outcomes) (a ∷ answers) passed rest = (passed.0, through-append (progress_after p op (Done r)) a ops outcomes answers passed.1 rest)
+module _ (folder : Path) (m : Contents) (mid now : Answered) (mid_notes notes : List Answered) (more : List Op) (more_outcomes : List Outcome) where
+  pub through-append : (p : Progress) (before : Answered) (noted : List Answered) (ops : List Op) (outcomes : List Outcome) → PassesThrough folder m p before noted ops outcomes mid mid_notes
+      → PassesThrough folder m (progress_after_all p ops outcomes) mid mid_notes more more_outcomes now notes → PassesThrough folder m p before noted (ops ++ more) (outcomes ++ more_outcomes) now notes
+  through-append p before noted [] [] passed rest =
+      subst (λ (x : Answered). PassesThrough folder m p x noted more more_outcomes now notes) passed.0
+      (subst (λ (l : List Answered). PassesThrough folder m p mid l more more_outcomes now notes) passed.1 rest)
+  through-append p before noted [] (o ∷ outcomes) passed rest = absurd passed
+  through-append p before noted (op ∷ ops) [] passed rest = absurd passed
+  through-append p before noted (op ∷ ops) (o ∷ outcomes) (inl passed) rest = inl (passed.0, through-append (progress_after p op o) before noted ops outcomes passed.1 rest)
+  through-append p before noted (op ∷ ops) (o ∷ outcomes) (inr passed) rest = inr (passed.0, passed.1, through-append (progress_after p op o) passed.0 (passed.0 ∷ noted) ops outcomes passed.2 rest)
 
 -- what holds of each engine between two calls
 pub record Keeps (folder : Path) (now : Durability) (n : Directory) : Type 0 where
@@ -51,26 +46,11 @@ module _ (folder : Path) (m : Contents) (p : Progress) (op : Op) (outcome : Outc
   ]
 
 -- one operation more
-module _ {F H R W : Type 0} {g : Ghosts F H R W} (ops : List Op) (outcomes : List Outcome) (op : Op) (e old new : Engine F H R W g) (a : AreAllowedInside ops outcomes e old) (flight : List Batch) where
-  abbrev begun : Progress
-  begun = progress_after_all (progress_from (unsynced_of e)) ops outcomes
-
-  called : (outcome : Outcome) → Answers flight old new → PassesThrough (folder_of e) (durable_of e) begun (note_of old) (note_of new) (op ∷ []) (outcome ∷ []) (note_of new ∷ []) → AreAllowedInside (ops ++ op ∷ []) (outcomes ++ outcome ∷ []) e new
-  called outcome asks one = record {
-    answers = a.answers ++ note_of new ∷ [];
-    noted = asks.noted ∙ ap (λ l. note_of new ∷ l) a.noted ∙ ap (λ l. l ++ answered_of e) (sym (reverse-append a.answers (note_of new ∷ [])));
-    each = through-append (folder_of e) (durable_of e) (note_of old) (note_of new) (op ∷ []) (outcome ∷ []) (note_of new ∷ []) (progress_from (unsynced_of e)) (note_of e) ops outcomes a.answers a.each one;
-  }
-
-  unasked : (outcome : Outcome) → new ≡ old → PassesThrough (folder_of e) (durable_of e) begun (note_of old) (note_of new) (op ∷ []) (outcome ∷ []) [] → AreAllowedInside (ops ++ op ∷ []) (outcomes ++ outcome ∷ []) e new
-  unasked outcome same one = record {
-    answers = a.answers ++ [];
-    noted = ap answered_of same ∙ a.noted ∙ ap (λ l. reverse l ++ answered_of e) (sym (append-nil a.answers));
-    each = through-append (folder_of e) (durable_of e) (note_of old) (note_of new) (op ∷ []) (outcome ∷ []) [] (progress_from (unsynced_of e)) (note_of e) ops outcomes a.answers a.each one;
-  }
-
-  pub allowed_more : (outcome : Outcome) → Asks outcome flight old new → (Answers flight old new → IsAllowedInside (folder_of e) (durable_of e) begun op outcome (note_of old) (note_of new)) → AreAllowedInside (ops ++ op ∷ []) (outcomes ++ outcome ∷ []) e new
-  allowed_more (Size r) asks inside = called (Size r) asks (inside asks, refl)
-  allowed_more (Done r) asks inside = called (Done r) asks (inside asks, refl)
-  allowed_more (Value r) same inside = unasked (Value r) same (ap note_of same)
-  allowed_more (NoBatch x) same inside = unasked (NoBatch x) same (ap note_of same)
+module _ {F H R W : Type 0} {g : Ghosts F H R W} (ops : List Op) (outcomes : List Outcome) (op : Op) (outcome : Outcome) (e old new : Engine F H R W g) (a : AreAllowedInside ops outcomes e old) (flight : List Batch) where
+  pub allowed_more : (IsUnnoted op outcome × (new ≡ old)) ⊎ Answers flight old new → (Answers flight old new → IsAllowedInside (folder_of e) (durable_of e) (progress_after_all (progress_from (unsynced_of e)) ops outcomes) op outcome (note_of old) (note_of new))
+      → AreAllowedInside (ops ++ op ∷ []) (outcomes ++ outcome ∷ []) e new
+  allowed_more answers inside =
+      through-append (folder_of e) (durable_of e) (note_of old) (note_of new) (answered_of old) (answered_of new) (op ∷ []) (outcome ∷ []) (progress_from (unsynced_of e)) (note_of e) (answered_of e) ops outcomes a (elim answers [
+        | inl none ↦ inl (none.0, (ap note_of none.1, ap answered_of none.1))
+        | inr asked ↦ inr (note_of new, inside asked, (refl, asked.noted))
+      ])

@@ -22,7 +22,7 @@ use Rattle.raft_script.specs.declared.operation.Act.TheVariants as act
 use Rattle.raft_script.specs.declared.operation.Op.{Op}
 use Rattle.raft_script.specs.declared.operation.Op.TheVariants.{Write, Sync, Get}
 use Rattle.raft_script.specs.declared.operation.Outcome.{Outcome}
-use Rattle.raft_script.specs.declared.operation.Outcome.TheVariants.{Size, Done, Value, NoBatch}
+use Rattle.raft_script.specs.declared.operation.Outcome.TheVariants.{Size, Done, Value}
 
 -- items, followed by the batch of more acts, where there is one
 abbrev pub followed_by : Batch → Option Batch → Option Batch
@@ -156,16 +156,13 @@ steady_more failed (p ∷ ops) (o ∷ outcomes) op outcome are is = (are.0, stea
 -- a failed engine stays failed
 still_by : (op : Op) (outcome : Outcome) (fails : Bool) → IsFailing true op outcome fails → fails ≡ true
 still_by (Write acts sync) (Size answer) fails is = is.still refl
-still_by (Write acts sync) (NoBatch e) fails is = is
 still_by (Write acts sync) (Done answer) fails is = absurd is
 still_by (Write acts sync) (Value answer) fails is = absurd is
 still_by Sync (Size answer) fails is = absurd is
 still_by Sync (Done answer) fails is = is.0.still refl
 still_by Sync (Value answer) fails is = absurd is
-still_by Sync (NoBatch e) fails is = absurd is
 still_by (Get group key) (Size answer) fails is = absurd is
 still_by (Get group key) (Done answer) fails is = absurd is
-still_by (Get group key) (NoBatch e) fails is = absurd is
 still_by (Get group key) (Value answer) fails is = is.0.still refl
 
 pub still_failing : (op : Op) (outcome : Outcome) (failed fails : Bool) → IsFailing failed op outcome fails → failed ≡ true → fails ≡ true

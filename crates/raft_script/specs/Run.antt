@@ -1,5 +1,5 @@
 -- What operations are answered, and what they leave.
-use Rattle.std.specs.Prelude.{◌≡◌, ◌⊎◌, ◌||◌, ℕ, zero, suc, ◌+◌, ◌-◌, ◌^◌, ◌≤◌, min, Bool, true, false, List, [], ◌∷◌, ◌++◌, Option, Some, None, is_some, option_map, Result, Ok, Err, is_none, is_ok, MatchResult, IsErrAnd, if◌then◌else◌}
+use Rattle.std.specs.Prelude.{◌≡◌, ◌⊎◌, ◌||◌, ℕ, zero, suc, ◌+◌, ◌-◌, ◌^◌, ◌≤◌, min, Bool, true, false, List, [], ◌∷◌, ◌++◌, Option, Some, None, is_some, option_map, Result, Ok, Err, is_none, is_ok, MatchResult, IsErrAnd, IsSome, if◌then◌else◌}
 use Rattle.std.specs.List.{count_by}
 use Rattle.raft_records.specs.Batch.{is_internal_key}
 use Rattle.raft_records.specs.Contents.{Contents, after_batches}
@@ -16,7 +16,7 @@ use Rattle.raft_script.specs.declared.operation.Act.TheVariants as act
 use Rattle.raft_script.specs.declared.operation.Op.{Op}
 use Rattle.raft_script.specs.declared.operation.Op.TheVariants.{Write, Sync, Get}
 use Rattle.raft_script.specs.declared.operation.Outcome.{Outcome}
-use Rattle.raft_script.specs.declared.operation.Outcome.TheVariants.{Size, Done, Value, NoBatch}
+use Rattle.raft_script.specs.declared.operation.Outcome.TheVariants.{Size, Done, Value}
 
 -- the item of an act; a key that begins with two underscores can't be put
 abbrev pub item_of_act : Act → Option Item
@@ -75,25 +75,39 @@ IsUnasked (Write acts sync) = batch_of_acts acts.items ≡ None
 IsUnasked Sync = ⊥
 IsUnasked (Get group key) = Unit {0}
 
--- a sync is refused by storage, for want of memory, or by a failed engine
+-- no batch of these acts could be built: one of them can't be done, or there was no memory
+abbrev pub IsUnbuilt : List Act → Fault → Type 0
+IsUnbuilt acts e = (e ≡ fault.Memory) ⊎ ((fault_code e ≡ 1) × (batch_of_acts acts ≡ None))
+
+-- an engine notes no answer to the operation: a get, or a write whose batch isn't built
+abbrev pub IsUnnoted : Op → Outcome → Type 0
+IsUnnoted (Write acts sync) (Size (Err e)) = IsUnbuilt acts.items e
+IsUnnoted (Get group key) _ = Unit {0}
+IsUnnoted _ _ = ⊥
+
+-- a write that was answered had a batch, and is answered with its record's length
+abbrev pub IsWritten : List Act → ℕ → Type 0
+IsWritten acts len = (batch : Batch) × (batch_of_acts acts ≡ Some batch) × (len ≡ record_len batch)
+
+-- a record of the batch would be too long
+abbrev pub IsTooLong : List Act → Type 0
+IsTooLong acts = (batch : Batch) × (batch_of_acts acts ≡ Some batch) × (2 ^ 56 ≤ record_len batch)
+
+-- a write is refused for an act that can't be done, or for want of memory; its batch by storage, for its length, or by a
+-- failed engine
+abbrev pub IsWriteRefusal : List Act → Fault → Type 0
+IsWriteRefusal acts (fault.InvalidArgument _) = batch_of_acts acts ≡ None
+IsWriteRefusal acts (fault.Io kind path) = IsSome (batch_of_acts acts)
+IsWriteRefusal acts fault.Memory = Unit {0}
+IsWriteRefusal acts fault.Range = IsTooLong acts
+IsWriteRefusal acts fault.Failed = IsSome (batch_of_acts acts)
+IsWriteRefusal acts _ = ⊥
+
 abbrev pub IsSyncRefusal : Fault → Type 0
 IsSyncRefusal (fault.Io kind path) = Unit {0}
 IsSyncRefusal fault.Memory = Unit {0}
 IsSyncRefusal fault.Failed = Unit {0}
 IsSyncRefusal _ = ⊥
-
--- a write of this batch also for its record's length
-abbrev pub IsWriteRefusal : Batch → Fault → Type 0
-IsWriteRefusal batch fault.Range = 2 ^ 56 ≤ record_len batch
-IsWriteRefusal batch e = IsSyncRefusal e
-
--- a write is answered with its record's length
-abbrev pub IsWriteAnswer : List Act → Result ℕ Fault → Type 0
-IsWriteAnswer acts answer = (batch : Batch) × (batch_of_acts acts ≡ Some batch) × MatchResult answer (λ len. len ≡ record_len batch) (IsWriteRefusal batch)
-
--- no batch could be built: an act can't be done, or there was no memory
-abbrev pub IsBatchRefusal : List Act → Fault → Type 0
-IsBatchRefusal acts e = (e ≡ fault.Memory) ⊎ ((fault_code e ≡ 1) × (batch_of_acts acts ≡ None))
 
 abbrev pub IsGetRefusal : Fault → Type 0
 IsGetRefusal fault.Memory = Unit {0}
@@ -102,10 +116,10 @@ IsGetRefusal _ = ⊥
 
 -- an operation is answered so, or refused, at these contents
 abbrev pub IsAnswer : Contents → Op → Outcome → Type 0
-IsAnswer m (Write acts sync) (Size answer) = IsWriteAnswer acts.items answer
-IsAnswer m (Write acts sync) (NoBatch e) = IsBatchRefusal acts.items e
+IsAnswer m (Write acts sync) (Size answer) = MatchResult answer (IsWritten acts.items) (IsWriteRefusal acts.items)
 IsAnswer m Sync (Done answer) = MatchResult answer (λ _. Unit {0}) IsSyncRefusal
-IsAnswer m (Get group key) (Value answer) = MatchResult answer (λ value. option_map (λ v. v.items) value ≡ m.value group key.items) IsGetRefusal
+IsAnswer m (Get group key) (Value answer) =
+    MatchResult answer (λ value. option_map (λ v. v.items) value ≡ m.value group key.items) IsGetRefusal
 IsAnswer m _ _ = ⊥
 
 -- each operation is answered at the contents that those before it leave
@@ -124,7 +138,6 @@ abbrev pub is_refused_by_storage : Outcome → Bool
 is_refused_by_storage (Size answer) = is_io answer
 is_refused_by_storage (Done answer) = is_io answer
 is_refused_by_storage (Value answer) = is_io answer
-is_refused_by_storage (NoBatch e) = false
 
 -- how many of the operations storage refused
 abbrev pub io_count : List Outcome → ℕ
@@ -149,21 +162,21 @@ abbrev pub is_failure : {T : Type 0} → Result T Fault → Bool
 is_failure (Err fault.Failed) = true
 is_failure _ = false
 
--- an engine answers so and fails, or doesn't
-pub record FailsBy {T : Type 0} (failed : Bool) (answer : Result T Fault) (fails : Bool) : Type 0 where
+-- an engine answers so and fails, or doesn't; an answer that isn't the engine's is one of the others
+pub record FailsBy {T : Type 0} (failed : Bool) (answer : Result T Fault) (fails : Bool) (Other : Fault → Type 0) : Type 0 where
   -- it stays failed
   pub still : failed ≡ true → fails ≡ true
   -- a failure is told where there was one, and nowhere else
-  pub told : is_failure answer ≡ failed
+  pub told : is_failure answer ≡ true → failed ≡ true
+  pub refused : failed ≡ true → (is_failure answer ≡ true) ⊎ IsErrAnd answer Other
   -- it fails by storage or for want of memory alone
   pub cause : failed ≡ false → fails ≡ true → IsErrAnd answer IsStorageOrMemory
 
 -- .. in an operation; a refused sync fails the engine, and a get doesn't
 abbrev pub IsFailing : Bool → Op → Outcome → Bool → Type 0
-IsFailing failed (Write acts sync) (Size answer) fails = FailsBy failed answer fails
-IsFailing failed (Write acts sync) (NoBatch e) fails = fails ≡ failed
-IsFailing failed Sync (Done answer) fails = FailsBy failed answer fails × (is_ok answer ≡ false → fails ≡ true)
-IsFailing failed (Get group key) (Value answer) fails = FailsBy failed answer fails × (fails ≡ failed)
+IsFailing failed (Write acts sync) (Size answer) fails = FailsBy failed answer fails (IsUnbuilt acts.items)
+IsFailing failed Sync (Done answer) fails = FailsBy failed answer fails (λ _. ⊥) × (is_ok answer ≡ false → fails ≡ true)
+IsFailing failed (Get group key) (Value answer) fails = FailsBy failed answer fails (λ _. ⊥) × (fails ≡ failed)
 IsFailing failed _ _ fails = ⊥
 
 -- each of the operations leaves the engine as it found it, failed or standing

@@ -34,10 +34,9 @@ fn print_outcome<W: Write>(output: &mut W, outcome: &Outcome) -> io::Result<()> 
             output.write_all(value)?;
             output.write_all(b"\n")
         }
-        Outcome::NoBatch(fault)
-        | Outcome::Size(Err(fault))
-        | Outcome::Done(Err(fault))
-        | Outcome::Value(Err(fault)) => print_fault(output, fault),
+        Outcome::Size(Err(fault)) | Outcome::Done(Err(fault)) | Outcome::Value(Err(fault)) => {
+            print_fault(output, fault)
+        }
     }
 }
 

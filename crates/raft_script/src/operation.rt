@@ -19,13 +19,10 @@ pub enum Op {
     Get(u64, Vec<u8>),
 }
 
-/// What an operation was answered.
+/// What an operation was answered: a write with the length of its record.
 #[derive(Debug, PartialEq, Eq, Drop)]
 pub enum Outcome {
-    /// A write, with the length of its record.
     Size(Result<usize, Fault>),
-    /// No batch could be built of a write's acts, and the engine was not asked.
-    NoBatch(Fault),
     Done(Result<(), Fault>),
     Value(Result<Option<Vec<u8>>, Fault>),
 }

@@ -6,7 +6,7 @@ ghost use Rattle.raft_records.specs.Item.{Item};
 ghost use Rattle.raft_log_engine.specs.Crash.{LeavesAllowed};
 ghost use Rattle.raft_log_engine.specs.Engine.{contents_of, directory_of, durable_of, folder_of, has_failed, refusals_of, unsynced_of};
 ghost use Rattle.raft_script.specs.Durability.{AreAllowedInside, Does, HaveRun, Runs};
-ghost use Rattle.raft_script.specs.Run.{IsAnswer, IsBatchRefusal, IsFailing, IsUnasked, Refuses, accepted_of, batch_of_acts, item_of_act};
+ghost use Rattle.raft_script.specs.Run.{IsAnswer, IsUnbuilt, IsFailing, IsUnasked, Refuses, accepted_of, batch_of_acts, item_of_act};
 
 use crate::operation::{Act, Op, Outcome};
 use raft_env::FileSystem;
@@ -23,11 +23,17 @@ pub(crate) struct RunReport {
 }
 
 /// Does the operations in order, each with its outcome. Where there is no memory for the list of outcomes, the engine
-/// is not asked. A crash at any moment leaves, where its damage can be told, a prefix of the accepted writes, perhaps
-/// with the batch of the operation in which it came, and all that a sync made sure of by then. After the operations the
-/// accepted batches that are covered are durable, and no more, and the others stand unsynced. At least as many calls as
-/// answer `Io` were refused by storage. Where all operations are gets and writes of acts without a batch, the engine
-/// stays as it was.
+/// is not asked.
+///
+/// The engine notes what there was each time that it answered a write or a sync. A crash after one note and up to the
+/// next leaves, where its damage can be told, a prefix of the writes accepted before that operation, or all of them
+/// and a prefix of its own batch, with every write that an answered sync covered before it. Once the operation is
+/// answered and the engine stands, a crash leaves a prefix of what was accepted by then, with every covered write. A
+/// get, a write whose batch can't be built, and any call of a failed engine add no moment.
+///
+/// After the operations the accepted batches that are covered are durable, and no more, and the others stand
+/// unsynced. At least as many calls as answer `Io` were refused by storage. Where all operations are gets and writes
+/// of acts without a batch, the engine stays as it was.
 pub fn run<F: FileSystem>(
     alloc: Global,
     engine: &mut Engine<F>,
@@ -96,7 +102,8 @@ pub(crate) fn step<F: FileSystem>(alloc: Global, engine: &mut Engine<F>, op: &Op
     match op {
         Op::Write(acts, sync) => match build(alloc, acts) {
             Ok(mut batch) => Outcome::Size(engine.write(&mut batch, *sync)),
-            Err(fault) => Outcome::NoBatch(fault),
+            // What is refused while the batch is built doesn't reach the engine.
+            Err(fault) => Outcome::Size(Err(fault)),
         },
         Op::Sync => Outcome::Done(engine.sync()),
         Op::Get(group, key) => Outcome::Value(engine.get(*group, key)),
@@ -105,7 +112,7 @@ pub(crate) fn step<F: FileSystem>(alloc: Global, engine: &mut Engine<F>, op: &Op
 
 fn build(alloc: Global, acts: &[Act]) -> Result<LogBatch, Fault>
     ensures value { IfOk result (λ batch. batch_of_acts acts.now ≡ Some batch.items) }
-    ensures cause { IfErr result (IsBatchRefusal acts.now) }
+    ensures cause { IfErr result (IsUnbuilt acts.now) }
 {
     let mut batch = LogBatch::new(alloc);
     for act in acts {

@@ -1,13 +1,10 @@
-use Rattle.std.proofs.Common.{◌≡◌, ◌∙◌, [], Some, ap, inl, refl, rules, sym}
+use Rattle.std.proofs.Common.{◌≡◌, ◌∙◌, [], Some, ap, inl, inr, refl, rules, sym}
 use Rattle.raft_log_engine.specs.Durability.{durability_of}
 use Rattle.raft_log_engine.specs.Engine.{contents_of, directory_of, durable_of, folder_of, moments_of, unsynced_of}
 use Rattle.raft_script.specs.Run.{batch_of_acts, written_batches}
 use Rattle.raft_script.proofs.DurabilityLemmas.{moments_of_batch, written_progress}
 use Rattle.raft_script.proofs.RunLemmas.{acts_pending}
 use Rattle.raft_script.proofs.runs.step.Goals as goal
-
-pub returns-in-Ok-clause-value : goal.returns-in-Ok-clause-value
-returns-in-Ok-clause-value g c = λ m same. rw c.in-Write.is (c.in-Ok.batch.items, ap batch_of_acts (sym c.deref.ensures.value) ∙ c.in-Ok.ensures.value, search rules)
 
 pub returns-in-Ok-clause-progress : goal.returns-in-Ok-clause-progress
 returns-in-Ok-clause-progress g c =
@@ -21,11 +18,11 @@ returns-in-Ok-clause-progress g c =
       flight = written_batches (batch_of_acts acts.items);
       may_be = acts_pending (contents_of e) acts.items;
       progress = written_progress acts items c.in-Write.sync built c.write.result (durability_of e) (durability_of n) write.progress;
-      asks = record {
+      answers = inr (record {
         noted = write.answered;
         moments = λ alive. moments_of_batch (folder_of e) (durable_of e) (unsynced_of e) items (batch_of_acts acts.items) (moments_of e) (moments_of n) (directory_of n) built write.any_moment;
         rests = λ failed. (write.unchanged failed).0.moments;
-      };
+      });
     })
 
 pub returns-in-Err-clause-progress : goal.returns-in-Err-clause-progress
@@ -35,7 +32,7 @@ returns-in-Err-clause-progress g c =
       flight = written_batches (batch_of_acts acts.items);
       may_be = acts_pending (contents_of c.args.engine.now) acts.items;
       progress = inl (record { none = refl; covers_none = refl; failed = refl; durable = refl; unsynced = refl });
-      asks = refl {a = c.args.engine.now};
+      answers = inl (search rules, refl {a = c.args.engine.now});
     })
 
 pub returns-in-Sync-clause-progress : goal.returns-in-Sync-clause-progress
@@ -43,5 +40,5 @@ returns-in-Sync-clause-progress g c = rw c.in-Sync.is (record {
   flight = [];
   may_be = refl;
   progress = search rules;
-  asks = record { noted = search rules; moments = λ alive. search rules; rests = search rules };
+  answers = inr (record { noted = search rules; moments = λ alive. search rules; rests = search rules });
 })
