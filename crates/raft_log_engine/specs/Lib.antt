@@ -5,3 +5,4 @@ pub mod Cause
 pub mod Engine
 pub mod Image
 pub mod Durability
+pub mod Opening

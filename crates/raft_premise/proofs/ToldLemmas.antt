@@ -1,20 +1,20 @@
 -- The damage of a crash can be told.
-use Rattle.std.proofs.Common.{◌≡◌, ℕ, zero, suc, ◌<◌, ◌≤◌, List, [], ◌∷◌, ◌++◌, length, take, drop, slice_index, Option, Some, None, Contains, refl, ap, sym, subst, ◌∙◌, inl, inr, arith, length-drop}
+use Rattle.std.proofs.Common.{◌≡◌, ℕ, ◌<◌, ◌≤◌, List, [], ◌∷◌, ◌++◌, length, take, drop, slice_index, Option, Some, None, Contains, refl, ap, sym, subst, ◌∙◌, inl, inr, arith, length-drop}
 use Rattle.std.proofs.lemmas.List.{append-nil, take_all, take-take, take-append-drop, length-take}
 use Rattle.std.proofs.lemmas.List.Elements.{All-contains, Contains-append_left, Contains-append_right}
-use Rattle.raft_records.specs.Item.{Batch}
 use Rattle.raft_records.specs.Record.{record_header, parts_by}
 use Rattle.raft_base.specs.declared.pipe_log.FileId.{FileId}
 use Rattle.raft_files.specs.declared.format.LogFileFormat.{LogFileFormat}
 use Rattle.raft_env.specs.Outcomes.{File, Change, MayLeave, untouched_len, bytes_behind, IsDoneOrWrite, OnlyWritesRefused}
-use Rattle.raft_files.specs.Reading.{Placed, record_place, record_at, placed_before, placed_by, end_of_records, Reading, records_behind, reading, records_of, readable_records}
+use Rattle.raft_files.specs.Reading.{Placed, record_place, record_at, next_record, end_of_records, Reading, records_behind, reading, records_of, readable_records}
 use Rattle.raft_files.specs.Detectable.{IsBeginningOf, format_of, signature_by, AreDone, IsFreshAfter, IsMarkedAt, IsDetectableFile}
 use Rattle.raft_files.specs.Records.{ReadsFirst, IsEmptyFrom, HoldsRecords, IsWrittenTo}
 use Rattle.raft_env.specs.Consistent.{IsConsistent}
 use Rattle.raft_premise.specs.Told.{HasSimplePast, EndsInZeros, HoldsDone, IsBrokenFrom, IsTornBehind}
 use Rattle.raft_files.proofs.DetectableLemmas.{beginning_itself, beginning_trans, beginning_append}
 use Rattle.raft_files.proofs.ExtentLemmas.{record_header_is, same_some, some_then}
-use Rattle.raft_files.proofs.ReadingLemmas.{found_record, records_stay, reading_is}
+use Rattle.raft_files.proofs.PlacedLemmas.{placed_by-none}
+use Rattle.raft_files.proofs.ReadingLemmas.{found_record, record_place-forward, reading_is}
 use Rattle.raft_env.proofs.ChangeLemmas.{same_front}
 use Rattle.raft_files.proofs.EmptyLemmas.{record_header_zeros}
 use Rattle.raft_files.proofs.HeldLemmas.{reading-held, readable-held, format_of_read, format_of-held}
@@ -55,30 +55,26 @@ broken_zeros id format at bytes ends = (none_unless (record_at signature bytes p
     place : ℕ
     place = record_place format.alignment bytes at
 
-    no_record : (found : Batch × ℕ) → record_at signature bytes place ≡ Some found → ⊥
+    no_record : (found : Placed) → record_at signature bytes place ≡ Some found → ⊥
     no_record found e =
-        let forward : at ≤ place = (records_stay format.alignment signature bytes).forward at in
-        let is = found_record signature bytes place found.0 found.1 e in
-        record_header_zeros bytes place is.0 (omega (arith, is.2, is.3)) (λ i above below. ends.zeros i (omega arith) (omega (arith, is.2, is.3))) is.1
+        let forward : at ≤ place = record_place-forward format.alignment bytes at in
+        let is = found_record signature bytes place found e in
+        record_header_zeros bytes place is.header (omega (arith, is.long, is.within)) (λ i above below. ends.zeros i (omega arith) (omega (arith, is.long, is.within))) is.has
 
     no_mark : IsMarkedAt signature bytes place → ⊥
     no_mark marked =
-        let forward : at ≤ place = (records_stay format.alignment signature bytes).forward at in
+        let forward : at ≤ place = record_place-forward format.alignment bytes at in
         let header = some_then (parts_by signature (drop place bytes)) (record_header (drop place bytes)) marked.0 marked.1 in
         let has = record_header_is (drop place bytes) header.0 header.1 in
         record_header_zeros bytes place header.0 (omega (arith, has.long, length-drop place bytes)) (λ i above below. ends.zeros i (omega arith) (omega (arith, has.long, length-drop place bytes))) header.1
 
 -- Readings.
 
-none_found : (place : ℕ → ℕ) (found : ℕ → Option (Batch × ℕ)) (n at : ℕ) → found (place at) ≡ None → placed_by n place found at ≡ []
-none_found place found zero at none = refl
-none_found place found (suc n) at none = ap (λ o. placed_before (place at) o (placed_by n place found)) none
-
 -- where no record stands behind those that bytes hold, the reading ends with them
 reading-broken : (id : FileId) (format : LogFileFormat) (records : List Placed) (at : ℕ) (bytes : List ℕ) → HoldsRecords id format records at bytes → IsBrokenFrom id format at bytes →
     reading id bytes ≡ Some (record { format = format; records = records; end = at })
 reading-broken id format records at bytes holds broken =
-    let none : records_behind id format bytes at ≡ [] = none_found (record_place format.alignment bytes) (record_at (signature_by id format) bytes) (length bytes) at broken.0 in
+    let none : records_behind id format bytes at ≡ [] = placed_by-none (next_record id format bytes) (length bytes) at broken.0 in
     reading-held id format records at bytes holds
     ∙ ap (λ rs. Some (record { format = format; records = records ++ rs; end = end_of_records at rs })) none
     ∙ ap (λ rs. Some (record { format = format; records = rs; end = at })) (append-nil records)
