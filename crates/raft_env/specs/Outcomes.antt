@@ -104,59 +104,73 @@ longest_of true at size left = left
 longest_of false at zero left = left
 longest_of false at (suc size) left = max left (at + suc size)
 
--- the file after a write that left these bytes
-abbrev pub written : ℕ → List ℕ → Bool → List ℕ → File → File
-written at given is_done after file = changed_by (record {
+-- a write that left these bytes, where those stood before
+abbrev pub written_change : ℕ → List ℕ → Bool → List ℕ → List ℕ → Change
+written_change at given is_done after before = record {
   from = at;
   size = length given;
   given = given;
   is_done = is_done;
-  before = file.now;
+  before = before;
   after = after;
   shortest = length after;
   longest = longest_of is_done at (length given) (length after);
-}) file
+}
 
--- the same of an allocation or a truncation that is done: it touched what lies between the lengths
-abbrev pub resized : List ℕ → File → File
-resized after file = changed_by (record {
-  from = min (length after) (length file.now);
-  size = max (length after) (length file.now) - min (length after) (length file.now);
+-- an allocation or a truncation that is done: it touched what lies between the lengths
+abbrev pub resized_change : List ℕ → List ℕ → Change
+resized_change after before = record {
+  from = min (length after) (length before);
+  size = max (length after) (length before) - min (length after) (length before);
   given = [];
   is_done = true;
-  before = file.now;
+  before = before;
   after = after;
   shortest = length after;
   longest = length after;
-}) file
+}
 
--- the same of an allocation, which may have touched all up to the wanted end if it is refused
-abbrev pub lengthened_to : ℕ → Bool → List ℕ → File → File
-lengthened_to size true after file = resized after file
-lengthened_to size false after file = changed_by (record {
-  from = length file.now;
-  size = size - length file.now;
+-- an allocation, which may have touched all up to the wanted end if it is refused
+abbrev pub lengthened_change : ℕ → Bool → List ℕ → List ℕ → Change
+lengthened_change size true after before = resized_change after before
+lengthened_change size false after before = record {
+  from = length before;
+  size = size - length before;
   given = [];
   is_done = false;
-  before = file.now;
+  before = before;
   after = after;
   shortest = length after;
   longest = max (length after) size;
-}) file
+}
 
--- the same of a truncation, which may have touched all behind the wanted end if it is refused
-abbrev pub cut_to : ℕ → Bool → List ℕ → File → File
-cut_to size true after file = resized after file
-cut_to size false after file = changed_by (record {
-  from = min size (length file.now);
-  size = length file.now - min size (length file.now);
+-- a truncation, which may have touched all behind the wanted end if it is refused
+abbrev pub cut_change : ℕ → Bool → List ℕ → List ℕ → Change
+cut_change size true after before = resized_change after before
+cut_change size false after before = record {
+  from = min size (length before);
+  size = length before - min size (length before);
   given = [];
   is_done = false;
-  before = file.now;
+  before = before;
   after = after;
   shortest = min (length after) size;
   longest = length after;
-}) file
+}
+
+-- the file after such a change
+abbrev pub written : ℕ → List ℕ → Bool → List ℕ → File → File
+written at given is_done after file = changed_by (written_change at given is_done after file.now) file
+
+abbrev pub resized : List ℕ → File → File
+resized after file = changed_by (resized_change after file.now) file
+
+abbrev pub lengthened_to : ℕ → Bool → List ℕ → File → File
+lengthened_to size is_done after file =
+    changed_by (lengthened_change size is_done after file.now) file
+
+abbrev pub cut_to : ℕ → Bool → List ℕ → File → File
+cut_to size is_done after file = changed_by (cut_change size is_done after file.now) file
 
 abbrev pub synced_of : File → File
 synced_of file = record file { synced = file.now; changes = []; older = file.changes ++ file.older }

@@ -6,11 +6,11 @@ use Rattle.std.proofs.lemmas.List.{take-take, take-append-le, length-append, len
 use Rattle.raft_base.specs.declared.pipe_log.FileId.{FileId}
 use Rattle.raft_files.specs.declared.format.LogFileFormat.{LogFileFormat}
 use Rattle.raft_files.specs.Header.{header_len}
-use Rattle.raft_env.specs.Outcomes.{File, Change, is_touched, changed_by, padded, Outcome, IsPartOf, IsCutOf}
+use Rattle.raft_env.specs.Outcomes.{File, Change, is_touched, changed_by, padded, Outcome, IsPartOf, IsCutOf, resized_change, lengthened_change, cut_change}
 use Rattle.raft_files.specs.Reading.{Placed, end_of_records, reading, readable_records}
 use Rattle.raft_files.specs.Detectable.{signature_by, IsDone, IsFreshAfter}
 use Rattle.raft_files.specs.Records.{IsRefusedAt, IsEmptyFrom, HasNothingFrom, HoldsRecords, IsWrittenTo, IsTornFrom}
-use Rattle.raft_env.proofs.ChangeLemmas.{within_is, not_within, same_front, resized_change, lengthened_change, cut_change}
+use Rattle.raft_env.proofs.ChangeLemmas.{within_is, not_within, same_front}
 use Rattle.raft_files.proofs.DetectableLemmas.{beginning_itself}
 use Rattle.raft_files.proofs.StaleLemmas.{ungiven, stale_from_more, fresh_before}
 use Rattle.raft_files.proofs.ReadingLemmas.{read_in}

@@ -4,13 +4,12 @@ use Rattle.std.proofs.lemmas.Bool.{cases_Bool}
 use Rattle.raft_base.specs.declared.pipe_log.FileId.{FileId}
 use Rattle.raft_files.specs.declared.format.LogFileFormat.{LogFileFormat}
 use Rattle.raft_files.specs.Header.{header_bytes, header_len}
-use Rattle.raft_env.specs.Outcomes.{File, Change, IsPartOf, overlaid, written, changed_by, synced_of, settled, bytes_behind}
+use Rattle.raft_env.specs.Outcomes.{File, Change, IsPartOf, overlaid, written, changed_by, synced_of, settled, bytes_behind, lengthened_change, written_change}
 use Rattle.raft_files.specs.Reading.{Placed, readable_records, readable_batches}
 use Rattle.raft_files.specs.Detectable.{IsBeginningOf, format_of, signature_by, IsDetectableFile}
 use Rattle.raft_files.specs.Records.{AreReadAt, AreReadBehind, KeepsNone}
 use Rattle.raft_files.specs.Writer.{IsStep, IsLengthened, IsAppending, capacity_for}
 use Rattle.raft_files.proofs.HeaderLemmas.{length-header_bytes}
-use Rattle.raft_env.proofs.ChangeLemmas.{lengthened_is, lengthened_change, written_change}
 use Rattle.raft_files.proofs.RecordsLemmas.{readable_without_header}
 use Rattle.raft_files.proofs.PartLemmas.{lengthened_part, write_part}
 use Rattle.raft_files.proofs.FreshLemmas.{header_len_within, readable_records-short}
@@ -95,7 +94,7 @@ none_appending id format old new within none how =
     lengthened_once : {room : ℕ} {mid : File} → IsLengthened (length old.now) room old mid → (mid ≡ old) ⊎ ((c : Change) × (mid ≡ changed_by c old))
     lengthened_once (inl same) = inl same
     lengthened_once (inr (grows, inl same)) = inl same
-    lengthened_once {room} (inr (grows, inr (after, is_done, outcome, is))) = inr (lengthened_change room is_done after old.now, is ∙ lengthened_is room is_done after old)
+    lengthened_once {room} (inr (grows, inr (after, is_done, outcome, is))) = inr (lengthened_change room is_done after old.now, is)
 
     written_once : {mid : File} → IsStep (written 0 (header_bytes format)) (λ now. overlaid now 0 (header_bytes format)) (IsPartOf 0 (length (header_bytes format))) mid new → (new ≡ mid) ⊎ ((c : Change) × (new ≡ changed_by c mid))
     written_once (inl same) = inl same

@@ -6,14 +6,14 @@ use Rattle.std.proofs.lemmas.List.Elements.{Contains-append_left}
 use Rattle.raft_base.specs.declared.pipe_log.FileId.{FileId}
 use Rattle.raft_files.specs.declared.format.LogFileFormat.{LogFileFormat}
 use Rattle.raft_files.specs.Header.{header_len}
-use Rattle.raft_env.specs.Outcomes.{File, Change, is_touched, changed_by, Outcome, IsCutOf, cut_to}
+use Rattle.raft_env.specs.Outcomes.{File, Change, is_touched, changed_by, Outcome, IsCutOf, cut_to, cut_change}
 use Rattle.raft_files.specs.Reading.{Placed, end_of_records, Reading, records_behind, reading, records_of, end_of, end_of_reading}
 use Rattle.raft_files.specs.Detectable.{IsBeginningOf, signature_by, HasNoRefusedByte, IsDone}
 use Rattle.raft_files.specs.Records.{AreReadAt, ReadsFirst, KeepsRecords, IsEmptyFrom, HasNothingFrom, HoldsRecords, KeepsNone}
 use Rattle.raft_files.proofs.DetectableLemmas.{beginning_itself}
 use Rattle.raft_files.proofs.ReadingLemmas.{records_stay, reading_is, reading-kept, end_of_read_within, read_in}
 use Rattle.raft_files.proofs.NoneLemmas.{none_more, read_of_bytes}
-use Rattle.raft_env.proofs.ChangeLemmas.{not_within, cut_change, cut_is}
+use Rattle.raft_env.proofs.ChangeLemmas.{not_within}
 use Rattle.raft_files.proofs.StaleLemmas.{GivesNoneFrom, ungiven, fresh_before}
 use Rattle.raft_files.proofs.PlacedLemmas.{end_of_front, placed_stands, placed_by_past}
 use Rattle.raft_files.proofs.EmptyLemmas.{done_without_byte, has_nothing_after}
@@ -133,13 +133,12 @@ keeps_cut id format records synced size is_done after file keeps reads cuts outc
     let size_is : size ≡ reads.end = cuts ∙ ap end_of reads.read in
     let within = end_of_read_within id file.now _ reads.read in
     let behind = cut_behind size is_done after file.now file.renamed_after (file.changes ++ file.older) (omega (arith, size_is, within)) outcome in
-    subst (λ f. KeepsRecords id format records synced f × ReadsFirst id format (take synced records) f.now) (sym (cut_is size is_done after file))
-    (keeps_behind id format records synced file c keeps reads (subst (λ n. IsBehind n file.now c file.renamed_after (file.changes ++ file.older)) size_is behind))
+    keeps_behind id format records synced file c keeps reads (subst (λ n. IsBehind n file.now c file.renamed_after (file.changes ++ file.older)) size_is behind)
 
 -- .. and adds none
 pub none_cut : (id : FileId) (size : ℕ) (is_done : Bool) (after : List ℕ) (file : File) → KeepsNone id file → size ≡ end_of_reading id file.now → Outcome is_done (take size file.now) (IsCutOf size file.now) after →
     KeepsNone id (cut_to size is_done after file)
-none_cut id size is_done after file none cuts outcome = subst (KeepsNone id) (sym (cut_is size is_done after file)) (by_reading (reading id file.now) refl)
+none_cut id size is_done after file none cuts outcome = by_reading (reading id file.now) refl
   where
     c : Change
     c = cut_change size is_done after file.now

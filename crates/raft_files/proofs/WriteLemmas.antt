@@ -6,11 +6,11 @@ use Rattle.raft_records.specs.Item.{Batch}
 use Rattle.raft_records.specs.Record.{record_of}
 use Rattle.raft_base.specs.declared.pipe_log.FileId.{FileId}
 use Rattle.raft_files.specs.declared.format.LogFileFormat.{LogFileFormat}
-use Rattle.raft_env.specs.Outcomes.{File, Change, written, overlaid, IsPartOf}
+use Rattle.raft_env.specs.Outcomes.{File, Change, written, overlaid, IsPartOf, written_change}
 use Rattle.raft_files.specs.Reading.{Placed, reading, readable_records}
 use Rattle.raft_files.specs.Detectable.{signature_by, IsGivenBy, IsDone, IsFreshAfter}
 use Rattle.raft_files.specs.Records.{IsEmptyFrom, HasNothingFrom, HoldsRecords, IsWrittenTo, IsTornFrom}
-use Rattle.raft_env.proofs.ChangeLemmas.{within_is, not_within, same_front, written_change}
+use Rattle.raft_env.proofs.ChangeLemmas.{within_is, not_within, same_front}
 use Rattle.raft_files.proofs.DetectableLemmas.{beginning_itself, beginning_append}
 use Rattle.raft_files.proofs.ExtentLemmas.{same_some}
 use Rattle.raft_files.proofs.ReadingLemmas.{reading-append}

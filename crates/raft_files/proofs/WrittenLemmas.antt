@@ -16,7 +16,6 @@ use Rattle.raft_files.proofs.WriteLemmas.{record_given, holds_written, written_t
 use Rattle.raft_files.proofs.RecordsLemmas.{keeps_weaker}
 use Rattle.raft_files.proofs.ReadingLemmas.{read_in}
 use Rattle.raft_files.proofs.HeldLemmas.{read_of_held, ends_in_held}
-use Rattle.raft_env.proofs.ChangeLemmas.{lengthened_is, cut_is}
 use Rattle.raft_files.proofs.LengthLemmas.{written_to_changed, torn_changed, allocation_behind, cut_behind}
 use Rattle.raft_files.proofs.SyncLemmas.{written_to_synced, torn_synced}
 
@@ -54,7 +53,7 @@ pub lengthened : (id : FileId) (format : LogFileFormat) (records : List Placed) 
 lengthened id format records synced at room new_room old new w (inl same) = subst (IsWrittenTo id format records synced at) (sym same) w
 lengthened id format records synced at room new_room old new w (inr (grows, inl same)) = subst (IsWrittenTo id format records synced at) (sym same) w
 lengthened id format records synced at room new_room old new w (inr (grows, inr (after, is_done, outcome, is))) =
-    subst (IsWrittenTo id format records synced at) (sym (is ∙ lengthened_is new_room is_done after old))
+    subst (IsWrittenTo id format records synced at) (sym is)
     (written_to_changed id format records synced at old _ w (allocation_behind new_room at is_done after old.now old.renamed_after (old.changes ++ old.older) w.holds.within w.empty outcome))
 
 -- an append that is done
@@ -89,13 +88,13 @@ appending id format records synced at room new_room old new given batch w is how
 pub cutting : (id : FileId) (format : LogFileFormat) (records : List Placed) (synced at : ℕ) (old new : File) → IsWrittenTo id format records synced at old → IsCutting at old new → IsWrittenTo id format records synced at new
 cutting id format records synced at old new w (inl same) = subst (IsWrittenTo id format records synced at) (sym same) w
 cutting id format records synced at old new w (inr (after, is_done, outcome, is)) =
-    subst (IsWrittenTo id format records synced at) (sym (is ∙ cut_is at is_done after old))
+    subst (IsWrittenTo id format records synced at) (sym is)
     (written_to_changed id format records synced at old _ w (cut_behind at is_done after old.now old.renamed_after (old.changes ++ old.older) w.holds.within outcome))
 
 pub cutting_back : (id : FileId) (format : LogFileFormat) (records in_flight : List Placed) (synced at : ℕ) (old new : File) → IsTornFrom id format records in_flight synced at old → IsCutting at old new → IsTornFrom id format records in_flight synced at new
 cutting_back id format records in_flight synced at old new torn (inl same) = subst (IsTornFrom id format records in_flight synced at) (sym same) torn
 cutting_back id format records in_flight synced at old new torn (inr (after, is_done, outcome, is)) =
-    subst (IsTornFrom id format records in_flight synced at) (sym (is ∙ cut_is at is_done after old))
+    subst (IsTornFrom id format records in_flight synced at) (sym is)
     (torn_changed id format records in_flight synced at old _ torn (cut_behind at is_done after old.now old.renamed_after (old.changes ++ old.older) torn.holds.within outcome))
 
 -- a cut that is done

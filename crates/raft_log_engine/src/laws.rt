@@ -1,12 +1,13 @@
 //! What a crash leaves of an engine, whatever calls came before.
-ghost use Rattle.std.specs.Prelude.{◌≡◌, List, [], false};
+ghost use Rattle.std.specs.Prelude.{◌≡◌, ◌++◌, List, [], false};
 ghost use Rattle.raft_records.specs.Contents.{Contents, after_batches, no_contents};
 ghost use Rattle.raft_records.specs.Item.{Batch};
 ghost use Rattle.raft_env.specs.Directory.{Directory, HasFile, IsRestarted, Left, Path};
+ghost use Rattle.raft_env.specs.Moments.{Passes};
 ghost use Rattle.raft_log_engine.specs.Crash.{IsAllowedFrom, IsSound, KeepsContents, LeavesAllowed, found_after};
 ghost use Rattle.raft_files.specs.Records.{as_it_is};
 ghost use Rattle.raft_log_engine.specs.Contents.{contents_at};
-ghost use Rattle.raft_log_engine.specs.Engine.{contents_of, directory_of, durable_of, folder_of, has_failed, unsynced_of};
+ghost use Rattle.raft_log_engine.specs.Engine.{contents_of, directory_of, durable_of, folder_of, has_failed, moments_of, unsynced_of};
 ghost use Rattle.raft_pipes.specs.Folder.{HasNoLog, IsDetectableIn};
 ghost use Rattle.raft_pipes.specs.Queue.{IsOpenableIn};
 ghost use Rattle.raft_pipes.specs.declared.config.RecoveryMode.{RecoveryMode};
@@ -42,11 +43,14 @@ pub fn crash_leaves_contents()
         → IsSound folder n d → HasFile m folder → ⊥ }
 {}
 
-/// What an engine keeps a crash leaves now: what is durable, and a prefix of what is unsynced. Both make up what an
-/// engine holds that hasn't failed.
+/// What an engine keeps a crash leaves now: what is durable, and a prefix of what is unsynced, and so while no call
+/// changes its files, with any batches more. Both make up what an engine holds that hasn't failed.
 pub fn an_engine_recovers_what_it_keeps<F: FileSystem>(engine: &Engine<F>)
     ensures crash { LeavesAllowed (folder_of engine.now) (durable_of engine.now)
         (unsynced_of engine.now) (directory_of engine.now) }
+    ensures any_moment { (more : List Batch) → Passes (moments_of engine.now)
+        (moments_of engine.now) (directory_of engine.now) (LeavesAllowed (folder_of engine.now)
+        (durable_of engine.now) (unsynced_of engine.now ++ more)) }
     ensures contents { has_failed engine.now ≡ false
         → contents_of engine.now ≡ after_batches (durable_of engine.now) (unsynced_of engine.now) }
 {}

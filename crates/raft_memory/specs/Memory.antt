@@ -19,7 +19,8 @@ memory_directory memory = namespace_directory memory.namespace
 
 -- each directory that there was, the newest first
 abbrev pub memory_moments : MemoryFileSystem → List Directory
-memory_moments memory = namespace_directory memory.namespace ∷ map namespace_directory memory.past.items
+memory_moments memory =
+    namespace_directory memory.namespace ∷ map namespace_directory memory.past.items
 
 -- how many calls were refused
 abbrev pub memory_refusals : MemoryFileSystem → Refusals
@@ -29,7 +30,8 @@ memory_refusals memory = refusals_in memory.refusals
 abbrev pub no_files : Directory
 no_files = record { files = finite.empty; is_folder = λ q. length q == 0 }
 
--- the refusals that are armed, in that order: the sort of calls, which of them from now on (of reads, from the arming on), and as what it is refused
+-- the refusals that are armed, in that order: the sort of calls, which of them from now on (of
+-- reads, from the arming on), and as what it is refused
 abbrev pub armed_of : MemoryFileSystem → List (FsCall × ℕ × IoKind)
 armed_of memory = arms_of memory.armed.refusals.items
 

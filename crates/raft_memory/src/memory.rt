@@ -11,13 +11,12 @@ ghost use Rattle.raft_env.specs.Refusal.{CountsFault};
 ghost use Rattle.raft_memory.specs.Counted.{by_storage};
 
 use crate::armed::{Armed, FsCall};
+use crate::half_write::fits;
 use crate::namespace::Namespace;
 use crate::refusals::RefusalCount;
 use raft_base::History;
 use raft_env::{FileSystem, FsFault, IoKind, Permission};
 use std::alloc::Global;
-
-const MAX_LEN: usize = 1 << 62;
 
 /// Files by their paths, in memory. It shows its files as `memory_directory` and its moments as
 /// `memory_moments`.
@@ -66,39 +65,6 @@ impl MemoryFileSystem {
             past: History::new(),
             refusals: RefusalCount::new(),
             armed: Armed::new(alloc),
-        }
-    }
-}
-
-impl MemoryFileSystem {
-    ghost use Rattle.raft_memory.specs.Memory.{memory_directory, memory_moments, memory_refusals, armed_of, stop_of, half_left};
-
-    // Writes the first half of the bytes, rounded down, if a file stands there and has room for all
-    // of them. It fails for want of memory alone.
-    fn write_half(&mut self, path: &str, at: usize, bytes: &[u8]) -> Result<(), FsFault>
-        ensures ok { OnOk result (memory_directory self.new
-            ≡ half_left path.now at bytes.now (memory_directory self.old)) }
-        ensures err { OnErr result (memory_directory self.new ≡ memory_directory self.old) }
-        ensures memory { IfErr result (λ e. e ≡ FsFault.Memory) }
-        ensures any_moment { MovesBy memory_directory memory_moments
-            (IsWriting path.now at bytes.now) self.old self.new }
-        ensures cause { memory_refusals self.new ≡ memory_refusals self.old }
-        ensures others { (armed_of self.new ≡ armed_of self.old)
-            × (stop_of self.new ≡ stop_of self.old) }
-    {
-        if !fits(at, bytes.len()) {
-            return Ok(());
-        }
-        let past = self.past.with(&self.namespace);
-        let half = &bytes[..bytes.len() / 2];
-        match self.namespace.write(path, at, bytes, half, false) {
-            Ok(()) => {
-                self.past = past;
-                Ok(())
-            }
-            // No file stands there.
-            Err(FsFault::Io(_)) => Ok(()),
-            Err(FsFault::Memory) => Err(FsFault::Memory),
         }
     }
 }
@@ -474,12 +440,6 @@ impl FileSystem for MemoryFileSystem {
     fn read_refusals(&self, reader: &MemoryReader) -> u64 {
         reader.refused
     }
-}
-
-fn fits(at: usize, size: usize) -> bool
-    ensures { IsTrue result ↔ (at + size ≤ MAX_LEN) }
-{
-    at <= MAX_LEN && size <= MAX_LEN - at
 }
 
 fn refused(reader: &mut MemoryReader, kind: IoKind) -> FsFault

@@ -44,7 +44,8 @@ impl Namespace {
 
     /// A path that stands keeps its file.
     pub(crate) fn create(&mut self, alloc: Global, path: &str) -> Result<(), FsFault>
-        ensures ok { OnOk result (namespace_directory self.new ≡ created path.now (namespace_directory self.old)) }
+        ensures ok { OnOk result (namespace_directory self.new
+            ≡ created path.now (namespace_directory self.old)) }
         ensures err { OnErr result (namespace_directory self.new ≡ namespace_directory self.old) }
         ensures refused { IfErr result (HasNoPlace (namespace_directory self.old) path.now) }
     {
@@ -63,7 +64,8 @@ impl Namespace {
     }
 
     pub(crate) fn make_folder(&mut self, alloc: Global, path: &str) -> Result<(), FsFault>
-        ensures ok { OnOk result (namespace_directory self.new ≡ folder_made path.now (namespace_directory self.old)) }
+        ensures ok { OnOk result (namespace_directory self.new
+            ≡ folder_made path.now (namespace_directory self.old)) }
         ensures err { OnErr result (namespace_directory self.new ≡ namespace_directory self.old) }
         ensures refused { IfErr result (IsBarred (namespace_directory self.old) path.now) }
     {
@@ -93,7 +95,8 @@ impl Namespace {
         requires part { length kept.now ≤ length given.now }
         ensures value { OnOk result (HasFile (namespace_directory self.old) path.now) }
         ensures ok { OnOk result (namespace_directory self.new ≡ changed path.now
-            (λ f. written at given.now is_done (overlaid f.now at kept.now) f) (namespace_directory self.old)) }
+            (λ f. written at given.now is_done (overlaid f.now at kept.now) f)
+            (namespace_directory self.old)) }
         ensures err { OnErr result (namespace_directory self.new ≡ namespace_directory self.old) }
         ensures refused { IfErr result (IsMissing (namespace_directory self.old) path.now) }
     {
@@ -140,7 +143,8 @@ impl Namespace {
 
     pub(crate) fn sync(&mut self, path: &str) -> Result<(), FsFault>
         ensures value { OnOk result (HasFile (namespace_directory self.old) path.now) }
-        ensures ok { OnOk result (namespace_directory self.new ≡ changed path.now synced_of (namespace_directory self.old)) }
+        ensures ok { OnOk result (namespace_directory self.new
+            ≡ changed path.now synced_of (namespace_directory self.old)) }
         ensures err { OnErr result (namespace_directory self.new ≡ namespace_directory self.old) }
         ensures refused { IfErr result (IsAbsent (namespace_directory self.old) path.now) }
     {
@@ -154,7 +158,8 @@ impl Namespace {
     }
 
     pub(crate) fn names(&self, alloc: Global, folder: &str) -> Result<Vec<String>, FsFault>
-        ensures value { IfOk result (λ names. map string_bytes names.items ≡ names_in folder.now (namespace_directory self.now)) }
+        ensures value { IfOk result (λ names. map string_bytes names.items
+            ≡ names_in folder.now (namespace_directory self.now)) }
         ensures refused { IfErr result (HasNoFolder (namespace_directory self.now) folder.now) }
     {
         if !self.has_folder(folder) {

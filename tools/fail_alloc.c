@@ -1,4 +1,4 @@
-/* Refuses the nth allocation of a program; docs/TESTING.md says how it is used.
+/* Refuses the nth allocation of a program; tools/fail-alloc uses it.
  *
  *   cc -shared -fPIC -fno-optimize-sibling-calls -o fail_alloc.so fail_alloc.c
  *   FAIL_ALLOC=5 LD_PRELOAD=./fail_alloc.so PROGRAM     the fifth is refused
