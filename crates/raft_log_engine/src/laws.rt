@@ -16,11 +16,13 @@ ghost use Rattle.raft_pipes.specs.declared.config.RecoveryMode.TheVariants.{Abso
 use crate::Engine;
 use raft_env::FileSystem;
 
-/// A folder that keeps contents through a crash leaves them then, perhaps with a beginning of the batches behind
-/// them, where damage can be told. A restart after a crash finds what the crash left. Where that is sound, it
-/// keeps it, its log can be opened in each mode but the absolute one, and no file stands in the folder's place. Where no log stands, nothing is kept.
-/// Files that no crash met, as an engine gave them up, stand for what a crash could leave, and their log can be opened,
-/// where their damage can be told: what a refused write left of its record may be any bytes.
+/// A folder that keeps contents through a crash leaves them then, possibly with a prefix of the
+/// batches after them, where damage is detectable. A restart after a crash finds what the crash
+/// left. Where that is sound, it keeps it, its log can be opened in each mode but the absolute one,
+/// and no file stands in the folder's place. Where no log stands, nothing is kept. Files that no
+/// crash met, as an engine gave them up, stand for what a crash could leave, and their log can be
+/// opened, where their damage is detectable: what a refused write left of its record may be any
+/// bytes.
 pub fn crash_leaves_contents()
     ensures left { (folder : Path) (m : Contents) (batches : List Batch) (n : Directory)
         → KeepsContents folder m batches n → LeavesAllowed folder m batches n }
