@@ -1,8 +1,8 @@
 use Rattle.raft_memory.proofs.TornLemmas.{choices_may_leave}
-use Rattle.raft_premise.proofs.PremiseLemmas.{records_told, records_torn, log_whole}
-use Rattle.raft_premise.proofs.PastLemmas.{own_told, now_is_read, synced_is_read}
-use Rattle.raft_premise.proofs.ToldLemmas.{broken_zeros}
-use Rattle.raft_premise.proofs.laws.damage_can_be_told.Goals as goal
+use Rattle.raft_damage.proofs.PremiseLemmas.{records_told, records_torn, log_whole}
+use Rattle.raft_damage.proofs.PastLemmas.{own_told, now_is_read, synced_is_read}
+use Rattle.raft_damage.proofs.ToldLemmas.{broken_zeros}
+use Rattle.raft_damage.proofs.laws.damage_can_be_told.Goals as goal
 
 pub returns-clause-allowed : goal.returns-clause-allowed
 returns-clause-allowed c = choices_may_leave

@@ -1,16 +1,19 @@
 -- The damage of a crash can be told.
-use Rattle.std.proofs.Common.{◌≡◌, ℕ, ◌<◌, ◌≤◌, List, [], ◌∷◌, ◌++◌, length, take, drop, slice_index, Option, Some, None, Contains, refl, ap, sym, subst, ◌∙◌, inl, inr, arith, length-drop}
+use Rattle.std.proofs.Common.{◌≡◌, ℕ, ◌<◌, ◌≤◌, List, [], ◌++◌, length, take, drop, slice_index, Option, Some, None, Contains, refl, ap, sym, subst, ◌∙◌, inl, arith, length-drop}
 use Rattle.std.proofs.lemmas.List.{append-nil, take_all, take-take, take-append-drop, length-take}
-use Rattle.std.proofs.lemmas.List.Elements.{All-contains, Contains-append_left, Contains-append_right}
+use Rattle.std.proofs.lemmas.List.Elements.{Contains-append_left}
 use Rattle.raft_records.specs.Record.{record_header, parts_by}
 use Rattle.raft_base.specs.declared.pipe_log.FileId.{FileId}
 use Rattle.raft_files.specs.declared.format.LogFileFormat.{LogFileFormat}
-use Rattle.raft_env.specs.Outcomes.{File, Change, MayLeave, untouched_len, bytes_behind, IsDoneOrWrite, OnlyWritesRefused}
+use Rattle.raft_env.specs.Outcomes.{File, MayLeave, untouched_len, bytes_behind}
 use Rattle.raft_files.specs.Reading.{Placed, record_place, record_at, next_record, end_of_records, Reading, records_behind, reading, records_of, readable_records}
-use Rattle.raft_files.specs.Detectable.{IsBeginningOf, format_of, signature_by, AreDone, IsFreshAfter, IsMarkedAt, IsDetectableFile}
-use Rattle.raft_files.specs.Records.{ReadsFirst, IsEmptyFrom, HoldsRecords, IsWrittenTo}
+use Rattle.raft_files.specs.Detectable.{IsBeginningOf, format_of, signature_by, AreDone, IsMarkedAt, IsDetectableFile}
+use Rattle.raft_files.specs.Records.{ReadsFirst, HoldsRecords}
 use Rattle.raft_env.specs.Consistent.{IsConsistent}
-use Rattle.raft_premise.specs.Told.{HasSimplePast, EndsInZeros, HoldsDone, IsBrokenFrom, IsTornBehind}
+use Rattle.raft_premise.specs.Done.{EndsInZeros, HoldsDone}
+use Rattle.raft_damage.specs.Told.{IsBrokenFrom, IsTornBehind}
+use Rattle.raft_premise.proofs.ZerosLemmas.{never_stale, only_zeros}
+use Rattle.raft_premise.proofs.DoneLemmas.{IsDoneTo}
 use Rattle.raft_files.proofs.DetectableLemmas.{beginning_itself, beginning_trans, beginning_append}
 use Rattle.raft_files.proofs.ExtentLemmas.{record_header_is, same_some, some_then}
 use Rattle.raft_files.proofs.PlacedLemmas.{placed_by-none}
@@ -20,26 +23,9 @@ use Rattle.raft_files.proofs.EmptyLemmas.{record_header_zeros}
 use Rattle.raft_files.proofs.HeldLemmas.{reading-held, readable-held, format_of_read, format_of-held}
 use Rattle.raft_files.proofs.RecordsLemmas.{reads_first-within, reads_first-kept}
 use Rattle.raft_files.proofs.LengthLemmas.{holds_same}
-use Rattle.raft_env.proofs.ConsistentLemmas.{now_may_be_left, nowhere, before_is_untouched}
-
--- no place is stale of a file that was never renamed
-pub never_stale : (renamed : Option ℕ) (changes : List Change) (i : ℕ) → renamed ≡ None → IsFreshAfter renamed changes i
-never_stale renamed changes i never stale = let some : Some stale.0 ≡ None = sym stale.1 ∙ never in absurd cc
+use Rattle.raft_env.proofs.ConsistentLemmas.{now_may_be_left, before_is_untouched}
 
 -- Zeros.
-
-pub only_zeros : (at : ℕ) (bytes : List ℕ) (renamed : Option ℕ) (changes : List Change) → renamed ≡ None → IsEmptyFrom at bytes renamed changes → OnlyWritesRefused changes → EndsInZeros at bytes
-only_zeros at bytes renamed changes never (inr stale) writes = absurd (never_stale renamed changes at never (stale at (omega arith)))
-only_zeros at bytes renamed changes never (inl empty) writes = record {
-  zeros = λ i above below. elim (empty i above below) [
-    | inl zero' ↦ zero'
-    | inr q ↦
-        let has : Contains changes q.1 = subst (λ cs. Contains cs q.1) (sym q.3) (Contains-append_right q.0 (q.1 ∷ q.2) q.1 (0, omega arith, refl)) in
-        let wrote = All-contains IsDoneOrWrite changes q.1 writes has q.4 in
-        let apart = nowhere q.1.from q.1.size i (omega (arith, wrote, ap length q.5)) in
-        absurd (cc (apart, q.6))
-  ];
-}
 
 none_unless : {A : Type 0} (o : Option A) → ((x : A) → o ≡ Some x → ⊥) → o ≡ None
 none_unless None never = refl
@@ -162,12 +148,6 @@ torn_is_detectable id format records synced at file left done latest never may t
         let begins = synced_left id format records synced at file left done may in
         let holds = holds_same id format (take synced records) done.end file.synced left done.begins begins.1 begins.0 in
         subst (λ rs. IsBeginningOf (take synced records) rs) (sym (readable-held id format (take synced records) done.end left holds)) (beginning_append (take synced records) _)
-
--- a log file whose writer has written such records
-pub record IsDoneTo (id : FileId) (format : LogFileFormat) (records : List Placed) (synced at : ℕ) (file : File) : Type 0 where
-  pub written : IsWrittenTo id format records synced at file
-  pub held : HoldsDone id format records synced at file
-  pub past : HasSimplePast file
 
 -- what holds all bytes now is one
 pub now_is_torn : (id : FileId) (format : LogFileFormat) (records : List Placed) (synced at : ℕ) (file : File) → IsDoneTo id format records synced at file → IsTornBehind id format records file file.now

@@ -11,13 +11,14 @@ use Rattle.raft_env.specs.Consistent.{IsConsistent, AreConsistent}
 use Rattle.raft_memory.specs.Choice.{AreWhole}
 use Rattle.raft_files.specs.Detectable.{IsDetectableFile, IsDetectable}
 use Rattle.raft_files.specs.Records.{HoldsRecords}
-use Rattle.raft_premise.specs.Told.{HasDoneRecords, HasDoneLog, IsBrokenFrom, IsTornBehind}
+use Rattle.raft_premise.specs.Done.{HasDoneRecords, HasDoneLog}
+use Rattle.raft_damage.specs.Told.{IsBrokenFrom, IsTornBehind}
 use Rattle.raft_memory.specs.declared.crash.Choice.{Choice}
 use Rattle.raft_memory.specs.declared.crash.Choice.TheVariants as choice
 use Rattle.raft_files.proofs.ExtentLemmas.{same_some}
 use Rattle.raft_memory.proofs.WholeLemmas.{whole_choice}
 use Rattle.raft_memory.proofs.TornLemmas.{choice_may_leave, length-torn, take-torn}
-use Rattle.raft_premise.proofs.ToldLemmas.{torn_is_detectable, now_is_torn, synced_is_torn}
+use Rattle.raft_damage.proofs.ToldLemmas.{torn_is_detectable, now_is_torn, synced_is_torn}
 
 -- Records that no refused call brought.
 

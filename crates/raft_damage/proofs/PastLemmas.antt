@@ -12,7 +12,7 @@ use Rattle.raft_files.specs.Reading.{Placed, readable_records}
 use Rattle.raft_memory.specs.Choice.{chosen, chosen_at, choice_for, left_by, NamesNoBytes, NameNoBytes}
 use Rattle.raft_env.specs.Consistent.{HasItsRange, IsPastOf, IsConsistent, AreConsistent}
 use Rattle.raft_files.specs.Detectable.{IsBeginningOf, format_of, signature_by, IsGivenBy, HasNoRefusedByte, IsDone, EndsUnmarked, IsDetectableFile, IsDetectable}
-use Rattle.raft_premise.specs.Told.{BringsOnlyGiven, AreOwn, IsReadAsBefore}
+use Rattle.raft_damage.specs.Told.{BringsOnlyGiven, AreOwn, IsReadAsBefore}
 use Rattle.raft_memory.specs.declared.crash.Choice.{Choice}
 use Rattle.raft_memory.specs.declared.crash.Choice.TheVariants as choice
 use Rattle.raft_files.proofs.DetectableLemmas.{beginning_itself}
@@ -21,7 +21,8 @@ use Rattle.raft_env.proofs.ChangeLemmas.{within_is, same_front}
 use Rattle.raft_files.proofs.PlacedLemmas.{contains_cases}
 use Rattle.raft_env.proofs.ConsistentLemmas.{before_is_untouched}
 use Rattle.raft_memory.proofs.TornLemmas.{length-torn, no_bytes_at_turn, choices_may_leave}
-use Rattle.raft_premise.proofs.ToldLemmas.{readable_records-take, never_stale}
+use Rattle.raft_damage.proofs.ToldLemmas.{readable_records-take}
+use Rattle.raft_premise.proofs.ZerosLemmas.{never_stale}
 
 -- Records.
 
