@@ -4,7 +4,7 @@ use Rattle.std.specs.Prelude.{◌||◌, is_none, is_some, option_map, if◌then�
 use Rattle.std.proofs.lemmas.List.{append-nil, nil_from_length}
 use Rattle.std.proofs.lemmas.List.Sums.{fold-append, sum_by-append}
 use Rattle.std.proofs.Math.Seq.{take-suc}
-use Rattle.raft_env.specs.Refusal.{NoFewer, Refusals, Rose}
+use Rattle.raft_env.specs.Refusal.{Refusals, Rose}
 use Rattle.raft_records.specs.Contents.{Contents, no_contents, after_batch, after_batches, after_item}
 use Rattle.raft_records.specs.Batch.{is_internal_key}
 use Rattle.raft_records.specs.Item.{Item, Batch, Put, Delete}
@@ -12,11 +12,11 @@ use Rattle.raft_records.specs.Validity.{batch_refusal}
 use Rattle.raft_base.specs.declared.errors.Fault.{Fault}
 use Rattle.raft_log_engine.specs.Crash.{written_batch}
 use Rattle.std.specs.FinMap.{get-empty}
-use Rattle.raft_env.specs.Directory.{Directory, Path, file_at}
+use Rattle.raft_env.specs.Directory.{Directory, Path}
 use Rattle.raft_memory.specs.Memory.{no_files}
 use Rattle.raft_pipes.proofs.SoundLemmas.{readable_none}
 use Rattle.raft_log_engine.specs.Contents.{contents_at, recovered}
-use Rattle.raft_script.specs.Run.{accepted_batches, accepted_of, AreAnswers, AreSteady, FailsAt, IsFailing, IsFailurePlace, RoseBy, batch_of_acts, io_count, is_refused_by_storage, IsAnswer, item_of_act, pending_batches, with_first, written_batches}
+use Rattle.raft_script.specs.Run.{accepted_batches, accepted_of, AreAnswers, AreSteady, FailsAt, IsFailing, IsFailurePlace, Refuses, RoseBy, batch_of_acts, io_count, is_refused_by_storage, IsAnswer, item_of_act, pending_batches, with_first, written_batches}
 use Rattle.raft_script.specs.declared.operation.Act.{Act}
 use Rattle.raft_script.specs.declared.operation.Act.TheVariants as act
 use Rattle.raft_script.specs.declared.operation.Op.{Op}
@@ -165,6 +165,9 @@ still_by (Get group key) (Size answer) fails is = absurd is
 still_by (Get group key) (Done answer) fails is = absurd is
 still_by (Get group key) (Value answer) fails is = is.0.still refl
 
+pub still_failing : (op : Op) (outcome : Outcome) (failed fails : Bool) → IsFailing failed op outcome fails → failed ≡ true → fails ≡ true
+still_failing op outcome failed fails is had = still_by op outcome fails (subst (λ (b : Bool). IsFailing b op outcome fails) had is)
+
 fails_at_here : (ops : List Op) (outcomes : List Outcome) (op : Op) (outcome : Outcome) → AreSteady false ops outcomes → IsFailing false op outcome true → FailsAt (length ops) (ops ++ op ∷ []) (outcomes ++ outcome ∷ [])
 fails_at_here [] [] op outcome are is = (is, tt)
 fails_at_here [] (o ∷ outcomes) op outcome are is = absurd are
@@ -225,10 +228,10 @@ stands_so_far false = refl
 -- Storage's refusals.
 
 -- one outcome more
-pub rose_more : (outcomes : List Outcome) (outcome : Outcome) (old mid new : Refusals) → RoseBy (io_count outcomes) old mid → (is_refused_by_storage outcome ≡ true → Rose mid new) → NoFewer mid new → RoseBy (io_count (outcomes ++ outcome ∷ [])) old new
-rose_more outcomes outcome old mid new so_far rose counts =
-    subst (λ (n : ℕ). RoseBy n old new) (sym (sum_by-append _ outcomes (outcome ∷ []))) (by_case (is_refused_by_storage outcome) rose)
+pub rose_more : (outcomes : List Outcome) (outcome : Outcome) (old mid new : Refusals) → RoseBy (io_count outcomes) old mid → Refuses outcome mid new → RoseBy (io_count (outcomes ++ outcome ∷ [])) old new
+rose_more outcomes outcome old mid new so_far refuses =
+    subst (λ (n : ℕ). RoseBy n old new) (sym (sum_by-append _ outcomes (outcome ∷ []))) (by_case (is_refused_by_storage outcome) refuses.1)
   where
     by_case : (b : Bool) → (b ≡ true → Rose mid new) → RoseBy (io_count outcomes + (0 + cond b 1 0)) old new
     by_case true rose = let one = rose refl in omega (arith, so_far, one)
-    by_case false rose = omega (arith, so_far, counts.0)
+    by_case false rose = let counts = refuses.0 in omega (arith, so_far, counts.0)

@@ -1,5 +1,5 @@
 -- What a trial's crash leaves, and what its opening finds.
-use Rattle.std.proofs.Common.{◌≡◌, ◌⊎◌, ⊎_elim, inl, inr, Some, ℕ, List, [], ◌∷◌, ◌++◌, Option, None, refl, sym, ap, subst, ◌∙◌}
+use Rattle.std.proofs.Common.{◌≡◌, ◌⊎◌, ⊎_elim, inl, inr, ℕ, List, [], ◌∷◌, ◌++◌, Option, None, refl, sym, ap, subst, ◌∙◌}
 use Rattle.std.specs.Prelude.{IsSome, IfOk, IfErr, Result, Ok, Err}
 use Rattle.std.specs.FinMap.{get-empty}
 use Rattle.raft_records.specs.Contents.{Contents, no_contents}

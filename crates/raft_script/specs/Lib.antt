@@ -2,3 +2,4 @@ pub mod Run
 pub mod Durability
 pub mod Trial
 pub mod Line
+pub mod Program

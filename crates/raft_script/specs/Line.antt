@@ -8,8 +8,14 @@ use Rattle.raft_script.specs.declared.program.Ended.{Ended}
 use Rattle.raft_script.specs.declared.program.Ended.TheVariants as ended
 use Rattle.raft_script.specs.declared.line.Left.{Left}
 use Rattle.raft_script.specs.declared.line.Left.TheVariants as left
+use Rattle.raft_script.specs.declared.line.Call.{Call}
+use Rattle.raft_script.specs.declared.line.Call.TheVariants as call
 use Rattle.raft_script.specs.declared.line.Line.{Line}
 use Rattle.raft_script.specs.declared.line.Line.TheVariants as line
+use Rattle.raft_script.specs.declared.operation.Act.{Act}
+use Rattle.raft_script.specs.declared.operation.Act.TheVariants as act
+use Rattle.raft_script.specs.declared.operation.Op.{Op}
+use Rattle.raft_script.specs.declared.operation.Op.TheVariants as op
 
 -- what a line asks for
 pub data Asked : Type 0 where
@@ -93,15 +99,31 @@ abbrev pub asked_in : List ℕ → Option Asked
 asked_in [] = Some Nothing
 asked_in (c ∷ cs) = if c == 35 then Some Nothing else option_and_then asked_by (words_in (c ∷ cs))
 
--- the same of a line that was parsed
+-- the same of a call that was parsed
+abbrev pub asked_of_call : Call → Asked
+asked_of_call (call.Put group key value sync) = Put group key.now value.now sync
+asked_of_call (call.Delete group key sync) = Delete group key.now sync
+asked_of_call (call.Get group key) = Get group key.now
+asked_of_call call.Sync = Sync
+
+-- .. and of a line
 abbrev pub asked_of : Line → Asked
 asked_of line.Nothing = Nothing
-asked_of (line.Put group key value sync) = Put group key.now value.now sync
-asked_of (line.Delete group key sync) = Delete group key.now sync
-asked_of (line.Get group key) = Get group key.now
-asked_of line.Sync = Sync
+asked_of (line.Call call) = asked_of_call call
 asked_of line.Reopen = Reopen
 asked_of (line.Crash left) = Crash left
+
+-- the line that a write of these acts does: one of a single act
+abbrev pub asked_by_acts : List Act → Bool → Option Asked
+asked_by_acts (act.Put group key value ∷ []) sync = Some (Put group key.items value.items sync)
+asked_by_acts (act.Delete group key ∷ []) sync = Some (Delete group key.items sync)
+asked_by_acts _ sync = None
+
+-- .. and that an operation does
+abbrev pub asked_by_op : Op → Option Asked
+asked_by_op (op.Write acts sync) = asked_by_acts acts.items sync
+asked_by_op op.Sync = Some Sync
+asked_by_op (op.Get group key) = Some (Get group key.items)
 
 -- no word begins the text
 abbrev pub HasNoWord : List ℕ → Type 0

@@ -1,14 +1,14 @@
 -- What operations are answered, and what they leave.
-use Rattle.std.specs.Prelude.{◌≡◌, ◌⊎◌, ◌||◌, ℕ, zero, suc, ◌+◌, ◌-◌, ◌^◌, ◌≤◌, min, Bool, true, false, List, [], ◌∷◌, ◌++◌, Option, Some, None, IsSome, is_some, option_map, Result, Ok, Err, is_none, is_ok, MatchResult, IsErrAnd, if◌then◌else◌}
+use Rattle.std.specs.Prelude.{◌≡◌, ◌⊎◌, ◌||◌, ℕ, zero, suc, ◌+◌, ◌-◌, ◌^◌, ◌≤◌, min, Bool, true, false, List, [], ◌∷◌, ◌++◌, Option, Some, None, is_some, option_map, Result, Ok, Err, is_none, is_ok, MatchResult, IsErrAnd, IsSome, if◌then◌else◌}
 use Rattle.std.specs.List.{count_by}
-use Rattle.raft_env.specs.Refusal.{Refusals}
 use Rattle.raft_records.specs.Batch.{is_internal_key}
 use Rattle.raft_records.specs.Contents.{Contents, after_batches}
 use Rattle.raft_records.specs.Item.{Item, Batch, Put, Delete}
 use Rattle.raft_records.specs.Validity.{batch_refusal}
+use Rattle.raft_base.specs.Fault.{fault_code}
 use Rattle.raft_base.specs.declared.errors.Fault.{Fault}
 use Rattle.raft_base.specs.declared.errors.Fault.TheVariants as fault
-use Rattle.raft_env.specs.Refusal.{Refusals}
+use Rattle.raft_env.specs.Refusal.{NoFewer, Refusals, Rose}
 use Rattle.raft_log_engine.specs.Crash.{written_batch}
 use Rattle.raft_log_engine.specs.Engine.{record_len}
 use Rattle.raft_script.specs.declared.operation.Act.{Act}
@@ -39,14 +39,9 @@ abbrev pub written_batches : Option Batch → List Batch
 written_batches None = []
 written_batches (Some batch) = written_batch batch
 
--- the batch of a write that was answered
-abbrev pub batches_of_write : List Act → Result ℕ Fault → List Batch
-batches_of_write acts (Ok len) = written_batches (batch_of_acts acts)
-batches_of_write acts (Err e) = []
-
 -- the batch that the operation wrote
 abbrev pub accepted_of : Op → Outcome → List Batch
-accepted_of (Write acts sync) (Size answer) = batches_of_write acts.items answer
+accepted_of (Write acts sync) (Size (Ok len)) = written_batches (batch_of_acts acts.items)
 accepted_of _ _ = []
 
 -- the batches of the accepted writes, in order
@@ -54,15 +49,10 @@ abbrev pub accepted_batches : List Op → List Outcome → List Batch
 accepted_batches (op ∷ ops) (outcome ∷ outcomes) = accepted_of op outcome ++ accepted_batches ops outcomes
 accepted_batches _ _ = []
 
--- a write that was answered made sure of what stood before it where it asked for that
-abbrev pub write_covers : Bool → Result ℕ Fault → Bool
-write_covers sync (Ok len) = sync
-write_covers sync (Err e) = false
-
 -- the operation made sure of all that was accepted up to it: a sync that was answered, or a write that asked for one
 abbrev pub is_covering : Op → Outcome → Bool
-is_covering (Write acts sync) (Size answer) = write_covers sync answer
-is_covering Sync (Done answer) = is_ok answer
+is_covering (Write acts sync) (Size (Ok len)) = sync
+is_covering Sync (Done (Ok x)) = true
 is_covering _ _ = false
 
 -- what of a batch a crash may find written: nothing where these contents refuse it
@@ -77,14 +67,23 @@ pending_batches m (Some batch) = pending_of m batch
 -- what may have been written in part, or whole, when a crash came in the operation
 abbrev pub MayBeInFlight : Contents → Op → List Batch → Type 0
 MayBeInFlight m (Write acts sync) flight = flight ≡ pending_batches m (batch_of_acts acts.items)
-MayBeInFlight m Sync flight = flight ≡ []
-MayBeInFlight m (Get group key) flight = flight ≡ []
+MayBeInFlight m _ flight = flight ≡ []
 
 -- the operation doesn't change the engine: a get, or a write of acts without a batch
 abbrev pub IsUnasked : Op → Type 0
 IsUnasked (Write acts sync) = batch_of_acts acts.items ≡ None
 IsUnasked Sync = ⊥
 IsUnasked (Get group key) = Unit {0}
+
+-- no batch of these acts could be built: one of them can't be done, or there was no memory
+abbrev pub IsUnbuilt : List Act → Fault → Type 0
+IsUnbuilt acts e = (e ≡ fault.Memory) ⊎ ((fault_code e ≡ 1) × (batch_of_acts acts ≡ None))
+
+-- an engine notes no answer to the operation: a get, or a write whose batch isn't built
+abbrev pub IsUnnoted : Op → Outcome → Type 0
+IsUnnoted (Write acts sync) (Size (Err e)) = IsUnbuilt acts.items e
+IsUnnoted (Get group key) _ = Unit {0}
+IsUnnoted _ _ = ⊥
 
 -- a write that was answered had a batch, and is answered with its record's length
 abbrev pub IsWritten : List Act → ℕ → Type 0
@@ -94,7 +93,8 @@ IsWritten acts len = (batch : Batch) × (batch_of_acts acts ≡ Some batch) × (
 abbrev pub IsTooLong : List Act → Type 0
 IsTooLong acts = (batch : Batch) × (batch_of_acts acts ≡ Some batch) × (2 ^ 56 ≤ record_len batch)
 
--- a write is refused for an act that can't be done, or for want of memory; its batch by storage, for its length, or by a failed engine
+-- a write is refused for an act that can't be done, or for want of memory; its batch by storage, for its length, or by a
+-- failed engine
 abbrev pub IsWriteRefusal : List Act → Fault → Type 0
 IsWriteRefusal acts (fault.InvalidArgument _) = batch_of_acts acts ≡ None
 IsWriteRefusal acts (fault.Io kind path) = IsSome (batch_of_acts acts)
@@ -118,7 +118,8 @@ IsGetRefusal _ = ⊥
 abbrev pub IsAnswer : Contents → Op → Outcome → Type 0
 IsAnswer m (Write acts sync) (Size answer) = MatchResult answer (IsWritten acts.items) (IsWriteRefusal acts.items)
 IsAnswer m Sync (Done answer) = MatchResult answer (λ _. Unit {0}) IsSyncRefusal
-IsAnswer m (Get group key) (Value answer) = MatchResult answer (λ value. option_map (λ v. v.items) value ≡ m.value group key.items) IsGetRefusal
+IsAnswer m (Get group key) (Value answer) =
+    MatchResult answer (λ value. option_map (λ v. v.items) value ≡ m.value group key.items) IsGetRefusal
 IsAnswer m _ _ = ⊥
 
 -- each operation is answered at the contents that those before it leave
@@ -141,6 +142,10 @@ is_refused_by_storage (Value answer) = is_io answer
 -- how many of the operations storage refused
 abbrev pub io_count : List Outcome → ℕ
 io_count outcomes = count_by is_refused_by_storage outcomes
+
+-- storage's count rose where the operation was refused by it, and no count fell
+abbrev pub Refuses : Outcome → Refusals → Refusals → Type 0
+Refuses outcome old new = NoFewer old new × (is_refused_by_storage outcome ≡ true → Rose old new)
 
 -- storage's count rose by so many at least, or it is full
 abbrev pub RoseBy : ℕ → Refusals → Refusals → Type 0
@@ -166,12 +171,6 @@ pub record FailsBy {T : Type 0} (failed : Bool) (answer : Result T Fault) (fails
   pub refused : failed ≡ true → (is_failure answer ≡ true) ⊎ IsErrAnd answer Other
   -- it fails by storage or for want of memory alone
   pub cause : failed ≡ false → fails ≡ true → IsErrAnd answer IsStorageOrMemory
-
--- the batch of these acts can't be built, or there is no memory for it
-abbrev pub IsUnbuilt : List Act → Fault → Type 0
-IsUnbuilt acts (fault.InvalidArgument _) = batch_of_acts acts ≡ None
-IsUnbuilt acts fault.Memory = Unit {0}
-IsUnbuilt acts _ = ⊥
 
 -- .. in an operation; a refused sync fails the engine, and a get doesn't
 abbrev pub IsFailing : Bool → Op → Outcome → Bool → Type 0

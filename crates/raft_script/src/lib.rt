@@ -1,6 +1,7 @@
 //! Operations on an engine as a list, crashes among them, and the program `raftlog` over any reader and writer.
 #![tactic(auto)]
 
+mod answer;
 mod line;
 mod operation;
 mod program;

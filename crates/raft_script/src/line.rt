@@ -1,13 +1,24 @@
 //! A line of the program's input.
-ghost use Rattle.std.specs.Prelude.{◌≡◌, ◌==◌, ◌≤◌, List, ℕ, length, None, Some, [], ◌∷◌, MatchOption, option_map, option_and_then};
+ghost use Rattle.std.specs.Prelude.{◌≡◌, ◌==◌, ◌≤◌, List, ℕ, length, None, Some, [], ◌∷◌, IfOk, MatchOption, option_map, option_and_then};
 ghost use Rattle.std.specs.List.{position_or_len};
-ghost use Rattle.raft_script.specs.Line.{Crash, BeginsWith, HasNoWord, alone, asked_by, asked_in, asked_of, delete_by, get_by, is_word, left_by, number_in, put_by, sync_by, torn_by, words_in};
+ghost use Rattle.raft_script.specs.Line.{Crash, BeginsWith, HasNoWord, alone, asked_by, asked_in, asked_of, asked_of_call, delete_by, get_by, is_word, left_by, number_in, put_by, sync_by, torn_by, words_in};
+
+use crate::operation::{Act, Op};
+use std::alloc::{AllocError, Global};
 
 /// What a line asks for.
 #[derive(Debug, PartialEq, Eq, Drop)]
 pub(crate) enum Line<'a> {
     /// An empty line or a comment.
     Nothing,
+    Call(Call<'a>),
+    Reopen,
+    Crash(Left),
+}
+
+/// A call of the engine, as the line spells it.
+#[derive(Debug, PartialEq, Eq, Drop)]
+pub(crate) enum Call<'a> {
     Put {
         group: u64,
         key: &'a [u8],
@@ -24,8 +35,33 @@ pub(crate) enum Line<'a> {
         key: &'a [u8],
     },
     Sync,
-    Reopen,
-    Crash(Left),
+}
+
+impl Call<'_> {
+    ghost use Rattle.raft_script.specs.Line.{asked_by_op, asked_of_call};
+
+    /// The call as an operation.
+    pub(crate) fn op(&self, alloc: Global) -> Result<Op, AllocError>
+        ensures value { IfOk result (λ op. asked_by_op op ≡ Some (asked_of_call self.now)) }
+    {
+        match self {
+            Call::Put {
+                group,
+                key,
+                value,
+                sync,
+            } => {
+                let act = Act::Put(*group, key.to_vec(alloc)?, value.to_vec(alloc)?);
+                Ok(Op::Write(vec![in alloc; act]?, *sync))
+            }
+            Call::Delete { group, key, sync } => {
+                let act = Act::Delete(*group, key.to_vec(alloc)?);
+                Ok(Op::Write(vec![in alloc; act]?, *sync))
+            }
+            Call::Get { group, key } => Ok(Op::Get(*group, key.to_vec(alloc)?)),
+            Call::Sync => Ok(Op::Sync),
+        }
+    }
 }
 
 /// What a crash leaves of each file.
@@ -54,14 +90,14 @@ fn parse_asked<'a>(verb: &[u8], rest: &'a [u8]) -> Option<Line<'a>>
         ≡ option_and_then (λ words. asked_by (verb.now ∷ words)) (words_in rest.now) }
 {
     if verb == b"put".as_slice() {
-        parse_put(rest)
+        Some(Line::Call(parse_put(rest)?))
     } else if verb == b"del".as_slice() {
-        parse_delete(rest)
+        Some(Line::Call(parse_delete(rest)?))
     } else if verb == b"get".as_slice() {
-        parse_get(rest)
+        Some(Line::Call(parse_get(rest)?))
     } else if verb == b"sync".as_slice() {
         ends(rest)?;
-        Some(Line::Sync)
+        Some(Line::Call(Call::Sync))
     } else if verb == b"reopen".as_slice() {
         ends(rest)?;
         Some(Line::Reopen)
@@ -98,23 +134,23 @@ fn parse_torn(rest: &[u8]) -> Option<Left>
     Some(Left::Torn(kept, u8::try_from(fill).ok()?))
 }
 
-fn parse_get(rest: &[u8]) -> Option<Line<'_>>
-    ensures value { option_map asked_of result ≡ option_and_then get_by (words_in rest.now) }
+fn parse_get(rest: &[u8]) -> Option<Call<'_>>
+    ensures value { option_map asked_of_call result ≡ option_and_then get_by (words_in rest.now) }
 {
     let (group, rest) = parse_number(rest)?;
     let (key, rest) = split_word(rest)?;
     ends(rest)?;
-    Some(Line::Get { group, key })
+    Some(Call::Get { group, key })
 }
 
-fn parse_put(rest: &[u8]) -> Option<Line<'_>>
-    ensures value { option_map asked_of result ≡ option_and_then put_by (words_in rest.now) }
+fn parse_put(rest: &[u8]) -> Option<Call<'_>>
+    ensures value { option_map asked_of_call result ≡ option_and_then put_by (words_in rest.now) }
 {
     let (group, rest) = parse_number(rest)?;
     let (key, rest) = split_word(rest)?;
     let (value, rest) = split_word(rest)?;
     let sync = parse_sync(rest)?;
-    Some(Line::Put {
+    Some(Call::Put {
         group,
         key,
         value,
@@ -122,13 +158,13 @@ fn parse_put(rest: &[u8]) -> Option<Line<'_>>
     })
 }
 
-fn parse_delete(rest: &[u8]) -> Option<Line<'_>>
-    ensures value { option_map asked_of result ≡ option_and_then delete_by (words_in rest.now) }
+fn parse_delete(rest: &[u8]) -> Option<Call<'_>>
+    ensures value { option_map asked_of_call result ≡ option_and_then delete_by (words_in rest.now) }
 {
     let (group, rest) = parse_number(rest)?;
     let (key, rest) = split_word(rest)?;
     let sync = parse_sync(rest)?;
-    Some(Line::Delete { group, key, sync })
+    Some(Call::Delete { group, key, sync })
 }
 
 // The first word, and what follows the space behind it: a word is of printable characters, and one space stands

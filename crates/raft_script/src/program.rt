@@ -1,12 +1,16 @@
 //! The program `raftlog` over any reader and writer.
 ghost use Rattle.std.specs.Prelude.{IfOk, IfSome, List, Option, ℕ};
-ghost use Rattle.raft_script.specs.Line.{EndsOn, GoesOnOrEnds, IsNextLine, IsReading};
+ghost use Rattle.raft_script.specs.Line.{EndsOn, GoesOnOrEnds, IsNextLine, IsReading, asked_of_call};
+ghost use Rattle.raft_script.specs.Program.{IsAnswered};
 
-use crate::line::{Left, Line, parse_line};
+use crate::answer::{Answer, print};
+use crate::line::{Call, Left, Line, parse_line};
+use crate::operation::Outcome;
+use crate::runs::step;
 use raft_env::FileSystem;
 use raft_log_engine::{Config, Engine, Refused};
 use raft_memory::{Choice, MemoryFileSystem};
-use raft_records::{Fault, Fresh, LogBatch, ReadableSize};
+use raft_records::{Fault, Fresh, ReadableSize};
 use std::alloc::{AllocError, Global};
 use std::io;
 use std::io::{BufRead, BufReader, BufWriter, Read, Write};
@@ -24,17 +28,6 @@ pub enum Ended {
     Output,
     /// The engine could not be opened or closed, or a crash wanted memory, and the refusal was printed.
     Opening,
-}
-
-// What a line is answered with.
-#[derive(Drop)]
-enum Answer {
-    Nothing,
-    Done,
-    Value(Option<Vec<u8>>),
-    Refused(Fault),
-    /// The engine is gone, so that the run ends.
-    Gone(Fault),
 }
 
 type MemoryEngine = Engine<MemoryFileSystem>;
@@ -140,7 +133,11 @@ fn answer_line(
     match line {
         Line::Reopen => Ok(reopen(engine, opened)),
         Line::Crash(choice) => crash(alloc, engine, opened, choice),
-        line => answer_opened(alloc, engine.insert(opened), line),
+        Line::Call(call) => {
+            let outcome = answer_call(alloc, engine.insert(opened), call)?;
+            Ok(Answer::Outcome(outcome))
+        }
+        Line::Nothing => Ok(Answer::Nothing),
     }
 }
 
@@ -226,95 +223,15 @@ fn choice_of(left: &Left) -> Choice {
     }
 }
 
-fn answer_opened<F: FileSystem>(
+// The call's operation, done and answered as `run` does each of its own.
+fn answer_call<F: FileSystem>(
     alloc: Global,
     engine: &mut Engine<F>,
-    line: &Line<'_>,
-) -> Result<Answer, AllocError> {
-    match line {
-        Line::Put {
-            group,
-            key,
-            value,
-            sync,
-        } => {
-            let mut batch = LogBatch::new(alloc);
-            let put = batch.put(*group, key.to_vec(alloc)?, value.to_vec(alloc)?);
-            Ok(written(engine, put, &mut batch, *sync))
-        }
-        Line::Delete { group, key, sync } => {
-            let mut batch = LogBatch::new(alloc);
-            let deleted = batch.delete(*group, key.to_vec(alloc)?);
-            Ok(written(engine, deleted, &mut batch, *sync))
-        }
-        Line::Get { group, key } => Ok(match engine.get(*group, key) {
-            Ok(value) => Answer::Value(value),
-            Err(fault) => Answer::Refused(fault),
-        }),
-        Line::Sync => Ok(done(engine.sync())),
-        Line::Nothing | Line::Reopen | Line::Crash(_) => Ok(Answer::Nothing),
-    }
-}
-
-// A batch whose building was refused is not written.
-fn written<F: FileSystem>(
-    engine: &mut Engine<F>,
-    built: Result<(), Fault>,
-    batch: &mut LogBatch,
-    sync: bool,
-) -> Answer {
-    if let Err(fault) = built {
-        return Answer::Refused(fault);
-    }
-    match engine.write(batch, sync) {
-        Ok(_) => Answer::Done,
-        Err(fault) => Answer::Refused(fault),
-    }
-}
-
-fn done(outcome: Result<(), Fault>) -> Answer {
-    match outcome {
-        Ok(()) => Answer::Done,
-        Err(fault) => Answer::Refused(fault),
-    }
-}
-
-fn print<W: Write>(output: &mut W, answer: &Answer) -> io::Result<()> {
-    match answer {
-        Answer::Nothing => Ok(()),
-        Answer::Done => output.write_all(b"ok\n"),
-        Answer::Value(None) => output.write_all(b"none\n"),
-        Answer::Value(Some(value)) => {
-            output.write_all(b"value ")?;
-            output.write_all(value)?;
-            output.write_all(b"\n")
-        }
-        Answer::Refused(fault) | Answer::Gone(fault) => {
-            let code = fault.code();
-            let name = fault_name(fault);
-            writeln!(output, "refused {code} {name}")
-        }
-    }
-}
-
-fn fault_name(fault: &Fault) -> &'static str {
-    match fault {
-        Fault::InvalidArgument(_) => "invalid-argument",
-        Fault::Corruption => "corruption",
-        Fault::Io(_, _) => "io",
-        Fault::TryAgain => "try-again",
-        Fault::Gap => "gap",
-        Fault::Range => "range",
-        Fault::EntryCompacted => "entry-compacted",
-        Fault::EntryNotFound => "entry-not-found",
-        Fault::WrongIndex => "wrong-index",
-        Fault::Parse => "parse",
-        Fault::Failed => "failed",
-        Fault::Memory => "memory",
-        Fault::Lz4 => "lz4",
-        Fault::FileOutOfRange => "file-out-of-range",
-        Fault::NotRecovered => "not-recovered",
-        Fault::TrailFull => "trail-full",
-        Fault::Layer => "layer",
-    }
+    call: &Call<'_>,
+) -> Result<Outcome, AllocError>
+    ensures answer { IfOk result (λ outcome.
+        IsAnswered (asked_of_call call.now) outcome engine.old engine.new) }
+{
+    let op = call.op(alloc)?;
+    Ok(step(alloc, engine, &op))
 }

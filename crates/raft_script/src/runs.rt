@@ -1,17 +1,17 @@
 //! Operations one after the other, each with its outcome.
-ghost use Rattle.std.specs.Prelude.{All, ◌≡◌, ◌⊎◌, ◌≤◌, ◌++◌, [], ◌∷◌, true, false, Some, None, IfOk, IfErr, OnOk, OnErr, MatchResult};
+ghost use Rattle.std.specs.Prelude.{All, ◌≡◌, ◌⊎◌, ◌++◌, [], ◌∷◌, false, Some, None, IfOk, IfErr, OnOk, OnErr};
 ghost use Rattle.raft_records.specs.Contents.{Contents, after_batches};
 ghost use Rattle.raft_base.specs.Fault.{fault_code};
 ghost use Rattle.raft_records.specs.Item.{Item};
-ghost use Rattle.raft_env.specs.Refusal.{NoFewer, Rose};
 ghost use Rattle.raft_log_engine.specs.Crash.{LeavesAllowed};
-ghost use Rattle.raft_script.specs.Durability.{AreAllowedInside, Does, HaveRun, Runs};
 ghost use Rattle.raft_log_engine.specs.Engine.{contents_of, directory_of, durable_of, folder_of, has_failed, refusals_of, unsynced_of};
-ghost use Rattle.raft_script.specs.Run.{accepted_of, FailsBy, IsFailing, IsUnasked, IsUnbuilt, MayBeInFlight, batch_of_acts, write_covers, is_covering, is_io, is_refused_by_storage, IsAnswer, IsWriteRefusal, IsWritten, item_of_act, pending_batches, batches_of_write};
+ghost use Rattle.raft_script.specs.Durability.{AreAllowedInside, Does, HaveRun, Runs};
+ghost use Rattle.raft_script.specs.Run.{IsAnswer, IsUnbuilt, IsFailing, IsUnasked, Refuses, accepted_of, batch_of_acts, item_of_act};
 
 use crate::operation::{Act, Op, Outcome};
 use raft_env::FileSystem;
 use raft_log_engine::Engine;
+use raft_log_engine::laws::an_engine_recovers_what_it_keeps;
 use raft_records::{Fault, LogBatch};
 use std::alloc::Global;
 
@@ -23,11 +23,17 @@ pub(crate) struct RunReport {
 }
 
 /// Does the operations in order, each with its outcome. Where there is no memory for the list of outcomes, the engine
-/// is not asked. A crash at any moment leaves, where its damage can be told, a prefix of the accepted writes, perhaps
-/// with the batch of the operation in which it came, and all that a sync made sure of by then. After the operations the
-/// accepted batches that are covered are durable, and no more, and the others stand unsynced. At least as many calls as
-/// answer `Io` were refused by storage. Where all operations are gets and writes of acts without a batch, the engine
-/// stays as it was.
+/// is not asked.
+///
+/// The engine notes what there was each time that it answered a write or a sync. A crash after one note and up to the
+/// next leaves, where its damage can be told, a prefix of the writes accepted before that operation, or all of them
+/// and a prefix of its own batch, with every write that an answered sync covered before it. Once the operation is
+/// answered and the engine stands, a crash leaves a prefix of what was accepted by then, with every covered write. A
+/// get, a write whose batch can't be built, and any call of a failed engine add no moment.
+///
+/// After the operations the accepted batches that are covered are durable, and no more, and the others stand
+/// unsynced. At least as many calls as answer `Io` were refused by storage. Where all operations are gets and writes
+/// of acts without a batch, the engine stays as it was.
 pub fn run<F: FileSystem>(
     alloc: Global,
     engine: &mut Engine<F>,
@@ -35,10 +41,10 @@ pub fn run<F: FileSystem>(
 ) -> Result<Vec<Outcome>, Fault>
     ensures any_moment { IfOk result (λ outcomes.
         AreAllowedInside ops.now outcomes.items engine.old engine.new) }
-    ensures ran { IfOk result (λ outcomes. HaveRun ops.now outcomes.items engine.old engine.new) }
+    ensures ok { IfOk result (λ outcomes. HaveRun ops.now outcomes.items engine.old engine.new) }
     ensures left { LeavesAllowed (folder_of engine.new) (durable_of engine.new)
         (unsynced_of engine.new) (directory_of engine.new) }
-    ensures unasked { All IsUnasked ops.now → engine.new ≡ engine.old }
+    ensures unchanged { All IsUnasked ops.now → engine.new ≡ engine.old }
     ensures folder { folder_of engine.new ≡ folder_of engine.old }
     ensures err { OnErr result (engine.new ≡ engine.old) }
     ensures cause { IfErr result (λ e. e ≡ Fault.Memory) }
@@ -54,20 +60,22 @@ pub(crate) fn run_watched<F: FileSystem>(
 ) -> Result<RunReport, Fault>
     ensures any_moment { IfOk result (λ ran.
         AreAllowedInside ops.now ran.outcomes.items engine.old engine.new) }
-    ensures ran { IfOk result (λ ran.
+    ensures ok { IfOk result (λ ran.
         Runs ops.now ran.outcomes.items ran.failed_at engine.old engine.new) }
     ensures left { LeavesAllowed (folder_of engine.new) (durable_of engine.new)
         (unsynced_of engine.new) (directory_of engine.new) }
-    ensures unasked { All IsUnasked ops.now → engine.new ≡ engine.old }
+    ensures unchanged { All IsUnasked ops.now → engine.new ≡ engine.old }
     ensures folder { folder_of engine.new ≡ folder_of engine.old }
     ensures err { OnErr result (engine.new ≡ engine.old) }
     ensures cause { IfErr result (λ e. e ≡ Fault.Memory) }
 {
+    an_engine_recovers_what_it_keeps(engine);
     let mut outcomes = Vec::with_capacity(alloc, ops.len())?;
     let mut failed_at = None;
     for op in ops {
         let stood = !engine.failed();
         let outcome = step(alloc, engine, op);
+        an_engine_recovers_what_it_keeps(engine);
         if stood && engine.failed() {
             failed_at = Some(outcomes.len());
         }
@@ -79,58 +87,32 @@ pub(crate) fn run_watched<F: FileSystem>(
     })
 }
 
-fn step<F: FileSystem>(alloc: Global, engine: &mut Engine<F>, op: &Op) -> Outcome
-    ensures answer { (m : Contents) → (has_failed engine.old ≡ false → m ≡ contents_of engine.old)
+pub(crate) fn step<F: FileSystem>(alloc: Global, engine: &mut Engine<F>, op: &Op) -> Outcome
+    ensures value { (m : Contents) → (has_failed engine.old ≡ false → m ≡ contents_of engine.old)
         → IsAnswer m op.now result }
-    ensures failing { IsFailing (has_failed engine.old) op.now result (has_failed engine.new) }
-    ensures unasked { IsUnasked op.now → engine.new ≡ engine.old }
-    ensures counted { is_refused_by_storage result ≡ true
-        → Rose (refusals_of engine.old) (refusals_of engine.new) }
-    ensures counts { NoFewer (refusals_of engine.old) (refusals_of engine.new) }
+    ensures failed { IsFailing (has_failed engine.old) op.now result (has_failed engine.new) }
+    ensures unchanged { IsUnasked op.now → engine.new ≡ engine.old }
+    ensures refused { Refuses result (refusals_of engine.old) (refusals_of engine.new) }
     ensures contents { has_failed engine.new ≡ false
         → contents_of engine.new
         ≡ after_batches (contents_of engine.old) (accepted_of op.now result) }
-    ensures does { Does (accepted_of op.now result) (is_covering op.now result)
-        (λ m. MayBeInFlight m op.now) engine.old engine.new }
-    ensures still { has_failed engine.old ≡ true → has_failed engine.new ≡ true }
+    ensures progress { Does op.now result engine.old engine.new }
     ensures folder { folder_of engine.new ≡ folder_of engine.old }
 {
     match op {
-        Op::Write(acts, sync) => Outcome::Size(write(alloc, engine, acts, *sync)),
+        Op::Write(acts, sync) => match build(alloc, acts) {
+            Ok(mut batch) => Outcome::Size(engine.write(&mut batch, *sync)),
+            // What is refused while the batch is built doesn't reach the engine.
+            Err(fault) => Outcome::Size(Err(fault)),
+        },
         Op::Sync => Outcome::Done(engine.sync()),
         Op::Get(group, key) => Outcome::Value(engine.get(*group, key)),
     }
 }
 
-// What is refused while the batch is built doesn't reach the engine.
-fn write<F: FileSystem>(
-    alloc: Global,
-    engine: &mut Engine<F>,
-    acts: &[Act],
-    sync: bool,
-) -> Result<usize, Fault>
-    ensures answer { MatchResult result (IsWritten acts.now) (IsWriteRefusal acts.now) }
-    ensures failing { FailsBy (has_failed engine.old) result (has_failed engine.new)
-        (IsUnbuilt acts.now) }
-    ensures unasked { batch_of_acts acts.now ≡ None → engine.new ≡ engine.old }
-    ensures counted { is_io result ≡ true → Rose (refusals_of engine.old) (refusals_of engine.new) }
-    ensures counts { NoFewer (refusals_of engine.old) (refusals_of engine.new) }
-    ensures contents { has_failed engine.new ≡ false
-        → contents_of engine.new
-        ≡ after_batches (contents_of engine.old) (batches_of_write acts.now result) }
-    ensures does { Does (batches_of_write acts.now result) (write_covers sync result)
-        (λ m flight. flight ≡ pending_batches m (batch_of_acts acts.now)) engine.old engine.new }
-    ensures still { has_failed engine.old ≡ true → has_failed engine.new ≡ true }
-    ensures folder { folder_of engine.new ≡ folder_of engine.old }
-{
-    let mut batch = build(alloc, acts)?;
-    engine.write(&mut batch, sync)
-}
-
 fn build(alloc: Global, acts: &[Act]) -> Result<LogBatch, Fault>
-    ensures ok { IfOk result (λ batch. batch_of_acts acts.now ≡ Some batch.items) }
-    ensures refused { IfErr result (λ e.
-        (e ≡ Fault.Memory) ⊎ ((fault_code e ≡ 1) × (batch_of_acts acts.now ≡ None))) }
+    ensures value { IfOk result (λ batch. batch_of_acts acts.now ≡ Some batch.items) }
+    ensures cause { IfErr result (IsUnbuilt acts.now) }
 {
     let mut batch = LogBatch::new(alloc);
     for act in acts {
@@ -142,7 +124,7 @@ fn build(alloc: Global, acts: &[Act]) -> Result<LogBatch, Fault>
 fn add(alloc: Global, batch: &mut LogBatch, act: &Act) -> Result<(), Fault>
     ensures ok { OnOk result ((item : Item) × (item_of_act act.now ≡ Some item)
         × (batch.new.items ≡ batch.old.items ++ item ∷ [])) }
-    ensures refused { IfErr result (λ e.
+    ensures cause { IfErr result (λ e.
         (e ≡ Fault.Memory) ⊎ ((fault_code e ≡ 1) × (item_of_act act.now ≡ None))) }
 {
     match act {

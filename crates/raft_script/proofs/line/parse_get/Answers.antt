@@ -1,6 +1,6 @@
 use Rattle.std.proofs.Common.{◌≡◌, ◌∙◌, None, ap, rules, sym}
 use Rattle.std.specs.Prelude.{option_map}
-use Rattle.raft_script.specs.Line.{asked_of}
+use Rattle.raft_script.specs.Line.{asked_of_call}
 use Rattle.raft_script.proofs.LineLemmas.{get_without_group}
 use Rattle.raft_script.proofs.line.parse_get.Goals as goal
 
@@ -8,5 +8,5 @@ pub returns-in_err-group : goal.returns-in_err-group
 returns-in_err-group c = record {
   value =
       let none : c.from_residual.result ≡ None = search rules in
-      ap (option_map asked_of) none ∙ sym (get_without_group c.args.rest.now c.in_err-group.ensures.value);
+      ap (option_map asked_of_call) none ∙ sym (get_without_group c.args.rest.now c.in_err-group.ensures.value);
 }

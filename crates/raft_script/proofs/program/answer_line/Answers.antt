@@ -8,8 +8,8 @@ reopen-requires-send-F c = λ κs. search (sendable, memory_send) depth 20
 pub reopen-requires-sync-F : goal.reopen-requires-sync-F
 reopen-requires-sync-F c = λ κs. search (sendable, memory_sync) depth 20
 
-pub answer_opened-requires-send-F : goal.answer_opened-requires-send-F
-answer_opened-requires-send-F c = λ κs. search (sendable, memory_send) depth 20
+pub answer_call-requires-send-F : goal.answer_call-requires-send-F
+answer_call-requires-send-F c = λ κs. search (sendable, memory_send) depth 20
 
-pub answer_opened-requires-sync-F : goal.answer_opened-requires-sync-F
-answer_opened-requires-sync-F c = λ κs. search (sendable, memory_sync) depth 20
+pub answer_call-requires-sync-F : goal.answer_call-requires-sync-F
+answer_call-requires-sync-F c = λ κs. search (sendable, memory_sync) depth 20

@@ -1,18 +1,19 @@
-use Rattle.std.proofs.Common.{◌≡◌, ◌∙◌, ℕ, ◌++◌, List, length, length-take, take, Some, refl, sym, ap, subst, arith}
+use Rattle.std.proofs.Common.{◌≡◌, ◌∙◌, ℕ, ◌++◌, ◌∷◌, List, length, length-take, take, Some, refl, sym, ap, subst, arith}
 use Rattle.std.proofs.lemmas.Grind.{common_steps}
 use Rattle.std.proofs.lemmas.List.{take_all}
 use Rattle.std.proofs.lemmas.List.Elements.{All-get_or}
 use Rattle.std.proofs.lemmas.Option.{slice_get_read}
+use Rattle.raft_env.specs.Directory.{Directory, Path}
 use Rattle.raft_env.specs.Moments.{Passes}
 use Rattle.raft_log_engine.specs.Crash.{LeavesAllowed}
-use Rattle.raft_script.specs.Durability.{Progress, PassesThrough, progress_after_all, progress_from}
+use Rattle.raft_script.specs.Durability.{Answers, AreAllowedInside, Progress, progress_after, progress_after_all, progress_from}
 use Rattle.raft_log_engine.specs.Durability.{durability_of}
 use Rattle.raft_script.specs.Run.{IsFailurePlace, IsUnasked}
 use Rattle.raft_script.specs.declared.operation.Op.{Op}
-use Rattle.raft_log_engine.specs.Engine.{contents_of, directory_of, durable_of, folder_of, has_failed, moments_of, refusals_of, unsynced_of}
-use Rattle.raft_log_engine.proofs.EngineLemmas.{engine_holds, engine_leaves}
-use Rattle.raft_script.proofs.DurabilityLemmas.{IsUnderWay, durable_after, inside_more, leaves_after, progress_more, through_more, under_way_begun, under_way_more}
-use Rattle.raft_script.proofs.RunLemmas.{IsNextPlace, IsRunning, place_more, rose_more, running_begun, running_more, stands_so_far, taken_more}
+use Rattle.raft_log_engine.specs.Engine.{contents_of, directory_of, durable_of, folder_of, has_failed, moments_of, note_of, refusals_of, unsynced_of}
+use Rattle.raft_script.proofs.AnswersLemmas.{allowed_more, inside_call}
+use Rattle.raft_script.proofs.DurabilityLemmas.{IsUnderWay, durable_after, inside_here, leaves_after, leaves_standing, progress_more, under_way_begun, under_way_more}
+use Rattle.raft_script.proofs.RunLemmas.{IsNextPlace, IsRunning, place_more, rose_more, running_begun, running_more, stands_so_far, still_failing, taken_more}
 use Rattle.raft_script.proofs.runs.run_watched.Goals as goal
 use Rattle.raft_script.proofs.runs.run_watched.Goals.{then-stood+then-failed, else-stood, else-stood-via-then-stood+else-failed, else-stood-via-else-stood}
 
@@ -23,6 +24,7 @@ loop-op-preserved g c =
     let begun = c.args.engine.now in
     let old = c.loop-op.engine in
     let new = c.step-outcome.new.engine in
+    let law = c.an_engine_recovers_what_it_keeps-in-loop-op.ensures in
     let outcomes = c.loop-op.outcomes.items in
     let op = c.op-item.result in
     let outcome = c.step-outcome.result in
@@ -30,7 +32,8 @@ loop-op-preserved g c =
     let fails = has_failed new in
     let done : length ops ≡ c.loop-op.op-index = omega (arith, c.loop-op-test.true, length-take c.loop-op.op-index c.args.ops.now) in
     let taken = taken_more c.args.ops.now c.loop-op.op-index op c.loop-op-test.true c.op-item.is in
-    let more = running_more (contents_of begun) ops outcomes (contents_of old) (has_failed old) kept.0 op outcome (contents_of new) fails step.answer step.contents step.still in
+    let still = still_failing op outcome (has_failed old) fails step.failed in
+    let more = running_more (contents_of begun) ops outcomes (contents_of old) (has_failed old) kept.0 op outcome (contents_of new) fails step.value step.contents still in
     let next : IsNextPlace (has_failed old) fails c.loop-op.op-index c.loop-op.failed_at c.if-stood.failed_at = elim c.if-stood.branch [
       | then-stood+then-failed w ↦ record {
         falls = λ alive fell. w.failed_at-is ∙ ap Some (w.len.ensures ∙ kept.1);
@@ -48,31 +51,39 @@ loop-op-preserved g c =
     let first = progress_from (unsynced_of begun) in
     let p = progress_after_all first ops outcomes in
     let here = slice_get_read c.args.ops.now (length c.args.ops.now) c.loop-op.op-index op refl c.loop-op-test.true c.op-item.is in
-    let flight = step.does.flight in
-    let way = under_way_more m p c.args.ops.now c.loop-op.op-index c.loop-op.failed_at c.if-stood.failed_at (durability_of old) kept.4 op outcome flight (durability_of new) next here step.does.may_be step.does.progress (engine_holds old) step.contents step.still in
+    let does = step.progress in
+    let flight = does.flight in
+    let holds = kept.10.holds in
+    let way = under_way_more m p c.args.ops.now c.loop-op.op-index c.loop-op.failed_at c.if-stood.failed_at (durability_of old) kept.4 op outcome flight (durability_of new) next here does.may_be does.progress holds step.contents still in
     let now = (g.met.F.FileSystem g.world.𝓛 g.world.𝓜 g.world.𝓡 ((λ s allowed. allowed), (λ patient. patient), (λ solo. solo), (λ cuts. cuts))).now_counts new.file_system in
-    let leaves = subst (λ f. LeavesAllowed f (durable_of new) (unsynced_of new) (directory_of new)) (step.folder ∙ kept.3) (engine_leaves new) in
-    let inside = inside_more m p c.args.ops.now c.loop-op.op-index c.loop-op.failed_at c.if-stood.failed_at (durability_of old) kept.4 op outcome flight (durability_of new) next (folder_of begun) (moments_of old) (moments_of new) now.0 (directory_of new) step.does.may_be (engine_holds old) step.failing
-    (λ alive. subst (λ f. Passes (moments_of old) (moments_of new) (directory_of new) (LeavesAllowed f (durable_of old) (unsynced_of old ++ flight))) kept.3 (step.does.moments alive)) step.does.rests way now.1 leaves in
-    let moments = through_more (folder_of begun) m op outcome (has_failed old) fails (moments_of old) (moments_of new) first (has_failed begun) ops outcomes (moments_of begun) kept.5 inside in
+    let leaves = subst (λ (f : Path). LeavesAllowed f (durable_of new) (unsynced_of new) (directory_of new)) (step.folder ∙ kept.3) law.crash in
+    let newest : (x : Directory) (earlier : List Directory) → moments_of new ≡ x ∷ earlier → LeavesAllowed (folder_of begun) (durable_of new) (unsynced_of new) x = λ x earlier moments.
+    let same : directory_of new ≡ x = cc now.1 in subst (λ (y : Directory). LeavesAllowed (folder_of begun) (durable_of new) (unsynced_of new) y) same leaves in
+    let inside = λ (asks : Answers flight old new). inside_call (folder_of begun) m p op outcome (note_of old) (note_of new) (LeavesAllowed (folder_of begun) (durable_of old) (unsynced_of old ++ flight)) (directory_of new)
+    (λ x alive allowed. inside_here m p c.args.ops.now c.loop-op.op-index c.loop-op.failed_at c.if-stood.failed_at (durability_of old) kept.4 op outcome flight (durability_of new) next (folder_of begun) x does.may_be holds alive allowed)
+    (λ alive. subst (λ (f : Path). Passes (moments_of old) (moments_of new) (directory_of new) (LeavesAllowed f (durable_of old) (unsynced_of old ++ flight))) kept.3 (asks.moments alive)) asks.rests
+    (λ stands x earlier moments. leaves_standing (folder_of begun) m (progress_after p op outcome) c.args.ops.now c.if-stood.failed_at (durability_of new) way stands x (newest x earlier moments)) in
+    let allowed = allowed_more ops outcomes op outcome begun old new kept.5 flight does.answers inside in
     let way_more = subst (λ (q : Progress). IsUnderWay m q c.args.ops.now c.if-stood.failed_at (durability_of new)) (sym (progress_more first ops outcomes op outcome kept.0.len)) way in
-    let place = place_more ops outcomes op outcome (has_failed begun) (has_failed old) fails c.loop-op.failed_at c.if-stood.failed_at kept.6 kept.7 step.failing
+    let place = place_more ops outcomes op outcome (has_failed begun) (has_failed old) fails c.loop-op.failed_at c.if-stood.failed_at kept.6 kept.7 step.failed
     (subst (λ (k : ℕ). IsNextPlace (has_failed old) fails k c.loop-op.failed_at c.if-stood.failed_at) (sym done) next) in (
       rw (taken, c.in_ok-push.ensures.items) more,
       omega (arith, c.in_ok-push.ensures.len, kept.1),
       omega (arith, c.in_ok-push.ensures.capacity, kept.2),
       step.folder ∙ kept.3,
       rw (taken, c.in_ok-push.ensures.items) way_more,
-      rw (taken, c.in_ok-push.ensures.items) moments,
+      rw (taken, c.in_ok-push.ensures.items) allowed,
       place.0,
       rw (taken, c.in_ok-push.ensures.items) place.1,
-      rw c.in_ok-push.ensures.items (rose_more outcomes outcome (refusals_of begun) (refusals_of old) (refusals_of new) kept.8 step.counted step.counts),
-      λ none. step.unasked (subst IsUnasked (sym c.op-item.is) (All-get_or IsUnasked c.args.ops.now c.loop-op.op-index op c.loop-op-test.true none)) ∙ kept.9 none,
+      rw c.in_ok-push.ensures.items (rose_more outcomes outcome (refusals_of begun) (refusals_of old) (refusals_of new) kept.8 step.refused),
+      λ none. step.unchanged (subst IsUnasked (sym c.op-item.is) (All-get_or IsUnasked c.args.ops.now c.loop-op.op-index op c.loop-op-test.true none)) ∙ kept.9 none,
+      record { leaves = law.crash; holds = law.contents },
     )
 
 pub loop-op-init : goal.loop-op-init
 loop-op-init g c =
     let e = c.args.engine.now in
+    let law = c.an_engine_recovers_what_it_keeps.ensures in
     rw c.in_ok-outcomes.ensures.items (
       running_begun (contents_of e) (has_failed e),
       c.in_ok-outcomes.ensures.len,
@@ -84,10 +95,11 @@ loop-op-init g c =
       tt,
       omega arith,
       λ _. refl,
+      record { leaves = law.crash; holds = law.contents },
     )
 
-pub returns-clause-ran : goal.returns-clause-ran
-returns-clause-ran g c =
+pub returns-clause-ok : goal.returns-clause-ok
+returns-clause-ok g c =
     let e = c.loop-op.engine in
     let old = c.args.engine.now in
     let ops = c.args.ops.now in
@@ -103,19 +115,15 @@ returns-clause-ran g c =
       failures = (kept.6, subst (λ (l : List Op). IsFailurePlace (has_failed old) l outcomes failed_at) whole kept.7);
       counted = kept.8;
       contents = running.contents;
-      now = leaves_after (durable_of old) (unsynced_of old) ops outcomes failed_at (durability_of e) way (folder_of old) (directory_of e) (subst (λ f. LeavesAllowed f (durable_of e) (unsynced_of e) (directory_of e)) kept.3 (engine_leaves e));
+      now = leaves_after (durable_of old) (unsynced_of old) ops outcomes failed_at (durability_of e) way (folder_of old) (directory_of e) (subst (λ (f : Path). LeavesAllowed f (durable_of e) (unsynced_of e) (directory_of e)) kept.3 kept.10.leaves);
       progress = durable_after (durable_of old) (unsynced_of old) ops outcomes failed_at (durability_of e) way;
     }
 
 pub returns-clause-any_moment : goal.returns-clause-any_moment
 returns-clause-any_moment g c =
-    let old = c.args.engine.now in
     let ops = c.args.ops.now in
     let whole : take c.loop-op.op-index ops ≡ ops = take_all c.loop-op.op-index ops (omega (arith, c.loop-op-test.false)) in
-    subst (λ (l : List Op). PassesThrough (folder_of old) (durable_of old) (progress_from (unsynced_of old)) (has_failed old) (has_failed c.loop-op.engine) l c.loop-op.outcomes.items (moments_of old) (moments_of c.loop-op.engine)) whole c.loop-op.invariant.5
-
-pub returns-in_err-outcomes-clause-left : goal.returns-in_err-outcomes-clause-left
-returns-in_err-outcomes-clause-left g c = engine_leaves c.args.engine.now
+    subst (λ (l : List Op). AreAllowedInside l c.loop-op.outcomes.items c.args.engine.now c.loop-op.engine) whole c.loop-op.invariant.5
 
 pub returns-clause-left : goal.returns-clause-left
-returns-clause-left g c = engine_leaves c.loop-op.engine
+returns-clause-left g c = c.loop-op.invariant.10.leaves

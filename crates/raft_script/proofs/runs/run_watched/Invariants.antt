@@ -1,8 +1,9 @@
 use Rattle.std.proofs.Common.{All, ◌≡◌, ◌||◌, ◌≤◌, is_some, length, take, vec_len, vec_capacity}
-use Rattle.raft_script.specs.Durability.{PassesThrough, progress_after_all, progress_from}
+use Rattle.raft_script.specs.Durability.{AreAllowedInside, progress_after_all, progress_from}
 use Rattle.raft_log_engine.specs.Durability.{durability_of}
-use Rattle.raft_log_engine.specs.Engine.{contents_of, durable_of, folder_of, has_failed, moments_of, refusals_of, unsynced_of}
+use Rattle.raft_log_engine.specs.Engine.{contents_of, directory_of, durable_of, folder_of, has_failed, refusals_of, unsynced_of}
 use Rattle.raft_script.specs.Run.{IsFailurePlace, IsUnasked, RoseBy, io_count}
+use Rattle.raft_script.proofs.AnswersLemmas.{Keeps}
 use Rattle.raft_script.proofs.DurabilityLemmas.{IsUnderWay}
 use Rattle.raft_script.proofs.RunLemmas.{IsRunning}
 use Rattle.raft_script.proofs.runs.run_watched.Given as goal
@@ -14,8 +15,9 @@ invariant-loop-op g l =
     × (length l.ops ≤ vec_capacity l.outcomes)
     × (folder_of l.engine ≡ folder_of l.initial.engine)
     × IsUnderWay (durable_of l.initial.engine) (progress_after_all (progress_from (unsynced_of l.initial.engine)) (take l.op-index l.ops) l.outcomes.items) l.ops l.failed_at (durability_of l.engine)
-    × PassesThrough (folder_of l.initial.engine) (durable_of l.initial.engine) (progress_from (unsynced_of l.initial.engine)) (has_failed l.initial.engine) (has_failed l.engine) (take l.op-index l.ops) l.outcomes.items (moments_of l.initial.engine) (moments_of l.engine)
+    × AreAllowedInside (take l.op-index l.ops) l.outcomes.items l.initial.engine l.engine
     × (has_failed l.engine ≡ (has_failed l.initial.engine || is_some l.failed_at))
     × IsFailurePlace (has_failed l.initial.engine) (take l.op-index l.ops) l.outcomes.items l.failed_at
     × RoseBy (io_count l.outcomes.items) (refusals_of l.initial.engine) (refusals_of l.engine)
     × (All IsUnasked l.ops → l.engine ≡ l.initial.engine)
+    × Keeps (folder_of l.engine) (durability_of l.engine) (directory_of l.engine)

@@ -1,21 +1,44 @@
-use Rattle.std.proofs.Common.{[], refl, rules}
-use Rattle.raft_log_engine.proofs.EngineLemmas.{engine_still_more}
+use Rattle.std.proofs.Common.{◌≡◌, ◌∙◌, [], Some, ap, inl, inr, refl, rules, sym}
+use Rattle.raft_log_engine.specs.Durability.{durability_of}
+use Rattle.raft_log_engine.specs.Engine.{contents_of, directory_of, durable_of, folder_of, moments_of, unsynced_of}
+use Rattle.raft_script.specs.Run.{batch_of_acts, written_batches}
+use Rattle.raft_script.proofs.DurabilityLemmas.{moments_of_batch, written_progress}
+use Rattle.raft_script.proofs.RunLemmas.{acts_pending}
 use Rattle.raft_script.proofs.runs.step.Goals as goal
 
-pub returns-in-Get-clause-does : goal.returns-in-Get-clause-does
-returns-in-Get-clause-does g c = record {
-  flight = [];
-  may_be = search rules;
-  progress = search rules;
-  moments = λ alive. engine_still_more c.args.engine.now [];
-  rests = λ failed. refl;
-}
+pub returns-in-Ok-clause-progress : goal.returns-in-Ok-clause-progress
+returns-in-Ok-clause-progress g c =
+    let write = c.write.ensures in
+    let acts = c.in-Write.acts in
+    let items = c.in-Ok.batch.items in
+    let e = c.args.engine.now in
+    let n = c.write.new.self in
+    let built : batch_of_acts acts.items ≡ Some items = ap batch_of_acts (sym c.deref.ensures.value) ∙ c.in-Ok.ensures.value in
+    rw c.in-Write.is (record {
+      flight = written_batches (batch_of_acts acts.items);
+      may_be = acts_pending (contents_of e) acts.items;
+      progress = written_progress acts items c.in-Write.sync built c.write.result (durability_of e) (durability_of n) write.progress;
+      answers = inr (record {
+        noted = write.answered;
+        moments = λ alive. moments_of_batch (folder_of e) (durable_of e) (unsynced_of e) items (batch_of_acts acts.items) (moments_of e) (moments_of n) (directory_of n) built write.any_moment;
+        rests = λ failed. (write.unchanged failed).0.moments;
+      });
+    })
 
-pub returns-in-Sync-clause-does : goal.returns-in-Sync-clause-does
-returns-in-Sync-clause-does g c = record {
+pub returns-in-Err-clause-progress : goal.returns-in-Err-clause-progress
+returns-in-Err-clause-progress g c =
+    let acts = c.in-Write.acts in
+    rw c.in-Write.is (record {
+      flight = written_batches (batch_of_acts acts.items);
+      may_be = acts_pending (contents_of c.args.engine.now) acts.items;
+      progress = inl (record { none = refl; covers_none = refl; failed = refl; durable = refl; unsynced = refl });
+      answers = inl (search rules, refl {a = c.args.engine.now});
+    })
+
+pub returns-in-Sync-clause-progress : goal.returns-in-Sync-clause-progress
+returns-in-Sync-clause-progress g c = rw c.in-Sync.is (record {
   flight = [];
-  may_be = search rules;
+  may_be = refl;
   progress = search rules;
-  moments = λ alive. search rules;
-  rests = search rules;
-}
+  answers = inr (record { noted = search rules; moments = λ alive. search rules; rests = search rules });
+})

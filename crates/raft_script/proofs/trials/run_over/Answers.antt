@@ -20,15 +20,15 @@ returns-in_ok-ran-in-Ok-clause-ran g c =
     let outcomes = ran.outcomes.items in
     let run = c.in_ok-ran-in-Ok.ensures in
     let after = opened_after (folder_of e) dir m (durable_of e) (unsynced_of e) ops outcomes ran.failed_at (directory_of c.run_watched.new.engine)
-    c.in-Ok.ensures.folder (c.in-Ok.ensures.synced.0 ∙ c.in-Ok.ensures.contents) c.in-Ok.ensures.synced.1 run.ran.now in
+    c.in-Ok.ensures.ok.folder_is (c.in-Ok.ensures.ok.synced.0 ∙ c.in-Ok.ensures.contents) c.in-Ok.ensures.ok.synced.1 run.ok.now in
     λ _. record {
       answered = inl (record {
-        answers = subst (λ (x : Contents). AreAnswers x ops outcomes) c.in-Ok.ensures.contents run.ran.answers;
-        place = subst (λ (b : Bool). IsFailurePlace b ops outcomes ran.failed_at) c.in-Ok.ensures.alive run.ran.failures.1;
+        answers = subst (λ (x : Contents). AreAnswers x ops outcomes) c.in-Ok.ensures.contents run.ok.answers;
+        place = subst (λ (b : Bool). IsFailurePlace b ops outcomes ran.failed_at) c.in-Ok.ensures.ok.stands run.ok.failures.1;
       });
-      after = subst (λ (n : Directory). LeavesAllowedAfter ran.failed_at dir m [] ops outcomes n) (sym c.give_up.ensures.files) after;
-      no_file = subst (λ (p : Path). HasFile (g.F.FileSystem.directory c.give_up.result) p → ⊥) (run.folder ∙ c.in-Ok.ensures.folder)
-          (contents_folder (folder_of c.run_watched.new.engine) (durable_of c.run_watched.new.engine) (unsynced_of c.run_watched.new.engine) (g.F.FileSystem.directory c.give_up.result) c.give_up.ensures.kept);
+      after = subst (λ (n : Directory). LeavesAllowedAfter ran.failed_at dir m [] ops outcomes n) (sym c.give_up.ensures.unchanged.0) after;
+      no_file = subst (λ (p : Path). HasFile (g.F.FileSystem.directory c.give_up.result) p → ⊥) (run.folder ∙ c.in-Ok.ensures.ok.folder_is)
+          (contents_folder (folder_of c.run_watched.new.engine) (durable_of c.run_watched.new.engine) (unsynced_of c.run_watched.new.engine) (g.F.FileSystem.directory c.give_up.result) c.give_up.ensures.crash);
     }
 
 pub returns-in-Err-clause-ran : goal.returns-in-Err-clause-ran
@@ -37,7 +37,7 @@ returns-in-Err-clause-ran g c =
     let m = contents_at dir (g.F.FileSystem.directory c.args.files) in
     let files = g.F.FileSystem.directory c.in-Err.refused.file_system in
     λ keeps.
-    let kept = c.in-Err.ensures.any_moment_refused.here m [] keeps in
+    let kept = c.in-Err.ensures.any_moment.here m [] keeps in
     record {
       answered = inr (record { none = c.new.ensures.items; stands = refl; files_keep = kept });
       after = rw c.new.ensures.items (refused_after dir m c.args.ops.now files kept);
