@@ -1,6 +1,6 @@
 -- Which batches of the Rewrite queue count after others were appended.
 use Rattle.std.proofs.Common.{◌≡◌, ℕ, Bool, true, false, cond, eqb, ◌&&◌, ◌||◌, List, [], ◌∷◌, ◌++◌, Option, Some, None, filter, refl, sym, ◌∙◌, ap, append-nil, arith}
-use Rattle.std.specs.List.{cons_option, list_all}
+use Rattle.std.specs.List.{cons_option, list_all, list_any}
 use Rattle.std.specs.Str.{bytes_eq}
 use Rattle.std.proofs.lemmas.Bool.{false≢true, eqb-true}
 use Rattle.std.proofs.lemmas.Bool.Decides.{nat_tests}
@@ -88,11 +88,17 @@ never_complete true true rest no_last open_still = no_last
 never_complete true false rest no_last open_still = open_still
 never_complete false last rest no_last open_still = open_still
 
-pub no_last_is_open : (ps : List (List ℕ)) → has_last ps ≡ false → is_complete ps ≡ false
-no_last_is_open [] none = refl
-no_last_is_open (p ∷ ps) none =
+pub no_last_is_incomplete : (ps : List (List ℕ)) → has_last ps ≡ false → is_complete ps ≡ false
+no_last_is_incomplete [] none = refl
+no_last_is_incomplete (p ∷ ps) none =
     let later = (neither (bytes_eq p last_place) (has_last ps) none).1 in
-    never_complete (bytes_eq p first_place) (has_last ps) (is_complete ps) later (no_last_is_open ps later)
+    never_complete (bytes_eq p first_place) (has_last ps) (is_complete ps) later (no_last_is_incomplete ps later)
+
+pub no_first_is_incomplete : (ps : List (List ℕ)) → list_any (λ p. bytes_eq p first_place) ps ≡ false → is_complete ps ≡ false
+no_first_is_incomplete [] none = refl
+no_first_is_incomplete (p ∷ ps) none =
+    let each = neither (bytes_eq p first_place) (list_any (λ q. bytes_eq q first_place) ps) none in
+    ap (λ b. (b && has_last ps) || is_complete ps) each.0 ∙ no_first_is_incomplete ps each.1
 
 group_between : (id other : ℕ) (old bs more : List Batch) → list_all (is_of_group id) bs ≡ true → eqb other id ≡ false → places_in other (old ++ bs ++ more) ≡ places_in other (old ++ more)
 group_between id other old bs more all apart =
@@ -139,8 +145,8 @@ whole-unmarked old b unmarked =
     ∙ ap (λ x. whole old ++ cond x (b ∷ []) []) (ap (mark_counts (old ++ b ∷ [])) unmarked)
 
 -- the contents of the Rewrite queue after these changes of it
-pub effect-open_group : (id : ℕ) (old bs more : List Batch) → places_in id old ≡ [] → places_in id more ≡ [] → list_all (is_of_group id) bs ≡ true → has_last (places_in id bs) ≡ false → effect (old ++ bs ++ more) ≡ effect (old ++ more)
-effect-open_group id old bs more none_before none_after all no_last = ap (after_batches no_contents) (whole-open_group id old bs more none_before none_after all (no_last_is_open (places_in id bs) no_last))
+pub effect-open_group : (id : ℕ) (old bs more : List Batch) → places_in id old ≡ [] → places_in id more ≡ [] → list_all (is_of_group id) bs ≡ true → is_complete (places_in id bs) ≡ false → effect (old ++ bs ++ more) ≡ effect (old ++ more)
+effect-open_group id old bs more none_before none_after all incomplete = ap (after_batches no_contents) (whole-open_group id old bs more none_before none_after all incomplete)
 
 pub effect-complete_group : (id : ℕ) (old bs : List Batch) → places_in id old ≡ [] → list_all (is_of_group id) bs ≡ true → is_complete (places_in id bs) ≡ true → effect (old ++ bs) ≡ after_batches (effect old) bs
 effect-complete_group id old bs none_before all complete = ap (after_batches no_contents) (whole-complete_group id old bs none_before all complete) ∙ fold-append after_batch no_contents (whole old) bs

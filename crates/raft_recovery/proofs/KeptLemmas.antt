@@ -61,10 +61,6 @@ pub joined_same : (p : ℕ → Bool) (w new a : List Entry) → passing p w ≡ 
 joined_same p w new [] all none same apart = same all
 joined_same p w new (e ∷ es) all none same apart = set_on (has_before e.0 w) p w new e es refl all none same (λ is nothing. apart is nothing e.0)
 
-nothing_of : (w : List Entry) → passing (λ i. false) w ≡ []
-nothing_of [] = refl
-nothing_of (e ∷ es) = nothing_of es
-
 -- nothing is left of a list of which nothing is left in what is joined
 pub joined-nothing : (p : ℕ → Bool) (w a : List Entry) → passing p w ≡ w → passing p a ≡ [] → All (λ e. p e.0 ≡ false) (joined w a) → joined [] a ≡ joined w a
 joined-nothing p w a all none nothing =

@@ -13,7 +13,6 @@ pub mod FixedLemmas
 pub mod DropLemmas
 pub mod DropFrontLemmas
 pub mod UnchangedLemmas
-pub mod ProgramLemmas
 pub mod JoinedLemmas
 pub mod StandsLemmas
 pub mod DropRewriteLemmas

@@ -4,7 +4,6 @@ pub mod Joined
 pub mod Consecutive
 pub mod Rewriting
 pub mod Valid
-pub mod Change
 pub mod Stands
 pub mod Dropping
 pub mod DroppingFront

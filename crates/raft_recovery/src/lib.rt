@@ -1,7 +1,6 @@
 //! The laws of recovered contents.
 #![tactic(auto)]
 
-pub mod change;
 pub mod drop_append_laws;
 pub mod drop_rewrite_laws;
 pub mod group_laws;

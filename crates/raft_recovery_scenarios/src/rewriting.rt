@@ -17,9 +17,9 @@ pub fn entries_that_do_not_fit_replace_others()
         × (found (entries (3 ∷ 4 ∷ []) ∷ entries (3 ∷ []) ∷ []) [] ≡ only (3 ∷ [])) }
 {}
 
-/// A part of an atomic group changes nothing (`unfinished`), unless its id was used before (`same_id`).
-/// Its last batch counts where a batch before it counts, though the batches of the group don't
-/// stand together, and goes with the first file (`cut_key`, `cut_entries`).
+/// A group that isn't complete changes nothing (`unfinished`), unless its id was used before
+/// (`same_id`). Where other batches stand between those of a group, a drop of the first file brings
+/// back what the group's last batch removed (`cut_key`, `cut_entries`).
 pub fn atomic_groups_need_ids_of_their_own()
     ensures unfinished { found (entries (3 ∷ 4 ∷ []) ∷ begin_group 8 (entries (3 ∷ [])) ∷ []) []
         ≡ only (3 ∷ 4 ∷ []) }
