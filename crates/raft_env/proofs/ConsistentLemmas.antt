@@ -1,10 +1,9 @@
 -- Calls keep files consistent, and storage may leave of such a file all bytes now.
-use Rattle.std.proofs.Common.{◌≡◌, ◌⊎◌, ℕ, ◌+◌, ◌-◌, ◌<◌, ◌≤◌, ◌==◌, min, max, Bool, true, false, cond, List, [], ◌∷◌, ◌++◌, length, take, replicate, slice_index, slice_index_or, Option, Some, None, is_some, refl, ap, sym, subst, ◌∙◌, inl, inr, arith}
-use Rattle.std.specs.Prelude.{◌||◌, option_map}
-use Rattle.std.proofs.lemmas.Bool.{cases_Bool, cases_lt, eqb-true}
+use Rattle.std.proofs.Common.{◌≡◌, ◌⊎◌, ℕ, ◌+◌, ◌-◌, ◌<◌, ◌≤◌, ◌==◌, min, max, Bool, true, false, cond, List, [], ◌∷◌, ◌++◌, length, take, replicate, slice_index, Option, Some, None, is_some, refl, ap, sym, subst, ◌∙◌, inl, inr, arith}
+use Rattle.std.specs.Prelude.{option_map}
+use Rattle.std.proofs.lemmas.Bool.{cases_Bool, cases_lt, eqb-true, or_parts, or_from}
 use Rattle.std.proofs.lemmas.Bool.Decides.{nat_tests}
-use Rattle.std.proofs.lemmas.List.{get_or-take, get_or_append_left, get_or_past, length-append, length-take}
-use Rattle.std.proofs.lemmas.List.Elements.{All-get_or}
+use Rattle.std.proofs.lemmas.List.{get_or-take, get_or_append_left, length-append, length-take}
 use Rattle.std.proofs.lemmas.Option.{same_Some}
 use Rattle.std.specs.Ordering.{nat_cmp, eq_by_cmp}
 use Rattle.std.specs.Cmp.Lexicographic.{slice_cmp, nat_list_cmp_total}
@@ -13,8 +12,8 @@ use Rattle.raft_env.specs.Outcomes.{File, Change, MayLeave, Outcome, IsPartOf, I
 use Rattle.raft_env.specs.Directory.{Directory, Left, Path, file_at, placed, changed, changed_at, created, IsMakingFolder, IsChanging, IsWriting, IsTruncating, IsAllocating, IsOneOf, IsRestarted}
 use Rattle.raft_env.specs.Consistent.{HasItsRange, HasItsLength, IsPastOf, IsConsistent, AreConsistent}
 use Rattle.raft_env.proofs.DirectoryLemmas.{file_at-making}
-use Rattle.raft_env.proofs.OverlaidLemmas.{overlaid_bounds, overlaid_outside_part}
-use Rattle.raft_env.proofs.ChangeLemmas.{not_within, cut_change, cut_is}
+use Rattle.raft_env.proofs.OverlaidLemmas.{overlaid_bounds, overlaid_outside_part, longest_of-more}
+use Rattle.raft_env.proofs.ChangeLemmas.{not_within}
 
 -- Files.
 
@@ -24,10 +23,6 @@ settled_consistent bytes = record { latest = refl; untouched = λ i within apart
 pub synced_consistent : (file : File) → IsConsistent file → IsConsistent (synced_of file)
 synced_consistent file is = record { latest = refl; untouched = λ i within apart. (within, refl); past = is.past; earlier = is.past }
 
-or_false : (a b : Bool) → a || b ≡ false → (a ≡ false) × (b ≡ false)
-or_false true b e = cc
-or_false false b e = (refl, e)
-
 -- outside its range a change leaves what stood there
 pub record KeepsOutside (old : List ℕ) (c : Change) : Type 0 where
   pub outside : (i : ℕ) → i < length old → is_within c.from c.size i ≡ false → (i < length c.after) × (slice_index c.after i ≡ slice_index old i)
@@ -36,7 +31,7 @@ consistent_more : (file : File) (c : Change) → IsConsistent file → c.before 
 consistent_more file c old before range len keeps = record {
   latest = refl;
   untouched = λ i within apart.
-      let each = or_false (is_within c.from c.size i) (is_touched file.changes i) apart in
+      let each = or_parts (is_within c.from c.size i) (is_touched file.changes i) apart in
       let stood = old.untouched i within each.1 in
       let stands = keeps.outside i stood.0 each.0 in
       (stands.0, stands.1 ∙ stood.1);
@@ -57,7 +52,7 @@ written_consistent at given after true file old done = consistent_more file _ ol
     ap (λ b. slice_index b i) done ∙ overlaid_outside_part file.now at (length given) given (omega arith) i apart,
   );
 })
-written_consistent at given after false file old part = consistent_more file _ old refl (omega arith) (omega arith, omega arith) (part_outside at (length given) file.now _ refl refl part)
+written_consistent at given after false file old part = consistent_more file _ old refl (omega arith) (omega arith, longest_of-more false at (length given) (length after)) (part_outside at (length given) file.now _ refl refl part)
 
 -- an allocation
 pub allocated_consistent : (size : ℕ) (after : List ℕ) (is_done : Bool) (file : File) → IsConsistent file → Outcome is_done (padded file.now size) (IsPartOf (length file.now) (size - length file.now) file.now) after → IsConsistent (lengthened_to size is_done after file)
@@ -84,44 +79,26 @@ outside_is from size i apart = elim (cases_lt i from) [
 
 -- a truncation
 pub cut_consistent : (size : ℕ) (after : List ℕ) (is_done : Bool) (file : File) → IsConsistent file → Outcome is_done (take size file.now) (IsCutOf size file.now) after → IsConsistent (cut_to size is_done after file)
-cut_consistent size after is_done file old outcome = subst IsConsistent (sym (cut_is size is_done after file)) (consistent_more file (cut_change size is_done after file.now) old (cut_before is_done) (omega (arith, ap length (cut_given is_done))) (cut_len is_done) (by_outcome is_done outcome))
-  where
-    now : List ℕ
-    now = file.now
-
-    cut_before : (is_done : Bool) → (cut_change size is_done after now).before ≡ now
-    cut_before true = refl
-    cut_before false = refl
-
-    cut_given : (is_done : Bool) → (cut_change size is_done after now).given ≡ []
-    cut_given true = refl
-    cut_given false = refl
-
-    cut_len : (is_done : Bool) → HasItsLength (cut_change size is_done after now)
-    cut_len true = (omega arith, omega arith)
-    cut_len false = (omega arith, omega arith)
-
-    by_outcome : (is_done : Bool) → Outcome is_done (take size now) (IsCutOf size now) after → KeepsOutside now (cut_change size is_done after now)
-    by_outcome true done = record {
-      outside = λ i within apart.
-          let len = ap length done ∙ length-take size now in
-          let before : i < length after = elim (outside_is (min (length after) (length now)) (max (length after) (length now) - min (length after) (length now)) i apart) [
-            | inl front ↦ omega arith
-            | inr behind ↦ absurd (omega arith)
-          ] in
-          (before, ap (λ b. slice_index b i) done ∙ get_or-take size now i 0 (omega (arith, len)));
-    }
-    by_outcome false part = record {
-      outside = λ i within apart.
-          let most = min size (length now) in
-          let before : i < most = elim (outside_is most (length now - most) i apart) [
-            | inl front ↦ front
-            | inr behind ↦ absurd (omega arith)
-          ] in (
-            omega (arith, part.no_shorter),
-            sym (get_or-take most after i 0 before) ∙ ap (λ b. slice_index b i) part.kept ∙ get_or-take most now i 0 before,
-          );
-    }
+cut_consistent size after true file old done = consistent_more file _ old refl (omega arith) (omega arith, omega arith) (record {
+  outside = λ i within apart.
+      let len = ap length done ∙ length-take size file.now in
+      let before : i < length after = elim (outside_is (min (length after) (length file.now)) (max (length after) (length file.now) - min (length after) (length file.now)) i apart) [
+        | inl front ↦ omega arith
+        | inr behind ↦ absurd (omega arith)
+      ] in
+      (before, ap (λ b. slice_index b i) done ∙ get_or-take size file.now i 0 (omega (arith, len)));
+})
+cut_consistent size after false file old part = consistent_more file _ old refl (omega arith) (omega arith, omega arith) (record {
+  outside = λ i within apart.
+      let most = min size (length file.now) in
+      let before : i < most = elim (outside_is most (length file.now - most) i apart) [
+        | inl front ↦ front
+        | inr behind ↦ absurd (omega arith)
+      ] in (
+        omega (arith, part.no_shorter),
+        sym (get_or-take most after i 0 before) ∙ ap (λ b. slice_index b i) part.kept ∙ get_or-take most file.now i 0 before,
+      );
+})
 
 -- Directories.
 
@@ -204,16 +181,13 @@ nowhere from size i none = elim (cases_lt i from) [
   | inr behind ↦ not_within from size i (inr (omega (arith, none)))
 ]
 
-touched_later : (c : Change) (changes : List Change) (i : ℕ) → is_within c.from c.size i ≡ false → is_touched changes i ≡ false → is_touched (c ∷ changes) i ≡ false
-touched_later c changes i apart further = ap (λ b. b || is_touched changes i) apart ∙ further
-
 pub before_is_untouched : (synced : List ℕ) (changes : List Change) (i : ℕ) → i < untouched_len synced changes → is_touched changes i ≡ false
 before_is_untouched synced [] i before = refl
 before_is_untouched synced (c ∷ changes) i before = elim (cases_Bool (c.size == 0)) [
   | inl none ↦
       let len = ap (λ b. cond b (untouched_len synced changes) (min c.from (untouched_len synced changes))) none in
-      touched_later c changes i (nowhere c.from c.size i (eqb-true c.size 0 none)) (before_is_untouched synced changes i (omega (arith, len)))
+      or_from _ _ (nowhere c.from c.size i (eqb-true c.size 0 none)) (before_is_untouched synced changes i (omega (arith, len)))
   | inr some ↦
       let len = ap (λ b. cond b (untouched_len synced changes) (min c.from (untouched_len synced changes))) some in
-      touched_later c changes i (not_within c.from c.size i (inl (omega (arith, len)))) (before_is_untouched synced changes i (omega (arith, len)))
+      or_from _ _ (not_within c.from c.size i (inl (omega (arith, len)))) (before_is_untouched synced changes i (omega (arith, len)))
 ]

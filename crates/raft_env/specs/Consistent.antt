@@ -1,7 +1,7 @@
 -- What every call keeps of a file: outside the ranges of its changes it holds the bytes of the last
 -- sync, and each change began with what the one before it left. Files in memory keep more: of their
 -- changes only writes were refused, and none was renamed.
-use Rattle.std.specs.Prelude.{◌≡◌, ◌⊎◌, ℕ, ◌<◌, ◌≤◌, ◌++◌, false, List, [], ◌∷◌, length, All, Some, None, slice_index}
+use Rattle.std.specs.Prelude.{◌≡◌, ℕ, ◌<◌, ◌≤◌, ◌++◌, false, List, [], ◌∷◌, length, Some, None, slice_index}
 use Rattle.std.proofs.Props.{props}
 use Rattle.raft_env.specs.Outcomes.{File, Change, OnlyWritesRefused, bytes_behind, is_touched}
 use Rattle.raft_env.specs.Directory.{Directory, Path, file_at}

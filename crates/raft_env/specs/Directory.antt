@@ -50,7 +50,8 @@ created path n = cond (is_some (file_at n path)) n (placed path (settled []) n)
 abbrev pub HasFile : Directory → Path → Type 0
 HasFile n path = IsSome (file_at n path)
 
--- a moment of a call that changes one file: nothing has changed, or the call is done, or its range holds other bytes
+-- a moment of a call that changes one file: nothing has changed, or the call is done, or its range
+-- holds other bytes
 abbrev pub IsChanging : Path → (Bool → List ℕ → File → File) → (List ℕ → List ℕ)
     → (List ℕ → List ℕ → Type 0) → Directory → Directory → Type 0
 IsChanging path step wanted IsPart old new =
@@ -75,7 +76,8 @@ IsAllocating path size =
 abbrev pub IsOneOf : Directory → Directory → Directory → Type 0
 IsOneOf a b n = (n ≡ a) ⊎ (n ≡ b)
 
--- the first bytes of the slice are those of the file from that place on; none only at the end or for an empty slice
+-- the first bytes of the slice are those of the file from that place on; none only at the end or
+-- for an empty slice
 pub record IsReading (bytes : List ℕ) (at count : ℕ) (old new : List ℕ) : Type 0 where
   pub fits : count ≤ length old
   pub front : take count new ≡ take count (drop at bytes)
@@ -103,14 +105,19 @@ after_folder [] (x ∷ rest) = if x == 47 then Some rest else None
 after_folder (f ∷ folder) [] = None
 after_folder (f ∷ folder) (x ∷ path) = if f == x then after_folder folder path else None
 
+-- the name, if it is one
 abbrev pub kept_name : Option (List ℕ) → Option (List ℕ)
 kept_name None = None
 kept_name (Some name) = if is_name name then Some name else None
 
+-- what follows a folder's path; each path is below the root
+abbrev pub path_below : Path → Path → Option Path
+path_below [] path = Some path
+path_below (c ∷ folder) path = after_folder (c ∷ folder) path
+
 -- the name of a path that stands in the folder itself
 abbrev pub name_in : Path → Path → Option (List ℕ)
-name_in [] path = kept_name (Some path)
-name_in (c ∷ folder) path = kept_name (after_folder (c ∷ folder) path)
+name_in folder path = kept_name (path_below folder path)
 
 -- the names of the files in a folder, in the order of their bytes
 abbrev pub names_in : Path → Directory → List (List ℕ)
@@ -124,7 +131,8 @@ is_on_way folder path = bytes_eq folder path || is_some (after_folder folder pat
 abbrev pub folder_made : Path → Directory → Directory
 folder_made path n = record n { is_folder = λ q. is_on_way q path || n.is_folder q }
 
--- a moment of making a folder: the files are as before, and none, some or all of the folders to be made are there
+-- a moment of making a folder: the files are as before, and none, some or all of the folders to be
+-- made are there
 pub record IsMakingFolder (path : Path) (old new : Directory) : Type 0 where
   pub files : new.files ≡ old.files
   pub kept : (q : Path) → old.is_folder q ≡ true → new.is_folder q ≡ true

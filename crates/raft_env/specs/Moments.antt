@@ -1,4 +1,4 @@
--- The moments of a directory, at each of which a crash may come. They are listed with the newest first.
+-- The moments of a directory, at each of which a crash may come. The newest is listed first.
 use Rattle.std.specs.Prelude.{◌≡◌, List, ◌++◌}
 use Rattle.std.specs.List.{AllByRecursion}
 use Rattle.raft_env.specs.Directory.{Directory}

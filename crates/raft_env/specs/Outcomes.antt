@@ -1,5 +1,5 @@
 -- One file: its bytes now, and what a crash may leave of it.
-use Rattle.std.specs.Prelude.{◌≡◌, ℕ, ◌+◌, ◌-◌, ◌<◌, ◌≤◌, min, max, Bool, true, false, ◌&&◌, nat_le, nat_lt, List, [], ◌∷◌, ◌++◌, length, take, drop, replicate, slice_index, All, Option, Some, None, map, ◌==◌, if◌then◌else◌}
+use Rattle.std.specs.Prelude.{◌≡◌, ℕ, zero, suc, ◌+◌, ◌-◌, ◌<◌, ◌≤◌, min, max, Bool, true, false, ◌&&◌, nat_le, nat_lt, List, [], ◌∷◌, ◌++◌, length, take, drop, replicate, slice_index, All, Option, Some, None, map, ◌==◌, if◌then◌else◌}
 use Rattle.std.specs.List.{list_any}
 
 -- a write, an allocation or a truncation, whole or in part
@@ -97,64 +97,80 @@ settled bytes =
 abbrev pub changed_by : Change → File → File
 changed_by c file = record file { now = c.after; changes = c ∷ file.changes }
 
--- inside a write up to an end that was refused the file may have had the length of that end
-abbrev pub longest_of : Bool → ℕ → ℕ → ℕ
-longest_of true end len = len
-longest_of false end len = max len end
+-- the greatest length in a write of so many bytes that left a length: a refused one may have reached
+-- its end, but one of no bytes changes no length
+abbrev pub longest_of : Bool → ℕ → ℕ → ℕ → ℕ
+longest_of true at size left = left
+longest_of false at zero left = left
+longest_of false at (suc size) left = max left (at + suc size)
 
--- the file after a write that left these bytes
-abbrev pub written : ℕ → List ℕ → Bool → List ℕ → File → File
-written at given is_done after file = changed_by (record {
+-- a write that left these bytes, where those stood before
+abbrev pub written_change : ℕ → List ℕ → Bool → List ℕ → List ℕ → Change
+written_change at given is_done after before = record {
   from = at;
   size = length given;
   given = given;
   is_done = is_done;
-  before = file.now;
+  before = before;
   after = after;
   shortest = length after;
-  longest = longest_of is_done (at + length given) (length after);
-}) file
+  longest = longest_of is_done at (length given) (length after);
+}
 
--- the same of an allocation or a truncation that is done: it touched what lies between the lengths
-abbrev pub resized : Bool → List ℕ → File → File
-resized is_done after file = changed_by (record {
-  from = min (length after) (length file.now);
-  size = max (length after) (length file.now) - min (length after) (length file.now);
+-- an allocation or a truncation that is done: it touched what lies between the lengths
+abbrev pub resized_change : List ℕ → List ℕ → Change
+resized_change after before = record {
+  from = min (length after) (length before);
+  size = max (length after) (length before) - min (length after) (length before);
   given = [];
-  is_done = is_done;
-  before = file.now;
+  is_done = true;
+  before = before;
   after = after;
   shortest = length after;
   longest = length after;
-}) file
+}
 
--- the same of an allocation, which may have touched all up to the wanted end if it is refused
-abbrev pub lengthened_to : ℕ → Bool → List ℕ → File → File
-lengthened_to size true after file = resized true after file
-lengthened_to size false after file = changed_by (record {
-  from = length file.now;
-  size = size - length file.now;
+-- an allocation, which may have touched all up to the wanted end if it is refused
+abbrev pub lengthened_change : ℕ → Bool → List ℕ → List ℕ → Change
+lengthened_change size true after before = resized_change after before
+lengthened_change size false after before = record {
+  from = length before;
+  size = size - length before;
   given = [];
   is_done = false;
-  before = file.now;
+  before = before;
   after = after;
   shortest = length after;
   longest = max (length after) size;
-}) file
+}
 
--- the same of a truncation, which may have touched all behind the wanted end if it is refused
-abbrev pub cut_to : ℕ → Bool → List ℕ → File → File
-cut_to size true after file = resized true after file
-cut_to size false after file = changed_by (record {
-  from = min size (length file.now);
-  size = length file.now - min size (length file.now);
+-- a truncation, which may have touched all behind the wanted end if it is refused
+abbrev pub cut_change : ℕ → Bool → List ℕ → List ℕ → Change
+cut_change size true after before = resized_change after before
+cut_change size false after before = record {
+  from = min size (length before);
+  size = length before - min size (length before);
   given = [];
   is_done = false;
-  before = file.now;
+  before = before;
   after = after;
   shortest = min (length after) size;
   longest = length after;
-}) file
+}
+
+-- the file after such a change
+abbrev pub written : ℕ → List ℕ → Bool → List ℕ → File → File
+written at given is_done after file = changed_by (written_change at given is_done after file.now) file
+
+abbrev pub resized : List ℕ → File → File
+resized after file = changed_by (resized_change after file.now) file
+
+abbrev pub lengthened_to : ℕ → Bool → List ℕ → File → File
+lengthened_to size is_done after file =
+    changed_by (lengthened_change size is_done after file.now) file
+
+abbrev pub cut_to : ℕ → Bool → List ℕ → File → File
+cut_to size is_done after file = changed_by (cut_change size is_done after file.now) file
 
 abbrev pub synced_of : File → File
 synced_of file = record file { synced = file.now; changes = []; older = file.changes ++ file.older }
@@ -173,10 +189,12 @@ overlaid bytes at (byte ∷ given) =
     let end = at + length (byte ∷ given) in
     take at (padded bytes end) ++ (byte ∷ given) ++ drop end bytes
 
--- the bytes at a moment of a write: others in its range alone, and some length up to its end
+-- the bytes at a moment of a write: others in its range alone, and some length up to its end; no
+-- bytes change nothing, also past the end
 pub record IsPartOf (at len : ℕ) (old new : List ℕ) : Type 0 where
   pub no_shorter : length old ≤ length new
   pub no_longer : length new ≤ max (length old) (at + len)
+  pub unchanged : len ≡ 0 → new ≡ old
   pub elsewhere : (i : ℕ) → i < length old → is_within at len i ≡ false
       → slice_index new i ≡ slice_index old i
 

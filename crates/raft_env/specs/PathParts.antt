@@ -1,12 +1,7 @@
--- What stands below a folder, and the folder of a path.
-use Rattle.std.specs.Prelude.{◌≡◌, ◌≢◌, ◌⊎◌, [], ◌∷◌, ◌++◌, Option, Some}
+-- The folder of a path.
+use Rattle.std.specs.Prelude.{◌≡◌, ◌≢◌, ◌⊎◌, [], ◌∷◌, ◌++◌}
 use Rattle.std.specs.List.{All}
-use Rattle.raft_env.specs.Directory.{Path, after_folder}
-
--- what follows a folder's path and a slash; each path is below the root
-abbrev pub path_below : Path → Path → Option Path
-path_below [] path = Some path
-path_below (c ∷ folder) path = after_folder (c ∷ folder) path
+use Rattle.raft_env.specs.Directory.{Path}
 
 -- no slash stands in it
 abbrev pub IsName : Path → Type 0

@@ -54,7 +54,8 @@ added_count a b = record {
   memory = a.memory + b.memory;
 }
 
--- no count fell, and storage's rose where its refusal is answered; the call may also want memory of its own
+-- no count fell, and storage's rose where its refusal is answered; the call may also want memory of
+-- its own
 abbrev pub CausedByFault : FsFault → Refusals → Refusals → Type 0
 CausedByFault (Io kind) old new = Rose old new × NoFewer old new
 CausedByFault Memory old new = NoFewer old new

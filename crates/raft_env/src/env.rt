@@ -139,7 +139,7 @@ pub trait FileSystem: Send + Sync {
     /// Writes over what stands there, and past the end.
     fn write(&mut self, writer: &mut Self::Writer, at: usize, bytes: &[u8]) -> Result<(), FsFault>
         ensures writer { writer_path writer.new ≡ writer_path writer.old }
-        ensures found { OnOk result (HasFile (directory self.old) (writer_path writer.old)) }
+        ensures value { OnOk result (HasFile (directory self.old) (writer_path writer.old)) }
         ensures fits { OnOk result (at + length bytes.now < 2 ^ 63) }
         ensures ok { OnOk result (directory self.new ≡ changed (writer_path writer.old)
             (λ f. written at bytes.now true (overlaid f.now at bytes.now) f) (directory self.old)) }
@@ -150,9 +150,9 @@ pub trait FileSystem: Send + Sync {
     /// Cuts the file to a length; at or past its end it stays as it is.
     fn truncate(&mut self, writer: &mut Self::Writer, size: usize) -> Result<(), FsFault>
         ensures writer { writer_path writer.new ≡ writer_path writer.old }
-        ensures found { OnOk result (HasFile (directory self.old) (writer_path writer.old)) }
+        ensures value { OnOk result (HasFile (directory self.old) (writer_path writer.old)) }
         ensures ok { OnOk result (directory self.new ≡ changed (writer_path writer.old)
-            (λ f. resized true (take size f.now) f) (directory self.old)) }
+            (λ f. resized (take size f.now) f) (directory self.old)) }
         ensures any_moment { MovesBy directory moments (IsTruncating (writer_path writer.old) size)
             self.old self.new }
         ensures cause { Counts result (refusals_of self.old) (refusals_of self.new) };
@@ -160,10 +160,10 @@ pub trait FileSystem: Send + Sync {
     /// Lengthens the file with zeros to `at + size` bytes; a file that is as long stays as it is.
     fn allocate(&mut self, writer: &mut Self::Writer, at: usize, size: usize) -> Result<(), FsFault>
         ensures writer { writer_path writer.new ≡ writer_path writer.old }
-        ensures found { OnOk result (HasFile (directory self.old) (writer_path writer.old)) }
+        ensures value { OnOk result (HasFile (directory self.old) (writer_path writer.old)) }
         ensures fits { OnOk result (at + size < 2 ^ 63) }
         ensures ok { OnOk result (directory self.new ≡ changed (writer_path writer.old)
-            (λ f. resized true (padded f.now (at + size)) f) (directory self.old)) }
+            (λ f. resized (padded f.now (at + size)) f) (directory self.old)) }
         ensures any_moment { MovesBy directory moments
             (IsAllocating (writer_path writer.old) (at + size)) self.old self.new }
         ensures cause { Counts result (refusals_of self.old) (refusals_of self.new) };
@@ -171,7 +171,7 @@ pub trait FileSystem: Send + Sync {
     /// After `Ok` a crash leaves the bytes now and nothing else.
     fn sync(&mut self, writer: &mut Self::Writer) -> Result<(), FsFault>
         ensures writer { writer_path writer.new ≡ writer_path writer.old }
-        ensures found { OnOk result (HasFile (directory self.old) (writer_path writer.old)) }
+        ensures value { OnOk result (HasFile (directory self.old) (writer_path writer.old)) }
         ensures ok { OnOk result (directory self.new
             ≡ changed (writer_path writer.old) synced_of (directory self.old)) }
         ensures err { OnErr result (directory self.new ≡ directory self.old) }

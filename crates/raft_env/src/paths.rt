@@ -1,7 +1,7 @@
 //! The parts of a path.
 ghost use Rattle.std.specs.Prelude.{◌≡◌, None, Some, MatchOption};
-ghost use Rattle.raft_env.specs.Directory.{name_in, is_on_way};
-ghost use Rattle.raft_env.specs.PathParts.{IsParent, path_below};
+ghost use Rattle.raft_env.specs.Directory.{after_folder, is_on_way, name_in, path_below};
+ghost use Rattle.raft_env.specs.PathParts.{IsParent};
 
 /// The folder of a path: what stands before its last `/`, or the root.
 pub fn parent(path: &str) -> &str
@@ -17,10 +17,7 @@ pub fn parent(path: &str) -> &str
 pub fn is_on_way(folder: &str, path: &str) -> bool
     ensures value { result ≡ is_on_way folder.now path.now }
 {
-    match path.strip_prefix(folder) {
-        Some(rest) => rest.is_empty() || rest.starts_with('/'),
-        None => false,
-    }
+    folder == path || after_folder(folder, path).is_some()
 }
 
 /// The name of a path that stands in the folder itself.
@@ -35,7 +32,7 @@ pub fn name_in<'a>(folder: &str, path: &'a str) -> Option<&'a str>
     Some(name)
 }
 
-// What follows a folder's path and a slash. All paths are below the root.
+// What follows a folder's path. All paths are below the root.
 fn below<'a>(folder: &str, path: &'a str) -> Option<&'a str>
     ensures value { MatchOption result (path_below folder.now path.now ≡ None)
         (λ rest. path_below folder.now path.now ≡ Some rest.now) }
@@ -43,5 +40,13 @@ fn below<'a>(folder: &str, path: &'a str) -> Option<&'a str>
     if folder.is_empty() {
         return Some(path);
     }
+    after_folder(folder, path)
+}
+
+// What follows a folder's path and a slash.
+fn after_folder<'a>(folder: &str, path: &'a str) -> Option<&'a str>
+    ensures value { MatchOption result (after_folder folder.now path.now ≡ None)
+        (λ rest. after_folder folder.now path.now ≡ Some rest.now) }
+{
     path.strip_prefix(folder)?.strip_prefix('/')
 }

@@ -1,11 +1,9 @@
 -- What stands behind the records of a log file.
-use Rattle.std.proofs.Common.{◌≡◌, ◌⊎◌, ℕ, zero, suc, ◌+◌, ◌<◌, ◌≤◌, List, [], ◌∷◌, length, take, drop, replicate, slice_index, Option, Some, None, option_and_then, refl, ap, sym, ◌∙◌, inl, inr, arith, length-drop}
+use Rattle.std.proofs.Common.{◌≡◌, ◌⊎◌, ℕ, zero, suc, ◌+◌, ◌<◌, ◌≤◌, List, [], ◌∷◌, length, take, drop, replicate, slice_index, Option, Some, None, refl, ap, sym, ◌∙◌, inl, inr, arith}
 use Rattle.std.proofs.lemmas.Bool.{cases_lt}
 use Rattle.std.proofs.lemmas.Bool.Decides.{nat_tests}
 use Rattle.std.proofs.lemmas.List.{length-take-le, length-replicate, get_or-take, get_or-drop, get_or-replicate, ext_get_or}
 use Rattle.std.specs.Int.{w64, from_be_bytes}
-use Rattle.raft_codec.specs.Number.{take_u64}
-use Rattle.raft_codec.proofs.NumberLemmas.{take_u64_long}
 use Rattle.raft_records.specs.Item.{Batch}
 use Rattle.raft_records.specs.Record.{Header, header_in, record_header, record_of}
 use Rattle.raft_base.specs.declared.pipe_log.FileId.{FileId}
@@ -13,10 +11,10 @@ use Rattle.raft_env.specs.Outcomes.{Change}
 use Rattle.raft_files.specs.Reading.{Placed, record_at}
 use Rattle.raft_files.specs.Detectable.{HasNoRefusedByte, IsDone, IsFreshAfter}
 use Rattle.raft_files.specs.Records.{IsRefusedAt, IsEmptyFrom, HasNothingFrom}
-use Rattle.raft_files.proofs.ExtentLemmas.{record_header_is, record_of_header}
+use Rattle.raft_files.proofs.ExtentLemmas.{record_header_is, record_header_long, record_of_header}
 use Rattle.raft_files.proofs.ReadingLemmas.{found_record}
 use Rattle.raft_files.proofs.StaleLemmas.{GivesNoneFrom, fresh_before}
-use Rattle.raft_files.proofs.PlacedLemmas.{read_in}
+use Rattle.raft_files.proofs.ReadingLemmas.{read_in}
 
 header_in_zero : (footer : ℕ) → header_in 0 footer ≡ None
 header_in_zero footer = grind (arith, nat_tests)
@@ -30,16 +28,11 @@ record_header_zeros bytes at header long zeros e =
     let has = record_header_is (drop at bytes) header e in
     let front = take 8 (drop at bytes) in
     let len : length front ≡ 8 = length-take-le 8 (drop at bytes) (omega (arith, has.long)) in
-    let first = take_u64_long (drop at bytes) (omega (arith, has.long)) in
-    let second = take_u64_long (drop 8 (drop at bytes)) (omega (arith, has.long, length-drop 8 (drop at bytes))) in
     let none : front ≡ replicate 8 0 =
     ext_get_or 0 front (replicate 8 0) (omega (arith, len, length-replicate {A = ℕ} 8 0))
     (λ i within. get_or-take 8 (drop at bytes) i 0 (omega (arith, len)) ∙ get_or-drop at bytes i 0 ∙ zeros (at + i) (omega arith) (omega (arith, len)) ∙ sym (get_or-replicate {A = ℕ} 8 i 0 0 (omega (arith, len)))) in
     let other = from_be_bytes w64 (take 8 (drop 8 (drop at bytes))) in
-    let read : record_header (drop at bytes) ≡ header_in (from_be_bytes w64 front) other =
-    ap (λ taken. option_and_then (λ first. option_and_then (λ second. header_in first.0 second.0) (take_u64 first.1)) taken) first
-    ∙ ap (λ taken. option_and_then (λ second. header_in (from_be_bytes w64 front) second.0) taken) second in
-    let nothing : record_header (drop at bytes) ≡ None = read ∙ ap (λ b. header_in (from_be_bytes w64 b) other) none ∙ ap (λ n. header_in n other) zero_number ∙ header_in_zero other in
+    let nothing : record_header (drop at bytes) ≡ None = record_header_long (drop at bytes) has.long ∙ ap (λ b. header_in (from_be_bytes w64 b) other) none ∙ ap (λ n. header_in n other) zero_number ∙ header_in_zero other in
     absurd cc
 
 -- so many bytes are zeros, or one of them is found
@@ -65,16 +58,16 @@ record_of_none signature batch len e =
     absurd (omega (arith, has.long))
 
 -- what is read where zeros and bytes of refused calls stand, or stale ones, isn't done or begins at a stale place, by whatever signature what these calls were to write is judged
-pub none_done : (signature by : Option ℕ) (bytes : List ℕ) (renamed : Option ℕ) (changes : List Change) (from : ℕ) → IsEmptyFrom from bytes renamed changes → (r : Placed) → from ≤ r.at → record_at signature bytes r.at ≡ Some (r.batch, r.len) → HasNoRefusedByte by changes r → IsFreshAfter renamed changes r.at → ⊥
+pub none_done : (signature by : Option ℕ) (bytes : List ℕ) (renamed : Option ℕ) (changes : List Change) (from : ℕ) → IsEmptyFrom from bytes renamed changes → (r : Placed) → from ≤ r.at → record_at signature bytes r.at ≡ Some r → HasNoRefusedByte by changes r → IsFreshAfter renamed changes r.at → ⊥
 none_done signature by bytes renamed changes from (inr stale) r behind is no_byte fresh = fresh (stale r.at behind)
 none_done signature by bytes renamed changes from (inl empty) r behind is no_byte fresh =
-    let found = found_record signature bytes r.at r.batch r.len is in
-    elim (search_bytes (IsRefusedAt changes) bytes 8 r.at (λ i above below. empty i (omega arith) (omega (arith, found.2, found.3)))) [
-      | inl zeros ↦ record_header_zeros bytes r.at found.0 (omega (arith, found.2, found.3)) zeros found.1
+    let found = found_record signature bytes r.at r is in
+    elim (search_bytes (IsRefusedAt changes) bytes 8 r.at (λ i above below. empty i (omega arith) (omega (arith, found.long, found.within)))) [
+      | inl zeros ↦ record_header_zeros bytes r.at found.header (omega (arith, found.long, found.within)) zeros found.has
       | inr refused ↦
           let i = refused.0 in
           let q : IsRefusedAt changes i = refused.3 in
-          let given = no_byte q.0 q.1 q.2 q.3 q.4 (i, refused.1, omega (arith, refused.2, found.2), q.6, q.7) in
+          let given = no_byte q.0 q.1 q.2 q.3 q.4 (i, refused.1, omega (arith, refused.2, found.long), q.6, q.7) in
           record_of_none by r.batch r.len (sym (ap (λ b. record_of by b) q.5) ∙ given.1)
     ]
 

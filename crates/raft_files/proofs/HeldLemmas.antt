@@ -7,11 +7,11 @@ use Rattle.raft_base.specs.declared.pipe_log.FileId.{FileId}
 use Rattle.raft_files.specs.declared.format.LogFileFormat.{LogFileFormat}
 use Rattle.raft_files.specs.Header.{header_len}
 use Rattle.raft_env.specs.Outcomes.{Change}
-use Rattle.raft_files.specs.Reading.{Placed, record_place, record_at, records_from, end_of_records, Reading, records_behind, reading, records_of, readable_records}
-use Rattle.raft_files.specs.Detectable.{IsBeginningOf, format_of, signature_by, IsDone, IsFreshAfter, AreReadAt}
-use Rattle.raft_files.specs.Records.{HasNothingFrom, HoldsRecords}
+use Rattle.raft_files.specs.Reading.{Placed, next_record, end_of_records, Reading, records_behind, reading, records_of, readable_records}
+use Rattle.raft_files.specs.Detectable.{IsBeginningOf, format_of, IsDone, IsFreshAfter}
+use Rattle.raft_files.specs.Records.{AreReadAt, HasNothingFrom, HoldsRecords}
 use Rattle.raft_files.proofs.DetectableLemmas.{beginning_trans, beginning_append, beginning_split}
-use Rattle.raft_files.proofs.ReadingLemmas.{found_record, records_stay, reading_is, reading-kept}
+use Rattle.raft_files.proofs.ReadingLemmas.{records_stay, reading_is, reading-kept}
 use Rattle.raft_files.proofs.PlacedLemmas.{first_placed, contains_cases, placed_stands}
 
 pub end_of_held : (id : FileId) (format : LogFileFormat) (records : List Placed) (at : ℕ) (bytes : List ℕ) → HoldsRecords id format records at bytes → end_of_records (header_len format.version) records ≡ at
@@ -42,7 +42,7 @@ in_behind : (id : FileId) (format : LogFileFormat) (records : List Placed) (at :
 in_behind id format records at bytes holds r has =
     let behind = records_behind id format bytes at in (
       subst (λ all. Contains all r) (sym (readable-held id format records at bytes holds)) (Contains-append_right records behind r has),
-      (placed_stands (records_stay format.alignment (signature_by id format) bytes) (length bytes) at behind refl r has).behind,
+      (placed_stands (records_stay id format bytes) (length bytes) at behind refl r has).behind,
     )
 
 -- what is read is one of them or stands behind them
@@ -60,7 +60,7 @@ pub ends_in_held : (id : FileId) (format : LogFileFormat) (records : List Placed
 ends_in_held id format records at bytes holds r has =
     let front = take at bytes in
     let is = reading_is id front (record { format = format; records = records; end = at }) holds.read in
-    let stands = placed_stands (records_stay format.alignment (signature_by id format) front) (length front) (header_len format.version) records (sym is.records) r has in
+    let stands = placed_stands (records_stay id format front) (length front) (header_len format.version) records (sym is.records) r has in
     omega (arith, stands.before, is.end)
 
 only_one : (rs : List Placed) (r : Placed) → length rs ≤ 1 → Contains rs r → rs ≡ r ∷ []
@@ -72,18 +72,17 @@ only_one (x ∷ []) r few has = elim (contains_cases x r [] has) [
 only_one (x ∷ y ∷ rs) r few has = absurd (omega (arith, few))
 
 -- where all that is read is among at most one record, no second is read
-beginning_of_one : (alignment : ℕ) (signature : Option ℕ) (bytes : List ℕ) (n at : ℕ) (left others : List Placed) → length others ≤ 1 → IsBeginningOf left (records_from n alignment signature bytes at) → ((r : Placed) → Contains left r → Contains others r) → IsBeginningOf left others
-beginning_of_one alignment signature bytes n at [] others few begins among = (others, refl)
-beginning_of_one alignment signature bytes n at (r ∷ []) others few begins among = ([], only_one others r few (among r (0, omega arith, refl)))
-beginning_of_one alignment signature bytes n at (r ∷ q ∷ left) others few begins among =
-    let stays = records_stay alignment signature bytes in
+beginning_of_one : (id : FileId) (format : LogFileFormat) (bytes : List ℕ) (at : ℕ) (left others : List Placed) → length others ≤ 1 → IsBeginningOf left (records_behind id format bytes at) → ((r : Placed) → Contains left r → Contains others r) → IsBeginningOf left others
+beginning_of_one id format bytes at [] others few begins among = (others, refl)
+beginning_of_one id format bytes at (r ∷ []) others few begins among = ([], only_one others r few (among r (0, omega arith, refl)))
+beginning_of_one id format bytes at (r ∷ q ∷ left) others few begins among =
+    let stays = records_stay id format bytes in
     let further = q ∷ left ++ begins.0 in
-    let first = first_placed (record_place alignment bytes) (record_at signature bytes) n at r further begins.1 in
+    let first = first_placed (next_record id format bytes) (length bytes) at r further begins.1 in
     let second = placed_stands stays first.limit (r.at + r.len) further (sym first.others) q (0, omega arith, refl) in
     let both : r ∷ [] ≡ q ∷ [] = sym (only_one others r few (among r (0, omega arith, refl))) ∙ only_one others q few (among q (1, omega arith, refl)) in
     let same : r ≡ q = cc (both) in
-    let found = found_record signature bytes r.at r.batch r.len first.is in
-    absurd (omega (arith, found.2, second.behind, ap (λ (p : Placed). p.at) same))
+    absurd (omega (arith, stays.found at r first.is, second.behind, ap (λ (p : Placed). p.at) same))
 
 -- where at most one record is done behind these, a crash leaves a beginning of all
 pub left_of_torn : (id : FileId) (format : LogFileFormat) (by : Option ℕ) (records others : List Placed) (at : ℕ) (bytes : List ℕ) (renamed : Option ℕ) (changes : List Change) → HoldsRecords id format records at bytes → length others ≤ 1 →
@@ -100,7 +99,7 @@ left_of_torn id format by records others at bytes renamed changes holds few only
           let is = in_behind id format records at bytes holds r (subst (λ all. Contains all r) (sym further.2.1) (Contains-append_left rest further.2.0 r has)) in
           let in_left = subst (λ all. Contains all r) (sym further.1) (Contains-append_right records rest r has) in
           only r is.0 is.1 (read.done r in_left) (read.fresh r in_left) in
-          let first : IsBeginningOf rest others = beginning_of_one format.alignment (signature_by id format) bytes (length bytes) at rest others few further.2 among in
+          let first : IsBeginningOf rest others = beginning_of_one id format bytes at rest others few further.2 among in
           (first.0, ap (λ rs. records ++ rs) first.1 ∙ sym (append_assoc records rest first.0) ∙ ap (λ rs. rs ++ first.0) (sym further.1))
     ]
 

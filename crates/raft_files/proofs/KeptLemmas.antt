@@ -1,7 +1,7 @@
 -- What a crash leaves of the log file at a path, whatever calls change it.
 use Rattle.std.proofs.Common.{◌≡◌, ℕ, ◌≤◌, List, [], ◌∷◌, ◌++◌, length, take, Option, Some, None, is_some, cond, true, map, refl, ap, sym, subst, ◌∙◌, inl, inr, arith}
 use Rattle.std.specs.Prelude.{option_map}
-use Rattle.std.proofs.lemmas.List.{append-nil, map-append, take_all, take-append-le, length-take, length-take-le}
+use Rattle.std.proofs.lemmas.List.{append-nil, map-append, take_all, take-take, take-append-le, length-take-le}
 use Rattle.std.proofs.lemmas.Bool.{eq-eqb}
 use Rattle.raft_records.specs.Item.{Batch}
 use Rattle.raft_base.specs.declared.pipe_log.FileId.{FileId}
@@ -9,9 +9,9 @@ use Rattle.raft_files.specs.declared.format.LogFileFormat.{LogFileFormat}
 use Rattle.raft_files.specs.Header.{header_bytes, header_len}
 use Rattle.raft_env.specs.Outcomes.{File, Change, resized, cut_to, synced_of, settled, bytes_behind}
 use Rattle.raft_env.specs.Directory.{Directory, Left, Path, file_at, placed, created, changed, changed_at, IsOneOf, IsTruncating, IsRestarted}
-use Rattle.raft_files.specs.Reading.{Placed, Reading, records_behind, end_of_records, reading, records_of, readable_records, readable_batches, end_of, end_of_reading, ends_with, is_read_to_end}
-use Rattle.raft_files.specs.Detectable.{IsBeginningOf, format_of, signature_by, AreReadBehind, IsDetectable}
-use Rattle.raft_files.specs.Records.{ReadsFirst, KeepsRecords, HoldsRecords, HasLog, HasTornLog, left_of, left_bytes, FirstOf, KeepsLog, KeepsNone, HoldsNothing, IsKept}
+use Rattle.raft_files.specs.Reading.{Placed, Reading, records_behind, end_of_records, reading, records_of, readable_records, readable_batches, end_of_reading, ends_with, is_read_to_end}
+use Rattle.raft_files.specs.Detectable.{IsBeginningOf, signature_by, IsDetectable}
+use Rattle.raft_files.specs.Records.{AreReadBehind, ReadsFirst, KeepsRecords, HoldsRecords, IsWrittenTo, HasLog, HasTornLog, left_of, left_bytes, FirstOf, KeepsLog, KeepsNone, HoldsNothing, IsKept}
 use Rattle.raft_files.specs.Writer.{HasChanged, IsOpening, IsAppending, IsCutting, IsSynced, IsSyncing, IsClosing, capacity_for, bytes_of, bytes_at}
 use Rattle.raft_files.proofs.DetectableLemmas.{beginning_trans, beginning_append, beginning_take}
 use Rattle.raft_env.proofs.DirectoryLemmas.{file_at-placed_same}
@@ -20,8 +20,11 @@ use Rattle.raft_files.proofs.HeldLemmas.{reading-held, format_of_read}
 use Rattle.raft_files.proofs.RecordsLemmas.{keeps_batches, keeps_weaker}
 use Rattle.raft_files.proofs.FreshLemmas.{header_len_within, readable_records-short}
 use Rattle.raft_files.proofs.NoneLemmas.{none_left, read_of_bytes, only_moment, none_settled, none_synced, none_appending}
-use Rattle.raft_files.proofs.TruncationLemmas.{header_within, end_of_read_within, reading-cut, keeps_cut, none_cut}
-use Rattle.raft_files.proofs.LogLemmas.{count_of, stands_after, log_cutting, torn_log_cutting, log_found}
+use Rattle.raft_files.proofs.TruncationLemmas.{reading-cut, keeps_cut, none_cut}
+use Rattle.raft_files.proofs.ReadingLemmas.{header_within, end_of_read_within}
+use Rattle.raft_files.proofs.LogLemmas.{count_of, torn_of_log, torn_log_cutting}
+use Rattle.raft_files.proofs.SyncLemmas.{written_to_whole}
+use Rattle.raft_files.proofs.ChangedLemmas.{stands_after}
 
 -- What a crash then leaves.
 
@@ -209,15 +212,13 @@ module _ (path : Path) (old new : Directory) (id : FileId) (format : LogFileForm
   pub log_syncing_kept : HasLog path id format batches synced at old → HasChanged path IsSyncing old new → IsKept path id batches synced new
   log_syncing_kept log change = kept_syncing path id batches synced old new change (log_kept path id format batches synced at old log)
 
-  pub log_closing_kept : HasLog path id format batches synced at old → HasChanged path (IsClosing at) old new → IsKept path id batches synced new
-  log_closing_kept log change =
-      let mid = placed path change.how.0 old in
-      then_synced batches change (log_kept path id format batches synced at mid (log_cutting path old mid id format batches synced at log (halfway change)))
-
   pub torn_log_closing_kept : (in_flight : List Batch) → HasTornLog path id format batches in_flight synced at old → HasChanged path (IsClosing at) old new → IsKept path id (batches ++ in_flight) synced new
   torn_log_closing_kept in_flight log change =
       let mid = placed path change.how.0 old in
       then_synced (batches ++ in_flight) change (torn_log_kept path id format batches in_flight synced at mid (torn_log_cutting path old mid id format batches in_flight synced at log (halfway change)))
+
+  pub log_closing_kept : HasLog path id format batches synced at old → HasChanged path (IsClosing at) old new → IsKept path id batches synced new
+  log_closing_kept log change = subst (λ bs. IsKept path id bs synced new) (append-nil batches) (torn_log_closing_kept [] (torn_of_log path old new id format batches synced at log) change)
 
 -- Moments of an opening.
 
@@ -279,28 +280,17 @@ module _ (path : Path) (id : FileId) (batches : List Batch) (synced : ℕ) (old 
 
 -- What is found and cut where the reading ends.
 
--- it has the same batches
-pub readable_batches-cut : (id : FileId) (bytes : List ℕ) → readable_batches id (take (end_of_reading id bytes) bytes) ≡ readable_batches id bytes
-readable_batches-cut id bytes = by_reading (reading id bytes) refl
-  where
-    batches_of : Option Reading → List Batch
-    batches_of read = map (λ (p : Placed). p.batch) (records_of read)
-
-    by_reading : (read : Option Reading) → reading id bytes ≡ read → batches_of (reading id (take (end_of read) bytes)) ≡ batches_of read
-    by_reading None e = ap (λ rs. map (λ (p : Placed). p.batch) rs) (readable_records-short id (take 0 bytes) (omega (arith, length-take 0 bytes)))
-    by_reading (Some r) e = ap batches_of (reading-cut id bytes r e)
-
--- .. and is read to its end
+-- it is read to its end
 pub read_to_end-cut : (id : FileId) (bytes : List ℕ) (r : Reading) → reading id bytes ≡ Some r → is_read_to_end id (take r.end bytes) ≡ true
 read_to_end-cut id bytes r e =
     let len : length (take r.end bytes) ≡ r.end = length-take-le r.end bytes (end_of_read_within id bytes r e) in
     ap (λ read. ends_with (length (take r.end bytes)) read) (reading-cut id bytes r e) ∙ eq-eqb r.end (length (take r.end bytes)) (sym len)
 
-pub bytes_truncated : (path : Path) (size : ℕ) (old new : Directory) → new ≡ changed path (λ f. resized true (take size f.now) f) old → bytes_at path new ≡ take size (bytes_at path old)
+pub bytes_truncated : (path : Path) (size : ℕ) (old new : Directory) → new ≡ changed path (λ f. resized (take size f.now) f) old → bytes_at path new ≡ take size (bytes_at path old)
 bytes_truncated path size old new is = by_file (file_at old path) refl
   where
     cut : File → File
-    cut f = resized true (take size f.now) f
+    cut f = resized (take size f.now) f
 
     by_file : (found : Option File) → file_at old path ≡ found → bytes_at path new ≡ take size (bytes_of found)
     by_file None e =
@@ -317,12 +307,20 @@ pub log_found_cut : (path : Path) (id : FileId) (r : Reading) (old cut new : Dir
 log_found_cut path id r old cut new e is change =
     let bytes = bytes_at path old in
     let found = readable_batches id bytes in
-    let header : format_of (bytes_at path cut) ≡ Some r.format = ap format_of is ∙ format_of_read id (take r.end bytes) r (reading-cut id bytes r e) in
-    let to_end : is_read_to_end id (bytes_at path cut) ≡ true = ap (is_read_to_end id) is ∙ read_to_end-cut id bytes r e in
-    let same : readable_batches id (bytes_at path cut) ≡ found = ap (readable_batches id) is ∙ ap (λ n. readable_batches id (take n bytes)) (sym (ap end_of e)) ∙ readable_batches-cut id bytes in
-    let len : length (bytes_at path cut) ≡ r.end = ap length is ∙ length-take-le r.end bytes (end_of_read_within id bytes r e) in
-    subst (λ at. HasLog path id r.format found (length found) at new) len
-    (subst (λ bs. HasLog path id r.format bs (length bs) (length (bytes_at path cut)) new) same (log_found path cut new id r.format header to_end change))
+    let file = change.before in
+    let now : file.now ≡ take r.end bytes = sym (ap bytes_of change.was) ∙ is in
+    let len : length (take r.end bytes) ≡ r.end = length-take-le r.end bytes (end_of_read_within id bytes r e) in
+    let held : HoldsRecords id r.format r.records r.end (take r.end bytes) = record { within = omega arith; read = ap (reading id) (take-take r.end r.end bytes (omega arith)) ∙ reading-cut id bytes r e } in
+    let written = written_to_whole id r.format r.records r.end file (subst (HoldsRecords id r.format r.records r.end) (sym now) held) (omega (arith, ap length now, len)) in
+    let holds : map (λ (p : Placed). p.batch) r.records ≡ found = sym (ap (λ q. map (λ (p : Placed). p.batch) (records_of q)) e) in
+    record {
+      file = change.after;
+      stands = stands_after path cut new IsSynced change;
+      records = r.records;
+      holds = holds;
+      written = subst (λ n. IsWrittenTo id r.format r.records n r.end change.after) (count_of r.records found holds)
+          (subst (IsWrittenTo id r.format r.records (length r.records) r.end) (sym change.how) written);
+    }
 
 pub bytes_synced : (path : Path) (old new : Directory) → HasChanged path IsSynced old new → bytes_at path new ≡ bytes_at path old
 bytes_synced path old new change = ap bytes_of (stands_after path old new IsSynced change) ∙ ap (λ (f : File). f.now) change.how ∙ sym (ap bytes_of change.was)

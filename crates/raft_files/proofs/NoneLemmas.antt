@@ -1,18 +1,18 @@
 -- Files of which a crash leaves no record.
-use Rattle.std.proofs.Common.{◌≡◌, ℕ, ◌≤◌, true, false, List, [], ◌∷◌, ◌++◌, length, Option, Some, None, map, refl, ap, sym, subst, ◌∙◌, inl, inr, arith, ltb}
+use Rattle.std.proofs.Common.{◌≡◌, ◌⊎◌, ℕ, ◌≤◌, List, [], ◌∷◌, ◌++◌, length, Option, Some, None, map, refl, ap, sym, subst, ◌∙◌, inl, inr, arith, ltb}
 use Rattle.std.proofs.lemmas.Bool.{cases_Bool}
 use Rattle.raft_base.specs.declared.pipe_log.FileId.{FileId}
 use Rattle.raft_files.specs.declared.format.LogFileFormat.{LogFileFormat}
 use Rattle.raft_files.specs.Header.{header_bytes, header_len}
-use Rattle.raft_env.specs.Outcomes.{File, Change, IsPartOf, overlaid, written, changed_by, synced_of, settled, bytes_behind}
+use Rattle.raft_env.specs.Outcomes.{File, Change, IsPartOf, overlaid, written, changed_by, synced_of, settled, bytes_behind, lengthened_change, written_change}
 use Rattle.raft_files.specs.Reading.{Placed, readable_records, readable_batches}
-use Rattle.raft_files.specs.Detectable.{IsBeginningOf, format_of, signature_by, AreReadAt, AreReadBehind, IsDetectableFile}
-use Rattle.raft_files.specs.Records.{KeepsNone}
+use Rattle.raft_files.specs.Detectable.{IsBeginningOf, format_of, signature_by, IsDetectableFile}
+use Rattle.raft_files.specs.Records.{AreReadAt, AreReadBehind, KeepsNone}
 use Rattle.raft_files.specs.Writer.{IsStep, IsLengthened, IsAppending, capacity_for}
 use Rattle.raft_files.proofs.HeaderLemmas.{length-header_bytes}
-use Rattle.raft_env.proofs.ChangeLemmas.{lengthened_change, written_change}
 use Rattle.raft_files.proofs.RecordsLemmas.{readable_without_header}
-use Rattle.raft_files.proofs.FreshLemmas.{header_len_within, readable_records-short, length-padded, length-overlaid}
+use Rattle.raft_files.proofs.PartLemmas.{lengthened_part, write_part}
+use Rattle.raft_files.proofs.FreshLemmas.{header_len_within, readable_records-short}
 
 -- what a crash then leaves has no batch
 pub none_left : (id : FileId) (file : File) (left : List ℕ) → KeepsNone id file → IsDetectableFile id file left → readable_batches id left ≡ []
@@ -66,31 +66,11 @@ none_more id file c none moment = record { latest = refl; moments = moments }
     moments [] upto e = subst Nothing e moment
     moments (x ∷ newer) upto e = none.moments newer upto (cc)
 
--- a file that has no room for a record now, nor had a record that a crash may leave
-pub record KeepsNoneShort (id : FileId) (file : File) : Type 0 where
-  pub none : KeepsNone id file
-  pub short : length file.now ≤ 69
-
-short_more : (id : FileId) (file : File) (c : Change) → KeepsNone id file → length c.after ≤ 69 → KeepsNoneShort id (changed_by c file)
-short_more id file c none short = record {
-  none = none_more id file c none (λ format left read. nothing_of _ left (readable_records-short id c.after short) read.beginning);
-  short = short;
-}
-
-lengthened_short : (id : FileId) (room new_room : ℕ) (old new : File) → new_room ≤ 69 → KeepsNoneShort id old → IsLengthened room new_room old new → KeepsNoneShort id new
-lengthened_short id room new_room old new within short (inl same) = subst (KeepsNoneShort id) (sym same) short
-lengthened_short id room new_room old new within short (inr (grows, inl same)) = subst (KeepsNoneShort id) (sym same) short
-lengthened_short id room new_room old new within short (inr (grows, inr (after, true, done, is))) =
-    subst (KeepsNoneShort id) (sym is) (short_more id old (lengthened_change new_room true after old.now) short.none (omega (arith, short.short, ap length done, length-padded old.now new_room)))
-lengthened_short id room new_room old new within short (inr (grows, inr (after, false, part, is))) =
-    subst (KeepsNoneShort id) (sym is) (short_more id old (lengthened_change new_room false after old.now) short.none (omega (arith, short.short, part.no_longer)))
-
-step_short : (id : FileId) (given : List ℕ) (old new : File) → length given ≤ 69 → KeepsNoneShort id old → IsStep (written 0 given) (λ now. overlaid now 0 given) (IsPartOf 0 (length given)) old new → KeepsNoneShort id new
-step_short id given old new within short (inl same) = subst (KeepsNoneShort id) (sym same) short
-step_short id given old new within short (inr (after, true, done, is)) =
-    subst (KeepsNoneShort id) (sym is) (short_more id old (written_change 0 given true after old.now) short.none (omega (arith, short.short, ap length done, length-overlaid old.now given)))
-step_short id given old new within short (inr (after, false, part, is)) =
-    subst (KeepsNoneShort id) (sym is) (short_more id old (written_change 0 given false after old.now) short.none (omega (arith, short.short, part.no_longer)))
+-- a file that has no room for a record once it has one change more
+none_short : (id : FileId) (old new : File) → KeepsNone id old → length new.now ≤ 69 → (new ≡ old) ⊎ ((c : Change) × (new ≡ changed_by c old)) → KeepsNone id new
+none_short id old new none short (inl same) = subst (KeepsNone id) (sym same) none
+none_short id old new none short (inr (c, is)) =
+    subst (KeepsNone id) (sym is) (none_more id old c none (λ format left read. nothing_of _ left (readable_records-short id c.after (omega (arith, short, ap (λ (f : File). length f.now) is))) read.beginning))
 
 room_of_header : (format : LogFileFormat) (size : ℕ) → size ≤ header_len format.version → capacity_for (header_len format.version) 0 size ≤ 69
 room_of_header format size within = elim (cases_Bool (ltb size (header_len format.version))) [
@@ -103,7 +83,19 @@ pub none_appending : (id : FileId) (format : LogFileFormat) (old new : File) →
     IsAppending (length old.now) (capacity_for (header_len format.version) 0 (length old.now)) 0 (header_bytes format) old new → KeepsNone id new
 none_appending id format old new within none how =
     let len : length (header_bytes format) ≡ header_len format.version = length-header_bytes format.version format.alignment in
+    let room = capacity_for (header_len format.version) 0 (length old.now) in
+    let fits = room_of_header format (length old.now) within in
+    let first = lengthened_part (length old.now) room old how.0 how.1 in
+    let part = write_part 0 (header_bytes format) how.0 new how.2 in
     let most = (header_len_within format.version).1 in
-    let start : KeepsNoneShort id old = record { none = none; short = omega (arith, most) } in
-    let mid = lengthened_short id (length old.now) (capacity_for (header_len format.version) 0 (length old.now)) old how.0 (room_of_header format (length old.now) within) start how.1 in
-    (step_short id (header_bytes format) how.0 new (omega (arith, len, most)) mid how.2).none
+    let mid = none_short id old how.0 none (omega (arith, first.no_longer, most)) (lengthened_once how.1) in
+    none_short id how.0 new mid (omega (arith, first.no_longer, part.no_longer, len, most)) (written_once how.2)
+  where
+    lengthened_once : {room : ℕ} {mid : File} → IsLengthened (length old.now) room old mid → (mid ≡ old) ⊎ ((c : Change) × (mid ≡ changed_by c old))
+    lengthened_once (inl same) = inl same
+    lengthened_once (inr (grows, inl same)) = inl same
+    lengthened_once {room} (inr (grows, inr (after, is_done, outcome, is))) = inr (lengthened_change room is_done after old.now, is)
+
+    written_once : {mid : File} → IsStep (written 0 (header_bytes format)) (λ now. overlaid now 0 (header_bytes format)) (IsPartOf 0 (length (header_bytes format))) mid new → (new ≡ mid) ⊎ ((c : Change) × (new ≡ changed_by c mid))
+    written_once (inl same) = inl same
+    written_once {mid} (inr (after, is_done, outcome, is)) = inr (written_change 0 (header_bytes format) is_done after mid.now, is)

@@ -2,19 +2,18 @@
 use Rattle.std.proofs.Common.{◌≡◌, ℕ, ◌≤◌, ◌==◌, min, cond, List, [], ◌∷◌, ◌++◌, length, take, Option, Some, None, map, refl, ap, sym, subst, ◌∙◌, inl, inr, arith}
 use Rattle.std.specs.Prelude.{option_map}
 use Rattle.std.proofs.lemmas.Bool.{cases_Bool}
-use Rattle.std.proofs.lemmas.List.{take-take, take-append-le, length-append, length-take, length-take-le, take-map, length-map}
+use Rattle.std.proofs.lemmas.List.{take-take, take-append-le, length-take, length-take-le, take-map, length-map}
 use Rattle.raft_records.specs.Item.{Batch}
 use Rattle.raft_base.specs.declared.pipe_log.FileId.{FileId}
 use Rattle.raft_files.specs.declared.format.LogFileFormat.{LogFileFormat}
 use Rattle.raft_files.specs.Header.{header_len, header_of}
 use Rattle.raft_env.specs.Outcomes.{File, Change, untouched_len, changed_by}
 use Rattle.raft_env.specs.Directory.{Directory, Left, Path, file_at}
-use Rattle.raft_files.specs.Reading.{Placed, end_of_records, Reading, records_behind, records_in, reading_behind, records_of, readable_records, readable_batches}
-use Rattle.raft_files.specs.Detectable.{IsBeginningOf, format_of, signature_by, AreReadAt, AreReadBehind, IsDetectableFile, IsDetectable}
-use Rattle.raft_files.specs.Records.{ReadsFirst, KeepsRecords, HasNothingFrom, HoldsRecords, FirstOf}
+use Rattle.raft_files.specs.Reading.{Placed, end_of_records, Reading, records_behind, reading_in, records_of, readable_records, readable_batches}
+use Rattle.raft_files.specs.Detectable.{IsBeginningOf, format_of, signature_by, IsDetectableFile, IsDetectable}
+use Rattle.raft_files.specs.Records.{AreReadAt, AreReadBehind, ReadsFirst, KeepsRecords, HasNothingFrom, HoldsRecords, FirstOf}
 use Rattle.raft_files.proofs.DetectableLemmas.{beginning_trans, beginning_append, beginning_take, beginning_length, beginning_is}
-use Rattle.raft_files.proofs.ExtentLemmas.{header_of_takes}
-use Rattle.raft_files.proofs.ReadingLemmas.{end_of_placed-within, records_stay, reading_is, reading-kept}
+use Rattle.raft_files.proofs.ReadingLemmas.{records_stay, reading_is, reading-kept, end_of_read_within}
 use Rattle.raft_files.proofs.PlacedLemmas.{end_of_front}
 use Rattle.raft_files.proofs.HeldLemmas.{format_of-held, left_of_held}
 
@@ -22,15 +21,10 @@ use Rattle.raft_files.proofs.HeldLemmas.{format_of-held, left_of_held}
 
 pub reads_first-within : (id : FileId) (format : LogFileFormat) (records : List Placed) (bytes : List ℕ) → ReadsFirst id format records bytes → end_of_records (header_len format.version) records ≤ length bytes
 reads_first-within id format records bytes reads =
-    let is = reading_is id bytes (record { format = format; records = reads.all; end = reads.end }) reads.read in
-    let from = header_len format.version in
-    let stays = records_stay format.alignment (signature_by id format) bytes in
-    let all : records_in id format bytes ≡ records ++ reads.first.0 = sym is.records ∙ reads.first.1 in
-    let front = end_of_front stays (length bytes) from records reads.first.0 all in
-    let taken = header_of_takes bytes format is.rest is.header in
-    let long : from ≤ length bytes = omega (arith, taken.long, ap length taken.whole, length-append taken.front is.rest) in
-    let within = end_of_placed-within stays (length bytes) from long in
-    omega (arith, front, within, ap (λ rs. end_of_records from rs) all)
+    let r : Reading = record { format = format; records = reads.all; end = reads.end } in
+    let is = reading_is id bytes r reads.read in
+    let front = end_of_front (records_stay id format bytes) (length bytes) (header_len format.version) records reads.first.0 (sym is.records ∙ reads.first.1) in
+    omega (arith, front, end_of_read_within id bytes r reads.read, is.end, ap (λ rs. end_of_records (header_len format.version) rs) reads.first.1)
 
 pub reads_first-kept : (id : FileId) (format : LogFileFormat) (records : List Placed) (last : ℕ) (a b : List ℕ) → ReadsFirst id format records a → take last a ≡ take last b → end_of_records (header_len format.version) records ≤ last → ReadsFirst id format records b
 reads_first-kept id format records last a b reads same within =
@@ -90,13 +84,10 @@ keeps_held id format old new all synced at file c keeps more holds nothing first
 -- the synced records end before the place of the writer
 pub synced_within : (id : FileId) (format : LogFileFormat) (records : List Placed) (synced at : ℕ) (bytes : List ℕ) → HoldsRecords id format records at bytes → end_of_records (header_len format.version) (take synced records) ≤ at
 synced_within id format records synced at bytes holds =
-    let r : Reading = record { format = format; records = records; end = at } in
-    let is = reading_is id (take at bytes) r holds.read in
-    let from = header_len format.version in
     let front = beginning_take synced records in
-    let stays = records_stay format.alignment (signature_by id format) (take at bytes) in
-    let before = end_of_front stays (length (take at bytes)) from (take synced records) front.0 (sym is.records ∙ front.1) in
-    omega (arith, before, ap (λ rs. end_of_records from rs) front.1, is.end)
+    let is = reading_is id (take at bytes) (record { format = format; records = records; end = at }) holds.read in
+    let before = end_of_front (records_stay id format (take at bytes)) (length (take at bytes)) (header_len format.version) (take synced records) front.0 (sym is.records ∙ front.1) in
+    omega (arith, before, ap (λ rs. end_of_records (header_len format.version) rs) front.1, is.end)
 
 -- more records are allowed, and fewer of them are synced
 pub keeps_weaker : (id : FileId) (format : LogFileFormat) (records all : List Placed) (synced fewer : ℕ) (file : File) → KeepsRecords id format records synced file → IsBeginningOf records all → fewer ≤ synced → KeepsRecords id format all fewer file
@@ -122,7 +113,7 @@ keeps_weaker id format records all synced fewer file keeps more less = record {
 pub readable_without_header : (id : FileId) (bytes : List ℕ) → format_of bytes ≡ None → readable_records id bytes ≡ []
 readable_without_header id bytes none = by_header (header_of bytes) none
   where
-    by_header : (header : Option (LogFileFormat × List ℕ)) → option_map (λ (h : LogFileFormat × List ℕ). h.0) header ≡ None → records_of (reading_behind id bytes header) ≡ []
+    by_header : (header : Option (LogFileFormat × List ℕ)) → option_map (λ (h : LogFileFormat × List ℕ). h.0) header ≡ None → records_of (option_map (λ (h : LogFileFormat × List ℕ). reading_in id h.0 bytes) header) ≡ []
     by_header None e = refl
     by_header (Some h) e = cc
 

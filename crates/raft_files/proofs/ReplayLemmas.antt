@@ -1,13 +1,13 @@
 -- What a replay takes of a file, and what can be read of it.
-use Rattle.std.proofs.Common.{◌≡◌, ℕ, zero, suc, ◌+◌, ◌-◌, ◌≤◌, ◌&&◌, not, Bool, true, false, cond, List, [], ◌∷◌, length, take, drop, Option, Some, None, option_and_then, refl, ap, sym, subst, ◌∙◌, arith, ltb, length-drop}
-use Rattle.std.specs.Prelude.{◌||◌}
+use Rattle.std.proofs.Common.{◌≡◌, ℕ, zero, suc, ◌+◌, ◌-◌, ◌&&◌, not, Bool, true, false, cond, List, [], ◌∷◌, length, take, drop, Option, Some, None, option_and_then, refl, ap, sym, ◌∙◌, inl, inr, arith, length-drop}
+use Rattle.std.specs.Prelude.{◌||◌, option_map}
 use Rattle.std.specs.List.{take_while}
-use Rattle.std.proofs.lemmas.Bool.{eqb-true, ltb-false}
+use Rattle.std.proofs.lemmas.Bool.{cases_Bool, eqb-true}
 use Rattle.std.proofs.lemmas.List.{length-take-le}
 use Rattle.std.proofs.lemmas.List.Sums.{take_while-cons}
 use Rattle.raft_records.specs.Item.{Batch}
 use Rattle.raft_records.specs.ItemBatch.{are_key_values, compressed_refusal, parts_refusal, record_refusal}
-use Rattle.raft_records.specs.Record.{Header, Parts, Stored, batch_by, fills_block, footer_items, is_block, is_lz4_block, items_from, parts_by, record_header, record_of, record_parts}
+use Rattle.raft_records.specs.Record.{Parts, batch_by, fills_block, is_block, is_lz4_block, items_from, record_header, record_of, record_parts}
 use Rattle.raft_records.specs.Replay.{replayed_by, replayed_record}
 use Rattle.raft_base.specs.declared.errors.Fault.{Fault}
 use Rattle.raft_base.specs.declared.errors.Fault.TheVariants as fault
@@ -15,41 +15,12 @@ use Rattle.raft_base.specs.declared.pipe_log.FileId.{FileId}
 use Rattle.raft_base.specs.FileId.{signature_in}
 use Rattle.raft_records.proofs.ItemBatchLemmas.{fills_block_of_key_values}
 use Rattle.raft_files.specs.Header.{header_len, header_of}
-use Rattle.raft_files.specs.Reading.{Placed, placed_before, placed_by, readable_records, reading_behind, record_at, record_place, records_behind, records_of}
-use Rattle.raft_files.specs.Replay.{block_behind, has_sound_block_at, replayed_at, replayed_behind, replayed_in, replayed_records}
+use Rattle.raft_files.specs.Reading.{Placed, placed_by, readable_records, reading_in, record_at, record_place, next_record, records_behind, records_of}
+use Rattle.raft_files.specs.Replay.{block_behind, has_sound_block_at, next_replayed, replayed_at, replayed_behind, replayed_in, replayed_records}
 use Rattle.raft_files.specs.declared.format.LogFileFormat.{LogFileFormat}
-use Rattle.raft_files.proofs.ExtentLemmas.{record_header_is, same_some, some_if_true, some_then}
-use Rattle.raft_files.proofs.ReadingLemmas.{StaysBefore, records_stay}
-
--- The parts of a record.
-
--- what stands where a record's parts were found
-record ArePartsOf (bytes : List ℕ) (p : Parts) : Type 0 where
-  pub header : record_header bytes ≡ Some p.header
-  pub within : p.header.len ≤ length bytes
-  pub block : block_behind bytes (record_header bytes) ≡ p.block
-  pub fills : (is_lz4_block p.header.is_lz4 (p.header.footer - 16) || fills_block p.items (p.header.footer - 16)) ≡ true
-
-parts_made : (short : Bool) (found : Option (List (ℕ × Stored))) (fills : List (ℕ × Stored) → Bool) (header : Header) (block : List ℕ) (parts : Parts) →
-    cond short None (option_and_then (λ items. cond (fills items) (Some (record { header = header; items = items; block = block })) None) found) ≡ Some parts →
-    (short ≡ false) × (fills parts.items ≡ true) × (header ≡ parts.header) × (block ≡ parts.block)
-parts_made true found fills header block parts e = cc
-parts_made false None fills header block parts e = cc
-parts_made false (Some items) fills header block parts e =
-    let is = some_if_true (fills items) (record { header = header; items = items; block = block }) parts e in
-    (refl, ap fills (sym (ap (λ (p : Parts). p.items) is.1)) ∙ is.0, ap (λ (p : Parts). p.header) is.1, ap (λ (p : Parts). p.block) is.1)
-
-parts_there : (signature : Option ℕ) (bytes : List ℕ) (p : Parts) → record_parts signature bytes ≡ Some p → ArePartsOf bytes p
-parts_there signature bytes p e =
-    let found = some_then (parts_by signature bytes) (record_header bytes) p e in
-    let header = found.0 in
-    let made = parts_made (ltb (length bytes) header.len) (footer_items signature (drop header.footer (take header.len bytes))) (λ items. is_lz4_block header.is_lz4 (header.footer - 16) || fills_block items (header.footer - 16)) header (take (header.footer - 16) (drop 16 bytes)) p found.2 in
-    record {
-      header = found.1 ∙ ap Some made.2;
-      within = subst (λ (h : Header). h.len ≤ length bytes) made.2 (ltb-false (length bytes) header.len made.0);
-      block = ap (block_behind bytes) found.1 ∙ made.3;
-      fills = subst (λ (h : Header). (is_lz4_block h.is_lz4 (h.footer - 16) || fills_block p.items (h.footer - 16)) ≡ true) made.2 made.1;
-    }
+use Rattle.raft_files.proofs.ExtentLemmas.{parts_there, some_if, record_header_is, same_some, some_then}
+use Rattle.raft_files.proofs.ReadingLemmas.{placed_there, record_place-forward}
+use Rattle.raft_files.proofs.PlacedLemmas.{StaysBefore, cases_next, first_placed}
 
 -- a record that isn't refused has no block
 accepted_block : (signature : Option ℕ) (bytes : List ℕ) → record_refusal signature bytes ≡ None → is_block (block_behind bytes (record_header bytes)) ≡ true
@@ -104,87 +75,75 @@ record_of-replayed_record signature bytes = by_parts (record_parts signature byt
         either (is_lz4_block p.header.is_lz4 (length p.block)) (is_block p.block) (items_from p.items p.block, p.header.len)
         ∙ ap (λ block. cond (is_block block) (replayed_by p) None) (sym is.block)
 
-record_at-replayed_at : (signature : Option ℕ) (bytes : List ℕ) (at : ℕ) → record_at signature bytes at ≡ cond (has_sound_block_at bytes at) (replayed_at signature bytes at) None
+record_at-replayed_at : (signature : Option ℕ) (bytes : List ℕ) (at : ℕ) → record_at signature bytes at ≡ option_and_then (λ p. cond (has_sound_block_at bytes p.at) (Some p) None) (replayed_at signature bytes at)
 unfolding record_at replayed_at
-record_at-replayed_at signature bytes at = record_of-replayed_record signature (drop at bytes)
+record_at-replayed_at signature bytes at = ap (option_map placed) (record_of-replayed_record signature (drop at bytes)) ∙ by_found (has_sound_block_at bytes) (replayed_record signature (drop at bytes))
+  where
+    placed : Batch × ℕ → Placed
+    placed x = record { at = at; len = x.1; batch = x.0 }
+
+    by_found : (sound : ℕ → Bool) (o : Option (Batch × ℕ)) → option_map placed (cond (sound at) o None) ≡ option_and_then (λ p. cond (sound p.at) (Some p) None) (option_map placed o)
+    by_found sound None = elim (cases_Bool (sound at)) [ inl is ↦ rw is refl | inr not_so ↦ rw not_so refl ]
+    by_found sound (Some x) = elim (cases_Bool (sound at)) [ inl is ↦ rw is refl | inr not_so ↦ rw not_so refl ]
 
 -- a record that can be read is taken by a replay
 pub replayed_of_record : (signature : Option ℕ) (bytes : List ℕ) (x : Batch × ℕ) → record_of signature bytes ≡ Some x → replayed_record signature bytes ≡ Some x
 replayed_of_record signature bytes x e =
-    some_if_sound (is_block (block_behind bytes (record_header bytes))) (replayed_record signature bytes) (sym (record_of-replayed_record signature bytes) ∙ e)
-  where
-    some_if_sound : (b : Bool) (o : Option (Batch × ℕ)) → cond b o None ≡ Some x → o ≡ Some x
-    some_if_sound true o e = e
-    some_if_sound false o e = cc
+    some_if (is_block (block_behind bytes (record_header bytes))) (replayed_record signature bytes) x (sym (record_of-replayed_record signature bytes) ∙ e)
 
 -- one search stops where what the other finds isn't sound
-placed_by-sound : (sound : ℕ → Bool) (place : ℕ → ℕ) (found found' : ℕ → Option (Batch × ℕ)) → ((at : ℕ) → found at ≡ cond (sound at) (found' at) None) →
-    (n at : ℕ) → placed_by n place found at ≡ take_while (λ p. sound p.at) (placed_by n place found' at)
-placed_by-sound sound place found found' same zero at = refl
-placed_by-sound sound place found found' same (suc n) at =
-    ap (λ o. placed_before (place at) o (placed_by n place found)) (same (place at)) ∙ by_found (sound (place at)) refl (found' (place at)) (placed_by-sound sound place found found' same n)
-  where
-    by_found : (b : Bool) → sound (place at) ≡ b → (o : Option (Batch × ℕ)) → ((from : ℕ) → placed_by n place found from ≡ take_while (λ p. sound p.at) (placed_by n place found' from)) →
-        placed_before (place at) (cond b o None) (placed_by n place found) ≡ take_while (λ p. sound p.at) (placed_before (place at) o (placed_by n place found'))
-    by_found true is None ih = refl
-    by_found false is None ih = refl
-    by_found true is (Some x) ih =
-        let first : Placed = record { at = place at; len = x.1; batch = x.0 } in
-        let rest = placed_by n place found' (place at + x.1) in
-        ap (λ ps. first ∷ ps) (ih (place at + x.1))
-        ∙ sym (ap (λ b. cond b (first ∷ take_while (λ (p : Placed). sound p.at) rest) []) is)
-        ∙ sym (take_while-cons (λ (p : Placed). sound p.at) first rest)
-    by_found false is (Some x) ih =
-        let first : Placed = record { at = place at; len = x.1; batch = x.0 } in
-        let rest = placed_by n place found' (place at + x.1) in
-        sym (ap (λ b. cond b (first ∷ take_while (λ (p : Placed). sound p.at) rest) []) is)
-        ∙ sym (take_while-cons (λ (p : Placed). sound p.at) first rest)
+placed_by-sound : (sound : ℕ → Bool) (next next' : ℕ → Option Placed) → ((at : ℕ) → next at ≡ option_and_then (λ p. cond (sound p.at) (Some p) None) (next' at)) →
+    (n at : ℕ) → placed_by n next at ≡ take_while (λ p. sound p.at) (placed_by n next' at)
+placed_by-sound sound next next' same zero at = refl
+placed_by-sound sound next next' same (suc n) at = elim (cases_next (next' at)) [
+  | inl none ↦ rw (same at, none) refl
+  | inr (p, some) ↦ rw (same at, some, take_while-cons (λ q. sound q.at) p (placed_by n next' (p.at + p.len))) (elim (cases_Bool (sound p.at)) [
+    | inl is ↦ rw is (ap (λ ps. p ∷ ps) (placed_by-sound sound next next' same n (p.at + p.len)))
+    | inr not_so ↦ rw not_so refl
+  ])
+]
 
 pub records_behind-replayed_behind : (id : FileId) (format : LogFileFormat) (bytes : List ℕ) (at : ℕ) →
     records_behind id format bytes at ≡ take_while (λ p. has_sound_block_at bytes p.at) (replayed_behind id format bytes at)
 records_behind-replayed_behind id format bytes at =
-    let signature = signature_in format.version id.seq in
-    placed_by-sound (has_sound_block_at bytes) (record_place format.alignment bytes) (record_at signature bytes) (replayed_at signature bytes) (record_at-replayed_at signature bytes) (length bytes) at
+    placed_by-sound (has_sound_block_at bytes) (next_record id format bytes) (next_replayed id format bytes)
+    (λ from. record_at-replayed_at (signature_in format.version id.seq) bytes (record_place format.alignment bytes from)) (length bytes) at
 
 pub readable_records-replayed_records : (id : FileId) (bytes : List ℕ) → readable_records id bytes ≡ take_while (λ p. has_sound_block_at bytes p.at) (replayed_records id bytes)
 readable_records-replayed_records id bytes = by_header (header_of bytes)
   where
-    by_header : (header : Option (LogFileFormat × List ℕ)) → records_of (reading_behind id bytes header) ≡ take_while (λ p. has_sound_block_at bytes p.at) (replayed_in id bytes header)
+    by_header : (header : Option (LogFileFormat × List ℕ)) → records_of (option_map (λ (h : LogFileFormat × List ℕ). reading_in id h.0 bytes) header) ≡ take_while (λ p. has_sound_block_at bytes p.at) (replayed_in id bytes header)
     by_header None = refl
     by_header (Some header) = records_behind-replayed_behind id header.0 bytes (header_len header.0.version)
 
 -- Where a replay goes on.
 
 -- what a replay takes at a place has bytes, and ends in the file
-pub replayed_stay : (alignment : ℕ) (signature : Option ℕ) (bytes : List ℕ) → StaysBefore (length bytes) (record_place alignment bytes) (replayed_at signature bytes)
+pub replayed_stay : (id : FileId) (format : LogFileFormat) (bytes : List ℕ) → StaysBefore (length bytes) (next_replayed id format bytes)
 unfolding replayed_at
-replayed_stay alignment signature bytes = record {
-  forward = (records_stay alignment signature bytes).forward;
-  within = λ at batch len e.
-      let parts = some_then replayed_by (record_parts signature (drop at bytes)) (batch, len) e in
-      let is = parts_there signature (drop at bytes) parts.0 parts.1 in
-      let has = record_header_is (drop at bytes) parts.0.header is.header in
-      let len_is = same_len (is_lz4_block parts.0.header.is_lz4 (length parts.0.block)) (items_from parts.0.items parts.0.block, parts.0.header.len) (batch, len) parts.2 in
-      (omega (arith, has.footer, has.len, len_is), omega (arith, has.footer, has.len, len_is, is.within, length-drop at bytes));
+replayed_stay id format bytes = record {
+  found = λ at p e.
+      let place = record_place format.alignment bytes at in
+      let signature = signature_in format.version id.seq in
+      let there = placed_there place (replayed_record signature (drop place bytes)) p e in
+      let parts = some_then replayed_by (record_parts signature (drop place bytes)) (p.batch, p.len) there.1 in
+      let is = parts_there signature (drop place bytes) parts.0 parts.1 in
+      let has = record_header_is (drop place bytes) parts.0.header is.header in
+      let len_is = same_len (is_lz4_block parts.0.header.is_lz4 (length parts.0.block)) (items_from parts.0.items parts.0.block, parts.0.header.len) (p.batch, p.len) parts.2 in
+      let forward = record_place-forward format.alignment bytes at in
+      (omega (arith, there.0, forward), omega (arith, has.footer, has.len, len_is), omega (arith, there.0, has.footer, has.len, len_is, is.within, length-drop place bytes));
 }
   where
     same_len : (lz4 : Bool) (x y : Batch × ℕ) → cond lz4 None (Some x) ≡ Some y → x.1 ≡ y.1
     same_len true x y e = cc
     same_len false x y e = ap (λ (z : Batch × ℕ). z.1) (same_some e)
 
--- a search finds its first where it looks first
-pub placed_by_first : (n : ℕ) (place : ℕ → ℕ) (found : ℕ → Option (Batch × ℕ)) (at : ℕ) (p : Placed) (ps : List Placed) → placed_by n place found at ≡ p ∷ ps → p.at ≡ place at
-placed_by_first zero place found at p ps e = cc
-placed_by_first (suc n) place found at p ps e = by_found (found (place at)) e
-  where
-    by_found : (o : Option (Batch × ℕ)) → placed_before (place at) o (placed_by n place found) ≡ p ∷ ps → p.at ≡ place at
-    by_found None e = cc
-    by_found (Some x) e = let there : record { at = place at; len = x.1; batch = x.0 } ≡ p = cc in ap (λ (q : Placed). q.at) (sym there)
-
 -- what a replay takes next has a sound block where it isn't refused
 pub accepted_is_sound : (id : FileId) (format : LogFileFormat) (bytes : List ℕ) (at : ℕ) (p : Placed) (ps : List Placed) → replayed_behind id format bytes at ≡ p ∷ ps →
     record_refusal (signature_in format.version id.seq) (drop (record_place format.alignment bytes at) bytes) ≡ None → has_sound_block_at bytes p.at ≡ true
+unfolding replayed_at
 accepted_is_sound id format bytes at p ps e accepted =
+    let place = record_place format.alignment bytes at in
     let signature = signature_in format.version id.seq in
-    let there = placed_by_first (length bytes) (record_place format.alignment bytes) (replayed_at signature bytes) at p ps e in
-    ap (has_sound_block_at bytes) there ∙ accepted_block signature (drop (record_place format.alignment bytes at) bytes) accepted
+    let first = first_placed (next_replayed id format bytes) (length bytes) at p ps e in
+    ap (has_sound_block_at bytes) (placed_there place (replayed_record signature (drop place bytes)) p first.is).0 ∙ accepted_block signature (drop place bytes) accepted

@@ -5,13 +5,12 @@ use Rattle.raft_records.specs.Item.{Batch}
 use Rattle.raft_base.specs.declared.pipe_log.FileId.{FileId}
 use Rattle.raft_files.specs.declared.format.LogFileFormat.{LogFileFormat}
 use Rattle.raft_files.specs.Header.{HasHeader, header_bytes, header_len}
-use Rattle.raft_env.specs.Outcomes.{File, Change, IsStaleAfter, is_written, IsPartOf, changed_by, written, overlaid, synced_of, renamed_of, bytes_behind}
+use Rattle.raft_env.specs.Outcomes.{File, Change, IsStaleAfter, is_written, IsPartOf, changed_by, written, overlaid, synced_of, renamed_of, bytes_behind, resized_change, lengthened_change, written_change}
 use Rattle.raft_env.specs.Directory.{Directory, Path, HasFile, file_at, removed, renamed, renamed_at}
 use Rattle.raft_files.specs.Reading.{Placed, reading, readable_records}
-use Rattle.raft_files.specs.Detectable.{signature_by, AreFresh, AreReadAt}
-use Rattle.raft_files.specs.Records.{HoldsRecords, IsWrittenTo, KeepsNone, IsKept, HasLog}
+use Rattle.raft_files.specs.Detectable.{signature_by, AreFresh}
+use Rattle.raft_files.specs.Records.{AreReadAt, HoldsRecords, IsWrittenTo, KeepsNone, IsKept, HasLog}
 use Rattle.raft_files.specs.Writer.{HasChanged, IsStep, IsLengthened, IsAppending, IsAppended, IsSynced}
-use Rattle.raft_env.proofs.ChangeLemmas.{resized_change, lengthened_change, written_change}
 use Rattle.raft_env.proofs.DirectoryLemmas.{file_at-placed_same}
 use Rattle.raft_env.proofs.OverlaidLemmas.{overlaid_is}
 use Rattle.raft_files.proofs.HeaderLemmas.{length-header_bytes}
@@ -21,7 +20,7 @@ use Rattle.raft_files.proofs.StaleLemmas.{GivesNoneFrom, ungiven, refused_gives_
 use Rattle.raft_files.proofs.HeldLemmas.{read_of_held}
 use Rattle.raft_files.proofs.SyncLemmas.{written_to_still}
 use Rattle.raft_files.proofs.NoneLemmas.{none_more}
-use Rattle.raft_files.proofs.LogLemmas.{stands_after, was_file}
+use Rattle.raft_files.proofs.ChangedLemmas.{stands_after, was_file}
 
 -- where each place is stale no record is fresh
 nothing_fresh : (renamed_after : Option ℕ) (changes : List Change) (left : List Placed) → ((i : ℕ) → IsStaleAfter renamed_after changes i) → AreFresh renamed_after changes left → left ≡ []

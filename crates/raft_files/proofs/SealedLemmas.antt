@@ -14,7 +14,7 @@ use Rattle.raft_files.specs.Reading.{Placed, readable_batches, records_of, ends_
 use Rattle.raft_files.specs.Records.{HasLog, left_of, left_bytes, left_batches}
 use Rattle.raft_files.specs.Writer.{HasChanged, IsClosed, IsClosing, IsCutting, IsSyncing, bytes_at, bytes_of}
 use Rattle.raft_env.proofs.ConsistentLemmas.{nowhere}
-use Rattle.raft_files.proofs.LogLemmas.{stands_after, was_file}
+use Rattle.raft_files.proofs.ChangedLemmas.{stands_after, was_file}
 use Rattle.raft_files.specs.Sealed.{IsSealed, IsStillBy}
 
 abbrev IsStill : List ℕ → List Change → Type 0

@@ -1,5 +1,5 @@
 -- Syncs of a log file.
-use Rattle.std.proofs.Common.{◌≡◌, ℕ, ◌^◌, ◌<◌, true, List, [], ◌∷◌, ◌++◌, length, take, Option, Some, None, refl, ap, sym, subst, ◌∙◌, inl, arith}
+use Rattle.std.proofs.Common.{◌≤◌, ◌≡◌, ℕ, ◌^◌, ◌<◌, true, List, [], ◌∷◌, ◌++◌, length, take, Option, Some, None, refl, ap, sym, subst, ◌∙◌, inl, arith}
 use Rattle.std.proofs.lemmas.Bool.{eqb-true}
 use Rattle.std.proofs.lemmas.List.{take_all}
 use Rattle.raft_base.specs.declared.pipe_log.FileId.{FileId}
@@ -7,8 +7,8 @@ use Rattle.raft_files.specs.declared.format.LogFileFormat.{LogFileFormat}
 use Rattle.raft_files.specs.Header.{HasHeader, header_bytes, header_len}
 use Rattle.raft_env.specs.Outcomes.{File, Change, synced_of}
 use Rattle.raft_files.specs.Reading.{Placed, end_of_records, Reading, records_behind, reading, records_of, readable_records, ends_with, is_read_to_end}
-use Rattle.raft_files.specs.Detectable.{IsBeginningOf, format_of, signature_by, AreReadBehind}
-use Rattle.raft_files.specs.Records.{ReadsFirst, IsEmptyFrom, HasNothingFrom, HoldsRecords, IsWrittenTo, IsTornFrom}
+use Rattle.raft_files.specs.Detectable.{IsBeginningOf, format_of, signature_by}
+use Rattle.raft_files.specs.Records.{AreReadBehind, ReadsFirst, IsEmptyFrom, HasNothingFrom, HoldsRecords, IsWrittenTo, IsTornFrom}
 use Rattle.raft_files.proofs.HeaderLemmas.{length-header_bytes}
 use Rattle.raft_files.proofs.ExtentLemmas.{same_some}
 use Rattle.raft_files.proofs.ReadingLemmas.{reading-header_bytes}
@@ -52,9 +52,14 @@ written_to_still id format records at bytes older renamed holds empty nothing =
 pub written_to_synced : (id : FileId) (format : LogFileFormat) (records : List Placed) (synced at : ℕ) (file : File) → IsWrittenTo id format records synced at file → IsWrittenTo id format records (length records) at (synced_of file)
 written_to_synced id format records synced at file written_to = written_to_still id format records at file.now (file.changes ++ file.older) file.renamed_after written_to.holds written_to.empty written_to.nothing
 
+-- .. of a file that ends there
+pub written_to_whole : (id : FileId) (format : LogFileFormat) (records : List Placed) (at : ℕ) (file : File) → HoldsRecords id format records at file.now → length file.now ≤ at → IsWrittenTo id format records (length records) at (synced_of file)
+written_to_whole id format records at file holds short =
+    written_to_still id format records at file.now (file.changes ++ file.older) file.renamed_after holds (inl (λ i above below. absurd (omega arith))) (has_nothing_past id at file.now file.renamed_after (file.changes ++ file.older) short)
+
 -- a sync of a file that was cut back
 pub torn_synced : (id : FileId) (format : LogFileFormat) (records in_flight : List Placed) (synced at : ℕ) (file : File) → IsTornFrom id format records in_flight synced at file → length file.now ≡ at → IsWrittenTo id format records (length records) at (synced_of file)
-torn_synced id format records in_flight synced at file torn cut = written_to_still id format records at file.now (file.changes ++ file.older) file.renamed_after torn.holds (inl (λ i above below. absurd (omega arith))) (has_nothing_past id at file.now file.renamed_after (file.changes ++ file.older) (omega (arith, cut)))
+torn_synced id format records in_flight synced at file torn cut = written_to_whole id format records at file torn.holds (omega (arith, cut))
 
 -- a file with a header alone that is synced
 pub written_to_header : (id : FileId) (file : File) (format : LogFileFormat) → HasHeader format → format.alignment < 2 ^ 64 → file.now ≡ header_bytes format → IsWrittenTo id format [] 0 (header_len format.version) (synced_of file)
@@ -67,8 +72,7 @@ written_to_header id file format has fits is =
       read = ap (λ b. reading id b) (take_all at bytes (omega arith)) ∙ reading-header_bytes id format has fits ∙ ap (λ n. Some (record { format = format; records = []; end = n })) len;
     } in
     let now : HoldsRecords id format [] at file.now = subst (λ b. HoldsRecords id format [] at b) (sym is) holds in
-    written_to_still id format [] at file.now (file.changes ++ file.older) file.renamed_after now
-    (inl (λ i above below. absurd (omega (arith, ap length is)))) (has_nothing_past id at file.now file.renamed_after (file.changes ++ file.older) (omega (arith, ap length is)))
+    written_to_whole id format [] at file now (omega (arith, ap length is))
 
 -- a file that is read to its end and synced
 pub written_to_read : (id : FileId) (file : File) (bytes : List ℕ) (format : LogFileFormat) → file.now ≡ bytes → format_of bytes ≡ Some format → is_read_to_end id bytes ≡ true →
@@ -76,8 +80,7 @@ pub written_to_read : (id : FileId) (file : File) (bytes : List ℕ) (format : L
 written_to_read id file bytes format now header to_end =
     let holds : HoldsRecords id format (readable_records id file.now) (length file.now) file.now =
     record { within = omega arith; read = ap (λ b. reading id b) (take_all (length file.now) file.now (omega arith)) ∙ whole file.now (ap format_of now ∙ header) (ap (λ b. is_read_to_end id b) now ∙ to_end) } in
-    let written = written_to_still id format (readable_records id file.now) (length file.now) file.now (file.changes ++ file.older) file.renamed_after holds (inl (λ i above below. absurd (omega arith)))
-    (has_nothing_past id (length file.now) file.now file.renamed_after (file.changes ++ file.older) (omega arith)) in
+    let written = written_to_whole id format (readable_records id file.now) (length file.now) file holds (omega arith) in
     subst (λ b. IsWrittenTo id format (readable_records id b) (length (readable_records id b)) (length b) (synced_of file)) now written
   where
     whole : (b : List ℕ) → format_of b ≡ Some format → is_read_to_end id b ≡ true → reading id b ≡ Some (record { format = format; records = readable_records id b; end = length b })

@@ -1,41 +1,27 @@
 -- What a truncation to the end of what is read leaves of a file.
-use Rattle.std.proofs.Common.{◌≡◌, ℕ, ◌+◌, ◌≤◌, Bool, true, false, List, [], ◌∷◌, ◌++◌, length, take, Option, Some, None, Contains, refl, ap, sym, subst, ◌∙◌, inl, inr, arith}
+use Rattle.std.proofs.Common.{◌≡◌, ℕ, ◌+◌, ◌≤◌, Bool, false, List, [], ◌∷◌, ◌++◌, length, take, Option, Some, None, Contains, refl, ap, sym, subst, ◌∙◌, inl, inr, arith}
 use Rattle.std.specs.Prelude.{◌||◌}
-use Rattle.std.proofs.lemmas.List.{append-nil, take-take, length-append, length-take-le}
+use Rattle.std.proofs.lemmas.List.{append-nil, take-take, length-take-le}
 use Rattle.std.proofs.lemmas.List.Elements.{Contains-append_left}
 use Rattle.raft_base.specs.declared.pipe_log.FileId.{FileId}
 use Rattle.raft_files.specs.declared.format.LogFileFormat.{LogFileFormat}
 use Rattle.raft_files.specs.Header.{header_len}
-use Rattle.raft_env.specs.Outcomes.{File, Change, is_touched, changed_by, Outcome, IsCutOf, cut_to}
+use Rattle.raft_env.specs.Outcomes.{File, Change, is_touched, changed_by, Outcome, IsCutOf, cut_to, cut_change}
 use Rattle.raft_files.specs.Reading.{Placed, end_of_records, Reading, records_behind, reading, records_of, end_of, end_of_reading}
-use Rattle.raft_files.specs.Detectable.{IsBeginningOf, signature_by, HasNoRefusedByte, IsDone, AreReadAt}
-use Rattle.raft_files.specs.Records.{ReadsFirst, KeepsRecords, IsEmptyFrom, HasNothingFrom, HoldsRecords, KeepsNone}
+use Rattle.raft_files.specs.Detectable.{IsBeginningOf, signature_by, HasNoRefusedByte, IsDone}
+use Rattle.raft_files.specs.Records.{AreReadAt, ReadsFirst, KeepsRecords, IsEmptyFrom, HasNothingFrom, HoldsRecords, KeepsNone}
 use Rattle.raft_files.proofs.DetectableLemmas.{beginning_itself}
-use Rattle.raft_files.proofs.ExtentLemmas.{header_of_takes}
-use Rattle.raft_files.proofs.ReadingLemmas.{placed_by_past, end_of_placed-within, records_stay, reading_is, reading-kept}
+use Rattle.raft_files.proofs.ReadingLemmas.{records_stay, reading_is, reading-kept, end_of_read_within, read_in}
 use Rattle.raft_files.proofs.NoneLemmas.{none_more, read_of_bytes}
-use Rattle.raft_env.proofs.ChangeLemmas.{not_within, cut_change, cut_is}
+use Rattle.raft_env.proofs.ChangeLemmas.{not_within}
 use Rattle.raft_files.proofs.StaleLemmas.{GivesNoneFrom, ungiven, fresh_before}
-use Rattle.raft_files.proofs.PlacedLemmas.{end_of_front, placed_stands, read_in}
+use Rattle.raft_files.proofs.PlacedLemmas.{end_of_front, placed_stands, placed_by_past}
 use Rattle.raft_files.proofs.EmptyLemmas.{done_without_byte, has_nothing_after}
 use Rattle.raft_files.proofs.RecordsLemmas.{reads_first-kept, keeps_more}
 use Rattle.raft_files.proofs.HeldLemmas.{left_of_held, format_of-held}
-use Rattle.raft_files.proofs.LengthLemmas.{holds_same, IsCutRefused, empty_cut_refused, same_cut_refused}
+use Rattle.raft_files.proofs.LengthLemmas.{holds_same, IsBehind, cut_behind}
 
 -- The records up to the end of the reading.
-
-pub header_within : (id : FileId) (bytes : List ℕ) (r : Reading) → reading id bytes ≡ Some r → header_len r.format.version ≤ length bytes
-header_within id bytes r e =
-    let is = reading_is id bytes r e in
-    let header = header_of_takes bytes r.format is.rest is.header in
-    omega (arith, header.long, ap length header.whole, length-append header.front is.rest)
-
-pub end_of_read_within : (id : FileId) (bytes : List ℕ) (r : Reading) → reading id bytes ≡ Some r → r.end ≤ length bytes
-end_of_read_within id bytes r e =
-    let is = reading_is id bytes r e in
-    let from = header_len r.format.version in
-    let within = end_of_placed-within (records_stay r.format.alignment (signature_by id r.format) bytes) (length bytes) from (header_within id bytes r e) in
-    omega (arith, within, is.end, ap (λ rs. end_of_records from rs) is.records)
 
 -- bytes cut where the reading ends are read to their end
 pub reading-cut : (id : FileId) (bytes : List ℕ) (r : Reading) → reading id bytes ≡ Some r → reading id (take r.end bytes) ≡ Some r
@@ -47,7 +33,7 @@ reading-cut id bytes r e =
     let ends : end_of_records from r.records ≡ r.end = sym is.end in
     let len : length cut ≡ r.end = length-take-le r.end bytes (end_of_read_within id bytes r e) in
     let none : records_behind id format cut (end_of_records from r.records) ≡ [] =
-    placed_by_past (records_stay format.alignment (signature_by id format) cut) (length cut) (end_of_records from r.records) (omega (arith, len, ends)) in
+    placed_by_past (records_stay id format cut) (length cut) (end_of_records from r.records) (omega (arith, len, ends)) in
     reading-kept id r.end bytes cut r r.records [] (sym (take-take r.end r.end bytes (omega arith))) e (sym (append-nil r.records)) (omega (arith, ends))
     ∙ ap (λ rs. Some (record { format = format; records = r.records ++ rs; end = end_of_records (end_of_records from r.records) rs })) none
     ∙ ap (λ rs. Some (record { format = format; records = rs; end = end_of_records from r.records })) (append-nil r.records)
@@ -61,7 +47,7 @@ holds_read id bytes r e = record { within = end_of_read_within id bytes r e; rea
 read_ends_before : (id : FileId) (bytes : List ℕ) (read : Reading) → reading id bytes ≡ Some read → (r : Placed) → Contains read.records r → r.at + r.len ≤ read.end
 read_ends_before id bytes read e r has =
     let is = reading_is id bytes read e in
-    omega (arith, is.end, (placed_stands (records_stay read.format.alignment (signature_by id read.format) bytes) (length bytes) (header_len read.format.version) read.records (sym is.records) r has).before)
+    omega (arith, is.end, (placed_stands (records_stay id read.format bytes) (length bytes) (header_len read.format.version) read.records (sym is.records) r has).before)
 
 -- A change behind the records that are read.
 
@@ -75,16 +61,6 @@ has_no_refused_byte_before by c changes r before no_byte later d earlier e refus
 done_before : (id : FileId) (by : Option ℕ) (c : Change) (changes : List Change) (r : Placed) → r.at + r.len ≤ c.from → IsDone id by (c ∷ changes) r → IsDone id by changes r
 done_before id by c changes r before (inl no_byte) = done_without_byte id by changes r (has_no_refused_byte_before by c changes r before no_byte)
 done_before id by c changes r before (inr earlier) = earlier.1
-
--- a change that leaves the bytes before a place, and behind it nothing that it was to write
-pub record IsBehind (size : ℕ) (old : List ℕ) (c : Change) (renamed : Option ℕ) (changes : List Change) : Type 0 where
-  pub was : c.before ≡ old
-  pub given : c.given ≡ []
-  pub shortest : size ≤ c.shortest
-  pub from : size ≤ c.from
-  pub long : size ≤ length c.after
-  pub same : take size old ≡ take size c.after
-  pub empty : IsEmptyFrom size c.after renamed (c ∷ changes)
 
 -- nothing is read behind the end of the reading
 has_nothing_behind : (id : FileId) (bytes : List ℕ) (r : Reading) (renamed : Option ℕ) (changes : List Change) → reading id bytes ≡ Some r → HasNothingFrom id r.end bytes renamed changes
@@ -119,7 +95,7 @@ keeps_behind id format records synced file c keeps reads behind =
     let front = take synced records in
     let before : end_of_records from front ≤ reads.end = omega (
       arith,
-      end_of_front (records_stay format.alignment (signature_by id format) file.now) (length file.now) from front reads.first.0 (sym is.records ∙ reads.first.1),
+      end_of_front (records_stay id format file.now) (length file.now) from front reads.first.0 (sym is.records ∙ reads.first.1),
       ap (λ rs. end_of_records from rs) reads.first.1,
       is.end,
     ) in
@@ -148,30 +124,6 @@ nothing_read id by c renamed changes unread none empty (r ∷ left) read =
 
 -- Truncations.
 
-pub cut_behind : (size : ℕ) (is_done : Bool) (after old : List ℕ) (renamed : Option ℕ) (changes : List Change) → size ≤ length old → Outcome is_done (take size old) (IsCutOf size old) after → IsBehind size old (cut_change size is_done after old) renamed changes
-cut_behind size true after old renamed changes within done =
-    let len : length after ≡ size = ap length done ∙ length-take-le size old within in
-    record {
-      was = refl;
-      given = refl;
-      shortest = omega arith;
-      from = omega arith;
-      long = omega arith;
-      same = sym (take-take size size old (omega arith)) ∙ ap (λ b. take size b) (sym done);
-      empty = inl (λ i above below. absurd (omega arith));
-    }
-cut_behind size false after old renamed changes within part =
-    let refused : IsCutRefused size old (cut_change size false after old) = record { from = omega arith; to = omega arith; none = refl; refused = refl; before = refl; part = part } in
-    record {
-      was = refl;
-      given = refl;
-      shortest = omega (arith, part.no_shorter);
-      from = omega arith;
-      long = omega (arith, part.no_shorter);
-      same = same_cut_refused size old (cut_change size false after old) within refused;
-      empty = empty_cut_refused size old (cut_change size false after old) renamed changes refused;
-    }
-
 -- a truncation to the end of the reading keeps the records
 pub keeps_cut : (id : FileId) (format : LogFileFormat) (records : List Placed) (synced size : ℕ) (is_done : Bool) (after : List ℕ) (file : File) → KeepsRecords id format records synced file → ReadsFirst id format (take synced records) file.now →
     size ≡ end_of_reading id file.now → Outcome is_done (take size file.now) (IsCutOf size file.now) after →
@@ -181,13 +133,12 @@ keeps_cut id format records synced size is_done after file keeps reads cuts outc
     let size_is : size ≡ reads.end = cuts ∙ ap end_of reads.read in
     let within = end_of_read_within id file.now _ reads.read in
     let behind = cut_behind size is_done after file.now file.renamed_after (file.changes ++ file.older) (omega (arith, size_is, within)) outcome in
-    subst (λ f. KeepsRecords id format records synced f × ReadsFirst id format (take synced records) f.now) (sym (cut_is size is_done after file))
-    (keeps_behind id format records synced file c keeps reads (subst (λ n. IsBehind n file.now c file.renamed_after (file.changes ++ file.older)) size_is behind))
+    keeps_behind id format records synced file c keeps reads (subst (λ n. IsBehind n file.now c file.renamed_after (file.changes ++ file.older)) size_is behind)
 
 -- .. and adds none
 pub none_cut : (id : FileId) (size : ℕ) (is_done : Bool) (after : List ℕ) (file : File) → KeepsNone id file → size ≡ end_of_reading id file.now → Outcome is_done (take size file.now) (IsCutOf size file.now) after →
     KeepsNone id (cut_to size is_done after file)
-none_cut id size is_done after file none cuts outcome = subst (KeepsNone id) (sym (cut_is size is_done after file)) (by_reading (reading id file.now) refl)
+none_cut id size is_done after file none cuts outcome = by_reading (reading id file.now) refl
   where
     c : Change
     c = cut_change size is_done after file.now

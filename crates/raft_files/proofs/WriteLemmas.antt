@@ -1,22 +1,24 @@
 -- Writes keep the records of a log file.
-use Rattle.std.proofs.Common.{◌≡◌, ℕ, ◌+◌, ◌-◌, ◌<◌, ◌≤◌, true, false, List, [], ◌∷◌, ◌++◌, length, take, drop, replicate, slice_index, Option, Some, Contains, refl, ap, sym, subst, ◌∙◌, inl, inr, arith, length-drop, append_assoc}
+use Rattle.std.proofs.Common.{◌≡◌, ℕ, ◌+◌, ◌<◌, ◌≤◌, true, false, List, [], ◌∷◌, ◌++◌, length, take, slice_index, Option, Some, Contains, refl, ap, sym, subst, ◌∙◌, inl, inr, arith}
 use Rattle.std.proofs.lemmas.Bool.{cases_lt}
-use Rattle.std.proofs.lemmas.List.{take-append-le, length-append, length-take-le, get_or-drop, get_or-append_right, take_at}
+use Rattle.std.proofs.lemmas.List.{length-append, length-take-le}
 use Rattle.raft_records.specs.Item.{Batch}
 use Rattle.raft_records.specs.Record.{record_of}
 use Rattle.raft_base.specs.declared.pipe_log.FileId.{FileId}
 use Rattle.raft_files.specs.declared.format.LogFileFormat.{LogFileFormat}
-use Rattle.raft_env.specs.Outcomes.{File, Change, written, padded, overlaid, IsPartOf}
+use Rattle.raft_env.specs.Outcomes.{File, Change, written, overlaid, IsPartOf, written_change}
 use Rattle.raft_files.specs.Reading.{Placed, reading, readable_records}
 use Rattle.raft_files.specs.Detectable.{signature_by, IsGivenBy, IsDone, IsFreshAfter}
 use Rattle.raft_files.specs.Records.{IsEmptyFrom, HasNothingFrom, HoldsRecords, IsWrittenTo, IsTornFrom}
-use Rattle.raft_env.proofs.ChangeLemmas.{within_is, not_within, same_front, written_change}
+use Rattle.raft_env.proofs.ChangeLemmas.{within_is, not_within, same_front}
 use Rattle.raft_files.proofs.DetectableLemmas.{beginning_itself, beginning_append}
 use Rattle.raft_files.proofs.ExtentLemmas.{same_some}
 use Rattle.raft_files.proofs.ReadingLemmas.{reading-append}
-use Rattle.raft_env.proofs.OverlaidLemmas.{overlaid_is, overlaid_bounds}
+use Rattle.raft_env.proofs.OverlaidLemmas.{length-overlaid, overlaid_outside}
+use Rattle.raft_env.proofs.DirectoryLemmas.{writing_part}
+use Rattle.raft_files.proofs.PartLemmas.{part_keeps, take-overlaid_whole}
 use Rattle.raft_files.proofs.StaleLemmas.{GivesNoneFrom, refused_gives_none, gives_none_before, stale_from_more, fresh_before}
-use Rattle.raft_files.proofs.PlacedLemmas.{read_in}
+use Rattle.raft_files.proofs.ReadingLemmas.{read_in}
 use Rattle.raft_files.proofs.EmptyLemmas.{none_done, has_nothing_after}
 use Rattle.raft_files.proofs.HeldLemmas.{format_of-held, left_of_torn}
 use Rattle.raft_files.proofs.RecordsLemmas.{keeps_more, keeps_held, synced_within}
@@ -46,10 +48,7 @@ abbrev pub record_given : ℕ → List ℕ → Batch → Placed
 record_given at given batch = record { at = at; len = length given; batch = batch }
 
 same_placed : (r : Placed) (at len : ℕ) (batch : Batch) → r.at ≡ at → batch ≡ r.batch → len ≡ r.len → r ≡ record { at = at; len = len; batch = batch }
-same_placed r at len batch stands same_batch same_len =
-    ap (λ a. record { at = a; len = r.len; batch = r.batch }) stands
-    ∙ ap (λ l. record { at = at; len = l; batch = r.batch }) (sym same_len)
-    ∙ ap (λ b. record { at = at; len = len; batch = b }) (sym same_batch)
+same_placed r at len batch stands same_batch same_len = rw (← stands, same_batch, same_len) refl
 
 -- behind the records a crash leaves nothing but the record that the write was to write
 only_given : (id : FileId) (signature : Option ℕ) (c : Change) (renamed : Option ℕ) (changes : List Change) (batch : Batch) → HasNothingFrom id c.from c.before renamed changes → c.is_done ≡ false → c.size ≡ length c.given → record_of signature c.given ≡ Some (batch, length c.given) →
@@ -93,16 +92,8 @@ written_to_refused id format records synced at file given batch after written_to
 -- a write behind them leaves the records
 pub holds_written : (id : FileId) (format : LogFileFormat) (records : List Placed) (at : ℕ) (bytes given : List ℕ) → HoldsRecords id format records at bytes → HoldsRecords id format records at (overlaid bytes at given)
 holds_written id format records at bytes given holds =
-    let end = at + length given in
-    let zeros : List ℕ = replicate (end - length bytes) 0 in
-    let before = take at (padded bytes end) in
-    let rest = drop end bytes in
-    let long = holds.within in
-    let same : before ≡ take at bytes = take-append-le at bytes zeros long in
-    let len_before : length before ≡ at = ap length same ∙ length-take-le at bytes long in
-    let front : take at ((before ++ given) ++ rest) ≡ before = ap (λ b. take at b) (append_assoc before given rest) ∙ take_at before (given ++ rest) at len_before in
-    let after_is = overlaid_is bytes at given (inl long) in
-    holds_same id format records at bytes (overlaid bytes at given) holds (sym (ap (λ b. take at b) after_is ∙ front ∙ same)) (omega (arith, (overlaid_bounds bytes at given).0))
+    let part = writing_part at given given (omega arith) bytes in
+    holds_same id format records at bytes (overlaid bytes at given) holds (sym (part_keeps at (length given) at bytes _ part (omega arith) holds.within)) (omega (arith, holds.within, part.no_shorter))
 
 -- a write that is done
 pub written_to_written : (id : FileId) (format : LogFileFormat) (records : List Placed) (synced at : ℕ) (file : File) (given : List ℕ) (batch : Batch) → IsWrittenTo id format records synced at file →
@@ -115,27 +106,14 @@ written_to_written id format records synced at file given batch written_to is =
     let one = record_given at given batch in
     let all = records ++ one ∷ [] in
     let long = written_to.holds.within in
-    let zeros : List ℕ = replicate (end - length file.now) 0 in
-    let before = take at (padded file.now end) in
-    let rest = drop end file.now in
-    let same : before ≡ take at file.now = take-append-le at file.now zeros long in
     let len_front : length (take at file.now) ≡ at = length-take-le at file.now long in
-    let len_before : length (before ++ given) ≡ end = omega (arith, length-append before given, ap length same) in
-    let after_is = overlaid_is file.now at given (inl long) in
-    let len : length after ≡ end + (length file.now - end) = omega (arith, ap length after_is, length-append (before ++ given) rest, length-drop end file.now) in
-    let kept : IsKeptBehind end file.now after = record {
-      within = λ i behind within. omega arith;
-      same = λ i behind within.
-          ap (λ b. slice_index b i) after_is
-          ∙ get_or-append_right (before ++ given) rest end i 0 len_before behind
-          ∙ get_or-drop end file.now (i - end) 0
-          ∙ ap (λ k. slice_index file.now k) (index_is end i behind);
-    } in
-    let front : take end after ≡ take at file.now ++ given = ap (λ b. take end b) after_is ∙ take_at (before ++ given) rest end len_before ∙ ap (λ b. b ++ given) same in
+    let len = length-overlaid file.now at given (inl long) in
+    let kept : IsKeptBehind end file.now after = record { within = λ i behind within. omega (arith, len); same = λ i behind within. overlaid_outside file.now at given i (not_within at (length given) i (inr behind)) } in
+    let front : take end after ≡ take at file.now ++ given = take-overlaid_whole file.now at given long in
     let read =
     reading-append id (take at file.now) given batch (record { format = format; records = records; end = at }) written_to.holds.read (sym len_front) is in
     let holds : HoldsRecords id format all end after = record {
-      within = omega arith;
+      within = omega (arith, len);
       read = ap (λ bytes. reading id bytes) front ∙ read
           ∙ ap (λ n. Some (record { format = format; records = records ++ record_given n given batch ∷ []; end = length (take at file.now ++ given) })) len_front
           ∙ ap (λ n. Some (record { format = format; records = all; end = n })) (length-append (take at file.now) given ∙ ap (λ n. n + length given) len_front);
@@ -150,6 +128,3 @@ written_to_written id format records synced at file given batch written_to is =
       empty = empty;
       nothing = nothing;
     }
-  where
-    index_is : (end i : ℕ) → end ≤ i → end + (i - end) ≡ i
-    index_is end i behind = omega arith

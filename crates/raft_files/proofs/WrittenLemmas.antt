@@ -1,5 +1,5 @@
 -- What a writer's calls leave of the records of a log file.
-use Rattle.std.proofs.Common.{◌≡◌, ℕ, ◌+◌, ◌≤◌, Bool, true, false, List, [], ◌∷◌, ◌++◌, length, Some, Contains, ap, sym, subst, ◌∙◌, inl, inr, arith}
+use Rattle.std.proofs.Common.{◌≡◌, ℕ, ◌+◌, ◌≤◌, Bool, true, false, List, [], ◌∷◌, ◌++◌, length, take, Some, Contains, refl, ap, sym, subst, ◌∙◌, inl, inr, arith}
 use Rattle.std.proofs.lemmas.List.{length-take-le}
 use Rattle.std.proofs.lemmas.List.Elements.{Contains-append_cases}
 use Rattle.raft_records.specs.Item.{Batch}
@@ -14,11 +14,10 @@ use Rattle.raft_files.specs.Writer.{IsStep, IsLengthened, IsAppending, IsAppende
 use Rattle.raft_files.proofs.DetectableLemmas.{beginning_append}
 use Rattle.raft_files.proofs.WriteLemmas.{record_given, holds_written, written_to_written, written_to_refused}
 use Rattle.raft_files.proofs.RecordsLemmas.{keeps_weaker}
-use Rattle.raft_files.proofs.PlacedLemmas.{read_in}
+use Rattle.raft_files.proofs.ReadingLemmas.{read_in}
 use Rattle.raft_files.proofs.HeldLemmas.{read_of_held, ends_in_held}
-use Rattle.raft_files.proofs.LengthLemmas.{written_to_cut, torn_cut}
+use Rattle.raft_files.proofs.LengthLemmas.{written_to_changed, torn_changed, allocation_behind, cut_behind}
 use Rattle.raft_files.proofs.SyncLemmas.{written_to_synced, torn_synced}
-use Rattle.raft_files.proofs.MomentLemmas.{moment_of_allocation, moment_of_cut, moment_of_cut_back}
 
 -- where nothing was written the file isn't torn
 pub torn_from_written : (id : FileId) (format : LogFileFormat) (records in_flight : List Placed) (synced at : ℕ) (file : File) → length in_flight ≤ 1 → IsWrittenTo id format records synced at file → IsTornFrom id format records in_flight synced at file
@@ -51,8 +50,11 @@ torn_from_more id format records in_flight synced at end file few holds enough w
     ]
 
 pub lengthened : (id : FileId) (format : LogFileFormat) (records : List Placed) (synced at room new_room : ℕ) (old new : File) → IsWrittenTo id format records synced at old → IsLengthened room new_room old new → IsWrittenTo id format records synced at new
-lengthened id format records synced at room new_room old new w (inl same) = subst (λ f. IsWrittenTo id format records synced at f) (sym same) w
-lengthened id format records synced at room new_room old new w (inr step) = moment_of_allocation id format records synced at new_room old new w step.1
+lengthened id format records synced at room new_room old new w (inl same) = subst (IsWrittenTo id format records synced at) (sym same) w
+lengthened id format records synced at room new_room old new w (inr (grows, inl same)) = subst (IsWrittenTo id format records synced at) (sym same) w
+lengthened id format records synced at room new_room old new w (inr (grows, inr (after, is_done, outcome, is))) =
+    subst (IsWrittenTo id format records synced at) (sym is)
+    (written_to_changed id format records synced at old _ w (allocation_behind new_room at is_done after old.now old.renamed_after (old.changes ++ old.older) w.holds.within w.empty outcome))
 
 -- an append that is done
 pub appended : (id : FileId) (format : LogFileFormat) (records : List Placed) (synced at room new_room : ℕ) (old new : File) (given : List ℕ) (batch : Batch) → IsWrittenTo id format records synced at old → record_of (signature_by id format) given ≡ Some (batch, length given) →
@@ -84,32 +86,34 @@ appending id format records synced at room new_room old new given batch w is how
 
 -- a moment of a cut
 pub cutting : (id : FileId) (format : LogFileFormat) (records : List Placed) (synced at : ℕ) (old new : File) → IsWrittenTo id format records synced at old → IsCutting at old new → IsWrittenTo id format records synced at new
-cutting id format records synced at old new w how = moment_of_cut id format records synced at old new w how
+cutting id format records synced at old new w (inl same) = subst (IsWrittenTo id format records synced at) (sym same) w
+cutting id format records synced at old new w (inr (after, is_done, outcome, is)) =
+    subst (IsWrittenTo id format records synced at) (sym is)
+    (written_to_changed id format records synced at old _ w (cut_behind at is_done after old.now old.renamed_after (old.changes ++ old.older) w.holds.within outcome))
 
 pub cutting_back : (id : FileId) (format : LogFileFormat) (records in_flight : List Placed) (synced at : ℕ) (old new : File) → IsTornFrom id format records in_flight synced at old → IsCutting at old new → IsTornFrom id format records in_flight synced at new
-cutting_back id format records in_flight synced at old new torn how = moment_of_cut_back id format records in_flight synced at old new torn how
+cutting_back id format records in_flight synced at old new torn (inl same) = subst (IsTornFrom id format records in_flight synced at) (sym same) torn
+cutting_back id format records in_flight synced at old new torn (inr (after, is_done, outcome, is)) =
+    subst (IsTornFrom id format records in_flight synced at) (sym is)
+    (torn_changed id format records in_flight synced at old _ torn (cut_behind at is_done after old.now old.renamed_after (old.changes ++ old.older) torn.holds.within outcome))
 
 -- a cut that is done
-pub cut : (id : FileId) (format : LogFileFormat) (records : List Placed) (synced at : ℕ) (old new : File) → IsWrittenTo id format records synced at old → IsCut at old new → IsWrittenTo id format records synced at new
-cut id format records synced at old new w (inl same) = subst (λ f. IsWrittenTo id format records synced at f) (sym same) w
-cut id format records synced at old new w (inr is) = subst (λ f. IsWrittenTo id format records synced at f) (sym is) (written_to_cut id format records synced at old w)
+is_cutting : (at : ℕ) (old new : File) → IsCut at old new → IsCutting at old new
+is_cutting at old new (inl same) = inl same
+is_cutting at old new (inr is) = inr (take at old.now, true, refl, is)
 
-pub cut_back : (id : FileId) (format : LogFileFormat) (records in_flight : List Placed) (synced at : ℕ) (old new : File) → IsTornFrom id format records in_flight synced at old → IsCut at old new → IsTornFrom id format records in_flight synced at new
-cut_back id format records in_flight synced at old new torn (inl same) = subst (λ f. IsTornFrom id format records in_flight synced at f) (sym same) torn
-cut_back id format records in_flight synced at old new torn (inr is) = subst (λ f. IsTornFrom id format records in_flight synced at f) (sym is) (torn_cut id format records in_flight synced at old torn)
+pub cut : (id : FileId) (format : LogFileFormat) (records : List Placed) (synced at : ℕ) (old new : File) → IsWrittenTo id format records synced at old → IsCut at old new → IsWrittenTo id format records synced at new
+cut id format records synced at old new w how = cutting id format records synced at old new w (is_cutting at old new how)
 
 -- a sync that is done
 pub synced : (id : FileId) (format : LogFileFormat) (records : List Placed) (count at : ℕ) (old new : File) → IsWrittenTo id format records count at old → IsSynced old new → IsWrittenTo id format records (length records) at new
 synced id format records count at old new w is = subst (λ f. IsWrittenTo id format records (length records) at f) (sym is) (written_to_synced id format records count at old w)
 
--- .. after a cut
-pub synced_back : (id : FileId) (format : LogFileFormat) (records in_flight : List Placed) (count at : ℕ) (old new : File) → IsTornFrom id format records in_flight count at old → length old.now ≡ at → IsSynced old new → IsWrittenTo id format records (length records) at new
-synced_back id format records in_flight count at old new torn len is = subst (λ f. IsWrittenTo id format records (length records) at f) (sym is) (torn_synced id format records in_flight count at old torn len)
-
 -- a closing that is done takes back what a refused append left
 pub closed_back : (id : FileId) (format : LogFileFormat) (records in_flight : List Placed) (count at : ℕ) (old new : File) → IsTornFrom id format records in_flight count at old → IsClosed at old new → IsWrittenTo id format records (length records) at new
-closed_back id format records in_flight count at old new torn how =
-    synced_back id format records in_flight count at how.0 new (cut_back id format records in_flight count at old how.0 torn how.1) (ap length how.2 ∙ length-take-le at old.now torn.holds.within) how.3
+closed_back id format records in_flight count at old new torn (mid, how, bytes, is) =
+    let cut_file = cutting_back id format records in_flight count at old mid torn (is_cutting at old mid how) in
+    subst (IsWrittenTo id format records (length records) at) (sym is) (torn_synced id format records in_flight count at mid cut_file (ap length bytes ∙ length-take-le at old.now torn.holds.within))
 
 pub closed : (id : FileId) (format : LogFileFormat) (records : List Placed) (count at : ℕ) (old new : File) → IsWrittenTo id format records count at old → IsClosed at old new → IsWrittenTo id format records (length records) at new
-closed id format records count at old new w how = synced id format records count at how.0 new (cut id format records count at old how.0 w how.1) how.3
+closed id format records count at old new w how = closed_back id format records [] count at old new (torn_from_written id format records [] count at old (omega arith) w) how

@@ -1,8 +1,7 @@
 -- The records that a replay takes of a file, one behind the other: their entries blocks may be
 -- broken.
-use Rattle.std.specs.Prelude.{ℕ, ◌-◌, Bool, List, [], length, take, drop, Option, Some, None}
+use Rattle.std.specs.Prelude.{ℕ, ◌-◌, Bool, List, [], length, take, drop, Option, Some, None, option_map}
 use Rattle.raft_base.specs.FileId.{signature_in}
-use Rattle.raft_records.specs.Item.{Batch}
 use Rattle.raft_records.specs.Record.{Header, is_block, record_header}
 use Rattle.raft_records.specs.Replay.{replayed_record}
 use Rattle.raft_base.specs.declared.pipe_log.FileId.{FileId}
@@ -10,15 +9,20 @@ use Rattle.raft_files.specs.declared.format.LogFileFormat.{LogFileFormat}
 use Rattle.raft_files.specs.Header.{header_len, header_of}
 use Rattle.raft_files.specs.Reading.{Placed, placed_by, record_place}
 
--- the batch that a replay takes at a place, and the record's length
-unfoldable pub replayed_at : Option ℕ → List ℕ → ℕ → Option (Batch × ℕ)
-replayed_at signature bytes at = replayed_record signature (drop at bytes)
+-- the record that a replay takes at a place
+unfoldable pub replayed_at : Option ℕ → List ℕ → ℕ → Option Placed
+replayed_at signature bytes at =
+    option_map (λ found. record { at = at; len = found.1; batch = found.0 })
+    (replayed_record signature (drop at bytes))
+
+-- the record that a replay takes next from a place on
+abbrev pub next_replayed : FileId → LogFileFormat → List ℕ → ℕ → Option Placed
+next_replayed id format bytes at =
+    replayed_at (signature_in format.version id.seq) bytes (record_place format.alignment bytes at)
 
 -- all records from a place on, in a file of this format, up to the first that a replay can't take
 abbrev pub replayed_behind : FileId → LogFileFormat → List ℕ → ℕ → List Placed
-replayed_behind id format bytes at =
-    let signature = signature_in format.version id.seq in
-    placed_by (length bytes) (record_place format.alignment bytes) (replayed_at signature bytes) at
+replayed_behind id format bytes at = placed_by (length bytes) (next_replayed id format bytes) at
 
 abbrev pub replayed_in : FileId → List ℕ → Option (LogFileFormat × List ℕ) → List Placed
 replayed_in id bytes None = []

@@ -1,12 +1,13 @@
 //! What a crash leaves of an engine, whatever calls came before.
-ghost use Rattle.std.specs.Prelude.{◌≡◌, List, [], false};
+ghost use Rattle.std.specs.Prelude.{◌≡◌, ◌++◌, List, [], false};
 ghost use Rattle.raft_records.specs.Contents.{Contents, after_batches, no_contents};
 ghost use Rattle.raft_records.specs.Item.{Batch};
 ghost use Rattle.raft_env.specs.Directory.{Directory, HasFile, IsRestarted, Left, Path};
+ghost use Rattle.raft_env.specs.Moments.{Passes};
 ghost use Rattle.raft_log_engine.specs.Crash.{IsAllowedFrom, IsSound, KeepsContents, LeavesAllowed, found_after};
 ghost use Rattle.raft_files.specs.Records.{as_it_is};
 ghost use Rattle.raft_log_engine.specs.Contents.{contents_at};
-ghost use Rattle.raft_log_engine.specs.Engine.{contents_of, directory_of, durable_of, folder_of, has_failed, unsynced_of};
+ghost use Rattle.raft_log_engine.specs.Engine.{contents_of, directory_of, durable_of, folder_of, has_failed, moments_of, unsynced_of};
 ghost use Rattle.raft_pipes.specs.Folder.{HasNoLog, IsDetectableIn};
 ghost use Rattle.raft_pipes.specs.Queue.{IsOpenableIn};
 ghost use Rattle.raft_pipes.specs.declared.config.RecoveryMode.{RecoveryMode};
@@ -15,11 +16,13 @@ ghost use Rattle.raft_pipes.specs.declared.config.RecoveryMode.TheVariants.{Abso
 use crate::Engine;
 use raft_env::FileSystem;
 
-/// A folder that keeps contents through a crash leaves them then, perhaps with a beginning of the batches behind
-/// them, where damage can be told. A restart after a crash finds what the crash left. Where that is sound, it
-/// keeps it, its log can be opened in each mode but the absolute one, and no file stands in the folder's place. Where no log stands, nothing is kept.
-/// Files that no crash met, as an engine gave them up, stand for what a crash could leave, and their log can be opened,
-/// where their damage can be told: what a refused write left of its record may be any bytes.
+/// A folder that keeps contents through a crash leaves them then, possibly with a prefix of the
+/// batches after them, where damage is detectable. A restart after a crash finds what the crash
+/// left. Where that is sound, it keeps it, its log can be opened in each mode but the absolute one,
+/// and no file stands in the folder's place. Where no log stands, nothing is kept. Files that no
+/// crash met, as an engine gave them up, stand for what a crash could leave, and their log can be
+/// opened, where their damage is detectable: what a refused write left of its record may be any
+/// bytes.
 pub fn crash_leaves_contents()
     ensures left { (folder : Path) (m : Contents) (batches : List Batch) (n : Directory)
         → KeepsContents folder m batches n → LeavesAllowed folder m batches n }
@@ -42,11 +45,14 @@ pub fn crash_leaves_contents()
         → IsSound folder n d → HasFile m folder → ⊥ }
 {}
 
-/// What an engine keeps a crash leaves now: what is durable, and a prefix of what is unsynced. Both make up what an
-/// engine holds that hasn't failed.
+/// What an engine keeps a crash leaves now: what is durable, and a prefix of what is unsynced, and so while no call
+/// changes its files, with any batches more. Both make up what an engine holds that hasn't failed.
 pub fn an_engine_recovers_what_it_keeps<F: FileSystem>(engine: &Engine<F>)
     ensures crash { LeavesAllowed (folder_of engine.now) (durable_of engine.now)
         (unsynced_of engine.now) (directory_of engine.now) }
+    ensures any_moment { (more : List Batch) → Passes (moments_of engine.now)
+        (moments_of engine.now) (directory_of engine.now) (LeavesAllowed (folder_of engine.now)
+        (durable_of engine.now) (unsynced_of engine.now ++ more)) }
     ensures contents { has_failed engine.now ≡ false
         → contents_of engine.now ≡ after_batches (durable_of engine.now) (unsynced_of engine.now) }
 {}

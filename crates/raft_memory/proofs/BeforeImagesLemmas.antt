@@ -1,4 +1,5 @@
 -- What a file saves of its last sync, and puts back.
+use Rattle.std.proofs.lemmas.Bool.{cases_lt}
 use Rattle.std.proofs.Common.{◌≡◌, ℕ, ◌+◌, ◌-◌, ◌<◌, ◌≤◌, min, Bool, true, false, cond, List, [], ◌∷◌, ◌++◌, length, take, drop, get_or, Option, Some, None, unwrap_or, refl, sym, ◌∙◌, ap, inl, inr, arith}
 use Rattle.std.specs.Prelude.{replicate}
 use Rattle.std.specs.Option.{option_or}
@@ -8,7 +9,7 @@ use Rattle.std.proofs.lemmas.Grind.{same_number_lists}
 use Rattle.std.proofs.Math.ListN.{get_or-append}
 use Rattle.raft_env.specs.Outcomes.{is_within, overlaid, padded}
 use Rattle.raft_memory.specs.MemoryFile.{OldBytes, IsSaved, places_len, saved_in, saved_at}
-use Rattle.raft_env.proofs.OverlaidLemmas.{split_at, get_or-padded, overlaid_outside_part}
+use Rattle.raft_env.proofs.OverlaidLemmas.{get_or-padded, overlaid_outside_part}
 
 pub places_len-more : (places : List (ℕ × ℕ)) (from size : ℕ) → places_len (places ++ (from, size) ∷ []) ≡ places_len places + size
 places_len-more [] from size = omega arith
@@ -76,7 +77,7 @@ module _ (bytes : List ℕ) (saved : OldBytes) (len : ℕ) (synced : List ℕ) (
 
 -- a lengthening with zeros changes nothing before the new end
 cut_or_padded : (bytes : List ℕ) (n i : ℕ) → i < n → get_or (take n bytes ++ replicate (n - length bytes) 0) i 0 ≡ get_or bytes i 0
-cut_or_padded bytes n i h = elim (split_at i (length bytes)) [
+cut_or_padded bytes n i h = elim (cases_lt i (length bytes)) [
   | inl inside ↦ get_or-append (take n bytes) _ 0 i (omega (arith, length-take n bytes)) ∙ get_or-take n bytes i 0 h
   | inr past ↦ ap (λ (l : List ℕ). get_or (l ++ replicate (n - length bytes) 0) i 0) (take_all n bytes (omega arith)) ∙ get_or-padded bytes n i
 ]

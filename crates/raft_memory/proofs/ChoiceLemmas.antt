@@ -1,14 +1,22 @@
 -- What a choice leaves of a file, and that storage may leave it.
-use Rattle.std.proofs.Common.{◌≡◌, ℕ, ◌+◌, ◌-◌, ◌<◌, Bool, cond, eqb, leb, ◌&&◌, List, [], ◌∷◌, ◌++◌, length, get_or, map, refl, sym, ◌∙◌, ap, add-one, arith}
+use Rattle.std.proofs.Common.{◌≡◌, ℕ, ◌+◌, ◌-◌, ◌<◌, Bool, cond, eqb, leb, ◌&&◌, List, [], ◌∷◌, ◌++◌, length, get_or, map, refl, sym, ◌∙◌, ap, add-one, arith, ◌≤◌}
 use Rattle.std.specs.Prelude.{◌==◌}
 use Rattle.std.specs.List.{range_with_len}
 use Rattle.std.proofs.lemmas.Bool.Decides.{nat_tests}
 use Rattle.std.proofs.lemmas.List.FromFn.{map-range_with_len_more, length-map-range_with_len, get_or-map-range_with_len}
-use Rattle.raft_env.specs.Outcomes.{File, MayLeave, is_touched}
+use Rattle.raft_env.specs.Outcomes.{File, MayLeave, is_touched, Change, least_len, greatest_len}
 use Rattle.raft_memory.specs.MemoryFile.{IsFileOf, is_covered}
 use Rattle.raft_memory.specs.Choice.{torn, torn_byte, touched_before}
 use Rattle.raft_memory.proofs.MemoryFileLemmas.{may_leave}
-use Rattle.raft_env.proofs.OverlaidLemmas.{least_synced, greatest_synced}
+
+-- the length at the last sync counts too
+least_synced : (synced : List ℕ) (changes : List Change) → least_len synced changes ≤ length synced
+least_synced synced [] = omega arith
+least_synced synced (c ∷ changes) = omega (arith, least_synced synced changes)
+
+greatest_synced : (synced : List ℕ) (changes : List Change) → length synced ≤ greatest_len synced changes
+greatest_synced synced [] = omega arith
+greatest_synced synced (c ∷ changes) = omega (arith, greatest_synced synced changes)
 
 pub synced_may_be_left : (file : File) → MayLeave file file.synced
 synced_may_be_left file = record {

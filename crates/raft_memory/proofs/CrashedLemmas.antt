@@ -1,4 +1,5 @@
 -- The files of a crashed directory, one by one.
+use Rattle.raft_env.proofs.DirectoryLemmas.{same_path}
 use Rattle.std.proofs.Common.{◌≡◌, ℕ, Bool, true, false, cond, eqb, List, [], ◌∷◌, ◌++◌, length, map, Option, Some, None, refl, sym, ◌∙◌, ap, subst, append_assoc, ◌||◌, arith}
 use Rattle.std.specs.Prelude.{String, option_map, slice_index_or}
 use Rattle.std.specs.List.{AllByRecursion, list_any, position_or_len}
@@ -25,7 +26,7 @@ use Rattle.raft_memory.specs.declared.namespace.Namespace.{Namespace}
 use Rattle.raft_memory.specs.declared.crash.Choice.{Choice}
 use Rattle.raft_memory.specs.declared.crash.Choice.TheVariants as choice
 use Rattle.raft_memory.proofs.MemoryLemmas.{file_at-namespace_directory}
-use Rattle.raft_memory.proofs.ListedLemmas.{keys-directory_of}
+use Rattle.raft_memory.proofs.ListedLemmas.{keys-directory_of, any_by_bytes}
 
 abbrev Entry : Type 0
 Entry = String Global × File
@@ -58,9 +59,6 @@ absent (e ∷ es) rest k f sorted =
     let less = among (λ y. string_cmp e.0 y ≡ Less) es rest k f sorted.0 in
     let apart : is_eq (slice_cmp nat_cmp (string_bytes k) (string_bytes e.0)) ≡ false = turned (string_bytes k) (string_bytes e.0) ∙ ap is_eq less in
     ap (λ b. cond b (Some e.1) (at_path (string_bytes k) es)) apart ∙ absent es rest k f sorted.1
-
-same_bytes : (p : Path) → is_eq (slice_cmp nat_cmp p p) ≡ true
-same_bytes p = is_eq-slice_cmp p p ∙ (bytes_eq-Decides p p).1 refl
 
 missed : (b : Bool) (e : File) (o : Option File) → cond b (Some e) o ≡ None → (b ≡ false) × (o ≡ None)
 missed true e o none = absurd cc
@@ -104,7 +102,7 @@ module _ (choices : List Choice) (t : Namespace) (done rest later : List Entry) 
   none_before = absent done later k file (subst (λ (l : List Entry). IsStrictlySortedBy string_cmp (map (λ e. e.0) l)) (sym split) sorted)
 
   stands : file_at (namespace_directory t) (string_bytes k) ≡ Some file
-  stands = file_at-namespace_directory t (string_bytes k) ∙ ap (at_path (string_bytes k)) (sym split) ∙ push_same done later k file (string_bytes k) (same_bytes (string_bytes k)) none_before
+  stands = file_at-namespace_directory t (string_bytes k) ∙ ap (at_path (string_bytes k)) (sym split) ∙ push_same done later k file (string_bytes k) (same_path (string_bytes k)) none_before
 
   -- the file's choice is the one at its turn
   pub left_at_turn : left_by choices (namespace_directory t) (string_bytes k) ≡ chosen (slice_index_or choices (length done) choice.Synced) file
@@ -131,30 +129,26 @@ refuses_unless_more P Q (fault.InvalidArgument t) f refused = λ q. refused (f q
 refuses_unless_more P Q fault.Memory f refused = tt
 refuses_unless_more P Q _ f refused = refused
 
-any-map : (g : Path → Bool) (made : List (String Global)) → list_any (λ p. g (string_bytes p)) made ≡ list_any g (map string_bytes made)
-any-map g [] = refl
-any-map g (p ∷ made) = ap (λ b. g (string_bytes p) || b) (any-map g made)
-
 same_folders : (made copies : List (String Global)) → map string_bytes copies ≡ map string_bytes made → folders_of copies ≡ folders_of made
 same_folders made copies is =
     let same : (q : Path) → folders_of copies q ≡ folders_of made q = λ q.
-    ap (λ b. eqb (length q) 0 || b) (any-map (is_on_way q) copies ∙ ap (list_any (is_on_way q)) is ∙ sym (any-map (is_on_way q) made)) in
+    ap (λ b. eqb (length q) 0 || b) (sym (any_by_bytes (is_on_way q) copies) ∙ ap (list_any (is_on_way q)) is ∙ any_by_bytes (is_on_way q) made) in
     λ i. λ q. same q i
 
 -- at the end each file of the old tree has its copy
 module _ (d : Left) (t n : Namespace) (all : Copied (IsLeft d) t.files.entries n.files) where
   leaves_at : (p : Path) (file : File) (o c : Option File) → Stands (IsLeft d p) o c → o ≡ Some file → MayLeave file (d p)
-  leaves_at p file None c stands is = absurd cc
-  leaves_at p file (Some f) None stands is = absurd stands
-  leaves_at p file (Some f) (Some copy) stands is =
+  leaves_at p file None c pair is = absurd cc
+  leaves_at p file (Some f) None pair is = absurd pair
+  leaves_at p file (Some f) (Some copy) pair is =
       let same : f ≡ file = cc in
-      subst (λ (x : File). MayLeave x (d p)) same stands.0
+      subst (λ (x : File). MayLeave x (d p)) same pair.0
 
   holds_at : (p : Path) (o c : Option File) → Stands (IsLeft d p) o c → c ≡ option_map (λ _. settled (d p)) o
-  holds_at p None None stands = refl
-  holds_at p None (Some copy) stands = absurd stands
-  holds_at p (Some f) None stands = absurd stands
-  holds_at p (Some f) (Some copy) stands = ap Some stands.1
+  holds_at p None None pair = refl
+  holds_at p None (Some copy) pair = absurd pair
+  holds_at p (Some f) None pair = absurd pair
+  holds_at p (Some f) (Some copy) pair = ap Some pair.1
 
   pub leaves_all : Leaves (namespace_directory t) d
   leaves_all = record { each = λ p file is. leaves_at p file (at_path p t.files.entries) (tree.get_by_text n.files p) (all.each p) (sym (file_at-namespace_directory t p) ∙ is) }

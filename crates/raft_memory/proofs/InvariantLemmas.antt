@@ -1,11 +1,9 @@
 -- What is true of files in memory, whatever calls were made.
-use Rattle.std.proofs.Common.{◌≡◌, ℕ, ◌≤◌, true, false, Bool, cond, List, [], ◌++◌, length, take, Option, Some, None, is_some, refl, sym, subst, ◌∙◌, inl, inr}
-use Rattle.std.specs.Prelude.{option_map}
+use Rattle.std.proofs.Common.{◌≡◌, ℕ, ◌≤◌, true, false, Bool, cond, List, [], ◌++◌, length, take, Option, Some, None, is_some, refl, sym, subst, inl, inr}
 use Rattle.std.specs.FinMap.{get-empty}
 use Rattle.std.proofs.lemmas.List.Elements.{All-cons, All-nil}
-use Rattle.std.proofs.lemmas.Option.{same_Some}
 use Rattle.raft_env.specs.Outcomes.{File, IsDoneOrWrite, OnlyWritesRefused, written, resized, synced_of, settled, overlaid, padded}
-use Rattle.raft_env.specs.Directory.{Directory, Left, Path, file_at, placed, changed, changed_at, created, folder_made, IsRestarted}
+use Rattle.raft_env.specs.Directory.{Directory, Path, file_at, placed, changed, changed_at, created, folder_made}
 use Rattle.raft_env.specs.Consistent.{IsConsistent, AreConsistent, OnlyWritesRefusedIn, NoneRenamed}
 use Rattle.raft_memory.specs.Memory.{memory_directory, no_files}
 use Rattle.raft_memory.specs.declared.memory.MemoryFileSystem.{MemoryFileSystem}
@@ -37,7 +35,7 @@ written_holds at given after is_done file old consistent = record {
   not_renamed = old.not_renamed;
 }
 
-resized_holds : (after : List ℕ) (file : File) → Holds file → IsConsistent (resized true after file) → Holds (resized true after file)
+resized_holds : (after : List ℕ) (file : File) → Holds file → IsConsistent (resized after file) → Holds (resized after file)
 resized_holds after file old consistent = record {
   consistent = consistent;
   only_writes = All-cons IsDoneOrWrite _ (file.changes ++ file.older) (λ refused. absurd cc) old.only_writes;
@@ -83,10 +81,10 @@ module _ (m : MemoryFileSystem) (new : Directory) where
   pub invariant-written_part : (path : Path) (at : ℕ) (given kept : List ℕ) → length kept ≤ length given → new ≡ changed path (λ f. written at given false (overlaid f.now at kept) f) (memory_directory m) → Invariant new
   invariant-written_part path at given kept part = invariant-changed path _ (λ file holds. written_holds at given _ false file holds (written_consistent at given _ false file holds.consistent (writing_part at given kept part file.now)))
 
-  pub invariant-cut : (path : Path) (size : ℕ) → new ≡ changed path (λ f. resized true (take size f.now) f) (memory_directory m) → Invariant new
+  pub invariant-cut : (path : Path) (size : ℕ) → new ≡ changed path (λ f. resized (take size f.now) f) (memory_directory m) → Invariant new
   invariant-cut path size = invariant-changed path _ (λ file holds. resized_holds _ file holds (cut_consistent size _ true file holds.consistent refl))
 
-  pub invariant-lengthened : (path : Path) (size : ℕ) → new ≡ changed path (λ f. resized true (padded f.now size) f) (memory_directory m) → Invariant new
+  pub invariant-lengthened : (path : Path) (size : ℕ) → new ≡ changed path (λ f. resized (padded f.now size) f) (memory_directory m) → Invariant new
   invariant-lengthened path size = invariant-changed path _ (λ file holds. resized_holds _ file holds (allocated_consistent size _ true file holds.consistent refl))
 
   pub invariant-synced : (path : Path) → new ≡ changed path synced_of (memory_directory m) → Invariant new
@@ -109,10 +107,3 @@ invariant-no_files n is = subst Invariant (sym is) (of_each no_files (λ path fi
     absent path file stands =
         let none : file_at no_files path ≡ None = get-empty _ path in
         absurd (cc (none, stands))
-
-pub invariant-restarted : (n m : Directory) (d : Left) → IsRestarted n d m → Invariant m
-invariant-restarted n m d restarted = of_each m (λ path file stands. by_file path file (file_at n path) (sym (restarted.each path) ∙ stands))
-  where
-    by_file : (path : Path) (file : File) (found : Option File) → option_map (λ _. settled (d path)) found ≡ Some file → Holds file
-    by_file path file None e = absurd cc
-    by_file path file (Some f) e = subst Holds (same_Some (settled (d path)) file e) (settled_holds (d path))

@@ -1,7 +1,7 @@
 -- The keys of a directory are those of its map, in order.
-use Rattle.std.proofs.Common.{◌≡◌, Bool, true, false, List, [], ◌∷◌, map, Option, Some, None, refl, sym, ◌∙◌, ap, subst}
+use Rattle.std.proofs.Common.{◌≡◌, Bool, true, false, List, [], ◌∷◌, map, refl, sym, ◌∙◌, ap, subst}
 use Rattle.std.specs.Prelude.{String, ◌&&◌, ◌||◌}
-use Rattle.std.specs.List.{AllByRecursion, filter_map, list_any}
+use Rattle.std.specs.List.{AllByRecursion, list_any}
 use Rattle.std.specs.List.Sorted.{IsStrictlySortedBy}
 use Rattle.std.specs.declared.alloc.Global.{Global}
 use Rattle.std.specs.declared.cmp.Ordering.TheVariants.{Less}
@@ -40,13 +40,6 @@ keys-directory_of m is_folder ordered =
     let same = finite.same_map nat_list_cmp_total path_cmp-IsAntisymmetric (finite.from_entries (by_bytes m.entries)) (finite.from_sorted (by_bytes m.entries)) (λ q.
     finite.get-from_entries nat_list_cmp_total (by_bytes m.entries) q ∙ sym (finite.get-from_sorted (slice_cmp nat_cmp) (by_bytes m.entries) q sorted)) in
     ap (λ (x : finite.FinMap (slice_cmp nat_cmp) File). map (λ e. e.0) (finite.entries x)) same ∙ ap (λ (l : List (Path × File)). map (λ e. e.0) l) (finite.entries-from_sorted (slice_cmp nat_cmp) (by_bytes m.entries) sorted) ∙ keys_by_bytes m.entries
-
--- a path more is a name more, or none
-pub filter_map_some : (f : Path → Option Path) (path name : Path) (paths : List Path) → f path ≡ Some name → filter_map f (path ∷ paths) ≡ name ∷ filter_map f paths
-filter_map_some f path name paths is = rw is refl
-
-pub filter_map_none : (f : Path → Option Path) (path : Path) (paths : List Path) → f path ≡ None → filter_map f (path ∷ paths) ≡ filter_map f paths
-filter_map_none f path paths is = rw is refl
 
 pub any_by_bytes : (test : Path → Bool) (keys : List (String Global)) → list_any test (map string_bytes keys) ≡ list_any (λ k. test (string_bytes k)) keys
 any_by_bytes test [] = refl

@@ -1,5 +1,5 @@
 -- What a change of one file does to the directory that a map of files shows.
-use Rattle.std.proofs.Common.{◌≡◌, Bool, false, cond, List, [], ◌∷◌, Some, refl, sym, ◌∙◌, ap}
+use Rattle.std.proofs.Common.{◌≡◌, ℕ, Bool, false, cond, List, [], ◌∷◌, Option, Some, None, refl, sym, ◌∙◌, ap, inl, inr}
 use Rattle.std.specs.Prelude.{String, IsSome, is_some}
 use Rattle.std.specs.declared.alloc.Global.{Global}
 use Rattle.std.specs.String.{string_bytes, string_cmp}
@@ -12,8 +12,8 @@ use Rattle.std.specs.Map.{lookup, set_value}
 use Rattle.std.specs.FinMap as finite
 use Rattle.std.proofs.lemmas.Map.Text.{btree_map_updates_text, is_eq-slice_cmp}
 use Rattle.std.proofs.lemmas.Map.Steps.{set_value_same}
-use Rattle.raft_env.specs.Outcomes.{File, settled}
-use Rattle.raft_env.specs.Directory.{Path, file_at, placed, changed, changed_at, created}
+use Rattle.raft_env.specs.Outcomes.{File, settled, Outcome}
+use Rattle.raft_env.specs.Directory.{Path, Directory, file_at, placed, changed, changed_at, created, IsChanging}
 use Rattle.raft_memory.specs.declared.namespace.Namespace.{Namespace}
 use Rattle.raft_memory.specs.Files.{Files, by_bytes, directory_of, folders_of, namespace_directory}
 
@@ -59,3 +59,14 @@ file_at-namespace_directory t p = file_at-directory_of t.files (folders_of t.fol
 
 pub found_in : (t : Namespace) (p : Path) (file : File) → tree.get_by_text t.files p ≡ Some file → IsSome (file_at (namespace_directory t) p)
 found_in t p file stands = ap is_some (file_at-namespace_directory t p ∙ stands)
+
+-- Moments of a call.
+
+-- what a call leaves that changes one file is a moment of it
+pub changing : (path : Path) (step : Bool → List ℕ → File → File) (wanted : List ℕ → List ℕ) (IsPart : List ℕ → List ℕ → Type 0) (old new : Directory) (is_done : Bool) (left : List ℕ → List ℕ)
+    → ((now : List ℕ) → Outcome is_done (wanted now) (IsPart now) (left now)) → new ≡ changed path (λ f. step is_done (left f.now) f) old → IsChanging path step wanted IsPart old new
+changing path step wanted IsPart old new is_done left outcome is = at_file (file_at old path) refl
+  where
+    at_file : (o : Option File) → file_at old path ≡ o → IsChanging path step wanted IsPart old new
+    at_file None e = inl (is ∙ ap (λ o. changed_at path (λ f. step is_done (left f.now) f) o old) e)
+    at_file (Some file) e = inr (file, left file.now, is_done, e, outcome file.now, is ∙ ap (λ o. changed_at path (λ f. step is_done (left f.now) f) o old) e)

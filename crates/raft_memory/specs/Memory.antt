@@ -1,8 +1,10 @@
 -- What a file system in memory shows.
-use Rattle.std.specs.Prelude.{◌≡◌, ℕ, ◌+◌, ◌<◌, ◌^◌, ◌==◌, ◌/◌, false, List, ◌∷◌, length, map, take, Option, Some, None}
+use Rattle.std.specs.Prelude.{◌≡◌, ℕ, ◌+◌, ◌^◌, ◌==◌, ◌/◌, false, nat_le, if◌then◌else◌, List, ◌∷◌, length, map, take, Option, Some}
 use Rattle.std.specs.FinMap as finite
 use Rattle.raft_env.specs.Outcomes.{written, overlaid}
-use Rattle.raft_env.specs.Directory.{Directory, IsOneOf, Path, changed}
+use Rattle.raft_env.specs.Directory.{Directory, Path, changed}
+use Rattle.raft_env.specs.declared.env.FsFault.{FsFault}
+use Rattle.raft_env.specs.declared.env.FsFault.TheVariants.{Io}
 use Rattle.raft_base.specs.declared.errors.IoKind.{IoKind}
 use Rattle.raft_memory.specs.declared.armed.FsCall.{FsCall}
 use Rattle.raft_memory.specs.Armed.{arms_of}
@@ -17,7 +19,8 @@ memory_directory memory = namespace_directory memory.namespace
 
 -- each directory that there was, the newest first
 abbrev pub memory_moments : MemoryFileSystem → List Directory
-memory_moments memory = namespace_directory memory.namespace ∷ map namespace_directory memory.past.items
+memory_moments memory =
+    namespace_directory memory.namespace ∷ map namespace_directory memory.past.items
 
 -- how many calls were refused
 abbrev pub memory_refusals : MemoryFileSystem → Refusals
@@ -27,7 +30,8 @@ memory_refusals memory = refusals_in memory.refusals
 abbrev pub no_files : Directory
 no_files = record { files = finite.empty; is_folder = λ q. length q == 0 }
 
--- the refusals that are armed, in that order: the sort of calls, which of them from now on (of reads, from the arming on), and as what it is refused
+-- the refusals that are armed, in that order: the sort of calls, which of them from now on (of
+-- reads, from the arming on), and as what it is refused
 abbrev pub armed_of : MemoryFileSystem → List (FsCall × ℕ × IoKind)
 armed_of memory = arms_of memory.armed.refusals.items
 
@@ -35,13 +39,18 @@ armed_of memory = arms_of memory.armed.refusals.items
 abbrev pub stop_of : MemoryFileSystem → Option ℕ
 stop_of memory = memory.armed.stop
 
--- with the first half of the bytes, rounded down, written there by a call that was refused
+-- with the first half of the bytes, rounded down, written to the file there by a refused call
 abbrev pub half_written : Path → ℕ → List ℕ → Directory → Directory
 half_written path at given n = changed path (λ f. written at given false
     (overlaid f.now at (take (length given / 2) given)) f) n
 
--- what a refused write leaves: where it was injected the first half, if the whole has room; memory for the half may be wanting, and then nothing is written
-abbrev pub LeavesHalf : Option IoKind → Path → ℕ → List ℕ → Directory → Directory → Type 0
-LeavesHalf None path at given old new = new ≡ old
-LeavesHalf (Some kind) path at given old new =
-    (2 ^ 62 < at + length given → new ≡ old) × IsOneOf old (half_written path at given old) new
+-- .. if there is room for all of them
+abbrev pub half_left : Path → ℕ → List ℕ → Directory → Directory
+half_left path at given n = if nat_le (at + length given) (2 ^ 62) then half_written path at given n
+    else n
+
+-- what a refused write leaves: the first half where the refusal was injected, and else all as it
+-- was, as where memory for the half was wanting
+abbrev pub LeavesHalf : Option IoKind → FsFault → Path → ℕ → List ℕ → Directory → Directory → Type 0
+LeavesHalf (Some kind) (Io answered) path at given old new = new ≡ half_left path at given old
+LeavesHalf _ _ path at given old new = new ≡ old

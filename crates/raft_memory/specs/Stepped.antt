@@ -4,8 +4,9 @@ use Rattle.raft_memory.specs.declared.known.Step.{Step}
 use Rattle.raft_memory.specs.declared.known.Step.TheVariants as step
 
 -- the file after the step
-abbrev pub stepped : Step → File → File
-stepped (step.Write at given is_done after) file = written at given.now is_done after.now file
-stepped (step.Resize is_done after) file = resized is_done after.now file
-stepped step.Sync file = synced_of file
-stepped (step.Restart bytes) file = settled bytes.now
+abbrev pub stepped : Step → File
+stepped (step.Write known at given is_done after) =
+    written at given.now is_done after.now known.now.file
+stepped (step.Resize known after) = resized after.now known.now.file
+stepped (step.Sync known) = synced_of known.now.file
+stepped (step.Start bytes) = settled bytes.now

@@ -152,8 +152,9 @@ impl MemoryFileSystem {
     ghost use Rattle.raft_memory.specs.Memory.{memory_directory, memory_moments, memory_refusals, armed_of, stop_of};
 
     /// Arms one more refusal: of the calls of that sort from now on the nth, counted from 1, and no
-    /// other is refused so. A write that is refused so has written the first half of its bytes, if
-    /// all of them had room and memory for the half was there; any other call has changed nothing.
+    /// other is refused so. A write that is refused so has written the first half of its bytes,
+    /// rounded down, if all of them have room; where memory for the half is wanting, it has written
+    /// nothing and answers `Memory`. Any other call has changed nothing.
     pub fn refuse(&mut self, call: FsCall, nth: u64, kind: IoKind) -> Result<(), Fault>
         ensures ok { OnOk result (armed_of self.new ≡ armed_of self.old ++ (call, nth, kind) ∷ []) }
         ensures err { OnErr result (armed_of self.new ≡ armed_of self.old) }

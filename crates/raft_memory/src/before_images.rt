@@ -39,7 +39,8 @@ impl BeforeImages {
 
     /// Saves what stands between two places. What stands behind the end is a zero.
     pub(crate) fn save(&mut self, bytes: &[u8], from: usize, end: usize) -> Result<(), AllocError>
-        ensures ok { OnOk result ((i : ℕ) → saved_at self.new i ≡ option_or (saved_at self.old i) (if is_within from (end - from) i then Some (slice_index bytes.now i) else None)) }
+        ensures ok { OnOk result ((i : ℕ) → saved_at self.new i ≡ option_or (saved_at self.old i)
+            (if is_within from (end - from) i then Some (slice_index bytes.now i) else None)) }
         ensures err { OnErr result (self.new ≡ self.old) }
     {
         if end <= from {
@@ -63,7 +64,8 @@ impl BeforeImages {
     /// Puts what was saved where it stood.
     pub(crate) fn restore(&self, bytes: &mut [u8])
         ensures len { length bytes.new ≡ length bytes.old }
-        ensures each { (i : ℕ) → i < length bytes.old → slice_index bytes.new i ≡ unwrap_or (saved_at self.now i) (slice_index bytes.old i) }
+        ensures each { (i : ℕ) → i < length bytes.old → slice_index bytes.new i
+            ≡ unwrap_or (saved_at self.now i) (slice_index bytes.old i) }
     {
         let mut end = self.bytes.len();
         let mut left = self.places.len();
@@ -79,8 +81,11 @@ impl BeforeImages {
 // Appends so many bytes from that place on, with zeros for those behind the end.
 fn push_part(saved: &mut Vec<u8>, bytes: &[u8], from: usize, size: usize) -> Result<(), AllocError>
     ensures len { OnOk result (length saved.new.items ≡ length saved.old.items + size) }
-    ensures kept { OnOk result ((i : ℕ) → i < length saved.old.items → slice_index saved.new.items i ≡ slice_index saved.old.items i) }
-    ensures added { OnOk result ((i : ℕ) → i < size → slice_index saved.new.items (length saved.old.items + i) ≡ slice_index bytes.now (from + i)) }
+    ensures unchanged { OnOk result ((i : ℕ) → i < length saved.old.items
+        → slice_index saved.new.items i ≡ slice_index saved.old.items i) }
+    ensures added { OnOk result ((i : ℕ) → i < size
+        → slice_index saved.new.items (length saved.old.items + i)
+        ≡ slice_index bytes.now (from + i)) }
     ensures err { OnErr result (saved.new.items ≡ saved.old.items) }
 {
     let start = saved.len();
@@ -98,7 +103,8 @@ fn push_part(saved: &mut Vec<u8>, bytes: &[u8], from: usize, size: usize) -> Res
 fn put_part(bytes: &mut [u8], from: usize, given: &[u8])
     ensures len { length bytes.new ≡ length bytes.old }
     ensures each { (i : ℕ) → i < length bytes.old → slice_index bytes.new i
-        ≡ (if is_within from (length given.now) i then slice_index given.now (i - from) else slice_index bytes.old i) }
+        ≡ (if is_within from (length given.now) i then slice_index given.now (i - from)
+        else slice_index bytes.old i) }
 {
     if from < bytes.len() {
         let count = given.len().min(bytes.len() - from);

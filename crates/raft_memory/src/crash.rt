@@ -76,7 +76,8 @@ impl Namespace {
         ensures allowed { OnOk result (Leaves (namespace_directory self.now)
             (left_by choices.now (namespace_directory self.now))) }
         ensures refused { IfErr result (RefusesUnless
-            (Leaves (namespace_directory self.now) (left_by choices.now (namespace_directory self.now)))) }
+            (Leaves (namespace_directory self.now)
+            (left_by choices.now (namespace_directory self.now)))) }
     {
         let folders = copies_of(alloc, &self.folders)?;
         let mut files = BTreeMap::new(alloc);

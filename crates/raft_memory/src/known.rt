@@ -1,7 +1,7 @@
-//! What only clauses read of a file. It takes no memory, and its methods do nothing at run time.
-ghost use Rattle.std.specs.Prelude.{◌≡◌, []};
+//! What only clauses read of a file. It takes no memory, and its method does nothing at run time.
+ghost use Rattle.std.specs.Prelude.{◌≡◌};
 ghost use Rattle.std.specs.Borrow.{ftrue};
-ghost use Rattle.raft_env.specs.Outcomes.{File, settled};
+ghost use Rattle.raft_env.specs.Outcomes.{File};
 
 use std::marker::Model;
 
@@ -19,28 +19,23 @@ unsafe impl Send for Known {}
 
 unsafe impl Sync for Known {}
 
-/// What became of a file. The last slice of a step has the file's bytes then.
+/// What became of a file, of which that was known before. The last slice of a step has the file's
+/// bytes then.
 #[derive(Clone, Copy, Drop)]
 pub(crate) enum Step<'a> {
-    Write(usize, &'a [u8], bool, &'a [u8]),
-    Resize(bool, &'a [u8]),
-    Sync,
-    /// A crash left these bytes.
-    Restart(&'a [u8]),
+    Write(&'a Known, usize, &'a [u8], bool, &'a [u8]),
+    Resize(&'a Known, &'a [u8]),
+    Sync(&'a Known),
+    /// The file is new, or a crash left these bytes.
+    Start(&'a [u8]),
 }
 
 impl Known {
     ghost use Rattle.raft_memory.specs.Stepped.{stepped};
 
-    pub(crate) fn new() -> Known
-        ensures { result.file ≡ settled [] }
-    {
-        Known {}
-    }
-
     #[inline(always)]
-    pub(crate) fn then(&self, _step: &Step<'_>) -> Known
-        ensures { result.file ≡ stepped _step.now self.now.file }
+    pub(crate) fn after(_step: &Step<'_>) -> Known
+        ensures { result.file ≡ stepped _step.now }
     {
         Known {}
     }

@@ -4,6 +4,7 @@
 pub mod armed;
 mod before_images;
 pub mod crash;
+mod half_write;
 mod known;
 pub mod memory;
 mod memory_file;

@@ -11,13 +11,12 @@ ghost use Rattle.raft_env.specs.Refusal.{CountsFault};
 ghost use Rattle.raft_memory.specs.Counted.{by_storage};
 
 use crate::armed::{Armed, FsCall};
+use crate::half_write::fits;
 use crate::namespace::Namespace;
 use crate::refusals::RefusalCount;
 use raft_base::History;
 use raft_env::{FileSystem, FsFault, IoKind, Permission};
 use std::alloc::Global;
-
-const MAX_LEN: usize = 1 << 62;
 
 /// Files by their paths, in memory. It shows its files as `memory_directory` and its moments as
 /// `memory_moments`.
@@ -67,32 +66,6 @@ impl MemoryFileSystem {
             refusals: RefusalCount::new(),
             armed: Armed::new(alloc),
         }
-    }
-}
-
-impl MemoryFileSystem {
-    ghost use Rattle.raft_memory.specs.Memory.{memory_directory, memory_moments, memory_refusals, armed_of, stop_of, half_written};
-
-    // Writes the first half of the bytes, if there is room for all of them.
-    fn write_half(&mut self, path: &str, at: usize, bytes: &[u8]) -> Result<(), FsFault>
-        ensures ok { OnOk result (memory_directory self.new
-            ≡ half_written path.now at bytes.now (memory_directory self.old)) }
-        ensures err { OnErr result (memory_directory self.new ≡ memory_directory self.old) }
-        ensures fits { OnOk result (at + length bytes.now ≤ 2 ^ 62) }
-        ensures any_moment { MovesBy memory_directory memory_moments
-            (IsWriting path.now at bytes.now) self.old self.new }
-        ensures cause { memory_refusals self.new ≡ memory_refusals self.old }
-        ensures others { (armed_of self.new ≡ armed_of self.old)
-            × (stop_of self.new ≡ stop_of self.old) }
-    {
-        if !fits(at, bytes.len()) {
-            return Err(FsFault::Io(IoKind::NoSpace));
-        }
-        let past = self.past.with(&self.namespace);
-        let half = &bytes[..bytes.len() / 2];
-        self.namespace.write(path, at, bytes, half, false)?;
-        self.past = past;
-        Ok(())
     }
 }
 
@@ -219,12 +192,12 @@ impl FileSystem for MemoryFileSystem {
     fn new_writer(&mut self, handle: &MemoryHandle) -> Result<MemoryWriter, FsFault>
         ensures writer { IfOk result (λ w. (string_bytes w.path ≡ string_bytes handle.now.path)
             × (handle.now.may_write ≡ true)) }
-        ensures refused { handle.now.may_write ≡ false → result ≡ Err (FsFault.Io IoKind.Other) }
+        ensures refused { (handle.now.may_write ≡ false → result ≡ Err (FsFault.Io IoKind.Other))
+            × (handle.now.may_write ≡ true
+            → RefusesAs (injected FsCall.NewWriter (armed_of self.old) None)
+            (λ e. e ≡ FsFault.Memory) result) }
         ensures unchanged { OnlyReads memory_directory memory_moments self.old self.new }
         ensures cause { Counts result (memory_refusals self.old) (memory_refusals self.new) }
-        ensures why { handle.now.may_write ≡ true
-            → RefusesAs (injected FsCall.NewWriter (armed_of self.old) None)
-            (λ e. e ≡ FsFault.Memory) result }
         ensures stop { stop_of self.new ≡ stop_of self.old }
         ensures armed { armed_of self.new ≡ arms_after FsCall.NewWriter (armed_of self.old) }
     {
@@ -243,29 +216,33 @@ impl FileSystem for MemoryFileSystem {
 
     fn write(&mut self, writer: &mut MemoryWriter, at: usize, bytes: &[u8]) -> Result<(), FsFault>
         ensures writer { string_bytes writer.new.path ≡ string_bytes writer.old.path }
-        ensures found { OnOk result (HasFile (memory_directory self.old)
+        ensures value { OnOk result (HasFile (memory_directory self.old)
             (string_bytes writer.old.path)) }
         ensures fits { OnOk result (at + length bytes.now < 2 ^ 63) }
         ensures ok { OnOk result (memory_directory self.new
             ≡ changed (string_bytes writer.old.path)
             (λ f. written at bytes.now true (overlaid f.now at bytes.now) f)
             (memory_directory self.old)) }
-        ensures err { OnErr result (LeavesHalf
-            (injected FsCall.Write (armed_of self.old) (stop_of self.old))
+        ensures err { IfErr result (λ e. LeavesHalf
+            (injected FsCall.Write (armed_of self.old) (stop_of self.old)) e
             (string_bytes writer.old.path) at bytes.now (memory_directory self.old)
             (memory_directory self.new)) }
         ensures any_moment { MovesBy memory_directory memory_moments
             (IsWriting (string_bytes writer.old.path) at bytes.now) self.old self.new }
         ensures cause { Counts result (memory_refusals self.old) (memory_refusals self.new) }
-        ensures refused { RefusesAs (injected FsCall.Write (armed_of self.old) (stop_of self.old))
+        ensures refused { (result ≡ Err FsFault.Memory)
+            ⊎ RefusesAs (injected FsCall.Write (armed_of self.old) (stop_of self.old))
             (λ e. HasNoRoom at (length bytes.now) e
-            ⊎ IsMissing (memory_directory self.old) (string_bytes writer.old.path) e) result }
+            ⊎ IsAbsent (memory_directory self.old) (string_bytes writer.old.path) e) result }
         ensures stop { stop_of self.new ≡ stop_after (stop_of self.old) }
         ensures armed { armed_of self.new ≡ arms_after FsCall.Write (armed_of self.old) }
     {
         if let Some(kind) = self.armed.due_change(FsCall::Write) {
-            let _ = self.write_half(writer.path.as_str(), at, bytes);
-            return Err(self.refusals.count(FsFault::Io(kind)));
+            let fault = match self.write_half(writer.path.as_str(), at, bytes) {
+                Ok(()) => FsFault::Io(kind),
+                Err(fault) => fault,
+            };
+            return Err(self.refusals.count(fault));
         }
         if !fits(at, bytes.len()) {
             return Err(self.refusals.count(FsFault::Io(IoKind::NoSpace)));
@@ -283,10 +260,10 @@ impl FileSystem for MemoryFileSystem {
 
     fn truncate(&mut self, writer: &mut MemoryWriter, size: usize) -> Result<(), FsFault>
         ensures writer { string_bytes writer.new.path ≡ string_bytes writer.old.path }
-        ensures found { OnOk result (HasFile (memory_directory self.old)
+        ensures value { OnOk result (HasFile (memory_directory self.old)
             (string_bytes writer.old.path)) }
         ensures ok { OnOk result (memory_directory self.new ≡ changed (string_bytes writer.old.path)
-            (λ f. resized true (take size f.now) f) (memory_directory self.old)) }
+            (λ f. resized (take size f.now) f) (memory_directory self.old)) }
         ensures err { OnErr result (memory_directory self.new ≡ memory_directory self.old) }
         ensures any_moment { MovesBy memory_directory memory_moments
             (IsTruncating (string_bytes writer.old.path) size) self.old self.new }
@@ -310,11 +287,11 @@ impl FileSystem for MemoryFileSystem {
 
     fn allocate(&mut self, writer: &mut MemoryWriter, at: usize, size: usize) -> Result<(), FsFault>
         ensures writer { string_bytes writer.new.path ≡ string_bytes writer.old.path }
-        ensures found { OnOk result (HasFile (memory_directory self.old)
+        ensures value { OnOk result (HasFile (memory_directory self.old)
             (string_bytes writer.old.path)) }
         ensures fits { OnOk result (at + size < 2 ^ 63) }
         ensures ok { OnOk result (memory_directory self.new ≡ changed (string_bytes writer.old.path)
-            (λ f. resized true (padded f.now (at + size)) f) (memory_directory self.old)) }
+            (λ f. resized (padded f.now (at + size)) f) (memory_directory self.old)) }
         ensures err { OnErr result (memory_directory self.new ≡ memory_directory self.old) }
         ensures any_moment { MovesBy memory_directory memory_moments
             (IsAllocating (string_bytes writer.old.path) (at + size)) self.old self.new }
@@ -341,7 +318,7 @@ impl FileSystem for MemoryFileSystem {
 
     fn sync(&mut self, writer: &mut MemoryWriter) -> Result<(), FsFault>
         ensures writer { string_bytes writer.new.path ≡ string_bytes writer.old.path }
-        ensures found { OnOk result (HasFile (memory_directory self.old)
+        ensures value { OnOk result (HasFile (memory_directory self.old)
             (string_bytes writer.old.path)) }
         ensures ok { OnOk result (memory_directory self.new
             ≡ changed (string_bytes writer.old.path) synced_of (memory_directory self.old)) }
@@ -463,12 +440,6 @@ impl FileSystem for MemoryFileSystem {
     fn read_refusals(&self, reader: &MemoryReader) -> u64 {
         reader.refused
     }
-}
-
-fn fits(at: usize, size: usize) -> bool
-    ensures { IsTrue result ↔ (at + size ≤ MAX_LEN) }
-{
-    at <= MAX_LEN && size <= MAX_LEN - at
 }
 
 fn refused(reader: &mut MemoryReader, kind: IoKind) -> FsFault

@@ -1,4 +1,5 @@
-//! A file in memory: its bytes now, what its changes since the last sync wrote over, and the ranges that they touched.
+//! A file in memory: its bytes now, what its changes since the last sync wrote over, and the ranges
+//! that they touched.
 ghost use Rattle.std.specs.Prelude.{◌≡◌, ◌≤◌, ◌<◌, ◌+◌, ◌-◌, ◌==◌, ◌&&◌, ◌++◌, ◌^◌, ◌||◌, ℕ, [], length, take, drop, if◌then◌else◌, true, OnOk, OnErr, IfOk, IfErr, MatchBool, vec_len, vec_capacity};
 ghost use Rattle.raft_env.specs.Outcomes.{File, MayLeave, settled, written, resized, synced_of, longest_of, overlaid, padded, is_within};
 ghost use Rattle.raft_memory.specs.Choice.{torn};
@@ -41,7 +42,7 @@ impl MemoryFile {
             ranges: Vec::new(alloc),
             least: 0,
             greatest: 0,
-            known: Known::new(),
+            known: Known::after(&Step::Start(&[])),
         }
     }
 
@@ -63,7 +64,8 @@ impl MemoryFile {
     ) -> Result<(), AllocError>
         requires fits { at + length given.now < 2 ^ 63 }
         requires part { length kept.now ≤ length given.now }
-        ensures ok { OnOk result (self.new ≡ written at given.now is_done (overlaid self.old.now at kept.now) self.old) }
+        ensures ok { OnOk result (self.new
+            ≡ written at given.now is_done (overlaid self.old.now at kept.now) self.old) }
         ensures err { OnErr result (self.new ≡ self.old) }
     {
         self.ranges.reserve(1)?;
@@ -72,18 +74,16 @@ impl MemoryFile {
         overlay(&mut self.bytes, at, kept)?;
         add_range(&mut self.ranges, at, given.len());
         self.least = self.least.min(self.bytes.len());
-        let longest = longest_of(is_done, at + given.len(), self.bytes.len());
+        let longest = longest_of(is_done, at, given.len(), self.bytes.len());
         self.greatest = self.greatest.max(longest);
-        self.known = self
-            .known
-            .then(&Step::Write(at, given, is_done, &self.bytes));
+        self.known = Known::after(&Step::Write(&self.known, at, given, is_done, &self.bytes));
         Ok(())
     }
 }
 
 impl MemoryFile {
     pub(crate) fn cut(&mut self, size: usize) -> Result<(), AllocError>
-        ensures ok { OnOk result (self.new ≡ resized true (take size self.old.now) self.old) }
+        ensures ok { OnOk result (self.new ≡ resized (take size self.old.now) self.old) }
         ensures err { OnErr result (self.new ≡ self.old) }
     {
         self.ranges.reserve(1)?;
@@ -93,12 +93,12 @@ impl MemoryFile {
         self.bytes.truncate(from);
         self.least = self.least.min(from);
         self.greatest = self.greatest.max(from);
-        self.known = self.known.then(&Step::Resize(true, &self.bytes));
+        self.known = Known::after(&Step::Resize(&self.known, &self.bytes));
         Ok(())
     }
 
     pub(crate) fn lengthen(&mut self, size: usize) -> Result<(), AllocError>
-        ensures ok { OnOk result (self.new ≡ resized true (padded self.old.now size) self.old) }
+        ensures ok { OnOk result (self.new ≡ resized (padded self.old.now size) self.old) }
         ensures err { OnErr result (self.new ≡ self.old) }
     {
         self.ranges.reserve(1)?;
@@ -108,7 +108,7 @@ impl MemoryFile {
         add_range(&mut self.ranges, from, len - from);
         self.least = self.least.min(len);
         self.greatest = self.greatest.max(len);
-        self.known = self.known.then(&Step::Resize(true, &self.bytes));
+        self.known = Known::after(&Step::Resize(&self.known, &self.bytes));
         Ok(())
     }
 
@@ -121,7 +121,7 @@ impl MemoryFile {
         self.ranges.clear();
         self.least = self.bytes.len();
         self.greatest = self.bytes.len();
-        self.known = self.known.then(&Step::Sync);
+        self.known = Known::after(&Step::Sync(&self.known));
     }
 }
 
@@ -132,7 +132,7 @@ impl MemoryFile {
     pub(crate) fn restarted(alloc: Global, bytes: Vec<u8>) -> MemoryFile
         ensures { result ≡ settled bytes.items }
     {
-        let known = Known::new().then(&Step::Restart(&bytes));
+        let known = Known::after(&Step::Start(&bytes));
         MemoryFile {
             synced_len: bytes.len(),
             saved: BeforeImages::new(alloc),
@@ -158,7 +158,8 @@ impl MemoryFile {
     pub(crate) fn left(&self, alloc: Global, choice: &Choice) -> Result<Vec<u8>, Fault>
         ensures ok { IfOk result (λ left. left.items ≡ chosen choice.now self.now) }
         ensures allowed { OnOk result (MayLeave self.now (chosen choice.now self.now)) }
-        ensures refused { IfErr result (RefusesUnless (MayLeave self.now (chosen choice.now self.now))) }
+        ensures refused { IfErr result (RefusesUnless
+            (MayLeave self.now (chosen choice.now self.now))) }
     {
         match choice {
             Choice::All => Ok(self.bytes.to_vec(alloc)?),
@@ -186,7 +187,8 @@ impl MemoryFile {
 
 // Whether the bytes are those of the last sync but in the ranges.
 fn same_outside(bytes: &[u8], synced: &[u8], ranges: &[(usize, usize)]) -> bool
-    ensures { MatchBool result (SameOutside ranges.now synced.now bytes.now) (SameOutside ranges.now synced.now bytes.now → ⊥) }
+    ensures { MatchBool result (SameOutside ranges.now synced.now bytes.now)
+        (SameOutside ranges.now synced.now bytes.now → ⊥) }
 {
     for (i, byte) in bytes.iter().enumerate() {
         if i < synced.len() && *byte != synced[i] && !covers(ranges, i) {
@@ -238,18 +240,24 @@ fn left_after(is_covered: bool, left: usize) -> usize
     }
 }
 
-// Inside a write up to an end that was refused the file may have had the length of that end.
-fn longest_of(is_done: bool, end: usize, len: usize) -> usize
-    ensures { result ≡ longest_of is_done end len }
+// The greatest length that the file may have had inside a write that left it with this one.
+fn longest_of(is_done: bool, at: usize, size: usize, left: usize) -> usize
+    requires { at + size < 2 ^ 63 }
+    ensures { result ≡ longest_of is_done at size left }
 {
-    if is_done { len } else { len.max(end) }
+    if is_done || size == 0 {
+        left
+    } else {
+        left.max(at + size)
+    }
 }
 
 // A range that begins where the last one ends is joined to it, so appends stay one range.
 fn add_range(ranges: &mut Vec<(usize, usize)>, from: usize, size: usize)
     requires fits { from + size < 2 ^ 64 }
     requires room { vec_len ranges.old < vec_capacity ranges.old }
-    ensures { (i : ℕ) → is_covered ranges.new.items i ≡ (is_covered ranges.old.items i || is_within from size i) }
+    ensures { (i : ℕ) → is_covered ranges.new.items i
+        ≡ (is_covered ranges.old.items i || is_within from size i) }
 {
     let mut start = from;
     if let Some(last) = ranges.last() {
@@ -285,7 +293,8 @@ fn overlay(bytes: &mut Vec<u8>, at: usize, given: &[u8]) -> Result<(), AllocErro
 fn put(bytes: &mut [u8], at: usize, given: &[u8])
     requires { at + length given.now ≤ length bytes.old }
     ensures len { length bytes.new ≡ length bytes.old }
-    ensures put { bytes.new ≡ take at bytes.old ++ given.now ++ drop (at + length given.now) bytes.old }
+    ensures put { bytes.new
+        ≡ take at bytes.old ++ given.now ++ drop (at + length given.now) bytes.old }
 {
     bytes[at..at + given.len()].copy_from_slice(given);
 }

@@ -44,7 +44,8 @@ impl Namespace {
 
     /// A path that stands keeps its file.
     pub(crate) fn create(&mut self, alloc: Global, path: &str) -> Result<(), FsFault>
-        ensures ok { OnOk result (namespace_directory self.new ≡ created path.now (namespace_directory self.old)) }
+        ensures ok { OnOk result (namespace_directory self.new
+            ≡ created path.now (namespace_directory self.old)) }
         ensures err { OnErr result (namespace_directory self.new ≡ namespace_directory self.old) }
         ensures refused { IfErr result (HasNoPlace (namespace_directory self.old) path.now) }
     {
@@ -63,7 +64,8 @@ impl Namespace {
     }
 
     pub(crate) fn make_folder(&mut self, alloc: Global, path: &str) -> Result<(), FsFault>
-        ensures ok { OnOk result (namespace_directory self.new ≡ folder_made path.now (namespace_directory self.old)) }
+        ensures ok { OnOk result (namespace_directory self.new
+            ≡ folder_made path.now (namespace_directory self.old)) }
         ensures err { OnErr result (namespace_directory self.new ≡ namespace_directory self.old) }
         ensures refused { IfErr result (IsBarred (namespace_directory self.old) path.now) }
     {
@@ -91,9 +93,10 @@ impl Namespace {
     ) -> Result<(), FsFault>
         requires fits { at + length given.now < 2 ^ 63 }
         requires part { length kept.now ≤ length given.now }
-        ensures found { OnOk result (HasFile (namespace_directory self.old) path.now) }
+        ensures value { OnOk result (HasFile (namespace_directory self.old) path.now) }
         ensures ok { OnOk result (namespace_directory self.new ≡ changed path.now
-            (λ f. written at given.now is_done (overlaid f.now at kept.now) f) (namespace_directory self.old)) }
+            (λ f. written at given.now is_done (overlaid f.now at kept.now) f)
+            (namespace_directory self.old)) }
         ensures err { OnErr result (namespace_directory self.new ≡ namespace_directory self.old) }
         ensures refused { IfErr result (IsMissing (namespace_directory self.old) path.now) }
     {
@@ -107,9 +110,9 @@ impl Namespace {
     }
 
     pub(crate) fn cut(&mut self, path: &str, size: usize) -> Result<(), FsFault>
-        ensures found { OnOk result (HasFile (namespace_directory self.old) path.now) }
+        ensures value { OnOk result (HasFile (namespace_directory self.old) path.now) }
         ensures ok { OnOk result (namespace_directory self.new ≡ changed path.now
-            (λ f. resized true (take size f.now) f) (namespace_directory self.old)) }
+            (λ f. resized (take size f.now) f) (namespace_directory self.old)) }
         ensures err { OnErr result (namespace_directory self.new ≡ namespace_directory self.old) }
         ensures refused { IfErr result (IsMissing (namespace_directory self.old) path.now) }
     {
@@ -123,9 +126,9 @@ impl Namespace {
     }
 
     pub(crate) fn lengthen(&mut self, path: &str, size: usize) -> Result<(), FsFault>
-        ensures found { OnOk result (HasFile (namespace_directory self.old) path.now) }
+        ensures value { OnOk result (HasFile (namespace_directory self.old) path.now) }
         ensures ok { OnOk result (namespace_directory self.new ≡ changed path.now
-            (λ f. resized true (padded f.now size) f) (namespace_directory self.old)) }
+            (λ f. resized (padded f.now size) f) (namespace_directory self.old)) }
         ensures err { OnErr result (namespace_directory self.new ≡ namespace_directory self.old) }
         ensures refused { IfErr result (IsMissing (namespace_directory self.old) path.now) }
     {
@@ -139,8 +142,9 @@ impl Namespace {
     }
 
     pub(crate) fn sync(&mut self, path: &str) -> Result<(), FsFault>
-        ensures found { OnOk result (HasFile (namespace_directory self.old) path.now) }
-        ensures ok { OnOk result (namespace_directory self.new ≡ changed path.now synced_of (namespace_directory self.old)) }
+        ensures value { OnOk result (HasFile (namespace_directory self.old) path.now) }
+        ensures ok { OnOk result (namespace_directory self.new
+            ≡ changed path.now synced_of (namespace_directory self.old)) }
         ensures err { OnErr result (namespace_directory self.new ≡ namespace_directory self.old) }
         ensures refused { IfErr result (IsAbsent (namespace_directory self.old) path.now) }
     {
@@ -154,7 +158,8 @@ impl Namespace {
     }
 
     pub(crate) fn names(&self, alloc: Global, folder: &str) -> Result<Vec<String>, FsFault>
-        ensures value { IfOk result (λ names. map string_bytes names.items ≡ names_in folder.now (namespace_directory self.now)) }
+        ensures value { IfOk result (λ names. map string_bytes names.items
+            ≡ names_in folder.now (namespace_directory self.now)) }
         ensures refused { IfErr result (HasNoFolder (namespace_directory self.now) folder.now) }
     {
         if !self.has_folder(folder) {

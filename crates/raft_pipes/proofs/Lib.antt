@@ -8,3 +8,4 @@ pub mod OpenLemmas
 pub mod SoundLemmas
 pub mod QueueLemmas
 pub mod DoubtLemmas
+pub mod DoneLemmas

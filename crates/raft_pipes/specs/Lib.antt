@@ -1,4 +1,5 @@
 pub mod Config
+pub mod Done
 pub mod Folder
 pub mod LogFile
 pub mod Open

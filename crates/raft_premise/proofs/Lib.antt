@@ -1,4 +1,3 @@
-pub mod ToldLemmas
+pub mod ZerosLemmas
 pub mod DoneLemmas
-pub mod PremiseLemmas
-pub mod PastLemmas
+pub mod OpeningLemmas

@@ -1,4 +1,4 @@
-//! The premise on what a crash leaves of a log file can be met: laws alone, that no other library stands on.
+//! Logs whose records no refused call brought, and the calls that keep them so: laws alone.
 #![tactic(auto)]
 
 pub mod laws;

@@ -3,7 +3,7 @@ use Rattle.std.specs.Prelude.{◌==◌, replicate}
 use Rattle.std.proofs.lemmas.Bool.Decides.{nat_tests}
 use Rattle.std.proofs.lemmas.List.{take_at}
 use Rattle.std.proofs.lemmas.Grind.{common_steps}
-use Rattle.raft_env.proofs.OverlaidLemmas.{overlaid_long, overlaid_short}
+use Rattle.raft_memory.proofs.MemoryFileLemmas.{overlaid_long, overlaid_short}
 use Rattle.raft_memory.proofs.memory_file.overlay.Goals as goal
 use Rattle.raft_memory.proofs.memory_file.overlay.Goals.{then-end-len+in_ok-resize, else-end-len}
 

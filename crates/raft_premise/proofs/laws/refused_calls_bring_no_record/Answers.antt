@@ -28,8 +28,8 @@ pub returns-clause-cutting : goal.returns-clause-cutting
 returns-clause-cutting c = done_records_cutting
 
 pub returns-clause-undone : goal.returns-clause-undone
-returns-clause-undone c = λ path id format batches synced at old mid new room new_room given batch log is first refused change.
-    done_log_undone path id format batches synced at old log mid new room new_room given batch is first refused change
+returns-clause-undone c = λ path id format batches synced at old mid new room new_room given batch log is first change refused.
+    done_log_undone path id format batches synced at old log mid new room new_room given batch is first change refused
 
 pub returns-clause-durable : goal.returns-clause-durable
 returns-clause-durable c = λ path id format batches synced at old new log change. done_log_synced path id format batches synced at old log new change

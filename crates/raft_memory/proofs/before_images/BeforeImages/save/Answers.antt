@@ -18,5 +18,5 @@ returns-clause-ok c = λ i.
     let size = c.args.end - c.args.from in
     let pushed : c.push.new.self.items ≡ c.self.inside.places.items ++ (c.args.from, size) ∷ [] = search rules in
     ap (λ places. saved_in places c.push_part.new.saved.items i) pushed
-    ∙ saved_in-more c.self.inside.places.items c.self.inside.bytes.items c.push_part.new.saved.items c.args.bytes.now c.args.from size i c.self.invariant c.in_ok-push_part.ensures.kept c.in_ok-push_part.ensures.added
+    ∙ saved_in-more c.self.inside.places.items c.self.inside.bytes.items c.push_part.new.saved.items c.args.bytes.now c.args.from size i c.self.invariant c.in_ok-push_part.ensures.unchanged c.in_ok-push_part.ensures.added
     ∙ ap (λ (saved : OldBytes). option_or (saved_at saved i) (cond (is_within c.args.from size i) (Some (get_or c.args.bytes.now i 0)) None)) c.self.view_is

@@ -1,28 +1,29 @@
 use Rattle.std.proofs.Common.{◌≡◌, ◌≤◌, ◌∷◌, ◌/◌, false, List, ℕ, length, take, map, ap, arith, rules}
 use Rattle.std.proofs.lemmas.Grind.{common_steps}
-use Rattle.raft_env.specs.Outcomes.{written, overlaid, IsPartOf}
+use Rattle.raft_env.specs.Outcomes.{written, overlaid}
 use Rattle.raft_env.specs.Directory.{changed}
 use Rattle.raft_memory.specs.Files.{namespace_directory}
 use Rattle.raft_env.proofs.MomentsLemmas.{passes_one}
-use Rattle.raft_env.proofs.DirectoryLemmas.{changing_part, writing_part}
+use Rattle.raft_memory.proofs.MemoryLemmas.{changing}
+use Rattle.raft_env.proofs.DirectoryLemmas.{writing_part}
 use Rattle.raft_memory.proofs.InvariantLemmas.{invariant-written_part, invariant-same}
 use Rattle.raft_memory.proofs.memory.MemoryFileSystem.write_half.Goals as goal
 
-pub returns-clause-any_moment : goal.returns-clause-any_moment
-returns-clause-any_moment c =
+pub returns-in-Ok-clause-any_moment : goal.returns-in-Ok-clause-any_moment
+returns-in-Ok-clause-any_moment c =
     let half : List ℕ = take (length c.args.bytes.now / 2) c.args.bytes.now in
     let part : length half ≤ length c.args.bytes.now = grind (arith, common_steps) in
     let is : namespace_directory c.write.new.self ≡ changed c.args.path.now (λ f. written c.args.at c.args.bytes.now false (overlaid f.now c.args.at half) f) (namespace_directory c.args.self.now.namespace) = search rules in
     passes_one _ _ _ _ (ap (λ l. namespace_directory c.write.new.self ∷ map namespace_directory l) c.with-past.ensures)
-    (changing_part c.args.path.now (written c.args.at c.args.bytes.now) (λ now. overlaid now c.args.at c.args.bytes.now) (IsPartOf c.args.at (length c.args.bytes.now)) _ _ (λ now. overlaid now c.args.at half) (writing_part c.args.at c.args.bytes.now half part) is)
+    (changing c.args.path.now _ _ _ _ _ false (λ now. overlaid now c.args.at half) (writing_part c.args.at c.args.bytes.now half part) is)
 
-pub invariant_of-self : goal.invariant_of-self
-invariant_of-self c =
+pub invariant_of-self-in-Err-1 : goal.invariant_of-self-in-Err-1
+invariant_of-self-in-Err-1 c =
     let same : namespace_directory c.write.new.self ≡ namespace_directory c.args.self.now.namespace = search rules in
     invariant-same c.args.self.now _ same
 
-pub invariant_of-self-2 : goal.invariant_of-self-2
-invariant_of-self-2 c =
+pub invariant_of-self : goal.invariant_of-self
+invariant_of-self c =
     let half : List ℕ = take (length c.args.bytes.now / 2) c.args.bytes.now in
     let part : length half ≤ length c.args.bytes.now = grind (arith, common_steps) in
     let is : namespace_directory c.write.new.self ≡ changed c.args.path.now (λ f. written c.args.at c.args.bytes.now false (overlaid f.now c.args.at half) f) (namespace_directory c.args.self.now.namespace) = search rules in

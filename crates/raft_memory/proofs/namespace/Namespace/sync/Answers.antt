@@ -4,8 +4,8 @@ use Rattle.raft_env.specs.Outcomes.{synced_of}
 use Rattle.raft_memory.proofs.MemoryLemmas.{file_at-namespace_directory, changed_after, found_in}
 use Rattle.raft_memory.proofs.namespace.Namespace.sync.Goals as goal
 
-pub returns-in-Some-clause-found : goal.returns-in-Some-clause-found
-returns-in-Some-clause-found c =
+pub returns-in-Some-clause-value : goal.returns-in-Some-clause-value
+returns-in-Some-clause-value c =
     let stands : tree.get_by_text c.args.self.now.files c.args.path.now ≡ Some c.in-Some.file.now = search rules in
     found_in c.args.self.now c.args.path.now _ stands
 

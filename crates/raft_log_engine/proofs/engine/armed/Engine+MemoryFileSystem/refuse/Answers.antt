@@ -1,4 +1,4 @@
-use Rattle.std.proofs.Common.{◌≡◌, ◌++◌, false, length, subst, sym}
+use Rattle.std.proofs.Common.{◌++◌, length, subst, sym}
 use Rattle.raft_pipes.specs.Pipe.{HasQueue}
 use Rattle.raft_pipes.specs.Queue.{RecoversPrefix}
 use Rattle.raft_log_engine.specs.Engine.{folder_of}

@@ -1,0 +1,4 @@
+pub mod ToldLemmas
+pub mod PremiseLemmas
+pub mod PastLemmas
+pub mod QueueLemmas

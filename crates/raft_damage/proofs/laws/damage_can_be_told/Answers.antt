@@ -1,0 +1,29 @@
+use Rattle.raft_memory.proofs.TornLemmas.{choices_may_leave}
+use Rattle.raft_damage.proofs.PremiseLemmas.{records_told, records_torn, log_whole}
+use Rattle.raft_damage.proofs.PastLemmas.{own_told, now_is_read, synced_is_read}
+use Rattle.raft_damage.proofs.ToldLemmas.{broken_zeros}
+use Rattle.raft_damage.proofs.laws.damage_can_be_told.Goals as goal
+
+pub returns-clause-allowed : goal.returns-clause-allowed
+returns-clause-allowed c = choices_may_leave
+
+pub returns-clause-told : goal.returns-clause-told
+returns-clause-told c = records_told
+
+pub returns-clause-torn : goal.returns-clause-torn
+returns-clause-torn c = records_torn
+
+pub returns-clause-zeros : goal.returns-clause-zeros
+returns-clause-zeros c = broken_zeros
+
+pub returns-clause-detectable : goal.returns-clause-detectable
+returns-clause-detectable c = log_whole
+
+pub returns-clause-own : goal.returns-clause-own
+returns-clause-own c = own_told
+
+pub returns-clause-read_now : goal.returns-clause-read_now
+returns-clause-read_now c = now_is_read
+
+pub returns-clause-read_synced : goal.returns-clause-read_synced
+returns-clause-read_synced c = synced_is_read

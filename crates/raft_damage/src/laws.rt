@@ -1,0 +1,75 @@
+//! The premise on damage can be met.
+ghost use Rattle.std.specs.Prelude.{◌≡◌, ◌⊎◌, ◌≤◌, ℕ, List, Some, None, take};
+ghost use Rattle.raft_records.specs.Item.{Batch};
+ghost use Rattle.raft_base.specs.declared.pipe_log.FileId.{FileId};
+ghost use Rattle.raft_base.specs.declared.pipe_log.Version.{Version};
+ghost use Rattle.std.specs.FinMap as finite;
+ghost use Rattle.raft_memory.specs.Choice.{AreWhole, choice_for, left_by, touched_before, NameNoBytes};
+ghost use Rattle.raft_env.specs.Consistent.{AreConsistent, IsConsistent};
+ghost use Rattle.raft_files.specs.Detectable.{EndsUnmarked, IsDetectable, format_of};
+ghost use Rattle.raft_env.specs.Directory.{Directory, Leaves, Left, Path, file_at};
+ghost use Rattle.raft_env.specs.Outcomes.{File, is_touched};
+ghost use Rattle.raft_files.specs.Records.{HoldsRecords};
+ghost use Rattle.raft_premise.specs.Done.{EndsInZeros, HasDoneLog, HasDoneRecords};
+ghost use Rattle.raft_damage.specs.Told.{AreOwn, IsBrokenFrom, IsReadAsBefore, IsTornBehind};
+ghost use Rattle.raft_files.specs.Writer.{Writing};
+ghost use Rattle.raft_pipes.specs.Done.{IsDoneQueue};
+ghost use Rattle.raft_pipes.specs.Folder.{IsDetectableIn};
+ghost use Rattle.raft_memory.specs.declared.crash.Choice.{Choice};
+ghost use Rattle.raft_memory.specs.declared.crash.Choice.TheVariants as choice;
+ghost use Rattle.raft_files.specs.declared.format.LogFileFormat.{LogFileFormat};
+
+/// The premise can be met. Storage may leave each consistent file with all its bytes now, with
+/// those of its last sync, or torn: of the places touched since, only the first few hold their
+/// bytes (`allowed`). Where no refused call brought the records of a file, the damage of a crash
+/// can be told that leaves the first of them as they stand now and behind them none that decodes
+/// (`told`), as a torn file that keeps those does (`torn`). None decodes where zeros alone stand
+/// (`zeros`); so of a log with all bytes or those of its last sync it can be told (`detectable`).
+/// Of a file in any state it can be told where no call brought a record but the one that it was to
+/// write, and what such an outcome leaves is read as a beginning of what was read at a moment since
+/// the last sync (`own`), as all bytes are (`read_now`), and those of the last sync under the same
+/// header or none (`read_synced`).
+pub fn damage_can_be_told()
+    ensures allowed { (choices : List Choice) (n : Directory) → NameNoBytes choices
+        → AreConsistent n → Leaves n (left_by choices n) }
+    ensures told { (path : Path) (id : FileId) (format : LogFileFormat) (batches : List Batch)
+        (synced at : ℕ) (n : Directory) (held : HasDoneRecords path id format batches synced at n)
+        → held.file.renamed_after ≡ None → AreConsistent n → (d : Left) → Leaves n d
+        → IsTornBehind id format held.records held.file (d path) → IsDetectable path id n d }
+    ensures torn { (path : Path) (id : FileId) (format : LogFileFormat) (batches : List Batch)
+        (synced at : ℕ) (n : Directory) (held : HasDoneRecords path id format batches synced at n)
+        → held.file.renamed_after ≡ None → AreConsistent n
+        → (choices : List Choice) (kept fill count end : ℕ)
+        → choice_for choices (finite.keys n.files) path ≡ choice.Torn kept fill
+        → HoldsRecords id format (take count held.records) end held.file.now
+        → touched_before (is_touched held.file.changes) end ≤ kept
+        → IsBrokenFrom id format end (left_by choices n path)
+        → IsDetectable path id n (left_by choices n) }
+    ensures zeros { (id : FileId) (format : LogFileFormat) (at : ℕ) (bytes : List ℕ)
+        → EndsInZeros at bytes → IsBrokenFrom id format at bytes }
+    ensures detectable { (path : Path) (id : FileId) (format : LogFileFormat) (batches : List Batch)
+        (synced at : ℕ) (n : Directory) → HasDoneLog path id format batches synced at n
+        → AreConsistent n → (choices : List Choice) → AreWhole choices
+        → IsDetectable path id n (left_by choices n) }
+    ensures own { (path : Path) (id : FileId) (n : Directory) (file : File)
+        → file_at n path ≡ Some file → file.renamed_after ≡ None → AreConsistent n → AreOwn id file
+        → (choices : List Choice) → NameNoBytes choices
+        → IsReadAsBefore id file (left_by choices n path)
+        → IsDetectable path id n (left_by choices n) }
+    ensures read_now { (id : FileId) (file : File) → IsConsistent file → EndsUnmarked id file.now
+        → IsReadAsBefore id file file.now }
+    ensures read_synced { (id : FileId) (file : File) → (format_of file.synced ≡ format_of file.now)
+        ⊎ (format_of file.synced ≡ None) → EndsUnmarked id file.synced
+        → IsReadAsBefore id file file.synced }
+{}
+
+/// The damage of a crash that leaves each file with all its bytes now or those of its last sync is
+/// detectable of a queue of whose log only writes were refused, and no refused call brought a
+/// record (`detectable`). `raft_pipes` `pipe_builder::open` gives such a queue, and the pipe's calls
+/// keep it.
+pub fn a_queue_can_be_told()
+    ensures detectable { (w : Writing) (version : Version) (folder : Path) (n : Directory)
+        → IsDoneQueue w version folder n → AreConsistent n
+        → (choices : List Choice) → AreWhole choices
+        → ∥ IsDetectableIn folder n (left_by choices n) ∥₁ }
+{}
