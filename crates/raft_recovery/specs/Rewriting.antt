@@ -29,7 +29,8 @@ pub record IsSetByAppend (x : Contents) (appended : List Batch) (group : ℕ) : 
 -- entries that may be written to the Rewrite queue: those that Append leaves alone are recovered,
 -- and of what it leaves alone each entry is below them or among them; where one is below, they
 -- start in the Rewrite queue's entries or right after them
-pub record FitsRewrite (x : Contents) (appended : List Batch) (group : ℕ) (e : Entry) (es : List Entry) : Type 0 where
+pub record FitsRewrite (x : Contents) (appended : List Batch) (group : ℕ)
+    (e : Entry) (es : List Entry) : Type 0 where
   pub held : All (λ n. leaves appended group n.0 ≡ true
       → Contains ((replay x appended).entries group) n) (e ∷ es)
   pub covers : EachLeft x appended group (λ o. (o.0 < e.0) ⊎ Contains (e ∷ es) o)

@@ -27,6 +27,6 @@ pub fn an_atomic_group_counts_when_complete()
 pub fn a_group_without_an_end_is_incomplete()
     ensures no_last { (places : List (List ℕ)) → has_last places ≡ false
         → is_complete places ≡ false }
-    ensures no_first { (places : List (List ℕ)) → list_any (λ p. bytes_eq p first_place) places ≡ false
-        → is_complete places ≡ false }
+    ensures no_first { (places : List (List ℕ))
+        → list_any (λ p. bytes_eq p first_place) places ≡ false → is_complete places ≡ false }
 {}
