@@ -4,13 +4,13 @@ ghost use Rattle.raft_recovery_scenarios.specs.Rows.{after, compact, delete, ent
 
 /// A front of the Append queue is dropped: with a key that is referred to (`referred`), with
 /// entries that the Rewrite queue doesn't have (`missing`), where it has entries before (`before`)
-/// or after (`behind`) those that are recovered, or a key that isn't there (`key`).
+/// or after (`later`) those that are recovered, or a key that isn't there (`key`).
 pub fn dropped_fronts_change_what_is_found()
     ensures referred { (found [] (put 1 ∷ []) ≡ value 1) × (found [] [] ≡ nothing) }
     ensures missing { (found [] (entries (5 ∷ []) ∷ []) ≡ only (5 ∷ [])) × (found [] [] ≡ nothing) }
     ensures before { (found (entries (2 ∷ []) ∷ []) (compact 3 ∷ []) ≡ nothing)
         × (found (entries (2 ∷ []) ∷ []) [] ≡ only (2 ∷ [])) }
-    ensures behind { (found (entries (4 ∷ 5 ∷ []) ∷ []) (entries (4 ∷ []) ∷ []) ≡ only (4 ∷ []))
+    ensures later { (found (entries (4 ∷ 5 ∷ []) ∷ []) (entries (4 ∷ []) ∷ []) ≡ only (4 ∷ []))
         × (found (entries (4 ∷ 5 ∷ []) ∷ []) [] ≡ only (4 ∷ 5 ∷ [])) }
     ensures key { (found (put 1 ∷ []) (delete ∷ []) ≡ nothing)
         × (found (put 1 ∷ []) [] ≡ value 1) }
