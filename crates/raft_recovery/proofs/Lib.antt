@@ -16,3 +16,4 @@ pub mod UnchangedLemmas
 pub mod JoinedLemmas
 pub mod StandsLemmas
 pub mod DropRewriteLemmas
+pub mod ExactLemmas

@@ -1,8 +1,9 @@
 //! What may be appended to the Rewrite queue, so that nothing of what is recovered changes.
-ghost use Rattle.std.specs.Prelude.{◌≡◌, ◌≤◌, ◌++◌, ◌∷◌, ℕ, List, [], true, None, Some, IsTrue};
+ghost use Rattle.std.specs.Prelude.{◌≡◌, ◌≤◌, ◌++◌, ◌∷◌, ℕ, List, [], true, false, None, Some, IsTrue};
 ghost use Rattle.std.specs.List.{list_all};
+ghost use Rattle.std.specs.Str.{bytes_eq};
 ghost use Rattle.raft_records.specs.Contents.{Contents, after_batch};
-ghost use Rattle.raft_records.specs.Item.{Batch, Clean, Compact, Delete, Entries, Entry, Put};
+ghost use Rattle.raft_records.specs.Item.{Batch, Clean, Compact, Delete, Entries, Entry, Put, group_mark_key};
 ghost use Rattle.raft_records.specs.Record.{Mark, mark_item};
 ghost use Rattle.raft_recovery.specs.Consecutive.{HaveConsecutiveEntries, are_consecutive};
 ghost use Rattle.raft_recovery.specs.Groups.{is_complete, is_of_group, mark_of, places_in};
@@ -41,6 +42,27 @@ pub fn rewriting_changes_nothing()
         → ChangesNothing x appended (record { group = group; content = Entries (e ∷ es) }) }
     ensures mark { (x : Contents) (appended : List Batch) (id : ℕ) (mark : Mark)
         → ChangesNothing x appended (mark_item id mark) }
+{}
+
+/// These premises are exact: where a delete, a compaction, a clean or a put of a key changes
+/// nothing, it meets its own.
+pub fn what_changes_nothing_meets_its_premise()
+    ensures deleted { (x : Contents) (appended : List Batch) (group : ℕ) (key : List ℕ)
+        → ChangesNothing x appended (record { group = group; content = Delete key })
+        → leaves_key appended group key ≡ true → (replay x appended).value group key ≡ None }
+    ensures compacted { (x : Contents) (appended : List Batch) (group index : ℕ)
+        → HaveConsecutiveEntries appended → IsTrue (are_consecutive (x.entries group))
+        → ChangesNothing x appended (record { group = group; content = Compact index })
+        → EachLeft x appended group (λ e. index ≤ e.0) }
+    ensures cleaned { (x : Contents) (appended : List Batch) (group : ℕ)
+        → HaveConsecutiveEntries appended
+        → ChangesNothing x appended (record { group = group; content = Clean })
+        → IsSetByAppend x appended group }
+    ensures key { (x : Contents) (appended : List Batch) (group : ℕ) (key value : List ℕ)
+        → bytes_eq key group_mark_key ≡ false
+        → ChangesNothing x appended (record { group = group; content = Put key value })
+        → leaves_key appended group key ≡ true
+        → (replay x appended).value group key ≡ Some value }
 {}
 
 /// Where each item changes nothing after those before it, their batch changes nothing: one without

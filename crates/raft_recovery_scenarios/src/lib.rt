@@ -2,6 +2,8 @@
 #![tactic(auto)]
 
 pub mod drops;
+#[cfg(test)]
+mod laws;
 pub mod marks;
 pub mod rewriting;
 pub mod syncs;
