@@ -43,7 +43,9 @@ pub fn crash_leaves_contents()
         → KeepsContents folder m batches n → HasFile n folder → ⊥ }
     ensures no_file { (folder : Path) (n m : Directory) (d : Left) → IsRestarted n d m
         → IsSound folder n d → HasFile m folder → ⊥ }
-{}
+{
+    raft_pipes::laws::crash_leaves_a_prefix();
+}
 
 /// What an engine keeps a crash leaves now: what is durable, and a prefix of what is unsynced, and so while no call
 /// changes its files, with any batches more. Both make up what an engine holds that hasn't failed.
