@@ -1,5 +1,5 @@
 -- The moments of operations on an engine, divided by its answers.
-use Rattle.std.proofs.Common.{◌≡◌, ◌⊎◌, true, false, List, [], ◌∷◌, ◌++◌, refl, subst, ap, inl, inr}
+use Rattle.std.proofs.Common.{◌≡◌, ◌⊎◌, ◌∙◌, true, false, List, [], ◌∷◌, ◌++◌, append_assoc, refl, sym, subst, ap, inl, inr}
 use Rattle.std.proofs.lemmas.Bool.{cases_Bool}
 use Rattle.raft_env.proofs.MomentsLemmas.{passes_weaker}
 use Rattle.raft_env.specs.Directory.{Directory, Path}
@@ -28,6 +28,17 @@ module _ (folder : Path) (m : Contents) (mid now : Answered) (mid_notes notes : 
   through-append p before noted (op ∷ ops) [] passed rest = absurd passed
   through-append p before noted (op ∷ ops) (o ∷ outcomes) (inl passed) rest = inl (passed.0, through-append (progress_after p op o) before noted ops outcomes passed.1 rest)
   through-append p before noted (op ∷ ops) (o ∷ outcomes) (inr passed) rest = inr (passed.0, passed.1, through-append (progress_after p op o) passed.0 (passed.0 ∷ noted) ops outcomes passed.2 rest)
+
+-- the moments there are then follow those that there were
+pub through_moments : (folder : Path) (m : Contents) (p : Progress) (before : Answered) (noted : List Answered) (ops : List Op) (outcomes : List Outcome) (now : Answered) (notes : List Answered) → PassesThrough folder m p before noted ops outcomes now notes
+    → (added : List Directory) × (now.moments ≡ added ++ before.moments)
+through_moments folder m p before noted [] [] now notes passed = ([], ap (λ (x : Answered). x.moments) passed.0)
+through_moments folder m p before noted [] (o ∷ outcomes) now notes passed = absurd passed
+through_moments folder m p before noted (op ∷ ops) [] now notes passed = absurd passed
+through_moments folder m p before noted (op ∷ ops) (o ∷ outcomes) now notes (inl passed) = through_moments folder m (progress_after p op o) before noted ops outcomes now notes passed.1
+through_moments folder m p before noted (op ∷ ops) (o ∷ outcomes) now notes (inr passed) =
+    let rest = through_moments folder m (progress_after p op o) passed.0 (passed.0 ∷ noted) ops outcomes now notes passed.2 in
+    (rest.0 ++ passed.1.added, rest.1 ∙ ap (λ (l : List Directory). rest.0 ++ l) passed.1.is ∙ sym (append_assoc rest.0 passed.1.added before.moments))
 
 -- what holds of each engine between two calls
 pub record Keeps (folder : Path) (now : Durability) (n : Directory) : Type 0 where

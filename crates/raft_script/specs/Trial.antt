@@ -1,8 +1,10 @@
 -- What a trial shows.
-use Rattle.std.specs.Prelude.{◌≡◌, ◌⊎◌, ℕ, false, List, [], Option, None, IfOk, IfErr}
+use Rattle.std.specs.Prelude.{◌≡◌, ◌⊎◌, ℕ, false, List, [], ◌++◌, Option, None, IfOk, IfErr}
 use Rattle.raft_records.specs.Contents.{Contents, no_contents}
 use Rattle.raft_base.specs.declared.errors.Fault.{Fault}
 use Rattle.raft_memory.specs.Choice.{left_by}
+use Rattle.raft_memory.specs.Memory.{memory_directory, memory_moments, no_files, stop_of}
+use Rattle.raft_memory.specs.declared.memory.MemoryFileSystem.{MemoryFileSystem}
 use Rattle.raft_env.specs.Directory.{Directory, HasFile, Leaves, Left, Path}
 use Rattle.raft_memory.specs.declared.crash.Choice.{Choice}
 use Rattle.raft_log_engine.specs.Crash.{KeepsContents, found_after}
@@ -52,15 +54,27 @@ IsLogRefusal mode folder files e = IsStorageOrMemory e ⊎ HasDamageIn mode fold
 abbrev pub IsLeftRefusal : RecoveryMode → Path → Directory → Left → Fault → Type 0
 IsLeftRefusal mode folder files d e = IsStorageOrMemory e ⊎ HasLeftDamage mode folder files d e
 
+-- files in memory that were empty, with this stop for the first opening, and the same once the operations are done
+pub record IsStopped (stop : Option ℕ) (first last : MemoryFileSystem) : Type 0 where
+  pub stop_is : stop_of first ≡ stop
+  pub none : memory_directory first ≡ no_files
+  -- the moments there were by then follow those of the first
+  pub added : List Directory
+  pub later : memory_moments last ≡ added ++ memory_moments first
+
 -- operations over files that were empty, then a crash by these choices, then an opening in this mode
-pub record IsTrialOf (mode : RecoveryMode) (folder : Path) (ops : List Op) (choices : List Choice) (t : Trial) : Type 0 where
-  pub files : Directory
-  pub ran : RunsOver folder no_contents ops t.outcomes.items t.failed_at files
+pub record IsTrialOf (mode : RecoveryMode) (folder : Path) (ops : List Op) (stop : Option ℕ) (choices : List Choice) (t : Trial) : Type 0 where
+  pub first : MemoryFileSystem
+  pub last : MemoryFileSystem
+  pub stopped : IsStopped stop first last
+  pub ran : RunsOver folder no_contents ops t.outcomes.items t.failed_at (memory_directory last)
   -- storage may leave of them what the choices say
-  pub left : Leaves files (left_by choices files)
+  pub left : let files = memory_directory last in Leaves files (left_by choices files)
   -- the opening found what the choices leave
-  pub found : IfOk t.opened (λ image. IsImageOf image.groups.items (found_after folder files (left_by choices files)))
+  pub found : let files = memory_directory last in
+      IfOk t.opened (λ image. IsImageOf image.groups.items (found_after folder files (left_by choices files)))
   -- a tolerant one is not refused for what they leave, where its damage can be told
-  pub refused : IsDetectableIn folder files (left_by choices files) → (mode ≡ AbsoluteConsistency → ⊥) → IfErr t.opened IsStorageOrMemory
+  pub refused : let files = memory_directory last in IsDetectableIn folder files (left_by choices files)
+      → (mode ≡ AbsoluteConsistency → ⊥) → IfErr t.opened IsStorageOrMemory
   -- in any mode and of any damage it is refused by storage, for want of memory, or for what is left of the log
-  pub cause : IfErr t.opened (IsLeftRefusal mode folder files (left_by choices files))
+  pub cause : let files = memory_directory last in IfErr t.opened (IsLeftRefusal mode folder files (left_by choices files))

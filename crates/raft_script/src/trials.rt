@@ -1,8 +1,8 @@
 //! Operations over files in memory, then a crash, then an opening.
-ghost use Rattle.std.specs.Prelude.{◌≡◌, ◌⊎◌, [], ◌∷◌, IfOk, IfErr};
+ghost use Rattle.std.specs.Prelude.{◌≡◌, ◌⊎◌, List, [], ◌∷◌, ◌++◌, IfOk, IfErr};
 ghost use Rattle.std.specs.String.{string_bytes};
 ghost use Rattle.raft_base.specs.Fault.{fault_code};
-ghost use Rattle.raft_env.specs.Directory.{HasFile};
+ghost use Rattle.raft_env.specs.Directory.{Directory, HasFile};
 ghost use Rattle.raft_memory.specs.Choice.{NameNoBytes};
 ghost use Rattle.raft_memory.specs.Memory.{memory_directory, memory_moments, no_files, stop_of};
 ghost use Rattle.raft_log_engine.specs.Image.{IsImageOf};
@@ -32,8 +32,8 @@ pub fn trial(
     stop: Option<u64>,
     choices: &[Choice],
 ) -> Result<Trial, Fault>
-    ensures crashed { IfOk result
-        (IsTrialOf config.recovery_mode (string_bytes config.dir) ops.now choices.now) }
+    ensures value { IfOk result
+        (IsTrialOf config.recovery_mode (string_bytes config.dir) ops.now stop choices.now) }
     ensures cause { IfErr result (λ e. (e ≡ Fault.Memory)
         ⊎ ((fault_code e ≡ 1) × (NameNoBytes choices.now → ⊥)
         × AreNotAllowed (string_bytes config.dir) ops.now choices.now)) }
@@ -67,10 +67,12 @@ fn run_over<F: FileSystem + Drop>(
     files: F,
     ops: &[Op],
 ) -> Result<(RunReport, F), Fault>
-    ensures ran { IfOk result (λ r. let dir = string_bytes config.dir in
+    ensures ok { IfOk result (λ r. let dir = string_bytes config.dir in
         let found = contents_at dir (F.directory files) in
         KeepsContents dir found [] (F.directory files)
         → RunsOver dir found ops.now r.0.outcomes.items r.0.failed_at (F.directory r.1)) }
+    ensures any_moment { IfOk result (λ r.
+        (added : List Directory) × (F.moments r.1 ≡ added ++ F.moments files)) }
     ensures cause { IfErr result (λ e. e ≡ Fault.Memory) }
 {
     match Engine::open_in_order(alloc, config, files) {

@@ -1,17 +1,19 @@
-use Rattle.std.proofs.Common.{◌∙◌, Bool, [], inl, inr, refl, sym, subst}
+use Rattle.std.proofs.Common.{List, ◌++◌, ap, append_assoc, ◌∙◌, Bool, [], inl, inr, refl, sym, subst}
 use Rattle.std.specs.String.{string_bytes}
 use Rattle.raft_records.specs.Contents.{Contents}
 use Rattle.raft_env.specs.Directory.{Directory, HasFile, Path}
 use Rattle.raft_script.specs.Durability.{LeavesAllowedAfter}
-use Rattle.raft_log_engine.specs.Engine.{directory_of, durable_of, folder_of, unsynced_of}
+use Rattle.raft_log_engine.specs.Engine.{answered_of, directory_of, durable_of, folder_of, note_of, unsynced_of}
 use Rattle.raft_log_engine.specs.Contents.{contents_at}
 use Rattle.raft_log_engine.proofs.AllowedLemmas.{contents_folder}
 use Rattle.raft_script.specs.Run.{AreAnswers, IsFailurePlace}
+use Rattle.raft_script.specs.Durability.{progress_from}
+use Rattle.raft_script.proofs.AnswersLemmas.{through_moments}
 use Rattle.raft_script.proofs.TrialLemmas.{opened_after, refused_after}
 use Rattle.raft_script.proofs.trials.run_over.Goals as goal
 
-pub returns-in_ok-ran-in-Ok-clause-ran : goal.returns-in_ok-ran-in-Ok-clause-ran
-returns-in_ok-ran-in-Ok-clause-ran g c =
+pub returns-in_ok-ran-in-Ok-clause-ok : goal.returns-in_ok-ran-in-Ok-clause-ok
+returns-in_ok-ran-in-Ok-clause-ok g c =
     let dir = string_bytes c.args.config.dir in
     let m = contents_at dir (g.F.FileSystem.directory c.args.files) in
     let e = c.in-Ok.engine in
@@ -31,8 +33,8 @@ returns-in_ok-ran-in-Ok-clause-ran g c =
           (contents_folder (folder_of c.run_watched.new.engine) (durable_of c.run_watched.new.engine) (unsynced_of c.run_watched.new.engine) (g.F.FileSystem.directory c.give_up.result) c.give_up.ensures.crash);
     }
 
-pub returns-in-Err-clause-ran : goal.returns-in-Err-clause-ran
-returns-in-Err-clause-ran g c =
+pub returns-in-Err-clause-ok : goal.returns-in-Err-clause-ok
+returns-in-Err-clause-ok g c =
     let dir = string_bytes c.args.config.dir in
     let m = contents_at dir (g.F.FileSystem.directory c.args.files) in
     let files = g.F.FileSystem.directory c.in-Err.refused.file_system in
@@ -43,3 +45,17 @@ returns-in-Err-clause-ran g c =
       after = rw c.new.ensures.items (refused_after dir m c.args.ops.now files kept);
       no_file = contents_folder dir m [] files kept;
     }
+
+pub returns-in_ok-ran-in-Ok-clause-any_moment : goal.returns-in_ok-ran-in-Ok-clause-any_moment
+returns-in_ok-ran-in-Ok-clause-any_moment g c =
+    let e = c.in-Ok.engine in
+    let before = g.F.FileSystem.moments c.args.files in
+    let opened = c.in-Ok.ensures.any_moment in
+    let outcomes = c.in_ok-ran-in-Ok.ran.outcomes.items in
+    let run = through_moments (folder_of e) (durable_of e) (progress_from (unsynced_of e)) (note_of e) (answered_of e) c.args.ops.now outcomes (note_of c.run_watched.new.engine) (answered_of c.run_watched.new.engine) c.in_ok-ran-in-Ok.ensures.any_moment in (
+      run.0 ++ opened.added,
+      c.give_up.ensures.unchanged.1 ∙ run.1 ∙ ap (λ (l : List Directory). run.0 ++ l) opened.is ∙ sym (append_assoc run.0 opened.added before),
+    )
+
+pub returns-in-Err-clause-any_moment : goal.returns-in-Err-clause-any_moment
+returns-in-Err-clause-any_moment g c = (c.in-Err.ensures.any_moment.added, c.in-Err.ensures.any_moment.is)

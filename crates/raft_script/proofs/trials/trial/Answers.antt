@@ -1,5 +1,5 @@
 use denote.Param.Send.{sendable}
-use Rattle.std.proofs.Common.{ap}
+use Rattle.std.proofs.Common.{ap, rules}
 use Rattle.raft_memory.proofs.Sent.{memory_send, memory_sync}
 use Rattle.std.proofs.lemmas.Result.{err_from_is_err_and}
 use Rattle.std.specs.String.{string_bytes}
@@ -21,8 +21,8 @@ open_image-requires-send-F c = λ κs. search (sendable, memory_send) depth 20
 pub open_image-requires-sync-F : goal.open_image-requires-sync-F
 open_image-requires-sync-F c = λ κs. search (sendable, memory_sync) depth 20
 
-pub returns-clause-crashed : goal.returns-clause-crashed
-returns-clause-crashed c =
+pub returns-clause-value : goal.returns-clause-value
+returns-clause-value c =
     let dir = string_bytes c.args.config.dir in
     let before = memory_directory c.new_files.result in
     let files = memory_directory c.in_ok-ran.files in
@@ -30,9 +30,11 @@ returns-clause-crashed c =
     let none = c.new_files.ensures.files in
     let ran = c.in_ok-ran.ran in
     let leaves = c.in_ok-left.ensures.value in
-    let shown = run_shown dir before files c.args.ops.now ran.outcomes.items ran.failed_at none c.in_ok-ran.ensures.ran in
+    let shown = run_shown dir before files c.args.ops.now ran.outcomes.items ran.failed_at none c.in_ok-ran.ensures.ok in
     record {
-      files = files;
+      first = c.new_files.result;
+      last = c.in_ok-ran.files;
+      stopped = record { stop_is = search rules; none = none; added = c.in_ok-ran.ensures.any_moment.0; later = c.in_ok-ran.ensures.any_moment.1 };
       ran = shown;
       left = leaves;
       found = image_restarted (string_bytes c.in_ok-again.again.dir) dir files (memory_directory c.in_ok-left.left) left c.open_image.result c.in_ok-again.ensures.value.dir c.in_ok-left.ensures.ok c.open_image.ensures.value;
@@ -46,7 +48,7 @@ pub returns-in_err-left-clause-cause : goal.returns-in_err-left-clause-cause
 returns-in_err-left-clause-cause c =
     let files = memory_directory c.in_ok-ran.files in
     let ran = c.in_ok-ran.ran in
-    let shown = run_shown (string_bytes c.args.config.dir) (memory_directory c.new_files.result) files c.args.ops.now ran.outcomes.items ran.failed_at c.new_files.ensures.files c.in_ok-ran.ensures.ran in
+    let shown = run_shown (string_bytes c.args.config.dir) (memory_directory c.new_files.result) files c.args.ops.now ran.outcomes.items ran.failed_at c.new_files.ensures.files c.in_ok-ran.ensures.ok in
     let p = err_from_is_err_and c.from_residual-in_err-left.result c.from_residual-in_err-left.ensures.1 in
     rw (p.1, p.2) (choices_refused files c.args.choices.now c.in_err-left.field-0.0 c.in_err-left.ensures.consistent c.in_err-left.ensures.refused
     (λ not_left. record { outcomes = ran.outcomes.items; failed_at = ran.failed_at; files = files; ran = shown; refused = not_left }))
