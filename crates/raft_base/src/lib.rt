@@ -1,10 +1,11 @@
 //! What all crates share: faults, files and places in them, sizes as they are written, and earlier values for clauses.
 #![tactic(auto)]
 
-pub mod errors;
-pub mod history;
-pub mod pipe_log;
-pub mod readable_size;
+mod errors;
+mod history;
+pub mod laws;
+mod pipe_log;
+mod readable_size;
 
 pub use errors::{Fault, IoKind};
 pub use history::History;

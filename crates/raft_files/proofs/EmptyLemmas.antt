@@ -12,9 +12,8 @@ use Rattle.raft_files.specs.Reading.{Placed, record_at}
 use Rattle.raft_files.specs.Detectable.{HasNoRefusedByte, IsDone, IsFreshAfter}
 use Rattle.raft_files.specs.Records.{IsRefusedAt, IsEmptyFrom, HasNothingFrom}
 use Rattle.raft_files.proofs.ExtentLemmas.{record_header_is, record_header_long, record_of_header}
-use Rattle.raft_files.proofs.ReadingLemmas.{found_record}
+use Rattle.raft_files.proofs.ReadingLemmas.{found_record, read_in}
 use Rattle.raft_files.proofs.StaleLemmas.{GivesNoneFrom, fresh_before}
-use Rattle.raft_files.proofs.ReadingLemmas.{read_in}
 
 header_in_zero : (footer : ℕ) → header_in 0 footer ≡ None
 header_in_zero footer = grind (arith, nat_tests)

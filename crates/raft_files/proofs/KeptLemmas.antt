@@ -7,11 +7,11 @@ use Rattle.raft_records.specs.Item.{Batch}
 use Rattle.raft_base.specs.declared.pipe_log.FileId.{FileId}
 use Rattle.raft_files.specs.declared.format.LogFileFormat.{LogFileFormat}
 use Rattle.raft_files.specs.Header.{header_bytes, header_len}
-use Rattle.raft_env.specs.Outcomes.{File, Change, resized, cut_to, synced_of, settled, bytes_behind}
+use Rattle.raft_env.specs.Outcomes.{File, resized, cut_to, synced_of, settled, bytes_behind}
 use Rattle.raft_env.specs.Directory.{Directory, Left, Path, file_at, placed, created, changed, changed_at, IsOneOf, IsTruncating, IsRestarted}
 use Rattle.raft_files.specs.Reading.{Placed, Reading, records_behind, end_of_records, reading, records_of, readable_records, readable_batches, end_of_reading, ends_with, is_read_to_end}
 use Rattle.raft_files.specs.Detectable.{IsBeginningOf, signature_by, IsDetectable}
-use Rattle.raft_files.specs.Records.{AreReadBehind, ReadsFirst, KeepsRecords, HoldsRecords, IsWrittenTo, HasLog, HasTornLog, left_of, left_bytes, FirstOf, KeepsLog, KeepsNone, HoldsNothing, IsKept}
+use Rattle.raft_files.specs.Records.{ReadsFirst, KeepsRecords, HoldsRecords, IsWrittenTo, HasLog, HasTornLog, left_of, left_bytes, FirstOf, KeepsLog, KeepsNone, HoldsNothing, IsKept}
 use Rattle.raft_files.specs.Writer.{HasChanged, IsOpening, IsAppending, IsCutting, IsSynced, IsSyncing, IsClosing, capacity_for, bytes_of, bytes_at}
 use Rattle.raft_files.proofs.DetectableLemmas.{beginning_trans, beginning_append, beginning_take}
 use Rattle.raft_env.proofs.DirectoryLemmas.{file_at-placed_same}
@@ -19,7 +19,7 @@ use Rattle.raft_files.proofs.ExtentLemmas.{same_some}
 use Rattle.raft_files.proofs.HeldLemmas.{reading-held, format_of_read}
 use Rattle.raft_files.proofs.RecordsLemmas.{keeps_batches, keeps_weaker}
 use Rattle.raft_files.proofs.FreshLemmas.{header_len_within, readable_records-short}
-use Rattle.raft_files.proofs.NoneLemmas.{none_left, read_of_bytes, only_moment, none_settled, none_synced, none_appending}
+use Rattle.raft_files.proofs.NoneLemmas.{moments_synced, none_left, only_moment, none_settled, none_synced, none_appending}
 use Rattle.raft_files.proofs.TruncationLemmas.{reading-cut, keeps_cut, none_cut}
 use Rattle.raft_files.proofs.ReadingLemmas.{header_within, end_of_read_within}
 use Rattle.raft_files.proofs.LogLemmas.{count_of, torn_of_log, torn_log_cutting}
@@ -157,16 +157,10 @@ keeps_synced : (id : FileId) (format : LogFileFormat) (records : List Placed) (s
 keeps_synced id format records synced file keeps reads = record {
   header = keeps.header;
   latest = refl;
-  moments = only_moment Allowed now;
+  moments = moments_synced (λ left. IsBeginningOf left records) id (signature_by id format) file keeps.latest keeps.moments;
   few = keeps.few;
   covered = subst (λ b. ReadsFirst id format (take synced records) b) (sym (take_all (length file.now) file.now (omega arith))) reads;
 }
-  where
-    Allowed : List Change → Type 0
-    Allowed upto = (left : List Placed) → AreReadBehind id (signature_by id format) (synced_of file) upto left → IsBeginningOf left records
-
-    now : Allowed []
-    now left read = keeps.moments [] file.changes refl left (read_of_bytes keeps.latest read)
 
 -- a moment of a sync of the file there
 module _ (path : Path) (id : FileId) (batches : List Batch) (synced : ℕ) (old new : Directory) where

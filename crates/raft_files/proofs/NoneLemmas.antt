@@ -10,7 +10,7 @@ use Rattle.raft_files.specs.Detectable.{IsBeginningOf, format_of, signature_by, 
 use Rattle.raft_files.specs.Records.{AreReadAt, AreReadBehind, KeepsNone}
 use Rattle.raft_files.specs.Writer.{IsStep, IsLengthened, IsAppending, capacity_for}
 use Rattle.raft_files.proofs.HeaderLemmas.{length-header_bytes}
-use Rattle.raft_files.proofs.RecordsLemmas.{readable_without_header}
+use Rattle.raft_files.proofs.RecordsLemmas.{AtEachMoment, moments_more, readable_without_header}
 use Rattle.raft_files.proofs.PartLemmas.{lengthened_part, write_part}
 use Rattle.raft_files.proofs.FreshLemmas.{header_len_within, readable_records-short}
 
@@ -44,27 +44,20 @@ none_settled id bytes none = record {
   moments = λ newer upto e format left read. nothing_of _ left (only_moment (λ changes. readable_records id (bytes_behind bytes changes) ≡ []) none newer upto e) read.beginning;
 }
 
-pub none_synced : (id : FileId) (file : File) → KeepsNone id file → KeepsNone id (synced_of file)
-none_synced id file none = record { latest = refl; moments = only_moment Nothing now }
-  where
-    Nothing : List Change → Type 0
-    Nothing upto = (format : LogFileFormat) (left : List Placed) → AreReadBehind id (signature_by id format) (synced_of file) upto left → left ≡ []
+pub moments_synced : (P : List Placed → Type 0) (id : FileId) (by : Option ℕ) (file : File) → file.now ≡ bytes_behind file.synced file.changes → AtEachMoment P id by file → AtEachMoment P id by (synced_of file)
+moments_synced P id by file latest before = only_moment (λ upto. (left : List Placed) → AreReadBehind id by (synced_of file) upto left → P left) (λ left read. before [] file.changes refl left (read_of_bytes latest read))
 
-    now : Nothing []
-    now format left read = none.moments [] file.changes refl format left (read_of_bytes none.latest read)
+pub none_synced : (id : FileId) (file : File) → KeepsNone id file → KeepsNone id (synced_of file)
+none_synced id file none = record { latest = refl; moments = λ newer upto e format. moments_synced (λ left. left ≡ []) id (signature_by id format) file none.latest (λ newer upto e left. none.moments newer upto e format left) newer upto e }
 
 -- Changes.
 
 pub none_more : (id : FileId) (file : File) (c : Change) → KeepsNone id file →
     ((format : LogFileFormat) (left : List Placed) → AreReadAt id (signature_by id format) c.after file.renamed_after (c ∷ file.changes ++ file.older) left → left ≡ []) → KeepsNone id (changed_by c file)
-none_more id file c none moment = record { latest = refl; moments = moments }
-  where
-    Nothing : List Change → Type 0
-    Nothing upto = (format : LogFileFormat) (left : List Placed) → AreReadBehind id (signature_by id format) file upto left → left ≡ []
-
-    moments : (newer upto : List Change) → c ∷ file.changes ≡ newer ++ upto → Nothing upto
-    moments [] upto e = subst Nothing e moment
-    moments (x ∷ newer) upto e = none.moments newer upto (cc)
+none_more id file c none moment = record {
+  latest = refl;
+  moments = λ newer upto e format. moments_more (λ left. left ≡ []) id (signature_by id format) file c (λ newer upto e left. none.moments newer upto e format left) (moment format) newer upto e;
+}
 
 -- a file that has no room for a record once it has one change more
 none_short : (id : FileId) (old new : File) → KeepsNone id old → length new.now ≤ 69 → (new ≡ old) ⊎ ((c : Change) × (new ≡ changed_by c old)) → KeepsNone id new

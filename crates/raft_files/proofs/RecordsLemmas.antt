@@ -56,23 +56,28 @@ covered_more id format records synced c changes reads behind =
 
 -- A change keeps the records.
 
+-- what holds of the records that are read and done at each moment since the last sync
+abbrev pub AtEachMoment : (List Placed → Type 0) → FileId → Option ℕ → File → Type 0
+AtEachMoment P id by file = (newer upto : List Change) → file.changes ≡ newer ++ upto → (left : List Placed) → AreReadBehind id by file upto left → P left
+
+pub moments_more : (P : List Placed → Type 0) (id : FileId) (by : Option ℕ) (file : File) (c : Change) → AtEachMoment P id by file →
+    ((left : List Placed) → AreReadAt id by c.after file.renamed_after (c ∷ file.changes ++ file.older) left → P left) → AtEachMoment P id by (changed_by c file)
+moments_more P id by file c before now [] upto e = subst (λ changes. (left : List Placed) → AreReadBehind id by file changes left → P left) e now
+moments_more P id by file c before now (x ∷ newer) upto e = before newer upto (cc)
+
 pub keeps_more : (id : FileId) (format : LogFileFormat) (old all : List Placed) (synced : ℕ) (file : File) (c : Change) → KeepsRecords id format old synced file → IsBeginningOf old all →
     format_of c.after ≡ Some format → ((left : List Placed) → AreReadAt id (signature_by id format) c.after file.renamed_after (c ∷ file.changes ++ file.older) left → IsBeginningOf left all) →
     end_of_records (header_len format.version) (take synced old) ≤ c.from → KeepsRecords id format all synced (changed_by c file)
 keeps_more id format old all synced file c keeps more header moment behind = record {
   header = header;
   latest = refl;
-  moments = moments;
+  moments = moments_more (λ left. IsBeginningOf left all) id (signature_by id format) file c (λ newer upto e left read. beginning_trans left old all (keeps.moments newer upto e left read) more) moment;
   few = omega (arith, keeps.few, beginning_length old all more);
   covered = subst (λ records. ReadsFirst id format records (take (untouched_len file.synced (c ∷ file.changes)) file.synced)) same (covered_more id format (take synced old) file.synced c file.changes keeps.covered behind);
 }
   where
     same : take synced old ≡ take synced all
     same = sym (ap (λ rs. take synced rs) more.1 ∙ take-append-le synced old more.0 keeps.few)
-
-    moments : (newer upto : List Change) → c ∷ file.changes ≡ newer ++ upto → (left : List Placed) → AreReadBehind id (signature_by id format) file upto left → IsBeginningOf left all
-    moments [] upto e = subst (λ changes. (left : List Placed) → AreReadBehind id (signature_by id format) file changes left → IsBeginningOf left all) e moment
-    moments (x ∷ newer) upto e = λ left read. beginning_trans left old all (keeps.moments newer upto (cc) left read) more
 
 pub keeps_held : (id : FileId) (format : LogFileFormat) (old new all : List Placed) (synced at : ℕ) (file : File) (c : Change) → KeepsRecords id format old synced file → IsBeginningOf old all →
     HoldsRecords id format new at c.after → HasNothingFrom id at c.after file.renamed_after (c ∷ file.changes ++ file.older) → IsBeginningOf new all →

@@ -13,12 +13,11 @@ use Rattle.raft_files.specs.Records.{IsEmptyFrom, HasNothingFrom, HoldsRecords, 
 use Rattle.raft_env.proofs.ChangeLemmas.{within_is, not_within, same_front}
 use Rattle.raft_files.proofs.DetectableLemmas.{beginning_itself, beginning_append}
 use Rattle.raft_files.proofs.ExtentLemmas.{same_some}
-use Rattle.raft_files.proofs.ReadingLemmas.{reading-append}
+use Rattle.raft_files.proofs.ReadingLemmas.{reading-append, read_in}
 use Rattle.raft_env.proofs.OverlaidLemmas.{length-overlaid, overlaid_outside}
 use Rattle.raft_env.proofs.DirectoryLemmas.{writing_part}
 use Rattle.raft_files.proofs.PartLemmas.{part_keeps, take-overlaid_whole}
 use Rattle.raft_files.proofs.StaleLemmas.{GivesNoneFrom, refused_gives_none, gives_none_before, stale_from_more, fresh_before}
-use Rattle.raft_files.proofs.ReadingLemmas.{read_in}
 use Rattle.raft_files.proofs.EmptyLemmas.{none_done, has_nothing_after}
 use Rattle.raft_files.proofs.HeldLemmas.{format_of-held, left_of_torn}
 use Rattle.raft_files.proofs.RecordsLemmas.{keeps_more, keeps_held, synced_within}

@@ -1,0 +1,9 @@
+pub mod Groups
+pub mod Recovered
+pub mod Joined
+pub mod Consecutive
+pub mod Rewriting
+pub mod Valid
+pub mod Stands
+pub mod Dropping
+pub mod DroppingFront
