@@ -13,7 +13,7 @@ use Rattle.raft_log_engine.specs.declared.engine.Engine.{Engine}
 use Rattle.raft_records.specs.Contents.{Contents, after_batches}
 use Rattle.raft_records.specs.Item.{Batch}
 use Rattle.raft_script.specs.Durability.{Answers, AreAllowedInside, IsAllowedInside, LeavesInside, PassesThrough, Progress, progress_after, progress_after_all, progress_from}
-use Rattle.raft_script.specs.Run.{IsUnnoted}
+use Rattle.raft_script.specs.Run.{IsFailing, IsUnnoted}
 use Rattle.raft_script.specs.declared.operation.Op.{Op}
 use Rattle.raft_script.specs.declared.operation.Outcome.{Outcome}
 
@@ -48,12 +48,12 @@ pub record Keeps (folder : Path) (now : Durability) (n : Directory) : Type 0 whe
 -- the moments of one call: those inside it, and the newest of them once it is answered
 module _ (folder : Path) (m : Contents) (p : Progress) (op : Op) (outcome : Outcome) (before answer : Answered) (P : Directory → Type 0) (n : Directory) where
   pub inside_call : (inside : (x : Directory) → before.failed ≡ false → P x → LeavesInside folder m p op x) → (before.failed ≡ false → Passes before.moments answer.moments n P) → (before.failed ≡ true → answer.moments ≡ before.moments)
-      → (answer.failed ≡ false → (x : Directory) (earlier : List Directory) → answer.moments ≡ x ∷ earlier → let q = progress_after p op outcome in LeavesAllowedFrom q.covered folder m q.batches x) → IsAllowedInside folder m p op outcome before answer
-  inside_call inside passing rests after = elim (cases_Bool before.failed) [
-    | inl failed ↦ record { added = []; is = rests failed; inside = tt; after = after }
+      → (answer.failed ≡ false → (x : Directory) (earlier : List Directory) → answer.moments ≡ x ∷ earlier → let q = progress_after p op outcome in LeavesAllowedFrom q.covered folder m q.batches x) → IsFailing before.failed op outcome answer.failed → IsAllowedInside folder m p op outcome before answer
+  inside_call inside passing rests after fails = elim (cases_Bool before.failed) [
+    | inl failed ↦ record { added = []; is = rests failed; inside = tt; fails = fails; after = after }
     | inr alive ↦
         let all = passes_weaker P (λ x. (before.failed ≡ false) × LeavesInside folder m p op x) before.moments answer.moments n (λ x leaves. (alive, inside x alive leaves)) (passing alive) in
-        record { added = all.added; is = all.is; inside = all.each; after = after }
+        record { added = all.added; is = all.is; inside = all.each; fails = fails; after = after }
   ]
 
 -- one operation more

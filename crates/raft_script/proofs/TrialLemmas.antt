@@ -1,6 +1,6 @@
 -- What a trial's crash leaves, and what its opening finds.
-use Rattle.std.proofs.Common.{◌≡◌, ◌⊎◌, ⊎_elim, inl, inr, ℕ, List, [], ◌∷◌, ◌++◌, Option, None, refl, sym, ap, subst, ◌∙◌}
-use Rattle.std.specs.Prelude.{IsSome, IfOk, IfErr, Result, Ok, Err}
+use Rattle.std.proofs.Common.{◌≡◌, ◌⊎◌, ⊎_elim, inl, inr, ℕ, List, [], ◌∷◌, ◌++◌, Option, Some, None, refl, sym, ap, subst, ◌∙◌}
+use Rattle.std.specs.Prelude.{IsSome, IfOk, IfErr, Result, Ok, Err, is_some, option_map}
 use Rattle.std.specs.FinMap.{get-empty}
 use Rattle.raft_records.specs.Contents.{Contents, no_contents}
 use Rattle.raft_records.specs.Item.{Batch}
@@ -8,27 +8,25 @@ use Rattle.raft_base.specs.Fault.{fault_code}
 use Rattle.raft_memory.specs.Choice.{RefusesUnless, left_by, NameNoBytes}
 use Rattle.raft_env.specs.Consistent.{AreConsistent}
 use Rattle.raft_env.specs.Directory.{Directory, HasFile, IsRestarted, Leaves, Left, Path, file_at}
+use Rattle.raft_env.specs.Outcomes.{File, settled}
 use Rattle.raft_memory.specs.Memory.{no_files}
 use Rattle.raft_memory.specs.declared.crash.Choice.{Choice}
 use Rattle.raft_memory.proofs.TornLemmas.{choices_may_leave}
-use Rattle.raft_log_engine.specs.Crash.{IsSound, KeepsContents, LeavesAllowedFrom, found_after}
+use Rattle.raft_log_engine.specs.Crash.{KeepsContents, LeavesAllowedFrom, found_after}
 use Rattle.raft_base.specs.declared.errors.Fault.{Fault}
 use Rattle.raft_base.specs.declared.errors.Fault.TheVariants as fault
 use Rattle.raft_log_engine.specs.Image.{IsImageOf}
 use Rattle.raft_log_engine.specs.declared.engine.image.Image.{Image}
-use Rattle.raft_log_engine.specs.Contents.{contents_at, recovered}
-use Rattle.raft_pipes.specs.Folder.{IsDetectableIn}
+use Rattle.raft_log_engine.specs.Contents.{contents_at}
+use Rattle.raft_pipes.specs.Folder.{HasNoLog, IsDetectableIn}
 use Rattle.raft_script.specs.Durability.{LeavesAllowedAfter, Progress, progress_after_all, progress_from}
-use Rattle.raft_pipes.specs.Queue.{IsOpenableIn}
+use Rattle.raft_pipes.specs.Queue.{HasDamageIn, HasLeftDamage, IsOpenableIn}
 use Rattle.raft_script.specs.Run.{IsStorageOrMemory}
 use Rattle.raft_script.specs.Trial.{IsLeftRefusal, IsLogRefusal, RunsOver}
 use Rattle.raft_pipes.specs.declared.config.RecoveryMode.{RecoveryMode}
 use Rattle.raft_pipes.specs.declared.config.RecoveryMode.TheVariants.{AbsoluteConsistency}
 use Rattle.raft_script.specs.declared.operation.Op.{Op}
 use Rattle.raft_script.specs.declared.operation.Outcome.{Outcome}
-use Rattle.raft_log_engine.proofs.AllowedLemmas.{contents_left, contents_none}
-use Rattle.raft_pipes.proofs.ResultLemmas.{if_err}
-use Rattle.raft_pipes.proofs.SoundLemmas.{readable_restarted, restarted_damage, restarted_no_file, restarted_opens, restarted_stood}
 use Rattle.raft_script.proofs.RunLemmas.{contents_at-no_files}
 
 -- the run of an engine that was opened with all synced
@@ -42,56 +40,62 @@ no_progress p [] = refl
 no_progress p (op ∷ ops) = refl
 
 -- where the opening was refused, no operation was done
-pub refused_after : (folder : Path) (m : Contents) (ops : List Op) (n : Directory) → KeepsContents folder m [] n → LeavesAllowedAfter None folder m [] ops [] n
-refused_after folder m ops n keeps =
-    let leaves : LeavesAllowedFrom 0 folder m [] n = contents_left folder m [] n keeps in
+pub refused_after : (folder : Path) (m : Contents) (ops : List Op) (n : Directory) → LeavesAllowedFrom 0 folder m [] n → LeavesAllowedAfter None folder m [] ops [] n
+refused_after folder m ops n leaves =
     ([], refl, subst (λ (p : Progress). LeavesAllowedFrom p.covered folder m (p.batches ++ []) n) (sym (no_progress (progress_from []) ops)) leaves)
 
 -- a folder without files keeps nothing
-pub nothing_kept : (folder : Path) (n : Directory) → n ≡ no_files → KeepsContents folder no_contents [] n
-nothing_kept folder n is =
+pub nothing_kept : (folder : Path) (n : Directory) → (HasNoLog folder n → (HasFile n folder → ⊥) → KeepsContents folder no_contents [] n) → n ≡ no_files → KeepsContents folder no_contents [] n
+nothing_kept folder n keeps is =
     let absent : (path : Path) → file_at n path ≡ None = λ path. ap (λ (x : Directory). file_at x path) is ∙ get-empty _ path in
-    contents_none folder n (absent _) (λ found. let clash = subst IsSome (absent folder) found in absurd cc)
+    keeps (absent _) (λ found. let clash = subst IsSome (absent folder) found in absurd cc)
 
 -- what a run shows that began with no files
-pub run_shown : (dir : Path) (before n : Directory) (ops : List Op) (outcomes : List Outcome) (failed_at : Option ℕ) → before ≡ no_files
+pub run_shown : (dir : Path) (before n : Directory) (ops : List Op) (outcomes : List Outcome) (failed_at : Option ℕ) → (HasNoLog dir before → (HasFile before dir → ⊥) → KeepsContents dir no_contents [] before) → before ≡ no_files
     → (KeepsContents dir (contents_at dir before) [] before → RunsOver dir (contents_at dir before) ops outcomes failed_at n) → RunsOver dir no_contents ops outcomes failed_at n
-run_shown dir before n ops outcomes failed_at none ran =
+run_shown dir before n ops outcomes failed_at keeps none ran =
     let empty = contents_at-no_files dir before none in
-    let kept = subst (λ (m : Contents). KeepsContents dir m [] before) (sym empty) (nothing_kept dir before none) in
+    let kept = subst (λ (m : Contents). KeepsContents dir m [] before) (sym empty) (nothing_kept dir before keeps none) in
     subst (λ (m : Contents). RunsOver dir m ops outcomes failed_at n) empty (ran kept)
-
--- what an opening after a crash finds
-pub restarted_contents : (folder : Path) (n m : Directory) (d : Left) → IsRestarted n d m → contents_at folder m ≡ found_after folder n d
-restarted_contents folder n m d restarted = ap recovered (readable_restarted folder n m d restarted)
 
 same_opened : {m m' : Contents} (opened : Result Image Fault) → m ≡ m' → IfOk opened (λ image. IsImageOf image.groups.items m) → IfOk opened (λ image. IsImageOf image.groups.items m')
 same_opened (Ok image) same is = subst (IsImageOf image.groups.items) same is
 same_opened (Err e) same is = is
 
 -- the image of what a crash left
-pub image_restarted : (dir folder : Path) (n m : Directory) (d : Left) (opened : Result Image Fault) → dir ≡ folder → IsRestarted n d m → IfOk opened (λ image. IsImageOf image.groups.items (contents_at dir m)) → IfOk opened (λ image. IsImageOf image.groups.items (found_after folder n d))
-image_restarted dir folder n m d opened same restarted is = same_opened opened (ap (λ (p : Path). contents_at p m) same ∙ restarted_contents folder n m d restarted) is
+pub image_restarted : (dir folder : Path) (n m : Directory) (d : Left) (opened : Result Image Fault) → dir ≡ folder → contents_at folder m ≡ found_after folder n d → IfOk opened (λ image. IsImageOf image.groups.items (contents_at dir m)) → IfOk opened (λ image. IsImageOf image.groups.items (found_after folder n d))
+image_restarted dir folder n m d opened same found is = same_opened opened (ap (λ (p : Path). contents_at p m) same ∙ found) is
 
 -- Why the opening after a crash is refused.
 
+if_err : {T G : Type 0} (P Q : G → Type 0) (result : Result T G) → ((e : G) → P e → Q e) → IfErr result P → IfErr result Q
+if_err P Q (Ok x) f holds = tt
+if_err P Q (Err e) f holds = f e holds
+
+-- a file that stands after a crash stood before it
+restarted_stood : (path : Path) (n m : Directory) (d : Left) → IsRestarted n d m → HasFile m path → HasFile n path
+restarted_stood path n m d restarted there = sym (by_file (file_at n path)) ∙ ap is_some (sym (restarted.each path)) ∙ there
+  where
+    by_file : (found : Option File) → is_some (option_map (λ _. settled (d path)) found) ≡ is_some found
+    by_file None = refl
+    by_file (Some file) = refl
+
 -- an opening of files that a crash left sound
-pub opened_outside : (mode again : RecoveryMode) (folder dir : Path) (n m : Directory) (d : Left) (opened : Result Image Fault) → again ≡ mode → dir ≡ folder → IsRestarted n d m → Leaves n d → (IsDetectableIn folder n d → IsSound folder n d)
+pub opened_outside : (mode again : RecoveryMode) (folder dir : Path) (n m : Directory) (d : Left) (opened : Result Image Fault) → again ≡ mode → dir ≡ folder → (IsDetectableIn folder n d → (mode ≡ AbsoluteConsistency → ⊥) → IsOpenableIn mode folder m) → (IsDetectableIn folder n d → HasFile m folder → ⊥)
     → IfErr opened (λ e. IsOpenableIn again dir m → (HasFile m dir → ⊥) → IsStorageOrMemory e) → IsDetectableIn folder n d → (mode ≡ AbsoluteConsistency → ⊥) → IfErr opened IsStorageOrMemory
-opened_outside mode again folder dir n m d opened mode_is dir_is restarted leaves sound refused detectable tolerant =
-    let is_sound = sound detectable in
-    let openable : IsOpenableIn again dir m = subst (λ (x : RecoveryMode). IsOpenableIn x dir m) (sym mode_is) (subst (λ (p : Path). IsOpenableIn mode p m) (sym dir_is) (restarted_opens folder n m d restarted is_sound mode tolerant)) in
-    let none : HasFile m dir → ⊥ = subst (λ (p : Path). HasFile m p → ⊥) (sym dir_is) (restarted_no_file folder n m d restarted is_sound) in
+opened_outside mode again folder dir n m d opened mode_is dir_is opens no_file refused detectable tolerant =
+    let openable : IsOpenableIn again dir m = subst (λ (x : RecoveryMode). IsOpenableIn x dir m) (sym mode_is) (subst (λ (p : Path). IsOpenableIn mode p m) (sym dir_is) (opens detectable tolerant)) in
+    let none : HasFile m dir → ⊥ = subst (λ (p : Path). HasFile m p → ⊥) (sym dir_is) (no_file detectable) in
     if_err _ _ opened (λ e outside. outside openable none) refused
 
 -- an opening of files that a crash left, in whose folder's place no file stood
-pub opened_log : (mode again : RecoveryMode) (folder dir : Path) (n m : Directory) (d : Left) (opened : Result Image Fault) → again ≡ mode → dir ≡ folder → IsRestarted n d m → (HasFile n folder → ⊥)
+pub opened_log : (mode again : RecoveryMode) (folder dir : Path) (n m : Directory) (d : Left) (opened : Result Image Fault) → again ≡ mode → dir ≡ folder → IsRestarted n d m → (HasFile n folder → ⊥) → ((e : Fault) → HasDamageIn mode folder m e → HasLeftDamage mode folder n d e)
     → IfErr opened (λ e. (HasFile m dir → ⊥) → IsLogRefusal again dir m e) → IfErr opened (IsLeftRefusal mode folder n d)
-opened_log mode again folder dir n m d opened mode_is dir_is restarted none refused =
+opened_log mode again folder dir n m d opened mode_is dir_is restarted none left_damage refused =
     if_err _ _ opened (λ e cause.
     let absent : HasFile m dir → ⊥ = λ there. none (restarted_stood folder n m d restarted (subst (λ (p : Path). HasFile m p) dir_is there)) in
     let there : IsLogRefusal mode folder m e = subst (λ (x : RecoveryMode). IsLogRefusal x folder m e) mode_is (subst (λ (p : Path). IsLogRefusal again p m e) dir_is (cause absent)) in
-    ⊎_elim inl (λ damage. inr (restarted_damage mode folder n m d e restarted damage)) there) refused
+    ⊎_elim inl (λ damage. inr (left_damage e damage)) there) refused
 
 -- Why the choices are refused.
 

@@ -15,8 +15,10 @@ ghost use Rattle.raft_script.specs.Trial.{AreNotAllowed, IsLogRefusal, IsTrialOf
 use crate::operation::{Op, Trial};
 use crate::runs::{RunReport, run_watched};
 use raft_env::FileSystem;
+use raft_log_engine::laws::crash_leaves_contents;
 use raft_log_engine::{Config, Engine, Image};
 use raft_memory::{Choice, MemoryFileSystem};
+use raft_pipes::laws::crash_leaves_a_prefix;
 use raft_records::Fault;
 use std::alloc::Global;
 
@@ -38,6 +40,8 @@ pub fn trial(
         ⊎ ((fault_code e ≡ 1) × (NameNoBytes choices.now → ⊥)
         × AreNotAllowed (string_bytes config.dir) ops.now choices.now)) }
 {
+    crash_leaves_a_prefix();
+    crash_leaves_contents();
     let again = config.clone()?;
     let (ran, files) = run_over(alloc, config, new_files(alloc, stop), ops)?;
     let left = files.crash(choices)?;
@@ -75,6 +79,7 @@ fn run_over<F: FileSystem + Drop>(
         (added : List Directory) × (F.moments r.1 ≡ added ++ F.moments files)) }
     ensures cause { IfErr result (λ e. e ≡ Fault.Memory) }
 {
+    crash_leaves_contents();
     match Engine::open_in_order(alloc, config, files) {
         Ok(mut engine) => {
             let ran = run_watched(alloc, &mut engine, ops)?;

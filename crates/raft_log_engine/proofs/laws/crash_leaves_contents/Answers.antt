@@ -14,7 +14,7 @@ returns-clause-restarted c = λ folder n m d restarted sound.
     keeps_all folder (left_in folder n d) (found_after folder n d) m refl (c.crash_leaves_a_prefix.ensures.restarted folder n m d restarted sound)
 
 pub returns-clause-found : goal.returns-clause-found
-returns-clause-found c = λ folder n m d restarted. ap recovered (c.crash_leaves_a_prefix.ensures.found folder n m d restarted)
+returns-clause-found c = λ folder n m d restarted. ap recovered (c.crash_leaves_a_prefix.ensures.contents folder n m d restarted)
 
 pub returns-clause-opens : goal.returns-clause-opens
 returns-clause-opens c = c.crash_leaves_a_prefix.ensures.opens

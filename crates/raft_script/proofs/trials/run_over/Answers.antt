@@ -5,7 +5,6 @@ use Rattle.raft_env.specs.Directory.{Directory, HasFile, Path}
 use Rattle.raft_script.specs.Durability.{LeavesAllowedAfter}
 use Rattle.raft_log_engine.specs.Engine.{answered_of, directory_of, durable_of, folder_of, note_of, unsynced_of}
 use Rattle.raft_log_engine.specs.Contents.{contents_at}
-use Rattle.raft_log_engine.proofs.AllowedLemmas.{contents_folder}
 use Rattle.raft_script.specs.Run.{AreAnswers, IsFailurePlace}
 use Rattle.raft_script.specs.Durability.{progress_from}
 use Rattle.raft_script.proofs.AnswersLemmas.{through_moments}
@@ -30,7 +29,7 @@ returns-in_ok-ran-in-Ok-clause-ok g c =
       });
       after = subst (λ (n : Directory). LeavesAllowedAfter ran.failed_at dir m [] ops outcomes n) (sym c.give_up.ensures.unchanged.0) after;
       no_file = subst (λ (p : Path). HasFile (g.F.FileSystem.directory c.give_up.result) p → ⊥) (run.folder ∙ c.in-Ok.ensures.ok.folder_is)
-          (contents_folder (folder_of c.run_watched.new.engine) (durable_of c.run_watched.new.engine) (unsynced_of c.run_watched.new.engine) (g.F.FileSystem.directory c.give_up.result) c.give_up.ensures.crash);
+          (c.crash_leaves_contents.ensures.folder (folder_of c.run_watched.new.engine) (durable_of c.run_watched.new.engine) (unsynced_of c.run_watched.new.engine) (g.F.FileSystem.directory c.give_up.result) c.give_up.ensures.crash);
     }
 
 pub returns-in-Err-clause-ok : goal.returns-in-Err-clause-ok
@@ -42,8 +41,8 @@ returns-in-Err-clause-ok g c =
     let kept = c.in-Err.ensures.any_moment.here m [] keeps in
     record {
       answered = inr (record { none = c.new.ensures.items; stands = refl; files_keep = kept });
-      after = rw c.new.ensures.items (refused_after dir m c.args.ops.now files kept);
-      no_file = contents_folder dir m [] files kept;
+      after = rw c.new.ensures.items (refused_after dir m c.args.ops.now files (c.crash_leaves_contents.ensures.left dir m [] files kept));
+      no_file = c.crash_leaves_contents.ensures.folder dir m [] files kept;
     }
 
 pub returns-in_ok-ran-in-Ok-clause-any_moment : goal.returns-in_ok-ran-in-Ok-clause-any_moment

@@ -5,6 +5,8 @@ use Rattle.std.proofs.lemmas.Result.{err_from_is_err_and}
 use Rattle.std.specs.String.{string_bytes}
 use Rattle.raft_memory.specs.Memory.{memory_directory}
 use Rattle.raft_memory.specs.Choice.{left_by}
+use Rattle.raft_log_engine.specs.Crash.{IsSound}
+use Rattle.raft_pipes.specs.Folder.{IsDetectableIn}
 use Rattle.raft_pipes.specs.declared.config.Config.{Config}
 use Rattle.raft_script.proofs.TrialLemmas.{choices_refused, image_restarted, opened_log, opened_outside, run_shown}
 use Rattle.raft_script.proofs.trials.trial.Goals as goal
@@ -30,25 +32,29 @@ returns-clause-value c =
     let none = c.new_files.ensures.files in
     let ran = c.in_ok-ran.ran in
     let leaves = c.in_ok-left.ensures.value in
-    let shown = run_shown dir before files c.args.ops.now ran.outcomes.items ran.failed_at none c.in_ok-ran.ensures.ok in
+    let shown = run_shown dir before files c.args.ops.now ran.outcomes.items ran.failed_at (c.crash_leaves_contents.ensures.none dir before) none c.in_ok-ran.ensures.ok in
+    let m = memory_directory c.in_ok-left.left in
+    let restarted = c.in_ok-left.ensures.ok in
+    let sound : IsDetectableIn dir files left → IsSound dir files left = λ detectable. (shown.after.2 left leaves detectable).1 in
     record {
       first = c.new_files.result;
       last = c.in_ok-ran.files;
       stopped = record { stop_is = search rules; none = none; added = c.in_ok-ran.ensures.any_moment.0; later = c.in_ok-ran.ensures.any_moment.1 };
       ran = shown;
       left = leaves;
-      found = image_restarted (string_bytes c.in_ok-again.again.dir) dir files (memory_directory c.in_ok-left.left) left c.open_image.result c.in_ok-again.ensures.value.dir c.in_ok-left.ensures.ok c.open_image.ensures.value;
+      found = image_restarted (string_bytes c.in_ok-again.again.dir) dir files (memory_directory c.in_ok-left.left) left c.open_image.result c.in_ok-again.ensures.value.dir (c.crash_leaves_contents.ensures.found dir files m left restarted) c.open_image.ensures.value;
       refused = opened_outside c.args.config.recovery_mode c.in_ok-again.again.recovery_mode dir (string_bytes c.in_ok-again.again.dir) files (memory_directory c.in_ok-left.left) left c.open_image.result (ap (λ (x : Config). x.recovery_mode) c.in_ok-again.ensures.value.others)
-          c.in_ok-again.ensures.value.dir c.in_ok-left.ensures.ok leaves (λ detectable. (shown.after.2 left leaves detectable).1) c.open_image.ensures.refused;
+          c.in_ok-again.ensures.value.dir (λ detectable. c.crash_leaves_contents.ensures.opens dir files m left restarted (sound detectable) c.args.config.recovery_mode)
+          (λ detectable. c.crash_leaves_contents.ensures.no_file dir files m left restarted (sound detectable)) c.open_image.ensures.refused;
       cause = opened_log c.args.config.recovery_mode c.in_ok-again.again.recovery_mode dir (string_bytes c.in_ok-again.again.dir) files (memory_directory c.in_ok-left.left) left c.open_image.result (ap (λ (x : Config). x.recovery_mode) c.in_ok-again.ensures.value.others)
-          c.in_ok-again.ensures.value.dir c.in_ok-left.ensures.ok shown.no_file c.open_image.ensures.cause;
+          c.in_ok-again.ensures.value.dir restarted shown.no_file (λ e. c.crash_leaves_a_prefix.ensures.refused c.args.config.recovery_mode dir files m left e restarted) c.open_image.ensures.cause;
     }
 
 pub returns-in_err-left-clause-cause : goal.returns-in_err-left-clause-cause
 returns-in_err-left-clause-cause c =
     let files = memory_directory c.in_ok-ran.files in
     let ran = c.in_ok-ran.ran in
-    let shown = run_shown (string_bytes c.args.config.dir) (memory_directory c.new_files.result) files c.args.ops.now ran.outcomes.items ran.failed_at c.new_files.ensures.files c.in_ok-ran.ensures.ok in
+    let shown = run_shown (string_bytes c.args.config.dir) (memory_directory c.new_files.result) files c.args.ops.now ran.outcomes.items ran.failed_at (c.crash_leaves_contents.ensures.none (string_bytes c.args.config.dir) (memory_directory c.new_files.result)) c.new_files.ensures.files c.in_ok-ran.ensures.ok in
     let p = err_from_is_err_and c.from_residual-in_err-left.result c.from_residual-in_err-left.ensures.1 in
     rw (p.1, p.2) (choices_refused files c.args.choices.now c.in_err-left.field-0.0 c.in_err-left.ensures.consistent c.in_err-left.ensures.refused
     (λ not_left. record { outcomes = ran.outcomes.items; failed_at = ran.failed_at; files = files; ran = shown; refused = not_left }))
