@@ -1,5 +1,5 @@
 -- The first batches of the Rewrite queue dropped.
-use Rattle.std.proofs.Common.{◌≡◌, ℕ, ◌+◌, ◌≤◌, Bool, true, false, cond, ◌&&◌, ◌||◌, ◌⊎◌, inl, inr, List, [], ◌∷◌, ◌++◌, append-nil, Option, Some, None, filter, refl, sym, ◌∙◌, ap, subst, ⊎_elim, arith}
+use Rattle.std.proofs.Common.{◌≡◌, ℕ, ◌+◌, ◌≤◌, Bool, true, false, cond, ◌&&◌, ◌||◌, ◌⊎◌, inl, inr, List, [], ◌∷◌, ◌++◌, append-nil, append_assoc, Option, Some, None, filter, refl, sym, ◌∙◌, ap, subst, ⊎_elim, arith}
 use Rattle.std.specs.List.{All, Contains, cons_option, AllByRecursion as Each, list_all}
 use Rattle.std.proofs.lemmas.Bool.{and_parts, eq-eqb, false≢true}
 use Rattle.std.proofs.lemmas.List.Elements.{All-contains, All-weaker, Contains-append_left, Contains-append_right, filter-append}
@@ -217,3 +217,12 @@ pub dropped_to_a_cut : (id : ℕ) (front tail new appended : List Batch) → lis
     → HoldsLeft (effect new) appended (recovered (front ++ tail ++ new) appended) → recovered (tail ++ new) appended ≡ recovered (front ++ tail ++ new) appended
 dropped_to_a_cut id front tail new appended all incomplete share is_old is_new consecutive holds =
     ap (λ x. replay x appended) (effect-cut id front tail new all incomplete share) ∙ dropped_old_batches (front ++ tail) new appended share is_old is_new consecutive holds
+
+pub dropped_before_rest : (id : ℕ) (front tail rest new appended : List Batch) → list_all (is_of_group id) tail ≡ true → is_complete (places_in id tail) ≡ false → ShareNoGroup (front ++ tail) (rest ++ new) → ShareNoGroup rest new → HaveConsecutiveEntries (front ++ tail) → HaveConsecutiveEntries rest → HaveConsecutiveEntries new → HaveConsecutiveEntries appended
+    → HoldsLeft (effect new) appended (recovered (front ++ tail ++ rest ++ new) appended) → recovered (tail ++ rest ++ new) appended ≡ recovered (front ++ tail ++ rest ++ new) appended
+dropped_before_rest id front tail rest new appended all incomplete share share_rest is_old is_rest is_new consecutive holds =
+    let same = append_assoc (front ++ tail) rest new in
+    ap (λ bs. recovered bs appended) (append_assoc tail rest new)
+    ∙ dropped_to_a_cut id front tail (rest ++ new) appended all incomplete share is_old (consecutive-append rest new is_rest is_new) consecutive
+    (subst (λ bs. HoldsLeft (effect (rest ++ new)) appended (recovered bs appended)) same (holds_with_more rest new appended (recovered (front ++ tail ++ rest ++ new) appended) share_rest is_rest is_new holds))
+    ∙ sym (ap (λ bs. recovered bs appended) same)

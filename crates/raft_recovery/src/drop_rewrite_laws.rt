@@ -12,9 +12,7 @@ ghost use Rattle.raft_recovery.specs.Recovered.{effect, recovered};
 /// recovered and that the Append queue leaves alone (`dropped`). The new ones with some of the old
 /// before them hold it too (`more`): so the old ones may go file by file, and files that are
 /// dropped may still stand. No atomic group may have batches both among the old ones and among the
-/// new. But the files that go first may end inside a group: where what still stands of it before
-/// the other batches, without its first batch, isn't complete, it changes nothing (`cut`). The
-/// premise is exact: whatever is recovered of the new ones alone, they hold (`exact`).
+/// new. The premise is exact: whatever is recovered of the new ones alone, they hold (`exact`).
 pub fn dropped_rewrite_files_change_nothing()
     ensures dropped { (old new appended : List Batch) → ShareNoGroup old new
         → HaveConsecutiveEntries old → HaveConsecutiveEntries new
@@ -24,13 +22,28 @@ pub fn dropped_rewrite_files_change_nothing()
     ensures more { (old new appended : List Batch) (m : Contents) → ShareNoGroup old new
         → HaveConsecutiveEntries old → HaveConsecutiveEntries new
         → HoldsLeft (effect new) appended m → HoldsLeft (effect (old ++ new)) appended m }
+    ensures exact { (new appended : List Batch) (m : Contents) → HaveConsecutiveEntries new
+        → HaveConsecutiveEntries appended → recovered new appended ≡ m
+        → HoldsLeft (effect new) appended m }
+{}
+
+/// Files may be dropped up to one that ends inside an atomic group. The rest of that group, which
+/// isn't complete without its first batch, then stands before all others and changes nothing. What
+/// is recovered has to be in the batches after it (`cut`); it is where the new ones at their end
+/// hold it (`rest`).
+pub fn files_that_end_inside_a_group_may_be_dropped()
     ensures cut { (id : ℕ) (front tail new appended : List Batch)
         → IsTrue (list_all (is_of_group id) tail) → is_complete (places_in id tail) ≡ false
         → ShareNoGroup (front ++ tail) new → HaveConsecutiveEntries (front ++ tail)
         → HaveConsecutiveEntries new → HaveConsecutiveEntries appended
         → HoldsLeft (effect new) appended (recovered (front ++ tail ++ new) appended)
         → recovered (tail ++ new) appended ≡ recovered (front ++ tail ++ new) appended }
-    ensures exact { (new appended : List Batch) (m : Contents) → HaveConsecutiveEntries new
-        → HaveConsecutiveEntries appended → recovered new appended ≡ m
-        → HoldsLeft (effect new) appended m }
+    ensures rest { (id : ℕ) (front tail rest new appended : List Batch)
+        → IsTrue (list_all (is_of_group id) tail) → is_complete (places_in id tail) ≡ false
+        → ShareNoGroup (front ++ tail) (rest ++ new) → ShareNoGroup rest new
+        → HaveConsecutiveEntries (front ++ tail) → HaveConsecutiveEntries rest
+        → HaveConsecutiveEntries new → HaveConsecutiveEntries appended
+        → HoldsLeft (effect new) appended (recovered (front ++ tail ++ rest ++ new) appended)
+        → recovered (tail ++ rest ++ new) appended
+        ≡ recovered (front ++ tail ++ rest ++ new) appended }
 {}

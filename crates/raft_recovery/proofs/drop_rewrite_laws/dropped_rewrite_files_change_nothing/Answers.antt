@@ -1,4 +1,4 @@
-use Rattle.raft_recovery.proofs.DropRewriteLemmas.{dropped_old_batches, dropped_to_a_cut, holds_with_more}
+use Rattle.raft_recovery.proofs.DropRewriteLemmas.{dropped_old_batches, holds_with_more}
 use Rattle.raft_recovery.proofs.ExactLemmas.{dropped_is_held}
 use Rattle.raft_recovery.proofs.drop_rewrite_laws.dropped_rewrite_files_change_nothing.Goals as goal
 
@@ -7,9 +7,6 @@ returns-clause-dropped c = dropped_old_batches
 
 pub returns-clause-more : goal.returns-clause-more
 returns-clause-more c = holds_with_more
-
-pub returns-clause-cut : goal.returns-clause-cut
-returns-clause-cut c = dropped_to_a_cut
 
 pub returns-clause-exact : goal.returns-clause-exact
 returns-clause-exact c = dropped_is_held
