@@ -1,5 +1,5 @@
 -- The first batches of the Rewrite queue dropped.
-use Rattle.std.proofs.Common.{◌≡◌, ℕ, ◌+◌, ◌≤◌, Bool, true, false, cond, ◌&&◌, ◌||◌, ◌⊎◌, inl, inr, List, [], ◌∷◌, ◌++◌, append-nil, Option, Some, None, filter, refl, sym, ◌∙◌, ap, subst, ⊎_elim, arith}
+use Rattle.std.proofs.Common.{◌≡◌, ℕ, ◌+◌, ◌≤◌, Bool, true, false, cond, ◌&&◌, ◌||◌, ◌⊎◌, inl, inr, List, [], ◌∷◌, ◌++◌, append-nil, append_assoc, Option, Some, None, filter, refl, sym, ◌∙◌, ap, subst, ⊎_elim, arith}
 use Rattle.std.specs.List.{All, Contains, cons_option, AllByRecursion as Each, list_all}
 use Rattle.std.proofs.lemmas.Bool.{and_parts, eq-eqb, false≢true}
 use Rattle.std.proofs.lemmas.List.Elements.{All-contains, All-weaker, Contains-append_left, Contains-append_right, filter-append}
@@ -11,12 +11,12 @@ use Rattle.raft_records.specs.Item.{Entry, Item, Batch}
 use Rattle.raft_records.specs.Contents.{Contents, no_contents, after_batch, after_batches}
 use Rattle.raft_recovery.specs.Consecutive.{content_is_consecutive, HaveConsecutiveEntries}
 use Rattle.raft_recovery.specs.Dropping.{HoldsLeft, ShareNoGroup}
-use Rattle.raft_recovery.specs.Groups.{GroupMark, batch_counts, is_complete, mark_counts, mark_of, place_by, places_in, whole}
+use Rattle.raft_recovery.specs.Groups.{GroupMark, batch_counts, is_complete, is_of_group, mark_counts, mark_of, place_by, places_in, whole}
 use Rattle.raft_recovery.specs.Recovered.{items_of, item_leaves_key, leaves, effect, recovered, replay}
 use Rattle.raft_recovery.proofs.AppendLemmas.{IsRun, after_changes, all_keep, kept, before-append, run_after_changes}
 use Rattle.raft_recovery.proofs.AscendingLemmas.{IsAscending, above_start, Contains-cons_cases, Contains-unfilter, empty_unless}
 use Rattle.raft_recovery.proofs.EntryLemmas.{all_keep-items, change_in, changes_of, entries-after_batches, runs_of_items, no_entries_run}
-use Rattle.raft_recovery.proofs.GroupLemmas.{filter_next, no_place, places-append}
+use Rattle.raft_recovery.proofs.GroupLemmas.{effect-open_group, filter_next, no_batches, no_place, places-append}
 use Rattle.raft_recovery.proofs.UnchangedLemmas.{changes, entries_joined, kept_twice, own, own_not_kept}
 use Rattle.raft_recovery.proofs.FrontLemmas.{front_of}
 use Rattle.raft_recovery.proofs.KeptLemmas.{passing, joined, joined_same}
@@ -198,3 +198,31 @@ holds_with_more old new appended m share is_old is_new holds = record {
       (λ e there left. subst (λ es. Contains es e) (sym before.is) (Contains-append_right before.front ((effect new).entries g) e (there left))) (m.entries g) (holds.entries g);
   keys = λ g k value left is. value_both old new g k share ∙ set_later g k value (items_of (whole new)) ((effect old).value g k) (sym (value_later new g k) ∙ holds.keys g k value left is);
 }
+
+-- The last batches of one dropped group still stand.
+
+no_places_left : (xs ys : List (List ℕ)) → xs ++ ys ≡ [] → ys ≡ []
+no_places_left [] ys is = is
+no_places_left (x ∷ xs) ys is = absurd cc
+
+-- the batches of a group that isn't complete change nothing before others that it has no batch in
+effect-cut : (id : ℕ) (front tail new : List Batch) → list_all (is_of_group id) tail ≡ true → is_complete (places_in id tail) ≡ false → ShareNoGroup (front ++ tail) new → effect (tail ++ new) ≡ effect new
+effect-cut id front tail new all incomplete share =
+    ⊎_elim
+    (λ none. ap (λ bs. effect (bs ++ new)) (no_batches id tail all (no_places_left (places_in id front) (places_in id tail) (sym (places-append id front tail) ∙ none))))
+    (λ none. effect-open_group id [] tail new refl none all incomplete)
+    (share id)
+
+pub dropped_to_a_cut : (id : ℕ) (front tail new appended : List Batch) → list_all (is_of_group id) tail ≡ true → is_complete (places_in id tail) ≡ false → ShareNoGroup (front ++ tail) new → HaveConsecutiveEntries (front ++ tail) → HaveConsecutiveEntries new → HaveConsecutiveEntries appended
+    → HoldsLeft (effect new) appended (recovered (front ++ tail ++ new) appended) → recovered (tail ++ new) appended ≡ recovered (front ++ tail ++ new) appended
+dropped_to_a_cut id front tail new appended all incomplete share is_old is_new consecutive holds =
+    ap (λ x. replay x appended) (effect-cut id front tail new all incomplete share) ∙ dropped_old_batches (front ++ tail) new appended share is_old is_new consecutive holds
+
+pub dropped_before_rest : (id : ℕ) (front tail rest new appended : List Batch) → list_all (is_of_group id) tail ≡ true → is_complete (places_in id tail) ≡ false → ShareNoGroup (front ++ tail) (rest ++ new) → ShareNoGroup rest new → HaveConsecutiveEntries (front ++ tail) → HaveConsecutiveEntries rest → HaveConsecutiveEntries new → HaveConsecutiveEntries appended
+    → HoldsLeft (effect new) appended (recovered (front ++ tail ++ rest ++ new) appended) → recovered (tail ++ rest ++ new) appended ≡ recovered (front ++ tail ++ rest ++ new) appended
+dropped_before_rest id front tail rest new appended all incomplete share share_rest is_old is_rest is_new consecutive holds =
+    let same = append_assoc (front ++ tail) rest new in
+    ap (λ bs. recovered bs appended) (append_assoc tail rest new)
+    ∙ dropped_to_a_cut id front tail (rest ++ new) appended all incomplete share is_old (consecutive-append rest new is_rest is_new) consecutive
+    (subst (λ bs. HoldsLeft (effect (rest ++ new)) appended (recovered bs appended)) same (holds_with_more rest new appended (recovered (front ++ tail ++ rest ++ new) appended) share_rest is_rest is_new holds))
+    ∙ sym (ap (λ bs. recovered bs appended) same)

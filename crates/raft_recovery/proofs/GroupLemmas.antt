@@ -153,3 +153,8 @@ effect-complete_group id old bs none_before all complete = ap (after_batches no_
 
 pub effect-unmarked : (old : List Batch) (b : Batch) → mark_of b ≡ None → effect (old ++ b ∷ []) ≡ after_batch (effect old) b
 effect-unmarked old b unmarked = ap (after_batches no_contents) (whole-unmarked old b unmarked) ∙ fold-append after_batch no_contents (whole old) (b ∷ [])
+
+-- batches of a group of which none has a place are none
+pub no_batches : (id : ℕ) (bs : List Batch) → list_all (is_of_group id) bs ≡ true → places_in id bs ≡ [] → bs ≡ []
+no_batches id [] all none = refl
+no_batches id (b ∷ bs) all none = absurd (false≢true (sym (no_place id (mark_of b) (places_in id bs) none).0 ∙ (of_group id b bs all).0))

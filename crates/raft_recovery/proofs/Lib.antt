@@ -17,3 +17,4 @@ pub mod JoinedLemmas
 pub mod StandsLemmas
 pub mod DropRewriteLemmas
 pub mod ExactLemmas
+pub mod PartLemmas

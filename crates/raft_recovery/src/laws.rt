@@ -28,16 +28,18 @@ pub fn valid_batches_are_found()
 /// The Append queue's batches change nothing of what was found with them (`again`). Where batches
 /// change nothing of contents, the later ones of them change nothing (`later`); and where those
 /// contents are found with the later ones alone, they are found with all (`older`). So a dropped
-/// file may still stand, as long as the files after it do.
+/// file may still stand, as long as the files after it do. All hold for any contents with
+/// consecutive entries, as those of the Rewrite queue are (`rewritten`).
 pub fn older_batches_change_nothing()
-    ensures again { (rewritten appended : List Batch) → HaveConsecutiveEntries rewritten
+    ensures again { (x : Contents) (appended : List Batch) → HasConsecutiveEntries x
         → HaveConsecutiveEntries appended
-        → replay (recovered rewritten appended) appended ≡ recovered rewritten appended }
+        → replay (replay x appended) appended ≡ replay x appended }
     ensures later { (m : Contents) (older newer : List Batch) → HasConsecutiveEntries m
         → HaveConsecutiveEntries (older ++ newer) → replay m (older ++ newer) ≡ m
         → replay m newer ≡ m }
-    ensures older { (rewritten older newer : List Batch) (found : Contents)
-        → HaveConsecutiveEntries rewritten → HaveConsecutiveEntries (older ++ newer)
-        → replay found (older ++ newer) ≡ found → recovered rewritten newer ≡ found
-        → recovered rewritten (older ++ newer) ≡ found }
+    ensures older { (x found : Contents) (older newer : List Batch) → HasConsecutiveEntries x
+        → HaveConsecutiveEntries (older ++ newer) → replay found (older ++ newer) ≡ found
+        → replay x newer ≡ found → replay x (older ++ newer) ≡ found }
+    ensures rewritten { (rewritten : List Batch) → HaveConsecutiveEntries rewritten
+        → HasConsecutiveEntries (effect rewritten) }
 {}

@@ -2,7 +2,7 @@
 ghost use Rattle.std.specs.Prelude.{◌≡◌, ◌≤◌, ◌++◌, ◌∷◌, ℕ, List, [], true, false, None, Some, IsTrue};
 ghost use Rattle.std.specs.List.{list_all};
 ghost use Rattle.std.specs.Str.{bytes_eq};
-ghost use Rattle.raft_records.specs.Contents.{Contents, after_batch};
+ghost use Rattle.raft_records.specs.Contents.{Contents, after_batches, after_item};
 ghost use Rattle.raft_records.specs.Item.{Batch, Clean, Compact, Delete, Entries, Entry, Put, group_mark_key};
 ghost use Rattle.raft_records.specs.Record.{Mark, mark_item};
 ghost use Rattle.raft_recovery.specs.Consecutive.{HaveConsecutiveEntries, are_consecutive};
@@ -65,14 +65,30 @@ pub fn what_changes_nothing_meets_its_premise()
         → (replay x appended).value group key ≡ Some value }
 {}
 
+/// Entries that are written in two parts, the second starting right after the first, are the same
+/// as those written at once. So the batches of an atomic group may share them.
+pub fn entries_in_parts_are_the_same_as_at_once()
+    ensures parts { (x : Contents) (group : ℕ) (es fs : List Entry)
+        → IsTrue (are_consecutive (x.entries group)) → IsTrue (are_consecutive (es ++ fs))
+        → after_item (after_item x (record { group = group; content = Entries es }))
+        (record { group = group; content = Entries fs })
+        ≡ after_item x (record { group = group; content = Entries (es ++ fs) }) }
+{}
+
 /// Where each item changes nothing after those before it, their batch changes nothing: one without
-/// a mark (`unmarked`), and a complete atomic group at its end (`group`).
+/// a mark (`unmarked`), and a complete atomic group at its end (`items`). An item of a complete
+/// group may change something by itself, as a first part of the entries that are there does, where
+/// the group as a whole changes nothing (`group`).
 pub fn batches_of_such_items_change_nothing()
     ensures unmarked { (old appended : List Batch) (batch : Batch) → mark_of batch ≡ None
         → EachChangesNothing (effect old) appended batch
         → recovered (old ++ batch ∷ []) appended ≡ recovered old appended }
-    ensures group { (id : ℕ) (old group appended : List Batch) → places_in id old ≡ []
+    ensures items { (id : ℕ) (old group appended : List Batch) → places_in id old ≡ []
         → IsTrue (list_all (is_of_group id) group) → IsTrue (is_complete (places_in id group))
         → EachChangesNothing (effect old) appended (items_of group)
+        → recovered (old ++ group) appended ≡ recovered old appended }
+    ensures group { (id : ℕ) (old group appended : List Batch) → places_in id old ≡ []
+        → IsTrue (list_all (is_of_group id) group) → IsTrue (is_complete (places_in id group))
+        → replay (after_batches (effect old) group) appended ≡ replay (effect old) appended
         → recovered (old ++ group) appended ≡ recovered old appended }
 {}

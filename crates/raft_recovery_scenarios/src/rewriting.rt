@@ -17,6 +17,19 @@ pub fn entries_that_do_not_fit_replace_others()
         × (found (entries (3 ∷ 4 ∷ []) ∷ entries (3 ∷ []) ∷ []) [] ≡ only (3 ∷ [])) }
 {}
 
+/// Entries that are written again in two parts, of which the first alone would replace the others,
+/// are kept where both are one atomic group (`complete`), and so they are after a drop of the file
+/// with its first batch (`dropped`).
+pub fn parts_of_an_atomic_group_replace_nothing()
+    ensures complete { (found (entries (3 ∷ 4 ∷ []) ∷ []) [] ≡ only (3 ∷ 4 ∷ []))
+        × (found (entries (3 ∷ 4 ∷ []) ∷ begin_group 8 (entries (3 ∷ []))
+        ∷ end_group 8 (entries (4 ∷ [])) ∷ []) [] ≡ only (3 ∷ 4 ∷ [])) }
+    ensures dropped { (found (begin_group 8 (entries (3 ∷ [])) ∷ end_group 8 (entries (4 ∷ []))
+        ∷ entries (3 ∷ 4 ∷ []) ∷ []) [] ≡ only (3 ∷ 4 ∷ []))
+        × (found (end_group 8 (entries (4 ∷ [])) ∷ entries (3 ∷ 4 ∷ []) ∷ []) []
+        ≡ only (3 ∷ 4 ∷ [])) }
+{}
+
 /// A group that isn't complete changes nothing (`unfinished`), unless its id was used before
 /// (`same_id`). Where other batches stand between those of a group, a drop of the first file brings
 /// back what the group's last batch removed (`cut_key`, `cut_entries`).
