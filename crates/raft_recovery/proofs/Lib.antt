@@ -9,6 +9,7 @@ pub mod AscendingLemmas
 pub mod RewriteLemmas
 pub mod MarkLemmas
 pub mod ContentsLemmas
+pub mod PartLemmas
 pub mod FixedLemmas
 pub mod DropLemmas
 pub mod DropFrontLemmas
@@ -17,4 +18,3 @@ pub mod JoinedLemmas
 pub mod StandsLemmas
 pub mod DropRewriteLemmas
 pub mod ExactLemmas
-pub mod PartLemmas
