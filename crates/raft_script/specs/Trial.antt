@@ -83,7 +83,7 @@ pub record IsTrialOf (mode : RecoveryMode) (folder : Path) (ops : List Op) (stop
   -- the opening found what the choices leave
   pub found : let files = memory_directory last in
       IfOk t.opened (λ image.
-          IsImageOf image.groups.items (found_after folder files (left_by choices files)))
+      IsImageOf image.groups.items (found_after folder files (left_by choices files)))
   -- a tolerant one is not refused for what they leave, where its damage can be told
   pub refused : let files = memory_directory last in
       IsDetectableIn folder files (left_by choices files)
