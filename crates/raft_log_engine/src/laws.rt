@@ -64,9 +64,10 @@ pub fn an_engine_recovers_what_it_keeps<F: FileSystem>(engine: &Engine<F>)
         → contents_of engine.now ≡ after_batches (durable_of engine.now) (unsynced_of engine.now) }
 {}
 
-/// The premise on damage can be met of an engine that hasn't failed. If of its log only writes
-/// failed since an opening that found no record of a failed call, the damage of a crash that leaves
-/// every file with all its bytes now, or with those of its last sync, is detectable.
+/// The premise on damage can be met of an engine that hasn't failed. If its openings found no record
+/// of a failed call in the log, and of the log's calls, also those before the opening, only writes
+/// failed, and the log was never renamed, the damage of a crash that leaves every file with all its
+/// bytes now, or with those of its last sync, is detectable (`AreConsistent`: as in memory always).
 pub fn the_damage_of_an_engine_is_detectable<F: FileSystem>(engine: &Engine<F>)
     ensures crash { let folder = folder_of engine.now in let n = directory_of engine.now in
         has_failed engine.now ≡ false → AllByRecursion (IsDoneIn folder) (begun_of engine.now)
