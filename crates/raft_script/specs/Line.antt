@@ -59,7 +59,8 @@ put_by _ = None
 
 -- del G K [sync]
 abbrev pub delete_by : List (List ℕ) → Option Asked
-delete_by (group ∷ key ∷ words) = option_and_then (λ g. option_map (λ sync. Delete g key sync) (sync_by words)) (number_in group)
+delete_by (group ∷ key ∷ words) =
+    option_and_then (λ g. option_map (λ sync. Delete g key sync) (sync_by words)) (number_in group)
 delete_by _ = None
 
 -- get G K
@@ -154,7 +155,8 @@ EndsOn text _ = Unit {0}
 
 -- a line was found, and these bytes are left behind it; or there was none
 abbrev pub IsNextLine : Bool → List ℕ → List ℕ → Option (List ℕ) → Type 0
-IsNextLine true text line left = (rest : List ℕ) × (left ≡ Some rest) × (lines_in text ≡ line ∷ lines_in rest)
+IsNextLine true text line left =
+    (rest : List ℕ) × (left ≡ Some rest) × (lines_in text ≡ line ∷ lines_in rest)
 IsNextLine false text line left = text ≡ []
 
 -- the lines before this number are good, and these bytes are left behind them

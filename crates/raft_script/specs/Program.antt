@@ -14,5 +14,7 @@ pub record IsAnswered {F H R W : Type 0} {g : Ghosts F H R W} (asked : Asked) (o
     (old new : Engine F H R W g) : Type 0 where
   pub op : Op
   pub does : asked_by_op op ≡ Some asked
-  pub answer : (m : Contents) → (has_failed old ≡ false → m ≡ contents_of old) → IsAnswer m op outcome
-  pub contents : has_failed new ≡ false → contents_of new ≡ after_batches (contents_of old) (accepted_of op outcome)
+  pub answer : (m : Contents) → (has_failed old ≡ false → m ≡ contents_of old)
+      → IsAnswer m op outcome
+  pub contents : has_failed new ≡ false
+      → contents_of new ≡ after_batches (contents_of old) (accepted_of op outcome)

@@ -46,10 +46,12 @@ accepted_of _ _ = []
 
 -- the batches of the accepted writes, in order
 abbrev pub accepted_batches : List Op → List Outcome → List Batch
-accepted_batches (op ∷ ops) (outcome ∷ outcomes) = accepted_of op outcome ++ accepted_batches ops outcomes
+accepted_batches (op ∷ ops) (outcome ∷ outcomes) =
+    accepted_of op outcome ++ accepted_batches ops outcomes
 accepted_batches _ _ = []
 
--- the operation made sure of all that was accepted up to it: a sync that was answered, or a write that asked for one
+-- the operation made sure of all that was accepted up to it: a sync that was answered, or a write
+-- that asked for one
 abbrev pub is_covering : Op → Outcome → Bool
 is_covering (Write acts sync) (Size (Ok len)) = sync
 is_covering Sync (Done (Ok x)) = true
@@ -93,8 +95,8 @@ IsWritten acts len = (batch : Batch) × (batch_of_acts acts ≡ Some batch) × (
 abbrev pub IsTooLong : List Act → Type 0
 IsTooLong acts = (batch : Batch) × (batch_of_acts acts ≡ Some batch) × (2 ^ 56 ≤ record_len batch)
 
--- a write is refused for an act that can't be done, or for want of memory; its batch by storage, for its length, or by a
--- failed engine
+-- a write is refused for an act that can't be done, or for want of memory; its batch by storage,
+-- for its length, or by a failed engine
 abbrev pub IsWriteRefusal : List Act → Fault → Type 0
 IsWriteRefusal acts (fault.InvalidArgument _) = batch_of_acts acts ≡ None
 IsWriteRefusal acts (fault.Io kind path) = IsSome (batch_of_acts acts)
@@ -116,7 +118,8 @@ IsGetRefusal _ = ⊥
 
 -- an operation is answered so, or refused, at these contents
 abbrev pub IsAnswer : Contents → Op → Outcome → Type 0
-IsAnswer m (Write acts sync) (Size answer) = MatchResult answer (IsWritten acts.items) (IsWriteRefusal acts.items)
+IsAnswer m (Write acts sync) (Size answer) =
+    MatchResult answer (IsWritten acts.items) (IsWriteRefusal acts.items)
 IsAnswer m Sync (Done answer) = MatchResult answer (λ _. Unit {0}) IsSyncRefusal
 IsAnswer m (Get group key) (Value answer) =
     MatchResult answer (λ value. option_map (λ v. v.items) value ≡ m.value group key.items) IsGetRefusal
@@ -125,7 +128,8 @@ IsAnswer m _ _ = ⊥
 -- each operation is answered at the contents that those before it leave
 abbrev pub AreAnswers : Contents → List Op → List Outcome → Type 0
 AreAnswers m [] [] = Unit {0}
-AreAnswers m (op ∷ ops) (outcome ∷ outcomes) = IsAnswer m op outcome × AreAnswers (after_batches m (accepted_of op outcome)) ops outcomes
+AreAnswers m (op ∷ ops) (outcome ∷ outcomes) =
+    IsAnswer m op outcome × AreAnswers (after_batches m (accepted_of op outcome)) ops outcomes
 AreAnswers m _ _ = ⊥
 
 -- storage's refusal
@@ -162,8 +166,10 @@ abbrev pub is_failure : {T : Type 0} → Result T Fault → Bool
 is_failure (Err fault.Failed) = true
 is_failure _ = false
 
--- an engine answers so and fails, or doesn't; an answer that isn't the engine's is one of the others
-pub record FailsBy {T : Type 0} (failed : Bool) (answer : Result T Fault) (fails : Bool) (Other : Fault → Type 0) : Type 0 where
+-- an engine answers so and fails, or doesn't; an answer that isn't the engine's is one of the
+-- others
+pub record FailsBy {T : Type 0} (failed : Bool) (answer : Result T Fault) (fails : Bool)
+    (Other : Fault → Type 0) : Type 0 where
   -- it stays failed
   pub still : failed ≡ true → fails ≡ true
   -- a failure is told where there was one, and nowhere else
@@ -174,21 +180,28 @@ pub record FailsBy {T : Type 0} (failed : Bool) (answer : Result T Fault) (fails
 
 -- .. in an operation; a refused sync fails the engine, and a get doesn't
 abbrev pub IsFailing : Bool → Op → Outcome → Bool → Type 0
-IsFailing failed (Write acts sync) (Size answer) fails = FailsBy failed answer fails (IsUnbuilt acts.items)
-IsFailing failed Sync (Done answer) fails = FailsBy failed answer fails (λ _. ⊥) × (is_ok answer ≡ false → fails ≡ true)
-IsFailing failed (Get group key) (Value answer) fails = FailsBy failed answer fails (λ _. ⊥) × (fails ≡ failed)
+IsFailing failed (Write acts sync) (Size answer) fails =
+    FailsBy failed answer fails (IsUnbuilt acts.items)
+IsFailing failed Sync (Done answer) fails =
+    FailsBy failed answer fails (λ _. ⊥) × (is_ok answer ≡ false → fails ≡ true)
+IsFailing failed (Get group key) (Value answer) fails =
+    FailsBy failed answer fails (λ _. ⊥) × (fails ≡ failed)
 IsFailing failed _ _ fails = ⊥
 
 -- each of the operations leaves the engine as it found it, failed or standing
 abbrev pub AreSteady : Bool → List Op → List Outcome → Type 0
 AreSteady failed [] [] = Unit {0}
-AreSteady failed (op ∷ ops) (outcome ∷ outcomes) = IsFailing failed op outcome failed × AreSteady failed ops outcomes
+AreSteady failed (op ∷ ops) (outcome ∷ outcomes) =
+    IsFailing failed op outcome failed × AreSteady failed ops outcomes
 AreSteady failed _ _ = ⊥
 
--- the engine failed in the operation at this place: those before it left it standing, and those after it found it failed
+-- the engine failed in the operation at this place: those before it left it standing, and those
+-- after it found it failed
 abbrev pub FailsAt : ℕ → List Op → List Outcome → Type 0
-FailsAt zero (op ∷ ops) (outcome ∷ outcomes) = IsFailing false op outcome true × AreSteady true ops outcomes
-FailsAt (suc place) (op ∷ ops) (outcome ∷ outcomes) = IsFailing false op outcome false × FailsAt place ops outcomes
+FailsAt zero (op ∷ ops) (outcome ∷ outcomes) =
+    IsFailing false op outcome true × AreSteady true ops outcomes
+FailsAt (suc place) (op ∷ ops) (outcome ∷ outcomes) =
+    IsFailing false op outcome false × FailsAt place ops outcomes
 FailsAt place _ _ = ⊥
 
 -- where the engine failed: in the operation at the place, or in none
@@ -198,4 +211,5 @@ IsFailurePlace failed ops outcomes (Some place) = (failed ≡ false) × FailsAt 
 
 -- .. and whether it has failed after them
 abbrev pub AreFailures : Bool → List Op → List Outcome → Option ℕ → Bool → Type 0
-AreFailures failed ops outcomes failed_at fails = (fails ≡ (failed || is_some failed_at)) × IsFailurePlace failed ops outcomes failed_at
+AreFailures failed ops outcomes failed_at fails =
+    (fails ≡ (failed || is_some failed_at)) × IsFailurePlace failed ops outcomes failed_at

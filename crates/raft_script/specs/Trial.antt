@@ -20,25 +20,32 @@ use Rattle.raft_script.specs.declared.operation.Outcome.{Outcome}
 use Rattle.raft_script.specs.declared.operation.Trial.{Trial}
 
 -- the operations were answered by an engine that stood before them
-pub record AreAnswered (m : Contents) (ops : List Op) (outcomes : List Outcome) (failed_at : Option ℕ) : Type 0 where
+pub record AreAnswered (m : Contents) (ops : List Op) (outcomes : List Outcome)
+    (failed_at : Option ℕ) : Type 0 where
   pub answers : AreAnswers m ops outcomes
   pub place : IsFailurePlace false ops outcomes failed_at
 
 -- the opening was refused, and no operation was done; the files keep what they kept
-pub record AreNotAsked (folder : Path) (m : Contents) (files : Directory) (outcomes : List Outcome) (failed_at : Option ℕ) : Type 0 where
+pub record AreNotAsked (folder : Path) (m : Contents) (files : Directory) (outcomes : List Outcome)
+    (failed_at : Option ℕ) : Type 0 where
   pub none : outcomes ≡ []
   pub stands : failed_at ≡ None
   pub files_keep : KeepsContents folder m [] files
 
--- operations over a folder that holds these contents, from an opening on: the files as they were left
-pub record RunsOver (folder : Path) (m : Contents) (ops : List Op) (outcomes : List Outcome) (failed_at : Option ℕ) (files : Directory) : Type 0 where
-  pub answered : AreAnswered m ops outcomes failed_at ⊎ AreNotAsked folder m files outcomes failed_at
-  -- a crash leaves of them a prefix of what was accepted, and of what the operation had in flight in which the engine failed
+-- operations over a folder that holds these contents, from an opening on: the files as they were
+-- left
+pub record RunsOver (folder : Path) (m : Contents) (ops : List Op) (outcomes : List Outcome)
+    (failed_at : Option ℕ) (files : Directory) : Type 0 where
+  pub answered : AreAnswered m ops outcomes failed_at
+      ⊎ AreNotAsked folder m files outcomes failed_at
+  -- a crash leaves of them a prefix of what was accepted, and of what the operation had in flight
+  -- in which the engine failed
   pub after : LeavesAllowedAfter failed_at folder m [] ops outcomes files
   -- no file stands in the folder's place
   pub no_file : HasFile files folder → ⊥
 
--- operations over files that were empty may leave files of which storage may not leave what the choices say
+-- operations over files that were empty may leave files of which storage may not leave what the
+-- choices say
 pub record AreNotAllowed (folder : Path) (ops : List Op) (choices : List Choice) : Type 0 where
   pub outcomes : List Outcome
   pub failed_at : Option ℕ
@@ -54,7 +61,8 @@ IsLogRefusal mode folder files e = IsStorageOrMemory e ⊎ HasDamageIn mode fold
 abbrev pub IsLeftRefusal : RecoveryMode → Path → Directory → Left → Fault → Type 0
 IsLeftRefusal mode folder files d e = IsStorageOrMemory e ⊎ HasLeftDamage mode folder files d e
 
--- files in memory that were empty, with this stop for the first opening, and the same once the operations are done
+-- files in memory that were empty, with this stop for the first opening, and the same once the
+-- operations are done
 pub record IsStopped (stop : Option ℕ) (first last : MemoryFileSystem) : Type 0 where
   pub stop_is : stop_of first ≡ stop
   pub none : memory_directory first ≡ no_files
@@ -62,8 +70,10 @@ pub record IsStopped (stop : Option ℕ) (first last : MemoryFileSystem) : Type 
   pub added : List Directory
   pub later : memory_moments last ≡ added ++ memory_moments first
 
--- operations over files that were empty, then a crash by these choices, then an opening in this mode
-pub record IsTrialOf (mode : RecoveryMode) (folder : Path) (ops : List Op) (stop : Option ℕ) (choices : List Choice) (t : Trial) : Type 0 where
+-- operations over files that were empty, then a crash by these choices, then an opening in this
+-- mode
+pub record IsTrialOf (mode : RecoveryMode) (folder : Path) (ops : List Op) (stop : Option ℕ)
+    (choices : List Choice) (t : Trial) : Type 0 where
   pub first : MemoryFileSystem
   pub last : MemoryFileSystem
   pub stopped : IsStopped stop first last
@@ -72,9 +82,13 @@ pub record IsTrialOf (mode : RecoveryMode) (folder : Path) (ops : List Op) (stop
   pub left : let files = memory_directory last in Leaves files (left_by choices files)
   -- the opening found what the choices leave
   pub found : let files = memory_directory last in
-      IfOk t.opened (λ image. IsImageOf image.groups.items (found_after folder files (left_by choices files)))
+      IfOk t.opened (λ image.
+      IsImageOf image.groups.items (found_after folder files (left_by choices files)))
   -- a tolerant one is not refused for what they leave, where its damage can be told
-  pub refused : let files = memory_directory last in IsDetectableIn folder files (left_by choices files)
+  pub refused : let files = memory_directory last in
+      IsDetectableIn folder files (left_by choices files)
       → (mode ≡ AbsoluteConsistency → ⊥) → IfErr t.opened IsStorageOrMemory
-  -- in any mode and of any damage it is refused by storage, for want of memory, or for what is left of the log
-  pub cause : let files = memory_directory last in IfErr t.opened (IsLeftRefusal mode folder files (left_by choices files))
+  -- in any mode and of any damage it is refused by storage, for want of memory, or for what is left
+  -- of the log
+  pub cause : let files = memory_directory last in
+      IfErr t.opened (IsLeftRefusal mode folder files (left_by choices files))

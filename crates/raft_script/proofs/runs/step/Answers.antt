@@ -42,3 +42,11 @@ returns-in-Sync-clause-progress g c = rw c.in-Sync.is (record {
   progress = search rules;
   answers = inr (record { noted = search rules; moments = λ alive. search rules; rests = search rules });
 })
+
+pub returns-in-Ok-clause-failed : goal.returns-in-Ok-clause-failed
+returns-in-Ok-clause-failed g c = rw c.in-Write.is (record {
+  still = λ failed. search rules;
+  told = λ told. search rules;
+  refused = λ failed. search rules;
+  cause = λ alive fails. search rules;
+})
