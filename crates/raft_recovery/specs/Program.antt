@@ -22,7 +22,8 @@ entries_after_item group es item =
 
 -- .. after a batch
 abbrev pub entries_after_batch : ℕ → List Entry → List GroupChange → List Entry
-entries_after_batch group es batch = fold (λ before c. entries_after_item group before (item_of c)) es batch
+entries_after_batch group es batch =
+    fold (λ before c. entries_after_item group before (item_of c)) es batch
 
 -- what a key has after a change of its group
 abbrev pub value_after_change : List ℕ → Option (List ℕ) → Content → Option (List ℕ)
@@ -40,8 +41,11 @@ value_after_item group key v item =
 
 -- .. after a batch
 abbrev pub value_after_batch : ℕ → List ℕ → Option (List ℕ) → List GroupChange → Option (List ℕ)
-value_after_batch group key v batch = fold (λ before c. value_after_item group key before (item_of c)) v batch
+value_after_batch group key v batch =
+    fold (λ before c. value_after_item group key before (item_of c)) v batch
 
 -- .. after batches
-abbrev pub value_after_batches : ℕ → List ℕ → Option (List ℕ) → List (Bor (List GroupChange)) → Option (List ℕ)
-value_after_batches group key v batches = fold (λ before b. value_after_batch group key before b.now) v batches
+abbrev pub value_after_batches : ℕ → List ℕ → Option (List ℕ) → List (Bor (List GroupChange))
+    → Option (List ℕ)
+value_after_batches group key v batches =
+    fold (λ before b. value_after_batch group key before b.now) v batches
