@@ -18,3 +18,6 @@ pub mod JoinedLemmas
 pub mod StandsLemmas
 pub mod DropRewriteLemmas
 pub mod ExactLemmas
+pub mod ProgramLemmas
+pub mod CompleteGroupsLemmas
+pub mod ValueLemmas

@@ -7,3 +7,5 @@ pub mod Valid
 pub mod Stands
 pub mod Dropping
 pub mod DroppingFront
+pub mod Change
+pub mod Program

@@ -1,10 +1,14 @@
 //! The laws of recovered contents.
 #![tactic(auto)]
 
+pub mod change;
+mod complete_groups;
 pub mod drop_append_laws;
 pub mod drop_rewrite_laws;
 pub mod group_laws;
 pub mod joined_laws;
 pub mod laws;
+pub mod recovered;
+pub mod recovered_value;
 pub mod rewrite_laws;
 pub mod stands_laws;

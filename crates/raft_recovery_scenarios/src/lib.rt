@@ -7,3 +7,5 @@ mod laws;
 pub mod marks;
 pub mod rewriting;
 pub mod syncs;
+#[cfg(test)]
+mod table;
