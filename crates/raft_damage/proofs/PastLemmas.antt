@@ -6,12 +6,12 @@ use Rattle.std.proofs.lemmas.List.Elements.{Contains-append_left, Contains-appen
 use Rattle.std.specs.FinMap as finite
 use Rattle.raft_base.specs.declared.pipe_log.FileId.{FileId}
 use Rattle.raft_files.specs.declared.format.LogFileFormat.{LogFileFormat}
-use Rattle.raft_env.specs.Outcomes.{File, Change, MayLeave, is_within, is_touched, untouched_len, bytes_since_sync, bytes_behind}
+use Rattle.raft_env.specs.Outcomes.{File, Change, MayLeave, is_within, is_touched, untouched_len, bytes_since_sync, bytes_after}
 use Rattle.raft_env.specs.Directory.{Directory, Path, file_at}
-use Rattle.raft_files.specs.Reading.{Placed, readable_records}
+use Rattle.raft_files.specs.Reading.{PlacedRecord, readable_records}
 use Rattle.raft_memory.specs.Choice.{chosen, chosen_at, choice_for, left_by, NamesNoBytes, NameNoBytes}
 use Rattle.raft_env.specs.Consistent.{HasItsRange, IsPastOf, IsConsistent, AreConsistent}
-use Rattle.raft_files.specs.Detectable.{IsBeginningOf, format_of, signature_by, IsGivenBy, HasNoRefusedByte, IsDone, EndsUnmarked, IsDetectableFile, IsDetectable}
+use Rattle.raft_files.specs.Detectable.{IsPrefixOf, format_of, signature_by, IsGivenBy, HasNoRefusedByte, IsDone, EndsWithoutCompressed, IsDetectableFile, IsDetectable}
 use Rattle.raft_damage.specs.Told.{BringsOnlyGiven, AreOwn, IsReadAsBefore}
 use Rattle.raft_memory.specs.declared.crash.Choice.{Choice}
 use Rattle.raft_memory.specs.declared.crash.Choice.TheVariants as choice
@@ -27,7 +27,7 @@ use Rattle.raft_premise.proofs.ZerosLemmas.{never_stale}
 -- Records.
 
 -- a record that the newest change was to write has no byte of an older one
-given_covers : (by : Option ℕ) (c : Change) (changes : List Change) (r : Placed) → HasItsRange c → IsGivenBy by r c → HasNoRefusedByte by (c ∷ changes) r
+given_covers : (by : Option ℕ) (c : Change) (changes : List Change) (r : PlacedRecord) → HasItsRange c → IsGivenBy by r c → HasNoRefusedByte by (c ∷ changes) r
 given_covers by c changes r range given [] d before e refused with_byte =
     let same : c ≡ d = cc in
     subst (IsGivenBy by r) same given
@@ -40,7 +40,7 @@ given_covers by c changes r range given (x ∷ later) d before e refused with_by
     absurd cc
 
 -- where each change brought only the record that it was to write, no refused call brought what is read
-own_done : (id : FileId) (by : Option ℕ) (bytes : List ℕ) (changes : List Change) → IsPastOf bytes changes → ((c : Change) → Contains changes c → BringsOnlyGiven id by c) → (r : Placed) → Contains (readable_records id bytes) r → IsDone id by changes r
+own_done : (id : FileId) (by : Option ℕ) (bytes : List ℕ) (changes : List Change) → IsPastOf bytes changes → ((c : Change) → Contains changes c → BringsOnlyGiven id by c) → (r : PlacedRecord) → Contains (readable_records id bytes) r → IsDone id by changes r
 own_done id by bytes [] past own r has = tt
 own_done id by bytes (c ∷ changes) past own r has =
     elim (own c (0, omega arith, refl) r (subst (λ b. Contains (readable_records id b) r) (sym past.0) has)) [
@@ -55,7 +55,7 @@ past_behind [] rest bytes past = (bytes, past)
 past_behind (c ∷ newer) rest bytes past = past_behind newer rest c.before past.3
 
 -- the past of a file at a moment since its last sync
-past_at : (file : File) → IsConsistent file → (newer upto : List Change) → file.changes ≡ newer ++ upto → IsPastOf (bytes_behind file.synced upto) (upto ++ file.older)
+past_at : (file : File) → IsConsistent file → (newer upto : List Change) → file.changes ≡ newer ++ upto → IsPastOf (bytes_after file.synced upto) (upto ++ file.older)
 past_at file is newer [] e = is.earlier
 past_at file is newer (c ∷ upto) e =
     let all : file.changes ++ file.older ≡ newer ++ (c ∷ upto ++ file.older) = ap (λ cs. cs ++ file.older) e ∙ append_assoc newer (c ∷ upto) file.older in
@@ -67,7 +67,7 @@ pub record IsMoment (synced : List ℕ) (changes : List Change) (bytes : List �
   pub newer : List Change
   pub upto : List Change
   pub split : changes ≡ newer ++ upto
-  pub is : bytes_behind synced upto ≡ bytes
+  pub is : bytes_after synced upto ≡ bytes
 
 moment_of : (synced : List ℕ) (changes : List Change) (bytes : List ℕ) → Contains (map (λ (c : Change). c.after) changes ++ synced ∷ []) bytes → IsMoment synced changes bytes
 moment_of synced [] bytes has = elim (contains_cases synced bytes [] has) [
@@ -111,20 +111,20 @@ untouched_is_left file is (choice.Torn kept fill) none = omega (arith, untouched
 untouched_is_left file is (choice.Bytes bytes) none = absurd none
 
 untouched_is_read : (id : FileId) (file : File) (left : List ℕ) → MayLeave file left → untouched_len file.synced file.changes ≤ length left →
-    IsBeginningOf (readable_records id (take (untouched_len file.synced file.changes) file.synced)) (readable_records id left)
+    IsPrefixOf (readable_records id (take (untouched_len file.synced file.changes) file.synced)) (readable_records id left)
 untouched_is_read id file left may long =
     let len = untouched_len file.synced file.changes in
     let within = untouched_len_within file.synced file.changes in
     let same = same_front len file.synced left within long (λ i before. sym (may.untouched i (omega arith) (omega arith) (before_is_untouched file.synced file.changes i before))) in
-    subst (λ b. IsBeginningOf (readable_records id b) (readable_records id left)) (sym same) (readable_records-take id len left)
+    subst (λ b. IsPrefixOf (readable_records id b) (readable_records id left)) (sym same) (readable_records-take id len left)
 
 -- Outcomes.
 
-newest_moment : (synced : List ℕ) (changes : List Change) → Contains (map (λ (c : Change). c.after) changes ++ synced ∷ []) (bytes_behind synced changes)
+newest_moment : (synced : List ℕ) (changes : List Change) → Contains (map (λ (c : Change). c.after) changes ++ synced ∷ []) (bytes_after synced changes)
 newest_moment synced [] = (0, omega arith, refl)
 newest_moment synced (c ∷ changes) = (0, omega arith, refl)
 
-pub now_is_read : (id : FileId) (file : File) → IsConsistent file → EndsUnmarked id file.now → IsReadAsBefore id file file.now
+pub now_is_read : (id : FileId) (file : File) → IsConsistent file → EndsWithoutCompressed id file.now → IsReadAsBefore id file file.now
 now_is_read id file is unmarked = record {
   header = inl refl;
   bytes = file.now;
@@ -133,7 +133,7 @@ now_is_read id file is unmarked = record {
   unmarked = unmarked;
 }
 
-pub synced_is_read : (id : FileId) (file : File) → (format_of file.synced ≡ format_of file.now) ⊎ (format_of file.synced ≡ None) → EndsUnmarked id file.synced → IsReadAsBefore id file file.synced
+pub synced_is_read : (id : FileId) (file : File) → (format_of file.synced ≡ format_of file.now) ⊎ (format_of file.synced ≡ None) → EndsWithoutCompressed id file.synced → IsReadAsBefore id file file.synced
 synced_is_read id file header unmarked = record {
   header = header;
   bytes = file.synced;
@@ -149,7 +149,7 @@ own_is_detectable id file left consistent never own may long reads = record {
   upto = m.upto;
   moment = m.split;
   beginning = begins;
-  done = λ format is r has. own_done id (signature_by id format) (bytes_behind file.synced m.upto) (m.upto ++ file.older) (past_at file consistent m.newer m.upto m.split) (λ c among. own format (format_now format is) c (of_file c among)) r (read_then r has);
+  done = λ format is r has. own_done id (signature_by id format) (bytes_after file.synced m.upto) (m.upto ++ file.older) (past_at file consistent m.newer m.upto m.split) (λ c among. own format (format_now format is) c (of_file c among)) r (read_then r has);
   untouched = untouched_is_read id file left may long;
   unmarked = reads.unmarked;
   none_stale = λ r has. never_stale file.renamed_after (m.upto ++ file.older) r.at never;
@@ -158,10 +158,10 @@ own_is_detectable id file left consistent never own may long reads = record {
     m : IsMoment file.synced file.changes reads.bytes
     m = moment_of file.synced file.changes reads.bytes reads.moment
 
-    begins : IsBeginningOf (readable_records id left) (readable_records id (bytes_behind file.synced m.upto))
-    begins = subst (λ b. IsBeginningOf (readable_records id left) (readable_records id b)) (sym m.is) reads.beginning
+    begins : IsPrefixOf (readable_records id left) (readable_records id (bytes_after file.synced m.upto))
+    begins = subst (λ b. IsPrefixOf (readable_records id left) (readable_records id b)) (sym m.is) reads.beginning
 
-    read_then : (r : Placed) → Contains (readable_records id left) r → Contains (readable_records id (bytes_behind file.synced m.upto)) r
+    read_then : (r : PlacedRecord) → Contains (readable_records id left) r → Contains (readable_records id (bytes_after file.synced m.upto)) r
     read_then r has = subst (λ rs. Contains rs r) (sym begins.1) (Contains-append_left (readable_records id left) begins.0 r has)
 
     format_now : (format : LogFileFormat) → format_of left ≡ Some format → format_of file.now ≡ Some format

@@ -5,7 +5,7 @@ use Rattle.raft_records.specs.Item.{Batch}
 use Rattle.raft_base.specs.declared.pipe_log.FileId.{FileId}
 use Rattle.raft_files.specs.declared.format.LogFileFormat.{LogFileFormat}
 use Rattle.raft_env.specs.Outcomes.{MayLeave, is_touched}
-use Rattle.raft_env.specs.Directory.{Directory, Left, Path, Leaves, file_at}
+use Rattle.raft_env.specs.Directory.{Directory, CrashImage, Path, Leaves, file_at}
 use Rattle.raft_memory.specs.Choice.{torn, touched_before, chosen, chosen_at, choice_for, left_by, NamesNoBytes}
 use Rattle.raft_env.specs.Consistent.{IsConsistent, AreConsistent}
 use Rattle.raft_memory.specs.Choice.{AreWhole}
@@ -26,11 +26,11 @@ module _ (path : Path) (id : FileId) (format : LogFileFormat) (batches : List Ba
   is_consistent : IsConsistent log.file
   is_consistent = consistent path log.file log.stands
 
-  told_at : (d : Left) → MayLeave log.file (d path) → IsTornBehind id format log.records log.file (d path) → IsDetectable path id n d
+  told_at : (d : CrashImage) → MayLeave log.file (d path) → IsTornBehind id format log.records log.file (d path) → IsDetectable path id n d
   told_at d may torn file stands = subst (λ f. IsDetectableFile id f (d path)) (same_some (sym log.stands ∙ stands)) (torn_is_detectable id format log.records synced at log.file (d path) log.held is_consistent.latest never may torn)
 
   -- damage behind the first of them can be told
-  pub records_told : (d : Left) → Leaves n d → IsTornBehind id format log.records log.file (d path) → IsDetectable path id n d
+  pub records_told : (d : CrashImage) → Leaves n d → IsTornBehind id format log.records log.file (d path) → IsDetectable path id n d
   records_told d leaves = told_at d (leaves.each path log.file log.stands)
 
   module _ (choices : List Choice) where

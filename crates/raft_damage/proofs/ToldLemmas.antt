@@ -5,9 +5,9 @@ use Rattle.std.proofs.lemmas.List.Elements.{Contains-append_left}
 use Rattle.raft_records.specs.Record.{record_header, parts_by}
 use Rattle.raft_base.specs.declared.pipe_log.FileId.{FileId}
 use Rattle.raft_files.specs.declared.format.LogFileFormat.{LogFileFormat}
-use Rattle.raft_env.specs.Outcomes.{File, MayLeave, untouched_len, bytes_behind}
-use Rattle.raft_files.specs.Reading.{Placed, record_place, record_at, next_record, end_of_records, Reading, records_behind, reading, records_of, readable_records}
-use Rattle.raft_files.specs.Detectable.{IsBeginningOf, format_of, signature_by, AreDone, IsMarkedAt, IsDetectableFile}
+use Rattle.raft_env.specs.Outcomes.{File, MayLeave, untouched_len, bytes_after}
+use Rattle.raft_files.specs.Reading.{PlacedRecord, record_place, record_at, next_record, end_of_records, Reading, records_after, reading, records_of, readable_records}
+use Rattle.raft_files.specs.Detectable.{IsPrefixOf, format_of, signature_by, AreDone, HasCompressedAt, IsDetectableFile}
 use Rattle.raft_files.specs.Records.{ReadsFirst, HoldsRecords}
 use Rattle.raft_env.specs.Consistent.{IsConsistent}
 use Rattle.raft_premise.specs.Done.{EndsInZeros, HoldsDone}
@@ -41,13 +41,13 @@ broken_zeros id format at bytes ends = (none_unless (record_at signature bytes p
     place : ℕ
     place = record_place format.alignment bytes at
 
-    no_record : (found : Placed) → record_at signature bytes place ≡ Some found → ⊥
+    no_record : (found : PlacedRecord) → record_at signature bytes place ≡ Some found → ⊥
     no_record found e =
         let forward : at ≤ place = record_place-forward format.alignment bytes at in
         let is = found_record signature bytes place found e in
         record_header_zeros bytes place is.header (omega (arith, is.long, is.within)) (λ i above below. ends.zeros i (omega arith) (omega (arith, is.long, is.within))) is.has
 
-    no_mark : IsMarkedAt signature bytes place → ⊥
+    no_mark : HasCompressedAt signature bytes place → ⊥
     no_mark marked =
         let forward : at ≤ place = record_place-forward format.alignment bytes at in
         let header = some_then (parts_by signature (drop place bytes)) (record_header (drop place bytes)) marked.0 marked.1 in
@@ -57,24 +57,24 @@ broken_zeros id format at bytes ends = (none_unless (record_at signature bytes p
 -- Readings.
 
 -- where no record stands behind those that bytes hold, the reading ends with them
-reading-broken : (id : FileId) (format : LogFileFormat) (records : List Placed) (at : ℕ) (bytes : List ℕ) → HoldsRecords id format records at bytes → IsBrokenFrom id format at bytes →
+reading-broken : (id : FileId) (format : LogFileFormat) (records : List PlacedRecord) (at : ℕ) (bytes : List ℕ) → HoldsRecords id format records at bytes → IsBrokenFrom id format at bytes →
     reading id bytes ≡ Some (record { format = format; records = records; end = at })
 reading-broken id format records at bytes holds broken =
-    let none : records_behind id format bytes at ≡ [] = placed_by-none (next_record id format bytes) (length bytes) at broken.0 in
+    let none : records_after id format bytes at ≡ [] = placed_by-none (next_record id format bytes) (length bytes) at broken.0 in
     reading-held id format records at bytes holds
     ∙ ap (λ rs. Some (record { format = format; records = records ++ rs; end = end_of_records at rs })) none
     ∙ ap (λ rs. Some (record { format = format; records = rs; end = at })) (append-nil records)
 
-reading-torn : (id : FileId) (format : LogFileFormat) (records : List Placed) (file : File) (left : List ℕ) (torn : IsTornBehind id format records file left) → reading id left ≡ Some (record { format = format; records = take torn.count records; end = torn.end })
+reading-torn : (id : FileId) (format : LogFileFormat) (records : List PlacedRecord) (file : File) (left : List ℕ) (torn : IsTornBehind id format records file left) → reading id left ≡ Some (record { format = format; records = take torn.count records; end = torn.end })
 reading-torn id format records file left torn = reading-broken id format (take torn.count records) torn.end left (holds_same id format (take torn.count records) torn.end file.now left torn.holds (sym torn.same) torn.within) torn.broken
 
 -- Outcomes.
 
 -- a beginning of bytes is read as a beginning of their records
-pub readable_records-take : (id : FileId) (n : ℕ) (bytes : List ℕ) → IsBeginningOf (readable_records id (take n bytes)) (readable_records id bytes)
+pub readable_records-take : (id : FileId) (n : ℕ) (bytes : List ℕ) → IsPrefixOf (readable_records id (take n bytes)) (readable_records id bytes)
 readable_records-take id n bytes = by_reading (reading id (take n bytes)) refl
   where
-    by_reading : (read : Option Reading) → reading id (take n bytes) ≡ read → IsBeginningOf (records_of read) (readable_records id bytes)
+    by_reading : (read : Option Reading) → reading id (take n bytes) ≡ read → IsPrefixOf (records_of read) (readable_records id bytes)
     by_reading None e = (readable_records id bytes, refl)
     by_reading (Some r) e =
         let is = reading_is id (take n bytes) r e in
@@ -83,15 +83,15 @@ readable_records-take id n bytes = by_reading (reading id (take n bytes)) refl
         let reads : ReadsFirst id r.format r.records (take n bytes) = record { all = r.records; end = r.end; read = e; first = beginning_itself r.records } in
         let same : take last (take n bytes) ≡ take last bytes = take-take last n bytes short in
         let whole = reads_first-kept id r.format r.records last (take n bytes) bytes reads same (reads_first-within id r.format r.records (take n bytes) reads) in
-        subst (λ rs. IsBeginningOf r.records rs) (sym (ap (λ q. records_of q) whole.read)) whole.first
+        subst (λ rs. IsPrefixOf r.records rs) (sym (ap (λ q. records_of q) whole.read)) whole.first
 
 -- what the last sync found reads as the synced records
-readable-synced : (id : FileId) (format : LogFileFormat) (records : List Placed) (synced at : ℕ) (file : File) → HoldsDone id format records synced at file → readable_records id file.synced ≡ take synced records
+readable-synced : (id : FileId) (format : LogFileFormat) (records : List PlacedRecord) (synced at : ℕ) (file : File) → HoldsDone id format records synced at file → readable_records id file.synced ≡ take synced records
 readable-synced id format records synced at file done =
     ap records_of (reading-broken id format (take synced records) done.end file.synced done.begins (broken_zeros id format done.end file.synced done.zeros))
 
 -- .. so each outcome that storage allows begins with it
-synced_left : (id : FileId) (format : LogFileFormat) (records : List Placed) (synced at : ℕ) (file : File) (left : List ℕ) → (done : HoldsDone id format records synced at file) → MayLeave file left → (done.end ≤ length left) × (take done.end file.synced ≡ take done.end left)
+synced_left : (id : FileId) (format : LogFileFormat) (records : List PlacedRecord) (synced at : ℕ) (file : File) (left : List ℕ) → (done : HoldsDone id format records synced at file) → MayLeave file left → (done.end ≤ length left) × (take done.end file.synced ≡ take done.end left)
 synced_left id format records synced at file left done may =
     let apart = done.apart in
     let within = done.begins.within in
@@ -100,13 +100,13 @@ synced_left id format records synced at file left done may =
     (long, same_front done.end file.synced left within long each)
 
 -- the damage of an outcome can be told that holds the first records as they stand now and is broken behind them
-pub torn_is_detectable : (id : FileId) (format : LogFileFormat) (records : List Placed) (synced at : ℕ) (file : File) (left : List ℕ) → HoldsDone id format records synced at file → file.now ≡ bytes_behind file.synced file.changes → file.renamed_after ≡ None → MayLeave file left → IsTornBehind id format records file left → IsDetectableFile id file left
+pub torn_is_detectable : (id : FileId) (format : LogFileFormat) (records : List PlacedRecord) (synced at : ℕ) (file : File) (left : List ℕ) → HoldsDone id format records synced at file → file.now ≡ bytes_after file.synced file.changes → file.renamed_after ≡ None → MayLeave file left → IsTornBehind id format records file left → IsDetectableFile id file left
 torn_is_detectable id format records synced at file left done latest never may torn = record {
   header = inl (header ∙ sym (format_of-held id format records at file.now done.holds));
   newer = [];
   upto = file.changes;
   moment = refl;
-  beginning = subst (λ b. IsBeginningOf read (readable_records id b)) latest beginning;
+  beginning = subst (λ b. IsPrefixOf read (readable_records id b)) latest beginning;
   done = λ other is.
       let same : other ≡ format = same_some (sym is ∙ header) in
       subst (λ f. AreDone id (signature_by id f) (file.changes ++ file.older) read) (sym same) (λ r has. done.done r (among r has));
@@ -114,7 +114,7 @@ torn_is_detectable id format records synced at file left done latest never may t
   unmarked = λ r e marked.
       let whole : Reading = record { format = format; records = take torn.count records; end = torn.end } in
       let same : r ≡ whole = same_some (sym e ∙ whole_read) in
-      torn.broken.1 (subst (λ (q : Reading). IsMarkedAt (signature_by id q.format) left (record_place q.format.alignment left q.end)) same marked);
+      torn.broken.1 (subst (λ (q : Reading). HasCompressedAt (signature_by id q.format) left (record_place q.format.alignment left q.end)) same marked);
   none_stale = λ r has. never_stale file.renamed_after (file.changes ++ file.older) r.at never;
 }
   where
@@ -124,33 +124,33 @@ torn_is_detectable id format records synced at file left done latest never may t
     header : format_of left ≡ Some format
     header = format_of_read id left _ whole_read
 
-    read : List Placed
+    read : List PlacedRecord
     read = readable_records id left
 
     read_is : read ≡ take torn.count records
     read_is = ap records_of whole_read
 
-    among : (r : Placed) → Contains read r → Contains records r
+    among : (r : PlacedRecord) → Contains read r → Contains records r
     among r has = subst (λ rs. Contains rs r) (take-append-drop torn.count records) (Contains-append_left (take torn.count records) (drop torn.count records) r (subst (λ rs. Contains rs r) read_is has))
 
-    beginning : IsBeginningOf read (readable_records id file.now)
-    beginning = subst (λ rs. IsBeginningOf rs (readable_records id file.now)) (sym read_is)
-        (subst (λ rs. IsBeginningOf (take torn.count records) rs) (sym (readable-held id format (take torn.count records) torn.end file.now torn.holds)) (beginning_append (take torn.count records) _))
+    beginning : IsPrefixOf read (readable_records id file.now)
+    beginning = subst (λ rs. IsPrefixOf rs (readable_records id file.now)) (sym read_is)
+        (subst (λ rs. IsPrefixOf (take torn.count records) rs) (sym (readable-held id format (take torn.count records) torn.end file.now torn.holds)) (beginning_append (take torn.count records) _))
 
     untouched : List ℕ
     untouched = take (untouched_len file.synced file.changes) file.synced
 
-    untouched_read : IsBeginningOf (readable_records id untouched) (take synced records)
-    untouched_read = subst (λ rs. IsBeginningOf (readable_records id untouched) rs) (readable-synced id format records synced at file done) (readable_records-take id (untouched_len file.synced file.changes) file.synced)
+    untouched_read : IsPrefixOf (readable_records id untouched) (take synced records)
+    untouched_read = subst (λ rs. IsPrefixOf (readable_records id untouched) rs) (readable-synced id format records synced at file done) (readable_records-take id (untouched_len file.synced file.changes) file.synced)
 
-    synced_read : IsBeginningOf (take synced records) read
+    synced_read : IsPrefixOf (take synced records) read
     synced_read =
         let begins = synced_left id format records synced at file left done may in
         let holds = holds_same id format (take synced records) done.end file.synced left done.begins begins.1 begins.0 in
-        subst (λ rs. IsBeginningOf (take synced records) rs) (sym (readable-held id format (take synced records) done.end left holds)) (beginning_append (take synced records) _)
+        subst (λ rs. IsPrefixOf (take synced records) rs) (sym (readable-held id format (take synced records) done.end left holds)) (beginning_append (take synced records) _)
 
 -- what holds all bytes now is one
-pub now_is_torn : (id : FileId) (format : LogFileFormat) (records : List Placed) (synced at : ℕ) (file : File) → IsDoneTo id format records synced at file → IsTornBehind id format records file file.now
+pub now_is_torn : (id : FileId) (format : LogFileFormat) (records : List PlacedRecord) (synced at : ℕ) (file : File) → IsDoneTo id format records synced at file → IsTornBehind id format records file file.now
 now_is_torn id format records synced at file done =
     let all : take (length records) records ≡ records = take_all (length records) records (omega arith) in
     let ends = only_zeros at file.now file.renamed_after (file.changes ++ file.older) done.past.never_renamed done.written.empty done.past.only_writes in
@@ -164,7 +164,7 @@ now_is_torn id format records synced at file done =
     }
 
 -- .. and so is what holds those of the last sync
-pub synced_is_torn : (id : FileId) (format : LogFileFormat) (records : List Placed) (synced at : ℕ) (file : File) → IsConsistent file → HoldsDone id format records synced at file → IsTornBehind id format records file file.synced
+pub synced_is_torn : (id : FileId) (format : LogFileFormat) (records : List PlacedRecord) (synced at : ℕ) (file : File) → IsConsistent file → HoldsDone id format records synced at file → IsTornBehind id format records file file.synced
 synced_is_torn id format records synced at file consistent done =
     let begins = synced_left id format records synced at file file.now done (now_may_be_left file consistent) in
     record {

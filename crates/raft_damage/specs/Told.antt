@@ -3,8 +3,8 @@ use Rattle.std.specs.Prelude.{◌≡◌, ◌⊎◌, ℕ, ◌≤◌, List, ◌++�
 use Rattle.raft_base.specs.declared.pipe_log.FileId.{FileId}
 use Rattle.raft_files.specs.declared.format.LogFileFormat.{LogFileFormat}
 use Rattle.raft_env.specs.Outcomes.{File, Change, bytes_since_sync}
-use Rattle.raft_files.specs.Reading.{Placed, record_place, record_at, readable_records}
-use Rattle.raft_files.specs.Detectable.{IsBeginningOf, format_of, signature_by, IsGivenBy, IsMarkedAt, EndsUnmarked}
+use Rattle.raft_files.specs.Reading.{PlacedRecord, record_place, record_at, readable_records}
+use Rattle.raft_files.specs.Detectable.{IsPrefixOf, format_of, signature_by, IsGivenBy, HasCompressedAt, EndsWithoutCompressed}
 use Rattle.raft_files.specs.Records.{HoldsRecords}
 
 -- where a record is looked for none can be decoded, nor is one barred by a mark of compression alone
@@ -12,10 +12,11 @@ abbrev pub IsBrokenFrom : FileId → LogFileFormat → ℕ → List ℕ → Type
 IsBrokenFrom id format at bytes =
     let place = record_place format.alignment bytes at in
     (record_at (signature_by id format) bytes place ≡ None)
-    × (IsMarkedAt (signature_by id format) bytes place → ⊥)
+    × (HasCompressedAt (signature_by id format) bytes place → ⊥)
 
 -- a crash left the first of these records of a file as they stand now, and behind them no record
-pub record IsTornBehind (id : FileId) (format : LogFileFormat) (records : List Placed) (file : File)
+pub record IsTornBehind (id : FileId) (format : LogFileFormat) (records : List PlacedRecord)
+    (file : File)
     (left : List ℕ) : Type 0 where
   pub count : ℕ
   pub end : ℕ
@@ -26,7 +27,7 @@ pub record IsTornBehind (id : FileId) (format : LogFileFormat) (records : List P
 
 -- the change brought no record to the file but the one that it was to write
 abbrev pub BringsOnlyGiven : FileId → Option ℕ → Change → Type 0
-BringsOnlyGiven id signature c = (r : Placed) → Contains (readable_records id c.after) r
+BringsOnlyGiven id signature c = (r : PlacedRecord) → Contains (readable_records id c.after) r
     → Contains (readable_records id c.before) r ⊎ IsGivenBy signature r c
 
 -- .. and so each change of the file, judged by the format in its header
@@ -40,5 +41,5 @@ pub record IsReadAsBefore (id : FileId) (file : File) (left : List ℕ) : Type 0
   pub header : (format_of left ≡ format_of file.now) ⊎ (format_of left ≡ None)
   pub bytes : List ℕ
   pub moment : Contains (bytes_since_sync file) bytes
-  pub beginning : IsBeginningOf (readable_records id left) (readable_records id bytes)
-  pub unmarked : EndsUnmarked id left
+  pub beginning : IsPrefixOf (readable_records id left) (readable_records id bytes)
+  pub unmarked : EndsWithoutCompressed id left

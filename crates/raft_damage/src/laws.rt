@@ -6,13 +6,13 @@ ghost use Rattle.raft_base.specs.declared.pipe_log.Version.{Version};
 ghost use Rattle.std.specs.FinMap as finite;
 ghost use Rattle.raft_memory.specs.Choice.{AreWhole, choice_for, left_by, touched_before, NameNoBytes};
 ghost use Rattle.raft_env.specs.Consistent.{AreConsistent, IsConsistent};
-ghost use Rattle.raft_files.specs.Detectable.{EndsUnmarked, IsDetectable, format_of};
-ghost use Rattle.raft_env.specs.Directory.{Directory, Leaves, Left, Path, file_at};
+ghost use Rattle.raft_files.specs.Detectable.{EndsWithoutCompressed, IsDetectable, format_of};
+ghost use Rattle.raft_env.specs.Directory.{Directory, Leaves, CrashImage, Path, file_at};
 ghost use Rattle.raft_env.specs.Outcomes.{File, is_touched};
 ghost use Rattle.raft_files.specs.Records.{HoldsRecords};
 ghost use Rattle.raft_premise.specs.Done.{EndsInZeros, HasDoneLog, HasDoneRecords};
 ghost use Rattle.raft_damage.specs.Told.{AreOwn, IsBrokenFrom, IsReadAsBefore, IsTornBehind};
-ghost use Rattle.raft_files.specs.Writer.{Writing};
+ghost use Rattle.raft_files.specs.Writer.{WriterState};
 ghost use Rattle.raft_pipes.specs.Done.{IsDoneQueue};
 ghost use Rattle.raft_pipes.specs.Folder.{IsDetectableIn};
 ghost use Rattle.raft_memory.specs.declared.crash.Choice.{Choice};
@@ -29,12 +29,12 @@ ghost use Rattle.raft_files.specs.declared.format.LogFileFormat.{LogFileFormat};
 /// write, and what such an outcome leaves is read as a beginning of what was read at a moment since
 /// the last sync (`own`), as all bytes are (`read_now`), and those of the last sync under the same
 /// header or none (`read_synced`).
-pub fn damage_can_be_told()
+pub fn premise_can_be_met()
     ensures allowed { (choices : List Choice) (n : Directory) → NameNoBytes choices
         → AreConsistent n → Leaves n (left_by choices n) }
     ensures told { (path : Path) (id : FileId) (format : LogFileFormat) (batches : List Batch)
         (synced at : ℕ) (n : Directory) (held : HasDoneRecords path id format batches synced at n)
-        → held.file.renamed_after ≡ None → AreConsistent n → (d : Left) → Leaves n d
+        → held.file.renamed_after ≡ None → AreConsistent n → (d : CrashImage) → Leaves n d
         → IsTornBehind id format held.records held.file (d path) → IsDetectable path id n d }
     ensures torn { (path : Path) (id : FileId) (format : LogFileFormat) (batches : List Batch)
         (synced at : ℕ) (n : Directory) (held : HasDoneRecords path id format batches synced at n)
@@ -56,10 +56,11 @@ pub fn damage_can_be_told()
         → (choices : List Choice) → NameNoBytes choices
         → IsReadAsBefore id file (left_by choices n path)
         → IsDetectable path id n (left_by choices n) }
-    ensures read_now { (id : FileId) (file : File) → IsConsistent file → EndsUnmarked id file.now
+    ensures read_now { (id : FileId) (file : File) → IsConsistent file
+        → EndsWithoutCompressed id file.now
         → IsReadAsBefore id file file.now }
     ensures read_synced { (id : FileId) (file : File) → (format_of file.synced ≡ format_of file.now)
-        ⊎ (format_of file.synced ≡ None) → EndsUnmarked id file.synced
+        ⊎ (format_of file.synced ≡ None) → EndsWithoutCompressed id file.synced
         → IsReadAsBefore id file file.synced }
 {}
 
@@ -68,7 +69,7 @@ pub fn damage_can_be_told()
 /// record (`detectable`). `raft_pipes` `pipe_builder::open` gives such a queue, and the pipe's calls
 /// keep it.
 pub fn a_queue_can_be_told()
-    ensures detectable { (w : Writing) (version : Version) (folder : Path) (n : Directory)
+    ensures detectable { (w : WriterState) (version : Version) (folder : Path) (n : Directory)
         → IsDoneQueue w version folder n → AreConsistent n
         → (choices : List Choice) → AreWhole choices
         → ∥ IsDetectableIn folder n (left_by choices n) ∥₁ }

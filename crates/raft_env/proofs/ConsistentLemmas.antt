@@ -8,8 +8,8 @@ use Rattle.std.proofs.lemmas.Option.{same_Some}
 use Rattle.std.specs.Ordering.{nat_cmp, eq_by_cmp}
 use Rattle.std.specs.Cmp.Lexicographic.{slice_cmp, nat_list_cmp_total}
 use Rattle.std.specs.FinMap as finite
-use Rattle.raft_env.specs.Outcomes.{File, Change, MayLeave, Outcome, IsPartOf, IsCutOf, is_within, is_touched, bytes_behind, untouched_len, least_len, greatest_len, changed_by, written, lengthened_to, cut_to, synced_of, settled, padded, overlaid}
-use Rattle.raft_env.specs.Directory.{Directory, Left, Path, file_at, placed, changed, changed_at, created, IsMakingFolder, IsChanging, IsWriting, IsTruncating, IsAllocating, IsOneOf, IsRestarted}
+use Rattle.raft_env.specs.Outcomes.{File, Change, MayLeave, Outcome, IsPartOf, IsCutOf, is_within, is_touched, bytes_after, untouched_len, least_len, greatest_len, changed_by, written, lengthened_to, cut_to, synced_of, settled, padded, overlaid}
+use Rattle.raft_env.specs.Directory.{Directory, CrashImage, Path, file_at, placed, changed, changed_at, created, IsMakingFolder, IsChanging, IsWriting, IsTruncating, IsAllocating, IsOneOf, IsRestarted}
 use Rattle.raft_env.specs.Consistent.{HasItsRange, HasItsLength, IsPastOf, IsConsistent, AreConsistent}
 use Rattle.raft_env.proofs.DirectoryLemmas.{file_at-making}
 use Rattle.raft_env.proofs.OverlaidLemmas.{overlaid_bounds, overlaid_outside_part, longest_of-more}
@@ -150,7 +150,7 @@ creating_consistent path old new all (inr is) = subst AreConsistent (sym is) (by
 pub folders_consistent : (path : Path) (old new : Directory) → AreConsistent old → IsMakingFolder path old new → AreConsistent new
 folders_consistent path old new all making q file stands = all q file (sym (file_at-making path q old new making) ∙ stands)
 
-pub restarted_consistent : (n m : Directory) (d : Left) → IsRestarted n d m → AreConsistent m
+pub restarted_consistent : (n m : Directory) (d : CrashImage) → IsRestarted n d m → AreConsistent m
 restarted_consistent n m d restarted path file stands = by_file (file_at n path) (sym (restarted.each path) ∙ stands)
   where
     by_file : (found : Option File) → option_map (λ _. settled (d path)) found ≡ Some file → IsConsistent file
@@ -162,7 +162,7 @@ restarted_consistent n m d restarted path file stands = by_file (file_at n path)
 pub length_now : (file : File) → IsConsistent file → (least_len file.synced file.changes ≤ length file.now) × (length file.now ≤ greatest_len file.synced file.changes)
 length_now file is = by_changes file.changes is.latest is.past
   where
-    by_changes : (changes : List Change) → file.now ≡ bytes_behind file.synced changes → IsPastOf file.now (changes ++ file.older) → (least_len file.synced changes ≤ length file.now) × (length file.now ≤ greatest_len file.synced changes)
+    by_changes : (changes : List Change) → file.now ≡ bytes_after file.synced changes → IsPastOf file.now (changes ++ file.older) → (least_len file.synced changes ≤ length file.now) × (length file.now ≤ greatest_len file.synced changes)
     by_changes [] latest past = (omega (arith, ap length latest), omega (arith, ap length latest))
     by_changes (c ∷ changes) latest past = (omega (arith, ap length latest, past.2.0), omega (arith, ap length latest, past.2.1))
 

@@ -3,7 +3,7 @@
 -- changes only writes were refused, and none was renamed.
 use Rattle.std.specs.Prelude.{◌≡◌, ℕ, ◌<◌, ◌≤◌, ◌++◌, false, List, [], ◌∷◌, length, Some, None, slice_index}
 use Rattle.std.proofs.Props.{props}
-use Rattle.raft_env.specs.Outcomes.{File, Change, OnlyWritesRefused, bytes_behind, is_touched}
+use Rattle.raft_env.specs.Outcomes.{File, Change, OnlyWritesRefused, bytes_after, is_touched}
 use Rattle.raft_env.specs.Directory.{Directory, Path, file_at}
 
 -- the range of a change holds the bytes that it gave
@@ -26,7 +26,7 @@ past_prop bytes [] = Prim.hlevel props
 past_prop bytes (c ∷ changes) = Prim.hlevel (props, past_prop c.before changes)
 
 pub record IsConsistent (file : File) : Type 0 where
-  pub latest : file.now ≡ bytes_behind file.synced file.changes
+  pub latest : file.now ≡ bytes_after file.synced file.changes
   pub untouched : (i : ℕ) → i < length file.synced → is_touched file.changes i ≡ false
       → (i < length file.now) × (slice_index file.now i ≡ slice_index file.synced i)
   -- its changes, and those before its last sync

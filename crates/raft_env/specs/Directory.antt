@@ -16,18 +16,18 @@ pub record Directory : Type 0 where
   pub is_folder : Path → Bool
 
 -- what a crash left, by path; read only where a file stands
-abbrev pub Left : Type 0
-Left = Path → List ℕ
+abbrev pub CrashImage : Type 0
+CrashImage = Path → List ℕ
 
 abbrev pub file_at : Directory → Path → Option File
 file_at n path = map.get n.files path
 
 -- a crash keeps the names, and leaves each file with one of its contents
-pub record Leaves (n : Directory) (d : Left) : Type 0 where
+pub record Leaves (n : Directory) (d : CrashImage) : Type 0 where
   pub each : (path : Path) (file : File) → file_at n path ≡ Some file → MayLeave file (d path)
 
 -- each file holds what was left, which a further crash leaves as it is
-pub record IsRestarted (n : Directory) (d : Left) (m : Directory) : Type 0 where
+pub record IsRestarted (n : Directory) (d : CrashImage) (m : Directory) : Type 0 where
   pub each : (path : Path) → file_at m path ≡ option_map (λ _. settled (d path)) (file_at n path)
   pub folders : m.is_folder ≡ n.is_folder
 

@@ -4,7 +4,8 @@ use Rattle.std.specs.List.{AllByRecursion}
 use Rattle.raft_env.specs.Directory.{Directory}
 
 -- from old to new each moment that was added has P, and so has what is there now
-pub record Passes (old new : List Directory) (now : Directory) (P : Directory → Type 0) : Type 0
+pub record HoldsThroughout (old new : List Directory) (now : Directory)
+    (P : Directory → Type 0) : Type 0
   where
     pub added : List Directory
     pub is : new ≡ added ++ old
@@ -16,7 +17,8 @@ module _ {FileSystem : Type 0} (directory : FileSystem → Directory)
     (moments : FileSystem → List Directory) where
   -- at each moment and at its end R holds of the files before it and those then
   abbrev pub MovesBy : (Directory → Directory → Type 0) → FileSystem → FileSystem → Type 0
-  MovesBy R old new = Passes (moments old) (moments new) (directory new) (R (directory old))
+  MovesBy R old new = HoldsThroughout (moments old) (moments new) (directory new)
+      (R (directory old))
 
   -- no file, no folder and no moment is new
   abbrev pub OnlyReads : FileSystem → FileSystem → Type 0

@@ -76,9 +76,9 @@ abbrev pub bytes_since_sync : File → List (List ℕ)
 bytes_since_sync file = map (λ c. c.after) file.changes ++ file.synced ∷ []
 
 -- the bytes behind these changes, the newest of them first
-abbrev pub bytes_behind : List ℕ → List Change → List ℕ
-bytes_behind synced [] = synced
-bytes_behind synced (c ∷ changes) = c.after
+abbrev pub bytes_after : List ℕ → List Change → List ℕ
+bytes_after synced [] = synced
+bytes_after synced (c ∷ changes) = c.after
 
 -- a change that was refused is a write: it gave each byte of its range
 abbrev pub IsDoneOrWrite : Change → Type 0
@@ -160,7 +160,8 @@ cut_change size false after before = record {
 
 -- the file after such a change
 abbrev pub written : ℕ → List ℕ → Bool → List ℕ → File → File
-written at given is_done after file = changed_by (written_change at given is_done after file.now) file
+written at given is_done after file = changed_by
+    (written_change at given is_done after file.now) file
 
 abbrev pub resized : List ℕ → File → File
 resized after file = changed_by (resized_change after file.now) file

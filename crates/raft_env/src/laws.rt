@@ -1,7 +1,7 @@
 //! What holds of files, whatever calls were made.
 ghost use Rattle.std.specs.Prelude.{ℕ, List};
 ghost use Rattle.raft_env.specs.Consistent.{AreConsistent};
-ghost use Rattle.raft_env.specs.Directory.{Directory, IsOneOf, IsAllocating, IsMakingFolder, IsRestarted, IsTruncating, IsWriting, Left, Path, changed, created};
+ghost use Rattle.raft_env.specs.Directory.{Directory, IsOneOf, IsAllocating, IsMakingFolder, IsRestarted, IsTruncating, IsWriting, CrashImage, Path, changed, created};
 ghost use Rattle.raft_env.specs.Outcomes.{synced_of};
 
 /// Each call keeps files consistent: outside the ranges of its changes a file holds the bytes of its
@@ -20,5 +20,5 @@ pub fn calls_keep_files_consistent()
         → IsOneOf old (created path old) n → AreConsistent n }
     ensures folders { (path : Path) (old n : Directory) → AreConsistent old
         → IsMakingFolder path old n → AreConsistent n }
-    ensures restarted { (n m : Directory) (d : Left) → IsRestarted n d m → AreConsistent m }
+    ensures restarted { (n m : Directory) (d : CrashImage) → IsRestarted n d m → AreConsistent m }
 {}

@@ -8,7 +8,7 @@ use Rattle.raft_records.specs.Item.{Batch}
 use Rattle.raft_records.specs.Record.{Header, header_in, record_header, record_of}
 use Rattle.raft_base.specs.declared.pipe_log.FileId.{FileId}
 use Rattle.raft_env.specs.Outcomes.{Change}
-use Rattle.raft_files.specs.Reading.{Placed, record_at}
+use Rattle.raft_files.specs.Reading.{PlacedRecord, record_at}
 use Rattle.raft_files.specs.Detectable.{HasNoRefusedByte, IsDone, IsFreshAfter}
 use Rattle.raft_files.specs.Records.{IsRefusedAt, IsEmptyFrom, HasNothingFrom}
 use Rattle.raft_files.proofs.ExtentLemmas.{record_header_is, record_header_long, record_of_header}
@@ -57,7 +57,7 @@ record_of_none signature batch len e =
     absurd (omega (arith, has.long))
 
 -- what is read where zeros and bytes of refused calls stand, or stale ones, isn't done or begins at a stale place, by whatever signature what these calls were to write is judged
-pub none_done : (signature by : Option ℕ) (bytes : List ℕ) (renamed : Option ℕ) (changes : List Change) (from : ℕ) → IsEmptyFrom from bytes renamed changes → (r : Placed) → from ≤ r.at → record_at signature bytes r.at ≡ Some r → HasNoRefusedByte by changes r → IsFreshAfter renamed changes r.at → ⊥
+pub none_done : (signature by : Option ℕ) (bytes : List ℕ) (renamed : Option ℕ) (changes : List Change) (from : ℕ) → IsEmptyFrom from bytes renamed changes → (r : PlacedRecord) → from ≤ r.at → record_at signature bytes r.at ≡ Some r → HasNoRefusedByte by changes r → IsFreshAfter renamed changes r.at → ⊥
 none_done signature by bytes renamed changes from (inr stale) r behind is no_byte fresh = fresh (stale r.at behind)
 none_done signature by bytes renamed changes from (inl empty) r behind is no_byte fresh =
     let found = found_record signature bytes r.at r is in
@@ -70,7 +70,7 @@ none_done signature by bytes renamed changes from (inl empty) r behind is no_byt
           record_of_none by r.batch r.len (sym (ap (λ b. record_of by b) q.5) ∙ given.1)
     ]
 
-pub done_without_byte : (id : FileId) (by : Option ℕ) (changes : List Change) (r : Placed) → HasNoRefusedByte by changes r → IsDone id by changes r
+pub done_without_byte : (id : FileId) (by : Option ℕ) (changes : List Change) (r : PlacedRecord) → HasNoRefusedByte by changes r → IsDone id by changes r
 done_without_byte id by [] r no_byte = tt
 done_without_byte id by (c ∷ changes) r no_byte = inl no_byte
 

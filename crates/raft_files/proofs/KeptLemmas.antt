@@ -7,11 +7,11 @@ use Rattle.raft_records.specs.Item.{Batch}
 use Rattle.raft_base.specs.declared.pipe_log.FileId.{FileId}
 use Rattle.raft_files.specs.declared.format.LogFileFormat.{LogFileFormat}
 use Rattle.raft_files.specs.Header.{header_bytes, header_len}
-use Rattle.raft_env.specs.Outcomes.{File, resized, cut_to, synced_of, settled, bytes_behind}
-use Rattle.raft_env.specs.Directory.{Directory, Left, Path, file_at, placed, created, changed, changed_at, IsOneOf, IsTruncating, IsRestarted}
-use Rattle.raft_files.specs.Reading.{Placed, Reading, records_behind, end_of_records, reading, records_of, readable_records, readable_batches, end_of_reading, ends_with, is_read_to_end}
-use Rattle.raft_files.specs.Detectable.{IsBeginningOf, signature_by, IsDetectable}
-use Rattle.raft_files.specs.Records.{ReadsFirst, KeepsRecords, HoldsRecords, IsWrittenTo, HasLog, HasTornLog, left_of, left_bytes, FirstOf, KeepsLog, KeepsNone, HoldsNothing, IsKept}
+use Rattle.raft_env.specs.Outcomes.{File, resized, cut_to, synced_of, settled, bytes_after}
+use Rattle.raft_env.specs.Directory.{Directory, CrashImage, Path, file_at, placed, created, changed, changed_at, IsOneOf, IsTruncating, IsRestarted}
+use Rattle.raft_files.specs.Reading.{PlacedRecord, Reading, records_after, end_of_records, reading, records_of, readable_records, readable_batches, end_of_reading, ends_with, is_read_to_end}
+use Rattle.raft_files.specs.Detectable.{IsPrefixOf, signature_by, IsDetectable}
+use Rattle.raft_files.specs.Records.{ReadsFirst, RecoversRecords, HoldsRecords, IsWrittenTo, HasLog, HasTornLog, image_of_file, bytes_after_crash, FirstOf, RecoversLog, RecoversNoRecord, RecoversNothingAt, RecoversPrefixAt}
 use Rattle.raft_files.specs.Writer.{HasChanged, IsOpening, IsAppending, IsCutting, IsSynced, IsSyncing, IsClosing, capacity_for, bytes_of, bytes_at}
 use Rattle.raft_files.proofs.DetectableLemmas.{beginning_trans, beginning_append, beginning_take}
 use Rattle.raft_env.proofs.DirectoryLemmas.{file_at-placed_same}
@@ -28,32 +28,32 @@ use Rattle.raft_files.proofs.ChangedLemmas.{stands_after}
 
 -- What a crash then leaves.
 
-pub kept_left : (path : Path) (id : FileId) (batches : List Batch) (synced : ℕ) (n : Directory) → IsKept path id batches synced n → (d : Left) → IsDetectable path id n d → FirstOf batches synced (readable_batches id (left_bytes path n d))
+pub kept_left : (path : Path) (id : FileId) (batches : List Batch) (synced : ℕ) (n : Directory) → RecoversPrefixAt path id batches synced n → (d : CrashImage) → IsDetectable path id n d → FirstOf batches synced (readable_batches id (bytes_after_crash path n d))
 kept_left path id batches synced n (inl log) d detectable =
-    subst (λ found. FirstOf batches synced (readable_batches id (left_of found (d path)))) (sym log.stands)
+    subst (λ found. FirstOf batches synced (readable_batches id (image_of_file found (d path)))) (sym log.stands)
     (keeps_batches path id n log.file log.format log.records synced batches log.stands log.keeps log.holds d detectable)
 kept_left path id batches synced n (inr (nothing, none_synced)) d detectable =
     (0, omega (arith, none_synced), omega arith, by_file (file_at n path) refl)
   where
-    by_file : (found : Option File) → file_at n path ≡ found → readable_batches id (left_of found (d path)) ≡ []
-    by_file None e = ap (λ rs. map (λ (p : Placed). p.batch) rs) (readable_records-short id [] (omega arith))
+    by_file : (found : Option File) → file_at n path ≡ found → readable_batches id (image_of_file found (d path)) ≡ []
+    by_file None e = ap (λ rs. map (λ (p : PlacedRecord). p.batch) rs) (readable_records-short id [] (omega arith))
     by_file (Some file) e = none_left id file (d path) (nothing file e) (detectable file e)
 
 -- Logs are kept.
 
 -- the first of the records that bytes hold are read first
-reads_held : (id : FileId) (format : LogFileFormat) (records others : List Placed) (synced at : ℕ) (bytes : List ℕ) → HoldsRecords id format records at bytes → synced ≤ length records → ReadsFirst id format (take synced (records ++ others)) bytes
+reads_held : (id : FileId) (format : LogFileFormat) (records others : List PlacedRecord) (synced at : ℕ) (bytes : List ℕ) → HoldsRecords id format records at bytes → synced ≤ length records → ReadsFirst id format (take synced (records ++ others)) bytes
 reads_held id format records others synced at bytes holds few =
-    let behind = records_behind id format bytes at in
+    let behind = records_after id format bytes at in
     let first = beginning_trans (take synced records) records (records ++ behind) (beginning_take synced records) (beginning_append records behind) in
     record {
       all = records ++ behind;
       end = end_of_records at behind;
       read = reading-held id format records at bytes holds;
-      first = subst (λ rs. IsBeginningOf rs (records ++ behind)) (sym (take-append-le synced records others few)) first;
+      first = subst (λ rs. IsPrefixOf rs (records ++ behind)) (sym (take-append-le synced records others few)) first;
     }
 
-pub log_kept : (path : Path) (id : FileId) (format : LogFileFormat) (batches : List Batch) (synced at : ℕ) (n : Directory) → HasLog path id format batches synced at n → IsKept path id batches synced n
+pub log_kept : (path : Path) (id : FileId) (format : LogFileFormat) (batches : List Batch) (synced at : ℕ) (n : Directory) → HasLog path id format batches synced at n → RecoversPrefixAt path id batches synced n
 log_kept path id format batches synced at n log = inl (record {
   file = log.file;
   stands = log.stands;
@@ -64,43 +64,43 @@ log_kept path id format batches synced at n log = inl (record {
   reads = subst (λ rs. ReadsFirst id format (take synced rs) log.file.now) (append-nil log.records) (reads_held id format log.records [] synced at log.file.now log.written.holds log.written.keeps.few);
 })
 
-pub torn_log_kept : (path : Path) (id : FileId) (format : LogFileFormat) (batches in_flight : List Batch) (synced at : ℕ) (n : Directory) → HasTornLog path id format batches in_flight synced at n → IsKept path id (batches ++ in_flight) synced n
+pub torn_log_kept : (path : Path) (id : FileId) (format : LogFileFormat) (batches in_flight : List Batch) (synced at : ℕ) (n : Directory) → HasTornLog path id format batches in_flight synced at n → RecoversPrefixAt path id (batches ++ in_flight) synced n
 torn_log_kept path id format batches in_flight synced at n log = inl (record {
   file = log.file;
   stands = log.stands;
   format = format;
   records = log.records ++ log.others;
-  holds = map-append (λ (p : Placed). p.batch) log.records log.others ∙ ap (λ bs. bs ++ map (λ (p : Placed). p.batch) log.others) log.holds ∙ ap (λ bs. batches ++ bs) log.torn_holds;
+  holds = map-append (λ (p : PlacedRecord). p.batch) log.records log.others ∙ ap (λ bs. bs ++ map (λ (p : PlacedRecord). p.batch) log.others) log.holds ∙ ap (λ bs. batches ++ bs) log.torn_holds;
   keeps = log.torn.keeps;
   reads = reads_held id format log.records log.others synced at log.file.now log.torn.holds log.torn.few;
 })
 
 -- more batches are allowed
-pub kept_more : (path : Path) (id : FileId) (batches more : List Batch) (synced : ℕ) (n : Directory) → IsKept path id batches synced n → IsKept path id (batches ++ more) synced n
+pub kept_more : (path : Path) (id : FileId) (batches more : List Batch) (synced : ℕ) (n : Directory) → RecoversPrefixAt path id batches synced n → RecoversPrefixAt path id (batches ++ more) synced n
 kept_more path id batches more synced n (inr none) = inr none
 kept_more path id batches more synced n (inl log) = inl (record {
   file = log.file;
   stands = log.stands;
   format = log.format;
   records = log.records ++ others;
-  holds = map-append (λ (p : Placed). p.batch) log.records others ∙ ap (λ bs. bs ++ map (λ (p : Placed). p.batch) others) log.holds ∙ ap (λ bs. batches ++ bs) (same more);
+  holds = map-append (λ (p : PlacedRecord). p.batch) log.records others ∙ ap (λ bs. bs ++ map (λ (p : PlacedRecord). p.batch) others) log.holds ∙ ap (λ bs. batches ++ bs) (same more);
   keeps = keeps_weaker id log.format log.records (log.records ++ others) synced synced log.file log.keeps (beginning_append log.records others) (omega arith);
   reads = subst (λ rs. ReadsFirst id log.format rs log.file.now) (sym (take-append-le synced log.records others log.keeps.few)) log.reads;
 })
   where
     -- the records of these batches may stand anywhere
-    others_of : List Batch → List Placed
+    others_of : List Batch → List PlacedRecord
     others_of bs = map (λ b. record { at = 0; len = 0; batch = b }) bs
 
-    others : List Placed
+    others : List PlacedRecord
     others = others_of more
 
-    same : (bs : List Batch) → map (λ (p : Placed). p.batch) (others_of bs) ≡ bs
+    same : (bs : List Batch) → map (λ (p : PlacedRecord). p.batch) (others_of bs) ≡ bs
     same [] = refl
     same (b ∷ bs) = ap (λ rest. b ∷ rest) (same bs)
 
 -- where no file stands nothing is left
-pub kept_none : (path : Path) (id : FileId) (batches : List Batch) (n : Directory) → file_at n path ≡ None → IsKept path id batches 0 n
+pub kept_none : (path : Path) (id : FileId) (batches : List Batch) (n : Directory) → file_at n path ≡ None → RecoversPrefixAt path id batches 0 n
 kept_none path id batches n none = inr (λ file stands. let no_file : None ≡ Some file = sym none ∙ stands in absurd cc, refl)
 
 -- A file that a crash leaves as it is.
@@ -109,24 +109,24 @@ kept_none path id batches n none = inr (λ file stands. let no_file : None ≡ S
 reads_all : (id : FileId) (bytes : List ℕ) (r : Reading) → reading id bytes ≡ Some r → ReadsFirst id r.format (take (length r.records) r.records) bytes
 reads_all id bytes r e = record { all = r.records; end = r.end; read = e; first = beginning_take (length r.records) r.records }
 
-keeps_settled : (id : FileId) (bytes : List ℕ) (r : Reading) → reading id bytes ≡ Some r → KeepsRecords id r.format r.records (length r.records) (settled bytes)
+keeps_settled : (id : FileId) (bytes : List ℕ) (r : Reading) → reading id bytes ≡ Some r → RecoversRecords id r.format r.records (length r.records) (settled bytes)
 keeps_settled id bytes r e = record {
   header = format_of_read id bytes r e;
   latest = refl;
-  moments = λ newer upto moment left read. subst (λ rs. IsBeginningOf left rs) (only_moment (λ changes. readable_records id (bytes_behind bytes changes) ≡ r.records) (ap (λ q. records_of q) e) newer upto moment) read.beginning;
+  moments = λ newer upto moment left read. subst (λ rs. IsPrefixOf left rs) (only_moment (λ changes. readable_records id (bytes_after bytes changes) ≡ r.records) (ap (λ q. records_of q) e) newer upto moment) read.beginning;
   few = omega arith;
   covered = subst (λ b. ReadsFirst id r.format (take (length r.records) r.records) b) (sym (take_all (length bytes) bytes (omega arith))) (reads_all id bytes r e);
 }
 
-pub kept_settled : (path : Path) (id : FileId) (bytes : List ℕ) (n : Directory) → file_at n path ≡ Some (settled bytes) → IsKept path id (readable_batches id bytes) (length (readable_batches id bytes)) n
+pub kept_settled : (path : Path) (id : FileId) (bytes : List ℕ) (n : Directory) → file_at n path ≡ Some (settled bytes) → RecoversPrefixAt path id (readable_batches id bytes) (length (readable_batches id bytes)) n
 kept_settled path id bytes n stands = by_reading (reading id bytes) refl
   where
-    batches_of : List Placed → List Batch
+    batches_of : List PlacedRecord → List Batch
     batches_of rs = map (λ p. p.batch) rs
 
-    by_reading : (read : Option Reading) → reading id bytes ≡ read → IsKept path id (batches_of (records_of read)) (length (batches_of (records_of read))) n
-    by_reading None e = inr (λ file stands_too. subst (λ f. KeepsNone id f) (same_some (sym stands ∙ stands_too)) (none_settled id bytes (ap (λ q. records_of q) e)), refl)
-    by_reading (Some r) e = subst (λ count. IsKept path id (batches_of r.records) count n) (count_of r.records (batches_of r.records) refl) (inl (record {
+    by_reading : (read : Option Reading) → reading id bytes ≡ read → RecoversPrefixAt path id (batches_of (records_of read)) (length (batches_of (records_of read))) n
+    by_reading None e = inr (λ file stands_too. subst (λ f. RecoversNoRecord id f) (same_some (sym stands ∙ stands_too)) (none_settled id bytes (ap (λ q. records_of q) e)), refl)
+    by_reading (Some r) e = subst (λ count. RecoversPrefixAt path id (batches_of r.records) count n) (count_of r.records (batches_of r.records) refl) (inl (record {
       file = settled bytes;
       stands = stands;
       format = r.format;
@@ -137,37 +137,37 @@ kept_settled path id bytes n stands = by_reading (reading id bytes) refl
     }))
 
 -- after a crash all that is found stays
-pub kept_restarted : (path : Path) (id : FileId) (n m : Directory) (d : Left) → IsRestarted n d m → let found = readable_batches id (left_bytes path n d) in IsKept path id found (length found) m
+pub kept_restarted : (path : Path) (id : FileId) (n m : Directory) (d : CrashImage) → IsRestarted n d m → let found = readable_batches id (bytes_after_crash path n d) in RecoversPrefixAt path id found (length found) m
 kept_restarted path id n m d restarted = by_file (file_at n path) refl
   where
     Kept : List ℕ → Type 0
-    Kept bytes = IsKept path id (readable_batches id bytes) (length (readable_batches id bytes)) m
+    Kept bytes = RecoversPrefixAt path id (readable_batches id bytes) (length (readable_batches id bytes)) m
 
-    by_file : (found : Option File) → file_at n path ≡ found → Kept (left_of found (d path))
+    by_file : (found : Option File) → file_at n path ≡ found → Kept (image_of_file found (d path))
     by_file None e =
-        let none : readable_batches id [] ≡ [] = ap (λ rs. map (λ (p : Placed). p.batch) rs) (readable_records-short id [] (omega arith)) in
+        let none : readable_batches id [] ≡ [] = ap (λ rs. map (λ (p : PlacedRecord). p.batch) rs) (readable_records-short id [] (omega arith)) in
         let stands : file_at m path ≡ None = restarted.each path ∙ ap (λ found. option_map (λ _. settled (d path)) found) e in
-        subst (λ bs. IsKept path id bs (length bs) m) (sym none) (kept_none path id [] m stands)
+        subst (λ bs. RecoversPrefixAt path id bs (length bs) m) (sym none) (kept_none path id [] m stands)
     by_file (Some file) e = kept_settled path id (d path) m (restarted.each path ∙ ap (λ found. option_map (λ _. settled (d path)) found) e)
 
 -- Syncs.
 
 -- a sync changes nothing of what a crash may leave, but for the moments before it
-keeps_synced : (id : FileId) (format : LogFileFormat) (records : List Placed) (synced : ℕ) (file : File) → KeepsRecords id format records synced file → ReadsFirst id format (take synced records) file.now → KeepsRecords id format records synced (synced_of file)
+keeps_synced : (id : FileId) (format : LogFileFormat) (records : List PlacedRecord) (synced : ℕ) (file : File) → RecoversRecords id format records synced file → ReadsFirst id format (take synced records) file.now → RecoversRecords id format records synced (synced_of file)
 keeps_synced id format records synced file keeps reads = record {
   header = keeps.header;
   latest = refl;
-  moments = moments_synced (λ left. IsBeginningOf left records) id (signature_by id format) file keeps.latest keeps.moments;
+  moments = moments_synced (λ left. IsPrefixOf left records) id (signature_by id format) file keeps.latest keeps.moments;
   few = keeps.few;
   covered = subst (λ b. ReadsFirst id format (take synced records) b) (sym (take_all (length file.now) file.now (omega arith))) reads;
 }
 
 -- a moment of a sync of the file there
 module _ (path : Path) (id : FileId) (batches : List Batch) (synced : ℕ) (old new : Directory) where
-  pub syncing_kept : (before after : File) → file_at old path ≡ Some before → file_at new path ≡ Some after → IsSyncing before after → IsKept path id batches synced old → IsKept path id batches synced new
+  pub syncing_kept : (before after : File) → file_at old path ≡ Some before → file_at new path ≡ Some after → IsSyncing before after → RecoversPrefixAt path id batches synced old → RecoversPrefixAt path id batches synced new
   syncing_kept before after was stands how (inl log) = inl (by_step (subst (λ f. IsSyncing f after) (same_some (sym was ∙ log.stands)) how))
     where
-      by_step : IsSyncing log.file after → KeepsLog path id batches synced new
+      by_step : IsSyncing log.file after → RecoversLog path id batches synced new
       by_step (inl same) = record { file = log.file; stands = stands ∙ ap Some same; format = log.format; records = log.records; holds = log.holds; keeps = log.keeps; reads = log.reads }
       by_step (inr is) = record {
         file = synced_of log.file;
@@ -178,17 +178,17 @@ module _ (path : Path) (id : FileId) (batches : List Batch) (synced : ℕ) (old 
         keeps = keeps_synced id log.format log.records synced log.file log.keeps log.reads;
         reads = log.reads;
       }
-  syncing_kept before after was stands how (inr (nothing, none)) = inr (λ file stands_too. subst (λ f. KeepsNone id f) (same_some (sym stands ∙ stands_too)) (by_step how), none)
+  syncing_kept before after was stands how (inr (nothing, none)) = inr (λ file stands_too. subst (λ f. RecoversNoRecord id f) (same_some (sym stands ∙ stands_too)) (by_step how), none)
     where
-      by_step : IsSyncing before after → KeepsNone id after
-      by_step (inl same) = subst (λ f. KeepsNone id f) (sym same) (nothing before was)
-      by_step (inr is) = subst (λ f. KeepsNone id f) (sym is) (none_synced id before (nothing before was))
+      by_step : IsSyncing before after → RecoversNoRecord id after
+      by_step (inl same) = subst (λ f. RecoversNoRecord id f) (sym same) (nothing before was)
+      by_step (inr is) = subst (λ f. RecoversNoRecord id f) (sym is) (none_synced id before (nothing before was))
 
-  pub kept_syncing : HasChanged path IsSyncing old new → IsKept path id batches synced old → IsKept path id batches synced new
+  pub kept_syncing : HasChanged path IsSyncing old new → RecoversPrefixAt path id batches synced old → RecoversPrefixAt path id batches synced new
   kept_syncing change = syncing_kept change.before change.after change.was (stands_after path old new IsSyncing change) change.how
 
   -- a change of other files and folders
-  pub kept_beside : file_at new path ≡ file_at old path → IsKept path id batches synced old → IsKept path id batches synced new
+  pub kept_beside : file_at new path ≡ file_at old path → RecoversPrefixAt path id batches synced old → RecoversPrefixAt path id batches synced new
   kept_beside same (inl log) = inl (record { file = log.file; stands = same ∙ log.stands; format = log.format; records = log.records; holds = log.holds; keeps = log.keeps; reads = log.reads })
   kept_beside same (inr (nothing, none)) = inr (λ file stands. nothing file (sym same ∙ stands), none)
 
@@ -199,27 +199,27 @@ module _ (path : Path) (old new : Directory) (id : FileId) (format : LogFileForm
   halfway : (change : HasChanged path (IsClosing at) old new) → HasChanged path (IsCutting at) old (placed path change.how.0 old)
   halfway change = record { before = change.before; was = change.was; after = change.how.0; is = refl; how = change.how.1 }
 
-  then_synced : (all : List Batch) (change : HasChanged path (IsClosing at) old new) → IsKept path id all synced (placed path change.how.0 old) → IsKept path id all synced new
+  then_synced : (all : List Batch) (change : HasChanged path (IsClosing at) old new) → RecoversPrefixAt path id all synced (placed path change.how.0 old) → RecoversPrefixAt path id all synced new
   then_synced all change =
       syncing_kept path id all synced (placed path change.how.0 old) new change.how.0 change.after (file_at-placed_same path change.how.0 old) (stands_after path old new (IsClosing at) change) change.how.2
 
-  pub log_syncing_kept : HasLog path id format batches synced at old → HasChanged path IsSyncing old new → IsKept path id batches synced new
+  pub log_syncing_kept : HasLog path id format batches synced at old → HasChanged path IsSyncing old new → RecoversPrefixAt path id batches synced new
   log_syncing_kept log change = kept_syncing path id batches synced old new change (log_kept path id format batches synced at old log)
 
-  pub torn_log_closing_kept : (in_flight : List Batch) → HasTornLog path id format batches in_flight synced at old → HasChanged path (IsClosing at) old new → IsKept path id (batches ++ in_flight) synced new
+  pub torn_log_closing_kept : (in_flight : List Batch) → HasTornLog path id format batches in_flight synced at old → HasChanged path (IsClosing at) old new → RecoversPrefixAt path id (batches ++ in_flight) synced new
   torn_log_closing_kept in_flight log change =
       let mid = placed path change.how.0 old in
       then_synced (batches ++ in_flight) change (torn_log_kept path id format batches in_flight synced at mid (torn_log_cutting path old mid id format batches in_flight synced at log (halfway change)))
 
-  pub log_closing_kept : HasLog path id format batches synced at old → HasChanged path (IsClosing at) old new → IsKept path id batches synced new
-  log_closing_kept log change = subst (λ bs. IsKept path id bs synced new) (append-nil batches) (torn_log_closing_kept [] (torn_of_log path old new id format batches synced at log) change)
+  pub log_closing_kept : HasLog path id format batches synced at old → HasChanged path (IsClosing at) old new → RecoversPrefixAt path id batches synced new
+  log_closing_kept log change = subst (λ bs. RecoversPrefixAt path id bs synced new) (append-nil batches) (torn_log_closing_kept [] (torn_of_log path old new id format batches synced at log) change)
 
 -- Moments of an opening.
 
 module _ (path : Path) (id : FileId) (batches : List Batch) (synced : ℕ) (old new : Directory) where
   -- a moment of a truncation to the end of what is read
-  pub kept_truncating : (size : ℕ) → size ≡ end_of_reading id (bytes_at path old) → IsTruncating path size old new → IsKept path id batches synced old → IsKept path id batches synced new
-  kept_truncating size cuts (inl same) kept = subst (IsKept path id batches synced) (sym same) kept
+  pub kept_truncating : (size : ℕ) → size ≡ end_of_reading id (bytes_at path old) → IsTruncating path size old new → RecoversPrefixAt path id batches synced old → RecoversPrefixAt path id batches synced new
+  kept_truncating size cuts (inl same) kept = subst (RecoversPrefixAt path id batches synced) (sym same) kept
   kept_truncating size cuts (inr (before, after, is_done, was, outcome, is)) kept = by_kept kept
     where
       cut : File
@@ -231,28 +231,28 @@ module _ (path : Path) (id : FileId) (batches : List Batch) (synced : ℕ) (old 
       cuts_file : size ≡ end_of_reading id before.now
       cuts_file = cuts ∙ ap (λ file. end_of_reading id (bytes_of file)) was
 
-      by_kept : IsKept path id batches synced old → IsKept path id batches synced new
+      by_kept : RecoversPrefixAt path id batches synced old → RecoversPrefixAt path id batches synced new
       by_kept (inl log) =
           let same : log.file ≡ before = same_some (sym log.stands ∙ was) in
-          let both = subst (λ f. KeepsRecords id log.format log.records synced f × ReadsFirst id log.format (take synced log.records) f.now) same (log.keeps, log.reads) in
+          let both = subst (λ f. RecoversRecords id log.format log.records synced f × ReadsFirst id log.format (take synced log.records) f.now) same (log.keeps, log.reads) in
           let kept = keeps_cut id log.format log.records synced size is_done after before both.0 both.1 cuts_file outcome in
           inl (record { file = cut; stands = stands; format = log.format; records = log.records; holds = log.holds; keeps = kept.0; reads = kept.1 })
-      by_kept (inr (nothing, none)) = inr (λ file stands_too. subst (KeepsNone id) (same_some (sym stands ∙ stands_too)) (none_cut id size is_done after before (nothing before was) cuts_file outcome), none)
+      by_kept (inr (nothing, none)) = inr (λ file stands_too. subst (RecoversNoRecord id) (same_some (sym stands ∙ stands_too)) (none_cut id size is_done after before (nothing before was) cuts_file outcome), none)
 
   -- a moment of the making of a file
-  pub kept_created : IsOneOf old (created path old) new → IsKept path id batches synced old → IsKept path id batches synced new
-  kept_created (inl same) kept = subst (IsKept path id batches synced) (sym same) kept
-  kept_created (inr is) kept = subst (IsKept path id batches synced) (sym is) (by_file (file_at old path) refl kept)
+  pub kept_created : IsOneOf old (created path old) new → RecoversPrefixAt path id batches synced old → RecoversPrefixAt path id batches synced new
+  kept_created (inl same) kept = subst (RecoversPrefixAt path id batches synced) (sym same) kept
+  kept_created (inr is) kept = subst (RecoversPrefixAt path id batches synced) (sym is) (by_file (file_at old path) refl kept)
     where
-      by_file : (found : Option File) → file_at old path ≡ found → IsKept path id batches synced old → IsKept path id batches synced (cond (is_some found) old (placed path (settled []) old))
+      by_file : (found : Option File) → file_at old path ≡ found → RecoversPrefixAt path id batches synced old → RecoversPrefixAt path id batches synced (cond (is_some found) old (placed path (settled []) old))
       by_file (Some file) e kept = kept
       by_file None e (inl log) = let no_file : None ≡ Some log.file = sym e ∙ log.stands in absurd cc
-      by_file None e (inr (nothing, none)) = inr (λ file stands. subst (KeepsNone id) (same_some (sym (file_at-placed_same path (settled []) old) ∙ stands)) (none_settled id [] (readable_records-short id [] (omega arith))), none)
+      by_file None e (inr (nothing, none)) = inr (λ file stands. subst (RecoversNoRecord id) (same_some (sym (file_at-placed_same path (settled []) old) ∙ stands)) (none_settled id [] (readable_records-short id [] (omega arith))), none)
 
   -- a moment of the writing of a header into a file that is no longer than that
-  pub nothing_opening : (format : LogFileFormat) → length (bytes_at path old) ≤ header_len format.version → IsOpening path format old new → HoldsNothing path id old → HoldsNothing path id new
-  nothing_opening format short (inl same) nothing = subst (HoldsNothing path id) (sym same) nothing
-  nothing_opening format short (inr change) nothing = λ file stands. subst (KeepsNone id) (same_some (sym (stands_after path old new (IsAppending (length (bytes_at path old)) (room (length (bytes_at path old))) 0 (header_bytes format)) change) ∙ stands)) none
+  pub nothing_opening : (format : LogFileFormat) → length (bytes_at path old) ≤ header_len format.version → IsOpening path format old new → RecoversNothingAt path id old → RecoversNothingAt path id new
+  nothing_opening format short (inl same) nothing = subst (RecoversNothingAt path id) (sym same) nothing
+  nothing_opening format short (inr change) nothing = λ file stands. subst (RecoversNoRecord id) (same_some (sym (stands_after path old new (IsAppending (length (bytes_at path old)) (room (length (bytes_at path old))) 0 (header_bytes format)) change) ∙ stands)) none
     where
       room : ℕ → ℕ
       room size = capacity_for (header_len format.version) 0 size
@@ -260,12 +260,12 @@ module _ (path : Path) (id : FileId) (batches : List Batch) (synced : ℕ) (old 
       now : length (bytes_at path old) ≡ length change.before.now
       now = ap (λ found. length (bytes_of found)) change.was
 
-      none : KeepsNone id change.after
+      none : RecoversNoRecord id change.after
       none = none_appending id format change.before change.after (omega (arith, short, now)) (nothing change.before change.was)
           (subst (λ size. IsAppending size (room size) 0 (header_bytes format) change.before change.after) now change.how)
 
   -- .. where that file is empty
-  pub kept_opening : (format : LogFileFormat) → bytes_at path old ≡ [] → IsOpening path format old new → IsKept path id batches synced old → IsKept path id batches synced new
+  pub kept_opening : (format : LogFileFormat) → bytes_at path old ≡ [] → IsOpening path format old new → RecoversPrefixAt path id batches synced old → RecoversPrefixAt path id batches synced new
   kept_opening format empty how (inr (nothing, none)) = inr (nothing_opening format (omega (arith, ap length empty)) how nothing, none)
   kept_opening format empty how (inl log) =
       let none : log.file.now ≡ [] = sym (ap bytes_of log.stands) ∙ empty in
@@ -306,7 +306,7 @@ log_found_cut path id r old cut new e is change =
     let len : length (take r.end bytes) ≡ r.end = length-take-le r.end bytes (end_of_read_within id bytes r e) in
     let held : HoldsRecords id r.format r.records r.end (take r.end bytes) = record { within = omega arith; read = ap (reading id) (take-take r.end r.end bytes (omega arith)) ∙ reading-cut id bytes r e } in
     let written = written_to_whole id r.format r.records r.end file (subst (HoldsRecords id r.format r.records r.end) (sym now) held) (omega (arith, ap length now, len)) in
-    let holds : map (λ (p : Placed). p.batch) r.records ≡ found = sym (ap (λ q. map (λ (p : Placed). p.batch) (records_of q)) e) in
+    let holds : map (λ (p : PlacedRecord). p.batch) r.records ≡ found = sym (ap (λ q. map (λ (p : PlacedRecord). p.batch) (records_of q)) e) in
     record {
       file = change.after;
       stands = stands_after path cut new IsSynced change;

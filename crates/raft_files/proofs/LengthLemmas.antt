@@ -7,7 +7,7 @@ use Rattle.raft_base.specs.declared.pipe_log.FileId.{FileId}
 use Rattle.raft_files.specs.declared.format.LogFileFormat.{LogFileFormat}
 use Rattle.raft_files.specs.Header.{header_len}
 use Rattle.raft_env.specs.Outcomes.{File, Change, is_touched, changed_by, padded, Outcome, IsPartOf, IsCutOf, resized_change, lengthened_change, cut_change}
-use Rattle.raft_files.specs.Reading.{Placed, end_of_records, reading, readable_records}
+use Rattle.raft_files.specs.Reading.{PlacedRecord, end_of_records, reading, readable_records}
 use Rattle.raft_files.specs.Detectable.{signature_by, IsDone, IsFreshAfter}
 use Rattle.raft_files.specs.Records.{IsRefusedAt, IsEmptyFrom, HasNothingFrom, HoldsRecords, IsWrittenTo, IsTornFrom}
 use Rattle.raft_env.proofs.ChangeLemmas.{within_is, not_within, same_front}
@@ -28,7 +28,7 @@ refused_before c changes i outside q =
     let untouched : is_touched (c ∷ q.0) i ≡ false = ap (λ b. b || is_touched q.0 i) (not_within c.from c.size i outside) ∙ q.7 in
     (c ∷ q.0, q.1, q.2, ap (λ cs. c ∷ cs) q.3, q.4, q.5, q.6, untouched)
 
-pub holds_same : (id : FileId) (format : LogFileFormat) (records : List Placed) (at : ℕ) (a b : List ℕ) → HoldsRecords id format records at a → take at a ≡ take at b → at ≤ length b → HoldsRecords id format records at b
+pub holds_same : (id : FileId) (format : LogFileFormat) (records : List PlacedRecord) (at : ℕ) (a b : List ℕ) → HoldsRecords id format records at a → take at a ≡ take at b → at ≤ length b → HoldsRecords id format records at b
 holds_same id format records at a b holds same long = record { within = long; read = ap (λ bytes. reading id bytes) (sym same) ∙ holds.read }
 
 -- A change behind a place.
@@ -43,7 +43,7 @@ pub record IsBehind (at : ℕ) (old : List ℕ) (c : Change) (renamed : Option �
   pub same : take at old ≡ take at c.after
   pub empty : IsEmptyFrom at c.after renamed (c ∷ changes)
 
-pub written_to_changed : (id : FileId) (format : LogFileFormat) (records : List Placed) (synced at : ℕ) (file : File) (c : Change) → IsWrittenTo id format records synced at file →
+pub written_to_changed : (id : FileId) (format : LogFileFormat) (records : List PlacedRecord) (synced at : ℕ) (file : File) (c : Change) → IsWrittenTo id format records synced at file →
     IsBehind at file.now c file.renamed_after (file.changes ++ file.older) → IsWrittenTo id format records synced at (changed_by c file)
 written_to_changed id format records synced at file c written behind =
     let past = file.changes ++ file.older in
@@ -53,7 +53,7 @@ written_to_changed id format records synced at file c written behind =
     let nothing = has_nothing_after id at at c file.renamed_after past (subst (λ b. HasNothingFrom id at b file.renamed_after past) (sym behind.was) written.nothing) (omega arith) (ungiven at c behind.given) behind.empty in
     record { keeps = keeps_held id format records records records synced at file c written.keeps itself holds nothing itself (omega (arith, within, behind.from)); holds = holds; empty = behind.empty; nothing = nothing }
 
-pub torn_changed : (id : FileId) (format : LogFileFormat) (records in_flight : List Placed) (synced at : ℕ) (file : File) (c : Change) → IsTornFrom id format records in_flight synced at file →
+pub torn_changed : (id : FileId) (format : LogFileFormat) (records in_flight : List PlacedRecord) (synced at : ℕ) (file : File) (c : Change) → IsTornFrom id format records in_flight synced at file →
     IsBehind at file.now c file.renamed_after (file.changes ++ file.older) → IsTornFrom id format records in_flight synced at (changed_by c file)
 torn_changed id format records in_flight synced at file c torn behind =
     let all = records ++ in_flight in
@@ -73,7 +73,7 @@ torn_changed id format records in_flight synced at file c torn behind =
     past : List Change
     past = file.changes ++ file.older
 
-    only : (r : Placed) → Contains (readable_records id c.after) r → at ≤ r.at → IsDone id (signature_by id format) (c ∷ past) r → IsFreshAfter file.renamed_after (c ∷ past) r.at → Contains in_flight r
+    only : (r : PlacedRecord) → Contains (readable_records id c.after) r → at ≤ r.at → IsDone id (signature_by id format) (c ∷ past) r → IsFreshAfter file.renamed_after (c ∷ past) r.at → Contains in_flight r
     only r has after done fresh = elim done [
       | inl no_byte ↦ let is = read_in id c.after r has in absurd (none_done is.signature (signature_by id format) c.after file.renamed_after (c ∷ past) at behind.empty r after is.is no_byte fresh)
       | inr earlier ↦ torn.only r (subst (λ b. Contains (readable_records id b) r) behind.was earlier.0) after earlier.1 (fresh_before file.renamed_after c past at r.at (ungiven at c behind.given) after fresh)

@@ -8,10 +8,10 @@ use Rattle.raft_base.specs.declared.pipe_log.FileId.{FileId}
 use Rattle.raft_files.specs.declared.format.LogFileFormat.{LogFileFormat}
 use Rattle.raft_files.specs.Header.{header_len, header_of}
 use Rattle.raft_env.specs.Outcomes.{File, Change, untouched_len, changed_by}
-use Rattle.raft_env.specs.Directory.{Directory, Left, Path, file_at}
-use Rattle.raft_files.specs.Reading.{Placed, end_of_records, Reading, records_behind, reading_in, records_of, readable_records, readable_batches}
-use Rattle.raft_files.specs.Detectable.{IsBeginningOf, format_of, signature_by, IsDetectableFile, IsDetectable}
-use Rattle.raft_files.specs.Records.{AreReadAt, AreReadBehind, ReadsFirst, KeepsRecords, HasNothingFrom, HoldsRecords, FirstOf}
+use Rattle.raft_env.specs.Directory.{Directory, CrashImage, Path, file_at}
+use Rattle.raft_files.specs.Reading.{PlacedRecord, end_of_records, Reading, records_after, reading_in, records_of, readable_records, readable_batches}
+use Rattle.raft_files.specs.Detectable.{IsPrefixOf, format_of, signature_by, IsDetectableFile, IsDetectable}
+use Rattle.raft_files.specs.Records.{AreReadAt, AreReadBehind, ReadsFirst, RecoversRecords, HasNothingFrom, HoldsRecords, FirstOf}
 use Rattle.raft_files.proofs.DetectableLemmas.{beginning_trans, beginning_append, beginning_take, beginning_length, beginning_is}
 use Rattle.raft_files.proofs.ReadingLemmas.{records_stay, reading_is, reading-kept, end_of_read_within}
 use Rattle.raft_files.proofs.PlacedLemmas.{end_of_front}
@@ -19,17 +19,17 @@ use Rattle.raft_files.proofs.HeldLemmas.{format_of-held, left_of_held}
 
 -- The synced records.
 
-pub reads_first-within : (id : FileId) (format : LogFileFormat) (records : List Placed) (bytes : List ℕ) → ReadsFirst id format records bytes → end_of_records (header_len format.version) records ≤ length bytes
+pub reads_first-within : (id : FileId) (format : LogFileFormat) (records : List PlacedRecord) (bytes : List ℕ) → ReadsFirst id format records bytes → end_of_records (header_len format.version) records ≤ length bytes
 reads_first-within id format records bytes reads =
     let r : Reading = record { format = format; records = reads.all; end = reads.end } in
     let is = reading_is id bytes r reads.read in
     let front = end_of_front (records_stay id format bytes) (length bytes) (header_len format.version) records reads.first.0 (sym is.records ∙ reads.first.1) in
     omega (arith, front, end_of_read_within id bytes r reads.read, is.end, ap (λ rs. end_of_records (header_len format.version) rs) reads.first.1)
 
-pub reads_first-kept : (id : FileId) (format : LogFileFormat) (records : List Placed) (last : ℕ) (a b : List ℕ) → ReadsFirst id format records a → take last a ≡ take last b → end_of_records (header_len format.version) records ≤ last → ReadsFirst id format records b
+pub reads_first-kept : (id : FileId) (format : LogFileFormat) (records : List PlacedRecord) (last : ℕ) (a b : List ℕ) → ReadsFirst id format records a → take last a ≡ take last b → end_of_records (header_len format.version) records ≤ last → ReadsFirst id format records b
 reads_first-kept id format records last a b reads same within =
     let from = header_len format.version in
-    let behind = records_behind id format b (end_of_records from records) in
+    let behind = records_after id format b (end_of_records from records) in
     record {
       all = records ++ behind;
       end = end_of_records (end_of_records from records) behind;
@@ -44,7 +44,7 @@ untouched_len_more synced c changes len before within = elim (cases_Bool (c.size
 ]
 
 -- a change behind them touches none of them
-covered_more : (id : FileId) (format : LogFileFormat) (records : List Placed) (synced : List ℕ) (c : Change) (changes : List Change) → ReadsFirst id format records (take (untouched_len synced changes) synced) →
+covered_more : (id : FileId) (format : LogFileFormat) (records : List PlacedRecord) (synced : List ℕ) (c : Change) (changes : List Change) → ReadsFirst id format records (take (untouched_len synced changes) synced) →
     end_of_records (header_len format.version) records ≤ c.from → ReadsFirst id format records (take (untouched_len synced (c ∷ changes)) synced)
 covered_more id format records synced c changes reads behind =
     let end = end_of_records (header_len format.version) records in
@@ -57,21 +57,21 @@ covered_more id format records synced c changes reads behind =
 -- A change keeps the records.
 
 -- what holds of the records that are read and done at each moment since the last sync
-abbrev pub AtEachMoment : (List Placed → Type 0) → FileId → Option ℕ → File → Type 0
-AtEachMoment P id by file = (newer upto : List Change) → file.changes ≡ newer ++ upto → (left : List Placed) → AreReadBehind id by file upto left → P left
+abbrev pub AtEachMoment : (List PlacedRecord → Type 0) → FileId → Option ℕ → File → Type 0
+AtEachMoment P id by file = (newer upto : List Change) → file.changes ≡ newer ++ upto → (left : List PlacedRecord) → AreReadBehind id by file upto left → P left
 
-pub moments_more : (P : List Placed → Type 0) (id : FileId) (by : Option ℕ) (file : File) (c : Change) → AtEachMoment P id by file →
-    ((left : List Placed) → AreReadAt id by c.after file.renamed_after (c ∷ file.changes ++ file.older) left → P left) → AtEachMoment P id by (changed_by c file)
-moments_more P id by file c before now [] upto e = subst (λ changes. (left : List Placed) → AreReadBehind id by file changes left → P left) e now
+pub moments_more : (P : List PlacedRecord → Type 0) (id : FileId) (by : Option ℕ) (file : File) (c : Change) → AtEachMoment P id by file →
+    ((left : List PlacedRecord) → AreReadAt id by c.after file.renamed_after (c ∷ file.changes ++ file.older) left → P left) → AtEachMoment P id by (changed_by c file)
+moments_more P id by file c before now [] upto e = subst (λ changes. (left : List PlacedRecord) → AreReadBehind id by file changes left → P left) e now
 moments_more P id by file c before now (x ∷ newer) upto e = before newer upto (cc)
 
-pub keeps_more : (id : FileId) (format : LogFileFormat) (old all : List Placed) (synced : ℕ) (file : File) (c : Change) → KeepsRecords id format old synced file → IsBeginningOf old all →
-    format_of c.after ≡ Some format → ((left : List Placed) → AreReadAt id (signature_by id format) c.after file.renamed_after (c ∷ file.changes ++ file.older) left → IsBeginningOf left all) →
-    end_of_records (header_len format.version) (take synced old) ≤ c.from → KeepsRecords id format all synced (changed_by c file)
+pub keeps_more : (id : FileId) (format : LogFileFormat) (old all : List PlacedRecord) (synced : ℕ) (file : File) (c : Change) → RecoversRecords id format old synced file → IsPrefixOf old all →
+    format_of c.after ≡ Some format → ((left : List PlacedRecord) → AreReadAt id (signature_by id format) c.after file.renamed_after (c ∷ file.changes ++ file.older) left → IsPrefixOf left all) →
+    end_of_records (header_len format.version) (take synced old) ≤ c.from → RecoversRecords id format all synced (changed_by c file)
 keeps_more id format old all synced file c keeps more header moment behind = record {
   header = header;
   latest = refl;
-  moments = moments_more (λ left. IsBeginningOf left all) id (signature_by id format) file c (λ newer upto e left read. beginning_trans left old all (keeps.moments newer upto e left read) more) moment;
+  moments = moments_more (λ left. IsPrefixOf left all) id (signature_by id format) file c (λ newer upto e left read. beginning_trans left old all (keeps.moments newer upto e left read) more) moment;
   few = omega (arith, keeps.few, beginning_length old all more);
   covered = subst (λ records. ReadsFirst id format records (take (untouched_len file.synced (c ∷ file.changes)) file.synced)) same (covered_more id format (take synced old) file.synced c file.changes keeps.covered behind);
 }
@@ -79,15 +79,15 @@ keeps_more id format old all synced file c keeps more header moment behind = rec
     same : take synced old ≡ take synced all
     same = sym (ap (λ rs. take synced rs) more.1 ∙ take-append-le synced old more.0 keeps.few)
 
-pub keeps_held : (id : FileId) (format : LogFileFormat) (old new all : List Placed) (synced at : ℕ) (file : File) (c : Change) → KeepsRecords id format old synced file → IsBeginningOf old all →
-    HoldsRecords id format new at c.after → HasNothingFrom id at c.after file.renamed_after (c ∷ file.changes ++ file.older) → IsBeginningOf new all →
-    end_of_records (header_len format.version) (take synced old) ≤ c.from → KeepsRecords id format all synced (changed_by c file)
+pub keeps_held : (id : FileId) (format : LogFileFormat) (old new all : List PlacedRecord) (synced at : ℕ) (file : File) (c : Change) → RecoversRecords id format old synced file → IsPrefixOf old all →
+    HoldsRecords id format new at c.after → HasNothingFrom id at c.after file.renamed_after (c ∷ file.changes ++ file.older) → IsPrefixOf new all →
+    end_of_records (header_len format.version) (take synced old) ≤ c.from → RecoversRecords id format all synced (changed_by c file)
 keeps_held id format old new all synced at file c keeps more holds nothing first behind =
     keeps_more id format old all synced file c keeps more (format_of-held id format new at c.after holds)
     (λ left read. beginning_trans left new all (left_of_held id format (signature_by id format) new at c.after file.renamed_after (c ∷ file.changes ++ file.older) holds nothing left read) first) behind
 
 -- the synced records end before the place of the writer
-pub synced_within : (id : FileId) (format : LogFileFormat) (records : List Placed) (synced at : ℕ) (bytes : List ℕ) → HoldsRecords id format records at bytes → end_of_records (header_len format.version) (take synced records) ≤ at
+pub synced_within : (id : FileId) (format : LogFileFormat) (records : List PlacedRecord) (synced at : ℕ) (bytes : List ℕ) → HoldsRecords id format records at bytes → end_of_records (header_len format.version) (take synced records) ≤ at
 synced_within id format records synced at bytes holds =
     let front = beginning_take synced records in
     let is = reading_is id (take at bytes) (record { format = format; records = records; end = at }) holds.read in
@@ -95,7 +95,7 @@ synced_within id format records synced at bytes holds =
     omega (arith, before, ap (λ rs. end_of_records (header_len format.version) rs) front.1, is.end)
 
 -- more records are allowed, and fewer of them are synced
-pub keeps_weaker : (id : FileId) (format : LogFileFormat) (records all : List Placed) (synced fewer : ℕ) (file : File) → KeepsRecords id format records synced file → IsBeginningOf records all → fewer ≤ synced → KeepsRecords id format all fewer file
+pub keeps_weaker : (id : FileId) (format : LogFileFormat) (records all : List PlacedRecord) (synced fewer : ℕ) (file : File) → RecoversRecords id format records synced file → IsPrefixOf records all → fewer ≤ synced → RecoversRecords id format all fewer file
 keeps_weaker id format records all synced fewer file keeps more less = record {
   header = keeps.header;
   latest = keeps.latest;
@@ -106,7 +106,7 @@ keeps_weaker id format records all synced fewer file keeps more less = record {
     end = keeps.covered.end;
     read = keeps.covered.read;
     first = beginning_trans (take fewer all) (take synced records) keeps.covered.all
-        (subst (λ rs. IsBeginningOf rs (take synced records)) same (beginning_take fewer (take synced records))) keeps.covered.first;
+        (subst (λ rs. IsPrefixOf rs (take synced records)) same (beginning_take fewer (take synced records))) keeps.covered.first;
   };
 }
   where
@@ -123,17 +123,17 @@ readable_without_header id bytes none = by_header (header_of bytes) none
     by_header (Some h) e = cc
 
 -- a beginning of the records is read, with the synced ones
-pub read_of_left : (id : FileId) (format : LogFileFormat) (records : List Placed) (synced : ℕ) (file : File) (left : List ℕ) → KeepsRecords id format records synced file → IsDetectableFile id file left →
+pub read_of_left : (id : FileId) (format : LogFileFormat) (records : List PlacedRecord) (synced : ℕ) (file : File) (left : List ℕ) → RecoversRecords id format records synced file → IsDetectableFile id file left →
     (count : ℕ) × (synced ≤ count) × (count ≤ length records) × (readable_records id left ≡ take count records)
 read_of_left id format records synced file left keeps detectable =
     let read = readable_records id left in
-    let begins : IsBeginningOf read records = elim detectable.header [
+    let begins : IsPrefixOf read records = elim detectable.header [
       | inl same ↦ keeps.moments detectable.newer detectable.upto detectable.moment read (record { beginning = detectable.beginning; done = detectable.done format (same ∙ keeps.header); fresh = detectable.none_stale })
-      | inr none ↦ subst (λ rs. IsBeginningOf rs records) (sym (readable_without_header id left none)) (records, refl)
+      | inr none ↦ subst (λ rs. IsPrefixOf rs records) (sym (readable_without_header id left none)) (records, refl)
     ] in
     let untouched = take (untouched_len file.synced file.changes) file.synced in
-    let synced_read : IsBeginningOf (take synced records) (readable_records id untouched) =
-    subst (λ rs. IsBeginningOf (take synced records) rs) (sym (ap (λ r. records_of r) keeps.covered.read)) keeps.covered.first in
+    let synced_read : IsPrefixOf (take synced records) (readable_records id untouched) =
+    subst (λ rs. IsPrefixOf (take synced records) rs) (sym (ap (λ r. records_of r) keeps.covered.read)) keeps.covered.first in
     let enough = beginning_length (take synced records) read (beginning_trans (take synced records) (readable_records id untouched) read synced_read detectable.untouched) in
     let len : length (take synced records) ≡ synced = length-take-le synced records keeps.few in (
       length read,
@@ -143,10 +143,10 @@ read_of_left id format records synced file left keeps detectable =
     )
 
 -- .. and so for the batches of a log file
-pub keeps_batches : (path : Path) (id : FileId) (n : Directory) (file : File) (format : LogFileFormat) (records : List Placed) (synced : ℕ) (batches : List Batch) → file_at n path ≡ Some file → KeepsRecords id format records synced file →
-    map (λ (p : Placed). p.batch) records ≡ batches → (d : Left) → IsDetectable path id n d → FirstOf batches synced (readable_batches id (d path))
+pub keeps_batches : (path : Path) (id : FileId) (n : Directory) (file : File) (format : LogFileFormat) (records : List PlacedRecord) (synced : ℕ) (batches : List Batch) → file_at n path ≡ Some file → RecoversRecords id format records synced file →
+    map (λ (p : PlacedRecord). p.batch) records ≡ batches → (d : CrashImage) → IsDetectable path id n d → FirstOf batches synced (readable_batches id (d path))
 keeps_batches path id n file format records synced batches stands keeps same d detectable =
-    let batch = λ (p : Placed). p.batch in
+    let batch = λ (p : PlacedRecord). p.batch in
     let left = read_of_left id format records synced file (d path) keeps (detectable file stands) in (
       left.0,
       left.1,

@@ -15,7 +15,7 @@ use Rattle.raft_base.specs.declared.pipe_log.FileId.{FileId}
 use Rattle.raft_base.specs.FileId.{signature_in}
 use Rattle.raft_records.proofs.ItemBatchLemmas.{fills_block_of_key_values}
 use Rattle.raft_files.specs.Header.{header_len, header_of}
-use Rattle.raft_files.specs.Reading.{Placed, placed_by, readable_records, reading_in, record_at, record_place, next_record, records_behind, records_of}
+use Rattle.raft_files.specs.Reading.{PlacedRecord, placed_by, readable_records, reading_in, record_at, record_place, next_record, records_after, records_of}
 use Rattle.raft_files.specs.Replay.{block_behind, has_sound_block_at, next_replayed, replayed_at, replayed_behind, replayed_in, replayed_records}
 use Rattle.raft_files.specs.declared.format.LogFileFormat.{LogFileFormat}
 use Rattle.raft_files.proofs.ExtentLemmas.{parts_there, some_if, record_header_is, same_some, some_then}
@@ -79,7 +79,7 @@ record_at-replayed_at : (signature : Option ℕ) (bytes : List ℕ) (at : ℕ) �
 unfolding record_at replayed_at
 record_at-replayed_at signature bytes at = ap (option_map placed) (record_of-replayed_record signature (drop at bytes)) ∙ by_found (has_sound_block_at bytes) (replayed_record signature (drop at bytes))
   where
-    placed : Batch × ℕ → Placed
+    placed : Batch × ℕ → PlacedRecord
     placed x = record { at = at; len = x.1; batch = x.0 }
 
     by_found : (sound : ℕ → Bool) (o : Option (Batch × ℕ)) → option_map placed (cond (sound at) o None) ≡ option_and_then (λ p. cond (sound p.at) (Some p) None) (option_map placed o)
@@ -92,7 +92,7 @@ replayed_of_record signature bytes x e =
     some_if (is_block (block_behind bytes (record_header bytes))) (replayed_record signature bytes) x (sym (record_of-replayed_record signature bytes) ∙ e)
 
 -- one search stops where what the other finds isn't sound
-placed_by-sound : (sound : ℕ → Bool) (next next' : ℕ → Option Placed) → ((at : ℕ) → next at ≡ option_and_then (λ p. cond (sound p.at) (Some p) None) (next' at)) →
+placed_by-sound : (sound : ℕ → Bool) (next next' : ℕ → Option PlacedRecord) → ((at : ℕ) → next at ≡ option_and_then (λ p. cond (sound p.at) (Some p) None) (next' at)) →
     (n at : ℕ) → placed_by n next at ≡ take_while (λ p. sound p.at) (placed_by n next' at)
 placed_by-sound sound next next' same zero at = refl
 placed_by-sound sound next next' same (suc n) at = elim (cases_next (next' at)) [
@@ -103,9 +103,9 @@ placed_by-sound sound next next' same (suc n) at = elim (cases_next (next' at)) 
   ])
 ]
 
-pub records_behind-replayed_behind : (id : FileId) (format : LogFileFormat) (bytes : List ℕ) (at : ℕ) →
-    records_behind id format bytes at ≡ take_while (λ p. has_sound_block_at bytes p.at) (replayed_behind id format bytes at)
-records_behind-replayed_behind id format bytes at =
+pub records_after-replayed_behind : (id : FileId) (format : LogFileFormat) (bytes : List ℕ) (at : ℕ) →
+    records_after id format bytes at ≡ take_while (λ p. has_sound_block_at bytes p.at) (replayed_behind id format bytes at)
+records_after-replayed_behind id format bytes at =
     placed_by-sound (has_sound_block_at bytes) (next_record id format bytes) (next_replayed id format bytes)
     (λ from. record_at-replayed_at (signature_in format.version id.seq) bytes (record_place format.alignment bytes from)) (length bytes) at
 
@@ -114,7 +114,7 @@ readable_records-replayed_records id bytes = by_header (header_of bytes)
   where
     by_header : (header : Option (LogFileFormat × List ℕ)) → records_of (option_map (λ (h : LogFileFormat × List ℕ). reading_in id h.0 bytes) header) ≡ take_while (λ p. has_sound_block_at bytes p.at) (replayed_in id bytes header)
     by_header None = refl
-    by_header (Some header) = records_behind-replayed_behind id header.0 bytes (header_len header.0.version)
+    by_header (Some header) = records_after-replayed_behind id header.0 bytes (header_len header.0.version)
 
 -- Where a replay goes on.
 
@@ -139,7 +139,7 @@ replayed_stay id format bytes = record {
     same_len false x y e = ap (λ (z : Batch × ℕ). z.1) (same_some e)
 
 -- what a replay takes next has a sound block where it isn't refused
-pub accepted_is_sound : (id : FileId) (format : LogFileFormat) (bytes : List ℕ) (at : ℕ) (p : Placed) (ps : List Placed) → replayed_behind id format bytes at ≡ p ∷ ps →
+pub accepted_is_sound : (id : FileId) (format : LogFileFormat) (bytes : List ℕ) (at : ℕ) (p : PlacedRecord) (ps : List PlacedRecord) → replayed_behind id format bytes at ≡ p ∷ ps →
     record_refusal (signature_in format.version id.seq) (drop (record_place format.alignment bytes at) bytes) ≡ None → has_sound_block_at bytes p.at ≡ true
 unfolding replayed_at
 accepted_is_sound id format bytes at p ps e accepted =

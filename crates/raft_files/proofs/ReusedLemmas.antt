@@ -5,11 +5,11 @@ use Rattle.raft_records.specs.Item.{Batch}
 use Rattle.raft_base.specs.declared.pipe_log.FileId.{FileId}
 use Rattle.raft_files.specs.declared.format.LogFileFormat.{LogFileFormat}
 use Rattle.raft_files.specs.Header.{HasHeader, header_bytes, header_len}
-use Rattle.raft_env.specs.Outcomes.{File, Change, IsStaleAfter, is_written, IsPartOf, changed_by, written, overlaid, synced_of, renamed_of, bytes_behind, resized_change, lengthened_change, written_change}
+use Rattle.raft_env.specs.Outcomes.{File, Change, IsStaleAfter, is_written, IsPartOf, changed_by, written, overlaid, synced_of, renamed_of, bytes_after, resized_change, lengthened_change, written_change}
 use Rattle.raft_env.specs.Directory.{Directory, Path, HasFile, file_at, removed, renamed, renamed_at}
-use Rattle.raft_files.specs.Reading.{Placed, reading, readable_records}
+use Rattle.raft_files.specs.Reading.{PlacedRecord, reading, readable_records}
 use Rattle.raft_files.specs.Detectable.{signature_by, AreFresh}
-use Rattle.raft_files.specs.Records.{AreReadAt, HoldsRecords, IsWrittenTo, KeepsNone, IsKept, HasLog}
+use Rattle.raft_files.specs.Records.{AreReadAt, HoldsRecords, IsWrittenTo, RecoversNoRecord, RecoversPrefixAt, HasLog}
 use Rattle.raft_files.specs.Writer.{HasChanged, IsStep, IsLengthened, IsAppending, IsAppended, IsSynced}
 use Rattle.raft_env.proofs.DirectoryLemmas.{file_at-placed_same}
 use Rattle.raft_env.proofs.OverlaidLemmas.{overlaid_is}
@@ -23,17 +23,17 @@ use Rattle.raft_files.proofs.NoneLemmas.{none_more}
 use Rattle.raft_files.proofs.ChangedLemmas.{stands_after, was_file}
 
 -- where each place is stale no record is fresh
-nothing_fresh : (renamed_after : Option ℕ) (changes : List Change) (left : List Placed) → ((i : ℕ) → IsStaleAfter renamed_after changes i) → AreFresh renamed_after changes left → left ≡ []
+nothing_fresh : (renamed_after : Option ℕ) (changes : List Change) (left : List PlacedRecord) → ((i : ℕ) → IsStaleAfter renamed_after changes i) → AreFresh renamed_after changes left → left ≡ []
 nothing_fresh renamed_after changes [] stale fresh = refl
 nothing_fresh renamed_after changes (r ∷ left) stale fresh = absurd (fresh r (0, omega arith, refl) (stale r.at))
 
 -- a file of which a crash leaves no record, and of which each place is stale
 pub record KeepsStale (id : FileId) (file : File) : Type 0 where
-  pub none : KeepsNone id file
+  pub none : RecoversNoRecord id file
   pub stale : (i : ℕ) → IsStaleAfter file.renamed_after (file.changes ++ file.older) i
 
 -- such is a file that was just renamed, at each moment since its last sync
-pub renamed_stale : (id : FileId) (file : File) → file.now ≡ bytes_behind file.synced file.changes → KeepsStale id (renamed_of file)
+pub renamed_stale : (id : FileId) (file : File) → file.now ≡ bytes_after file.synced file.changes → KeepsStale id (renamed_of file)
 renamed_stale id file latest = record {
   none = record {
     latest = latest;
@@ -101,33 +101,33 @@ module _ (id : FileId) (format : LogFileFormat) (has : HasHeader format) (fits :
     stale_behind = stale_from_more file.renamed_after c past 0 end (gives_none_before end c (omega (arith, header_length))) (omega arith) (λ k above. keeps.stale k)
 
     -- no record that is read behind the header is fresh
-    nothing_behind : (r : Placed) → Contains (readable_records id c.after) r → (IsStaleAfter file.renamed_after (c ∷ past) r.at → ⊥) → ⊥
+    nothing_behind : (r : PlacedRecord) → Contains (readable_records id c.after) r → (IsStaleAfter file.renamed_after (c ∷ past) r.at → ⊥) → ⊥
     nothing_behind r has fresh = elim (read_of_held id format [] end c.after (holds_header file.now) r has) [
       | inl none ↦ absurd (omega (arith, none.1))
       | inr behind ↦ fresh (stale_behind r.at behind)
     ]
 
-    nothing_left : (by : Option ℕ) (left : List Placed) → AreReadAt id by c.after file.renamed_after (c ∷ past) left → left ≡ []
+    nothing_left : (by : Option ℕ) (left : List PlacedRecord) → AreReadAt id by c.after file.renamed_after (c ∷ past) left → left ≡ []
     nothing_left by [] read = refl
     nothing_left by (r ∷ left) read =
         absurd (nothing_behind r (subst (λ rs. Contains rs r) (sym read.beginning.1) (0, omega arith, refl)) (read.fresh r (0, omega arith, refl)))
 
-    pub none_headed : KeepsNone id (changed_by c file)
+    pub none_headed : RecoversNoRecord id (changed_by c file)
     none_headed = none_more id file c keeps.none (λ other left read. nothing_left (signature_by id other) left read)
 
     -- once the header is synced the file is a log without records
     pub written_headed : IsWrittenTo id format [] 0 end (synced_of (changed_by c file))
     written_headed = written_to_still id format [] end c.after (c ∷ past) file.renamed_after (holds_header file.now) (inr stale_behind) (λ by r has behind done fresh. nothing_behind r has fresh)
 
-  header_moment : (old new : File) → KeepsStale id old → IsStep (written 0 header) (λ now. overlaid now 0 header) (IsPartOf 0 (length header)) old new → KeepsNone id new
-  header_moment old new keeps (inl same) = subst (KeepsNone id) (sym same) keeps.none
+  header_moment : (old new : File) → KeepsStale id old → IsStep (written 0 header) (λ now. overlaid now 0 header) (IsPartOf 0 (length header)) old new → RecoversNoRecord id new
+  header_moment old new keeps (inl same) = subst (RecoversNoRecord id) (sym same) keeps.none
   header_moment old new keeps (inr (after, true, done, is)) =
-      subst (KeepsNone id) (sym is) (subst (λ b. KeepsNone id (written 0 header true b old)) (sym done) (none_headed old keeps))
+      subst (RecoversNoRecord id) (sym is) (subst (λ b. RecoversNoRecord id (written 0 header true b old)) (sym done) (none_headed old keeps))
   header_moment old new keeps (inr (after, false, part, is)) =
       let c = written_change 0 header false after old.now in
-      subst (KeepsNone id) (sym is) (stale_change id old c keeps (refused_gives_none 0 c refl)).none
+      subst (RecoversNoRecord id) (sym is) (stale_change id old c keeps (refused_gives_none 0 c refl)).none
 
-  pub none_reusing : (room new_room : ℕ) (old new : File) → KeepsStale id old → IsAppending room new_room 0 header old new → KeepsNone id new
+  pub none_reusing : (room new_room : ℕ) (old new : File) → KeepsStale id old → IsAppending room new_room 0 header old new → RecoversNoRecord id new
   none_reusing room new_room old new keeps (mid, longer, writes) = header_moment mid new (stale_lengthened id room new_room old mid keeps longer) writes
 
   pub written_reused : (room new_room : ℕ) (old mid new : File) → KeepsStale id old → IsAppended room new_room 0 header old mid → IsSynced mid new → IsWrittenTo id format [] 0 end new
@@ -137,14 +137,14 @@ module _ (id : FileId) (format : LogFileFormat) (has : HasHeader format) (fits :
 
 -- At a path.
 
-module _ (src path : Path) (other : FileId) (batches : List Batch) (synced : ℕ) (old : Directory) (kept : IsKept src other batches synced old) (has : HasFile old src) where
+module _ (src path : Path) (other : FileId) (batches : List Batch) (synced : ℕ) (old : Directory) (kept : RecoversPrefixAt src other batches synced old) (has : HasFile old src) where
   record IsRenamedFrom : Type 0 where
     file : File
     stood : file_at old src ≡ Some file
-    latest : file.now ≡ bytes_behind file.synced file.changes
+    latest : file.now ≡ bytes_after file.synced file.changes
 
-  latest_of : (file : File) → file_at old src ≡ Some file → IsKept src other batches synced old → file.now ≡ bytes_behind file.synced file.changes
-  latest_of file stood (inl log) = subst (λ (f : File). f.now ≡ bytes_behind f.synced f.changes) (same_some (sym log.stands ∙ stood)) log.keeps.latest
+  latest_of : (file : File) → file_at old src ≡ Some file → RecoversPrefixAt src other batches synced old → file.now ≡ bytes_after file.synced file.changes
+  latest_of file stood (inl log) = subst (λ (f : File). f.now ≡ bytes_after f.synced f.changes) (same_some (sym log.stands ∙ stood)) log.keeps.latest
   latest_of file stood (inr (nothing, none)) = (nothing file stood).latest
 
   renamed_file : IsRenamedFrom
@@ -159,16 +159,16 @@ module _ (src path : Path) (other : FileId) (batches : List Batch) (synced : ℕ
       ap (λ found. file_at (renamed_at src path found old) path) renamed_file.stood
       ∙ file_at-placed_same path (renamed_of renamed_file.file) (removed src old)
 
-  pub kept_renamed : (id : FileId) → IsKept path id [] 0 (renamed src path old)
-  kept_renamed id = inr (λ file stands. subst (KeepsNone id) (same_some (sym stands_renamed ∙ stands)) (renamed_stale id renamed_file.file renamed_file.latest).none, refl)
+  pub kept_renamed : (id : FileId) → RecoversPrefixAt path id [] 0 (renamed src path old)
+  kept_renamed id = inr (λ file stands. subst (RecoversNoRecord id) (same_some (sym stands_renamed ∙ stands)) (renamed_stale id renamed_file.file renamed_file.latest).none, refl)
 
   module _ (id : FileId) (format : LogFileFormat) (room new_room : ℕ) (header_fits : HasHeader format) (fits : format.alignment < 2 ^ 64) where
-    pub kept_reusing : (new : Directory) → HasChanged path (IsAppending room new_room 0 (header_bytes format)) (renamed src path old) new → IsKept path id [] 0 new
+    pub kept_reusing : (new : Directory) → HasChanged path (IsAppending room new_room 0 (header_bytes format)) (renamed src path old) new → RecoversPrefixAt path id [] 0 new
     kept_reusing new change =
         let R = IsAppending room new_room 0 (header_bytes format) in
         let how = was_file path (renamed src path old) new R change (renamed_of renamed_file.file) stands_renamed in
         let none = none_reusing id format header_fits fits room new_room (renamed_of renamed_file.file) change.after (renamed_stale id renamed_file.file renamed_file.latest) how in
-        inr (λ file stands. subst (KeepsNone id) (same_some (sym (stands_after path (renamed src path old) new R change) ∙ stands)) none, refl)
+        inr (λ file stands. subst (RecoversNoRecord id) (same_some (sym (stands_after path (renamed src path old) new R change) ∙ stands)) none, refl)
 
     pub log_reused : (mid new : Directory) → HasChanged path (IsAppended room new_room 0 (header_bytes format)) (renamed src path old) mid → HasChanged path IsSynced mid new → HasLog path id format [] 0 (header_len format.version) new
     log_reused mid new first change =

@@ -8,10 +8,10 @@ use Rattle.std.proofs.lemmas.List.{length-take-le, take_all}
 use Rattle.raft_records.specs.Item.{Batch}
 use Rattle.raft_base.specs.declared.pipe_log.FileId.{FileId}
 use Rattle.raft_env.specs.Outcomes.{File, Change, MayLeave, least_len, greatest_len, is_touched, settled}
-use Rattle.raft_env.specs.Directory.{Directory, Left, Leaves, Path, IsRestarted, file_at}
+use Rattle.raft_env.specs.Directory.{Directory, CrashImage, Leaves, Path, IsRestarted, file_at}
 use Rattle.raft_files.specs.declared.format.LogFileFormat.{LogFileFormat}
-use Rattle.raft_files.specs.Reading.{Placed, readable_batches, records_of, ends_with, is_read_to_end}
-use Rattle.raft_files.specs.Records.{HasLog, left_of, left_bytes, left_batches}
+use Rattle.raft_files.specs.Reading.{PlacedRecord, readable_batches, records_of, ends_with, is_read_to_end}
+use Rattle.raft_files.specs.Records.{HasLog, image_of_file, bytes_after_crash, batches_after_crash}
 use Rattle.raft_files.specs.Writer.{HasChanged, IsClosed, IsClosing, IsCutting, IsSyncing, bytes_at, bytes_of}
 use Rattle.raft_env.proofs.ConsistentLemmas.{nowhere}
 use Rattle.raft_files.proofs.ChangedLemmas.{stands_after, was_file}
@@ -39,20 +39,20 @@ left_settled file left still may =
     (λ k within. may.untouched k within (omega (arith, may.no_shorter, may.no_longer, still_least file.synced file.changes still, still_greatest file.synced file.changes still)) (still_untouched file.synced file.changes k still))
 
 module _ (path : Path) (id : FileId) (batches : List Batch) (n : Directory) (sealed : IsSealed path id batches n) where
-  pub sealed_bytes : (d : Left) → Leaves n d → left_bytes path n d ≡ sealed.file.now
+  pub sealed_bytes : (d : CrashImage) → Leaves n d → bytes_after_crash path n d ≡ sealed.file.now
   sealed_bytes d leaves =
-      ap (λ found. left_of found (d path)) sealed.stands
+      ap (λ found. image_of_file found (d path)) sealed.stands
       ∙ left_settled sealed.file (d path) sealed.still (leaves.each path sealed.file sealed.stands)
       ∙ sym sealed.latest
 
-  pub sealed_left : (d : Left) → Leaves n d → (left_batches path id n d ≡ batches) × (is_read_to_end id (left_bytes path n d) ≡ true)
+  pub sealed_left : (d : CrashImage) → Leaves n d → (batches_after_crash path id n d ≡ batches) × (is_read_to_end id (bytes_after_crash path n d) ≡ true)
   sealed_left d leaves =
       (ap (readable_batches id) (sealed_bytes d leaves) ∙ sealed.holds, ap (is_read_to_end id) (sealed_bytes d leaves) ∙ sealed.read)
 
   pub sealed_beside : (m : Directory) → file_at m path ≡ file_at n path → IsSealed path id batches m
   sealed_beside m same = record { file = sealed.file; stands = same ∙ sealed.stands; latest = sealed.latest; still = sealed.still; read = sealed.read; holds = sealed.holds }
 
-  pub sealed_restarted : (d : Left) (m : Directory) → Leaves n d → IsRestarted n d m → IsSealed path id batches m
+  pub sealed_restarted : (d : CrashImage) (m : Directory) → Leaves n d → IsRestarted n d m → IsSealed path id batches m
   sealed_restarted d m leaves restarted =
       let same : d path ≡ sealed.file.now = left_settled sealed.file (d path) sealed.still (leaves.each path sealed.file sealed.stands) ∙ sym sealed.latest in
       record {
@@ -72,7 +72,7 @@ log_sealed path id format batches synced at old new log change = record {
   still = subst (IsStill change.after.synced) (sym (ap (λ (f : File). f.changes) how.3)) tt;
   latest = ap (λ (f : File). f.now) how.3 ∙ sym (ap (λ (f : File). f.synced) how.3);
   read = ap (is_read_to_end id) now ∙ ap (λ q. ends_with (length (take at log.file.now)) q) log.written.holds.read ∙ eq-eqb at (length (take at log.file.now)) (sym (length-take-le at log.file.now log.written.holds.within));
-  holds = ap (readable_batches id) now ∙ ap (λ q. map (λ (p : Placed). p.batch) (records_of q)) log.written.holds.read ∙ log.holds;
+  holds = ap (readable_batches id) now ∙ ap (λ q. map (λ (p : PlacedRecord). p.batch) (records_of q)) log.written.holds.read ∙ log.holds;
 }
   where
     how : IsClosed at log.file change.after

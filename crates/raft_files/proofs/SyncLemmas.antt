@@ -6,8 +6,8 @@ use Rattle.raft_base.specs.declared.pipe_log.FileId.{FileId}
 use Rattle.raft_files.specs.declared.format.LogFileFormat.{LogFileFormat}
 use Rattle.raft_files.specs.Header.{HasHeader, header_bytes, header_len}
 use Rattle.raft_env.specs.Outcomes.{File, Change, synced_of}
-use Rattle.raft_files.specs.Reading.{Placed, end_of_records, Reading, records_behind, reading, records_of, readable_records, ends_with, is_read_to_end}
-use Rattle.raft_files.specs.Detectable.{IsBeginningOf, format_of, signature_by}
+use Rattle.raft_files.specs.Reading.{PlacedRecord, end_of_records, Reading, records_after, reading, records_of, readable_records, ends_with, is_read_to_end}
+use Rattle.raft_files.specs.Detectable.{IsPrefixOf, format_of, signature_by}
 use Rattle.raft_files.specs.Records.{AreReadBehind, ReadsFirst, IsEmptyFrom, HasNothingFrom, HoldsRecords, IsWrittenTo, IsTornFrom}
 use Rattle.raft_files.proofs.HeaderLemmas.{length-header_bytes}
 use Rattle.raft_files.proofs.ExtentLemmas.{same_some}
@@ -19,10 +19,10 @@ use Rattle.raft_files.proofs.HeldLemmas.{reading-held, format_of_read, format_of
 abbrev pub still : List ℕ → List Change → Option ℕ → File
 still bytes older renamed = record { now = bytes; synced = bytes; changes = []; older = older; renamed_after = renamed }
 
-pub written_to_still : (id : FileId) (format : LogFileFormat) (records : List Placed) (at : ℕ) (bytes : List ℕ) (older : List Change) (renamed : Option ℕ) → HoldsRecords id format records at bytes → IsEmptyFrom at bytes renamed older → HasNothingFrom id at bytes renamed older →
+pub written_to_still : (id : FileId) (format : LogFileFormat) (records : List PlacedRecord) (at : ℕ) (bytes : List ℕ) (older : List Change) (renamed : Option ℕ) → HoldsRecords id format records at bytes → IsEmptyFrom at bytes renamed older → HasNothingFrom id at bytes renamed older →
     IsWrittenTo id format records (length records) at (still bytes older renamed)
 written_to_still id format records at bytes older renamed holds empty nothing =
-    let behind = records_behind id format bytes at in
+    let behind = records_after id format bytes at in
     let whole : take (length bytes) bytes ≡ bytes = take_all (length bytes) bytes (omega arith) in
     let first : ReadsFirst id format (take (length records) records) bytes = record {
       all = records ++ behind;
@@ -43,22 +43,22 @@ written_to_still id format records at bytes older renamed holds empty nothing =
       nothing = nothing;
     }
   where
-    moments : (newer upto : List Change) → [] ≡ newer ++ upto → (left : List Placed) → AreReadBehind id (signature_by id format) (still bytes older renamed) upto left → IsBeginningOf left records
+    moments : (newer upto : List Change) → [] ≡ newer ++ upto → (left : List PlacedRecord) → AreReadBehind id (signature_by id format) (still bytes older renamed) upto left → IsPrefixOf left records
     moments [] [] e = left_of_held id format (signature_by id format) records at bytes renamed older holds nothing
     moments [] (x ∷ upto) e = cc
     moments (x ∷ newer) upto e = cc
 
 -- a sync
-pub written_to_synced : (id : FileId) (format : LogFileFormat) (records : List Placed) (synced at : ℕ) (file : File) → IsWrittenTo id format records synced at file → IsWrittenTo id format records (length records) at (synced_of file)
+pub written_to_synced : (id : FileId) (format : LogFileFormat) (records : List PlacedRecord) (synced at : ℕ) (file : File) → IsWrittenTo id format records synced at file → IsWrittenTo id format records (length records) at (synced_of file)
 written_to_synced id format records synced at file written_to = written_to_still id format records at file.now (file.changes ++ file.older) file.renamed_after written_to.holds written_to.empty written_to.nothing
 
 -- .. of a file that ends there
-pub written_to_whole : (id : FileId) (format : LogFileFormat) (records : List Placed) (at : ℕ) (file : File) → HoldsRecords id format records at file.now → length file.now ≤ at → IsWrittenTo id format records (length records) at (synced_of file)
+pub written_to_whole : (id : FileId) (format : LogFileFormat) (records : List PlacedRecord) (at : ℕ) (file : File) → HoldsRecords id format records at file.now → length file.now ≤ at → IsWrittenTo id format records (length records) at (synced_of file)
 written_to_whole id format records at file holds short =
     written_to_still id format records at file.now (file.changes ++ file.older) file.renamed_after holds (inl (λ i above below. absurd (omega arith))) (has_nothing_past id at file.now file.renamed_after (file.changes ++ file.older) short)
 
 -- a sync of a file that was cut back
-pub torn_synced : (id : FileId) (format : LogFileFormat) (records in_flight : List Placed) (synced at : ℕ) (file : File) → IsTornFrom id format records in_flight synced at file → length file.now ≡ at → IsWrittenTo id format records (length records) at (synced_of file)
+pub torn_synced : (id : FileId) (format : LogFileFormat) (records in_flight : List PlacedRecord) (synced at : ℕ) (file : File) → IsTornFrom id format records in_flight synced at file → length file.now ≡ at → IsWrittenTo id format records (length records) at (synced_of file)
 torn_synced id format records in_flight synced at file torn cut = written_to_whole id format records at file torn.holds (omega (arith, cut))
 
 -- a file with a header alone that is synced

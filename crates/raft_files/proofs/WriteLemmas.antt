@@ -7,7 +7,7 @@ use Rattle.raft_records.specs.Record.{record_of}
 use Rattle.raft_base.specs.declared.pipe_log.FileId.{FileId}
 use Rattle.raft_files.specs.declared.format.LogFileFormat.{LogFileFormat}
 use Rattle.raft_env.specs.Outcomes.{File, Change, written, overlaid, IsPartOf, written_change}
-use Rattle.raft_files.specs.Reading.{Placed, reading, readable_records}
+use Rattle.raft_files.specs.Reading.{PlacedRecord, reading, readable_records}
 use Rattle.raft_files.specs.Detectable.{signature_by, IsGivenBy, IsDone, IsFreshAfter}
 use Rattle.raft_files.specs.Records.{IsEmptyFrom, HasNothingFrom, HoldsRecords, IsWrittenTo, IsTornFrom}
 use Rattle.raft_env.proofs.ChangeLemmas.{within_is, not_within, same_front}
@@ -43,15 +43,15 @@ kept_part at len old new part = record {
 }
 
 -- the record of the batch that a write gives
-abbrev pub record_given : ℕ → List ℕ → Batch → Placed
+abbrev pub record_given : ℕ → List ℕ → Batch → PlacedRecord
 record_given at given batch = record { at = at; len = length given; batch = batch }
 
-same_placed : (r : Placed) (at len : ℕ) (batch : Batch) → r.at ≡ at → batch ≡ r.batch → len ≡ r.len → r ≡ record { at = at; len = len; batch = batch }
+same_placed : (r : PlacedRecord) (at len : ℕ) (batch : Batch) → r.at ≡ at → batch ≡ r.batch → len ≡ r.len → r ≡ record { at = at; len = len; batch = batch }
 same_placed r at len batch stands same_batch same_len = rw (← stands, same_batch, same_len) refl
 
 -- behind the records a crash leaves nothing but the record that the write was to write
 only_given : (id : FileId) (signature : Option ℕ) (c : Change) (renamed : Option ℕ) (changes : List Change) (batch : Batch) → HasNothingFrom id c.from c.before renamed changes → c.is_done ≡ false → c.size ≡ length c.given → record_of signature c.given ≡ Some (batch, length c.given) →
-    IsEmptyFrom (c.from + c.size) c.after renamed (c ∷ changes) → (r : Placed) → Contains (readable_records id c.after) r → c.from ≤ r.at → IsDone id signature (c ∷ changes) r → IsFreshAfter renamed (c ∷ changes) r.at → Contains (record_given c.from c.given batch ∷ []) r
+    IsEmptyFrom (c.from + c.size) c.after renamed (c ∷ changes) → (r : PlacedRecord) → Contains (readable_records id c.after) r → c.from ≤ r.at → IsDone id signature (c ∷ changes) r → IsFreshAfter renamed (c ∷ changes) r.at → Contains (record_given c.from c.given batch ∷ []) r
 only_given id signature c renamed changes batch nothing refused size given empty r has behind done fresh = elim done [
   | inr earlier ↦ absurd (nothing signature r earlier.0 behind earlier.1 (fresh_before renamed c changes c.from r.at (refused_gives_none c.from c refused) behind fresh))
   | inl no_byte ↦
@@ -67,7 +67,7 @@ only_given id signature c renamed changes batch nothing refused size given empty
 ]
 
 -- a write that is refused
-pub written_to_refused : (id : FileId) (format : LogFileFormat) (records : List Placed) (synced at : ℕ) (file : File) (given : List ℕ) (batch : Batch) (after : List ℕ) → IsWrittenTo id format records synced at file →
+pub written_to_refused : (id : FileId) (format : LogFileFormat) (records : List PlacedRecord) (synced at : ℕ) (file : File) (given : List ℕ) (batch : Batch) (after : List ℕ) → IsWrittenTo id format records synced at file →
     record_of (signature_by id format) given ≡ Some (batch, length given) → IsPartOf at (length given) file.now after → IsTornFrom id format records (record_given at given batch ∷ []) synced at (written at given false after file)
 written_to_refused id format records synced at file given batch after written_to is part =
     let c = written_change at given false after file.now in
@@ -89,13 +89,13 @@ written_to_refused id format records synced at file given batch after written_to
     }
 
 -- a write behind them leaves the records
-pub holds_written : (id : FileId) (format : LogFileFormat) (records : List Placed) (at : ℕ) (bytes given : List ℕ) → HoldsRecords id format records at bytes → HoldsRecords id format records at (overlaid bytes at given)
+pub holds_written : (id : FileId) (format : LogFileFormat) (records : List PlacedRecord) (at : ℕ) (bytes given : List ℕ) → HoldsRecords id format records at bytes → HoldsRecords id format records at (overlaid bytes at given)
 holds_written id format records at bytes given holds =
     let part = writing_part at given given (omega arith) bytes in
     holds_same id format records at bytes (overlaid bytes at given) holds (sym (part_keeps at (length given) at bytes _ part (omega arith) holds.within)) (omega (arith, holds.within, part.no_shorter))
 
 -- a write that is done
-pub written_to_written : (id : FileId) (format : LogFileFormat) (records : List Placed) (synced at : ℕ) (file : File) (given : List ℕ) (batch : Batch) → IsWrittenTo id format records synced at file →
+pub written_to_written : (id : FileId) (format : LogFileFormat) (records : List PlacedRecord) (synced at : ℕ) (file : File) (given : List ℕ) (batch : Batch) → IsWrittenTo id format records synced at file →
     record_of (signature_by id format) given ≡ Some (batch, length given) →
     IsWrittenTo id format (records ++ record_given at given batch ∷ []) synced (at + length given) (written at given true (overlaid file.now at given) file)
 written_to_written id format records synced at file given batch written_to is =

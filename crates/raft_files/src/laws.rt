@@ -7,11 +7,11 @@ ghost use Rattle.raft_records.specs.Record.{record_bytes, record_of};
 ghost use Rattle.raft_records.specs.RecordLimits.{FitsRecord};
 ghost use Rattle.raft_base.specs.declared.pipe_log.FileId.{FileId};
 ghost use Rattle.raft_files.specs.Detectable.{IsDetectable, signature_by};
-ghost use Rattle.raft_env.specs.Directory.{Directory, IsOneOf, IsRestarted, IsTruncating, HasFile, Leaves, Left, Path, created, file_at, renamed};
+ghost use Rattle.raft_env.specs.Directory.{Directory, IsOneOf, IsRestarted, IsTruncating, HasFile, Leaves, CrashImage, Path, created, file_at, renamed};
 ghost use Rattle.raft_files.specs.Header.{HasHeader, header_bytes, header_len, header_of};
 ghost use Rattle.raft_files.specs.Reading.{Reading, end_of_reading, is_read_to_end, readable_batches, readable_records, reading};
 ghost use Rattle.raft_files.specs.Replay.{has_sound_block_at, replayed_records};
-ghost use Rattle.raft_files.specs.Records.{FirstOf, HasLog, HasTornLog, IsKept, left_batches, left_bytes};
+ghost use Rattle.raft_files.specs.Records.{FirstOf, HasLog, HasTornLog, RecoversPrefixAt, batches_after_crash, bytes_after_crash};
 ghost use Rattle.raft_files.specs.Sealed.{IsSealed};
 ghost use Rattle.raft_files.specs.Writer.{HasChanged, IsAppended, IsAppending, IsClosed, IsClosing, IsOpening, IsSynced, IsSyncing, bytes_at};
 ghost use Rattle.raft_files.specs.declared.format.LogFileFormat.{LogFileFormat};
@@ -50,41 +50,46 @@ pub fn readable_records_are_the_replayed_with_sound_blocks()
 /// those that `LogFileWriter` names.
 pub fn crash_leaves_a_beginning()
     ensures left { (path : Path) (id : FileId) (batches : List Batch) (synced : ℕ) (n : Directory)
-        → IsKept path id batches synced n → (d : Left) → Leaves n d → IsDetectable path id n d
-        → FirstOf batches synced (left_batches path id n d) }
+        → RecoversPrefixAt path id batches synced n → (d : CrashImage) → Leaves n d
+        → IsDetectable path id n d
+        → FirstOf batches synced (batches_after_crash path id n d) }
     ensures between { (path : Path) (id : FileId) (format : LogFileFormat) (batches : List Batch)
         (synced at : ℕ) (n : Directory) → HasLog path id format batches synced at n
-        → IsKept path id batches synced n }
+        → RecoversPrefixAt path id batches synced n }
     ensures refused { (path : Path) (id : FileId) (format : LogFileFormat)
         (batches in_flight : List Batch) (synced at : ℕ) (n : Directory)
         → HasTornLog path id format batches in_flight synced at n
-        → IsKept path id (batches ++ in_flight) synced n }
+        → RecoversPrefixAt path id (batches ++ in_flight) synced n }
     ensures appending { (path : Path) (id : FileId) (format : LogFileFormat) (batches : List Batch)
         (synced at : ℕ) (old n : Directory) (room new_room : ℕ) (given : List ℕ) (batch : Batch)
         → HasLog path id format batches synced at old
         → record_of (signature_by id format) given ≡ Some (batch, length given)
         → HasChanged path (IsAppending room new_room at given) old n
-        → IsKept path id (batches ++ batch ∷ []) synced n }
+        → RecoversPrefixAt path id (batches ++ batch ∷ []) synced n }
     ensures syncing { (path : Path) (id : FileId) (batches : List Batch) (synced : ℕ)
-        (old n : Directory) → IsKept path id batches synced old → HasChanged path IsSyncing old n
-        → IsKept path id batches synced n }
+        (old n : Directory) → RecoversPrefixAt path id batches synced old
+        → HasChanged path IsSyncing old n
+        → RecoversPrefixAt path id batches synced n }
     ensures closing { (path : Path) (id : FileId) (format : LogFileFormat) (batches : List Batch)
         (synced at : ℕ) (old n : Directory) → HasLog path id format batches synced at old
-        → HasChanged path (IsClosing at) old n → IsKept path id batches synced n }
+        → HasChanged path (IsClosing at) old n → RecoversPrefixAt path id batches synced n }
     ensures torn_closing { (path : Path) (id : FileId) (format : LogFileFormat)
         (batches in_flight : List Batch) (synced at : ℕ) (old n : Directory)
         → HasTornLog path id format batches in_flight synced at old
-        → HasChanged path (IsClosing at) old n → IsKept path id (batches ++ in_flight) synced n }
-    ensures restarted { (path : Path) (id : FileId) (n m : Directory) (d : Left) → IsRestarted n d m
-        → let found = left_batches path id n d in IsKept path id found (length found) m }
+        → HasChanged path (IsClosing at) old n → RecoversPrefixAt path id
+        (batches ++ in_flight) synced n }
+    ensures restarted { (path : Path) (id : FileId) (n m : Directory) (d : CrashImage)
+        → IsRestarted n d m
+        → let found = batches_after_crash path id n d in RecoversPrefixAt path id found
+        (length found) m }
     ensures none { (path : Path) (id : FileId) (batches : List Batch) (n : Directory)
-        → file_at n path ≡ None → IsKept path id batches 0 n }
+        → file_at n path ≡ None → RecoversPrefixAt path id batches 0 n }
     ensures more { (path : Path) (id : FileId) (batches more : List Batch) (synced : ℕ)
-        (n : Directory) → IsKept path id batches synced n
-        → IsKept path id (batches ++ more) synced n }
+        (n : Directory) → RecoversPrefixAt path id batches synced n
+        → RecoversPrefixAt path id (batches ++ more) synced n }
     ensures beside { (path : Path) (id : FileId) (batches : List Batch) (synced : ℕ)
         (old n : Directory) → file_at n path ≡ file_at old path
-        → IsKept path id batches synced old → IsKept path id batches synced n }
+        → RecoversPrefixAt path id batches synced old → RecoversPrefixAt path id batches synced n }
 {}
 
 /// What a writer's calls make of a log file. A header that is synced is a log without batches
@@ -130,13 +135,14 @@ pub fn a_writer_keeps_its_log()
 /// (`beside`), and at each moment of a further closing (`closing`).
 pub fn a_sealed_file_stays()
     ensures left { (path : Path) (id : FileId) (batches : List Batch) (n : Directory)
-        → IsSealed path id batches n → (d : Left) → Leaves n d
-        → (left_batches path id n d ≡ batches) × (is_read_to_end id (left_bytes path n d) ≡ true) }
+        → IsSealed path id batches n → (d : CrashImage) → Leaves n d
+        → (batches_after_crash path id n d ≡ batches) × (is_read_to_end id
+        (bytes_after_crash path n d) ≡ true) }
     ensures sealed { (path : Path) (id : FileId) (format : LogFileFormat) (batches : List Batch)
         (synced at : ℕ) (old new : Directory) → HasLog path id format batches synced at old
         → HasChanged path (IsClosed at) old new → IsSealed path id batches new }
     ensures restarted { (path : Path) (id : FileId) (batches : List Batch) (n m : Directory)
-        (d : Left) → IsSealed path id batches n → Leaves n d → IsRestarted n d m
+        (d : CrashImage) → IsSealed path id batches n → Leaves n d → IsRestarted n d m
         → IsSealed path id batches m }
     ensures beside { (path : Path) (id : FileId) (batches : List Batch) (old n : Directory)
         → file_at n path ≡ file_at old path → IsSealed path id batches old
@@ -155,15 +161,17 @@ pub fn a_sealed_file_stays()
 /// file is a log without batches (`reused`).
 pub fn opening_keeps_the_log()
     ensures created { (path : Path) (id : FileId) (batches : List Batch) (synced : ℕ)
-        (old n : Directory) → IsKept path id batches synced old → IsOneOf old (created path old) n
-        → IsKept path id batches synced n }
+        (old n : Directory) → RecoversPrefixAt path id batches synced old → IsOneOf old
+        (created path old) n
+        → RecoversPrefixAt path id batches synced n }
     ensures truncating { (path : Path) (id : FileId) (batches : List Batch) (synced : ℕ)
-        (old n : Directory) → IsKept path id batches synced old
+        (old n : Directory) → RecoversPrefixAt path id batches synced old
         → IsTruncating path (end_of_reading id (bytes_at path old)) old n
-        → IsKept path id batches synced n }
+        → RecoversPrefixAt path id batches synced n }
     ensures header { (path : Path) (id : FileId) (format : LogFileFormat) (batches : List Batch)
-        (synced : ℕ) (old n : Directory) → IsKept path id batches synced old
-        → bytes_at path old ≡ [] → IsOpening path format old n → IsKept path id batches synced n }
+        (synced : ℕ) (old n : Directory) → RecoversPrefixAt path id batches synced old
+        → bytes_at path old ≡ [] → IsOpening path format old n
+        → RecoversPrefixAt path id batches synced n }
     ensures found { (path : Path) (id : FileId) (r : Reading) (old cut new : Directory)
         → let found = readable_batches id (bytes_at path old) in
         reading id (bytes_at path old) ≡ Some r → bytes_at path cut ≡ take r.end (bytes_at path old)
@@ -171,17 +179,17 @@ pub fn opening_keeps_the_log()
         → HasLog path id r.format found (length found) r.end new }
     ensures renamed { (src path : Path) (id other : FileId) (batches : List Batch) (synced : ℕ)
         (old : Directory)
-        → IsKept src other batches synced old → HasFile old src
-        → IsKept path id [] 0 (renamed src path old) }
+        → RecoversPrefixAt src other batches synced old → HasFile old src
+        → RecoversPrefixAt path id [] 0 (renamed src path old) }
     ensures reusing { (src path : Path) (id other : FileId) (format : LogFileFormat)
         (batches : List Batch) (synced : ℕ) (old n : Directory) (room new_room : ℕ)
-        → IsKept src other batches synced old → HasFile old src → HasHeader format
+        → RecoversPrefixAt src other batches synced old → HasFile old src → HasHeader format
         → format.alignment < 2 ^ 64
         → HasChanged path (IsAppending room new_room 0 (header_bytes format))
-        (renamed src path old) n → IsKept path id [] 0 n }
+        (renamed src path old) n → RecoversPrefixAt path id [] 0 n }
     ensures reused { (src path : Path) (id other : FileId) (format : LogFileFormat)
         (batches : List Batch) (synced : ℕ) (old mid new : Directory) (room new_room : ℕ)
-        → IsKept src other batches synced old → HasFile old src → HasHeader format
+        → RecoversPrefixAt src other batches synced old → HasFile old src → HasHeader format
         → format.alignment < 2 ^ 64
         → HasChanged path (IsAppended room new_room 0 (header_bytes format))
         (renamed src path old) mid → HasChanged path IsSynced mid new

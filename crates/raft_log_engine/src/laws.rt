@@ -2,9 +2,9 @@
 ghost use Rattle.std.specs.Prelude.{◌≡◌, ◌++◌, List, [], false};
 ghost use Rattle.raft_records.specs.Contents.{Contents, after_batches, no_contents};
 ghost use Rattle.raft_records.specs.Item.{Batch};
-ghost use Rattle.raft_env.specs.Directory.{Directory, HasFile, IsRestarted, Left, Path};
-ghost use Rattle.raft_env.specs.Moments.{Passes};
-ghost use Rattle.raft_log_engine.specs.Crash.{IsAllowedFrom, IsSound, KeepsContents, LeavesAllowed, found_after};
+ghost use Rattle.raft_env.specs.Directory.{Directory, HasFile, IsRestarted, CrashImage, Path};
+ghost use Rattle.raft_env.specs.Moments.{HoldsThroughout};
+ghost use Rattle.raft_log_engine.specs.Crash.{IsAllowedFrom, IsSound, RecoversContents, LeavesAllowed, contents_after_crash};
 ghost use Rattle.raft_files.specs.Records.{as_it_is};
 ghost use Rattle.raft_log_engine.specs.Contents.{contents_at};
 ghost use Rattle.raft_log_engine.specs.Engine.{begun_of, contents_of, directory_of, durable_of, folder_of, has_failed, moments_of, unsynced_of};
@@ -30,23 +30,23 @@ use raft_env::FileSystem;
 /// bytes.
 pub fn crash_leaves_contents()
     ensures left { (folder : Path) (m : Contents) (batches : List Batch) (n : Directory)
-        → KeepsContents folder m batches n → LeavesAllowed folder m batches n }
-    ensures restarted { (folder : Path) (n m : Directory) (d : Left) → IsRestarted n d m
-        → IsSound folder n d → KeepsContents folder (found_after folder n d) [] m }
-    ensures found { (folder : Path) (n m : Directory) (d : Left) → IsRestarted n d m
-        → contents_at folder m ≡ found_after folder n d }
-    ensures opens { (folder : Path) (n m : Directory) (d : Left) → IsRestarted n d m
+        → RecoversContents folder m batches n → LeavesAllowed folder m batches n }
+    ensures restarted { (folder : Path) (n m : Directory) (d : CrashImage) → IsRestarted n d m
+        → IsSound folder n d → RecoversContents folder (contents_after_crash folder n d) [] m }
+    ensures found { (folder : Path) (n m : Directory) (d : CrashImage) → IsRestarted n d m
+        → contents_at folder m ≡ contents_after_crash folder n d }
+    ensures opens { (folder : Path) (n m : Directory) (d : CrashImage) → IsRestarted n d m
         → IsSound folder n d → (mode : RecoveryMode) → (mode ≡ AbsoluteConsistency → ⊥)
         → IsOpenableIn mode folder m }
     ensures as_they_are { (folder : Path) (m : Contents) (batches : List Batch) (n : Directory)
-        → KeepsContents folder m batches n → IsDetectableIn folder n (as_it_is n)
+        → RecoversContents folder m batches n → IsDetectableIn folder n (as_it_is n)
         → IsAllowedFrom 0 m batches (contents_at folder n)
         × ((mode : RecoveryMode) → (mode ≡ AbsoluteConsistency → ⊥) → IsOpenableIn mode folder n) }
     ensures none { (folder : Path) (n : Directory) → HasNoLog folder n → (HasFile n folder → ⊥)
-        → KeepsContents folder no_contents [] n }
+        → RecoversContents folder no_contents [] n }
     ensures folder { (folder : Path) (m : Contents) (batches : List Batch) (n : Directory)
-        → KeepsContents folder m batches n → HasFile n folder → ⊥ }
-    ensures no_file { (folder : Path) (n m : Directory) (d : Left) → IsRestarted n d m
+        → RecoversContents folder m batches n → HasFile n folder → ⊥ }
+    ensures no_file { (folder : Path) (n m : Directory) (d : CrashImage) → IsRestarted n d m
         → IsSound folder n d → HasFile m folder → ⊥ }
 {
     raft_pipes::laws::crash_leaves_a_prefix();
@@ -57,7 +57,7 @@ pub fn crash_leaves_contents()
 pub fn an_engine_recovers_what_it_keeps<F: FileSystem>(engine: &Engine<F>)
     ensures crash { LeavesAllowed (folder_of engine.now) (durable_of engine.now)
         (unsynced_of engine.now) (directory_of engine.now) }
-    ensures any_moment { (more : List Batch) → Passes (moments_of engine.now)
+    ensures any_moment { (more : List Batch) → HoldsThroughout (moments_of engine.now)
         (moments_of engine.now) (directory_of engine.now) (LeavesAllowed (folder_of engine.now)
         (durable_of engine.now) (unsynced_of engine.now ++ more)) }
     ensures contents { has_failed engine.now ≡ false

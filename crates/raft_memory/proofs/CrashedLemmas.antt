@@ -18,7 +18,7 @@ use Rattle.std.proofs.lemmas.Slice.Eq.{bytes_eq-Decides}
 use Rattle.raft_base.specs.declared.errors.Fault.{Fault}
 use Rattle.raft_base.specs.declared.errors.Fault.TheVariants as fault
 use Rattle.raft_env.specs.Outcomes.{File, MayLeave, settled}
-use Rattle.raft_env.specs.Directory.{Path, Left, Leaves, IsRestarted, file_at, is_on_way}
+use Rattle.raft_env.specs.Directory.{Path, CrashImage, Leaves, IsRestarted, file_at, is_on_way}
 use Rattle.raft_memory.specs.Files.{Files, folders_of, namespace_directory}
 use Rattle.raft_memory.specs.Choice.{chosen, chosen_at, choice_for, left_by, RefusesUnless}
 use Rattle.raft_memory.specs.Crashed.{Stands, Copied, IsLeft, Puts, at_path}
@@ -136,7 +136,7 @@ same_folders made copies is =
     λ i. λ q. same q i
 
 -- at the end each file of the old tree has its copy
-module _ (d : Left) (t n : Namespace) (all : Copied (IsLeft d) t.files.entries n.files) where
+module _ (d : CrashImage) (t n : Namespace) (all : Copied (IsLeft d) t.files.entries n.files) where
   leaves_at : (p : Path) (file : File) (o c : Option File) → Stands (IsLeft d p) o c → o ≡ Some file → MayLeave file (d p)
   leaves_at p file None c pair is = absurd cc
   leaves_at p file (Some f) None pair is = absurd pair

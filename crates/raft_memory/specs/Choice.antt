@@ -6,7 +6,7 @@ use Rattle.std.specs.FinMap as finite
 use Rattle.raft_base.specs.declared.errors.Fault.{Fault}
 use Rattle.raft_base.specs.declared.errors.Fault.TheVariants as fault
 use Rattle.raft_env.specs.Outcomes.{File, is_touched}
-use Rattle.raft_env.specs.Directory.{Directory, Path, Left, file_at}
+use Rattle.raft_env.specs.Directory.{Directory, Path, CrashImage, file_at}
 use Rattle.raft_memory.specs.declared.crash.Choice.{Choice}
 use Rattle.raft_memory.specs.declared.crash.Choice.TheVariants as choice
 
@@ -41,7 +41,7 @@ chosen_at c None = []
 chosen_at c (Some file) = chosen c file
 
 -- what the choices leave, by path
-abbrev pub left_by : List Choice → Directory → Left
+abbrev pub left_by : List Choice → Directory → CrashImage
 left_by choices n path = chosen_at (choice_for choices (finite.keys n.files) path) (file_at n path)
 
 -- the choice leaves all bytes, those of the last sync, or a torn file

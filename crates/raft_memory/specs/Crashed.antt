@@ -7,7 +7,7 @@ use Rattle.std.specs.Cmp.Lexicographic.{slice_cmp}
 use Rattle.std.specs.Map.{lookup}
 use Rattle.std.specs.BTreeMap as tree
 use Rattle.raft_env.specs.Outcomes.{File, MayLeave, settled}
-use Rattle.raft_env.specs.Directory.{Path, Left}
+use Rattle.raft_env.specs.Directory.{Path, CrashImage}
 use Rattle.raft_memory.specs.Files.{Files}
 
 -- the file is put at that path, and the others stay
@@ -31,5 +31,5 @@ pub record Copied (R : Path → File → File → Type 0) (es : List (String Glo
   pub each : (p : Path) → Stands (R p) (at_path p es) (tree.get_by_text files p)
 
 -- the copy holds what is left, which storage may leave
-abbrev pub IsLeft : Left → Path → File → File → Type 0
+abbrev pub IsLeft : CrashImage → Path → File → File → Type 0
 IsLeft d path file copy = MayLeave file (d path) × (copy ≡ settled (d path))

@@ -4,9 +4,9 @@ ghost use Rattle.raft_records.specs.Item.{Batch};
 ghost use Rattle.raft_records.specs.Record.{record_of};
 ghost use Rattle.raft_base.specs.declared.pipe_log.FileId.{FileId};
 ghost use Rattle.raft_files.specs.Detectable.{signature_by};
-ghost use Rattle.raft_env.specs.Directory.{Directory, IsRestarted, Left, Path};
+ghost use Rattle.raft_env.specs.Directory.{Directory, IsRestarted, CrashImage, Path};
 ghost use Rattle.raft_files.specs.Header.{HasHeader, header_bytes, header_len};
-ghost use Rattle.raft_files.specs.Reading.{Placed, Reading, readable_batches, reading};
+ghost use Rattle.raft_files.specs.Reading.{PlacedRecord, Reading, readable_batches, reading};
 ghost use Rattle.raft_files.specs.Records.{HasLog};
 ghost use Rattle.raft_premise.specs.Done.{AreDoneAt, HasDoneLog, HasDoneRecords, HasSimplePastAt};
 ghost use Rattle.raft_files.specs.Writer.{HasChanged, IsAppended, IsAppending, IsClosed, IsCut, IsCutting, IsSynced, bytes_at};
@@ -26,8 +26,9 @@ pub fn refused_calls_bring_no_record()
         → HasHeader format → format.alignment < 2 ^ 64 → bytes_at path old ≡ header_bytes format
         → HasSimplePastAt path old → HasChanged path IsSynced old new
         → HasDoneLog path id format [] 0 (header_len format.version) new }
-    ensures restarted { (path : Path) (id : FileId) (format : LogFileFormat) (records : List Placed)
-        (n m : Directory) (d : Left) → IsRestarted n d m → AreDoneAt path id format records m
+    ensures restarted { (path : Path) (id : FileId) (format : LogFileFormat)
+        (records : List PlacedRecord)
+        (n m : Directory) (d : CrashImage) → IsRestarted n d m → AreDoneAt path id format records m
         × HasSimplePastAt path m }
     ensures cut { (path : Path) (id : FileId) (r : Reading) (size : ℕ) (old cut : Directory)
         → reading id (bytes_at path old) ≡ Some r → AreDoneAt path id r.format r.records old

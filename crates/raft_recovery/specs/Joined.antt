@@ -50,6 +50,7 @@ joined rewritten appended =
     let a = after_batches no_contents appended in
     record {
       entries = λ g.
-          with_entries (entries_before (least_start g (items_of appended)) (r.entries g)) (a.entries g);
+          with_entries (entries_before (least_start g (items_of appended)) (r.entries g))
+          (a.entries g);
       value = λ g k. option_or (a.value g k) (r.value g k);
     }

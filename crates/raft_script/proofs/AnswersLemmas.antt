@@ -3,7 +3,7 @@ use Rattle.std.proofs.Common.{◌≡◌, ◌⊎◌, ◌∙◌, true, false, List
 use Rattle.std.proofs.lemmas.Bool.{cases_Bool}
 use Rattle.raft_env.proofs.MomentsLemmas.{passes_weaker}
 use Rattle.raft_env.specs.Directory.{Directory, Path}
-use Rattle.raft_env.specs.Moments.{Passes}
+use Rattle.raft_env.specs.Moments.{HoldsThroughout}
 use Rattle.raft_env.specs.declared.env.FileSystem.{Ghosts}
 use Rattle.raft_log_engine.specs.Answered.{Answered}
 use Rattle.raft_log_engine.specs.Crash.{LeavesAllowed, LeavesAllowedFrom}
@@ -47,7 +47,7 @@ pub record Keeps (folder : Path) (now : Durability) (n : Directory) : Type 0 whe
 
 -- the moments of one call: those inside it, and the newest of them once it is answered
 module _ (folder : Path) (m : Contents) (p : Progress) (op : Op) (outcome : Outcome) (before answer : Answered) (P : Directory → Type 0) (n : Directory) where
-  pub inside_call : (inside : (x : Directory) → before.failed ≡ false → P x → LeavesInside folder m p op x) → (before.failed ≡ false → Passes before.moments answer.moments n P) → (before.failed ≡ true → answer.moments ≡ before.moments)
+  pub inside_call : (inside : (x : Directory) → before.failed ≡ false → P x → LeavesInside folder m p op x) → (before.failed ≡ false → HoldsThroughout before.moments answer.moments n P) → (before.failed ≡ true → answer.moments ≡ before.moments)
       → (answer.failed ≡ false → (x : Directory) (earlier : List Directory) → answer.moments ≡ x ∷ earlier → let q = progress_after p op outcome in LeavesAllowedFrom q.covered folder m q.batches x) → IsFailing before.failed op outcome answer.failed → IsAllowedInside folder m p op outcome before answer
   inside_call inside passing rests after fails = elim (cases_Bool before.failed) [
     | inl failed ↦ record { added = []; is = rests failed; inside = tt; fails = fails; after = after }

@@ -10,8 +10,8 @@ use Rattle.std.proofs.lemmas.Bool.Decides.{nat_tests}
 use Rattle.std.proofs.lemmas.List.{drop-drop, drop_all, drop_more, length-drop, take_all}
 use Rattle.std.proofs.lemmas.List.Splits.{slice_split_first}
 use Rattle.raft_script.specs.Line.{BeginsWith, Delete, Get, HasNoWord, Put, Reopen, alone, asked_by, delete_by, get_by, is_word, number_in, put_by, sync_by, torn_by, words_in}
-use Rattle.raft_script.specs.declared.line.Left.{Left}
-use Rattle.raft_script.specs.declared.line.Left.TheVariants.{Torn}
+use Rattle.raft_script.specs.declared.line.CrashChoice.{CrashChoice}
+use Rattle.raft_script.specs.declared.line.CrashChoice.TheVariants.{Torn}
 
 -- Words.
 
@@ -184,7 +184,7 @@ module _ (text : List ℕ) (none : (word : List ℕ) (words : List (List ℕ)) �
   pub torn_without_fill : (whole kept : List ℕ) → BeginsWith whole kept text → option_and_then torn_by (words_in whole) ≡ None
   torn_without_fill whole kept begins = ap (option_and_then torn_by) begins ∙ by_words (words_in text) refl
     where
-      by_kept : (o : Option ℕ) → option_and_then {T = ℕ} {U = Left} (λ k. None) o ≡ None
+      by_kept : (o : Option ℕ) → option_and_then {T = ℕ} {U = CrashChoice} (λ k. None) o ≡ None
       by_kept None = refl
       by_kept (Some k) = refl
 

@@ -7,12 +7,12 @@ use Rattle.raft_records.specs.Item.{Batch}
 use Rattle.raft_base.specs.Fault.{fault_code}
 use Rattle.raft_memory.specs.Choice.{RefusesUnless, left_by, NameNoBytes}
 use Rattle.raft_env.specs.Consistent.{AreConsistent}
-use Rattle.raft_env.specs.Directory.{Directory, HasFile, IsRestarted, Leaves, Left, Path, file_at}
+use Rattle.raft_env.specs.Directory.{Directory, HasFile, IsRestarted, Leaves, CrashImage, Path, file_at}
 use Rattle.raft_env.specs.Outcomes.{File, settled}
 use Rattle.raft_memory.specs.Memory.{no_files}
 use Rattle.raft_memory.specs.declared.crash.Choice.{Choice}
 use Rattle.raft_memory.proofs.TornLemmas.{choices_may_leave}
-use Rattle.raft_log_engine.specs.Crash.{KeepsContents, LeavesAllowedFrom, found_after}
+use Rattle.raft_log_engine.specs.Crash.{RecoversContents, LeavesAllowedFrom, contents_after_crash}
 use Rattle.raft_base.specs.declared.errors.Fault.{Fault}
 use Rattle.raft_base.specs.declared.errors.Fault.TheVariants as fault
 use Rattle.raft_log_engine.specs.Image.{IsImageOf}
@@ -45,17 +45,17 @@ refused_after folder m ops n leaves =
     ([], refl, subst (λ (p : Progress). LeavesAllowedFrom p.covered folder m (p.batches ++ []) n) (sym (no_progress (progress_from []) ops)) leaves)
 
 -- a folder without files keeps nothing
-pub nothing_kept : (folder : Path) (n : Directory) → (HasNoLog folder n → (HasFile n folder → ⊥) → KeepsContents folder no_contents [] n) → n ≡ no_files → KeepsContents folder no_contents [] n
+pub nothing_kept : (folder : Path) (n : Directory) → (HasNoLog folder n → (HasFile n folder → ⊥) → RecoversContents folder no_contents [] n) → n ≡ no_files → RecoversContents folder no_contents [] n
 nothing_kept folder n keeps is =
     let absent : (path : Path) → file_at n path ≡ None = λ path. ap (λ (x : Directory). file_at x path) is ∙ get-empty _ path in
     keeps (absent _) (λ found. let clash = subst IsSome (absent folder) found in absurd cc)
 
 -- what a run shows that began with no files
-pub run_shown : (dir : Path) (before n : Directory) (ops : List Op) (outcomes : List Outcome) (failed_at : Option ℕ) → (HasNoLog dir before → (HasFile before dir → ⊥) → KeepsContents dir no_contents [] before) → before ≡ no_files
-    → (KeepsContents dir (contents_at dir before) [] before → RunsOver dir (contents_at dir before) ops outcomes failed_at n) → RunsOver dir no_contents ops outcomes failed_at n
+pub run_shown : (dir : Path) (before n : Directory) (ops : List Op) (outcomes : List Outcome) (failed_at : Option ℕ) → (HasNoLog dir before → (HasFile before dir → ⊥) → RecoversContents dir no_contents [] before) → before ≡ no_files
+    → (RecoversContents dir (contents_at dir before) [] before → RunsOver dir (contents_at dir before) ops outcomes failed_at n) → RunsOver dir no_contents ops outcomes failed_at n
 run_shown dir before n ops outcomes failed_at keeps none ran =
     let empty = contents_at-no_files dir before none in
-    let kept = subst (λ (m : Contents). KeepsContents dir m [] before) (sym empty) (nothing_kept dir before keeps none) in
+    let kept = subst (λ (m : Contents). RecoversContents dir m [] before) (sym empty) (nothing_kept dir before keeps none) in
     subst (λ (m : Contents). RunsOver dir m ops outcomes failed_at n) empty (ran kept)
 
 same_opened : {m m' : Contents} (opened : Result Image Fault) → m ≡ m' → IfOk opened (λ image. IsImageOf image.groups.items m) → IfOk opened (λ image. IsImageOf image.groups.items m')
@@ -63,7 +63,7 @@ same_opened (Ok image) same is = subst (IsImageOf image.groups.items) same is
 same_opened (Err e) same is = is
 
 -- the image of what a crash left
-pub image_restarted : (dir folder : Path) (n m : Directory) (d : Left) (opened : Result Image Fault) → dir ≡ folder → contents_at folder m ≡ found_after folder n d → IfOk opened (λ image. IsImageOf image.groups.items (contents_at dir m)) → IfOk opened (λ image. IsImageOf image.groups.items (found_after folder n d))
+pub image_restarted : (dir folder : Path) (n m : Directory) (d : CrashImage) (opened : Result Image Fault) → dir ≡ folder → contents_at folder m ≡ contents_after_crash folder n d → IfOk opened (λ image. IsImageOf image.groups.items (contents_at dir m)) → IfOk opened (λ image. IsImageOf image.groups.items (contents_after_crash folder n d))
 image_restarted dir folder n m d opened same found is = same_opened opened (ap (λ (p : Path). contents_at p m) same ∙ found) is
 
 -- Why the opening after a crash is refused.
@@ -73,7 +73,7 @@ if_err P Q (Ok x) f holds = tt
 if_err P Q (Err e) f holds = f e holds
 
 -- a file that stands after a crash stood before it
-restarted_stood : (path : Path) (n m : Directory) (d : Left) → IsRestarted n d m → HasFile m path → HasFile n path
+restarted_stood : (path : Path) (n m : Directory) (d : CrashImage) → IsRestarted n d m → HasFile m path → HasFile n path
 restarted_stood path n m d restarted there = sym (by_file (file_at n path)) ∙ ap is_some (sym (restarted.each path)) ∙ there
   where
     by_file : (found : Option File) → is_some (option_map (λ _. settled (d path)) found) ≡ is_some found
@@ -81,7 +81,7 @@ restarted_stood path n m d restarted there = sym (by_file (file_at n path)) ∙ 
     by_file (Some file) = refl
 
 -- an opening of files that a crash left sound
-pub opened_outside : (mode again : RecoveryMode) (folder dir : Path) (n m : Directory) (d : Left) (opened : Result Image Fault) → again ≡ mode → dir ≡ folder → (IsDetectableIn folder n d → (mode ≡ AbsoluteConsistency → ⊥) → IsOpenableIn mode folder m) → (IsDetectableIn folder n d → HasFile m folder → ⊥)
+pub opened_outside : (mode again : RecoveryMode) (folder dir : Path) (n m : Directory) (d : CrashImage) (opened : Result Image Fault) → again ≡ mode → dir ≡ folder → (IsDetectableIn folder n d → (mode ≡ AbsoluteConsistency → ⊥) → IsOpenableIn mode folder m) → (IsDetectableIn folder n d → HasFile m folder → ⊥)
     → IfErr opened (λ e. IsOpenableIn again dir m → (HasFile m dir → ⊥) → IsStorageOrMemory e) → IsDetectableIn folder n d → (mode ≡ AbsoluteConsistency → ⊥) → IfErr opened IsStorageOrMemory
 opened_outside mode again folder dir n m d opened mode_is dir_is opens no_file refused detectable tolerant =
     let openable : IsOpenableIn again dir m = subst (λ (x : RecoveryMode). IsOpenableIn x dir m) (sym mode_is) (subst (λ (p : Path). IsOpenableIn mode p m) (sym dir_is) (opens detectable tolerant)) in
@@ -89,7 +89,7 @@ opened_outside mode again folder dir n m d opened mode_is dir_is opens no_file r
     if_err _ _ opened (λ e outside. outside openable none) refused
 
 -- an opening of files that a crash left, in whose folder's place no file stood
-pub opened_log : (mode again : RecoveryMode) (folder dir : Path) (n m : Directory) (d : Left) (opened : Result Image Fault) → again ≡ mode → dir ≡ folder → IsRestarted n d m → (HasFile n folder → ⊥) → ((e : Fault) → HasDamageIn mode folder m e → HasLeftDamage mode folder n d e)
+pub opened_log : (mode again : RecoveryMode) (folder dir : Path) (n m : Directory) (d : CrashImage) (opened : Result Image Fault) → again ≡ mode → dir ≡ folder → IsRestarted n d m → (HasFile n folder → ⊥) → ((e : Fault) → HasDamageIn mode folder m e → HasLeftDamage mode folder n d e)
     → IfErr opened (λ e. (HasFile m dir → ⊥) → IsLogRefusal again dir m e) → IfErr opened (IsLeftRefusal mode folder n d)
 opened_log mode again folder dir n m d opened mode_is dir_is restarted none left_damage refused =
     if_err _ _ opened (λ e cause.

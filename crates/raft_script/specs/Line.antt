@@ -6,8 +6,8 @@ use Rattle.std.specs.Str.{all_ascii_digits, bytes_eq}
 use Rattle.std.specs.Str.Parse.{digits_value}
 use Rattle.raft_script.specs.declared.program.Ended.{Ended}
 use Rattle.raft_script.specs.declared.program.Ended.TheVariants as ended
-use Rattle.raft_script.specs.declared.line.Left.{Left}
-use Rattle.raft_script.specs.declared.line.Left.TheVariants as left
+use Rattle.raft_script.specs.declared.line.CrashChoice.{CrashChoice}
+use Rattle.raft_script.specs.declared.line.CrashChoice.TheVariants as left
 use Rattle.raft_script.specs.declared.line.Call.{Call}
 use Rattle.raft_script.specs.declared.line.Call.TheVariants as call
 use Rattle.raft_script.specs.declared.line.Line.{Line}
@@ -25,7 +25,7 @@ pub data Asked : Type 0 where
   Get : (group : ℕ) (key : List ℕ) → Asked
   Sync : Asked
   Reopen : Asked
-  Crash : (left : Left) → Asked
+  Crash : (left : CrashChoice) → Asked
 
 -- a word is of printable characters
 abbrev pub is_word : List ℕ → Bool
@@ -40,7 +40,8 @@ words_in (c ∷ cs) =
 
 -- a word of decimal digits, below 2^64
 abbrev pub number_in : List ℕ → Option ℕ
-number_in word = if all_ascii_digits word && nat_lt (digits_value 10 word) (2 ^ 64) then Some (digits_value 10 word) else None
+number_in word = if all_ascii_digits word && nat_lt (digits_value 10 word) (2 ^ 64) then Some
+    (digits_value 10 word) else None
 
 -- this, where no word follows
 abbrev pub alone : {T : Type 0} → T → List (List ℕ) → Option T
@@ -54,7 +55,8 @@ sync_by (word ∷ words) = if bytes_eq word (codes "sync") then alone true words
 
 -- put G K V [sync]
 abbrev pub put_by : List (List ℕ) → Option Asked
-put_by (group ∷ key ∷ value ∷ words) = option_and_then (λ g. option_map (λ sync. Put g key value sync) (sync_by words)) (number_in group)
+put_by (group ∷ key ∷ value ∷ words) = option_and_then (λ g. option_map
+    (λ sync. Put g key value sync) (sync_by words)) (number_in group)
 put_by _ = None
 
 -- del G K [sync]
@@ -69,13 +71,14 @@ get_by (group ∷ key ∷ words) = option_and_then (λ g. alone (Get g key) word
 get_by _ = None
 
 -- torn KEPT FILL, where FILL is a byte
-abbrev pub torn_by : List (List ℕ) → Option Left
+abbrev pub torn_by : List (List ℕ) → Option CrashChoice
 torn_by (kept ∷ fill ∷ words) =
-    option_and_then (λ k. option_and_then (λ f. if nat_lt f 256 then alone (left.Torn k f) words else None) (number_in fill)) (number_in kept)
+    option_and_then (λ k. option_and_then (λ f. if nat_lt f 256 then alone
+    (left.Torn k f) words else None) (number_in fill)) (number_in kept)
 torn_by _ = None
 
 -- all, synced, torn KEPT FILL
-abbrev pub left_by : List (List ℕ) → Option Left
+abbrev pub left_by : List (List ℕ) → Option CrashChoice
 left_by [] = None
 left_by (word ∷ words) =
     if bytes_eq word (codes "all") then alone left.All words

@@ -20,7 +20,8 @@ use Rattle.raft_script.specs.declared.operation.Outcome.TheVariants.{Size, Done,
 
 -- the item of an act; a key that begins with two underscores can't be put
 abbrev pub item_of_act : Act → Option Item
-item_of_act (act.Put group key value) = if is_internal_key key.items then None else Some (record { group = group; content = Put key.items value.items })
+item_of_act (act.Put group key value) = if is_internal_key key.items then None else Some
+    (record { group = group; content = Put key.items value.items })
 item_of_act (act.Delete group key) = Some (record { group = group; content = Delete key.items })
 
 -- an item before others, where there are all of them
@@ -122,7 +123,8 @@ IsAnswer m (Write acts sync) (Size answer) =
     MatchResult answer (IsWritten acts.items) (IsWriteRefusal acts.items)
 IsAnswer m Sync (Done answer) = MatchResult answer (λ _. Unit {0}) IsSyncRefusal
 IsAnswer m (Get group key) (Value answer) =
-    MatchResult answer (λ value. option_map (λ v. v.items) value ≡ m.value group key.items) IsGetRefusal
+    MatchResult answer (λ value. option_map (λ v. v.items) value
+    ≡ m.value group key.items) IsGetRefusal
 IsAnswer m _ _ = ⊥
 
 -- each operation is answered at the contents that those before it leave

@@ -5,9 +5,9 @@ use Rattle.raft_base.specs.declared.errors.Fault.{Fault}
 use Rattle.raft_memory.specs.Choice.{left_by}
 use Rattle.raft_memory.specs.Memory.{memory_directory, memory_moments, no_files, stop_of}
 use Rattle.raft_memory.specs.declared.memory.MemoryFileSystem.{MemoryFileSystem}
-use Rattle.raft_env.specs.Directory.{Directory, HasFile, Leaves, Left, Path}
+use Rattle.raft_env.specs.Directory.{Directory, HasFile, Leaves, CrashImage, Path}
 use Rattle.raft_memory.specs.declared.crash.Choice.{Choice}
-use Rattle.raft_log_engine.specs.Crash.{KeepsContents, found_after}
+use Rattle.raft_log_engine.specs.Crash.{RecoversContents, contents_after_crash}
 use Rattle.raft_log_engine.specs.Image.{IsImageOf}
 use Rattle.raft_script.specs.Durability.{LeavesAllowedAfter}
 use Rattle.raft_pipes.specs.Folder.{IsDetectableIn}
@@ -30,7 +30,7 @@ pub record AreNotAsked (folder : Path) (m : Contents) (files : Directory) (outco
     (failed_at : Option ℕ) : Type 0 where
   pub none : outcomes ≡ []
   pub stands : failed_at ≡ None
-  pub files_keep : KeepsContents folder m [] files
+  pub files_keep : RecoversContents folder m [] files
 
 -- operations over a folder that holds these contents, from an opening on: the files as they were
 -- left
@@ -58,7 +58,7 @@ abbrev pub IsLogRefusal : RecoveryMode → Path → Directory → Fault → Type
 IsLogRefusal mode folder files e = IsStorageOrMemory e ⊎ HasDamageIn mode folder files e
 
 -- .. of what a crash left of it
-abbrev pub IsLeftRefusal : RecoveryMode → Path → Directory → Left → Fault → Type 0
+abbrev pub IsLeftRefusal : RecoveryMode → Path → Directory → CrashImage → Fault → Type 0
 IsLeftRefusal mode folder files d e = IsStorageOrMemory e ⊎ HasLeftDamage mode folder files d e
 
 -- files in memory that were empty, with this stop for the first opening, and the same once the
@@ -83,7 +83,7 @@ pub record IsTrialOf (mode : RecoveryMode) (folder : Path) (ops : List Op) (stop
   -- the opening found what the choices leave
   pub found : let files = memory_directory last in
       IfOk t.opened (λ image.
-      IsImageOf image.groups.items (found_after folder files (left_by choices files)))
+      IsImageOf image.groups.items (contents_after_crash folder files (left_by choices files)))
   -- a tolerant one is not refused for what they leave, where its damage can be told
   pub refused : let files = memory_directory last in
       IsDetectableIn folder files (left_by choices files)

@@ -13,7 +13,7 @@ pub(crate) enum Line<'a> {
     Nothing,
     Call(Call<'a>),
     Reopen,
-    Crash(Left),
+    Crash(CrashChoice),
 }
 
 /// A call of the engine, as the line spells it.
@@ -66,7 +66,7 @@ impl Call<'_> {
 
 /// What a crash leaves of each file.
 #[derive(Clone, Copy, Debug, PartialEq, Eq)]
-pub(crate) enum Left {
+pub(crate) enum CrashChoice {
     All,
     Synced,
     /// The bytes now, but of the places that were touched since the last sync only so many, the first ones, hold them;
@@ -108,16 +108,16 @@ fn parse_asked<'a>(verb: &[u8], rest: &'a [u8]) -> Option<Line<'a>>
     }
 }
 
-fn parse_left(rest: &[u8]) -> Option<Left>
+fn parse_left(rest: &[u8]) -> Option<CrashChoice>
     ensures value { result ≡ option_and_then left_by (words_in rest.now) }
 {
     let (word, rest) = split_word(rest)?;
     if word == b"all".as_slice() {
         ends(rest)?;
-        Some(Left::All)
+        Some(CrashChoice::All)
     } else if word == b"synced".as_slice() {
         ends(rest)?;
-        Some(Left::Synced)
+        Some(CrashChoice::Synced)
     } else if word == b"torn".as_slice() {
         parse_torn(rest)
     } else {
@@ -125,13 +125,13 @@ fn parse_left(rest: &[u8]) -> Option<Left>
     }
 }
 
-fn parse_torn(rest: &[u8]) -> Option<Left>
+fn parse_torn(rest: &[u8]) -> Option<CrashChoice>
     ensures value { result ≡ option_and_then torn_by (words_in rest.now) }
 {
     let (kept, rest) = parse_number(rest)?;
     let (fill, rest) = parse_number(rest)?;
     ends(rest)?;
-    Some(Left::Torn(kept, u8::try_from(fill).ok()?))
+    Some(CrashChoice::Torn(kept, u8::try_from(fill).ok()?))
 }
 
 fn parse_get(rest: &[u8]) -> Option<Call<'_>>
@@ -159,7 +159,8 @@ fn parse_put(rest: &[u8]) -> Option<Call<'_>>
 }
 
 fn parse_delete(rest: &[u8]) -> Option<Call<'_>>
-    ensures value { option_map asked_of_call result ≡ option_and_then delete_by (words_in rest.now) }
+    ensures value { option_map asked_of_call result ≡ option_and_then delete_by
+        (words_in rest.now) }
 {
     let (group, rest) = parse_number(rest)?;
     let (key, rest) = split_word(rest)?;

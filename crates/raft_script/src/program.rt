@@ -4,7 +4,7 @@ ghost use Rattle.raft_script.specs.Line.{EndsOn, GoesOnOrEnds, IsNextLine, IsRea
 ghost use Rattle.raft_script.specs.Program.{IsAnswered};
 
 use crate::answer::{Answer, print};
-use crate::line::{Call, Left, Line, parse_line};
+use crate::line::{Call, CrashChoice, Line, parse_line};
 use crate::operation::Outcome;
 use crate::runs::step;
 use raft_env::FileSystem;
@@ -159,7 +159,7 @@ fn crash(
     alloc: Global,
     engine: &mut Option<MemoryEngine>,
     opened: MemoryEngine,
-    left: &Left,
+    left: &CrashChoice,
 ) -> Result<Answer, AllocError> {
     let config = settings(alloc)?;
     match crashed(alloc, opened.give_up(), left) {
@@ -198,7 +198,7 @@ fn answer_opening<F: FileSystem + Drop>(
 fn crashed(
     alloc: Global,
     mut files: MemoryFileSystem,
-    left: &Left,
+    left: &CrashChoice,
 ) -> Result<MemoryFileSystem, Fault> {
     let count = count_files(alloc, &mut files)?;
     let mut choices = Vec::with_capacity(alloc, count)?;
@@ -215,11 +215,11 @@ fn count_files<F: FileSystem>(alloc: Global, files: &mut F) -> Result<usize, Fau
     }
 }
 
-fn choice_of(left: &Left) -> Choice {
+fn choice_of(left: &CrashChoice) -> Choice {
     match left {
-        Left::All => Choice::All,
-        Left::Synced => Choice::Synced,
-        Left::Torn(kept, fill) => Choice::Torn(*kept as usize, *fill),
+        CrashChoice::All => Choice::All,
+        CrashChoice::Synced => Choice::Synced,
+        CrashChoice::Torn(kept, fill) => Choice::Torn(*kept as usize, *fill),
     }
 }
 

@@ -7,7 +7,7 @@ ghost use Rattle.raft_memory.specs.Choice.{NameNoBytes};
 ghost use Rattle.raft_memory.specs.Memory.{memory_directory, memory_moments, no_files, stop_of};
 ghost use Rattle.raft_log_engine.specs.Image.{IsImageOf};
 ghost use Rattle.raft_log_engine.specs.Contents.{contents_at};
-ghost use Rattle.raft_log_engine.specs.Crash.{KeepsContents};
+ghost use Rattle.raft_log_engine.specs.Crash.{RecoversContents};
 ghost use Rattle.raft_pipes.specs.Queue.{IsOpenableIn};
 ghost use Rattle.raft_script.specs.Run.{IsStorageOrMemory};
 ghost use Rattle.raft_script.specs.Trial.{AreNotAllowed, IsLogRefusal, IsTrialOf, RunsOver};
@@ -73,7 +73,7 @@ fn run_over<F: FileSystem + Drop>(
 ) -> Result<(RunReport, F), Fault>
     ensures ok { IfOk result (λ r. let dir = string_bytes config.dir in
         let found = contents_at dir (F.directory files) in
-        KeepsContents dir found [] (F.directory files)
+        RecoversContents dir found [] (F.directory files)
         → RunsOver dir found ops.now r.0.outcomes.items r.0.failed_at (F.directory r.1)) }
     ensures any_moment { IfOk result (λ r.
         (added : List Directory) × (F.moments r.1 ≡ added ++ F.moments files)) }

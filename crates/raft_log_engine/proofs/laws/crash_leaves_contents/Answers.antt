@@ -1,8 +1,8 @@
 use Rattle.std.proofs.Common.{[], ap, refl, subst}
-use Rattle.raft_pipes.specs.Folder.{left_in}
+use Rattle.raft_pipes.specs.Folder.{readable_after_crash}
 use Rattle.raft_files.specs.Records.{as_it_is}
 use Rattle.raft_log_engine.specs.Contents.{recovered}
-use Rattle.raft_log_engine.specs.Crash.{IsAllowedFrom, found_after}
+use Rattle.raft_log_engine.specs.Crash.{IsAllowedFrom, contents_after_crash}
 use Rattle.raft_log_engine.proofs.AllowedLemmas.{contents_folder, contents_found, contents_left, keeps_all}
 use Rattle.raft_log_engine.proofs.laws.crash_leaves_contents.Goals as goal
 
@@ -11,7 +11,7 @@ returns-clause-left c = contents_left
 
 pub returns-clause-restarted : goal.returns-clause-restarted
 returns-clause-restarted c = λ folder n m d restarted sound.
-    keeps_all folder (left_in folder n d) (found_after folder n d) m refl (c.crash_leaves_a_prefix.ensures.restarted folder n m d restarted sound)
+    keeps_all folder (readable_after_crash folder n d) (contents_after_crash folder n d) m refl (c.crash_leaves_a_prefix.ensures.restarted folder n m d restarted sound)
 
 pub returns-clause-found : goal.returns-clause-found
 returns-clause-found c = λ folder n m d restarted. ap recovered (c.crash_leaves_a_prefix.ensures.contents folder n m d restarted)

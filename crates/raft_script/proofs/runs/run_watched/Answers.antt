@@ -4,7 +4,7 @@ use Rattle.std.proofs.lemmas.List.{take_all}
 use Rattle.std.proofs.lemmas.List.Elements.{All-get_or}
 use Rattle.std.proofs.lemmas.Option.{slice_get_read}
 use Rattle.raft_env.specs.Directory.{Directory, Path}
-use Rattle.raft_env.specs.Moments.{Passes}
+use Rattle.raft_env.specs.Moments.{HoldsThroughout}
 use Rattle.raft_log_engine.specs.Crash.{LeavesAllowed}
 use Rattle.raft_script.specs.Durability.{Answers, AreAllowedInside, Progress, progress_after, progress_after_all, progress_from}
 use Rattle.raft_log_engine.specs.Durability.{durability_of}
@@ -61,7 +61,7 @@ loop-op-preserved g c =
     let same : directory_of new ≡ x = cc now.1 in subst (λ (y : Directory). LeavesAllowed (folder_of begun) (durable_of new) (unsynced_of new) y) same leaves in
     let inside = λ (asks : Answers flight old new). inside_call (folder_of begun) m p op outcome (note_of old) (note_of new) (LeavesAllowed (folder_of begun) (durable_of old) (unsynced_of old ++ flight)) (directory_of new)
     (λ x alive allowed. inside_here m p c.args.ops.now c.loop-op.op-index c.loop-op.failed_at c.if-stood.failed_at (durability_of old) kept.4 op outcome flight (durability_of new) next (folder_of begun) x does.may_be holds alive allowed)
-    (λ alive. subst (λ (f : Path). Passes (moments_of old) (moments_of new) (directory_of new) (LeavesAllowed f (durable_of old) (unsynced_of old ++ flight))) kept.3 (asks.moments alive)) asks.rests
+    (λ alive. subst (λ (f : Path). HoldsThroughout (moments_of old) (moments_of new) (directory_of new) (LeavesAllowed f (durable_of old) (unsynced_of old ++ flight))) kept.3 (asks.moments alive)) asks.rests
     (λ stands x earlier moments. leaves_standing (folder_of begun) m (progress_after p op outcome) c.args.ops.now c.if-stood.failed_at (durability_of new) way stands x (newest x earlier moments)) step.failed in
     let allowed = allowed_more ops outcomes op outcome begun old new kept.5 flight does.answers inside in
     let way_more = subst (λ (q : Progress). IsUnderWay m q c.args.ops.now c.if-stood.failed_at (durability_of new)) (sym (progress_more first ops outcomes op outcome kept.0.len)) way in

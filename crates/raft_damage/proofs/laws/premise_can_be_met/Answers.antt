@@ -2,7 +2,7 @@ use Rattle.raft_memory.proofs.TornLemmas.{choices_may_leave}
 use Rattle.raft_damage.proofs.PremiseLemmas.{records_told, records_torn, log_whole}
 use Rattle.raft_damage.proofs.PastLemmas.{own_told, now_is_read, synced_is_read}
 use Rattle.raft_damage.proofs.ToldLemmas.{broken_zeros}
-use Rattle.raft_damage.proofs.laws.damage_can_be_told.Goals as goal
+use Rattle.raft_damage.proofs.laws.premise_can_be_met.Goals as goal
 
 pub returns-clause-allowed : goal.returns-clause-allowed
 returns-clause-allowed c = choices_may_leave
