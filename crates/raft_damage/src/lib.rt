@@ -1,4 +1,4 @@
-//! The premise on what a crash leaves of a log file can be met: laws alone, that no other library stands on.
+//! The premise on what a crash leaves of a log file can be met: laws alone.
 #![tactic(auto)]
 
 pub mod laws;

@@ -18,7 +18,8 @@ use Rattle.raft_base.specs.declared.errors.Fault.TheVariants as fault
 use Rattle.raft_log_engine.specs.Image.{IsImageOf}
 use Rattle.raft_log_engine.specs.declared.engine.image.Image.{Image}
 use Rattle.raft_log_engine.specs.Contents.{contents_at}
-use Rattle.raft_pipes.specs.Folder.{HasNoLog, IsDetectableIn}
+use Rattle.raft_pipes.specs.Done.{IsDoneIn}
+use Rattle.raft_pipes.specs.Folder.{HasNoLog, IsDetectableIn, log_path}
 use Rattle.raft_script.specs.Durability.{LeavesAllowedAfter, Progress, progress_after_all, progress_from}
 use Rattle.raft_pipes.specs.Queue.{HasDamageIn, HasLeftDamage, IsOpenableIn}
 use Rattle.raft_script.specs.Run.{IsStorageOrMemory}
@@ -43,6 +44,10 @@ no_progress p (op ∷ ops) = refl
 pub refused_after : (folder : Path) (m : Contents) (ops : List Op) (n : Directory) → LeavesAllowedFrom 0 folder m [] n → LeavesAllowedAfter None folder m [] ops [] n
 refused_after folder m ops n leaves =
     ([], refl, subst (λ (p : Progress). LeavesAllowedFrom p.covered folder m (p.batches ++ []) n) (sym (no_progress (progress_from []) ops)) leaves)
+
+-- of a folder without files no refused call brought a record
+pub none_done : (folder : Path) (n : Directory) → (HasNoLog folder n → IsDoneIn folder n) → n ≡ no_files → IsDoneIn folder n
+none_done folder n done is = done (ap (λ (x : Directory). file_at x (log_path folder)) is ∙ get-empty _ (log_path folder))
 
 -- a folder without files keeps nothing
 pub nothing_kept : (folder : Path) (n : Directory) → (HasNoLog folder n → (HasFile n folder → ⊥) → RecoversContents folder no_contents [] n) → n ≡ no_files → RecoversContents folder no_contents [] n

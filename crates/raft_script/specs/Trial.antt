@@ -2,14 +2,16 @@
 use Rattle.std.specs.Prelude.{◌≡◌, ◌⊎◌, ℕ, false, List, [], ◌++◌, Option, None, IfOk, IfErr}
 use Rattle.raft_records.specs.Contents.{Contents, no_contents}
 use Rattle.raft_base.specs.declared.errors.Fault.{Fault}
-use Rattle.raft_memory.specs.Choice.{left_by}
+use Rattle.raft_memory.specs.Choice.{AreWhole, left_by}
 use Rattle.raft_memory.specs.Memory.{memory_directory, memory_moments, no_files, stop_of}
 use Rattle.raft_memory.specs.declared.memory.MemoryFileSystem.{MemoryFileSystem}
-use Rattle.raft_env.specs.Directory.{Directory, HasFile, Leaves, CrashImage, Path}
+use Rattle.raft_env.specs.Consistent.{AreConsistent}
+use Rattle.raft_env.specs.Directory.{Directory, HasFile, Leaves, Left, Path}
 use Rattle.raft_memory.specs.declared.crash.Choice.{Choice}
 use Rattle.raft_log_engine.specs.Crash.{RecoversContents, contents_after_crash}
 use Rattle.raft_log_engine.specs.Image.{IsImageOf}
 use Rattle.raft_script.specs.Durability.{LeavesAllowedAfter}
+use Rattle.raft_pipes.specs.Done.{HasSimplePastIn}
 use Rattle.raft_pipes.specs.Folder.{IsDetectableIn}
 use Rattle.raft_pipes.specs.Queue.{HasDamageIn, HasLeftDamage}
 use Rattle.raft_script.specs.Run.{AreAnswers, IsFailurePlace, IsStorageOrMemory}
@@ -70,6 +72,13 @@ pub record IsStopped (stop : Option ℕ) (first last : MemoryFileSystem) : Type 
   pub added : List Directory
   pub later : memory_moments last ≡ added ++ memory_moments first
 
+-- where only writes failed on the log of consistent files, choices that leave each file whole, as it
+-- is now or as it was synced, leave detectable damage of it
+abbrev pub LeavesDetectable : Path → Directory → Type 0
+LeavesDetectable folder files = HasSimplePastIn folder files → AreConsistent files
+    → (choices : List Choice) → AreWhole choices
+    → ∥ IsDetectableIn folder files (left_by choices files) ∥₁
+
 -- operations over files that were empty, then a crash by these choices, then an opening in this
 -- mode
 pub record IsTrialOf (mode : RecoveryMode) (folder : Path) (ops : List Op) (stop : Option ℕ)
@@ -80,6 +89,11 @@ pub record IsTrialOf (mode : RecoveryMode) (folder : Path) (ops : List Op) (stop
   pub ran : RunsOver folder no_contents ops t.outcomes.items t.failed_at (memory_directory last)
   -- storage may leave of them what the choices say
   pub left : let files = memory_directory last in Leaves files (left_by choices files)
+  -- where an engine answered and none failed, choices that leave each file whole, as it is now or as
+  -- it was synced, leave detectable damage
+  pub detectable : t.failed_at ≡ None → (t.outcomes.items ≡ [] → ⊥) → AreWhole choices
+      → let files = memory_directory last in
+      ∥ IsDetectableIn folder files (left_by choices files) ∥₁
   -- the opening found what the choices leave
   pub found : let files = memory_directory last in
       IfOk t.opened (λ image.

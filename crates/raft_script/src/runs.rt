@@ -4,7 +4,7 @@ ghost use Rattle.raft_records.specs.Contents.{Contents, after_batches};
 ghost use Rattle.raft_base.specs.Fault.{fault_code};
 ghost use Rattle.raft_records.specs.Item.{Item};
 ghost use Rattle.raft_log_engine.specs.Crash.{LeavesAllowed};
-ghost use Rattle.raft_log_engine.specs.Engine.{contents_of, directory_of, durable_of, folder_of, has_failed, refusals_of, unsynced_of};
+ghost use Rattle.raft_log_engine.specs.Engine.{begun_of, contents_of, directory_of, durable_of, folder_of, has_failed, refusals_of, unsynced_of};
 ghost use Rattle.raft_script.specs.Durability.{AreAllowedInside, Does, HaveRun, Runs};
 ghost use Rattle.raft_script.specs.Run.{IsAnswer, IsUnbuilt, IsFailing, IsUnasked, Refuses, accepted_of, batch_of_acts, item_of_act};
 
@@ -34,7 +34,8 @@ pub(crate) struct RunReport {
 ///
 /// After the operations the accepted batches that are covered are durable, and no more, and the others stand
 /// unsynced. At least as many calls as answer `Io` were refused by storage. Where all operations are gets and writes
-/// of acts without a batch, the engine stays as it was.
+/// of acts without a batch, the engine stays as it was. The settings' folder stays, and so does the engine's note of the
+/// files that its opening found.
 pub fn run<F: FileSystem>(
     alloc: Global,
     engine: &mut Engine<F>,
@@ -47,6 +48,7 @@ pub fn run<F: FileSystem>(
         (unsynced_of engine.new) (directory_of engine.new) }
     ensures unchanged { All IsUnasked ops.now → engine.new ≡ engine.old }
     ensures folder { folder_of engine.new ≡ folder_of engine.old }
+    ensures others { begun_of engine.new ≡ begun_of engine.old }
     ensures err { OnErr result (engine.new ≡ engine.old) }
     ensures cause { IfErr result (λ e. e ≡ Fault.Memory) }
 {
@@ -67,6 +69,7 @@ pub(crate) fn run_watched<F: FileSystem>(
         (unsynced_of engine.new) (directory_of engine.new) }
     ensures unchanged { All IsUnasked ops.now → engine.new ≡ engine.old }
     ensures folder { folder_of engine.new ≡ folder_of engine.old }
+    ensures others { begun_of engine.new ≡ begun_of engine.old }
     ensures err { OnErr result (engine.new ≡ engine.old) }
     ensures cause { IfErr result (λ e. e ≡ Fault.Memory) }
 {
@@ -99,6 +102,7 @@ pub(crate) fn step<F: FileSystem>(alloc: Global, engine: &mut Engine<F>, op: &Op
         ≡ after_batches (contents_of engine.old) (accepted_of op.now result) }
     ensures progress { Does op.now result engine.old engine.new }
     ensures folder { folder_of engine.new ≡ folder_of engine.old }
+    ensures others { begun_of engine.new ≡ begun_of engine.old }
 {
     match op {
         Op::Write(acts, sync) => match build(alloc, acts) {

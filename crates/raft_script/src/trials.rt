@@ -1,5 +1,5 @@
 //! Operations over files in memory, then a crash, then an opening.
-ghost use Rattle.std.specs.Prelude.{◌≡◌, ◌⊎◌, List, [], ◌∷◌, ◌++◌, IfOk, IfErr};
+ghost use Rattle.std.specs.Prelude.{◌≡◌, ◌⊎◌, None, List, [], ◌∷◌, ◌++◌, IfOk, IfErr};
 ghost use Rattle.std.specs.String.{string_bytes};
 ghost use Rattle.raft_base.specs.Fault.{fault_code};
 ghost use Rattle.raft_env.specs.Directory.{Directory, HasFile};
@@ -7,18 +7,19 @@ ghost use Rattle.raft_memory.specs.Choice.{NameNoBytes};
 ghost use Rattle.raft_memory.specs.Memory.{memory_directory, memory_moments, no_files, stop_of};
 ghost use Rattle.raft_log_engine.specs.Image.{IsImageOf};
 ghost use Rattle.raft_log_engine.specs.Contents.{contents_at};
-ghost use Rattle.raft_log_engine.specs.Crash.{RecoversContents};
+ghost use Rattle.raft_log_engine.specs.Crash.{KeepsContents};
+ghost use Rattle.raft_pipes.specs.Done.{IsDoneIn};
 ghost use Rattle.raft_pipes.specs.Queue.{IsOpenableIn};
 ghost use Rattle.raft_script.specs.Run.{IsStorageOrMemory};
-ghost use Rattle.raft_script.specs.Trial.{AreNotAllowed, IsLogRefusal, IsTrialOf, RunsOver};
+ghost use Rattle.raft_script.specs.Trial.{AreNotAllowed, IsLogRefusal, IsTrialOf, LeavesDetectable, RunsOver};
 
 use crate::operation::{Op, Trial};
 use crate::runs::{RunReport, run_watched};
 use raft_env::FileSystem;
-use raft_log_engine::laws::crash_leaves_contents;
+use raft_log_engine::laws::{crash_leaves_contents, the_damage_of_an_engine_is_detectable};
 use raft_log_engine::{Config, Engine, Image};
 use raft_memory::{Choice, MemoryFileSystem};
-use raft_pipes::laws::crash_leaves_a_prefix;
+use raft_pipes::laws::{a_queue_stays_done, crash_leaves_a_prefix};
 use raft_records::Fault;
 use std::alloc::Global;
 
@@ -26,7 +27,8 @@ use std::alloc::Global;
 /// change files are counted from 1, and from the one at `stop` on each is refused; the opening after the crash has no
 /// stop. The choices say what the crash leaves; bytes that storage doesn't allow are refused, and no others. Where
 /// the damage of what it leaves can be told, a tolerant opening is refused by storage or for want of memory alone; any
-/// other opening only for these, or for what is left of the log.
+/// other opening only for these, or for what is left of the log. It can be told where an engine answered and didn't
+/// fail, and the choices leave each file whole, as it is at the crash or as it was synced.
 pub fn trial(
     alloc: Global,
     config: Config,
@@ -40,6 +42,7 @@ pub fn trial(
         ⊎ ((fault_code e ≡ 1) × (NameNoBytes choices.now → ⊥)
         × AreNotAllowed (string_bytes config.dir) ops.now choices.now)) }
 {
+    a_queue_stays_done();
     crash_leaves_a_prefix();
     crash_leaves_contents();
     let again = config.clone()?;
@@ -75,6 +78,10 @@ fn run_over<F: FileSystem + Drop>(
         let found = contents_at dir (F.directory files) in
         RecoversContents dir found [] (F.directory files)
         → RunsOver dir found ops.now r.0.outcomes.items r.0.failed_at (F.directory r.1)) }
+    ensures crash { IfOk result (λ r.
+        IsDoneIn (string_bytes config.dir) (F.directory files) → r.0.failed_at ≡ None
+        → (r.0.outcomes.items ≡ [] → ⊥)
+        → LeavesDetectable (string_bytes config.dir) (F.directory r.1)) }
     ensures any_moment { IfOk result (λ r.
         (added : List Directory) × (F.moments r.1 ≡ added ++ F.moments files)) }
     ensures cause { IfErr result (λ e. e ≡ Fault.Memory) }
@@ -83,6 +90,7 @@ fn run_over<F: FileSystem + Drop>(
     match Engine::open_in_order(alloc, config, files) {
         Ok(mut engine) => {
             let ran = run_watched(alloc, &mut engine, ops)?;
+            the_damage_of_an_engine_is_detectable(&engine);
             Ok((ran, engine.give_up()))
         }
         Err(refused) => {

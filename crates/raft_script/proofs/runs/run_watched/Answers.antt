@@ -78,6 +78,7 @@ loop-op-preserved g c =
       rw c.in_ok-push.ensures.items (rose_more outcomes outcome (refusals_of begun) (refusals_of old) (refusals_of new) kept.8 step.refused),
       λ none. step.unchanged (subst IsUnasked (sym c.op-item.is) (All-get_or IsUnasked c.args.ops.now c.loop-op.op-index op c.loop-op-test.true none)) ∙ kept.9 none,
       record { leaves = law.crash; holds = law.contents },
+      step.others ∙ kept.11,
     )
 
 pub loop-op-init : goal.loop-op-init
@@ -96,6 +97,7 @@ loop-op-init g c =
       omega arith,
       λ _. refl,
       record { leaves = law.crash; holds = law.contents },
+      refl,
     )
 
 pub returns-clause-ok : goal.returns-clause-ok

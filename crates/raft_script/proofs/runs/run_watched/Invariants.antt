@@ -1,7 +1,7 @@
 use Rattle.std.proofs.Common.{All, ◌≡◌, ◌||◌, ◌≤◌, is_some, length, take, vec_len, vec_capacity}
 use Rattle.raft_script.specs.Durability.{AreAllowedInside, progress_after_all, progress_from}
 use Rattle.raft_log_engine.specs.Durability.{durability_of}
-use Rattle.raft_log_engine.specs.Engine.{contents_of, directory_of, durable_of, folder_of, has_failed, refusals_of, unsynced_of}
+use Rattle.raft_log_engine.specs.Engine.{begun_of, contents_of, directory_of, durable_of, folder_of, has_failed, refusals_of, unsynced_of}
 use Rattle.raft_script.specs.Run.{IsFailurePlace, IsUnasked, RoseBy, io_count}
 use Rattle.raft_script.proofs.AnswersLemmas.{Keeps}
 use Rattle.raft_script.proofs.DurabilityLemmas.{IsUnderWay}
@@ -21,3 +21,4 @@ invariant-loop-op g l =
     × RoseBy (io_count l.outcomes.items) (refusals_of l.initial.engine) (refusals_of l.engine)
     × (All IsUnasked l.ops → l.engine ≡ l.initial.engine)
     × Keeps (folder_of l.engine) (durability_of l.engine) (directory_of l.engine)
+    × (begun_of l.engine ≡ begun_of l.initial.engine)

@@ -1,10 +1,13 @@
-use Rattle.std.proofs.Common.{List, ◌++◌, ap, append_assoc, ◌∙◌, Bool, [], inl, inr, refl, sym, subst}
+use Rattle.std.proofs.Common.{◌≡◌, ◌∷◌, ◌||◌, ℕ, Option, false, is_some, List, ◌++◌, ap, append_assoc, ◌∙◌, Bool, [], inl, inr, refl, sym, subst}
 use Rattle.std.specs.String.{string_bytes}
 use Rattle.raft_records.specs.Contents.{Contents}
 use Rattle.raft_env.specs.Directory.{Directory, HasFile, Path}
 use Rattle.raft_script.specs.Durability.{LeavesAllowedAfter}
-use Rattle.raft_log_engine.specs.Engine.{answered_of, directory_of, durable_of, folder_of, note_of, unsynced_of}
+use Rattle.raft_log_engine.specs.Engine.{answered_of, begun_of, directory_of, durable_of, folder_of, has_failed, note_of, unsynced_of}
 use Rattle.raft_log_engine.specs.Contents.{contents_at}
+use Rattle.std.specs.List.{AllByRecursion}
+use Rattle.raft_pipes.specs.Done.{IsDoneIn}
+use Rattle.raft_script.specs.Trial.{LeavesDetectable}
 use Rattle.raft_script.specs.Run.{AreAnswers, IsFailurePlace}
 use Rattle.raft_script.specs.Durability.{progress_from}
 use Rattle.raft_script.proofs.AnswersLemmas.{through_moments}
@@ -44,6 +47,22 @@ returns-in-Err-clause-ok g c =
       after = rw c.new.ensures.items (refused_after dir m c.args.ops.now files (c.crash_leaves_contents.ensures.left dir m [] files kept));
       no_file = c.crash_leaves_contents.ensures.folder dir m [] files kept;
     }
+
+pub returns-in_ok-ran-in-Ok-clause-crash : goal.returns-in_ok-ran-in-Ok-clause-crash
+returns-in_ok-ran-in-Ok-clause-crash g c = λ done none some.
+    let e = c.in-Ok.engine in
+    let dir = string_bytes c.args.config.dir in
+    let ran = c.run_watched.new.engine in
+    let failures = c.in_ok-ran-in-Ok.ensures.ok.failures.0 in
+    let folder : folder_of ran ≡ dir = c.in_ok-ran-in-Ok.ensures.folder ∙ c.in-Ok.ensures.ok.folder_is in
+    let stands : has_failed ran ≡ false = failures ∙ ap (λ (b : Bool). b || is_some c.in_ok-ran-in-Ok.ran.failed_at) c.in-Ok.ensures.ok.stands ∙ ap (λ (o : Option ℕ). is_some o) none in
+    let begun : begun_of ran ≡ g.F.FileSystem.directory c.args.files ∷ [] = c.in_ok-ran-in-Ok.ensures.others ∙ c.in-Ok.ensures.value in
+    let all : AllByRecursion (IsDoneIn dir) (begun_of ran) = subst (λ (l : List Directory). AllByRecursion (IsDoneIn dir) l) (sym begun) (done, tt) in
+    let told : LeavesDetectable dir (directory_of ran) = subst (λ (p : Path). AllByRecursion (IsDoneIn p) (begun_of ran) → LeavesDetectable p (directory_of ran)) folder (c.the_damage_of_an_engine_is_detectable.ensures.crash stands) all in
+    subst (λ (n : Directory). LeavesDetectable dir n) (sym c.give_up.ensures.unchanged.0) told
+
+pub returns-in-Err-clause-crash : goal.returns-in-Err-clause-crash
+returns-in-Err-clause-crash g c = λ done none some. absurd (some c.new.ensures.items)
 
 pub returns-in_ok-ran-in-Ok-clause-any_moment : goal.returns-in_ok-ran-in-Ok-clause-any_moment
 returns-in_ok-ran-in-Ok-clause-any_moment g c =
