@@ -6,7 +6,7 @@ use Rattle.raft_memory.specs.Choice.{AreWhole, left_by}
 use Rattle.raft_memory.specs.Memory.{memory_directory, memory_moments, no_files, stop_of}
 use Rattle.raft_memory.specs.declared.memory.MemoryFileSystem.{MemoryFileSystem}
 use Rattle.raft_env.specs.Consistent.{AreConsistent}
-use Rattle.raft_env.specs.Directory.{Directory, HasFile, Leaves, Left, Path}
+use Rattle.raft_env.specs.Directory.{Directory, HasFile, Leaves, CrashImage, Path}
 use Rattle.raft_memory.specs.declared.crash.Choice.{Choice}
 use Rattle.raft_log_engine.specs.Crash.{RecoversContents, contents_after_crash}
 use Rattle.raft_log_engine.specs.Image.{IsImageOf}

@@ -7,7 +7,7 @@ ghost use Rattle.raft_memory.specs.Choice.{NameNoBytes};
 ghost use Rattle.raft_memory.specs.Memory.{memory_directory, memory_moments, no_files, stop_of};
 ghost use Rattle.raft_log_engine.specs.Image.{IsImageOf};
 ghost use Rattle.raft_log_engine.specs.Contents.{contents_at};
-ghost use Rattle.raft_log_engine.specs.Crash.{KeepsContents};
+ghost use Rattle.raft_log_engine.specs.Crash.{RecoversContents};
 ghost use Rattle.raft_pipes.specs.Done.{IsDoneIn};
 ghost use Rattle.raft_pipes.specs.Queue.{IsOpenableIn};
 ghost use Rattle.raft_script.specs.Run.{IsStorageOrMemory};
