@@ -1,4 +1,4 @@
--- Files and outcomes of which the damage of a crash can be told.
+-- Files and outcomes of which the damage of a crash is detectable.
 use Rattle.std.specs.Prelude.{◌≡◌, ◌⊎◌, ℕ, ◌≤◌, List, ◌++◌, length, take, Option, Some, None, Contains}
 use Rattle.raft_base.specs.declared.pipe_log.FileId.{FileId}
 use Rattle.raft_files.specs.declared.format.LogFileFormat.{LogFileFormat}

@@ -21,12 +21,12 @@ ghost use Rattle.raft_files.specs.declared.format.LogFileFormat.{LogFileFormat};
 
 /// The premise can be met. Storage may leave each consistent file with all its bytes now, with
 /// those of its last sync, or torn: of the places touched since, only the first few hold their
-/// bytes (`allowed`). Where no refused call brought the records of a file, the damage of a crash
-/// can be told that leaves the first of them as they stand now and behind them none that decodes
+/// bytes (`allowed`). Where no failed call brought the records of a file, the damage of a crash
+/// is detectable that leaves the first of them as they stand now and after them none that decodes
 /// (`told`), as a torn file that keeps those does (`torn`). None decodes where zeros alone stand
-/// (`zeros`); so of a log with all bytes or those of its last sync it can be told (`detectable`).
-/// Of a file in any state it can be told where no call brought a record but the one that it was to
-/// write, and what such an outcome leaves is read as a beginning of what was read at a moment since
+/// (`zeros`); so of a log with all bytes or those of its last sync it is detectable (`detectable`).
+/// Of a file in any state it is detectable where no call brought a record but the one that it was
+/// to write, and what such an outcome leaves is read as a prefix of what was read at a moment since
 /// the last sync (`own`), as all bytes are (`read_now`), and those of the last sync under the same
 /// header or none (`read_synced`).
 pub fn premise_can_be_met()

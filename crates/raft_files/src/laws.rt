@@ -42,9 +42,9 @@ pub fn readable_records_are_the_replayed_with_sound_blocks()
         ≡ take_while (λ p. has_sound_block_at bytes p.at) (replayed_records id bytes) }
 {}
 
-/// What a crash leaves of a log file, where damage can be told: the first of its batches, with all
+/// What a crash leaves of a log file, where damage is detectable: the first of its batches, with all
 /// synced ones (`left`). So between two calls and while the file is synced or closed; inside an
-/// append, and after a refused one, perhaps also the batch that is written. What a crash left is
+/// append, and after a failed one, possibly also the batch that is written. What a crash left is
 /// synced. Where no file stands nothing is left (`none`), more batches may be allowed (`more`), and
 /// a change of other files changes nothing of it (`beside`). The moments of a writer's calls are
 /// those that `LogFileWriter` names.

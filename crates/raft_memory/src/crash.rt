@@ -37,8 +37,8 @@ impl MemoryFileSystem {
 
     /// The files after a crash now. The choices go to the files in the order of their paths' bytes,
     /// and a file that is left over keeps what was synced. Folders stay. The files are consistent,
-    /// none was renamed, and of their changes only writes were refused. So by
-    /// `raft_premise::laws::premise_can_be_met` the damage of `All` and `Synced` can be told of a log
+    /// none was renamed, and of their changes only writes failed. So by
+    /// `raft_damage::laws::premise_can_be_met` the damage of `All` and `Synced` is detectable of a log
     /// that `raft_premise::laws::refused_calls_bring_no_record` keeps, and that of `Torn` where the
     /// torn record doesn't decode.
     pub fn crash(&self, choices: &[Choice]) -> Result<MemoryFileSystem, Fault>

@@ -98,7 +98,7 @@ pub record IsTrialOf (mode : RecoveryMode) (folder : Path) (ops : List Op) (stop
   pub found : let files = memory_directory last in
       IfOk t.opened (λ image.
       IsImageOf image.groups.items (contents_after_crash folder files (left_by choices files)))
-  -- a tolerant one is not refused for what they leave, where its damage can be told
+  -- a tolerant one doesn't fail for what they leave, where its damage is detectable
   pub refused : let files = memory_directory last in
       IsDetectableIn folder files (left_by choices files)
       → (mode ≡ AbsoluteConsistency → ⊥) → IfErr t.opened IsStorageOrMemory

@@ -26,7 +26,7 @@ pub(crate) struct RunReport {
 /// is not asked.
 ///
 /// The engine notes what there was each time that it answered a write or a sync. A crash after one note and up to the
-/// next leaves, where its damage can be told, a prefix of the writes accepted before that operation, or all of them
+/// next leaves, if its damage is detectable, a prefix of the writes accepted before that operation, or all of them
 /// and a prefix of its own batch, with every write that an answered sync covered before it. Once the operation is
 /// answered and the engine stands, a crash leaves a prefix of what was accepted by then, with every covered write. Each
 /// answer says whether the engine failed, and a call of a failed engine adds no moment. A get, and a write whose batch
