@@ -12,7 +12,7 @@ ghost use Rattle.raft_log_engine.specs.Engine.{contents_of, directory_of, durabl
 ghost use Rattle.raft_env.specs.Consistent.{AreConsistent};
 ghost use Rattle.raft_memory.specs.Choice.{AreWhole, left_by};
 ghost use Rattle.raft_memory.specs.declared.crash.Choice.{Choice};
-ghost use Rattle.raft_pipes.specs.Done.{HasSimplePastIn};
+ghost use Rattle.raft_pipes.specs.Completed.{HasSimplePastIn};
 ghost use Rattle.raft_pipes.specs.Folder.{HasNoLog, IsDetectableIn};
 ghost use Rattle.raft_pipes.specs.Queue.{IsOpenableIn};
 ghost use Rattle.raft_pipes.specs.declared.config.RecoveryMode.{RecoveryMode};
@@ -75,5 +75,5 @@ pub fn the_damage_of_an_engine_is_detectable<F: FileSystem>(engine: &Engine<F>)
         → HasSimplePastIn folder n → AreConsistent n → (choices : List Choice) → AreWhole choices
         → ∥ IsDetectableIn folder n (left_by choices n) ∥₁ }
 {
-    raft_damage::laws::a_queue_can_be_told();
+    raft_damage::laws::damage_of_a_queue_is_detectable();
 }

@@ -6,7 +6,7 @@ use Rattle.raft_script.specs.Durability.{LeavesAllowedAfter}
 use Rattle.raft_log_engine.specs.Engine.{answered_of, begun_of, directory_of, durable_of, folder_of, has_failed, snapshot_of, unsynced_of}
 use Rattle.raft_log_engine.specs.Contents.{contents_at}
 use Rattle.std.specs.List.{AllByRecursion}
-use Rattle.raft_pipes.specs.Done.{ReadsCompletedRecordsIfSimple}
+use Rattle.raft_pipes.specs.Completed.{ReadsCompletedRecordsIfSimple}
 use Rattle.raft_script.specs.Trial.{LeavesDetectable}
 use Rattle.raft_script.specs.Run.{AreAnswers, IsFailurePlace}
 use Rattle.raft_script.specs.Durability.{progress_from}
