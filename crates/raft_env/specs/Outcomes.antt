@@ -81,16 +81,16 @@ bytes_after synced [] = synced
 bytes_after synced (c ∷ changes) = c.after
 
 -- a change that was refused is a write: it gave each byte of its range
-abbrev pub IsDoneOrWrite : Change → Type 0
-IsDoneOrWrite c = c.is_done ≡ false → c.size ≡ length c.given
+abbrev pub IsWriteIfFailed : Change → Type 0
+IsWriteIfFailed c = c.is_done ≡ false → c.size ≡ length c.given
 
 -- the refused ones among these changes are writes
-abbrev pub OnlyWritesRefused : List Change → Type 0
-OnlyWritesRefused changes = All IsDoneOrWrite changes
+abbrev pub OnlyWritesFailed : List Change → Type 0
+OnlyWritesFailed changes = All IsWriteIfFailed changes
 
 -- a file of these bytes, which a crash leaves as they are
-abbrev pub settled : List ℕ → File
-settled bytes =
+abbrev pub synced_file : List ℕ → File
+synced_file bytes =
     record { now = bytes; synced = bytes; changes = []; older = []; renamed_after = None }
 
 -- the file after one more change
@@ -159,12 +159,12 @@ cut_change size false after before = record {
 }
 
 -- the file after such a change
-abbrev pub written : ℕ → List ℕ → Bool → List ℕ → File → File
-written at given is_done after file = changed_by
+abbrev pub file_after_write : ℕ → List ℕ → Bool → List ℕ → File → File
+file_after_write at given is_done after file = changed_by
     (written_change at given is_done after file.now) file
 
-abbrev pub resized : List ℕ → File → File
-resized after file = changed_by (resized_change after file.now) file
+abbrev pub file_after_resize : List ℕ → File → File
+file_after_resize after file = changed_by (resized_change after file.now) file
 
 abbrev pub lengthened_to : ℕ → Bool → List ℕ → File → File
 lengthened_to size is_done after file =
@@ -180,15 +180,15 @@ abbrev pub renamed_of : File → File
 renamed_of file = record file { renamed_after = Some (length (file.changes ++ file.older)) }
 
 -- the bytes, with zeros behind them up to a length
-abbrev pub padded : List ℕ → ℕ → List ℕ
-padded bytes len = bytes ++ replicate (len - length bytes) 0
+abbrev pub pad_to : List ℕ → ℕ → List ℕ
+pad_to bytes len = bytes ++ replicate (len - length bytes) 0
 
 -- with these bytes at that place; none change nothing, also past the end
-abbrev pub overlaid : List ℕ → ℕ → List ℕ → List ℕ
-overlaid bytes at [] = bytes
-overlaid bytes at (byte ∷ given) =
+abbrev pub overlay : List ℕ → ℕ → List ℕ → List ℕ
+overlay bytes at [] = bytes
+overlay bytes at (byte ∷ given) =
     let end = at + length (byte ∷ given) in
-    take at (padded bytes end) ++ (byte ∷ given) ++ drop end bytes
+    take at (pad_to bytes end) ++ (byte ∷ given) ++ drop end bytes
 
 -- the bytes at a moment of a write: others in its range alone, and some length up to its end; no
 -- bytes change nothing, also past the end

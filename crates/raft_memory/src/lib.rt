@@ -5,7 +5,7 @@ pub mod armed;
 mod before_images;
 pub mod crash;
 mod half_write;
-mod known;
+mod ghost_file;
 pub mod memory;
 mod memory_file;
 mod namespace;

@@ -2,7 +2,7 @@
 ghost use Rattle.std.specs.Prelude.{◌≡◌, List, [], ◌∷◌, ◌++◌};
 ghost use Rattle.std.specs.Borrow.{ftrue};
 ghost use Rattle.raft_records.specs.Item.{Batch};
-ghost use Rattle.raft_files.specs.Reading.{readable_batches};
+ghost use Rattle.raft_files.specs.Scan.{readable_batches};
 ghost use Rattle.raft_pipes.specs.Folder.{first_file};
 
 use raft_records::LogBatch;
