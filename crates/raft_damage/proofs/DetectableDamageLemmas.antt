@@ -112,7 +112,7 @@ torn_is_detectable id format records synced at file left completed latest never 
       subst (λ f. AreFromCompletedCalls id (signature_by id f) (file.changes ++ file.older) read) (sym same) (λ r has. completed.completed r (among r has));
   untouched = prefix_trans (readable_records id untouched) (take synced records) read untouched_read synced_read;
   unmarked = λ r e marked.
-      let whole : Reading = record { format = format; records = take torn.count records; end = torn.end } in
+      let whole : ScanResult = record { format = format; records = take torn.count records; end = torn.end } in
       let same : r ≡ whole = same_some (sym e ∙ whole_read) in
       torn.broken.1 (subst (λ (q : ScanResult). HasCompressedAt (signature_by id q.format) left (record_place q.format.alignment left q.end)) same marked);
   none_stale = λ r has. never_stale file.renamed_after (file.changes ++ file.older) r.at never;

@@ -22,7 +22,7 @@ pub reading-held : (id : FileId) (format : LogFileFormat) (records : List Placed
     let behind = records_after id format bytes at in
     scan_file id bytes ≡ Some (record { format = format; records = records ++ behind; end = end_of_records at behind })
 reading-held id format records at bytes holds =
-    let r : Reading = record { format = format; records = records; end = at } in
+    let r : ScanResult = record { format = format; records = records; end = at } in
     let end = end_of_held id format records at bytes holds in
     reading-kept id at (take at bytes) bytes r records [] (take-take at at bytes (omega arith)) holds.read (sym (append-nil records)) (omega arith)
     ∙ ap (λ from. Some (record { format = format; records = records ++ records_after id format bytes from; end = end_of_records from (records_after id format bytes from) })) end

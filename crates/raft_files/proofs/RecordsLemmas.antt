@@ -21,7 +21,7 @@ use Rattle.raft_files.proofs.HeldLemmas.{format_of-held, left_of_held}
 
 pub reads_first-within : (id : FileId) (format : LogFileFormat) (records : List PlacedRecord) (bytes : List ℕ) → ReadsFirst id format records bytes → end_of_records (header_len format.version) records ≤ length bytes
 reads_first-within id format records bytes reads =
-    let r : Reading = record { format = format; records = reads.all; end = reads.end } in
+    let r : ScanResult = record { format = format; records = reads.all; end = reads.end } in
     let is = reading_is id bytes r reads.read in
     let front = end_of_front (records_stay id format bytes) (length bytes) (header_len format.version) records reads.first.0 (sym is.records ∙ reads.first.1) in
     omega (arith, front, end_of_read_within id bytes r reads.read, is.end, ap (λ rs. end_of_records (header_len format.version) rs) reads.first.1)

@@ -63,8 +63,8 @@ done_before id by c changes r before (inl no_byte) = done_without_byte id by cha
 done_before id by c changes r before (inr earlier) = earlier.1
 
 -- nothing is read behind the end of the reading
-has_nothing_after : (id : FileId) (bytes : List ℕ) (r : ScanResult) (renamed : Option ℕ) (changes : List Change) → scan_file id bytes ≡ Some r → HasNothingFrom id r.end bytes renamed changes
-has_nothing_after id bytes read renamed changes e by r has behind completed fresh =
+has_nothing_after_end : (id : FileId) (bytes : List ℕ) (r : ScanResult) (renamed : Option ℕ) (changes : List Change) → scan_file id bytes ≡ Some r → HasNothingFrom id r.end bytes renamed changes
+has_nothing_after_end id bytes read renamed changes e by r has behind completed fresh =
     let is = read_in id bytes r has in
     absurd (omega (arith, is.long, read_ends_before id bytes read e r (subst (λ q. Contains (records_of q) r) e has)))
 
@@ -73,7 +73,7 @@ left_before : (id : FileId) (by : Option ℕ) (old : List ℕ) (c : Change) (ren
     (left : List PlacedRecord) → AreReadAt id by c.after renamed (c ∷ changes) left → AreReadAt id by old renamed changes left
 left_before id by old c renamed changes r e behind left read =
     let holds = holds_same id r.format r.records r.end old c.after (holds_read id old r e) behind.same behind.long in
-    let earlier : HasNothingFrom id r.end c.before renamed changes = subst (λ b. HasNothingFrom id r.end b renamed changes) (sym behind.was) (has_nothing_after id old r renamed changes e) in
+    let earlier : HasNothingFrom id r.end c.before renamed changes = subst (λ b. HasNothingFrom id r.end b renamed changes) (sym behind.was) (has_nothing_after_end id old r renamed changes e) in
     let nothing = has_nothing_after id r.end r.end c renamed changes earlier (omega arith) (ungiven r.end c behind.given) behind.empty in
     let first : IsPrefixOf left r.records = left_of_held id r.format by r.records r.end c.after renamed (c ∷ changes) holds nothing left read in
     let before : (q : PlacedRecord) → Contains left q → q.at + q.len ≤ c.from = λ q has.
@@ -88,7 +88,7 @@ left_before id by old c renamed changes r e behind left read =
 keeps_after : (id : FileId) (format : LogFileFormat) (records : List PlacedRecord) (synced : ℕ) (file : File) (c : Change) (keeps : RecoversRecords id format records synced file) (reads : ReadsFirst id format (take synced records) file.now) →
     IsBehind reads.end file.now c file.renamed_after (file.changes ++ file.older) → RecoversRecords id format records synced (changed_by c file) × ReadsFirst id format (take synced records) c.after
 keeps_after id format records synced file c keeps reads behind =
-    let r : Reading = record { format = format; records = reads.all; end = reads.end } in
+    let r : ScanResult = record { format = format; records = reads.all; end = reads.end } in
     let holds = holds_same id format reads.all reads.end file.now c.after (holds_read id file.now r reads.read) behind.same behind.long in
     let is = reading_is id file.now r reads.read in
     let from = header_len format.version in
