@@ -27,7 +27,7 @@ module _ (path : Path) (id : FileId) (format : LogFileFormat) (batches : List Ba
   is_consistent = consistent path log.file log.stands
 
   detectable_at : (d : CrashImage) → MayLeave log.file (d path) → IsTornAfter id format log.records log.file (d path) → IsDetectable path id n d
-  detectable_at d may torn_bytes file stands = subst (λ f. IsDetectableFile id f (d path)) (same_some (sym log.stands ∙ stands)) (torn_is_detectable id format log.records synced at log.file (d path) log.held is_consistent.latest never may torn_bytes)
+  detectable_at d may is_torn file stands = subst (λ f. IsDetectableFile id f (d path)) (same_some (sym log.stands ∙ stands)) (torn_is_detectable id format log.records synced at log.file (d path) log.held is_consistent.latest never may is_torn)
 
   -- damage behind the first of them can be told
   pub records_detectable : (d : CrashImage) → Leaves n d → IsTornAfter id format log.records log.file (d path) → IsDetectable path id n d
@@ -38,9 +38,9 @@ module _ (path : Path) (id : FileId) (format : LogFileFormat) (batches : List Ba
     left_at c is = ap (λ x. bytes_by_choice_at x (file_at n path)) is ∙ ap (bytes_by_choice_at c) log.stands
 
     pub detectable_by : (c : Choice) → choice_for choices (finite.keys n.files) path ≡ c → NamesNoBytes c → IsTornAfter id format log.records log.file (bytes_by_choice c log.file) → IsDetectable path id n (left_by choices n)
-    detectable_by c is none torn =
+    detectable_by c is none is_torn =
         let left = sym (left_at c is) in
-        detectable_at (left_by choices n) (subst (MayLeave log.file) left (choice_may_leave log.file is_consistent c none)) (subst (IsTornAfter id format log.records log.file) left torn_bytes)
+        detectable_at (left_by choices n) (subst (MayLeave log.file) left (choice_may_leave log.file is_consistent c none)) (subst (IsTornAfter id format log.records log.file) left is_torn)
 
     -- so that of a torn file that keeps the first of them
     pub records_torn : (kept fill count end : ℕ) → choice_for choices (finite.keys n.files) path ≡ choice.Torn kept fill → HoldsRecords id format (take count log.records) end log.file.now → touched_before (is_touched log.file.changes) end ≤ kept →
