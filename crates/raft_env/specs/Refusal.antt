@@ -1,4 +1,4 @@
--- How often calls were refused, when these counts rise, and the fault of a refused call.
+-- How often calls failed, when these counts rise, and the fault of a failed call.
 use Rattle.std.specs.Prelude.{◌≡◌, ◌⊎◌, ℕ, ◌+◌, ◌-◌, ◌^◌, ◌<◌, ◌≤◌, min, List, [], Result, MatchResult, String}
 use Rattle.std.specs.declared.alloc.Global.{Global}
 use Rattle.std.specs.String.{string_bytes}
@@ -10,7 +10,7 @@ use Rattle.raft_env.specs.declared.env.FsFault.TheVariants.{Io, Memory}
 pub record Refusals : Type 0 where
   -- by storage, which stops at 2^64 - 1
   pub storage : ℕ
-  -- for want of memory
+  -- for lack of memory
   pub memory : ℕ
 
 abbrev pub no_refusals : Refusals
@@ -65,13 +65,13 @@ abbrev pub RefusalsRoseFor : {T : Type 0} → Result T FsFault → Refusals → 
 RefusalsRoseFor result old new = MatchResult result (λ _. NoFewer old new)
     (λ e. RefusalsRoseForFault e old new)
 
--- the fault for a refused file call; it names the path, or nothing where memory for that was wanting
+-- the fault for a failed file call; it names the path, or nothing where memory for that was wanting
 abbrev pub IsFaultOf : List ℕ → FsFault → Fault → Type 0
 IsFaultOf path (Io kind) f = (named : String Global) × (f ≡ fault.Io kind named)
     × ((string_bytes named ≡ path) ⊎ (string_bytes named ≡ []))
 IsFaultOf path Memory f = f ≡ fault.Memory
 
--- by a file call: by storage or for want of memory, where that count rose in the call
+-- by a file call: by storage or for lack of memory, where that count rose in the call
 abbrev pub IsFileRefusal : Refusals → Refusals → Fault → Type 0
 IsFileRefusal old new (fault.Io kind path) = StorageRefusalsRose old new
 IsFileRefusal old new fault.Memory = old.memory < new.memory

@@ -22,7 +22,7 @@ pub enum Ended {
     Done,
     /// A line, counted from 1, asks for nothing that the program knows.
     BadLine(u64),
-    /// The input could not be read, or memory was refused outside the engine's calls.
+    /// The input could not be read, or memory ran out outside the engine's calls.
     Input,
     /// The output could not be written.
     Output,
@@ -101,7 +101,7 @@ fn serve_line<R: BufRead, W: Write>(
 
 // The next line without its newline, if there is one.
 fn read_line<R: BufRead>(input: &mut R, line: &mut Vec<u8>) -> io::Result<bool>
-    ensures line { IfSome (R.Read.remaining input.old) (λ text. IfOk result (λ found.
+    ensures value { IfSome (R.Read.remaining input.old) (λ text. IfOk result (λ found.
         IsNextLine found text line.new.items (R.Read.remaining input.new))) }
 {
     line.clear();
@@ -229,7 +229,7 @@ fn answer_call<F: FileSystem>(
     engine: &mut Engine<F>,
     call: &Call<'_>,
 ) -> Result<Outcome, AllocError>
-    ensures answer { IfOk result (λ outcome.
+    ensures value { IfOk result (λ outcome.
         IsAnswered (asked_of_call call.now) outcome engine.old engine.new) }
 {
     let op = call.op(alloc)?;
