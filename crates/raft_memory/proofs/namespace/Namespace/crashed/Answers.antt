@@ -21,8 +21,8 @@ returns-clause-ok c =
     (subst (λ l. Copied (IsLeft (left_by c.args.choices.now (namespace_directory c.args.self.now))) l c.loop-path.files) all c.loop-path.invariant.copied)
     (c.in_ok-folders.ensures ∙ ap (map string_bytes) c.deref.ensures.value)
 
-pub returns-clause-allowed : goal.returns-clause-allowed
-returns-clause-allowed c =
+pub returns-clause-crash : goal.returns-clause-crash
+returns-clause-crash c =
     let all : map deref_pair c.loop-path.yielded ≡ c.args.self.now.files.entries = grind (arith, common_steps, append-nil, c.in-None.ensures.steps, c.loop-path.invariant.whole) in
     leaves_all (left_by c.args.choices.now (namespace_directory c.args.self.now)) c.args.self.now (record { files = c.loop-path.files; folders = c.in_ok-folders.folders })
     (subst (λ l. Copied (IsLeft (left_by c.args.choices.now (namespace_directory c.args.self.now))) l c.loop-path.files) all c.loop-path.invariant.copied)
