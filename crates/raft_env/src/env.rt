@@ -32,9 +32,9 @@ impl FsFault {
     pub fn with_path(self, alloc: Global, path: &str) -> Fault
         ensures value { IsFaultOf path.now self result }
         ensures cause { (old new : Refusals) → RefusalsRoseForFault self old new
-            → IsRefusal old new result }
+            → IsRefusal path.now old new result }
         ensures refused { (old new : Refusals) → CountsRefusal self old new
-            → IsFileRefusal old new result }
+            → IsFileRefusal path.now old new result }
         ensures failed { result ≡ Fault.Failed → ⊥ }
     {
         match self {
@@ -101,7 +101,7 @@ pub trait FileSystem: Send + Sync {
 
     /// Makes a file without bytes. A path that stands keeps its file.
     fn create(&mut self, path: &str) -> Result<Self::Handle, FsFault>
-        ensures value { IfOk result (λ h. (handle_path h ≡ path.now) × (may_write h ≡ true)) }
+        ensures handle { IfOk result (λ h. (handle_path h ≡ path.now) × (may_write h ≡ true)) }
         ensures ok { OnOk result (directory self.new ≡ after_create path.now (directory self.old)) }
         ensures err { OnErr result (directory self.new ≡ directory self.old) }
         ensures any_moment { MovesBy directory moments (λ old. IsOneOf old
@@ -110,7 +110,7 @@ pub trait FileSystem: Send + Sync {
         ensures cause { CountsRefusalOf result (refusals_of self.old) (refusals_of self.new) };
 
     fn open(&mut self, path: &str, permission: Permission) -> Result<Self::Handle, FsFault>
-        ensures value { IfOk result (λ h. (handle_path h ≡ path.now)
+        ensures handle { IfOk result (λ h. (handle_path h ≡ path.now)
             × HasFile (directory self.old) path.now) }
         ensures may_write { IfOk result (λ h. may_write h ≡ true
             ↔ (permission ≡ Permission.ReadWrite)) }
@@ -118,7 +118,7 @@ pub trait FileSystem: Send + Sync {
         ensures cause { CountsRefusalOf result (refusals_of self.old) (refusals_of self.new) };
 
     fn new_reader(&mut self, handle: &Self::Handle) -> Result<Self::Reader, FsFault>
-        ensures value { IfOk result (λ r. (reader_path r ≡ handle_path handle.now)
+        ensures reader { IfOk result (λ r. (reader_path r ≡ handle_path handle.now)
             × (reader_refusals r ≡ no_refusals)) }
         ensures unchanged { OnlyReads directory moments self.old self.new }
         ensures cause { CountsRefusalOf result (refusals_of self.old) (refusals_of self.new) };
@@ -131,7 +131,7 @@ pub trait FileSystem: Send + Sync {
 
     /// Refused as `Other` for a handle that was opened to be read only.
     fn new_writer(&mut self, handle: &Self::Handle) -> Result<Self::Writer, FsFault>
-        ensures value { IfOk result (λ w. (writer_path w ≡ handle_path handle.now)
+        ensures writer { IfOk result (λ w. (writer_path w ≡ handle_path handle.now)
             × (may_write handle.now ≡ true)) }
         ensures refused { may_write handle.now ≡ false → result ≡ Err (FsFault.Io IoKind.Other) }
         ensures unchanged { OnlyReads directory moments self.old self.new }
@@ -139,7 +139,7 @@ pub trait FileSystem: Send + Sync {
 
     /// Writes over what stands there, and past the end.
     fn write(&mut self, writer: &mut Self::Writer, at: usize, bytes: &[u8]) -> Result<(), FsFault>
-        ensures path { writer_path writer.new ≡ writer_path writer.old }
+        ensures writer { writer_path writer.new ≡ writer_path writer.old }
         ensures value { OnOk result (HasFile (directory self.old) (writer_path writer.old)) }
         ensures fits { OnOk result (at + length bytes.now < 2 ^ 63) }
         ensures ok { OnOk result (directory self.new ≡ update_file (writer_path writer.old)
@@ -151,7 +151,7 @@ pub trait FileSystem: Send + Sync {
 
     /// Cuts the file to a length; at or past its end it stays as it is.
     fn truncate(&mut self, writer: &mut Self::Writer, size: usize) -> Result<(), FsFault>
-        ensures path { writer_path writer.new ≡ writer_path writer.old }
+        ensures writer { writer_path writer.new ≡ writer_path writer.old }
         ensures value { OnOk result (HasFile (directory self.old) (writer_path writer.old)) }
         ensures ok { OnOk result (directory self.new ≡ update_file (writer_path writer.old)
             (λ f. file_after_resize (take size f.now) f) (directory self.old)) }
@@ -161,7 +161,7 @@ pub trait FileSystem: Send + Sync {
 
     /// Lengthens the file with zeros to `at + size` bytes; a file that is as long stays as it is.
     fn allocate(&mut self, writer: &mut Self::Writer, at: usize, size: usize) -> Result<(), FsFault>
-        ensures path { writer_path writer.new ≡ writer_path writer.old }
+        ensures writer { writer_path writer.new ≡ writer_path writer.old }
         ensures value { OnOk result (HasFile (directory self.old) (writer_path writer.old)) }
         ensures fits { OnOk result (at + size < 2 ^ 63) }
         ensures ok { OnOk result (directory self.new ≡ update_file (writer_path writer.old)
@@ -172,7 +172,7 @@ pub trait FileSystem: Send + Sync {
 
     /// After `Ok` a crash leaves the bytes now and nothing else.
     fn sync(&mut self, writer: &mut Self::Writer) -> Result<(), FsFault>
-        ensures path { writer_path writer.new ≡ writer_path writer.old }
+        ensures writer { writer_path writer.new ≡ writer_path writer.old }
         ensures value { OnOk result (HasFile (directory self.old) (writer_path writer.old)) }
         ensures ok { OnOk result (directory self.new
             ≡ update_file (writer_path writer.old) synced_of (directory self.old)) }
@@ -184,14 +184,14 @@ pub trait FileSystem: Send + Sync {
 
     /// The number of bytes read: 0 only at the end or for an empty slice.
     fn read(&self, reader: &mut Self::Reader, at: usize, bytes: &mut [u8]) -> Result<usize, FsFault>
-        ensures path { reader_path reader.new ≡ reader_path reader.old }
+        ensures reader { reader_path reader.new ≡ reader_path reader.old }
         ensures ok { IfOk result (λ n. ReadsAt
             (file_at (directory self.now) (reader_path reader.old)) at n bytes.old bytes.new) }
         ensures cause { CountsRefusalOf result (reader_refusals reader.old)
             (reader_refusals reader.new) };
 
     fn file_size(&mut self, handle: &Self::Handle) -> Result<usize, FsFault>
-        ensures value { IfOk result (λ n. (file : File)
+        ensures size { IfOk result (λ n. (file : File)
             × (file_at (directory self.old) (handle_path handle.now) ≡ Some file)
             × (n ≡ length file.now)) }
         ensures fits { IfOk result (λ n. n < 2 ^ 63) }
@@ -207,7 +207,7 @@ pub trait FileSystem: Send + Sync {
 
     /// The names of the files in a folder, in the order of their bytes.
     fn list(&mut self, dir: &str) -> Result<Vec<String>, FsFault>
-        ensures value { IfOk result (λ names. map string_bytes names.items
+        ensures names { IfOk result (λ names. map string_bytes names.items
             ≡ names_in dir.now (directory self.old)) }
         ensures unchanged { OnlyReads directory moments self.old self.new }
         ensures cause { CountsRefusalOf result (refusals_of self.old) (refusals_of self.new) };

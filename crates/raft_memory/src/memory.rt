@@ -103,7 +103,7 @@ impl FileSystem for MemoryFileSystem {
     ghost now_counts = { λ m. (map namespace_directory m.past.items, refl) };
 
     fn create(&mut self, path: &str) -> Result<MemoryHandle, FsFault>
-        ensures value { IfOk result (λ h. (string_bytes h.path ≡ path.now)
+        ensures handle { IfOk result (λ h. (string_bytes h.path ≡ path.now)
             × (h.may_write ≡ true)) }
         ensures ok { OnOk result (memory_directory self.new
             ≡ after_create path.now (memory_directory self.old)) }
@@ -136,7 +136,7 @@ impl FileSystem for MemoryFileSystem {
     }
 
     fn open(&mut self, path: &str, permission: Permission) -> Result<MemoryHandle, FsFault>
-        ensures value { IfOk result (λ h. (string_bytes h.path ≡ path.now)
+        ensures handle { IfOk result (λ h. (string_bytes h.path ≡ path.now)
             × HasFile (memory_directory self.old) path.now) }
         ensures may_write { IfOk result (λ h. h.may_write ≡ true
             ↔ (permission ≡ Permission.ReadWrite)) }
@@ -164,7 +164,7 @@ impl FileSystem for MemoryFileSystem {
     }
 
     fn new_reader(&mut self, handle: &MemoryHandle) -> Result<MemoryReader, FsFault>
-        ensures value { IfOk result (λ r. (string_bytes r.path ≡ string_bytes handle.now.path)
+        ensures reader { IfOk result (λ r. (string_bytes r.path ≡ string_bytes handle.now.path)
             × (by_storage r.refused ≡ no_refusals)) }
         ensures unchanged { OnlyReads memory_directory memory_moments self.old self.new }
         ensures cause { CountsRefusalOf result (memory_refusals self.old)
@@ -194,7 +194,7 @@ impl FileSystem for MemoryFileSystem {
     }
 
     fn new_writer(&mut self, handle: &MemoryHandle) -> Result<MemoryWriter, FsFault>
-        ensures value { IfOk result (λ w. (string_bytes w.path ≡ string_bytes handle.now.path)
+        ensures writer { IfOk result (λ w. (string_bytes w.path ≡ string_bytes handle.now.path)
             × (handle.now.may_write ≡ true)) }
         ensures refused { (handle.now.may_write ≡ false → result ≡ Err (FsFault.Io IoKind.Other))
             × (handle.now.may_write ≡ true
@@ -220,7 +220,7 @@ impl FileSystem for MemoryFileSystem {
     }
 
     fn write(&mut self, writer: &mut MemoryWriter, at: usize, bytes: &[u8]) -> Result<(), FsFault>
-        ensures path { string_bytes writer.new.path ≡ string_bytes writer.old.path }
+        ensures writer { string_bytes writer.new.path ≡ string_bytes writer.old.path }
         ensures value { OnOk result (HasFile (memory_directory self.old)
             (string_bytes writer.old.path)) }
         ensures fits { OnOk result (at + length bytes.now < 2 ^ 63) }
@@ -265,7 +265,7 @@ impl FileSystem for MemoryFileSystem {
     }
 
     fn truncate(&mut self, writer: &mut MemoryWriter, size: usize) -> Result<(), FsFault>
-        ensures path { string_bytes writer.new.path ≡ string_bytes writer.old.path }
+        ensures writer { string_bytes writer.new.path ≡ string_bytes writer.old.path }
         ensures value { OnOk result (HasFile (memory_directory self.old)
             (string_bytes writer.old.path)) }
         ensures ok { OnOk result (memory_directory self.new
@@ -294,7 +294,7 @@ impl FileSystem for MemoryFileSystem {
     }
 
     fn allocate(&mut self, writer: &mut MemoryWriter, at: usize, size: usize) -> Result<(), FsFault>
-        ensures path { string_bytes writer.new.path ≡ string_bytes writer.old.path }
+        ensures writer { string_bytes writer.new.path ≡ string_bytes writer.old.path }
         ensures value { OnOk result (HasFile (memory_directory self.old)
             (string_bytes writer.old.path)) }
         ensures fits { OnOk result (at + size < 2 ^ 63) }
@@ -327,7 +327,7 @@ impl FileSystem for MemoryFileSystem {
     }
 
     fn sync(&mut self, writer: &mut MemoryWriter) -> Result<(), FsFault>
-        ensures path { string_bytes writer.new.path ≡ string_bytes writer.old.path }
+        ensures writer { string_bytes writer.new.path ≡ string_bytes writer.old.path }
         ensures value { OnOk result (HasFile (memory_directory self.old)
             (string_bytes writer.old.path)) }
         ensures ok { OnOk result (memory_directory self.new
@@ -355,7 +355,7 @@ impl FileSystem for MemoryFileSystem {
     }
 
     fn read(&self, reader: &mut MemoryReader, at: usize, bytes: &mut [u8]) -> Result<usize, FsFault>
-        ensures path { string_bytes reader.new.path ≡ string_bytes reader.old.path }
+        ensures reader { string_bytes reader.new.path ≡ string_bytes reader.old.path }
         ensures ok { IfOk result (λ n. ReadsAt
             (file_at (memory_directory self.now) (string_bytes reader.old.path)) at n bytes.old
             bytes.new) }
@@ -374,7 +374,7 @@ impl FileSystem for MemoryFileSystem {
     }
 
     fn file_size(&mut self, handle: &MemoryHandle) -> Result<usize, FsFault>
-        ensures value { IfOk result (λ n. (file : File)
+        ensures size { IfOk result (λ n. (file : File)
             × (file_at (memory_directory self.old) (string_bytes handle.now.path) ≡ Some file)
             × (n ≡ length file.now)) }
         ensures fits { IfOk result (λ n. n < 2 ^ 63) }
@@ -420,7 +420,7 @@ impl FileSystem for MemoryFileSystem {
     }
 
     fn list(&mut self, dir: &str) -> Result<Vec<String>, FsFault>
-        ensures value { IfOk result (λ names. map string_bytes names.items
+        ensures names { IfOk result (λ names. map string_bytes names.items
             ≡ names_in dir.now (memory_directory self.old)) }
         ensures unchanged { OnlyReads memory_directory memory_moments self.old self.new }
         ensures cause { CountsRefusalOf result (memory_refusals self.old)
@@ -458,7 +458,7 @@ impl FileSystem for MemoryFileSystem {
 
 fn refused(reader: &mut MemoryReader, kind: IoKind) -> FsFault
     ensures value { result ≡ FsFault.Io kind }
-    ensures path { string_bytes reader.new.path ≡ string_bytes reader.old.path }
+    ensures reader { string_bytes reader.new.path ≡ string_bytes reader.old.path }
     ensures cause { CountsRefusal result (by_storage reader.old.refused)
         (by_storage reader.new.refused) }
 {

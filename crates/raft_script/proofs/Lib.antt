@@ -1,6 +1,7 @@
 pub mod DurabilityLemmas
 pub mod LineLemmas
 pub mod LineReadingLemmas
+pub mod ProgramLemmas
 pub mod RunAnswersLemmas
 pub mod RunLemmas
 pub mod TrialLemmas

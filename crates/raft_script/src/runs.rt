@@ -45,7 +45,7 @@ pub fn run<F: FileSystem>(
     ensures any_moment { IfOk result (λ outcomes.
         AreAllowedInside ops.now outcomes.items engine.old engine.new) }
     ensures ok { IfOk result (λ outcomes. HaveRun ops.now outcomes.items engine.old engine.new) }
-    ensures now { LeavesAllowed (folder_of engine.new) (durable_of engine.new)
+    ensures left { LeavesAllowed (folder_of engine.new) (durable_of engine.new)
         (unsynced_of engine.new) (directory_of engine.new) }
     ensures unchanged { All IsUnasked ops.now → engine.new ≡ engine.old }
     ensures folder { folder_of engine.new ≡ folder_of engine.old }
@@ -66,7 +66,7 @@ pub(crate) fn run_watched<F: FileSystem>(
         AreAllowedInside ops.now ran.outcomes.items engine.old engine.new) }
     ensures ok { IfOk result (λ ran.
         Runs ops.now ran.outcomes.items ran.failed_at engine.old engine.new) }
-    ensures now { LeavesAllowed (folder_of engine.new) (durable_of engine.new)
+    ensures left { LeavesAllowed (folder_of engine.new) (durable_of engine.new)
         (unsynced_of engine.new) (directory_of engine.new) }
     ensures unchanged { All IsUnasked ops.now → engine.new ≡ engine.old }
     ensures folder { folder_of engine.new ≡ folder_of engine.old }

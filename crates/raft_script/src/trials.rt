@@ -56,7 +56,7 @@ pub fn trial(
 }
 
 fn new_files(alloc: Global, stop: Option<u64>) -> MemoryFileSystem
-    ensures value { memory_directory result ≡ no_files }
+    ensures files { memory_directory result ≡ no_files }
     ensures any_moment { memory_moments result ≡ no_files ∷ [] }
     ensures stop { stop_of result ≡ stop }
 {

@@ -127,5 +127,5 @@ returns-clause-any_moment g c =
     let whole : take c.loop-op.op-index ops ≡ ops = take_all c.loop-op.op-index ops (omega (arith, c.loop-op-test.false)) in
     subst (λ (l : List Op). AreAllowedInside l c.loop-op.outcomes.items c.args.engine.now c.loop-op.engine) whole c.loop-op.invariant.5
 
-pub returns-clause-now : goal.returns-clause-now
-returns-clause-now g c = c.loop-op.invariant.10.leaves
+pub returns-clause-left : goal.returns-clause-left
+returns-clause-left g c = c.loop-op.invariant.10.leaves
