@@ -16,13 +16,13 @@ use Rattle.raft_damage.specs.DetectableDamage.{AddsOnlyItsRecord, EachAddsOnlyIt
 use Rattle.raft_memory.specs.declared.crash.Choice.{Choice}
 use Rattle.raft_memory.specs.declared.crash.Choice.TheVariants as choice
 use Rattle.raft_files.proofs.DetectableLemmas.{prefix_itself}
-use Rattle.raft_files.proofs.ExtentLemmas.{same_some, record_of_header}
-use Rattle.raft_env.proofs.ChangeLemmas.{within_is, same_front}
-use Rattle.raft_files.proofs.PlacedLemmas.{contains_cases}
+use Rattle.raft_files.proofs.ScanExtentLemmas.{same_some, record_of_header}
+use Rattle.raft_env.proofs.OutcomesLemmas.{within_is, same_front}
+use Rattle.raft_files.proofs.ScanPlacedLemmas.{contains_cases}
 use Rattle.raft_env.proofs.ConsistentLemmas.{before_is_untouched}
-use Rattle.raft_memory.proofs.TornLemmas.{length-torn, no_bytes_at_turn, choices_may_leave}
+use Rattle.raft_memory.proofs.ChoiceTornLemmas.{length-torn, no_bytes_at_turn, choices_may_leave}
 use Rattle.raft_damage.proofs.DetectableDamageLemmas.{readable_records-take}
-use Rattle.raft_premise.proofs.ZerosLemmas.{never_stale}
+use Rattle.raft_premise.proofs.CompletedZerosLemmas.{never_stale}
 
 -- Records.
 
@@ -39,12 +39,12 @@ given_covers by c changes r range given (x ∷ later) d before e refused with_by
     let false_is : true ≡ false = sym touched ∙ with_byte.4 in
     absurd cc
 
--- where each change brought only the record that it was to write, no refused call brought what is read
-own_done : (id : FileId) (by : Option ℕ) (bytes : List ℕ) (changes : List Change) → IsPastOf bytes changes → ((c : Change) → Contains changes c → AddsOnlyItsRecord id by c) → (r : PlacedRecord) → Contains (readable_records id bytes) r → IsFromCompletedCall id by changes r
-own_done id by bytes [] past own r has = tt
-own_done id by bytes (c ∷ changes) past own r has =
+-- where each change brought only the record that it was to write, no failed call brought what is read
+own_completed : (id : FileId) (by : Option ℕ) (bytes : List ℕ) (changes : List Change) → IsPastOf bytes changes → ((c : Change) → Contains changes c → AddsOnlyItsRecord id by c) → (r : PlacedRecord) → Contains (readable_records id bytes) r → IsFromCompletedCall id by changes r
+own_completed id by bytes [] past own r has = tt
+own_completed id by bytes (c ∷ changes) past own r has =
     elim (own c (0, omega arith, refl) r (subst (λ b. Contains (readable_records id b) r) (sym past.0) has)) [
-      | inl earlier ↦ inr (earlier, own_done id by c.before changes past.3 (λ d older. own d (Contains-append_right (c ∷ []) changes d older)) r earlier)
+      | inl earlier ↦ inr (earlier, own_completed id by c.before changes past.3 (λ d older. own d (Contains-append_right (c ∷ []) changes d older)) r earlier)
       | inr given ↦ inl (given_covers by c changes r past.1 given)
     ]
 
@@ -149,7 +149,7 @@ own_is_detectable id file left consistent never own may long reads = record {
   upto = m.upto;
   moment = m.split;
   beginning = begins;
-  completed = λ format is r has. own_done id (signature_by id format) (bytes_after file.synced m.upto) (m.upto ++ file.older) (past_at file consistent m.newer m.upto m.split) (λ c among. own format (format_now format is) c (of_file c among)) r (read_then r has);
+  completed = λ format is r has. own_completed id (signature_by id format) (bytes_after file.synced m.upto) (m.upto ++ file.older) (past_at file consistent m.newer m.upto m.split) (λ c among. own format (format_now format is) c (of_file c among)) r (read_then r has);
   untouched = untouched_is_read id file left may long;
   unmarked = reads.unmarked;
   none_stale = λ r has. never_stale file.renamed_after (m.upto ++ file.older) r.at never;

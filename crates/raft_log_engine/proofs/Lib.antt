@@ -1,6 +1,6 @@
-pub mod BatchLemmas
-pub mod AllowedLemmas
-pub mod EngineLemmas
+pub mod ContentsLemmas
+pub mod CrashLemmas
 pub mod DurabilityLemmas
+pub mod EngineLemmas
 pub mod ImageLemmas
-pub mod ReopenLemmas
+pub mod OpeningLemmas
