@@ -1,19 +1,17 @@
 -- What the tables stand for after items: the contents after the same items with bytes.
-use Rattle.std.proofs.Common.{◌≡◌, ℕ, ◌==◌, ◌&&◌, Bool, true, false, cond, List, [], ◌∷◌, ◌++◌, Option, Some, None, ◌<◌, length, take, map, reverse, append_assoc, length-append, refl, sym, ◌∙◌, ap, subst, arith}
+use Rattle.std.proofs.Common.{◌≡◌, ℕ, ◌==◌, ◌&&◌, Bool, true, false, cond, List, [], ◌∷◌, Option, Some, None, map, refl, sym, ◌∙◌, ap, arith}
 use Rattle.std.specs.Prelude.{nat_le}
 use Rattle.std.specs.List.{filter, list_all}
 use Rattle.std.specs.Option.{option_map}
 use Rattle.std.specs.Str.{bytes_eq}
-use Rattle.std.proofs.lemmas.Bool.{cases_Bool}
 use Rattle.std.proofs.lemmas.Grind.{common_steps}
 use Rattle.raft_base.specs.declared.pipe_log.FileId.{FileId}
-use Rattle.raft_records.specs.Contents.{Contents, with_entries, after_content, after_item, after_batch}
-use Rattle.raft_records.specs.Item.{Content, Entry, Entries, Clean, Compact, Put, Delete, group_mark_key}
+use Rattle.raft_records.specs.Contents.{Contents, with_entries, after_content, after_batch}
+use Rattle.raft_records.specs.Item.{Entry, Entries, Clean, Compact, Put, Delete, group_mark_key}
 use Rattle.raft_records.specs.PlacedItem.{PlacedContent, EntriesAt, Plain, PlacedItem, content_in, item_in, is_placed_in_order}
 use Rattle.raft_records.specs.Places.{Blocks, entries_in}
-use Rattle.raft_records.specs.Validity.{are_in_order}
 use Rattle.raft_records.proofs.PlacesLemmas.{with_entries_in, compact_in}
-use Rattle.raft_tables.specs.Table.{StoredValue, TableView, empty_table, value_at, with_entries_at, with_key}
+use Rattle.raft_tables.specs.Table.{StoredValue, TableView, value_at, with_entries_at, with_key}
 use Rattle.raft_tables.specs.Tables.{Tables, or_empty, value_in, contents_in, table_after, with_table, tables_after_item, tables_after}
 
 eq_from_test : (a b : ℕ) → (a == b) ≡ true → a ≡ b
