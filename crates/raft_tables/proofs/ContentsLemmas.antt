@@ -17,9 +17,6 @@ use Rattle.raft_tables.specs.Tables.{Tables, or_empty, value_in, contents_in, ta
 eq_from_test : (a b : ℕ) → (a == b) ≡ true → a ≡ b
 eq_from_test a b same = grind (arith, common_steps)
 
-eq_test : (a : ℕ) → (a == a) ≡ true
-eq_test a = grind (arith, common_steps)
-
 -- the contents with this in one group
 abbrev with_group : ℕ → List Entry → (List ℕ → Option (List ℕ)) → Contents → Contents
 with_group group entries values m = record {

@@ -38,19 +38,8 @@ same_table t group v is = λ i g. at g (g == group) refl i
     at g true here = sym is ∙ ap t (sym (eq_from_test g group here))
     at g false here = refl
 
--- a table changed in its place
-pub changed_in_place : (m : MemTables) (n : Groups) (group : ℕ) (before after : MemTable) (f : Option TableView → Option TableView) → Some before ≡ tree.get nat_cmp m.tables group → tree.UpdatesBy nat_cmp (nat_cmp group) m.tables n (Some after)
-    → Some (table_of after) ≡ f (Some (table_of before)) → tables_of (record { alloc = m.alloc; tables = n }) ≡ with_table group (f (tables_of m group)) (tables_of m)
-changed_in_place m n group before after f found updates is =
-    table_changed m n group (Some after) updates ∙ ap (λ v. with_table group v (tables_of m)) (is ∙ ap (λ o. f (option_map table_of o)) found)
-
 -- the first table of a group
 pub first_of_group : (m : MemTables) (n : Groups) (group : ℕ) (after : MemTable) (f : Option TableView → Option TableView) → None ≡ tree.get nat_cmp m.tables group → tree.UpdatesBy nat_cmp (nat_cmp group) m.tables n (Some after)
     → Some (table_of after) ≡ f None → tables_of (record { alloc = m.alloc; tables = n }) ≡ with_table group (f (tables_of m group)) (tables_of m)
 first_of_group m n group after f none updates is =
     table_changed m n group (Some after) updates ∙ ap (λ v. with_table group v (tables_of m)) (is ∙ ap (λ o. f (option_map table_of o)) none)
-
--- a group without a table keeps none
-pub none_stays : (m : MemTables) (group : ℕ) (f : Option TableView → Option TableView) → None ≡ tree.get nat_cmp m.tables group → f None ≡ None → tables_of m ≡ with_table group (f (tables_of m group)) (tables_of m)
-none_stays m group f none is =
-    sym (same_table (tables_of m) group (f (tables_of m group)) (sym (ap (option_map table_of) none) ∙ sym is ∙ ap (λ o. f (option_map table_of o)) none))
