@@ -24,7 +24,7 @@ use raft_env::FileSystem;
 /// A folder that keeps contents through a crash leaves them then, possibly with a prefix of the
 /// batches after them, where damage is detectable. A restart after a crash finds what the crash
 /// left. Where that is sound, it keeps it, its log can be opened in each mode but the absolute one,
-/// and no file stands in the folder's place. Where no log stands, nothing is kept. Files that no
+/// and no file stands in the folder's place. Where no log stands, nothing is read and nothing is kept. Files that no
 /// crash met, as an engine gave them up, stand for what a crash could leave, and their log can be
 /// opened, where their damage is detectable: what a refused write left of its record may be any
 /// bytes.
@@ -43,7 +43,7 @@ pub fn crash_leaves_contents()
         → IsAllowedFrom 0 m batches (contents_at folder n)
         × ((mode : RecoveryMode) → (mode ≡ AbsoluteConsistency → ⊥) → IsOpenableIn mode folder n) }
     ensures none { (folder : Path) (n : Directory) → HasNoLog folder n → (HasFile n folder → ⊥)
-        → RecoversContents folder no_contents [] n }
+        → (contents_at folder n ≡ no_contents) × RecoversContents folder no_contents [] n }
     ensures folder { (folder : Path) (m : Contents) (batches : List Batch) (n : Directory)
         → RecoversContents folder m batches n → HasFile n folder → ⊥ }
     ensures no_file { (folder : Path) (n m : Directory) (d : CrashImage) → IsRestarted n d m

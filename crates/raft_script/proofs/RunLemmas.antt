@@ -5,17 +5,12 @@ use Rattle.std.proofs.lemmas.List.{append-nil, nil_from_length}
 use Rattle.std.proofs.lemmas.List.Sums.{fold-append, sum_by-append}
 use Rattle.std.proofs.Math.Seq.{take-suc}
 use Rattle.raft_env.specs.Refusal.{Refusals, Rose}
-use Rattle.raft_records.specs.Contents.{Contents, no_contents, after_batch, after_batches, after_item}
+use Rattle.raft_records.specs.Contents.{Contents, after_batch, after_batches, after_item}
 use Rattle.raft_records.specs.Batch.{is_internal_key}
 use Rattle.raft_records.specs.Item.{Item, Batch, Put, Delete}
 use Rattle.raft_records.specs.Validity.{batch_refusal}
 use Rattle.raft_base.specs.declared.errors.Fault.{Fault}
 use Rattle.raft_log_engine.specs.Crash.{written_batch}
-use Rattle.std.specs.FinMap.{get-empty}
-use Rattle.raft_env.specs.Directory.{Directory, Path}
-use Rattle.raft_memory.specs.Memory.{no_files}
-use Rattle.raft_pipes.proofs.SoundLemmas.{readable_none}
-use Rattle.raft_log_engine.specs.Contents.{contents_at, recovered}
 use Rattle.raft_script.specs.Run.{accepted_batches, accepted_of, AreAnswers, AreSteady, FailsAt, IsFailing, IsFailurePlace, Refuses, RoseBy, batch_of_acts, io_count, is_refused_by_storage, IsAnswer, item_of_act, pending_batches, with_first, written_batches}
 use Rattle.raft_script.specs.declared.operation.Act.{Act}
 use Rattle.raft_script.specs.declared.operation.Act.TheVariants as act
@@ -138,10 +133,6 @@ module _ (before : Contents) (ops : List Op) (outcomes : List Outcome) (now : Co
 
 pub acts_ended : (items : Batch) (n : ℕ) (acts : List Act) → length acts ≤ n → IsBuilt items n acts → batch_of_acts acts ≡ Some items
 acts_ended items n acts past built = built_ended items n acts (nil_from_length (drop n acts) (length-drop n acts ∙ omega (arith, past))) built
-
--- a folder without files holds nothing
-pub contents_at-no_files : (folder : Path) (n : Directory) → n ≡ no_files → contents_at folder n ≡ no_contents
-contents_at-no_files folder n is = ap (contents_at folder) is ∙ ap recovered (readable_none folder no_files (get-empty _ _))
 
 -- Failures.
 

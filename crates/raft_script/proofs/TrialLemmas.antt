@@ -28,7 +28,6 @@ use Rattle.raft_pipes.specs.declared.config.RecoveryMode.{RecoveryMode}
 use Rattle.raft_pipes.specs.declared.config.RecoveryMode.TheVariants.{AbsoluteConsistency}
 use Rattle.raft_script.specs.declared.operation.Op.{Op}
 use Rattle.raft_script.specs.declared.operation.Outcome.{Outcome}
-use Rattle.raft_script.proofs.RunLemmas.{contents_at-no_files}
 
 -- the run of an engine that was opened with all synced
 pub opened_after : (folder dir : Path) (m durable : Contents) (unsynced : List Batch) (ops : List Op) (outcomes : List Outcome) (failed_at : Option ℕ) (n : Directory) → folder ≡ dir → durable ≡ m → unsynced ≡ [] → LeavesAllowedAfter failed_at folder durable unsynced ops outcomes n → LeavesAllowedAfter failed_at dir m [] ops outcomes n
@@ -49,19 +48,19 @@ refused_after folder m ops n leaves =
 pub none_done : (folder : Path) (n : Directory) → (HasNoLog folder n → IsDoneIn folder n) → n ≡ no_files → IsDoneIn folder n
 none_done folder n done is = done (ap (λ (x : Directory). file_at x (log_path folder)) is ∙ get-empty _ (log_path folder))
 
--- a folder without files keeps nothing
-pub nothing_kept : (folder : Path) (n : Directory) → (HasNoLog folder n → (HasFile n folder → ⊥) → RecoversContents folder no_contents [] n) → n ≡ no_files → RecoversContents folder no_contents [] n
+-- a folder without files holds nothing and keeps nothing
+pub nothing_kept : (folder : Path) (n : Directory) → (HasNoLog folder n → (HasFile n folder → ⊥) → (contents_at folder n ≡ no_contents) × RecoversContents folder no_contents [] n) → n ≡ no_files → (contents_at folder n ≡ no_contents) × RecoversContents folder no_contents [] n
 nothing_kept folder n keeps is =
     let absent : (path : Path) → file_at n path ≡ None = λ path. ap (λ (x : Directory). file_at x path) is ∙ get-empty _ path in
     keeps (absent _) (λ found. let clash = subst IsSome (absent folder) found in absurd cc)
 
 -- what a run shows that began with no files
-pub run_shown : (dir : Path) (before n : Directory) (ops : List Op) (outcomes : List Outcome) (failed_at : Option ℕ) → (HasNoLog dir before → (HasFile before dir → ⊥) → RecoversContents dir no_contents [] before) → before ≡ no_files
+pub run_shown : (dir : Path) (before n : Directory) (ops : List Op) (outcomes : List Outcome) (failed_at : Option ℕ) → (HasNoLog dir before → (HasFile before dir → ⊥) → (contents_at dir before ≡ no_contents) × RecoversContents dir no_contents [] before) → before ≡ no_files
     → (RecoversContents dir (contents_at dir before) [] before → RunsOver dir (contents_at dir before) ops outcomes failed_at n) → RunsOver dir no_contents ops outcomes failed_at n
 run_shown dir before n ops outcomes failed_at keeps none ran =
-    let empty = contents_at-no_files dir before none in
-    let kept = subst (λ (m : Contents). RecoversContents dir m [] before) (sym empty) (nothing_kept dir before keeps none) in
-    subst (λ (m : Contents). RunsOver dir m ops outcomes failed_at n) empty (ran kept)
+    let found = nothing_kept dir before keeps none in
+    let kept = subst (λ (m : Contents). RecoversContents dir m [] before) (sym found.0) found.1 in
+    subst (λ (m : Contents). RunsOver dir m ops outcomes failed_at n) found.0 (ran kept)
 
 same_opened : {m m' : Contents} (opened : Result Image Fault) → m ≡ m' → IfOk opened (λ image. IsImageOf image.groups.items m) → IfOk opened (λ image. IsImageOf image.groups.items m')
 same_opened (Ok image) same is = subst (IsImageOf image.groups.items) same is

@@ -40,6 +40,11 @@ abbrev pub written_batches : Option Batch → List Batch
 written_batches None = []
 written_batches (Some batch) = written_batch batch
 
+-- what an engine is given to write in the operation
+abbrev pub given_batches : Op → List Batch
+given_batches (Write acts sync) = written_batches (batch_of_acts acts.items)
+given_batches _ = []
+
 -- the batch that the operation wrote
 abbrev pub accepted_of : Op → Outcome → List Batch
 accepted_of (Write acts sync) (Size (Ok len)) = written_batches (batch_of_acts acts.items)

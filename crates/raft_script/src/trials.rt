@@ -40,7 +40,7 @@ pub fn trial(
         (IsTrialOf config.recovery_mode (string_bytes config.dir) ops.now stop choices.now) }
     ensures cause { IfErr result (λ e. (e ≡ Fault.Memory)
         ⊎ ((fault_code e ≡ 1) × (NameNoBytes choices.now → ⊥)
-        × AreNotAllowed (string_bytes config.dir) ops.now choices.now)) }
+        × AreNotAllowed (string_bytes config.dir) ops.now stop choices.now)) }
 {
     a_queue_stays_done();
     crash_leaves_a_prefix();

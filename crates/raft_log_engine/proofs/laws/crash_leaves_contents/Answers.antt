@@ -33,4 +33,5 @@ returns-clause-as_they_are c = λ folder m batches n keeps detectable.
 
 -- a folder without a log keeps nothing
 pub returns-clause-none : goal.returns-clause-none
-returns-clause-none c = λ folder n none no_file. ∣ ([], c.crash_leaves_a_prefix.ensures.none folder n none no_file, refl) ∣₁
+returns-clause-none c = λ folder n none no_file.
+    let found = c.crash_leaves_a_prefix.ensures.none folder n none no_file in (ap recovered found.0, ∣ ([], found.1, refl) ∣₁)

@@ -3,7 +3,7 @@ use Rattle.std.specs.String.{string_bytes}
 use Rattle.raft_records.specs.Contents.{Contents}
 use Rattle.raft_env.specs.Directory.{Directory, HasFile, Path}
 use Rattle.raft_script.specs.Durability.{LeavesAllowedAfter}
-use Rattle.raft_log_engine.specs.Engine.{answered_of, begun_of, directory_of, durable_of, folder_of, has_failed, note_of, unsynced_of}
+use Rattle.raft_log_engine.specs.Engine.{answered_of, begun_of, directory_of, durable_of, folder_of, has_failed, snapshot_of, unsynced_of}
 use Rattle.raft_log_engine.specs.Contents.{contents_at}
 use Rattle.std.specs.List.{AllByRecursion}
 use Rattle.raft_pipes.specs.Done.{IsDoneIn}
@@ -70,7 +70,7 @@ returns-in_ok-ran-in-Ok-clause-any_moment g c =
     let before = g.F.FileSystem.moments c.args.files in
     let opened = c.in-Ok.ensures.any_moment in
     let outcomes = c.in_ok-ran-in-Ok.ran.outcomes.items in
-    let run = through_moments (folder_of e) (durable_of e) (progress_from (unsynced_of e)) (note_of e) (answered_of e) c.args.ops.now outcomes (note_of c.run_watched.new.engine) (answered_of c.run_watched.new.engine) c.in_ok-ran-in-Ok.ensures.any_moment in (
+    let run = through_moments (folder_of e) (durable_of e) (progress_from (unsynced_of e)) (snapshot_of e) (answered_of e) c.args.ops.now outcomes (snapshot_of c.run_watched.new.engine) (answered_of c.run_watched.new.engine) c.in_ok-ran-in-Ok.ensures.any_moment in (
       run.0 ++ opened.added,
       c.give_up.ensures.unchanged.1 ∙ run.1 ∙ ap (λ (l : List Directory). run.0 ++ l) opened.is ∙ sym (append_assoc run.0 opened.added before),
     )

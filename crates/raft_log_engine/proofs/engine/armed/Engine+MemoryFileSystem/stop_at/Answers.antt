@@ -2,7 +2,7 @@ use Rattle.std.proofs.Common.{◌++◌, length, subst, sym}
 use Rattle.raft_pipes.specs.Done.{IsDoneIfSimple}
 use Rattle.raft_pipes.specs.Pipe.{HasQueue}
 use Rattle.raft_pipes.specs.Queue.{RecoversPrefix}
-use Rattle.raft_log_engine.specs.Engine.{folder_of}
+use Rattle.raft_log_engine.specs.Engine.{base_of, folder_of, unsynced_of}
 use Rattle.raft_log_engine.proofs.engine.armed.Engine+MemoryFileSystem.stop_at.Goals as goal
 
 -- its files are the same
@@ -13,7 +13,7 @@ invariant_of-self c =
     record {
       emptied = e.emptied;
       holds = e.holds;
-      queue = λ alive. subst (λ n. HasQueue e.pipe (folder_of e) (e.base.list ++ e.since.list) (length e.base.list) n) (sym same) (e.queue alive);
+      queue = λ alive. subst (λ n. HasQueue e.pipe (folder_of e) (base_of e ++ unsynced_of e) (length (base_of e)) n) (sym same) (e.queue alive);
       done = λ alive begun. subst (λ n. IsDoneIfSimple e.pipe (folder_of e) n) (sym same) (e.done alive begun);
-      left = subst (λ n. RecoversPrefix (folder_of e) (e.base.list ++ e.since.list) (length e.base.list) n) (sym same) e.left;
+      left = subst (λ n. RecoversPrefix (folder_of e) (base_of e ++ unsynced_of e) (length (base_of e)) n) (sym same) e.left;
     }
