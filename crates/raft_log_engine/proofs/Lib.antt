@@ -1,3 +1,4 @@
+pub mod PlainLemmas
 pub mod BatchLemmas
 pub mod AllowedLemmas
 pub mod EngineLemmas
