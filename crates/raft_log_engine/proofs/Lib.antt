@@ -1,5 +1,5 @@
-pub mod PlainLemmas
 pub mod BatchLemmas
+pub mod PlainLemmas
 pub mod AllowedLemmas
 pub mod EngineLemmas
 pub mod DurabilityLemmas

@@ -1,7 +1,8 @@
-use Rattle.std.proofs.Common.{◌≡◌, ℕ, ◌+◌, ◌==◌, ◌∙◌, true, false, List, [], ◌∷◌, length, drop, refl, ap, sym, arith}
+use Rattle.std.proofs.Common.{◌≡◌, ℕ, ◌+◌, ◌==◌, ◌∙◌, true, false, List, [], ◌∷◌, ◌++◌, length, drop, refl, ap, sym, arith}
 use Rattle.std.proofs.lemmas.Grind.{common_steps}
 use Rattle.raft_tables.specs.Listing.{listed}
 use Rattle.raft_log_engine.specs.Contents.{contents_of_tables}
+use Rattle.raft_log_engine.specs.Engine.{base_of, unsynced_of}
 use Rattle.raft_log_engine.specs.Image.{entries_of}
 use Rattle.raft_records.specs.Contents.{Contents}
 use Rattle.raft_log_engine.proofs.PlainLemmas.{plain_entries}
@@ -26,7 +27,7 @@ pub loop-group-preserved : goal.loop-group-preserved
 loop-group-preserved g c =
     let m = contents_of_tables c.args.self.now.tables in
     let items = c.deref-group-items.result.now in
-    let no_entries = λ (group : ℕ). ap (λ (x : Contents). x.entries group) (c.args.self.now.holds c.if-self.false) ∙ plain_entries _ (c.args.self.now.queue c.if-self.false).plain group in
+    let no_entries = λ (group : ℕ). ap (λ (x : Contents). x.entries group) (c.args.self.now.holds c.if-self.false) ∙ plain_entries (base_of c.args.self.now ++ unsynced_of c.args.self.now) (c.args.self.now.queue c.if-self.false).plain group in
     let rest = drop (c.loop-group.group-index + 1) items in
     let listing = c.in_ok-pairs.ensures.value in
     elim c.if-not-is_empty.branch [
