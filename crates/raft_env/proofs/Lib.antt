@@ -3,4 +3,4 @@ pub mod DirectoryLemmas
 pub mod PathPartsLemmas
 pub mod ChangeLemmas
 pub mod ConsistentLemmas
-pub mod OverlaidLemmas
+pub mod OverlayLemmas

@@ -8,11 +8,11 @@ use Rattle.raft_records.specs.Item.{Batch}
 use Rattle.raft_records.specs.Record.{Header, header_in, record_header, record_of}
 use Rattle.raft_base.specs.declared.pipe_log.FileId.{FileId}
 use Rattle.raft_env.specs.Outcomes.{Change}
-use Rattle.raft_files.specs.Reading.{PlacedRecord, record_at}
-use Rattle.raft_files.specs.Detectable.{HasNoRefusedByte, IsDone, IsFreshAfter}
+use Rattle.raft_files.specs.Scan.{PlacedRecord, record_at}
+use Rattle.raft_files.specs.Detectable.{HasNoByteOfFailedCall, IsFromCompletedCall, IsFreshAfter}
 use Rattle.raft_files.specs.Records.{IsRefusedAt, IsEmptyFrom, HasNothingFrom}
 use Rattle.raft_files.proofs.ExtentLemmas.{record_header_is, record_header_long, record_of_header}
-use Rattle.raft_files.proofs.ReadingLemmas.{found_record, read_in}
+use Rattle.raft_files.proofs.ScanLemmas.{found_record, read_in}
 use Rattle.raft_files.proofs.StaleLemmas.{GivesNoneFrom, fresh_before}
 
 header_in_zero : (footer : ℕ) → header_in 0 footer ≡ None
@@ -57,7 +57,7 @@ record_of_none signature batch len e =
     absurd (omega (arith, has.long))
 
 -- what is read where zeros and bytes of refused calls stand, or stale ones, isn't done or begins at a stale place, by whatever signature what these calls were to write is judged
-pub none_done : (signature by : Option ℕ) (bytes : List ℕ) (renamed : Option ℕ) (changes : List Change) (from : ℕ) → IsEmptyFrom from bytes renamed changes → (r : PlacedRecord) → from ≤ r.at → record_at signature bytes r.at ≡ Some r → HasNoRefusedByte by changes r → IsFreshAfter renamed changes r.at → ⊥
+pub none_done : (signature by : Option ℕ) (bytes : List ℕ) (renamed : Option ℕ) (changes : List Change) (from : ℕ) → IsEmptyFrom from bytes renamed changes → (r : PlacedRecord) → from ≤ r.at → record_at signature bytes r.at ≡ Some r → HasNoByteOfFailedCall by changes r → IsFreshAfter renamed changes r.at → ⊥
 none_done signature by bytes renamed changes from (inr stale) r behind is no_byte fresh = fresh (stale r.at behind)
 none_done signature by bytes renamed changes from (inl empty) r behind is no_byte fresh =
     let found = found_record signature bytes r.at r is in
@@ -70,17 +70,17 @@ none_done signature by bytes renamed changes from (inl empty) r behind is no_byt
           record_of_none by r.batch r.len (sym (ap (λ b. record_of by b) q.5) ∙ given.1)
     ]
 
-pub done_without_byte : (id : FileId) (by : Option ℕ) (changes : List Change) (r : PlacedRecord) → HasNoRefusedByte by changes r → IsDone id by changes r
+pub done_without_byte : (id : FileId) (by : Option ℕ) (changes : List Change) (r : PlacedRecord) → HasNoByteOfFailedCall by changes r → IsFromCompletedCall id by changes r
 done_without_byte id by [] r no_byte = tt
 done_without_byte id by (c ∷ changes) r no_byte = inl no_byte
 
 -- .. so no record is done behind a place where none was before the change
 pub has_nothing_after : (id : FileId) (from at : ℕ) (c : Change) (renamed : Option ℕ) (changes : List Change) → HasNothingFrom id from c.before renamed changes → from ≤ at → GivesNoneFrom at c → IsEmptyFrom at c.after renamed (c ∷ changes) → HasNothingFrom id at c.after renamed (c ∷ changes)
-has_nothing_after id from at c renamed changes nothing further none empty by r has behind done fresh = elim done [
+has_nothing_after id from at c renamed changes nothing further none empty by r has behind completed fresh = elim completed [
   | inl no_byte ↦ let is = read_in id c.after r has in none_done is.signature by c.after renamed (c ∷ changes) at empty r behind is.is no_byte fresh
   | inr earlier ↦ nothing by r earlier.0 (omega arith) earlier.1 (fresh_before renamed c changes at r.at none behind fresh)
 ]
 
 -- nothing is read behind the end of the bytes
 pub has_nothing_past : (id : FileId) (at : ℕ) (bytes : List ℕ) (renamed : Option ℕ) (changes : List Change) → length bytes ≤ at → HasNothingFrom id at bytes renamed changes
-has_nothing_past id at bytes renamed changes short by r has behind done fresh = let is = read_in id bytes r has in absurd (omega (arith, is.long, is.within))
+has_nothing_past id at bytes renamed changes short by r has behind completed fresh = let is = read_in id bytes r has in absurd (omega (arith, is.long, is.within))

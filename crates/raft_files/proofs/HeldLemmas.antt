@@ -7,11 +7,11 @@ use Rattle.raft_base.specs.declared.pipe_log.FileId.{FileId}
 use Rattle.raft_files.specs.declared.format.LogFileFormat.{LogFileFormat}
 use Rattle.raft_files.specs.Header.{header_len}
 use Rattle.raft_env.specs.Outcomes.{Change}
-use Rattle.raft_files.specs.Reading.{PlacedRecord, next_record, end_of_records, Reading, records_after, reading, records_of, readable_records}
-use Rattle.raft_files.specs.Detectable.{IsPrefixOf, format_of, IsDone, IsFreshAfter}
+use Rattle.raft_files.specs.Scan.{PlacedRecord, next_record, end_of_records, ScanResult, records_after, scan_file, records_of, readable_records}
+use Rattle.raft_files.specs.Detectable.{IsPrefixOf, format_of, IsFromCompletedCall, IsFreshAfter}
 use Rattle.raft_files.specs.Records.{AreReadAt, HasNothingFrom, HoldsRecords}
-use Rattle.raft_files.proofs.DetectableLemmas.{beginning_trans, beginning_append, beginning_split}
-use Rattle.raft_files.proofs.ReadingLemmas.{records_stay, reading_is, reading-kept}
+use Rattle.raft_files.proofs.DetectableLemmas.{prefix_trans, prefix_append, prefix_split}
+use Rattle.raft_files.proofs.ScanLemmas.{records_stay, reading_is, reading-kept}
 use Rattle.raft_files.proofs.PlacedLemmas.{first_placed, contains_cases, placed_stands}
 
 pub end_of_held : (id : FileId) (format : LogFileFormat) (records : List PlacedRecord) (at : ℕ) (bytes : List ℕ) → HoldsRecords id format records at bytes → end_of_records (header_len format.version) records ≡ at
@@ -20,9 +20,9 @@ end_of_held id format records at bytes holds = sym ((reading_is id (take at byte
 -- the records that bytes hold come first in what is read of them
 pub reading-held : (id : FileId) (format : LogFileFormat) (records : List PlacedRecord) (at : ℕ) (bytes : List ℕ) → HoldsRecords id format records at bytes →
     let behind = records_after id format bytes at in
-    reading id bytes ≡ Some (record { format = format; records = records ++ behind; end = end_of_records at behind })
+    scan_file id bytes ≡ Some (record { format = format; records = records ++ behind; end = end_of_records at behind })
 reading-held id format records at bytes holds =
-    let r : Reading = record { format = format; records = records; end = at } in
+    let r : ScanResult = record { format = format; records = records; end = at } in
     let end = end_of_held id format records at bytes holds in
     reading-kept id at (take at bytes) bytes r records [] (take-take at at bytes (omega arith)) holds.read (sym (append-nil records)) (omega arith)
     ∙ ap (λ from. Some (record { format = format; records = records ++ records_after id format bytes from; end = end_of_records from (records_after id format bytes from) })) end
@@ -30,16 +30,16 @@ reading-held id format records at bytes holds =
 pub readable-held : (id : FileId) (format : LogFileFormat) (records : List PlacedRecord) (at : ℕ) (bytes : List ℕ) → HoldsRecords id format records at bytes → readable_records id bytes ≡ records ++ records_after id format bytes at
 readable-held id format records at bytes holds = ap (λ read. records_of read) (reading-held id format records at bytes holds)
 
-pub format_of_read : (id : FileId) (bytes : List ℕ) (r : Reading) → reading id bytes ≡ Some r → format_of bytes ≡ Some r.format
+pub format_of_read : (id : FileId) (bytes : List ℕ) (r : ScanResult) → scan_file id bytes ≡ Some r → format_of bytes ≡ Some r.format
 format_of_read id bytes r e = ap (λ header. option_map (λ (h : LogFileFormat × List ℕ). h.0) header) ((reading_is id bytes r e).header)
 
 pub format_of-held : (id : FileId) (format : LogFileFormat) (records : List PlacedRecord) (at : ℕ) (bytes : List ℕ) → HoldsRecords id format records at bytes → format_of bytes ≡ Some format
 format_of-held id format records at bytes holds = format_of_read id bytes _ (reading-held id format records at bytes holds)
 
 -- what is read behind them is read of the whole file, and stands behind them
-in_behind : (id : FileId) (format : LogFileFormat) (records : List PlacedRecord) (at : ℕ) (bytes : List ℕ) → HoldsRecords id format records at bytes →
+in_after : (id : FileId) (format : LogFileFormat) (records : List PlacedRecord) (at : ℕ) (bytes : List ℕ) → HoldsRecords id format records at bytes →
     (r : PlacedRecord) → Contains (records_after id format bytes at) r → Contains (readable_records id bytes) r × (at ≤ r.at)
-in_behind id format records at bytes holds r has =
+in_after id format records at bytes holds r has =
     let behind = records_after id format bytes at in (
       subst (λ all. Contains all r) (sym (readable-held id format records at bytes holds)) (Contains-append_right records behind r has),
       (placed_stands (records_stay id format bytes) (length bytes) at behind refl r has).behind,
@@ -52,7 +52,7 @@ read_of_held id format records at bytes holds r has =
     let behind = records_after id format bytes at in
     elim (Contains-append_cases records behind r (subst (λ all. Contains all r) (readable-held id format records at bytes holds) has)) [
       | inl inside ↦ inl inside
-      | inr further ↦ inr (in_behind id format records at bytes holds r further).1
+      | inr further ↦ inr (in_after id format records at bytes holds r further).1
     ]
 
 -- each of them ends before the place
@@ -72,10 +72,10 @@ only_one (x ∷ []) r few has = elim (contains_cases x r [] has) [
 only_one (x ∷ y ∷ rs) r few has = absurd (omega (arith, few))
 
 -- where all that is read is among at most one record, no second is read
-beginning_of_one : (id : FileId) (format : LogFileFormat) (bytes : List ℕ) (at : ℕ) (left others : List PlacedRecord) → length others ≤ 1 → IsPrefixOf left (records_after id format bytes at) → ((r : PlacedRecord) → Contains left r → Contains others r) → IsPrefixOf left others
-beginning_of_one id format bytes at [] others few begins among = (others, refl)
-beginning_of_one id format bytes at (r ∷ []) others few begins among = ([], only_one others r few (among r (0, omega arith, refl)))
-beginning_of_one id format bytes at (r ∷ q ∷ left) others few begins among =
+prefix_of_one : (id : FileId) (format : LogFileFormat) (bytes : List ℕ) (at : ℕ) (left others : List PlacedRecord) → length others ≤ 1 → IsPrefixOf left (records_after id format bytes at) → ((r : PlacedRecord) → Contains left r → Contains others r) → IsPrefixOf left others
+prefix_of_one id format bytes at [] others few begins among = (others, refl)
+prefix_of_one id format bytes at (r ∷ []) others few begins among = ([], only_one others r few (among r (0, omega arith, refl)))
+prefix_of_one id format bytes at (r ∷ q ∷ left) others few begins among =
     let stays = records_stay id format bytes in
     let further = q ∷ left ++ begins.0 in
     let first = first_placed (next_record id format bytes) (length bytes) at r further begins.1 in
@@ -86,20 +86,20 @@ beginning_of_one id format bytes at (r ∷ q ∷ left) others few begins among =
 
 -- where at most one record is done behind these, a crash leaves a beginning of all
 pub left_of_torn : (id : FileId) (format : LogFileFormat) (by : Option ℕ) (records others : List PlacedRecord) (at : ℕ) (bytes : List ℕ) (renamed : Option ℕ) (changes : List Change) → HoldsRecords id format records at bytes → length others ≤ 1 →
-    ((r : PlacedRecord) → Contains (readable_records id bytes) r → at ≤ r.at → IsDone id by changes r → IsFreshAfter renamed changes r.at → Contains others r) →
+    ((r : PlacedRecord) → Contains (readable_records id bytes) r → at ≤ r.at → IsFromCompletedCall id by changes r → IsFreshAfter renamed changes r.at → Contains others r) →
     (left : List PlacedRecord) → AreReadAt id by bytes renamed changes left → IsPrefixOf left (records ++ others)
 left_of_torn id format by records others at bytes renamed changes holds few only left read =
-    let begins = read.beginning in
+    let begins = read.prefix in
     let behind = records_after id format bytes at in
-    elim (beginning_split left records behind (begins.0, sym (readable-held id format records at bytes holds) ∙ begins.1)) [
-      | inl within ↦ beginning_trans left records (records ++ others) within (beginning_append records others)
+    elim (prefix_split left records behind (begins.0, sym (readable-held id format records at bytes holds) ∙ begins.1)) [
+      | inl within ↦ prefix_trans left records (records ++ others) within (prefix_append records others)
       | inr further ↦
           let rest = further.0 in
           let among : (r : PlacedRecord) → Contains rest r → Contains others r = λ r has.
-          let is = in_behind id format records at bytes holds r (subst (λ all. Contains all r) (sym further.2.1) (Contains-append_left rest further.2.0 r has)) in
+          let is = in_after id format records at bytes holds r (subst (λ all. Contains all r) (sym further.2.1) (Contains-append_left rest further.2.0 r has)) in
           let in_left = subst (λ all. Contains all r) (sym further.1) (Contains-append_right records rest r has) in
-          only r is.0 is.1 (read.done r in_left) (read.fresh r in_left) in
-          let first : IsPrefixOf rest others = beginning_of_one id format bytes at rest others few further.2 among in
+          only r is.0 is.1 (read.completed r in_left) (read.fresh r in_left) in
+          let first : IsPrefixOf rest others = prefix_of_one id format bytes at rest others few further.2 among in
           (first.0, ap (λ rs. records ++ rs) first.1 ∙ sym (append_assoc records rest first.0) ∙ ap (λ rs. rs ++ first.0) (sym further.1))
     ]
 

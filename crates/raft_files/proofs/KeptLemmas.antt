@@ -7,13 +7,13 @@ use Rattle.raft_records.specs.Item.{Batch}
 use Rattle.raft_base.specs.declared.pipe_log.FileId.{FileId}
 use Rattle.raft_files.specs.declared.format.LogFileFormat.{LogFileFormat}
 use Rattle.raft_files.specs.Header.{header_bytes, header_len}
-use Rattle.raft_env.specs.Outcomes.{File, resized, cut_to, synced_of, settled, bytes_after}
-use Rattle.raft_env.specs.Directory.{Directory, CrashImage, Path, file_at, placed, created, changed, changed_at, IsOneOf, IsTruncating, IsRestarted}
-use Rattle.raft_files.specs.Reading.{PlacedRecord, Reading, records_after, end_of_records, reading, records_of, readable_records, readable_batches, end_of_reading, ends_with, is_read_to_end}
+use Rattle.raft_env.specs.Outcomes.{File, file_after_resize, cut_to, synced_of, synced_file, bytes_after}
+use Rattle.raft_env.specs.Directory.{Directory, CrashImage, Path, file_at, with_file, after_create, update_file, update_at, IsOneOf, IsTruncating, IsRestarted}
+use Rattle.raft_files.specs.Scan.{PlacedRecord, ScanResult, records_after, end_of_records, scan_file, records_of, readable_records, readable_batches, end_of_scan, ends_with, is_read_to_end}
 use Rattle.raft_files.specs.Detectable.{IsPrefixOf, signature_by, IsDetectable}
 use Rattle.raft_files.specs.Records.{ReadsFirst, RecoversRecords, HoldsRecords, IsWrittenTo, HasLog, HasTornLog, image_of_file, bytes_after_crash, FirstOf, RecoversLog, RecoversNoRecord, RecoversNothingAt, RecoversPrefixAt}
 use Rattle.raft_files.specs.Writer.{HasChanged, IsOpening, IsAppending, IsCutting, IsSynced, IsSyncing, IsClosing, capacity_for, bytes_of, bytes_at}
-use Rattle.raft_files.proofs.DetectableLemmas.{beginning_trans, beginning_append, beginning_take}
+use Rattle.raft_files.proofs.DetectableLemmas.{prefix_trans, prefix_append, prefix_take}
 use Rattle.raft_env.proofs.DirectoryLemmas.{file_at-placed_same}
 use Rattle.raft_files.proofs.ExtentLemmas.{same_some}
 use Rattle.raft_files.proofs.HeldLemmas.{reading-held, format_of_read}
@@ -21,7 +21,7 @@ use Rattle.raft_files.proofs.RecordsLemmas.{keeps_batches, keeps_weaker}
 use Rattle.raft_files.proofs.FreshLemmas.{header_len_within, readable_records-short}
 use Rattle.raft_files.proofs.NoneLemmas.{moments_synced, none_left, only_moment, none_settled, none_synced, none_appending}
 use Rattle.raft_files.proofs.TruncationLemmas.{reading-cut, keeps_cut, none_cut}
-use Rattle.raft_files.proofs.ReadingLemmas.{header_within, end_of_read_within}
+use Rattle.raft_files.proofs.ScanLemmas.{header_within, end_of_read_within}
 use Rattle.raft_files.proofs.LogLemmas.{count_of, torn_of_log, torn_log_cutting}
 use Rattle.raft_files.proofs.SyncLemmas.{written_to_whole}
 use Rattle.raft_files.proofs.ChangedLemmas.{stands_after}
@@ -45,7 +45,7 @@ kept_left path id batches synced n (inr (nothing, none_synced)) d detectable =
 reads_held : (id : FileId) (format : LogFileFormat) (records others : List PlacedRecord) (synced at : ℕ) (bytes : List ℕ) → HoldsRecords id format records at bytes → synced ≤ length records → ReadsFirst id format (take synced (records ++ others)) bytes
 reads_held id format records others synced at bytes holds few =
     let behind = records_after id format bytes at in
-    let first = beginning_trans (take synced records) records (records ++ behind) (beginning_take synced records) (beginning_append records behind) in
+    let first = prefix_trans (take synced records) records (records ++ behind) (prefix_take synced records) (prefix_append records behind) in
     record {
       all = records ++ behind;
       end = end_of_records at behind;
@@ -84,7 +84,7 @@ kept_more path id batches more synced n (inl log) = inl (record {
   format = log.format;
   records = log.records ++ others;
   holds = map-append (λ (p : PlacedRecord). p.batch) log.records others ∙ ap (λ bs. bs ++ map (λ (p : PlacedRecord). p.batch) others) log.holds ∙ ap (λ bs. batches ++ bs) (same more);
-  keeps = keeps_weaker id log.format log.records (log.records ++ others) synced synced log.file log.keeps (beginning_append log.records others) (omega arith);
+  keeps = keeps_weaker id log.format log.records (log.records ++ others) synced synced log.file log.keeps (prefix_append log.records others) (omega arith);
   reads = subst (λ rs. ReadsFirst id log.format rs log.file.now) (sym (take-append-le synced log.records others log.keeps.few)) log.reads;
 })
   where
@@ -106,28 +106,28 @@ kept_none path id batches n none = inr (λ file stands. let no_file : None ≡ S
 -- A file that a crash leaves as it is.
 
 -- all records are read first
-reads_all : (id : FileId) (bytes : List ℕ) (r : Reading) → reading id bytes ≡ Some r → ReadsFirst id r.format (take (length r.records) r.records) bytes
-reads_all id bytes r e = record { all = r.records; end = r.end; read = e; first = beginning_take (length r.records) r.records }
+reads_all : (id : FileId) (bytes : List ℕ) (r : ScanResult) → scan_file id bytes ≡ Some r → ReadsFirst id r.format (take (length r.records) r.records) bytes
+reads_all id bytes r e = record { all = r.records; end = r.end; read = e; first = prefix_take (length r.records) r.records }
 
-keeps_settled : (id : FileId) (bytes : List ℕ) (r : Reading) → reading id bytes ≡ Some r → RecoversRecords id r.format r.records (length r.records) (settled bytes)
+keeps_settled : (id : FileId) (bytes : List ℕ) (r : ScanResult) → scan_file id bytes ≡ Some r → RecoversRecords id r.format r.records (length r.records) (synced_file bytes)
 keeps_settled id bytes r e = record {
   header = format_of_read id bytes r e;
   latest = refl;
-  moments = λ newer upto moment left read. subst (λ rs. IsPrefixOf left rs) (only_moment (λ changes. readable_records id (bytes_after bytes changes) ≡ r.records) (ap (λ q. records_of q) e) newer upto moment) read.beginning;
+  moments = λ newer upto moment left read. subst (λ rs. IsPrefixOf left rs) (only_moment (λ changes. readable_records id (bytes_after bytes changes) ≡ r.records) (ap (λ q. records_of q) e) newer upto moment) read.prefix;
   few = omega arith;
   covered = subst (λ b. ReadsFirst id r.format (take (length r.records) r.records) b) (sym (take_all (length bytes) bytes (omega arith))) (reads_all id bytes r e);
 }
 
-pub kept_settled : (path : Path) (id : FileId) (bytes : List ℕ) (n : Directory) → file_at n path ≡ Some (settled bytes) → RecoversPrefixAt path id (readable_batches id bytes) (length (readable_batches id bytes)) n
-kept_settled path id bytes n stands = by_reading (reading id bytes) refl
+pub kept_settled : (path : Path) (id : FileId) (bytes : List ℕ) (n : Directory) → file_at n path ≡ Some (synced_file bytes) → RecoversPrefixAt path id (readable_batches id bytes) (length (readable_batches id bytes)) n
+kept_settled path id bytes n stands = by_reading (scan_file id bytes) refl
   where
     batches_of : List PlacedRecord → List Batch
     batches_of rs = map (λ p. p.batch) rs
 
-    by_reading : (read : Option Reading) → reading id bytes ≡ read → RecoversPrefixAt path id (batches_of (records_of read)) (length (batches_of (records_of read))) n
+    by_reading : (read : Option ScanResult) → scan_file id bytes ≡ read → RecoversPrefixAt path id (batches_of (records_of read)) (length (batches_of (records_of read))) n
     by_reading None e = inr (λ file stands_too. subst (λ f. RecoversNoRecord id f) (same_some (sym stands ∙ stands_too)) (none_settled id bytes (ap (λ q. records_of q) e)), refl)
     by_reading (Some r) e = subst (λ count. RecoversPrefixAt path id (batches_of r.records) count n) (count_of r.records (batches_of r.records) refl) (inl (record {
-      file = settled bytes;
+      file = synced_file bytes;
       stands = stands;
       format = r.format;
       records = r.records;
@@ -146,9 +146,9 @@ kept_restarted path id n m d restarted = by_file (file_at n path) refl
     by_file : (found : Option File) → file_at n path ≡ found → Kept (image_of_file found (d path))
     by_file None e =
         let none : readable_batches id [] ≡ [] = ap (λ rs. map (λ (p : PlacedRecord). p.batch) rs) (readable_records-short id [] (omega arith)) in
-        let stands : file_at m path ≡ None = restarted.each path ∙ ap (λ found. option_map (λ _. settled (d path)) found) e in
+        let stands : file_at m path ≡ None = restarted.each path ∙ ap (λ found. option_map (λ _. synced_file (d path)) found) e in
         subst (λ bs. RecoversPrefixAt path id bs (length bs) m) (sym none) (kept_none path id [] m stands)
-    by_file (Some file) e = kept_settled path id (d path) m (restarted.each path ∙ ap (λ found. option_map (λ _. settled (d path)) found) e)
+    by_file (Some file) e = kept_settled path id (d path) m (restarted.each path ∙ ap (λ found. option_map (λ _. synced_file (d path)) found) e)
 
 -- Syncs.
 
@@ -196,19 +196,19 @@ module _ (path : Path) (id : FileId) (batches : List Batch) (synced : ℕ) (old 
 
 module _ (path : Path) (old new : Directory) (id : FileId) (format : LogFileFormat) (batches : List Batch) (synced at : ℕ) where
   -- the file is cut before it is synced
-  halfway : (change : HasChanged path (IsClosing at) old new) → HasChanged path (IsCutting at) old (placed path change.how.0 old)
+  halfway : (change : HasChanged path (IsClosing at) old new) → HasChanged path (IsCutting at) old (with_file path change.how.0 old)
   halfway change = record { before = change.before; was = change.was; after = change.how.0; is = refl; how = change.how.1 }
 
-  then_synced : (all : List Batch) (change : HasChanged path (IsClosing at) old new) → RecoversPrefixAt path id all synced (placed path change.how.0 old) → RecoversPrefixAt path id all synced new
+  then_synced : (all : List Batch) (change : HasChanged path (IsClosing at) old new) → RecoversPrefixAt path id all synced (with_file path change.how.0 old) → RecoversPrefixAt path id all synced new
   then_synced all change =
-      syncing_kept path id all synced (placed path change.how.0 old) new change.how.0 change.after (file_at-placed_same path change.how.0 old) (stands_after path old new (IsClosing at) change) change.how.2
+      syncing_kept path id all synced (with_file path change.how.0 old) new change.how.0 change.after (file_at-placed_same path change.how.0 old) (stands_after path old new (IsClosing at) change) change.how.2
 
   pub log_syncing_kept : HasLog path id format batches synced at old → HasChanged path IsSyncing old new → RecoversPrefixAt path id batches synced new
   log_syncing_kept log change = kept_syncing path id batches synced old new change (log_kept path id format batches synced at old log)
 
   pub torn_log_closing_kept : (in_flight : List Batch) → HasTornLog path id format batches in_flight synced at old → HasChanged path (IsClosing at) old new → RecoversPrefixAt path id (batches ++ in_flight) synced new
   torn_log_closing_kept in_flight log change =
-      let mid = placed path change.how.0 old in
+      let mid = with_file path change.how.0 old in
       then_synced (batches ++ in_flight) change (torn_log_kept path id format batches in_flight synced at mid (torn_log_cutting path old mid id format batches in_flight synced at log (halfway change)))
 
   pub log_closing_kept : HasLog path id format batches synced at old → HasChanged path (IsClosing at) old new → RecoversPrefixAt path id batches synced new
@@ -218,7 +218,7 @@ module _ (path : Path) (old new : Directory) (id : FileId) (format : LogFileForm
 
 module _ (path : Path) (id : FileId) (batches : List Batch) (synced : ℕ) (old new : Directory) where
   -- a moment of a truncation to the end of what is read
-  pub kept_truncating : (size : ℕ) → size ≡ end_of_reading id (bytes_at path old) → IsTruncating path size old new → RecoversPrefixAt path id batches synced old → RecoversPrefixAt path id batches synced new
+  pub kept_truncating : (size : ℕ) → size ≡ end_of_scan id (bytes_at path old) → IsTruncating path size old new → RecoversPrefixAt path id batches synced old → RecoversPrefixAt path id batches synced new
   kept_truncating size cuts (inl same) kept = subst (RecoversPrefixAt path id batches synced) (sym same) kept
   kept_truncating size cuts (inr (before, after, is_done, was, outcome, is)) kept = by_kept kept
     where
@@ -228,8 +228,8 @@ module _ (path : Path) (id : FileId) (batches : List Batch) (synced : ℕ) (old 
       stands : file_at new path ≡ Some cut
       stands = ap (λ (n : Directory). file_at n path) is ∙ file_at-placed_same path cut old
 
-      cuts_file : size ≡ end_of_reading id before.now
-      cuts_file = cuts ∙ ap (λ file. end_of_reading id (bytes_of file)) was
+      cuts_file : size ≡ end_of_scan id before.now
+      cuts_file = cuts ∙ ap (λ file. end_of_scan id (bytes_of file)) was
 
       by_kept : RecoversPrefixAt path id batches synced old → RecoversPrefixAt path id batches synced new
       by_kept (inl log) =
@@ -240,14 +240,14 @@ module _ (path : Path) (id : FileId) (batches : List Batch) (synced : ℕ) (old 
       by_kept (inr (nothing, none)) = inr (λ file stands_too. subst (RecoversNoRecord id) (same_some (sym stands ∙ stands_too)) (none_cut id size is_done after before (nothing before was) cuts_file outcome), none)
 
   -- a moment of the making of a file
-  pub kept_created : IsOneOf old (created path old) new → RecoversPrefixAt path id batches synced old → RecoversPrefixAt path id batches synced new
+  pub kept_created : IsOneOf old (after_create path old) new → RecoversPrefixAt path id batches synced old → RecoversPrefixAt path id batches synced new
   kept_created (inl same) kept = subst (RecoversPrefixAt path id batches synced) (sym same) kept
   kept_created (inr is) kept = subst (RecoversPrefixAt path id batches synced) (sym is) (by_file (file_at old path) refl kept)
     where
-      by_file : (found : Option File) → file_at old path ≡ found → RecoversPrefixAt path id batches synced old → RecoversPrefixAt path id batches synced (cond (is_some found) old (placed path (settled []) old))
+      by_file : (found : Option File) → file_at old path ≡ found → RecoversPrefixAt path id batches synced old → RecoversPrefixAt path id batches synced (cond (is_some found) old (with_file path (synced_file []) old))
       by_file (Some file) e kept = kept
       by_file None e (inl log) = let no_file : None ≡ Some log.file = sym e ∙ log.stands in absurd cc
-      by_file None e (inr (nothing, none)) = inr (λ file stands. subst (RecoversNoRecord id) (same_some (sym (file_at-placed_same path (settled []) old) ∙ stands)) (none_settled id [] (readable_records-short id [] (omega arith))), none)
+      by_file None e (inr (nothing, none)) = inr (λ file stands. subst (RecoversNoRecord id) (same_some (sym (file_at-placed_same path (synced_file []) old) ∙ stands)) (none_settled id [] (readable_records-short id [] (omega arith))), none)
 
   -- a moment of the writing of a header into a file that is no longer than that
   pub nothing_opening : (format : LogFileFormat) → length (bytes_at path old) ≤ header_len format.version → IsOpening path format old new → RecoversNothingAt path id old → RecoversNothingAt path id new
@@ -275,36 +275,36 @@ module _ (path : Path) (id : FileId) (batches : List Batch) (synced : ℕ) (old 
 -- What is found and cut where the reading ends.
 
 -- it is read to its end
-pub read_to_end-cut : (id : FileId) (bytes : List ℕ) (r : Reading) → reading id bytes ≡ Some r → is_read_to_end id (take r.end bytes) ≡ true
+pub read_to_end-cut : (id : FileId) (bytes : List ℕ) (r : ScanResult) → scan_file id bytes ≡ Some r → is_read_to_end id (take r.end bytes) ≡ true
 read_to_end-cut id bytes r e =
     let len : length (take r.end bytes) ≡ r.end = length-take-le r.end bytes (end_of_read_within id bytes r e) in
     ap (λ read. ends_with (length (take r.end bytes)) read) (reading-cut id bytes r e) ∙ eq-eqb r.end (length (take r.end bytes)) (sym len)
 
-pub bytes_truncated : (path : Path) (size : ℕ) (old new : Directory) → new ≡ changed path (λ f. resized (take size f.now) f) old → bytes_at path new ≡ take size (bytes_at path old)
+pub bytes_truncated : (path : Path) (size : ℕ) (old new : Directory) → new ≡ update_file path (λ f. file_after_resize (take size f.now) f) old → bytes_at path new ≡ take size (bytes_at path old)
 bytes_truncated path size old new is = by_file (file_at old path) refl
   where
     cut : File → File
-    cut f = resized (take size f.now) f
+    cut f = file_after_resize (take size f.now) f
 
     by_file : (found : Option File) → file_at old path ≡ found → bytes_at path new ≡ take size (bytes_of found)
     by_file None e =
-        ap (λ n. bytes_at path n) (is ∙ ap (λ o. changed_at path cut o old) e)
+        ap (λ n. bytes_at path n) (is ∙ ap (λ o. update_at path cut o old) e)
         ∙ ap bytes_of e
         ∙ sym (take_all size [] (omega arith))
     by_file (Some file) e =
-        ap (λ n. bytes_at path n) (is ∙ ap (λ o. changed_at path cut o old) e)
+        ap (λ n. bytes_at path n) (is ∙ ap (λ o. update_at path cut o old) e)
         ∙ ap bytes_of (file_at-placed_same path (cut file) old)
 
 -- .. and once it is synced it is a log with these batches
-pub log_found_cut : (path : Path) (id : FileId) (r : Reading) (old cut new : Directory) → let bytes = bytes_at path old in let found = readable_batches id bytes in
-    reading id bytes ≡ Some r → bytes_at path cut ≡ take r.end bytes → HasChanged path IsSynced cut new → HasLog path id r.format found (length found) r.end new
+pub log_found_cut : (path : Path) (id : FileId) (r : ScanResult) (old cut new : Directory) → let bytes = bytes_at path old in let found = readable_batches id bytes in
+    scan_file id bytes ≡ Some r → bytes_at path cut ≡ take r.end bytes → HasChanged path IsSynced cut new → HasLog path id r.format found (length found) r.end new
 log_found_cut path id r old cut new e is change =
     let bytes = bytes_at path old in
     let found = readable_batches id bytes in
     let file = change.before in
     let now : file.now ≡ take r.end bytes = sym (ap bytes_of change.was) ∙ is in
     let len : length (take r.end bytes) ≡ r.end = length-take-le r.end bytes (end_of_read_within id bytes r e) in
-    let held : HoldsRecords id r.format r.records r.end (take r.end bytes) = record { within = omega arith; read = ap (reading id) (take-take r.end r.end bytes (omega arith)) ∙ reading-cut id bytes r e } in
+    let held : HoldsRecords id r.format r.records r.end (take r.end bytes) = record { within = omega arith; read = ap (scan_file id) (take-take r.end r.end bytes (omega arith)) ∙ reading-cut id bytes r e } in
     let written = written_to_whole id r.format r.records r.end file (subst (HoldsRecords id r.format r.records r.end) (sym now) held) (omega (arith, ap length now, len)) in
     let holds : map (λ (p : PlacedRecord). p.batch) r.records ≡ found = sym (ap (λ q. map (λ (p : PlacedRecord). p.batch) (records_of q)) e) in
     record {

@@ -7,7 +7,7 @@ pub mod ReaderLemmas
 pub mod RecordReaderLemmas
 pub mod ExtentLemmas
 pub mod PlacedLemmas
-pub mod ReadingLemmas
+pub mod ScanLemmas
 pub mod ReplayLemmas
 pub mod DetectableLemmas
 pub mod StaleLemmas

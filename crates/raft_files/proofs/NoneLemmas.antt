@@ -4,10 +4,10 @@ use Rattle.std.proofs.lemmas.Bool.{cases_Bool}
 use Rattle.raft_base.specs.declared.pipe_log.FileId.{FileId}
 use Rattle.raft_files.specs.declared.format.LogFileFormat.{LogFileFormat}
 use Rattle.raft_files.specs.Header.{header_bytes, header_len}
-use Rattle.raft_env.specs.Outcomes.{File, Change, IsPartOf, overlaid, written, changed_by, synced_of, settled, bytes_after, lengthened_change, written_change}
-use Rattle.raft_files.specs.Reading.{PlacedRecord, readable_records, readable_batches}
+use Rattle.raft_env.specs.Outcomes.{File, Change, IsPartOf, overlay, file_after_write, changed_by, synced_of, synced_file, bytes_after, lengthened_change, written_change}
+use Rattle.raft_files.specs.Scan.{PlacedRecord, readable_records, readable_batches}
 use Rattle.raft_files.specs.Detectable.{IsPrefixOf, format_of, signature_by, IsDetectableFile}
-use Rattle.raft_files.specs.Records.{AreReadAt, AreReadBehind, RecoversNoRecord}
+use Rattle.raft_files.specs.Records.{AreReadAt, AreReadAfter, RecoversNoRecord}
 use Rattle.raft_files.specs.Writer.{IsStep, IsLengthened, IsAppending, capacity_for}
 use Rattle.raft_files.proofs.HeaderLemmas.{length-header_bytes}
 use Rattle.raft_files.proofs.RecordsLemmas.{AtEachMoment, moments_more, readable_without_header}
@@ -20,11 +20,11 @@ none_left id file left none detectable = ap (λ rs. map (λ (p : PlacedRecord). 
   where
     by_format : (format : Option LogFileFormat) → format_of left ≡ format → readable_records id left ≡ []
     by_format None e = readable_without_header id left e
-    by_format (Some format) e = none.moments detectable.newer detectable.upto detectable.moment format (readable_records id left) (record { beginning = detectable.beginning; done = detectable.done format e; fresh = detectable.none_stale })
+    by_format (Some format) e = none.moments detectable.newer detectable.upto detectable.moment format (readable_records id left) (record { prefix = detectable.prefix; completed = detectable.completed format e; fresh = detectable.none_stale })
 
 -- the same bytes under an equal name
 pub read_of_bytes : {id : FileId} {signature : Option ℕ} {a b : List ℕ} {renamed : Option ℕ} {changes : List Change} {left : List PlacedRecord} → a ≡ b → AreReadAt id signature a renamed changes left → AreReadAt id signature b renamed changes left
-read_of_bytes {id = id} {left = left} same read = record { beginning = subst (λ bytes. IsPrefixOf left (readable_records id bytes)) same read.beginning; done = read.done; fresh = read.fresh }
+read_of_bytes {id = id} {left = left} same read = record { prefix = subst (λ bytes. IsPrefixOf left (readable_records id bytes)) same read.prefix; completed = read.completed; fresh = read.fresh }
 
 pub nothing_of : (rs left : List PlacedRecord) → rs ≡ [] → IsPrefixOf left rs → left ≡ []
 nothing_of rs [] none begins = refl
@@ -38,14 +38,14 @@ only_moment P holds [] [] e = holds
 only_moment P holds [] (c ∷ upto) e = cc
 only_moment P holds (c ∷ newer) upto e = cc
 
-pub none_settled : (id : FileId) (bytes : List ℕ) → readable_records id bytes ≡ [] → RecoversNoRecord id (settled bytes)
+pub none_settled : (id : FileId) (bytes : List ℕ) → readable_records id bytes ≡ [] → RecoversNoRecord id (synced_file bytes)
 none_settled id bytes none = record {
   latest = refl;
-  moments = λ newer upto e format left read. nothing_of _ left (only_moment (λ changes. readable_records id (bytes_after bytes changes) ≡ []) none newer upto e) read.beginning;
+  moments = λ newer upto e format left read. nothing_of _ left (only_moment (λ changes. readable_records id (bytes_after bytes changes) ≡ []) none newer upto e) read.prefix;
 }
 
 pub moments_synced : (P : List PlacedRecord → Type 0) (id : FileId) (by : Option ℕ) (file : File) → file.now ≡ bytes_after file.synced file.changes → AtEachMoment P id by file → AtEachMoment P id by (synced_of file)
-moments_synced P id by file latest before = only_moment (λ upto. (left : List PlacedRecord) → AreReadBehind id by (synced_of file) upto left → P left) (λ left read. before [] file.changes refl left (read_of_bytes latest read))
+moments_synced P id by file latest before = only_moment (λ upto. (left : List PlacedRecord) → AreReadAfter id by (synced_of file) upto left → P left) (λ left read. before [] file.changes refl left (read_of_bytes latest read))
 
 pub none_synced : (id : FileId) (file : File) → RecoversNoRecord id file → RecoversNoRecord id (synced_of file)
 none_synced id file none = record { latest = refl; moments = λ newer upto e format. moments_synced (λ left. left ≡ []) id (signature_by id format) file none.latest (λ newer upto e left. none.moments newer upto e format left) newer upto e }
@@ -63,7 +63,7 @@ none_more id file c none moment = record {
 none_short : (id : FileId) (old new : File) → RecoversNoRecord id old → length new.now ≤ 69 → (new ≡ old) ⊎ ((c : Change) × (new ≡ changed_by c old)) → RecoversNoRecord id new
 none_short id old new none short (inl same) = subst (RecoversNoRecord id) (sym same) none
 none_short id old new none short (inr (c, is)) =
-    subst (RecoversNoRecord id) (sym is) (none_more id old c none (λ format left read. nothing_of _ left (readable_records-short id c.after (omega (arith, short, ap (λ (f : File). length f.now) is))) read.beginning))
+    subst (RecoversNoRecord id) (sym is) (none_more id old c none (λ format left read. nothing_of _ left (readable_records-short id c.after (omega (arith, short, ap (λ (f : File). length f.now) is))) read.prefix))
 
 room_of_header : (format : LogFileFormat) (size : ℕ) → size ≤ header_len format.version → capacity_for (header_len format.version) 0 size ≤ 69
 room_of_header format size within = elim (cases_Bool (ltb size (header_len format.version))) [
@@ -89,6 +89,6 @@ none_appending id format old new within none how =
     lengthened_once (inr (grows, inl same)) = inl same
     lengthened_once {room} (inr (grows, inr (after, is_done, outcome, is))) = inr (lengthened_change room is_done after old.now, is)
 
-    written_once : {mid : File} → IsStep (written 0 (header_bytes format)) (λ now. overlaid now 0 (header_bytes format)) (IsPartOf 0 (length (header_bytes format))) mid new → (new ≡ mid) ⊎ ((c : Change) × (new ≡ changed_by c mid))
+    written_once : {mid : File} → IsStep (file_after_write 0 (header_bytes format)) (λ now. overlay now 0 (header_bytes format)) (IsPartOf 0 (length (header_bytes format))) mid new → (new ≡ mid) ⊎ ((c : Change) × (new ≡ changed_by c mid))
     written_once (inl same) = inl same
     written_once {mid} (inr (after, is_done, outcome, is)) = inr (written_change 0 (header_bytes format) is_done after mid.now, is)

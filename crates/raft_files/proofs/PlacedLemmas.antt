@@ -3,7 +3,7 @@ use Rattle.std.proofs.Common.{◌≡◌, ◌⊎◌, ℕ, zero, suc, ◌+◌, ◌
 use Rattle.std.specs.Option.{option_map_or}
 use Rattle.std.proofs.lemmas.List.{append-nil}
 use Rattle.std.proofs.lemmas.List.Elements.{Contains-append_cases, Contains-push_cases}
-use Rattle.raft_files.specs.Reading.{PlacedRecord, placed_by, end_of_records}
+use Rattle.raft_files.specs.Scan.{PlacedRecord, placed_by, end_of_records}
 
 -- the search goes forward, and what is found has bytes and stands before an end
 pub record StaysBefore (end : ℕ) (next : ℕ → Option PlacedRecord) : Type 0 where

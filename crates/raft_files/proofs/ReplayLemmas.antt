@@ -10,11 +10,11 @@ use Rattle.raft_records.specs.Replay.{replayed_by, replayed_record}
 use Rattle.raft_base.specs.declared.pipe_log.FileId.{FileId}
 use Rattle.raft_base.specs.FileId.{signature_in}
 use Rattle.raft_files.specs.Header.{header_len, header_of}
-use Rattle.raft_files.specs.Reading.{PlacedRecord, placed_by, readable_records, reading_in, record_at, record_place, next_record, records_after, records_of}
-use Rattle.raft_files.specs.Replay.{block_behind, has_sound_block_at, next_replayed, replayed_at, replayed_behind, replayed_in, replayed_records}
+use Rattle.raft_files.specs.Scan.{PlacedRecord, placed_by, readable_records, scan_after_header, record_at, record_place, next_record, records_after, records_of}
+use Rattle.raft_files.specs.Replay.{block_after, has_sound_block_at, next_replayed, replayed_at, replayed_after, replayed_in, replayed_records}
 use Rattle.raft_files.specs.declared.format.LogFileFormat.{LogFileFormat}
 use Rattle.raft_files.proofs.ExtentLemmas.{parts_there, some_if, record_header_is, same_some, some_then}
-use Rattle.raft_files.proofs.ReadingLemmas.{placed_there, record_place-forward}
+use Rattle.raft_files.proofs.ScanLemmas.{placed_there, record_place-forward}
 use Rattle.raft_files.proofs.PlacedLemmas.{StaysBefore, cases_next}
 
 -- What can be read is what a replay takes, where its block is sound.
@@ -23,7 +23,7 @@ cond_none : {A : Type 0} (b : Bool) → None ≡ cond {A = Option A} b None None
 cond_none true = refl
 cond_none false = refl
 
-record_of-replayed_record : (signature : Option ℕ) (bytes : List ℕ) → record_of signature bytes ≡ cond (is_block (block_behind bytes (record_header bytes))) (replayed_record signature bytes) None
+record_of-replayed_record : (signature : Option ℕ) (bytes : List ℕ) → record_of signature bytes ≡ cond (is_block (block_after bytes (record_header bytes))) (replayed_record signature bytes) None
 record_of-replayed_record signature bytes = by_parts (record_parts signature bytes) refl
   where
     either : (lz4 sound : Bool) (x : Batch × ℕ) → cond (not lz4 && sound) (Some x) None ≡ cond sound (cond lz4 None (Some x)) None
@@ -32,8 +32,8 @@ record_of-replayed_record signature bytes = by_parts (record_parts signature byt
     either false true x = refl
     either false false x = refl
 
-    by_parts : (o : Option Parts) → record_parts signature bytes ≡ o → option_and_then batch_by o ≡ cond (is_block (block_behind bytes (record_header bytes))) (option_and_then replayed_by o) None
-    by_parts None e = cond_none (is_block (block_behind bytes (record_header bytes)))
+    by_parts : (o : Option Parts) → record_parts signature bytes ≡ o → option_and_then batch_by o ≡ cond (is_block (block_after bytes (record_header bytes))) (option_and_then replayed_by o) None
+    by_parts None e = cond_none (is_block (block_after bytes (record_header bytes)))
     by_parts (Some p) e =
         let is = parts_there signature bytes p e in
         either (is_lz4_block p.header.is_lz4 (length p.block)) (is_block p.block) (items_from p.items p.block, p.header.len)
@@ -53,7 +53,7 @@ record_at-replayed_at signature bytes at = ap (option_map placed) (record_of-rep
 -- a record that can be read is taken by a replay
 pub replayed_of_record : (signature : Option ℕ) (bytes : List ℕ) (x : Batch × ℕ) → record_of signature bytes ≡ Some x → replayed_record signature bytes ≡ Some x
 replayed_of_record signature bytes x e =
-    some_if (is_block (block_behind bytes (record_header bytes))) (replayed_record signature bytes) x (sym (record_of-replayed_record signature bytes) ∙ e)
+    some_if (is_block (block_after bytes (record_header bytes))) (replayed_record signature bytes) x (sym (record_of-replayed_record signature bytes) ∙ e)
 
 -- one search stops where what the other finds isn't sound
 placed_by-sound : (sound : ℕ → Bool) (next next' : ℕ → Option PlacedRecord) → ((at : ℕ) → next at ≡ option_and_then (λ p. cond (sound p.at) (Some p) None) (next' at)) →
@@ -67,18 +67,18 @@ placed_by-sound sound next next' same (suc n) at = elim (cases_next (next' at)) 
   ])
 ]
 
-pub records_after-replayed_behind : (id : FileId) (format : LogFileFormat) (bytes : List ℕ) (at : ℕ) →
-    records_after id format bytes at ≡ take_while (λ p. has_sound_block_at bytes p.at) (replayed_behind id format bytes at)
-records_after-replayed_behind id format bytes at =
+pub records_after-replayed_after : (id : FileId) (format : LogFileFormat) (bytes : List ℕ) (at : ℕ) →
+    records_after id format bytes at ≡ take_while (λ p. has_sound_block_at bytes p.at) (replayed_after id format bytes at)
+records_after-replayed_after id format bytes at =
     placed_by-sound (has_sound_block_at bytes) (next_record id format bytes) (next_replayed id format bytes)
     (λ from. record_at-replayed_at (signature_in format.version id.seq) bytes (record_place format.alignment bytes from)) (length bytes) at
 
 pub readable_records-replayed_records : (id : FileId) (bytes : List ℕ) → readable_records id bytes ≡ take_while (λ p. has_sound_block_at bytes p.at) (replayed_records id bytes)
 readable_records-replayed_records id bytes = by_header (header_of bytes)
   where
-    by_header : (header : Option (LogFileFormat × List ℕ)) → records_of (option_map (λ (h : LogFileFormat × List ℕ). reading_in id h.0 bytes) header) ≡ take_while (λ p. has_sound_block_at bytes p.at) (replayed_in id bytes header)
+    by_header : (header : Option (LogFileFormat × List ℕ)) → records_of (option_map (λ (h : LogFileFormat × List ℕ). scan_after_header id h.0 bytes) header) ≡ take_while (λ p. has_sound_block_at bytes p.at) (replayed_in id bytes header)
     by_header None = refl
-    by_header (Some header) = records_after-replayed_behind id header.0 bytes (header_len header.0.version)
+    by_header (Some header) = records_after-replayed_after id header.0 bytes (header_len header.0.version)
 
 -- Where a replay goes on.
 

@@ -5,17 +5,17 @@ use Rattle.raft_records.specs.Item.{Batch}
 use Rattle.raft_base.specs.declared.pipe_log.FileId.{FileId}
 use Rattle.raft_files.specs.declared.format.LogFileFormat.{LogFileFormat}
 use Rattle.raft_files.specs.Header.{HasHeader, header_bytes, header_len}
-use Rattle.raft_env.specs.Outcomes.{File, Change, IsStaleAfter, is_written, IsPartOf, changed_by, written, overlaid, synced_of, renamed_of, bytes_after, resized_change, lengthened_change, written_change}
-use Rattle.raft_env.specs.Directory.{Directory, Path, HasFile, file_at, removed, renamed, renamed_at}
-use Rattle.raft_files.specs.Reading.{PlacedRecord, reading, readable_records}
+use Rattle.raft_env.specs.Outcomes.{File, Change, IsStaleAfter, is_written, IsPartOf, changed_by, file_after_write, overlay, synced_of, renamed_of, bytes_after, resized_change, lengthened_change, written_change}
+use Rattle.raft_env.specs.Directory.{Directory, Path, HasFile, file_at, without_file, after_rename, after_rename_at}
+use Rattle.raft_files.specs.Scan.{PlacedRecord, scan_file, readable_records}
 use Rattle.raft_files.specs.Detectable.{signature_by, AreFresh}
 use Rattle.raft_files.specs.Records.{AreReadAt, HoldsRecords, IsWrittenTo, RecoversNoRecord, RecoversPrefixAt, HasLog}
 use Rattle.raft_files.specs.Writer.{HasChanged, IsStep, IsLengthened, IsAppending, IsAppended, IsSynced}
 use Rattle.raft_env.proofs.DirectoryLemmas.{file_at-placed_same}
-use Rattle.raft_env.proofs.OverlaidLemmas.{overlaid_is}
+use Rattle.raft_env.proofs.OverlayLemmas.{overlaid_is}
 use Rattle.raft_files.proofs.HeaderLemmas.{length-header_bytes}
 use Rattle.raft_files.proofs.ExtentLemmas.{same_some}
-use Rattle.raft_files.proofs.ReadingLemmas.{reading-header_bytes}
+use Rattle.raft_files.proofs.ScanLemmas.{reading-header_bytes}
 use Rattle.raft_files.proofs.StaleLemmas.{GivesNoneFrom, ungiven, refused_gives_none, gives_none_before, stale_from_more}
 use Rattle.raft_files.proofs.HeldLemmas.{read_of_held}
 use Rattle.raft_files.proofs.SyncLemmas.{written_to_still}
@@ -62,7 +62,7 @@ stale_change id file c old none =
 stale_lengthened : (id : FileId) (room new_room : ℕ) (old new : File) → KeepsStale id old → IsLengthened room new_room old new → KeepsStale id new
 stale_lengthened id room new_room old new keeps (inl same) = subst (KeepsStale id) (sym same) keeps
 stale_lengthened id room new_room old new keeps (inr (grows, inl same)) = subst (KeepsStale id) (sym same) keeps
-stale_lengthened id room new_room old new keeps (inr (grows, inr (after, true, done, is))) =
+stale_lengthened id room new_room old new keeps (inr (grows, inr (after, true, completed, is))) =
     let c = resized_change after old.now in
     subst (KeepsStale id) (sym is) (stale_change id old c keeps (ungiven 0 c refl))
 stale_lengthened id room new_room old new keeps (inr (grows, inr (after, false, part, is))) =
@@ -82,47 +82,47 @@ module _ (id : FileId) (format : LogFileFormat) (has : HasHeader format) (fits :
   header_length = length-header_bytes format.version format.alignment
 
   -- the bytes hold the header and no record before its end
-  holds_header : (old : List ℕ) → HoldsRecords id format [] end (overlaid old 0 header)
+  holds_header : (old : List ℕ) → HoldsRecords id format [] end (overlay old 0 header)
   holds_header old =
-      let front : take end (overlaid old 0 header) ≡ header = ap (λ b. take end b) (overlaid_is old 0 header (inl (omega arith))) ∙ take_at header _ end header_length in
+      let front : take end (overlay old 0 header) ≡ header = ap (λ b. take end b) (overlaid_is old 0 header (inl (omega arith))) ∙ take_at header _ end header_length in
       record {
-        within = omega (arith, header_length, ap length front, length-take end (overlaid old 0 header));
-        read = ap (λ b. reading id b) front ∙ reading-header_bytes id format has fits ∙ ap (λ n. Some (record { format = format; records = []; end = n })) header_length;
+        within = omega (arith, header_length, ap length front, length-take end (overlay old 0 header));
+        read = ap (λ b. scan_file id b) front ∙ reading-header_bytes id format has fits ∙ ap (λ n. Some (record { format = format; records = []; end = n })) header_length;
       }
 
   module _ (file : File) (keeps : KeepsStale id file) where
     abbrev c : Change
-    c = written_change 0 header true (overlaid file.now 0 header) file.now
+    c = written_change 0 header true (overlay file.now 0 header) file.now
 
     abbrev past : List Change
     past = file.changes ++ file.older
 
-    stale_behind : (i : ℕ) → end ≤ i → IsStaleAfter file.renamed_after (c ∷ past) i
-    stale_behind = stale_from_more file.renamed_after c past 0 end (gives_none_before end c (omega (arith, header_length))) (omega arith) (λ k above. keeps.stale k)
+    stale_after : (i : ℕ) → end ≤ i → IsStaleAfter file.renamed_after (c ∷ past) i
+    stale_after = stale_from_more file.renamed_after c past 0 end (gives_none_before end c (omega (arith, header_length))) (omega arith) (λ k above. keeps.stale k)
 
     -- no record that is read behind the header is fresh
-    nothing_behind : (r : PlacedRecord) → Contains (readable_records id c.after) r → (IsStaleAfter file.renamed_after (c ∷ past) r.at → ⊥) → ⊥
-    nothing_behind r has fresh = elim (read_of_held id format [] end c.after (holds_header file.now) r has) [
+    nothing_after : (r : PlacedRecord) → Contains (readable_records id c.after) r → (IsStaleAfter file.renamed_after (c ∷ past) r.at → ⊥) → ⊥
+    nothing_after r has fresh = elim (read_of_held id format [] end c.after (holds_header file.now) r has) [
       | inl none ↦ absurd (omega (arith, none.1))
-      | inr behind ↦ fresh (stale_behind r.at behind)
+      | inr behind ↦ fresh (stale_after r.at behind)
     ]
 
     nothing_left : (by : Option ℕ) (left : List PlacedRecord) → AreReadAt id by c.after file.renamed_after (c ∷ past) left → left ≡ []
     nothing_left by [] read = refl
     nothing_left by (r ∷ left) read =
-        absurd (nothing_behind r (subst (λ rs. Contains rs r) (sym read.beginning.1) (0, omega arith, refl)) (read.fresh r (0, omega arith, refl)))
+        absurd (nothing_after r (subst (λ rs. Contains rs r) (sym read.prefix.1) (0, omega arith, refl)) (read.fresh r (0, omega arith, refl)))
 
     pub none_headed : RecoversNoRecord id (changed_by c file)
     none_headed = none_more id file c keeps.none (λ other left read. nothing_left (signature_by id other) left read)
 
     -- once the header is synced the file is a log without records
     pub written_headed : IsWrittenTo id format [] 0 end (synced_of (changed_by c file))
-    written_headed = written_to_still id format [] end c.after (c ∷ past) file.renamed_after (holds_header file.now) (inr stale_behind) (λ by r has behind done fresh. nothing_behind r has fresh)
+    written_headed = written_to_still id format [] end c.after (c ∷ past) file.renamed_after (holds_header file.now) (inr stale_after) (λ by r has behind completed fresh. nothing_after r has fresh)
 
-  header_moment : (old new : File) → KeepsStale id old → IsStep (written 0 header) (λ now. overlaid now 0 header) (IsPartOf 0 (length header)) old new → RecoversNoRecord id new
+  header_moment : (old new : File) → KeepsStale id old → IsStep (file_after_write 0 header) (λ now. overlay now 0 header) (IsPartOf 0 (length header)) old new → RecoversNoRecord id new
   header_moment old new keeps (inl same) = subst (RecoversNoRecord id) (sym same) keeps.none
-  header_moment old new keeps (inr (after, true, done, is)) =
-      subst (RecoversNoRecord id) (sym is) (subst (λ b. RecoversNoRecord id (written 0 header true b old)) (sym done) (none_headed old keeps))
+  header_moment old new keeps (inr (after, true, completed, is)) =
+      subst (RecoversNoRecord id) (sym is) (subst (λ b. RecoversNoRecord id (file_after_write 0 header true b old)) (sym completed) (none_headed old keeps))
   header_moment old new keeps (inr (after, false, part, is)) =
       let c = written_change 0 header false after old.now in
       subst (RecoversNoRecord id) (sym is) (stale_change id old c keeps (refused_gives_none 0 c refl)).none
@@ -154,27 +154,27 @@ module _ (src path : Path) (other : FileId) (batches : List Batch) (synced : ℕ
       by_file None e none = absurd cc
       by_file (Some file) e some = record { file = file; stood = e; latest = latest_of file e kept }
 
-  stands_renamed : file_at (renamed src path old) path ≡ Some (renamed_of renamed_file.file)
+  stands_renamed : file_at (after_rename src path old) path ≡ Some (renamed_of renamed_file.file)
   stands_renamed =
-      ap (λ found. file_at (renamed_at src path found old) path) renamed_file.stood
-      ∙ file_at-placed_same path (renamed_of renamed_file.file) (removed src old)
+      ap (λ found. file_at (after_rename_at src path found old) path) renamed_file.stood
+      ∙ file_at-placed_same path (renamed_of renamed_file.file) (without_file src old)
 
-  pub kept_renamed : (id : FileId) → RecoversPrefixAt path id [] 0 (renamed src path old)
+  pub kept_renamed : (id : FileId) → RecoversPrefixAt path id [] 0 (after_rename src path old)
   kept_renamed id = inr (λ file stands. subst (RecoversNoRecord id) (same_some (sym stands_renamed ∙ stands)) (renamed_stale id renamed_file.file renamed_file.latest).none, refl)
 
   module _ (id : FileId) (format : LogFileFormat) (room new_room : ℕ) (header_fits : HasHeader format) (fits : format.alignment < 2 ^ 64) where
-    pub kept_reusing : (new : Directory) → HasChanged path (IsAppending room new_room 0 (header_bytes format)) (renamed src path old) new → RecoversPrefixAt path id [] 0 new
+    pub kept_reusing : (new : Directory) → HasChanged path (IsAppending room new_room 0 (header_bytes format)) (after_rename src path old) new → RecoversPrefixAt path id [] 0 new
     kept_reusing new change =
         let R = IsAppending room new_room 0 (header_bytes format) in
-        let how = was_file path (renamed src path old) new R change (renamed_of renamed_file.file) stands_renamed in
+        let how = was_file path (after_rename src path old) new R change (renamed_of renamed_file.file) stands_renamed in
         let none = none_reusing id format header_fits fits room new_room (renamed_of renamed_file.file) change.after (renamed_stale id renamed_file.file renamed_file.latest) how in
-        inr (λ file stands. subst (RecoversNoRecord id) (same_some (sym (stands_after path (renamed src path old) new R change) ∙ stands)) none, refl)
+        inr (λ file stands. subst (RecoversNoRecord id) (same_some (sym (stands_after path (after_rename src path old) new R change) ∙ stands)) none, refl)
 
-    pub log_reused : (mid new : Directory) → HasChanged path (IsAppended room new_room 0 (header_bytes format)) (renamed src path old) mid → HasChanged path IsSynced mid new → HasLog path id format [] 0 (header_len format.version) new
+    pub log_reused : (mid new : Directory) → HasChanged path (IsAppended room new_room 0 (header_bytes format)) (after_rename src path old) mid → HasChanged path IsSynced mid new → HasLog path id format [] 0 (header_len format.version) new
     log_reused mid new first change =
         let R = IsAppended room new_room 0 (header_bytes format) in
-        let how = was_file path (renamed src path old) mid R first (renamed_of renamed_file.file) stands_renamed in
-        let then = was_file path mid new IsSynced change first.after (stands_after path (renamed src path old) mid R first) in
+        let how = was_file path (after_rename src path old) mid R first (renamed_of renamed_file.file) stands_renamed in
+        let then = was_file path mid new IsSynced change first.after (stands_after path (after_rename src path old) mid R first) in
         record {
           file = change.after;
           stands = stands_after path mid new IsSynced change;

@@ -6,12 +6,12 @@ use Rattle.raft_base.specs.declared.pipe_log.FileId.{FileId}
 use Rattle.raft_files.specs.declared.format.LogFileFormat.{LogFileFormat}
 use Rattle.raft_files.specs.Header.{HasHeader, header_bytes, header_len}
 use Rattle.raft_env.specs.Outcomes.{File, Change, synced_of}
-use Rattle.raft_files.specs.Reading.{PlacedRecord, end_of_records, Reading, records_after, reading, records_of, readable_records, ends_with, is_read_to_end}
+use Rattle.raft_files.specs.Scan.{PlacedRecord, end_of_records, ScanResult, records_after, scan_file, records_of, readable_records, ends_with, is_read_to_end}
 use Rattle.raft_files.specs.Detectable.{IsPrefixOf, format_of, signature_by}
-use Rattle.raft_files.specs.Records.{AreReadBehind, ReadsFirst, IsEmptyFrom, HasNothingFrom, HoldsRecords, IsWrittenTo, IsTornFrom}
+use Rattle.raft_files.specs.Records.{AreReadAfter, ReadsFirst, IsEmptyFrom, HasNothingFrom, HoldsRecords, IsWrittenTo, IsTornFrom}
 use Rattle.raft_files.proofs.HeaderLemmas.{length-header_bytes}
 use Rattle.raft_files.proofs.ExtentLemmas.{same_some}
-use Rattle.raft_files.proofs.ReadingLemmas.{reading-header_bytes}
+use Rattle.raft_files.proofs.ScanLemmas.{reading-header_bytes}
 use Rattle.raft_files.proofs.EmptyLemmas.{has_nothing_past}
 use Rattle.raft_files.proofs.HeldLemmas.{reading-held, format_of_read, format_of-held, left_of_held}
 
@@ -43,7 +43,7 @@ written_to_still id format records at bytes older renamed holds empty nothing =
       nothing = nothing;
     }
   where
-    moments : (newer upto : List Change) → [] ≡ newer ++ upto → (left : List PlacedRecord) → AreReadBehind id (signature_by id format) (still bytes older renamed) upto left → IsPrefixOf left records
+    moments : (newer upto : List Change) → [] ≡ newer ++ upto → (left : List PlacedRecord) → AreReadAfter id (signature_by id format) (still bytes older renamed) upto left → IsPrefixOf left records
     moments [] [] e = left_of_held id format (signature_by id format) records at bytes renamed older holds nothing
     moments [] (x ∷ upto) e = cc
     moments (x ∷ newer) upto e = cc
@@ -69,7 +69,7 @@ written_to_header id file format has fits is =
     let len : length bytes ≡ at = length-header_bytes format.version format.alignment in
     let holds : HoldsRecords id format [] at bytes = record {
       within = omega arith;
-      read = ap (λ b. reading id b) (take_all at bytes (omega arith)) ∙ reading-header_bytes id format has fits ∙ ap (λ n. Some (record { format = format; records = []; end = n })) len;
+      read = ap (λ b. scan_file id b) (take_all at bytes (omega arith)) ∙ reading-header_bytes id format has fits ∙ ap (λ n. Some (record { format = format; records = []; end = n })) len;
     } in
     let now : HoldsRecords id format [] at file.now = subst (λ b. HoldsRecords id format [] at b) (sym is) holds in
     written_to_whole id format [] at file now (omega (arith, ap length is))
@@ -79,14 +79,14 @@ pub written_to_read : (id : FileId) (file : File) (bytes : List ℕ) (format : L
     IsWrittenTo id format (readable_records id bytes) (length (readable_records id bytes)) (length bytes) (synced_of file)
 written_to_read id file bytes format now header to_end =
     let holds : HoldsRecords id format (readable_records id file.now) (length file.now) file.now =
-    record { within = omega arith; read = ap (λ b. reading id b) (take_all (length file.now) file.now (omega arith)) ∙ whole file.now (ap format_of now ∙ header) (ap (λ b. is_read_to_end id b) now ∙ to_end) } in
+    record { within = omega arith; read = ap (λ b. scan_file id b) (take_all (length file.now) file.now (omega arith)) ∙ whole file.now (ap format_of now ∙ header) (ap (λ b. is_read_to_end id b) now ∙ to_end) } in
     let written = written_to_whole id format (readable_records id file.now) (length file.now) file holds (omega arith) in
     subst (λ b. IsWrittenTo id format (readable_records id b) (length (readable_records id b)) (length b) (synced_of file)) now written
   where
-    whole : (b : List ℕ) → format_of b ≡ Some format → is_read_to_end id b ≡ true → reading id b ≡ Some (record { format = format; records = readable_records id b; end = length b })
-    whole b is ends = by_reading (reading id b) refl ends
+    whole : (b : List ℕ) → format_of b ≡ Some format → is_read_to_end id b ≡ true → scan_file id b ≡ Some (record { format = format; records = readable_records id b; end = length b })
+    whole b is ends = by_reading (scan_file id b) refl ends
       where
-        by_reading : (read : Option Reading) → reading id b ≡ read → ends_with (length b) read ≡ true → read ≡ Some (record { format = format; records = records_of read; end = length b })
+        by_reading : (read : Option ScanResult) → scan_file id b ≡ read → ends_with (length b) read ≡ true → read ≡ Some (record { format = format; records = records_of read; end = length b })
         by_reading None e ends = cc
         by_reading (Some r) e ends =
             let same : r.format ≡ format = same_some (sym (format_of_read id b r e) ∙ is) in

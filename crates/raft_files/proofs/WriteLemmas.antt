@@ -6,15 +6,15 @@ use Rattle.raft_records.specs.Item.{Batch}
 use Rattle.raft_records.specs.Record.{record_of}
 use Rattle.raft_base.specs.declared.pipe_log.FileId.{FileId}
 use Rattle.raft_files.specs.declared.format.LogFileFormat.{LogFileFormat}
-use Rattle.raft_env.specs.Outcomes.{File, Change, written, overlaid, IsPartOf, written_change}
-use Rattle.raft_files.specs.Reading.{PlacedRecord, reading, readable_records}
-use Rattle.raft_files.specs.Detectable.{signature_by, IsGivenBy, IsDone, IsFreshAfter}
+use Rattle.raft_env.specs.Outcomes.{File, Change, file_after_write, overlay, IsPartOf, written_change}
+use Rattle.raft_files.specs.Scan.{PlacedRecord, scan_file, readable_records}
+use Rattle.raft_files.specs.Detectable.{signature_by, IsGivenBy, IsFromCompletedCall, IsFreshAfter}
 use Rattle.raft_files.specs.Records.{IsEmptyFrom, HasNothingFrom, HoldsRecords, IsWrittenTo, IsTornFrom}
 use Rattle.raft_env.proofs.ChangeLemmas.{within_is, not_within, same_front}
-use Rattle.raft_files.proofs.DetectableLemmas.{beginning_itself, beginning_append}
+use Rattle.raft_files.proofs.DetectableLemmas.{prefix_itself, prefix_append}
 use Rattle.raft_files.proofs.ExtentLemmas.{same_some}
-use Rattle.raft_files.proofs.ReadingLemmas.{reading-append, read_in}
-use Rattle.raft_env.proofs.OverlaidLemmas.{length-overlaid, overlaid_outside}
+use Rattle.raft_files.proofs.ScanLemmas.{reading-append, read_in}
+use Rattle.raft_env.proofs.OverlayLemmas.{length-overlaid, overlaid_outside}
 use Rattle.raft_env.proofs.DirectoryLemmas.{writing_part}
 use Rattle.raft_files.proofs.PartLemmas.{part_keeps, take-overlaid_whole}
 use Rattle.raft_files.proofs.StaleLemmas.{GivesNoneFrom, refused_gives_none, gives_none_before, stale_from_more, fresh_before}
@@ -51,8 +51,8 @@ same_placed r at len batch stands same_batch same_len = rw (← stands, same_bat
 
 -- behind the records a crash leaves nothing but the record that the write was to write
 only_given : (id : FileId) (signature : Option ℕ) (c : Change) (renamed : Option ℕ) (changes : List Change) (batch : Batch) → HasNothingFrom id c.from c.before renamed changes → c.is_done ≡ false → c.size ≡ length c.given → record_of signature c.given ≡ Some (batch, length c.given) →
-    IsEmptyFrom (c.from + c.size) c.after renamed (c ∷ changes) → (r : PlacedRecord) → Contains (readable_records id c.after) r → c.from ≤ r.at → IsDone id signature (c ∷ changes) r → IsFreshAfter renamed (c ∷ changes) r.at → Contains (record_given c.from c.given batch ∷ []) r
-only_given id signature c renamed changes batch nothing refused size given empty r has behind done fresh = elim done [
+    IsEmptyFrom (c.from + c.size) c.after renamed (c ∷ changes) → (r : PlacedRecord) → Contains (readable_records id c.after) r → c.from ≤ r.at → IsFromCompletedCall id signature (c ∷ changes) r → IsFreshAfter renamed (c ∷ changes) r.at → Contains (record_given c.from c.given batch ∷ []) r
+only_given id signature c renamed changes batch nothing refused size given empty r has behind completed fresh = elim completed [
   | inr earlier ↦ absurd (nothing signature r earlier.0 behind earlier.1 (fresh_before renamed c changes c.from r.at (refused_gives_none c.from c refused) behind fresh))
   | inl no_byte ↦
       let is = read_in id c.after r has in
@@ -68,7 +68,7 @@ only_given id signature c renamed changes batch nothing refused size given empty
 
 -- a write that is refused
 pub written_to_refused : (id : FileId) (format : LogFileFormat) (records : List PlacedRecord) (synced at : ℕ) (file : File) (given : List ℕ) (batch : Batch) (after : List ℕ) → IsWrittenTo id format records synced at file →
-    record_of (signature_by id format) given ≡ Some (batch, length given) → IsPartOf at (length given) file.now after → IsTornFrom id format records (record_given at given batch ∷ []) synced at (written at given false after file)
+    record_of (signature_by id format) given ≡ Some (batch, length given) → IsPartOf at (length given) file.now after → IsTornFrom id format records (record_given at given batch ∷ []) synced at (file_after_write at given false after file)
 written_to_refused id format records synced at file given batch after written_to is part =
     let c = written_change at given false after file.now in
     let one = record_given at given batch ∷ [] in
@@ -80,7 +80,7 @@ written_to_refused id format records synced at file given batch after written_to
     let empty = empty_written at file.now after c file.renamed_after past written_to.empty refl (kept_part at (length given) file.now after part) (refused_gives_none (at + length given) c refl) in
     let only = only_given id (signature_by id format) c file.renamed_after past batch written_to.nothing refl refl is empty in
     record {
-      keeps = keeps_more id format records (records ++ one) synced file c written_to.keeps (beginning_append records one) (format_of-held id format records at after holds)
+      keeps = keeps_more id format records (records ++ one) synced file c written_to.keeps (prefix_append records one) (format_of-held id format records at after holds)
           (left_of_torn id format (signature_by id format) records one at after file.renamed_after (c ∷ past) holds (omega arith) only) (synced_within id format records synced at file.now written_to.holds);
       few = written_to.keeps.few;
       holds = holds;
@@ -89,17 +89,17 @@ written_to_refused id format records synced at file given batch after written_to
     }
 
 -- a write behind them leaves the records
-pub holds_written : (id : FileId) (format : LogFileFormat) (records : List PlacedRecord) (at : ℕ) (bytes given : List ℕ) → HoldsRecords id format records at bytes → HoldsRecords id format records at (overlaid bytes at given)
+pub holds_written : (id : FileId) (format : LogFileFormat) (records : List PlacedRecord) (at : ℕ) (bytes given : List ℕ) → HoldsRecords id format records at bytes → HoldsRecords id format records at (overlay bytes at given)
 holds_written id format records at bytes given holds =
     let part = writing_part at given given (omega arith) bytes in
-    holds_same id format records at bytes (overlaid bytes at given) holds (sym (part_keeps at (length given) at bytes _ part (omega arith) holds.within)) (omega (arith, holds.within, part.no_shorter))
+    holds_same id format records at bytes (overlay bytes at given) holds (sym (part_keeps at (length given) at bytes _ part (omega arith) holds.within)) (omega (arith, holds.within, part.no_shorter))
 
 -- a write that is done
 pub written_to_written : (id : FileId) (format : LogFileFormat) (records : List PlacedRecord) (synced at : ℕ) (file : File) (given : List ℕ) (batch : Batch) → IsWrittenTo id format records synced at file →
     record_of (signature_by id format) given ≡ Some (batch, length given) →
-    IsWrittenTo id format (records ++ record_given at given batch ∷ []) synced (at + length given) (written at given true (overlaid file.now at given) file)
+    IsWrittenTo id format (records ++ record_given at given batch ∷ []) synced (at + length given) (file_after_write at given true (overlay file.now at given) file)
 written_to_written id format records synced at file given batch written_to is =
-    let after = overlaid file.now at given in
+    let after = overlay file.now at given in
     let c = written_change at given true after file.now in
     let end = at + length given in
     let one = record_given at given batch in
@@ -113,7 +113,7 @@ written_to_written id format records synced at file given batch written_to is =
     reading-append id (take at file.now) given batch (record { format = format; records = records; end = at }) written_to.holds.read (sym len_front) is in
     let holds : HoldsRecords id format all end after = record {
       within = omega (arith, len);
-      read = ap (λ bytes. reading id bytes) front ∙ read
+      read = ap (λ bytes. scan_file id bytes) front ∙ read
           ∙ ap (λ n. Some (record { format = format; records = records ++ record_given n given batch ∷ []; end = length (take at file.now ++ given) })) len_front
           ∙ ap (λ n. Some (record { format = format; records = all; end = n })) (length-append (take at file.now) given ∙ ap (λ n. n + length given) len_front);
     } in
@@ -122,7 +122,7 @@ written_to_written id format records synced at file given batch written_to is =
     let empty = empty_written at file.now after c file.renamed_after past written_to.empty refl kept none in
     let nothing = has_nothing_after id at end c file.renamed_after past written_to.nothing (omega arith) none empty in
     record {
-      keeps = keeps_held id format records all all synced end file c written_to.keeps (beginning_append records (one ∷ [])) holds nothing (beginning_itself all) (synced_within id format records synced at file.now written_to.holds);
+      keeps = keeps_held id format records all all synced end file c written_to.keeps (prefix_append records (one ∷ [])) holds nothing (prefix_itself all) (synced_within id format records synced at file.now written_to.holds);
       holds = holds;
       empty = empty;
       nothing = nothing;

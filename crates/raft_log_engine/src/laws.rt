@@ -12,7 +12,7 @@ ghost use Rattle.std.specs.List.{AllByRecursion};
 ghost use Rattle.raft_env.specs.Consistent.{AreConsistent};
 ghost use Rattle.raft_memory.specs.Choice.{AreWhole, left_by};
 ghost use Rattle.raft_memory.specs.declared.crash.Choice.{Choice};
-ghost use Rattle.raft_pipes.specs.Done.{HasSimplePastIn, IsDoneIn};
+ghost use Rattle.raft_pipes.specs.Completed.{HasSimplePastIn, ReadsCompletedRecordsIn};
 ghost use Rattle.raft_pipes.specs.Folder.{HasNoLog, IsDetectableIn};
 ghost use Rattle.raft_pipes.specs.Queue.{IsOpenableIn};
 ghost use Rattle.raft_pipes.specs.declared.config.RecoveryMode.{RecoveryMode};
@@ -70,9 +70,10 @@ pub fn an_engine_recovers_what_it_keeps<F: FileSystem>(engine: &Engine<F>)
 /// bytes now, or with those of its last sync, is detectable (`AreConsistent`: as in memory always).
 pub fn the_damage_of_an_engine_is_detectable<F: FileSystem>(engine: &Engine<F>)
     ensures crash { let folder = folder_of engine.now in let n = directory_of engine.now in
-        has_failed engine.now ≡ false → AllByRecursion (IsDoneIn folder) (begun_of engine.now)
+        has_failed engine.now ≡ false → AllByRecursion (ReadsCompletedRecordsIn folder)
+        (begun_of engine.now)
         → HasSimplePastIn folder n → AreConsistent n → (choices : List Choice) → AreWhole choices
         → ∥ IsDetectableIn folder n (left_by choices n) ∥₁ }
 {
-    raft_damage::laws::a_queue_can_be_told();
+    raft_damage::laws::damage_of_a_queue_is_detectable();
 }

@@ -8,7 +8,7 @@ use Rattle.std.proofs.lemmas.List.FromFn.{length-map-range_with_len, get_or-map-
 use Rattle.std.specs.FinMap as finite
 use Rattle.raft_env.specs.Outcomes.{File, MayLeave, is_touched}
 use Rattle.raft_env.specs.Directory.{Directory, Leaves}
-use Rattle.raft_memory.specs.Choice.{torn, torn_byte, touched_before, chosen, chosen_at, choice_for, left_by, NamesNoBytes, NameNoBytes}
+use Rattle.raft_memory.specs.Choice.{torn_bytes, torn_byte, touched_before, bytes_by_choice, bytes_by_choice_at, choice_for, left_by, NamesNoBytes, NameNoBytes}
 use Rattle.raft_env.specs.Consistent.{IsConsistent, AreConsistent}
 use Rattle.raft_memory.specs.declared.crash.Choice.{Choice}
 use Rattle.raft_memory.specs.declared.crash.Choice.TheVariants as choice
@@ -17,14 +17,14 @@ use Rattle.raft_memory.proofs.ChoiceLemmas.{synced_may_be_left}
 use Rattle.raft_env.proofs.ConsistentLemmas.{now_may_be_left, length_now}
 
 module _ (touched : ℕ → Bool) (kept fill : ℕ) (now : List ℕ) where
-  pub length-torn : length (torn touched kept fill now) ≡ length now
+  pub length-torn : length (torn_bytes touched kept fill now) ≡ length now
   length-torn = length-map-range_with_len (torn_byte touched kept fill now) 0 (length now)
 
-  torn_byte_at : (i : ℕ) → i < length now → slice_index (torn touched kept fill now) i ≡ torn_byte touched kept fill now i
+  torn_byte_at : (i : ℕ) → i < length now → slice_index (torn_bytes touched kept fill now) i ≡ torn_byte touched kept fill now i
   torn_byte_at i inside = get_or-map-range_with_len (torn_byte touched kept fill now) 0 (length now) i i 0 inside (omega arith)
 
   -- a place that was not touched keeps its byte
-  pub torn_untouched : (i : ℕ) → i < length now → touched i ≡ false → slice_index (torn touched kept fill now) i ≡ slice_index now i
+  pub torn_untouched : (i : ℕ) → i < length now → touched i ≡ false → slice_index (torn_bytes touched kept fill now) i ≡ slice_index now i
   torn_untouched i inside apart = torn_byte_at i inside ∙ ap (λ b. cond (b && leb kept (touched_before touched i)) fill (get_or now i 0)) apart
 
   touched_before_more : (i n : ℕ) → touched_before touched i ≤ touched_before touched (i + n)
@@ -52,11 +52,11 @@ module _ (touched : ℕ → Bool) (kept fill : ℕ) (now : List ℕ) where
   ]
 
   -- the beginning that was kept stands
-  pub take-torn : (end : ℕ) → end ≤ length now → touched_before touched end ≤ kept → take end (torn touched kept fill now) ≡ take end now
-  take-torn end within enough = same_front end (torn touched kept fill now) now (omega (arith, length-torn)) within (λ i before. torn_byte_at i (omega arith) ∙ torn_kept i end before enough)
+  pub take-torn : (end : ℕ) → end ≤ length now → touched_before touched end ≤ kept → take end (torn_bytes touched kept fill now) ≡ take end now
+  take-torn end within enough = same_front end (torn_bytes touched kept fill now) now (omega (arith, length-torn)) within (λ i before. torn_byte_at i (omega arith) ∙ torn_kept i end before enough)
 
 -- storage may leave it
-pub torn_may_be_left : (file : File) (kept fill : ℕ) → IsConsistent file → MayLeave file (torn (is_touched file.changes) kept fill file.now)
+pub torn_may_be_left : (file : File) (kept fill : ℕ) → IsConsistent file → MayLeave file (torn_bytes (is_touched file.changes) kept fill file.now)
 torn_may_be_left file kept fill is =
     let len = length-torn (is_touched file.changes) kept fill file.now in
     record {
@@ -67,7 +67,7 @@ torn_may_be_left file kept fill is =
 
 -- Choices that name no bytes.
 
-pub choice_may_leave : (file : File) → IsConsistent file → (c : Choice) → NamesNoBytes c → MayLeave file (chosen c file)
+pub choice_may_leave : (file : File) → IsConsistent file → (c : Choice) → NamesNoBytes c → MayLeave file (bytes_by_choice c file)
 choice_may_leave file is choice.All none = now_may_be_left file is
 choice_may_leave file is choice.Synced none = synced_may_be_left file
 choice_may_leave file is (choice.Torn kept fill) none = torn_may_be_left file kept fill is
@@ -85,5 +85,5 @@ pub choices_may_leave : (choices : List Choice) (n : Directory) → NameNoBytes 
 choices_may_leave choices n none all = record {
   each = λ path file stands.
       let c = choice_for choices (finite.keys n.files) path in
-      subst (λ found. MayLeave file (chosen_at c found)) (sym stands) (choice_may_leave file (all path file stands) c (no_bytes_at_turn choices none _));
+      subst (λ found. MayLeave file (bytes_by_choice_at c found)) (sym stands) (choice_may_leave file (all path file stands) c (no_bytes_at_turn choices none _));
 }

@@ -1,8 +1,8 @@
 -- What a file system in memory shows.
 use Rattle.std.specs.Prelude.{◌≡◌, ℕ, ◌+◌, ◌^◌, ◌==◌, ◌/◌, false, nat_le, if◌then◌else◌, List, ◌∷◌, length, map, take, Option, Some}
 use Rattle.std.specs.FinMap as finite
-use Rattle.raft_env.specs.Outcomes.{written, overlaid}
-use Rattle.raft_env.specs.Directory.{Directory, Path, changed}
+use Rattle.raft_env.specs.Outcomes.{file_after_write, overlay}
+use Rattle.raft_env.specs.Directory.{Directory, Path, update_file}
 use Rattle.raft_env.specs.declared.env.FsFault.{FsFault}
 use Rattle.raft_env.specs.declared.env.FsFault.TheVariants.{Io}
 use Rattle.raft_base.specs.declared.errors.IoKind.{IoKind}
@@ -41,8 +41,8 @@ stop_of memory = memory.armed.stop
 
 -- with the first half of the bytes, rounded down, written to the file there by a refused call
 abbrev pub half_written : Path → ℕ → List ℕ → Directory → Directory
-half_written path at given n = changed path (λ f. written at given false
-    (overlaid f.now at (take (length given / 2) given)) f) n
+half_written path at given n = update_file path (λ f. file_after_write at given false
+    (overlay f.now at (take (length given / 2) given)) f) n
 
 -- .. if there is room for all of them
 abbrev pub half_left : Path → ℕ → List ℕ → Directory → Directory

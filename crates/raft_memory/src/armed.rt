@@ -100,7 +100,7 @@ impl Armed {
     }
 
     /// Counts the call, and says as what it is to be refused.
-    pub(crate) fn due(&mut self, call: FsCall) -> Option<IoKind>
+    pub(crate) fn fault_for(&mut self, call: FsCall) -> Option<IoKind>
         ensures value { result ≡ due_kind call (arms_of self.old.refusals.items) }
         ensures armed { arms_of self.new.refusals.items
             ≡ arms_after call (arms_of self.old.refusals.items) }
@@ -116,13 +116,13 @@ impl Armed {
     }
 
     /// The same of a call that changes files, which counts for the stop too.
-    pub(crate) fn due_change(&mut self, call: FsCall) -> Option<IoKind>
+    pub(crate) fn fault_for_change(&mut self, call: FsCall) -> Option<IoKind>
         ensures value { result ≡ injected call (arms_of self.old.refusals.items) self.old.stop }
         ensures armed { arms_of self.new.refusals.items
             ≡ arms_after call (arms_of self.old.refusals.items) }
         ensures stop { self.new.stop ≡ stop_after self.old.stop }
     {
-        let due = self.due(call);
+        let due = self.fault_for(call);
         match self.stop {
             Some(nth) if nth > 1 => {
                 self.stop = Some(nth - 1);
@@ -134,7 +134,7 @@ impl Armed {
     }
 
     /// The same of a read. Reads may come at once, so no clause tells which of them is refused.
-    pub(crate) fn due_read(&self) -> Option<IoKind>
+    pub(crate) fn fault_for_read(&self) -> Option<IoKind>
         ensures { IfSome result (λ kind. IsArmed (arms_of self.now.refusals.items) FsCall.Read
             kind) }
     {

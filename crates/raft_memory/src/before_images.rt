@@ -2,7 +2,7 @@
 ghost use Rattle.std.specs.Prelude.{◌≡◌, ◌<◌, ◌+◌, ◌-◌, ℕ, length, slice_index, unwrap_or, if◌then◌else◌, None, Some, OnOk, OnErr};
 ghost use Rattle.std.specs.Option.{option_or};
 ghost use Rattle.raft_env.specs.Outcomes.{is_within};
-ghost use Rattle.raft_memory.specs.MemoryFile.{saved_at};
+ghost use Rattle.raft_memory.specs.MemoryFile.{before_image_at};
 
 use std::alloc::{AllocError, Global};
 use std::marker::Model;
@@ -18,9 +18,9 @@ pub(crate) struct BeforeImages {
 
 impl Model for BeforeImages {
     ghost use Rattle.std.specs.Prelude.{◌≡◌, length};
-    ghost use Rattle.raft_memory.specs.MemoryFile.{OldBytes, places_len};
+    ghost use Rattle.raft_memory.specs.MemoryFile.{BeforeImages, places_len};
 
-    ghost Value = { OldBytes };
+    ghost Value = { BeforeImages };
 
     ghost view = { λ s. (s.places.items, s.bytes.items) };
 
@@ -29,7 +29,7 @@ impl Model for BeforeImages {
 
 impl BeforeImages {
     pub(crate) fn new(alloc: Global) -> BeforeImages
-        ensures { (i : ℕ) → saved_at result i ≡ None }
+        ensures { (i : ℕ) → before_image_at result i ≡ None }
     {
         BeforeImages {
             places: Vec::new(alloc),
@@ -39,7 +39,8 @@ impl BeforeImages {
 
     /// Saves what stands between two places. What stands behind the end is a zero.
     pub(crate) fn save(&mut self, bytes: &[u8], from: usize, end: usize) -> Result<(), AllocError>
-        ensures ok { OnOk result ((i : ℕ) → saved_at self.new i ≡ option_or (saved_at self.old i)
+        ensures ok { OnOk result ((i : ℕ) → before_image_at self.new i
+            ≡ option_or (before_image_at self.old i)
             (if is_within from (end - from) i then Some (slice_index bytes.now i) else None)) }
         ensures err { OnErr result (self.new ≡ self.old) }
     {
@@ -55,7 +56,7 @@ impl BeforeImages {
     }
 
     pub(crate) fn clear(&mut self)
-        ensures { (i : ℕ) → saved_at self.new i ≡ None }
+        ensures { (i : ℕ) → before_image_at self.new i ≡ None }
     {
         self.places.clear();
         self.bytes.clear();
@@ -65,7 +66,7 @@ impl BeforeImages {
     pub(crate) fn restore(&self, bytes: &mut [u8])
         ensures len { length bytes.new ≡ length bytes.old }
         ensures each { (i : ℕ) → i < length bytes.old → slice_index bytes.new i
-            ≡ unwrap_or (saved_at self.now i) (slice_index bytes.old i) }
+            ≡ unwrap_or (before_image_at self.now i) (slice_index bytes.old i) }
     {
         let mut end = self.bytes.len();
         let mut left = self.places.len();

@@ -4,8 +4,8 @@
 pub mod armed;
 mod before_images;
 pub mod crash;
+mod ghost_file;
 mod half_write;
-mod known;
 pub mod memory;
 mod memory_file;
 mod namespace;

@@ -8,4 +8,4 @@ pub mod OpenLemmas
 pub mod SoundLemmas
 pub mod QueueLemmas
 pub mod DoubtLemmas
-pub mod DoneLemmas
+pub mod CompletedLemmas

@@ -1,3 +1,3 @@
 pub mod ZerosLemmas
-pub mod DoneLemmas
+pub mod CompletedLemmas
 pub mod OpeningLemmas

@@ -8,7 +8,7 @@ use Rattle.raft_base.specs.Fault.{fault_code}
 use Rattle.raft_memory.specs.Choice.{RefusesUnless, left_by, NameNoBytes}
 use Rattle.raft_env.specs.Consistent.{AreConsistent}
 use Rattle.raft_env.specs.Directory.{Directory, HasFile, IsRestarted, Leaves, CrashImage, Path, file_at}
-use Rattle.raft_env.specs.Outcomes.{File, settled}
+use Rattle.raft_env.specs.Outcomes.{File, synced_file}
 use Rattle.raft_memory.specs.Memory.{no_files}
 use Rattle.raft_memory.specs.declared.crash.Choice.{Choice}
 use Rattle.raft_memory.proofs.TornLemmas.{choices_may_leave}
@@ -18,7 +18,7 @@ use Rattle.raft_base.specs.declared.errors.Fault.TheVariants as fault
 use Rattle.raft_log_engine.specs.Image.{IsImageOf}
 use Rattle.raft_log_engine.specs.declared.engine.image.Image.{Image}
 use Rattle.raft_log_engine.specs.Contents.{contents_at}
-use Rattle.raft_pipes.specs.Done.{IsDoneIn}
+use Rattle.raft_pipes.specs.Completed.{ReadsCompletedRecordsIn}
 use Rattle.raft_pipes.specs.Folder.{HasNoLog, IsDetectableIn, log_path}
 use Rattle.raft_script.specs.Durability.{LeavesAllowedAfter, Progress, progress_after_all, progress_from}
 use Rattle.raft_pipes.specs.Queue.{HasDamageIn, HasLeftDamage, IsOpenableIn}
@@ -45,7 +45,7 @@ refused_after folder m ops n leaves =
     ([], refl, subst (λ (p : Progress). LeavesAllowedFrom p.covered folder m (p.batches ++ []) n) (sym (no_progress (progress_from []) ops)) leaves)
 
 -- of a folder without files no refused call brought a record
-pub none_done : (folder : Path) (n : Directory) → (HasNoLog folder n → IsDoneIn folder n) → n ≡ no_files → IsDoneIn folder n
+pub none_done : (folder : Path) (n : Directory) → (HasNoLog folder n → ReadsCompletedRecordsIn folder n) → n ≡ no_files → ReadsCompletedRecordsIn folder n
 none_done folder n done is = done (ap (λ (x : Directory). file_at x (log_path folder)) is ∙ get-empty _ (log_path folder))
 
 -- a folder without files holds nothing and keeps nothing
@@ -80,7 +80,7 @@ if_err P Q (Err e) f holds = f e holds
 restarted_stood : (path : Path) (n m : Directory) (d : CrashImage) → IsRestarted n d m → HasFile m path → HasFile n path
 restarted_stood path n m d restarted there = sym (by_file (file_at n path)) ∙ ap is_some (sym (restarted.each path)) ∙ there
   where
-    by_file : (found : Option File) → is_some (option_map (λ _. settled (d path)) found) ≡ is_some found
+    by_file : (found : Option File) → is_some (option_map (λ _. synced_file (d path)) found) ≡ is_some found
     by_file None = refl
     by_file (Some file) = refl
 

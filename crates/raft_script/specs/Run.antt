@@ -8,7 +8,7 @@ use Rattle.raft_records.specs.Validity.{batch_refusal}
 use Rattle.raft_base.specs.Fault.{fault_code}
 use Rattle.raft_base.specs.declared.errors.Fault.{Fault}
 use Rattle.raft_base.specs.declared.errors.Fault.TheVariants as fault
-use Rattle.raft_env.specs.Refusal.{NoFewer, Refusals, Rose}
+use Rattle.raft_env.specs.Refusal.{NoFewer, Refusals, StorageRefusalsRose}
 use Rattle.raft_log_engine.specs.Crash.{written_batch}
 use Rattle.raft_log_engine.specs.Engine.{record_len}
 use Rattle.raft_script.specs.declared.operation.Act.{Act}
@@ -156,11 +156,12 @@ io_count outcomes = count_by is_refused_by_storage outcomes
 
 -- storage's count rose where the operation was refused by it, and no count fell
 abbrev pub Refuses : Outcome → Refusals → Refusals → Type 0
-Refuses outcome old new = NoFewer old new × (is_refused_by_storage outcome ≡ true → Rose old new)
+Refuses outcome old new = NoFewer old new × (is_refused_by_storage outcome ≡ true
+    → StorageRefusalsRose old new)
 
 -- storage's count rose by so many at least, or it is full
-abbrev pub RoseBy : ℕ → Refusals → Refusals → Type 0
-RoseBy count old new = min (old.storage + count) (2 ^ 64 - 1) ≤ new.storage
+abbrev pub StorageRefusalsRoseBy : ℕ → Refusals → Refusals → Type 0
+StorageRefusalsRoseBy count old new = min (old.storage + count) (2 ^ 64 - 1) ≤ new.storage
 
 -- by storage, or for want of memory
 abbrev pub IsStorageOrMemory : Fault → Type 0
@@ -180,7 +181,7 @@ pub record FailsBy {T : Type 0} (failed : Bool) (answer : Result T Fault) (fails
   -- it stays failed
   pub still : failed ≡ true → fails ≡ true
   -- a failure is told where there was one, and nowhere else
-  pub told : is_failure answer ≡ true → failed ≡ true
+  pub only_failed : is_failure answer ≡ true → failed ≡ true
   pub refused : failed ≡ true → (is_failure answer ≡ true) ⊎ IsErrAnd answer Other
   -- it fails by storage or for want of memory alone
   pub cause : failed ≡ false → fails ≡ true → IsErrAnd answer IsStorageOrMemory

@@ -11,7 +11,7 @@ use Rattle.raft_memory.specs.declared.crash.Choice.{Choice}
 use Rattle.raft_log_engine.specs.Crash.{RecoversContents, contents_after_crash}
 use Rattle.raft_log_engine.specs.Image.{IsImageOf}
 use Rattle.raft_script.specs.Durability.{LeavesAllowedAfter}
-use Rattle.raft_pipes.specs.Done.{HasSimplePastIn}
+use Rattle.raft_pipes.specs.Completed.{HasSimplePastIn}
 use Rattle.raft_pipes.specs.Folder.{IsDetectableIn}
 use Rattle.raft_pipes.specs.Queue.{HasDamageIn, HasLeftDamage}
 use Rattle.raft_script.specs.Run.{AreAnswers, IsFailurePlace, IsStorageOrMemory}

@@ -94,7 +94,7 @@ fn serve_line<R: BufRead, W: Write>(
         return Some(Ended::Output);
     }
     match answer {
-        Answer::Gone(_) => Some(Ended::Opening),
+        Answer::Fatal(_) => Some(Ended::Opening),
         _ => None,
     }
 }
@@ -127,7 +127,7 @@ fn answer_line(
         Some(opened) => opened,
         None => match open(alloc)? {
             Ok(opened) => opened,
-            Err(refused) => return Ok(Answer::Gone(refused.fault)),
+            Err(refused) => return Ok(Answer::Fatal(refused.fault)),
         },
     };
     match line {
@@ -164,7 +164,7 @@ fn crash(
     let config = settings(alloc)?;
     match crashed(alloc, opened.give_up(), left) {
         Ok(files) => Ok(open_again(alloc, engine, config, files)),
-        Err(fault) => Ok(Answer::Gone(fault)),
+        Err(fault) => Ok(Answer::Fatal(fault)),
     }
 }
 
@@ -190,7 +190,7 @@ fn answer_opening<F: FileSystem + Drop>(
             *engine = Some(opened);
             Answer::Done
         }
-        Err(refused) => Answer::Gone(refused.fault),
+        Err(refused) => Answer::Fatal(refused.fault),
     }
 }
 

@@ -8,7 +8,7 @@ ghost use Rattle.raft_memory.specs.Memory.{memory_directory, memory_moments, no_
 ghost use Rattle.raft_log_engine.specs.Image.{IsImageOf};
 ghost use Rattle.raft_log_engine.specs.Contents.{contents_at};
 ghost use Rattle.raft_log_engine.specs.Crash.{RecoversContents};
-ghost use Rattle.raft_pipes.specs.Done.{IsDoneIn};
+ghost use Rattle.raft_pipes.specs.Completed.{ReadsCompletedRecordsIn};
 ghost use Rattle.raft_pipes.specs.Queue.{IsOpenableIn};
 ghost use Rattle.raft_script.specs.Run.{IsStorageOrMemory};
 ghost use Rattle.raft_script.specs.Trial.{AreNotAllowed, IsLogRefusal, IsTrialOf, LeavesDetectable, RunsOver};
@@ -19,7 +19,7 @@ use raft_env::FileSystem;
 use raft_log_engine::laws::{crash_leaves_contents, the_damage_of_an_engine_is_detectable};
 use raft_log_engine::{Config, Engine, Image};
 use raft_memory::{Choice, MemoryFileSystem};
-use raft_pipes::laws::{a_queue_stays_done, crash_leaves_a_prefix};
+use raft_pipes::laws::{a_queue_keeps_its_completed_log, crash_leaves_a_prefix};
 use raft_records::Fault;
 use std::alloc::Global;
 
@@ -42,7 +42,7 @@ pub fn trial(
         ⊎ ((fault_code e ≡ 1) × (NameNoBytes choices.now → ⊥)
         × AreNotAllowed (string_bytes config.dir) ops.now stop choices.now)) }
 {
-    a_queue_stays_done();
+    a_queue_keeps_its_completed_log();
     crash_leaves_a_prefix();
     crash_leaves_contents();
     let again = config.clone()?;
@@ -79,7 +79,7 @@ fn run_over<F: FileSystem + Drop>(
         RecoversContents dir found [] (F.directory files)
         → RunsOver dir found ops.now r.0.outcomes.items r.0.failed_at (F.directory r.1)) }
     ensures crash { IfOk result (λ r.
-        IsDoneIn (string_bytes config.dir) (F.directory files) → r.0.failed_at ≡ None
+        ReadsCompletedRecordsIn (string_bytes config.dir) (F.directory files) → r.0.failed_at ≡ None
         → (r.0.outcomes.items ≡ [] → ⊥)
         → LeavesDetectable (string_bytes config.dir) (F.directory r.1)) }
     ensures any_moment { IfOk result (λ r.

@@ -48,7 +48,7 @@ returns-in-Sync-clause-progress g c = rw c.in-Sync.is (record {
 pub returns-in-Ok-clause-failed : goal.returns-in-Ok-clause-failed
 returns-in-Ok-clause-failed g c = rw c.in-Write.is (record {
   still = λ failed. search rules;
-  told = λ told. search rules;
+  only_failed = λ told. search rules;
   refused = λ failed. search rules;
   cause = λ alive fails. search rules;
 })

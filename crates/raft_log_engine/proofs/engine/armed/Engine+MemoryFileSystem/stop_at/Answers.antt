@@ -1,5 +1,5 @@
 use Rattle.std.proofs.Common.{◌++◌, length, subst, sym}
-use Rattle.raft_pipes.specs.Done.{IsDoneIfSimple}
+use Rattle.raft_pipes.specs.Completed.{PipeHasCompletedLogIfSimple}
 use Rattle.raft_pipes.specs.Pipe.{HasQueue}
 use Rattle.raft_pipes.specs.Queue.{RecoversPrefix}
 use Rattle.raft_log_engine.specs.Engine.{base_of, folder_of, unsynced_of}
@@ -14,6 +14,6 @@ invariant_of-self c =
       emptied = e.emptied;
       holds = e.holds;
       queue = λ alive. subst (λ n. HasQueue e.pipe (folder_of e) (base_of e ++ unsynced_of e) (length (base_of e)) n) (sym same) (e.queue alive);
-      done = λ alive begun. subst (λ n. IsDoneIfSimple e.pipe (folder_of e) n) (sym same) (e.done alive begun);
+      completed = λ alive begun. subst (λ n. PipeHasCompletedLogIfSimple e.pipe (folder_of e) n) (sym same) (e.completed alive begun);
       left = subst (λ n. RecoversPrefix (folder_of e) (base_of e ++ unsynced_of e) (length (base_of e)) n) (sym same) e.left;
     }
