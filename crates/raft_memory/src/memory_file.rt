@@ -78,7 +78,13 @@ impl MemoryFile {
         self.least = self.least.min(self.bytes.len());
         let longest = longest_of(is_done, at, given.len(), self.bytes.len());
         self.greatest = self.greatest.max(longest);
-        self.ghost_file = GhostFile::after(&Step::Write(&self.ghost_file, at, given, is_done, &self.bytes));
+        self.ghost_file = GhostFile::after(&Step::Write(
+            &self.ghost_file,
+            at,
+            given,
+            is_done,
+            &self.bytes,
+        ));
         Ok(())
     }
 }
