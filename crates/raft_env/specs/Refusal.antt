@@ -65,20 +65,24 @@ abbrev pub RefusalsRoseFor : {T : Type 0} → Result T FsFault → Refusals → 
 RefusalsRoseFor result old new = MatchResult result (λ _. NoFewer old new)
     (λ e. RefusalsRoseForFault e old new)
 
--- the fault for a refused file call; it names the path, or nothing where memory for that was wanting
+-- the text of a fault by storage: the path of the file, or nothing where memory for that was wanting
+abbrev pub NamesFile : List ℕ → String Global → Type 0
+NamesFile path text = (string_bytes text ≡ path) ⊎ (string_bytes text ≡ [])
+
+-- the fault for a refused call on the file at the path
 abbrev pub IsFaultOf : List ℕ → FsFault → Fault → Type 0
-IsFaultOf path (Io kind) f = (named : String Global) × (f ≡ fault.Io kind named)
-    × ((string_bytes named ≡ path) ⊎ (string_bytes named ≡ []))
+IsFaultOf path (Io kind) f = (text : String Global) × (f ≡ fault.Io kind text) × NamesFile path text
 IsFaultOf path Memory f = f ≡ fault.Memory
 
--- by a file call: by storage or for want of memory, where that count rose in the call
-abbrev pub IsFileRefusal : Refusals → Refusals → Fault → Type 0
-IsFileRefusal old new (fault.Io kind path) = StorageRefusalsRose old new
-IsFileRefusal old new fault.Memory = old.memory < new.memory
-IsFileRefusal old new _ = ⊥
+-- by a call on the file at the path: by storage, which the fault names, or for want of memory, where
+-- that count rose in the call
+abbrev pub IsFileRefusal : List ℕ → Refusals → Refusals → Fault → Type 0
+IsFileRefusal path old new (fault.Io kind text) = StorageRefusalsRose old new × NamesFile path text
+IsFileRefusal path old new fault.Memory = old.memory < new.memory
+IsFileRefusal path old new _ = ⊥
 
 -- the same of a call that may also want memory of its own
-abbrev pub IsRefusal : Refusals → Refusals → Fault → Type 0
-IsRefusal old new (fault.Io kind path) = StorageRefusalsRose old new
-IsRefusal old new fault.Memory = Unit {0}
-IsRefusal old new _ = ⊥
+abbrev pub IsRefusal : List ℕ → Refusals → Refusals → Fault → Type 0
+IsRefusal path old new (fault.Io kind text) = StorageRefusalsRose old new × NamesFile path text
+IsRefusal path old new fault.Memory = Unit {0}
+IsRefusal path old new _ = ⊥

@@ -32,9 +32,9 @@ impl FsFault {
     pub fn with_path(self, alloc: Global, path: &str) -> Fault
         ensures value { IsFaultOf path.now self result }
         ensures cause { (old new : Refusals) → RefusalsRoseForFault self old new
-            → IsRefusal old new result }
+            → IsRefusal path.now old new result }
         ensures counted { (old new : Refusals) → CountsRefusal self old new
-            → IsFileRefusal old new result }
+            → IsFileRefusal path.now old new result }
         ensures not_failed { result ≡ Fault.Failed → ⊥ }
     {
         match self {

@@ -4,3 +4,4 @@ pub mod AnswersLemmas
 pub mod TrialLemmas
 pub mod LineLemmas
 pub mod LinesLemmas
+pub mod ProgramLemmas
