@@ -106,7 +106,7 @@ torn_is_detectable id format records synced at file left completed latest never 
   newer = [];
   upto = file.changes;
   moment = refl;
-  beginning = subst (λ b. IsPrefixOf read (readable_records id b)) latest beginning;
+  prefix = subst (λ b. IsPrefixOf read (readable_records id b)) latest prefix;
   completed = λ other is.
       let same : other ≡ format = same_some (sym is ∙ header) in
       subst (λ f. AreFromCompletedCalls id (signature_by id f) (file.changes ++ file.older) read) (sym same) (λ r has. completed.completed r (among r has));
@@ -133,8 +133,8 @@ torn_is_detectable id format records synced at file left completed latest never 
     among : (r : PlacedRecord) → Contains read r → Contains records r
     among r has = subst (λ rs. Contains rs r) (take-append-drop torn.count records) (Contains-append_left (take torn.count records) (drop torn.count records) r (subst (λ rs. Contains rs r) read_is has))
 
-    beginning : IsPrefixOf read (readable_records id file.now)
-    beginning = subst (λ rs. IsPrefixOf rs (readable_records id file.now)) (sym read_is)
+    prefix : IsPrefixOf read (readable_records id file.now)
+    prefix = subst (λ rs. IsPrefixOf rs (readable_records id file.now)) (sym read_is)
         (subst (λ rs. IsPrefixOf (take torn.count records) rs) (sym (readable-held id format (take torn.count records) torn.end file.now torn.holds)) (prefix_append (take torn.count records) _))
 
     untouched : List ℕ

@@ -129,7 +129,7 @@ now_is_read id file is unmarked = record {
   header = inl refl;
   bytes = file.now;
   moment = subst (Contains (bytes_since_sync file)) (sym is.latest) (newest_moment file.synced file.changes);
-  beginning = prefix_itself (readable_records id file.now);
+  prefix = prefix_itself (readable_records id file.now);
   unmarked = unmarked;
 }
 
@@ -138,7 +138,7 @@ synced_is_read id file header unmarked = record {
   header = header;
   bytes = file.synced;
   moment = Contains-append_right (map (λ (c : Change). c.after) file.changes) (file.synced ∷ []) file.synced (0, omega arith, refl);
-  beginning = prefix_itself (readable_records id file.synced);
+  prefix = prefix_itself (readable_records id file.synced);
   unmarked = unmarked;
 }
 
@@ -148,8 +148,8 @@ own_is_detectable id file left consistent never own may long reads = record {
   newer = m.newer;
   upto = m.upto;
   moment = m.split;
-  beginning = begins;
-  completed = λ format is r has. own_completed id (signature_by id format) (bytes_after file.synced m.upto) (m.upto ++ file.older) (past_at file consistent m.newer m.upto m.split) (λ c among. own format (format_now format is) c (of_file c among)) r (read_then r has);
+  prefix = begins;
+  completed = λ format is r has. own_done id (signature_by id format) (bytes_after file.synced m.upto) (m.upto ++ file.older) (past_at file consistent m.newer m.upto m.split) (λ c among. own format (format_now format is) c (of_file c among)) r (read_then r has);
   untouched = untouched_is_read id file left may long;
   unmarked = reads.unmarked;
   none_stale = λ r has. never_stale file.renamed_after (m.upto ++ file.older) r.at never;
@@ -159,7 +159,7 @@ own_is_detectable id file left consistent never own may long reads = record {
     m = moment_of file.synced file.changes reads.bytes reads.moment
 
     begins : IsPrefixOf (readable_records id left) (readable_records id (bytes_after file.synced m.upto))
-    begins = subst (λ b. IsPrefixOf (readable_records id left) (readable_records id b)) (sym m.is) reads.beginning
+    begins = subst (λ b. IsPrefixOf (readable_records id left) (readable_records id b)) (sym m.is) reads.prefix
 
     read_then : (r : PlacedRecord) → Contains (readable_records id left) r → Contains (readable_records id (bytes_after file.synced m.upto)) r
     read_then r has = subst (λ rs. Contains rs r) (sym begins.1) (Contains-append_left (readable_records id left) begins.0 r has)

@@ -42,5 +42,5 @@ pub record IsReadAsBefore (id : FileId) (file : File) (left : List ℕ) : Type 0
   pub header : (format_of left ≡ format_of file.now) ⊎ (format_of left ≡ None)
   pub bytes : List ℕ
   pub moment : Contains (bytes_since_sync file) bytes
-  pub beginning : IsPrefixOf (readable_records id left) (readable_records id bytes)
+  pub prefix : IsPrefixOf (readable_records id left) (readable_records id bytes)
   pub unmarked : EndsWithoutCompressed id left

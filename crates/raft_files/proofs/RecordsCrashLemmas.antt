@@ -113,7 +113,7 @@ keeps_settled : (id : FileId) (bytes : List ℕ) (r : ScanResult) → scan_file 
 keeps_settled id bytes r e = record {
   header = format_of_read id bytes r e;
   latest = refl;
-  moments = λ newer upto moment left read. subst (λ rs. IsPrefixOf left rs) (only_moment (λ changes. readable_records id (bytes_after bytes changes) ≡ r.records) (ap (λ q. records_of q) e) newer upto moment) read.beginning;
+  moments = λ newer upto moment left read. subst (λ rs. IsPrefixOf left rs) (only_moment (λ changes. readable_records id (bytes_after bytes changes) ≡ r.records) (ap (λ q. records_of q) e) newer upto moment) read.prefix;
   few = omega arith;
   covered = subst (λ b. ReadsFirst id r.format (take (length r.records) r.records) b) (sym (take_all (length bytes) bytes (omega arith))) (reads_all id bytes r e);
 }

@@ -89,7 +89,7 @@ pub left_of_torn : (id : FileId) (format : LogFileFormat) (by : Option ℕ) (rec
     ((r : PlacedRecord) → Contains (readable_records id bytes) r → at ≤ r.at → IsFromCompletedCall id by changes r → IsFreshAfter renamed changes r.at → Contains others r) →
     (left : List PlacedRecord) → AreReadAt id by bytes renamed changes left → IsPrefixOf left (records ++ others)
 left_of_torn id format by records others at bytes renamed changes holds few only left read =
-    let begins = read.beginning in
+    let begins = read.prefix in
     let behind = records_after id format bytes at in
     elim (prefix_split left records behind (begins.0, sym (readable-held id format records at bytes holds) ∙ begins.1)) [
       | inl within ↦ prefix_trans left records (records ++ others) within (prefix_append records others)

@@ -20,11 +20,11 @@ none_left id file left none detectable = ap (λ rs. map (λ (p : PlacedRecord). 
   where
     by_format : (format : Option LogFileFormat) → format_of left ≡ format → readable_records id left ≡ []
     by_format None e = readable_without_header id left e
-    by_format (Some format) e = none.moments detectable.newer detectable.upto detectable.moment format (readable_records id left) (record { beginning = detectable.beginning; completed = detectable.completed format e; fresh = detectable.none_stale })
+    by_format (Some format) e = none.moments detectable.newer detectable.upto detectable.moment format (readable_records id left) (record { prefix = detectable.prefix; completed = detectable.completed format e; fresh = detectable.none_stale })
 
 -- the same bytes under an equal name
 pub read_of_bytes : {id : FileId} {signature : Option ℕ} {a b : List ℕ} {renamed : Option ℕ} {changes : List Change} {left : List PlacedRecord} → a ≡ b → AreReadAt id signature a renamed changes left → AreReadAt id signature b renamed changes left
-read_of_bytes {id = id} {left = left} same read = record { beginning = subst (λ bytes. IsPrefixOf left (readable_records id bytes)) same read.beginning; completed = read.completed; fresh = read.fresh }
+read_of_bytes {id = id} {left = left} same read = record { prefix = subst (λ bytes. IsPrefixOf left (readable_records id bytes)) same read.prefix; completed = read.completed; fresh = read.fresh }
 
 pub nothing_of : (rs left : List PlacedRecord) → rs ≡ [] → IsPrefixOf left rs → left ≡ []
 nothing_of rs [] none begins = refl
@@ -41,7 +41,7 @@ only_moment P holds (c ∷ newer) upto e = cc
 pub none_settled : (id : FileId) (bytes : List ℕ) → readable_records id bytes ≡ [] → RecoversNoRecord id (synced_file bytes)
 none_settled id bytes none = record {
   latest = refl;
-  moments = λ newer upto e format left read. nothing_of _ left (only_moment (λ changes. readable_records id (bytes_after bytes changes) ≡ []) none newer upto e) read.beginning;
+  moments = λ newer upto e format left read. nothing_of _ left (only_moment (λ changes. readable_records id (bytes_after bytes changes) ≡ []) none newer upto e) read.prefix;
 }
 
 pub moments_synced : (P : List PlacedRecord → Type 0) (id : FileId) (by : Option ℕ) (file : File) → file.now ≡ bytes_after file.synced file.changes → AtEachMoment P id by file → AtEachMoment P id by (synced_of file)
@@ -63,7 +63,7 @@ none_more id file c none moment = record {
 none_short : (id : FileId) (old new : File) → RecoversNoRecord id old → length new.now ≤ 69 → (new ≡ old) ⊎ ((c : Change) × (new ≡ changed_by c old)) → RecoversNoRecord id new
 none_short id old new none short (inl same) = subst (RecoversNoRecord id) (sym same) none
 none_short id old new none short (inr (c, is)) =
-    subst (RecoversNoRecord id) (sym is) (none_more id old c none (λ format left read. nothing_of _ left (readable_records-short id c.after (omega (arith, short, ap (λ (f : File). length f.now) is))) read.beginning))
+    subst (RecoversNoRecord id) (sym is) (none_more id old c none (λ format left read. nothing_of _ left (readable_records-short id c.after (omega (arith, short, ap (λ (f : File). length f.now) is))) read.prefix))
 
 room_of_header : (format : LogFileFormat) (size : ℕ) → size ≤ header_len format.version → capacity_for (header_len format.version) 0 size ≤ 69
 room_of_header format size within = elim (cases_Bool (ltb size (header_len format.version))) [

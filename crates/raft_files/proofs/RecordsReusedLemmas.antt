@@ -110,7 +110,7 @@ module _ (id : FileId) (format : LogFileFormat) (has : HasHeader format) (fits :
     nothing_left : (by : Option ℕ) (left : List PlacedRecord) → AreReadAt id by c.after file.renamed_after (c ∷ past) left → left ≡ []
     nothing_left by [] read = refl
     nothing_left by (r ∷ left) read =
-        absurd (nothing_after r (subst (λ rs. Contains rs r) (sym read.beginning.1) (0, omega arith, refl)) (read.fresh r (0, omega arith, refl)))
+        absurd (nothing_after r (subst (λ rs. Contains rs r) (sym read.prefix.1) (0, omega arith, refl)) (read.fresh r (0, omega arith, refl)))
 
     pub none_headed : RecoversNoRecord id (changed_by c file)
     none_headed = none_more id file c keeps.none (λ other left read. nothing_left (signature_by id other) left read)

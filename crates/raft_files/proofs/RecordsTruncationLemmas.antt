@@ -79,7 +79,7 @@ left_before id by old c renamed changes r e behind left read =
     let before : (q : PlacedRecord) → Contains left q → q.at + q.len ≤ c.from = λ q has.
     omega (arith, behind.from, read_ends_before id old r e q (subst (λ rs. Contains rs q) (sym first.1) (Contains-append_left left first.0 q has))) in
     record {
-      beginning = subst (λ rs. IsPrefixOf left rs) (sym (ap (λ q. records_of q) e)) first;
+      prefix = subst (λ rs. IsPrefixOf left rs) (sym (ap (λ q. records_of q) e)) first;
       completed = λ q has. done_before id by c changes q (before q has) (read.completed q has);
       fresh = λ q has. fresh_before renamed c changes q.at q.at (ungiven q.at c behind.given) (omega arith) (read.fresh q has);
     }
@@ -120,7 +120,7 @@ nothing_read id by c renamed changes unread none empty (r ∷ left) read =
     let earlier : HasNothingFrom id 0 c.before renamed changes = λ other q has behind is fresh. absurd (omega (arith, (subst (λ read. Contains (records_of read) q) unread has).1)) in
     let nothing = has_nothing_after id 0 0 c renamed changes earlier (omega arith) none empty in
     let first : Contains (r ∷ left) r = (0, omega arith, refl) in
-    absurd (nothing by r (subst (λ all. Contains all r) (sym read.beginning.1) (0, omega arith, refl)) (omega arith) (read.completed r first) (read.fresh r first))
+    absurd (nothing by r (subst (λ all. Contains all r) (sym read.prefix.1) (0, omega arith, refl)) (omega arith) (read.completed r first) (read.fresh r first))
 
 -- Truncations.
 

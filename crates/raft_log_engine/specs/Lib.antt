@@ -7,3 +7,5 @@ pub mod Engine
 pub mod Image
 pub mod Durability
 pub mod Opening
+pub mod Reads
+pub mod Scan

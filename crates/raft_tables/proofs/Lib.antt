@@ -1,3 +1,7 @@
+pub mod OrderLemmas
+pub mod EntryTableLemmas
 pub mod TableLemmas
 pub mod TablesLemmas
 pub mod ListingLemmas
+pub mod ContentsLemmas
+pub mod AppliedLemmas

@@ -1,5 +1,5 @@
+pub mod EntryTable
 pub mod Table
-pub mod Places
 pub mod Tables
 pub mod Counters
 pub mod Listing
