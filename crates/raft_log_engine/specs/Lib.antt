@@ -6,3 +6,5 @@ pub mod Engine
 pub mod Image
 pub mod Durability
 pub mod Opening
+pub mod Reads
+pub mod Scan
