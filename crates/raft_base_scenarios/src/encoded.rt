@@ -4,9 +4,7 @@ ghost use Rattle.std.specs.Prelude.{◌≡◌, [], ◌∷◌};
 
 use crate::record_rows::{DECODED, DecodedRecord, WantedItem};
 use crate::records::items_of;
-use raft_records::{
-    Command, EntryIndex, Fault, FileBlockHandle, LogBatch, Message, MessageExt,
-};
+use raft_records::{Command, EntryIndex, Fault, FileBlockHandle, LogBatch, Message, MessageExt};
 use std::alloc::{AllocError, Global};
 use std::test::Fail;
 
@@ -61,12 +59,11 @@ fn add(
 /// block.
 fn is_encoded(record: &DecodedRecord) -> bool {
     let (_, _, lz4) = record.block;
-    !lz4
-        && record.items.iter().all(|item| match item {
-            WantedItem::Entries(_, entries) => !entries.is_empty(),
-            WantedItem::Put(_, key, _) => !key.starts_with(b"__"),
-            _ => true,
-        })
+    !lz4 && record.items.iter().all(|item| match item {
+        WantedItem::Entries(_, entries) => !entries.is_empty(),
+        WantedItem::Put(_, key, _) => !key.starts_with(b"__"),
+        _ => true,
+    })
 }
 
 fn comes_to(alloc: Global, record: &DecodedRecord) -> Result<bool, Fault> {
