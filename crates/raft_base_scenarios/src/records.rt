@@ -65,7 +65,7 @@ fn item_of(
     })
 }
 
-fn items_of(alloc: Global, record: &DecodedRecord) -> Result<Vec<LogItem>, AllocError> {
+pub(crate) fn items_of(alloc: Global, record: &DecodedRecord) -> Result<Vec<LogItem>, AllocError> {
     let mut items = Vec::new(alloc);
     for wanted in record.items {
         items.push(item_of(alloc, wanted, record)?)?;
