@@ -1,17 +1,26 @@
 -- Operations under way: the batch of acts, and what the operations so far leave.
-use Rattle.std.proofs.Common.{◌≡◌, ℕ, zero, suc, ◌+◌, ◌<◌, ◌≤◌, Bool, true, false, cond, List, [], ◌∷◌, ◌++◌, length, length-append, length-drop, take, drop, drop-cons, get_or, Option, Some, None, refl, sym, ◌∙◌, ap, subst, append_assoc, arith}
-use Rattle.std.specs.Prelude.{◌||◌, is_none, is_some, option_map, if◌then◌else◌}
+use Rattle.std.proofs.Common.{◌≡◌, ℕ, zero, suc, ◌+◌, ◌<◌, ◌≤◌, Bool, true, false, cond, ◌&&◌, inl, inr, List, [], ◌∷◌, ◌++◌, length, length-append, length-drop, take, drop, drop-cons, get_or, Option, Some, None, refl, sym, ◌∙◌, ap, subst, append_assoc, arith}
+use Rattle.std.specs.Prelude.{◌||◌, ◌↔◌, IfErr, IfOk, IsSome, MatchResult, Result, Ok, Err, is_none, is_some, option_map, if◌then◌else◌}
+use Rattle.std.proofs.lemmas.Bool.{cases_Bool}
 use Rattle.std.proofs.lemmas.List.{append-nil, nil_from_length}
 use Rattle.std.proofs.lemmas.List.Sums.{fold-append, sum_by-append}
 use Rattle.std.proofs.Math.Seq.{take-suc}
 use Rattle.raft_env.specs.Refusal.{Refusals, StorageRefusalsRose}
 use Rattle.raft_records.specs.Contents.{Contents, after_batch, after_batches, after_item}
 use Rattle.raft_records.specs.Batch.{is_internal_key}
-use Rattle.raft_records.specs.Item.{Item, Batch, Put, Delete}
+use Rattle.raft_env.specs.Directory.{Path}
+use Rattle.raft_env.specs.declared.env.FileSystem.{Ghosts}
+use Rattle.raft_pipes.specs.LogFile.{is_plain}
+use Rattle.raft_records.specs.Item.{Item, Batch, Put, Delete, is_put_or_delete}
 use Rattle.raft_records.specs.Validity.{batch_refusal}
 use Rattle.raft_base.specs.declared.errors.Fault.{Fault}
+use Rattle.raft_base.specs.declared.errors.Fault.TheVariants as fault
+use Rattle.raft_log_engine.specs.Cause as engine
+use Rattle.raft_log_engine.specs.Durability.{HasWritten}
+use Rattle.raft_log_engine.specs.Engine.{has_failed, refusals_of}
+use Rattle.raft_log_engine.specs.declared.engine.Engine.{Engine}
 use Rattle.raft_log_engine.specs.Crash.{written_batch}
-use Rattle.raft_script.specs.Run.{accepted_batches, accepted_of, AreAnswers, AreSteady, FailsAt, IsFailing, IsFailurePlace, Refuses, StorageRefusalsRoseBy, batch_of_acts, io_count, is_refused_by_storage, IsAnswer, item_of_act, pending_batches, with_first, written_batches}
+use Rattle.raft_script.specs.Run.{accepted_batches, accepted_of, AreAnswers, AreSteady, FailsAt, IsFailing, IsFailurePlace, Refuses, StorageRefusalsRoseBy, batch_of_acts, io_count, is_refused_by_storage, IsAnswer, IsWritten, IsWriteRefusal, item_of_act, pending_batches, with_first, written_batches}
 use Rattle.raft_script.specs.declared.operation.Act.{Act}
 use Rattle.raft_script.specs.declared.operation.Act.TheVariants as act
 use Rattle.raft_script.specs.declared.operation.Op.{Op}
@@ -56,6 +65,46 @@ built_ended items n acts none built = sym built ∙ ap (λ l. followed_by items 
 pub after-written_batches : (m : Contents) (batch : Batch) → after_batches m (written_batches (Some batch)) ≡ after_batch m batch
 after-written_batches m [] = refl
 after-written_batches m (item ∷ items) = refl
+
+-- acts are puts and deletes
+pub acts_plain : (acts : List Act) (items : Batch) → batch_of_acts acts ≡ Some items → is_plain items ≡ true
+acts_plain [] [] built = refl
+acts_plain [] (item ∷ items) built = cc
+acts_plain (a ∷ acts) items built = by_act a (batch_of_acts acts) (λ more is. acts_plain acts more is) built
+  where
+    by_item : (item : Item) (rest : Option Batch) → ((more : Batch) → rest ≡ Some more → is_plain more ≡ true) → is_put_or_delete item.content ≡ true → with_first (Some item) rest ≡ Some items → is_plain items ≡ true
+    by_item item None others plain first = cc
+    by_item item (Some more) others plain first =
+        let all : item ∷ more ≡ items = cc in
+        ap is_plain (sym all) ∙ ap (λ (b : Bool). b && is_plain more) plain ∙ others more refl
+
+    by_key : (internal : Bool) (item : Item) (rest : Option Batch) → ((more : Batch) → rest ≡ Some more → is_plain more ≡ true) → is_put_or_delete item.content ≡ true → with_first (if internal then None else Some item) rest ≡ Some items → is_plain items ≡ true
+    by_key true item rest others plain first = cc
+    by_key false item rest others plain first = by_item item rest others plain first
+
+    by_act : (a : Act) (rest : Option Batch) → ((more : Batch) → rest ≡ Some more → is_plain more ≡ true) → with_first (item_of_act a) rest ≡ Some items → is_plain items ≡ true
+    by_act (act.Put group key value) rest others first = by_key (is_internal_key key.items) (record { group = group; content = Put key.items value.items }) rest others refl first
+    by_act (act.Delete group key) rest others first = by_item (record { group = group; content = Delete key.items }) rest others refl first
+
+same_err : {T : Type 0} {x y : Fault} (r : Result T Fault) → r ≡ Err x → r ≡ Err y → x ≡ y
+same_err r a b = cc
+
+-- an engine's write of such a batch is answered as the operation
+module _ {F H R W : Type 0} {g : Ghosts F H R W} (acts : List Act) (items rest : Batch) (folder : Path) (old new : Engine F H R W g) (built : batch_of_acts acts ≡ Some items) where
+  pub write_answered : (result : Result ℕ Fault) → IfOk result (HasWritten items rest old new) → ((result ≡ Err fault.Failed) ↔ (has_failed old ≡ true)) → IfErr result (λ e. has_failed old ≡ false → engine.IsWriteRefusal folder items (has_failed old) (has_failed new) (refusals_of old) (refusals_of new) e) →
+      MatchResult result (IsWritten acts) (IsWriteRefusal acts)
+  write_answered (Ok len) written failed cause = (items, built, written.len_is)
+  write_answered (Err e) written failed cause = elim (cases_Bool (has_failed old)) [
+    | inl gone ↦ let is : e ≡ fault.Failed = same_err (Err e) refl (failed.1 gone) in subst (IsWriteRefusal acts) (sym is) (subst IsSome (sym built) refl)
+    | inr stands ↦ by_fault e (cause stands)
+  ]
+    where
+      by_fault : (e : Fault) → engine.IsWriteRefusal folder items (has_failed old) (has_failed new) (refusals_of old) (refusals_of new) e → IsWriteRefusal acts e
+      by_fault (fault.InvalidArgument why) h = let plain = acts_plain acts items built in cc
+      by_fault (fault.Io kind path) h = subst IsSome (sym built) refl
+      by_fault fault.Memory h = tt
+      by_fault fault.Range h = (items, built, h.0)
+      by_fault _ h = absurd h
 
 -- a batch of puts and deletes is refused by no contents
 abbrev refusal_of : Contents → Option Batch → Option Fault

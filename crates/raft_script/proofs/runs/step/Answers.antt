@@ -5,8 +5,15 @@ use Rattle.raft_log_engine.specs.Durability.{durability_of}
 use Rattle.raft_log_engine.specs.Engine.{answer_now, answered_of, contents_of, directory_of, durable_of, folder_of, moments_of, unsynced_of}
 use Rattle.raft_script.specs.Run.{batch_of_acts, written_batches}
 use Rattle.raft_script.proofs.DurabilityLemmas.{moments_of_batch, written_progress}
-use Rattle.raft_script.proofs.RunLemmas.{acts_pending}
+use Rattle.raft_script.proofs.RunLemmas.{acts_pending, write_answered}
 use Rattle.raft_script.proofs.runs.step.Goals as goal
+
+pub returns-in-Ok-clause-value : goal.returns-in-Ok-clause-value
+returns-in-Ok-clause-value g c =
+    let write = c.write.ensures in
+    let acts = c.in-Write.acts in
+    let built : batch_of_acts acts.items ≡ Some c.in-Ok.batch.items = ap batch_of_acts (sym c.deref.ensures.value) ∙ c.in-Ok.ensures.value in
+    rw c.in-Write.is (λ m is. write_answered acts.items c.in-Ok.batch.items c.write.new.batch.items (folder_of c.args.engine.now) c.args.engine.now c.write.new.self built c.write.result write.ok write.failed write.cause)
 
 pub returns-in-Ok-clause-progress : goal.returns-in-Ok-clause-progress
 returns-in-Ok-clause-progress g c =
