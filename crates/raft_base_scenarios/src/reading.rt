@@ -1,8 +1,11 @@
-//! Records of a log file, read one behind the other. They were made by Python's struct and binascii, for file 5.
+//! Records of a log file, read one after the other. They were made by Python's struct and binascii, for file 5.
 
 use crate::changes::{Change, items_of};
 use raft_files::{LogFileFormat, RecordReader};
-use raft_records::{Fault, FileId, LogQueue, Version};
+use raft_records::{
+    Command, EntryIndex, Fault, FileBlockHandle, FileId, LogItem, LogItemBatch, LogItemContent,
+    LogQueue, Version,
+};
 use std::alloc::Global;
 use std::test::Fail;
 
@@ -20,17 +23,41 @@ const CUT: &[u8] =
 const CLEAN: &[u8] =
     b"\x00\x00\x00\x00\x00\x00\x18\x00\x00\x00\x00\x00\x00\x00\x00\x10\x01\x07\x02\x01\xed\xfc\x86\xd9";
 
-/// A reading, and the place up to which the file has been read then.
-enum Step {
-    /// A record with these items.
-    Record(&'static [Change], usize),
-    End(usize),
-    Refused(usize),
-    /// Whether a record stands at the place.
-    AtRecord(bool),
+/// Entries of group 7, 1 with `ab` and 2 with `c`.
+const ENTRIES: &[u8] =
+    b"\x00\x00\x00\x00\x00\x00\x22\x00\x00\x00\x00\x00\x00\x00\x00\x17\x61\x62\x63\xc2\x41\x24\x35\x01\x07\x01\x02\x01\x02\x01\x6f\x3d\x84\xf5";
+
+/// A wrong byte in their block.
+const ENTRIES_BROKEN: &[u8] =
+    b"\x00\x00\x00\x00\x00\x00\x22\x00\x00\x00\x00\x00\x00\x00\x00\x17\x61\x63\x63\xc2\x41\x24\x35\x01\x07\x01\x02\x01\x02\x01\x6f\x3d\x84\xf5";
+
+/// Entries in a compressed block whose checksum holds.
+const COMPRESSED: &[u8] =
+    b"\x00\x00\x00\x00\x00\x00\x22\x01\x00\x00\x00\x00\x00\x00\x00\x17\x78\x79\x7a\x67\xba\x8e\xeb\x01\x07\x01\x02\x01\x02\x01\x6f\x3d\x84\xf5";
+
+/// A wrong byte in that block.
+const COMPRESSED_BROKEN: &[u8] =
+    b"\x00\x00\x00\x00\x00\x00\x22\x01\x00\x00\x00\x00\x00\x00\x00\x17\x78\x78\x7a\x67\xba\x8e\xeb\x01\x07\x01\x02\x01\x02\x01\x6f\x3d\x84\xf5";
+
+/// What comes next.
+enum Found {
+    Changes(&'static [Change]),
+    Clean,
+    /// The entries of `ENTRIES`, in a block at this offset.
+    Entries(u64),
+    End,
+    /// The fault's code.
+    Refused(u8),
 }
 
-/// A file of version 2: its number and alignment, the records behind byte 128, and what is read.
+/// What a replay finds next, or a reading that looks at the blocks, and the place up to which the file has been read
+/// then.
+enum Step {
+    Replay(Found, usize),
+    Read(Found, usize),
+}
+
+/// A file of version 2: its number and alignment, the records after byte 128, and what is read.
 struct Case {
     name: &'static str,
     seq: u64,
@@ -39,19 +66,17 @@ struct Case {
     steps: &'static [Step],
 }
 
-const CASES: [Case; 5] = [
+const CASES: [Case; 10] = [
     Case {
         name: "up to the end",
         seq: 5,
         alignment: 128,
         records: [EMPTY, PUT],
         steps: &[
-            Step::AtRecord(true),
-            Step::Record(&[], 149),
-            Step::AtRecord(true),
-            Step::Record(&[Change(7, b"a", Some(b"x"))], 177),
-            Step::AtRecord(false),
-            Step::End(177),
+            Step::Read(Found::Changes(&[]), 149),
+            Step::Replay(Found::Changes(&[Change(7, b"a", Some(b"x"))]), 177),
+            Step::Replay(Found::End, 177),
+            Step::Read(Found::End, 177),
         ],
     },
     Case {
@@ -59,7 +84,10 @@ const CASES: [Case; 5] = [
         seq: 5,
         alignment: 0,
         records: [EMPTY, PUT],
-        steps: &[Step::AtRecord(false), Step::Refused(69)],
+        steps: &[
+            Step::Replay(Found::Refused(2), 69),
+            Step::Read(Found::Refused(2), 69),
+        ],
     },
     Case {
         name: "a byte short",
@@ -67,9 +95,9 @@ const CASES: [Case; 5] = [
         alignment: 128,
         records: [EMPTY, CUT],
         steps: &[
-            Step::Record(&[], 149),
-            Step::AtRecord(false),
-            Step::Refused(149),
+            Step::Replay(Found::Changes(&[]), 149),
+            Step::Replay(Found::Refused(2), 149),
+            Step::Read(Found::Refused(2), 149),
         ],
     },
     Case {
@@ -77,14 +105,74 @@ const CASES: [Case; 5] = [
         seq: 6,
         alignment: 128,
         records: [EMPTY, PUT],
-        steps: &[Step::AtRecord(false), Step::Refused(69)],
+        steps: &[
+            Step::Replay(Found::Refused(2), 69),
+            Step::Read(Found::Refused(2), 69),
+        ],
     },
     Case {
-        name: "other items",
+        name: "a clean",
         seq: 5,
         alignment: 128,
         records: [CLEAN, PUT],
-        steps: &[Step::AtRecord(true), Step::Refused(69)],
+        steps: &[
+            Step::Read(Found::Clean, 152),
+            Step::Read(Found::Changes(&[Change(7, b"a", Some(b"x"))]), 180),
+        ],
+    },
+    Case {
+        name: "entries",
+        seq: 5,
+        alignment: 128,
+        records: [ENTRIES, ENTRIES],
+        steps: &[
+            Step::Replay(Found::Entries(144), 162),
+            Step::Read(Found::Entries(178), 196),
+            Step::Read(Found::End, 196),
+        ],
+    },
+    Case {
+        name: "a broken block",
+        seq: 5,
+        alignment: 128,
+        records: [PUT, ENTRIES_BROKEN],
+        steps: &[
+            Step::Read(Found::Changes(&[Change(7, b"a", Some(b"x"))]), 156),
+            Step::Read(Found::Refused(2), 156),
+            Step::Replay(Found::Entries(172), 190),
+            Step::Replay(Found::End, 190),
+        ],
+    },
+    Case {
+        name: "a broken block before a put",
+        seq: 5,
+        alignment: 128,
+        records: [ENTRIES_BROKEN, PUT],
+        steps: &[
+            Step::Read(Found::Refused(2), 69),
+            Step::Replay(Found::Entries(144), 162),
+            Step::Read(Found::Changes(&[Change(7, b"a", Some(b"x"))]), 190),
+        ],
+    },
+    Case {
+        name: "a compressed block",
+        seq: 5,
+        alignment: 128,
+        records: [COMPRESSED, PUT],
+        steps: &[
+            Step::Replay(Found::Refused(13), 69),
+            Step::Read(Found::Refused(13), 69),
+        ],
+    },
+    Case {
+        name: "a broken compressed block",
+        seq: 5,
+        alignment: 128,
+        records: [COMPRESSED_BROKEN, PUT],
+        steps: &[
+            Step::Replay(Found::Refused(2), 69),
+            Step::Read(Found::Refused(2), 69),
+        ],
     },
 ];
 
@@ -98,24 +186,79 @@ fn bytes_of(alloc: Global, case: &Case) -> Result<Vec<u8>, Fault> {
     Ok(bytes)
 }
 
-// Whether the step comes to what the case says.
-fn holds(alloc: Global, reader: &mut RecordReader<'_>, step: &Step) -> Result<bool, Fault> {
-    match step {
-        Step::AtRecord(wanted) => Ok(reader.is_at_record() == *wanted),
-        Step::Record(changes, end) => {
-            let batch = reader.next(alloc)?.ok_or(Fault::EntryNotFound)?;
-            let items = items_of(alloc, changes)?;
-            Ok(batch.items() == items.as_slice() && reader.valid_offset() == *end)
-        }
-        Step::End(end) => {
-            let is_end = reader.next(alloc)?.is_none();
-            Ok(is_end && reader.valid_offset() == *end)
-        }
-        Step::Refused(end) => {
-            let refused = reader.next(alloc).err() == Some(Fault::Corruption);
-            Ok(refused && reader.valid_offset() == *end)
-        }
+fn entry(seq: u64, offset: u64, index: u64, entry_offset: u32, entry_len: u32) -> EntryIndex {
+    EntryIndex {
+        index,
+        entries: Some(FileBlockHandle {
+            id: FileId::new(LogQueue::Append, seq),
+            offset,
+            len: 7,
+        }),
+        entry_offset,
+        entry_len,
+        lz4: false,
     }
+}
+
+// A list of this item of group 7.
+fn one_item(alloc: Global, content: LogItemContent) -> Result<Vec<LogItem>, Fault> {
+    let mut items = Vec::new(alloc);
+    items.push(LogItem {
+        raft_group_id: 7,
+        content,
+    })?;
+    Ok(items)
+}
+
+// The items that are wanted, and none where no record is.
+fn wanted_items(alloc: Global, seq: u64, found: &Found) -> Result<Option<Vec<LogItem>>, Fault> {
+    match found {
+        Found::Changes(changes) => Ok(Some(items_of(alloc, changes)?)),
+        Found::Clean => {
+            let items = one_item(alloc, LogItemContent::Command(Command::Clean))?;
+            Ok(Some(items))
+        }
+        Found::Entries(offset) => {
+            let mut entries = Vec::new(alloc);
+            entries.push(entry(seq, *offset, 1, 0, 2))?;
+            entries.push(entry(seq, *offset, 2, 2, 1))?;
+            let items = one_item(alloc, LogItemContent::EntryIndexes(entries))?;
+            Ok(Some(items))
+        }
+        _ => Ok(None),
+    }
+}
+
+// Whether an answer is what is wanted.
+fn is_found(
+    alloc: Global,
+    seq: u64,
+    answer: Result<Option<LogItemBatch>, Fault>,
+    wanted: &Found,
+) -> Result<bool, Fault> {
+    match (answer, wanted) {
+        (Ok(None), Found::End) => Ok(true),
+        (Err(fault), Found::Refused(code)) => Ok(fault.code() == *code),
+        (Ok(Some(batch)), _) => match wanted_items(alloc, seq, wanted)? {
+            Some(items) => Ok(batch.items() == items.as_slice()),
+            None => Ok(false),
+        },
+        _ => Ok(false),
+    }
+}
+
+// Whether the step comes to what the case says.
+fn holds(
+    alloc: Global,
+    seq: u64,
+    reader: &mut RecordReader<'_>,
+    step: &Step,
+) -> Result<bool, Fault> {
+    let (answer, wanted, end) = match step {
+        Step::Replay(wanted, end) => (reader.next(alloc), wanted, *end),
+        Step::Read(wanted, end) => (reader.next_readable(alloc), wanted, *end),
+    };
+    Ok(is_found(alloc, seq, answer, wanted)? && reader.valid_offset() == end)
 }
 
 // The place of the first step that comes to something else.
@@ -126,7 +269,7 @@ fn first_wrong(alloc: Global, case: &Case) -> Result<Option<usize>, Fault> {
         return Err(Fault::Corruption);
     }
     for (place, wanted) in case.steps.iter().enumerate() {
-        if !holds(alloc, &mut reader, wanted)? {
+        if !holds(alloc, case.seq, &mut reader, wanted)? {
             return Ok(Some(place));
         }
     }

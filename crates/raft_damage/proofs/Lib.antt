@@ -1,4 +1,4 @@
-pub mod ToldLemmas
+pub mod DetectableDamageLemmas
 pub mod PremiseLemmas
 pub mod PastLemmas
 pub mod QueueLemmas

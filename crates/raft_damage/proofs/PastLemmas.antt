@@ -8,26 +8,26 @@ use Rattle.raft_base.specs.declared.pipe_log.FileId.{FileId}
 use Rattle.raft_files.specs.declared.format.LogFileFormat.{LogFileFormat}
 use Rattle.raft_env.specs.Outcomes.{File, Change, MayLeave, is_within, is_touched, untouched_len, bytes_since_sync, bytes_after}
 use Rattle.raft_env.specs.Directory.{Directory, Path, file_at}
-use Rattle.raft_files.specs.Reading.{PlacedRecord, readable_records}
-use Rattle.raft_memory.specs.Choice.{chosen, chosen_at, choice_for, left_by, NamesNoBytes, NameNoBytes}
+use Rattle.raft_files.specs.Scan.{PlacedRecord, readable_records}
+use Rattle.raft_memory.specs.Choice.{bytes_by_choice, bytes_by_choice_at, choice_for, left_by, NamesNoBytes, NameNoBytes}
 use Rattle.raft_env.specs.Consistent.{HasItsRange, IsPastOf, IsConsistent, AreConsistent}
-use Rattle.raft_files.specs.Detectable.{IsPrefixOf, format_of, signature_by, IsGivenBy, HasNoRefusedByte, IsDone, EndsWithoutCompressed, IsDetectableFile, IsDetectable}
-use Rattle.raft_damage.specs.Told.{BringsOnlyGiven, AreOwn, IsReadAsBefore}
+use Rattle.raft_files.specs.Detectable.{IsPrefixOf, format_of, signature_by, IsGivenBy, HasNoByteOfFailedCall, IsFromCompletedCall, EndsWithoutCompressed, IsDetectableFile, IsDetectable}
+use Rattle.raft_damage.specs.DetectableDamage.{AddsOnlyItsRecord, EachAddsOnlyItsRecord, IsReadAsBefore}
 use Rattle.raft_memory.specs.declared.crash.Choice.{Choice}
 use Rattle.raft_memory.specs.declared.crash.Choice.TheVariants as choice
-use Rattle.raft_files.proofs.DetectableLemmas.{beginning_itself}
-use Rattle.raft_files.proofs.ExtentLemmas.{same_some, record_of_header}
-use Rattle.raft_env.proofs.ChangeLemmas.{within_is, same_front}
-use Rattle.raft_files.proofs.PlacedLemmas.{contains_cases}
+use Rattle.raft_files.proofs.DetectableLemmas.{prefix_itself}
+use Rattle.raft_files.proofs.ScanExtentLemmas.{same_some, record_of_header}
+use Rattle.raft_env.proofs.OutcomesLemmas.{within_is, same_front}
+use Rattle.raft_files.proofs.ScanPlacedLemmas.{contains_cases}
 use Rattle.raft_env.proofs.ConsistentLemmas.{before_is_untouched}
-use Rattle.raft_memory.proofs.TornLemmas.{length-torn, no_bytes_at_turn, choices_may_leave}
-use Rattle.raft_damage.proofs.ToldLemmas.{readable_records-take}
-use Rattle.raft_premise.proofs.ZerosLemmas.{never_stale}
+use Rattle.raft_memory.proofs.ChoiceTornLemmas.{length-torn, no_bytes_at_turn, choices_may_leave}
+use Rattle.raft_damage.proofs.DetectableDamageLemmas.{readable_records-take}
+use Rattle.raft_premise.proofs.CompletedZerosLemmas.{never_stale}
 
 -- Records.
 
 -- a record that the newest change was to write has no byte of an older one
-given_covers : (by : Option ℕ) (c : Change) (changes : List Change) (r : PlacedRecord) → HasItsRange c → IsGivenBy by r c → HasNoRefusedByte by (c ∷ changes) r
+given_covers : (by : Option ℕ) (c : Change) (changes : List Change) (r : PlacedRecord) → HasItsRange c → IsGivenBy by r c → HasNoByteOfFailedCall by (c ∷ changes) r
 given_covers by c changes r range given [] d before e refused with_byte =
     let same : c ≡ d = cc in
     subst (IsGivenBy by r) same given
@@ -39,27 +39,27 @@ given_covers by c changes r range given (x ∷ later) d before e refused with_by
     let false_is : true ≡ false = sym touched ∙ with_byte.4 in
     absurd cc
 
--- where each change brought only the record that it was to write, no refused call brought what is read
-own_done : (id : FileId) (by : Option ℕ) (bytes : List ℕ) (changes : List Change) → IsPastOf bytes changes → ((c : Change) → Contains changes c → BringsOnlyGiven id by c) → (r : PlacedRecord) → Contains (readable_records id bytes) r → IsDone id by changes r
-own_done id by bytes [] past own r has = tt
-own_done id by bytes (c ∷ changes) past own r has =
+-- where each change brought only the record that it was to write, no failed call brought what is read
+own_completed : (id : FileId) (by : Option ℕ) (bytes : List ℕ) (changes : List Change) → IsPastOf bytes changes → ((c : Change) → Contains changes c → AddsOnlyItsRecord id by c) → (r : PlacedRecord) → Contains (readable_records id bytes) r → IsFromCompletedCall id by changes r
+own_completed id by bytes [] past own r has = tt
+own_completed id by bytes (c ∷ changes) past own r has =
     elim (own c (0, omega arith, refl) r (subst (λ b. Contains (readable_records id b) r) (sym past.0) has)) [
-      | inl earlier ↦ inr (earlier, own_done id by c.before changes past.3 (λ d older. own d (Contains-append_right (c ∷ []) changes d older)) r earlier)
+      | inl earlier ↦ inr (earlier, own_completed id by c.before changes past.3 (λ d older. own d (Contains-append_right (c ∷ []) changes d older)) r earlier)
       | inr given ↦ inl (given_covers by c changes r past.1 given)
     ]
 
 -- Moments.
 
-past_behind : (newer rest : List Change) (bytes : List ℕ) → IsPastOf bytes (newer ++ rest) → (then_bytes : List ℕ) × IsPastOf then_bytes rest
-past_behind [] rest bytes past = (bytes, past)
-past_behind (c ∷ newer) rest bytes past = past_behind newer rest c.before past.3
+past_after : (newer rest : List Change) (bytes : List ℕ) → IsPastOf bytes (newer ++ rest) → (then_bytes : List ℕ) × IsPastOf then_bytes rest
+past_after [] rest bytes past = (bytes, past)
+past_after (c ∷ newer) rest bytes past = past_after newer rest c.before past.3
 
 -- the past of a file at a moment since its last sync
 past_at : (file : File) → IsConsistent file → (newer upto : List Change) → file.changes ≡ newer ++ upto → IsPastOf (bytes_after file.synced upto) (upto ++ file.older)
 past_at file is newer [] e = is.earlier
 past_at file is newer (c ∷ upto) e =
     let all : file.changes ++ file.older ≡ newer ++ (c ∷ upto ++ file.older) = ap (λ cs. cs ++ file.older) e ∙ append_assoc newer (c ∷ upto) file.older in
-    let past = (past_behind newer (c ∷ upto ++ file.older) file.now (subst (IsPastOf file.now) all is.past)).1 in
+    let past = (past_after newer (c ∷ upto ++ file.older) file.now (subst (IsPastOf file.now) all is.past)).1 in
     (refl, past.1, past.2, past.3)
 
 -- the bytes of a file at such a moment, by its changes
@@ -104,7 +104,7 @@ untouched_stands file is =
     ]
 
 -- a choice that names no bytes leaves all of it
-untouched_is_left : (file : File) → IsConsistent file → (c : Choice) → NamesNoBytes c → untouched_len file.synced file.changes ≤ length (chosen c file)
+untouched_is_left : (file : File) → IsConsistent file → (c : Choice) → NamesNoBytes c → untouched_len file.synced file.changes ≤ length (bytes_by_choice c file)
 untouched_is_left file is choice.All none = untouched_stands file is
 untouched_is_left file is choice.Synced none = untouched_len_within file.synced file.changes
 untouched_is_left file is (choice.Torn kept fill) none = omega (arith, untouched_stands file is, length-torn (is_touched file.changes) kept fill file.now)
@@ -129,7 +129,7 @@ now_is_read id file is unmarked = record {
   header = inl refl;
   bytes = file.now;
   moment = subst (Contains (bytes_since_sync file)) (sym is.latest) (newest_moment file.synced file.changes);
-  beginning = beginning_itself (readable_records id file.now);
+  prefix = prefix_itself (readable_records id file.now);
   unmarked = unmarked;
 }
 
@@ -138,18 +138,18 @@ synced_is_read id file header unmarked = record {
   header = header;
   bytes = file.synced;
   moment = Contains-append_right (map (λ (c : Change). c.after) file.changes) (file.synced ∷ []) file.synced (0, omega arith, refl);
-  beginning = beginning_itself (readable_records id file.synced);
+  prefix = prefix_itself (readable_records id file.synced);
   unmarked = unmarked;
 }
 
-own_is_detectable : (id : FileId) (file : File) (left : List ℕ) → IsConsistent file → file.renamed_after ≡ None → AreOwn id file → MayLeave file left → untouched_len file.synced file.changes ≤ length left → IsReadAsBefore id file left → IsDetectableFile id file left
+own_is_detectable : (id : FileId) (file : File) (left : List ℕ) → IsConsistent file → file.renamed_after ≡ None → EachAddsOnlyItsRecord id file → MayLeave file left → untouched_len file.synced file.changes ≤ length left → IsReadAsBefore id file left → IsDetectableFile id file left
 own_is_detectable id file left consistent never own may long reads = record {
   header = reads.header;
   newer = m.newer;
   upto = m.upto;
   moment = m.split;
-  beginning = begins;
-  done = λ format is r has. own_done id (signature_by id format) (bytes_after file.synced m.upto) (m.upto ++ file.older) (past_at file consistent m.newer m.upto m.split) (λ c among. own format (format_now format is) c (of_file c among)) r (read_then r has);
+  prefix = begins;
+  completed = λ format is r has. own_completed id (signature_by id format) (bytes_after file.synced m.upto) (m.upto ++ file.older) (past_at file consistent m.newer m.upto m.split) (λ c among. own format (format_now format is) c (of_file c among)) r (read_then r has);
   untouched = untouched_is_read id file left may long;
   unmarked = reads.unmarked;
   none_stale = λ r has. never_stale file.renamed_after (m.upto ++ file.older) r.at never;
@@ -159,7 +159,7 @@ own_is_detectable id file left consistent never own may long reads = record {
     m = moment_of file.synced file.changes reads.bytes reads.moment
 
     begins : IsPrefixOf (readable_records id left) (readable_records id (bytes_after file.synced m.upto))
-    begins = subst (λ b. IsPrefixOf (readable_records id left) (readable_records id b)) (sym m.is) reads.beginning
+    begins = subst (λ b. IsPrefixOf (readable_records id left) (readable_records id b)) (sym m.is) reads.prefix
 
     read_then : (r : PlacedRecord) → Contains (readable_records id left) r → Contains (readable_records id (bytes_after file.synced m.upto)) r
     read_then r has = subst (λ rs. Contains rs r) (sym begins.1) (Contains-append_left (readable_records id left) begins.0 r has)
@@ -176,12 +176,12 @@ own_is_detectable id file left consistent never own may long reads = record {
         subst (λ cs. Contains cs c) (sym all) (Contains-append_right m.newer (m.upto ++ file.older) c among)
 
 -- the damage can be told of what choices leave that is read as it was at a moment since the last sync
-pub own_told : (path : Path) (id : FileId) (n : Directory) (file : File) → file_at n path ≡ Some file → file.renamed_after ≡ None → AreConsistent n → AreOwn id file → (choices : List Choice) → NameNoBytes choices →
+pub own_detectable : (path : Path) (id : FileId) (n : Directory) (file : File) → file_at n path ≡ Some file → file.renamed_after ≡ None → AreConsistent n → EachAddsOnlyItsRecord id file → (choices : List Choice) → NameNoBytes choices →
     IsReadAsBefore id file (left_by choices n path) → IsDetectable path id n (left_by choices n)
-own_told path id n file stands never consistent own choices none reads other is =
+own_detectable path id n file stands never consistent own choices none reads other is =
     let d = left_by choices n in
     let c = choice_for choices (finite.keys n.files) path in
-    let left : d path ≡ chosen c file = ap (chosen_at c) stands in
+    let left : d path ≡ bytes_by_choice c file = ap (bytes_by_choice_at c) stands in
     let long = untouched_is_left file (consistent path file stands) c (no_bytes_at_turn choices none _) in
     subst (λ f. IsDetectableFile id f (d path)) (same_some (sym stands ∙ is))
     (own_is_detectable id file (d path) (consistent path file stands) never own ((choices_may_leave choices n none consistent).each path file stands) (omega (arith, long, ap length left)) reads)

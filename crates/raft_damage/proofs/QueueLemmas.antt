@@ -8,10 +8,10 @@ use Rattle.raft_memory.specs.Choice.{AreWhole, left_by}
 use Rattle.raft_memory.specs.declared.crash.Choice.{Choice}
 use Rattle.raft_files.specs.Detectable.{IsDetectable}
 use Rattle.raft_files.specs.Writer.{WriterState}
-use Rattle.raft_pipes.specs.Done.{IsDoneQueue}
+use Rattle.raft_pipes.specs.Completed.{QueueHasCompletedLog}
 use Rattle.raft_pipes.specs.Folder.{IsDetectableIn, first_file}
 use Rattle.raft_damage.proofs.PremiseLemmas.{log_whole}
 
-pub queue_whole : (w : WriterState) (version : Version) (folder : Path) (n : Directory) → IsDoneQueue w version folder n → AreConsistent n → (choices : List Choice) → AreWhole choices → ∥ IsDetectableIn folder n (left_by choices n) ∥₁
-queue_whole w version folder n done consistent choices whole =
-    ∥∥₁_map done.1 (λ d. subst (λ p. IsDetectable p first_file n (left_by choices n)) done.0 (log_whole w.path first_file d.format d.batches d.synced w.written n d.log consistent choices whole))
+pub queue_whole : (w : WriterState) (version : Version) (folder : Path) (n : Directory) → QueueHasCompletedLog w version folder n → AreConsistent n → (choices : List Choice) → AreWhole choices → ∥ IsDetectableIn folder n (left_by choices n) ∥₁
+queue_whole w version folder n completed consistent choices whole =
+    ∥∥₁_map completed.1 (λ d. subst (λ p. IsDetectable p first_file n (left_by choices n)) completed.0 (log_whole w.path first_file d.format d.batches d.synced w.written n d.log consistent choices whole))

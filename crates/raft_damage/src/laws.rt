@@ -10,10 +10,10 @@ ghost use Rattle.raft_files.specs.Detectable.{EndsWithoutCompressed, IsDetectabl
 ghost use Rattle.raft_env.specs.Directory.{Directory, Leaves, CrashImage, Path, file_at};
 ghost use Rattle.raft_env.specs.Outcomes.{File, is_touched};
 ghost use Rattle.raft_files.specs.Records.{HoldsRecords};
-ghost use Rattle.raft_premise.specs.Done.{EndsInZeros, HasDoneLog, HasDoneRecords};
-ghost use Rattle.raft_damage.specs.Told.{AreOwn, IsBrokenFrom, IsReadAsBefore, IsTornBehind};
+ghost use Rattle.raft_premise.specs.Completed.{EndsInZeros, HasCompletedLog, HasCompletedRecords};
+ghost use Rattle.raft_damage.specs.DetectableDamage.{EachAddsOnlyItsRecord, IsBrokenFrom, IsReadAsBefore, IsTornAfter};
 ghost use Rattle.raft_files.specs.Writer.{WriterState};
-ghost use Rattle.raft_pipes.specs.Done.{IsDoneQueue};
+ghost use Rattle.raft_pipes.specs.Completed.{QueueHasCompletedLog};
 ghost use Rattle.raft_pipes.specs.Folder.{IsDetectableIn};
 ghost use Rattle.raft_memory.specs.declared.crash.Choice.{Choice};
 ghost use Rattle.raft_memory.specs.declared.crash.Choice.TheVariants as choice;
@@ -23,7 +23,7 @@ ghost use Rattle.raft_files.specs.declared.format.LogFileFormat.{LogFileFormat};
 /// those of its last sync, or torn: of the places touched since, only the first few hold their
 /// bytes (`allowed`). Where no failed call brought the records of a file, the damage of a crash
 /// is detectable that leaves the first of them as they stand now and after them none that decodes
-/// (`told`), as a torn file that keeps those does (`torn`). None decodes where zeros alone stand
+/// (`first_records`), as a torn file that keeps those does (`torn`). None decodes where zeros alone stand
 /// (`zeros`); so of a log with all bytes or those of its last sync it is detectable (`detectable`).
 /// Of a file in any state it is detectable where no call brought a record but the one that it was
 /// to write, and what such an outcome leaves is read as a prefix of what was read at a moment since
@@ -32,12 +32,15 @@ ghost use Rattle.raft_files.specs.declared.format.LogFileFormat.{LogFileFormat};
 pub fn premise_can_be_met()
     ensures allowed { (choices : List Choice) (n : Directory) → NameNoBytes choices
         → AreConsistent n → Leaves n (left_by choices n) }
-    ensures told { (path : Path) (id : FileId) (format : LogFileFormat) (batches : List Batch)
-        (synced at : ℕ) (n : Directory) (held : HasDoneRecords path id format batches synced at n)
+    ensures first_records { (path : Path) (id : FileId) (format : LogFileFormat)
+        (batches : List Batch)
+        (synced at : ℕ) (n : Directory)
+        (held : HasCompletedRecords path id format batches synced at n)
         → held.file.renamed_after ≡ None → AreConsistent n → (d : CrashImage) → Leaves n d
-        → IsTornBehind id format held.records held.file (d path) → IsDetectable path id n d }
+        → IsTornAfter id format held.records held.file (d path) → IsDetectable path id n d }
     ensures torn { (path : Path) (id : FileId) (format : LogFileFormat) (batches : List Batch)
-        (synced at : ℕ) (n : Directory) (held : HasDoneRecords path id format batches synced at n)
+        (synced at : ℕ) (n : Directory)
+        (held : HasCompletedRecords path id format batches synced at n)
         → held.file.renamed_after ≡ None → AreConsistent n
         → (choices : List Choice) (kept fill count end : ℕ)
         → choice_for choices (finite.keys n.files) path ≡ choice.Torn kept fill
@@ -48,11 +51,12 @@ pub fn premise_can_be_met()
     ensures zeros { (id : FileId) (format : LogFileFormat) (at : ℕ) (bytes : List ℕ)
         → EndsInZeros at bytes → IsBrokenFrom id format at bytes }
     ensures detectable { (path : Path) (id : FileId) (format : LogFileFormat) (batches : List Batch)
-        (synced at : ℕ) (n : Directory) → HasDoneLog path id format batches synced at n
+        (synced at : ℕ) (n : Directory) → HasCompletedLog path id format batches synced at n
         → AreConsistent n → (choices : List Choice) → AreWhole choices
         → IsDetectable path id n (left_by choices n) }
     ensures own { (path : Path) (id : FileId) (n : Directory) (file : File)
-        → file_at n path ≡ Some file → file.renamed_after ≡ None → AreConsistent n → AreOwn id file
+        → file_at n path ≡ Some file → file.renamed_after ≡ None → AreConsistent n
+        → EachAddsOnlyItsRecord id file
         → (choices : List Choice) → NameNoBytes choices
         → IsReadAsBefore id file (left_by choices n path)
         → IsDetectable path id n (left_by choices n) }
@@ -65,12 +69,12 @@ pub fn premise_can_be_met()
 {}
 
 /// The damage of a crash that leaves each file with all its bytes now or those of its last sync is
-/// detectable of a queue of whose log only writes were refused, and no refused call brought a
-/// record (`detectable`). `raft_pipes` `pipe_builder::open` gives such a queue, and the pipe's calls
+/// detectable of a queue of whose log only writes failed, and no failed call brought a
+/// record (`detectable`). `raft_pipes::open` gives such a queue, and the pipe's calls
 /// keep it.
-pub fn a_queue_can_be_told()
+pub fn damage_of_a_queue_is_detectable()
     ensures detectable { (w : WriterState) (version : Version) (folder : Path) (n : Directory)
-        → IsDoneQueue w version folder n → AreConsistent n
+        → QueueHasCompletedLog w version folder n → AreConsistent n
         → (choices : List Choice) → AreWhole choices
         → ∥ IsDetectableIn folder n (left_by choices n) ∥₁ }
 {}

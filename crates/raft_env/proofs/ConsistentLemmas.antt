@@ -8,16 +8,16 @@ use Rattle.std.proofs.lemmas.Option.{same_Some}
 use Rattle.std.specs.Ordering.{nat_cmp, eq_by_cmp}
 use Rattle.std.specs.Cmp.Lexicographic.{slice_cmp, nat_list_cmp_total}
 use Rattle.std.specs.FinMap as finite
-use Rattle.raft_env.specs.Outcomes.{File, Change, MayLeave, Outcome, IsPartOf, IsCutOf, is_within, is_touched, bytes_after, untouched_len, least_len, greatest_len, changed_by, written, lengthened_to, cut_to, synced_of, settled, padded, overlaid}
-use Rattle.raft_env.specs.Directory.{Directory, CrashImage, Path, file_at, placed, changed, changed_at, created, IsMakingFolder, IsChanging, IsWriting, IsTruncating, IsAllocating, IsOneOf, IsRestarted}
+use Rattle.raft_env.specs.Outcomes.{File, Change, MayLeave, Outcome, IsPartOf, IsCutOf, is_within, is_touched, bytes_after, untouched_len, least_len, greatest_len, changed_by, file_after_write, lengthened_to, cut_to, synced_of, synced_file, pad_to, overlay}
+use Rattle.raft_env.specs.Directory.{Directory, CrashImage, Path, file_at, with_file, update_file, update_at, after_create, IsMakingFolder, IsChanging, IsWriting, IsTruncating, IsAllocating, IsOneOf, IsRestarted}
 use Rattle.raft_env.specs.Consistent.{HasItsRange, HasItsLength, IsPastOf, IsConsistent, AreConsistent}
 use Rattle.raft_env.proofs.DirectoryLemmas.{file_at-making}
-use Rattle.raft_env.proofs.OverlaidLemmas.{overlaid_bounds, overlaid_outside_part, longest_of-more}
-use Rattle.raft_env.proofs.ChangeLemmas.{not_within}
+use Rattle.raft_env.proofs.OutcomesOverlayLemmas.{overlaid_bounds, overlaid_outside_part, longest_of-more}
+use Rattle.raft_env.proofs.OutcomesLemmas.{not_within}
 
 -- Files.
 
-pub settled_consistent : (bytes : List ℕ) → IsConsistent (settled bytes)
+pub settled_consistent : (bytes : List ℕ) → IsConsistent (synced_file bytes)
 settled_consistent bytes = record { latest = refl; untouched = λ i within apart. (within, refl); past = tt; earlier = tt }
 
 pub synced_consistent : (file : File) → IsConsistent file → IsConsistent (synced_of file)
@@ -45,7 +45,7 @@ part_outside at len old c from size part = record {
 }
 
 -- a write, done or not
-pub written_consistent : (at : ℕ) (given after : List ℕ) (is_done : Bool) (file : File) → IsConsistent file → Outcome is_done (overlaid file.now at given) (IsPartOf at (length given) file.now) after → IsConsistent (written at given is_done after file)
+pub written_consistent : (at : ℕ) (given after : List ℕ) (is_done : Bool) (file : File) → IsConsistent file → Outcome is_done (overlay file.now at given) (IsPartOf at (length given) file.now) after → IsConsistent (file_after_write at given is_done after file)
 written_consistent at given after true file old done = consistent_more file _ old refl (omega arith) (omega arith, omega arith) (record {
   outside = λ i within apart. (
     omega (arith, ap length done, (overlaid_bounds file.now at given).0),
@@ -55,7 +55,7 @@ written_consistent at given after true file old done = consistent_more file _ ol
 written_consistent at given after false file old part = consistent_more file _ old refl (omega arith) (omega arith, longest_of-more false at (length given) (length after)) (part_outside at (length given) file.now _ refl refl part)
 
 -- an allocation
-pub allocated_consistent : (size : ℕ) (after : List ℕ) (is_done : Bool) (file : File) → IsConsistent file → Outcome is_done (padded file.now size) (IsPartOf (length file.now) (size - length file.now) file.now) after → IsConsistent (lengthened_to size is_done after file)
+pub allocated_consistent : (size : ℕ) (after : List ℕ) (is_done : Bool) (file : File) → IsConsistent file → Outcome is_done (pad_to file.now size) (IsPartOf (length file.now) (size - length file.now) file.now) after → IsConsistent (lengthened_to size is_done after file)
 allocated_consistent size after true file old done =
     let zeros : List ℕ = replicate (size - length file.now) 0 in
     consistent_more file _ old refl (omega arith) (omega arith, omega arith) (record {
@@ -102,14 +102,14 @@ cut_consistent size after false file old part = consistent_more file _ old refl 
 
 -- Directories.
 
-pub placed_cases : (path q : Path) (file found : File) (n : Directory) → file_at (placed path file n) q ≡ Some found → (file ≡ found) ⊎ (file_at n q ≡ Some found)
+pub placed_cases : (path q : Path) (file found : File) (n : Directory) → file_at (with_file path file n) q ≡ Some found → (file ≡ found) ⊎ (file_at n q ≡ Some found)
 placed_cases path q file found n stands = by_test (eq_by_cmp (slice_cmp nat_cmp) q path) (sym (finite.get-insert nat_list_cmp_total n.files path file q) ∙ stands)
   where
     by_test : (same : Bool) → cond same (Some file) (file_at n q) ≡ Some found → (file ≡ found) ⊎ (file_at n q ≡ Some found)
     by_test true e = inl (same_Some file found e)
     by_test false e = inr e
 
-placed_consistent : (path : Path) (file : File) (n : Directory) → AreConsistent n → IsConsistent file → AreConsistent (placed path file n)
+placed_consistent : (path : Path) (file : File) (n : Directory) → AreConsistent n → IsConsistent file → AreConsistent (with_file path file n)
 placed_consistent path file n old is q found stands = elim (placed_cases path q file found n stands) [
   | inl same ↦ subst IsConsistent same is
   | inr stood ↦ old q found stood
@@ -131,21 +131,21 @@ allocating_consistent path size old new = changing_consistent path _ _ _ old new
 pub truncating_consistent : (path : Path) (size : ℕ) (old new : Directory) → AreConsistent old → IsTruncating path size old new → AreConsistent new
 truncating_consistent path size old new = changing_consistent path _ _ _ old new (cut_consistent size)
 
-pub syncing_consistent : (path : Path) (old new : Directory) → AreConsistent old → IsOneOf old (changed path synced_of old) new → AreConsistent new
+pub syncing_consistent : (path : Path) (old new : Directory) → AreConsistent old → IsOneOf old (update_file path synced_of old) new → AreConsistent new
 syncing_consistent path old new all (inl same) = subst AreConsistent (sym same) all
 syncing_consistent path old new all (inr is) = subst AreConsistent (sym is) (by_file (file_at old path) refl)
   where
-    by_file : (found : Option File) → file_at old path ≡ found → AreConsistent (changed_at path synced_of found old)
+    by_file : (found : Option File) → file_at old path ≡ found → AreConsistent (update_at path synced_of found old)
     by_file None stands = all
     by_file (Some file) stands = placed_consistent path (synced_of file) old all (synced_consistent file (all path file stands))
 
-pub creating_consistent : (path : Path) (old new : Directory) → AreConsistent old → IsOneOf old (created path old) new → AreConsistent new
+pub creating_consistent : (path : Path) (old new : Directory) → AreConsistent old → IsOneOf old (after_create path old) new → AreConsistent new
 creating_consistent path old new all (inl same) = subst AreConsistent (sym same) all
 creating_consistent path old new all (inr is) = subst AreConsistent (sym is) (by_test (is_some (file_at old path)))
   where
-    by_test : (stands : Bool) → AreConsistent (cond stands old (placed path (settled []) old))
+    by_test : (stands : Bool) → AreConsistent (cond stands old (with_file path (synced_file []) old))
     by_test true = all
-    by_test false = placed_consistent path (settled []) old all (settled_consistent [])
+    by_test false = placed_consistent path (synced_file []) old all (settled_consistent [])
 
 pub folders_consistent : (path : Path) (old new : Directory) → AreConsistent old → IsMakingFolder path old new → AreConsistent new
 folders_consistent path old new all making q file stands = all q file (sym (file_at-making path q old new making) ∙ stands)
@@ -153,9 +153,9 @@ folders_consistent path old new all making q file stands = all q file (sym (file
 pub restarted_consistent : (n m : Directory) (d : CrashImage) → IsRestarted n d m → AreConsistent m
 restarted_consistent n m d restarted path file stands = by_file (file_at n path) (sym (restarted.each path) ∙ stands)
   where
-    by_file : (found : Option File) → option_map (λ _. settled (d path)) found ≡ Some file → IsConsistent file
+    by_file : (found : Option File) → option_map (λ _. synced_file (d path)) found ≡ Some file → IsConsistent file
     by_file None e = cc
-    by_file (Some f) e = subst IsConsistent (same_Some (settled (d path)) file e) (settled_consistent (d path))
+    by_file (Some f) e = subst IsConsistent (same_Some (synced_file (d path)) file e) (settled_consistent (d path))
 
 -- What storage may leave.
 

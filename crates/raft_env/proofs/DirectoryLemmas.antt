@@ -1,6 +1,6 @@
 -- What stands at a path after a change, and what a crash leaves of it.
 use Rattle.std.proofs.lemmas.List.{nil_from_length}
-use Rattle.raft_env.proofs.OverlaidLemmas.{overlaid_bounds, overlaid_outside_part}
+use Rattle.raft_env.proofs.OutcomesOverlayLemmas.{overlaid_bounds, overlaid_outside_part}
 use Rattle.std.proofs.Common.{◌≡◌, ◌≢◌, ℕ, ◌<◌, true, false, cond, Some, refl, ◌∙◌, ap, arith, ◌≤◌, List, length}
 use Rattle.std.specs.Ordering.{nat_cmp, eq_by_cmp}
 use Rattle.std.specs.Cmp.Lexicographic.{slice_cmp, nat_list_cmp_total}
@@ -9,8 +9,8 @@ use Rattle.std.proofs.lemmas.Map.Text.{is_eq-slice_cmp}
 use Rattle.std.proofs.lemmas.Slice.Eq.{bytes_eq-Decides}
 use Rattle.std.proofs.lemmas.Bool.{false_from_ne_true}
 use Rattle.std.proofs.lemmas.Bool.Decides.{nat_tests}
-use Rattle.raft_env.specs.Outcomes.{File, is_within, IsPartOf, overlaid}
-use Rattle.raft_env.specs.Directory.{Path, Directory, file_at, placed, IsMakingFolder}
+use Rattle.raft_env.specs.Outcomes.{File, is_within, IsPartOf, overlay}
+use Rattle.raft_env.specs.Directory.{Path, Directory, file_at, with_file, IsMakingFolder}
 
 pub same_path : (p : Path) → eq_by_cmp (slice_cmp nat_cmp) p p ≡ true
 same_path p = is_eq-slice_cmp p p ∙ (bytes_eq-Decides p p).1 refl
@@ -18,21 +18,21 @@ same_path p = is_eq-slice_cmp p p ∙ (bytes_eq-Decides p p).1 refl
 pub other_path : (p q : Path) → p ≢ q → eq_by_cmp (slice_cmp nat_cmp) p q ≡ false
 other_path p q apart = is_eq-slice_cmp p q ∙ false_from_ne_true _ (λ e. apart ((bytes_eq-Decides p q).0 e))
 
-pub file_at-placed_same : (path : Path) (file : File) (n : Directory) → file_at (placed path file n) path ≡ Some file
+pub file_at-placed_same : (path : Path) (file : File) (n : Directory) → file_at (with_file path file n) path ≡ Some file
 file_at-placed_same path file n = map.get-insert nat_list_cmp_total n.files path file path ∙ ap (λ b. cond b (Some file) (file_at n path)) (same_path path)
 
-pub file_at-placed_other : (path : Path) (file : File) (n : Directory) (q : Path) → q ≢ path → file_at (placed path file n) q ≡ file_at n q
+pub file_at-placed_other : (path : Path) (file : File) (n : Directory) (q : Path) → q ≢ path → file_at (with_file path file n) q ≡ file_at n q
 file_at-placed_other path file n q apart = map.get-insert nat_list_cmp_total n.files path file q ∙ ap (λ b. cond b (Some file) (file_at n q)) (other_path q path apart)
 
 pub outside : (at len i : ℕ) → i < at → is_within at len i ≡ false
 outside at len i h = grind (arith, nat_tests)
 
 -- a write of a part of its bytes leaves others in its range alone
-pub writing_part : (at : ℕ) (given kept : List ℕ) → length kept ≤ length given → (now : List ℕ) → IsPartOf at (length given) now (overlaid now at kept)
+pub writing_part : (at : ℕ) (given kept : List ℕ) → length kept ≤ length given → (now : List ℕ) → IsPartOf at (length given) now (overlay now at kept)
 writing_part at given kept part now = record {
   no_shorter = (overlaid_bounds now at kept).0;
   no_longer = omega (arith, (overlaid_bounds now at kept).1);
-  unchanged = λ none. ap (overlaid now at) (nil_from_length kept (omega arith));
+  unchanged = λ none. ap (overlay now at) (nil_from_length kept (omega arith));
   elsewhere = λ i h out. overlaid_outside_part now at (length given) kept part i out;
 }
 

@@ -1,9 +1,9 @@
 -- What every call keeps of a file: outside the ranges of its changes it holds the bytes of the last
 -- sync, and each change began with what the one before it left. Files in memory keep more: of their
--- changes only writes were refused, and none was renamed.
+-- changes only writes failed, and none was renamed.
 use Rattle.std.specs.Prelude.{◌≡◌, ℕ, ◌<◌, ◌≤◌, ◌++◌, false, List, [], ◌∷◌, length, Some, None, slice_index}
 use Rattle.std.proofs.Props.{props}
-use Rattle.raft_env.specs.Outcomes.{File, Change, OnlyWritesRefused, bytes_after, is_touched}
+use Rattle.raft_env.specs.Outcomes.{File, Change, OnlyWritesFailed, bytes_after, is_touched}
 use Rattle.raft_env.specs.Directory.{Directory, Path, file_at}
 
 -- the range of a change holds the bytes that it gave
@@ -36,14 +36,14 @@ pub record IsConsistent (file : File) : Type 0 where
 abbrev pub AreConsistent : Directory → Type 0
 AreConsistent n = (path : Path) (file : File) → file_at n path ≡ Some file → IsConsistent file
 
--- only writes were refused among all changes of the file at a path
-abbrev pub OnlyWritesRefusedAt : Path → Directory → Type 0
-OnlyWritesRefusedAt path n = (file : File) → file_at n path ≡ Some file
-    → OnlyWritesRefused (file.changes ++ file.older)
+-- only writes failed among all changes of the file at a path
+abbrev pub OnlyWritesFailedAt : Path → Directory → Type 0
+OnlyWritesFailedAt path n = (file : File) → file_at n path ≡ Some file
+    → OnlyWritesFailed (file.changes ++ file.older)
 
 -- .. of the files at all paths
-abbrev pub OnlyWritesRefusedIn : Directory → Type 0
-OnlyWritesRefusedIn n = (path : Path) → OnlyWritesRefusedAt path n
+abbrev pub OnlyWritesFailedIn : Directory → Type 0
+OnlyWritesFailedIn n = (path : Path) → OnlyWritesFailedAt path n
 
 -- no file was renamed
 abbrev pub NoneRenamed : Directory → Type 0

@@ -5,7 +5,7 @@ use Rattle.std.specs.Str.{bytes_eq}
 use Rattle.std.specs.Ordering.{nat_cmp}
 use Rattle.std.specs.Cmp.Lexicographic.{slice_cmp}
 use Rattle.std.specs.FinMap as map
-use Rattle.raft_env.specs.Outcomes.{File, MayLeave, IsPartOf, IsCutOf, Outcome, written, lengthened_to, cut_to, settled, renamed_of, padded, overlaid}
+use Rattle.raft_env.specs.Outcomes.{File, MayLeave, IsPartOf, IsCutOf, Outcome, file_after_write, lengthened_to, cut_to, synced_file, renamed_of, pad_to, overlay}
 
 abbrev pub Path : Type 0
 Path = List ℕ
@@ -28,24 +28,25 @@ pub record Leaves (n : Directory) (d : CrashImage) : Type 0 where
 
 -- each file holds what was left, which a further crash leaves as it is
 pub record IsRestarted (n : Directory) (d : CrashImage) (m : Directory) : Type 0 where
-  pub each : (path : Path) → file_at m path ≡ option_map (λ _. settled (d path)) (file_at n path)
+  pub each : (path : Path) → file_at m path
+      ≡ option_map (λ _. synced_file (d path)) (file_at n path)
   pub folders : m.is_folder ≡ n.is_folder
 
 -- with this file at that path
-abbrev pub placed : Path → File → Directory → Directory
-placed path file n = record n { files = map.insert n.files path file }
+abbrev pub with_file : Path → File → Directory → Directory
+with_file path file n = record n { files = map.insert n.files path file }
 
 -- with the file there changed, if one stands there
-abbrev pub changed_at : Path → (File → File) → Option File → Directory → Directory
-changed_at path f None n = n
-changed_at path f (Some file) n = placed path (f file) n
+abbrev pub update_at : Path → (File → File) → Option File → Directory → Directory
+update_at path f None n = n
+update_at path f (Some file) n = with_file path (f file) n
 
-abbrev pub changed : Path → (File → File) → Directory → Directory
-changed path f n = changed_at path f (file_at n path) n
+abbrev pub update_file : Path → (File → File) → Directory → Directory
+update_file path f n = update_at path f (file_at n path) n
 
 -- a path that stands keeps its file
-abbrev pub created : Path → Directory → Directory
-created path n = cond (is_some (file_at n path)) n (placed path (settled []) n)
+abbrev pub after_create : Path → Directory → Directory
+after_create path n = cond (is_some (file_at n path)) n (with_file path (synced_file []) n)
 
 abbrev pub HasFile : Directory → Path → Type 0
 HasFile n path = IsSome (file_at n path)
@@ -58,10 +59,10 @@ IsChanging path step wanted IsPart old new =
     (new ≡ old) ⊎ ((file : File) × (after : List ℕ) × (is_done : Bool)
     × (file_at old path ≡ Some file)
     × Outcome is_done (wanted file.now) (IsPart file.now) after
-    × (new ≡ placed path (step is_done after file) old))
+    × (new ≡ with_file path (step is_done after file) old))
 
 abbrev pub IsWriting : Path → ℕ → List ℕ → Directory → Directory → Type 0
-IsWriting path at given = IsChanging path (written at given) (λ now. overlaid now at given)
+IsWriting path at given = IsChanging path (file_after_write at given) (λ now. overlay now at given)
     (IsPartOf at (length given))
 
 abbrev pub IsTruncating : Path → ℕ → Directory → Directory → Type 0
@@ -70,7 +71,7 @@ IsTruncating path size = IsChanging path (cut_to size) (take size) (IsCutOf size
 -- what an allocation lengthens a file by begins at its end
 abbrev pub IsAllocating : Path → ℕ → Directory → Directory → Type 0
 IsAllocating path size =
-    IsChanging path (lengthened_to size) (λ now. padded now size)
+    IsChanging path (lengthened_to size) (λ now. pad_to now size)
     (λ now. IsPartOf (length now) (size - length now) now)
 
 abbrev pub IsOneOf : Directory → Directory → Directory → Type 0
@@ -138,13 +139,13 @@ pub record IsMakingFolder (path : Path) (old new : Directory) : Type 0 where
   pub kept : (q : Path) → old.is_folder q ≡ true → new.is_folder q ≡ true
   pub made : (q : Path) → new.is_folder q ≡ true → (folder_made path old).is_folder q ≡ true
 
-abbrev pub removed : Path → Directory → Directory
-removed path n = record n { files = map.remove n.files path }
+abbrev pub without_file : Path → Directory → Directory
+without_file path n = record n { files = map.remove n.files path }
 
 -- the file carries what a crash may leave of it along; what stood at the other path is gone
-abbrev pub renamed_at : Path → Path → Option File → Directory → Directory
-renamed_at src dst None n = n
-renamed_at src dst (Some file) n = placed dst (renamed_of file) (removed src n)
+abbrev pub after_rename_at : Path → Path → Option File → Directory → Directory
+after_rename_at src dst None n = n
+after_rename_at src dst (Some file) n = with_file dst (renamed_of file) (without_file src n)
 
-abbrev pub renamed : Path → Path → Directory → Directory
-renamed src dst n = renamed_at src dst (file_at n src) n
+abbrev pub after_rename : Path → Path → Directory → Directory
+after_rename src dst n = after_rename_at src dst (file_at n src) n

@@ -1,4 +1,4 @@
--- How often calls were refused, when these counts rise, and the fault of a refused call.
+-- How often calls failed, when these counts rise, and the fault of a failed call.
 use Rattle.std.specs.Prelude.{◌≡◌, ◌⊎◌, ℕ, ◌+◌, ◌-◌, ◌^◌, ◌<◌, ◌≤◌, min, List, [], Result, MatchResult, String}
 use Rattle.std.specs.declared.alloc.Global.{Global}
 use Rattle.std.specs.String.{string_bytes}
@@ -10,15 +10,15 @@ use Rattle.raft_env.specs.declared.env.FsFault.TheVariants.{Io, Memory}
 pub record Refusals : Type 0 where
   -- by storage, which stops at 2^64 - 1
   pub storage : ℕ
-  -- for want of memory
+  -- for lack of memory
   pub memory : ℕ
 
 abbrev pub no_refusals : Refusals
 no_refusals = record { storage = 0; memory = 0 }
 
 -- storage's count rose, or it is full
-abbrev pub Rose : Refusals → Refusals → Type 0
-Rose old new = min (old.storage + 1) (2 ^ 64 - 1) ≤ new.storage
+abbrev pub StorageRefusalsRose : Refusals → Refusals → Type 0
+StorageRefusalsRose old new = min (old.storage + 1) (2 ^ 64 - 1) ≤ new.storage
 
 -- no count fell
 abbrev pub NoFewer : Refusals → Refusals → Type 0
@@ -29,23 +29,24 @@ abbrev pub NoneCounted : Refusals → Refusals → Type 0
 NoneCounted old new = (new.storage ≡ old.storage) × (new.memory ≡ old.memory)
 
 -- a file call's fault is counted as what it is
-abbrev pub CountsFault : FsFault → Refusals → Refusals → Type 0
-CountsFault (Io kind) old new = Rose old new × (old.storage ≤ new.storage)
+abbrev pub CountsRefusal : FsFault → Refusals → Refusals → Type 0
+CountsRefusal (Io kind) old new = StorageRefusalsRose old new × (old.storage ≤ new.storage)
     × (new.memory ≡ old.memory)
-CountsFault Memory old new = (new.storage ≡ old.storage) × (old.memory < new.memory)
+CountsRefusal Memory old new = (new.storage ≡ old.storage) × (old.memory < new.memory)
 
 -- .. and at `Ok` nothing is counted
-abbrev pub Counts : {T : Type 0} → Result T FsFault → Refusals → Refusals → Type 0
-Counts result old new = MatchResult result (λ _. NoneCounted old new) (λ e. CountsFault e old new)
+abbrev pub CountsRefusalOf : {T : Type 0} → Result T FsFault → Refusals → Refusals → Type 0
+CountsRefusalOf result old new = MatchResult result (λ _. NoneCounted old new)
+    (λ e. CountsRefusal e old new)
 
 -- the same of a call that may also want memory of its own, which no file system counts
-abbrev pub CountsStorageFault : FsFault → Refusals → Refusals → Type 0
-CountsStorageFault (Io kind) old new = CountsFault (Io kind) old new
-CountsStorageFault Memory old new = (new.storage ≡ old.storage) × (old.memory ≤ new.memory)
+abbrev pub CountsStorageRefusal : FsFault → Refusals → Refusals → Type 0
+CountsStorageRefusal (Io kind) old new = CountsRefusal (Io kind) old new
+CountsStorageRefusal Memory old new = (new.storage ≡ old.storage) × (old.memory ≤ new.memory)
 
-abbrev pub CountsStorage : {T : Type 0} → Result T FsFault → Refusals → Refusals → Type 0
-CountsStorage result old new = MatchResult result (λ _. NoneCounted old new)
-    (λ e. CountsStorageFault e old new)
+abbrev pub CountsStorageRefusalOf : {T : Type 0} → Result T FsFault → Refusals → Refusals → Type 0
+CountsStorageRefusalOf result old new = MatchResult result (λ _. NoneCounted old new)
+    (λ e. CountsStorageRefusal e old new)
 
 -- sums of counts, the first of them saturating
 abbrev pub added_count : Refusals → Refusals → Refusals
@@ -56,27 +57,32 @@ added_count a b = record {
 
 -- no count fell, and storage's rose where its refusal is answered; the call may also want memory of
 -- its own
-abbrev pub CausedByFault : FsFault → Refusals → Refusals → Type 0
-CausedByFault (Io kind) old new = Rose old new × NoFewer old new
-CausedByFault Memory old new = NoFewer old new
+abbrev pub RefusalsRoseForFault : FsFault → Refusals → Refusals → Type 0
+RefusalsRoseForFault (Io kind) old new = StorageRefusalsRose old new × NoFewer old new
+RefusalsRoseForFault Memory old new = NoFewer old new
 
-abbrev pub CausedBy : {T : Type 0} → Result T FsFault → Refusals → Refusals → Type 0
-CausedBy result old new = MatchResult result (λ _. NoFewer old new) (λ e. CausedByFault e old new)
+abbrev pub RefusalsRoseFor : {T : Type 0} → Result T FsFault → Refusals → Refusals → Type 0
+RefusalsRoseFor result old new = MatchResult result (λ _. NoFewer old new)
+    (λ e. RefusalsRoseForFault e old new)
 
--- the fault for a refused file call; it names the path, or nothing where memory for that was wanting
+-- the text of a fault by storage: the path of the file, or nothing where memory for that was wanting
+abbrev pub NamesFile : List ℕ → String Global → Type 0
+NamesFile path text = (string_bytes text ≡ path) ⊎ (string_bytes text ≡ [])
+
+-- the fault for a failed call on the file at the path
 abbrev pub IsFaultOf : List ℕ → FsFault → Fault → Type 0
-IsFaultOf path (Io kind) f = (named : String Global) × (f ≡ fault.Io kind named)
-    × ((string_bytes named ≡ path) ⊎ (string_bytes named ≡ []))
+IsFaultOf path (Io kind) f = (text : String Global) × (f ≡ fault.Io kind text) × NamesFile path text
 IsFaultOf path Memory f = f ≡ fault.Memory
 
--- by a file call: by storage or for want of memory, where that count rose in the call
-abbrev pub IsFileRefusal : Refusals → Refusals → Fault → Type 0
-IsFileRefusal old new (fault.Io kind path) = Rose old new
-IsFileRefusal old new fault.Memory = old.memory < new.memory
-IsFileRefusal old new _ = ⊥
+-- by a call on the file at the path: by storage, which the fault names, or for lack of memory, where
+-- that count rose in the call
+abbrev pub IsFileRefusal : List ℕ → Refusals → Refusals → Fault → Type 0
+IsFileRefusal path old new (fault.Io kind text) = StorageRefusalsRose old new × NamesFile path text
+IsFileRefusal path old new fault.Memory = old.memory < new.memory
+IsFileRefusal path old new _ = ⊥
 
 -- the same of a call that may also want memory of its own
-abbrev pub IsRefusal : Refusals → Refusals → Fault → Type 0
-IsRefusal old new (fault.Io kind path) = Rose old new
-IsRefusal old new fault.Memory = Unit {0}
-IsRefusal old new _ = ⊥
+abbrev pub IsRefusal : List ℕ → Refusals → Refusals → Fault → Type 0
+IsRefusal path old new (fault.Io kind text) = StorageRefusalsRose old new × NamesFile path text
+IsRefusal path old new fault.Memory = Unit {0}
+IsRefusal path old new _ = ⊥

@@ -2,10 +2,10 @@
 //! leave of them.
 ghost use Rattle.std.specs.Prelude.{◌≡◌, ◌⊎◌, ◌↔◌, ◌<◌, ◌+◌, ◌^◌, [], ◌∷◌, List, ℕ, Bool, true, false, length, take, map, IfOk, OnOk, OnErr, Some, is_some};
 ghost use Rattle.std.specs.String.{string_bytes};
-ghost use Rattle.raft_env.specs.Outcomes.{File, written, resized, synced_of, overlaid, padded};
-ghost use Rattle.raft_env.specs.Directory.{Path, Directory, file_at, changed, created, folder_made, IsWriting, IsTruncating, IsAllocating, IsMakingFolder, IsOneOf, ReadsAt, names_in, HasFile};
+ghost use Rattle.raft_env.specs.Outcomes.{File, file_after_write, file_after_resize, synced_of, overlay, pad_to};
+ghost use Rattle.raft_env.specs.Directory.{Path, Directory, file_at, update_file, after_create, folder_made, IsWriting, IsTruncating, IsAllocating, IsMakingFolder, IsOneOf, ReadsAt, names_in, HasFile};
 ghost use Rattle.raft_env.specs.Moments.{MovesBy, OnlyReads};
-ghost use Rattle.raft_env.specs.Refusal.{Counts, Refusals, added_count, no_refusals};
+ghost use Rattle.raft_env.specs.Refusal.{CountsRefusalOf, Refusals, added_count, no_refusals};
 ghost use Rattle.raft_env.specs.declared.env.FsFault.TheVariants.{Memory};
 
 use raft_base::Fault;
@@ -18,7 +18,7 @@ pub enum Permission {
     ReadWrite,
 }
 
-/// Why a file call was refused: by storage, or for want of memory, which only clauses count.
+/// Why a file call failed: by storage, or for lack of memory, which only clauses count.
 #[derive(Clone, Copy, Debug, PartialEq, Eq)]
 pub enum FsFault {
     Io(IoKind),
@@ -26,16 +26,16 @@ pub enum FsFault {
 }
 
 impl FsFault {
-    ghost use Rattle.raft_env.specs.Refusal.{CausedByFault, CountsFault, IsFaultOf, IsFileRefusal, IsRefusal};
+    ghost use Rattle.raft_env.specs.Refusal.{RefusalsRoseForFault, CountsRefusal, IsFaultOf, IsFileRefusal, IsRefusal};
 
     /// The fault of a call on the file at the path. It names none where there is no memory for that.
     pub fn with_path(self, alloc: Global, path: &str) -> Fault
         ensures value { IsFaultOf path.now self result }
-        ensures cause { (old new : Refusals) → CausedByFault self old new
-            → IsRefusal old new result }
-        ensures counted { (old new : Refusals) → CountsFault self old new
-            → IsFileRefusal old new result }
-        ensures not_failed { result ≡ Fault.Failed → ⊥ }
+        ensures cause { (old new : Refusals) → RefusalsRoseForFault self old new
+            → IsRefusal path.now old new result }
+        ensures refused { (old new : Refusals) → CountsRefusal self old new
+            → IsFileRefusal path.now old new result }
+        ensures failed { result ≡ Fault.Failed → ⊥ }
     {
         match self {
             FsFault::Memory => Fault::Memory,
@@ -86,7 +86,7 @@ pub trait FileSystem: Send + Sync {
     /// Each directory that there was, the newest first. A crash comes at one of these moments.
     ghost moments: { Self → List Directory };
 
-    /// How many calls were refused.
+    /// How many calls failed.
     ghost refusals_of: { Self → Refusals };
 
     ghost handle_path: { Self.Handle → Path };
@@ -102,11 +102,12 @@ pub trait FileSystem: Send + Sync {
     /// Makes a file without bytes. A path that stands keeps its file.
     fn create(&mut self, path: &str) -> Result<Self::Handle, FsFault>
         ensures handle { IfOk result (λ h. (handle_path h ≡ path.now) × (may_write h ≡ true)) }
-        ensures ok { OnOk result (directory self.new ≡ created path.now (directory self.old)) }
+        ensures ok { OnOk result (directory self.new ≡ after_create path.now (directory self.old)) }
         ensures err { OnErr result (directory self.new ≡ directory self.old) }
-        ensures any_moment { MovesBy directory moments (λ old. IsOneOf old (created path.now old))
+        ensures any_moment { MovesBy directory moments (λ old. IsOneOf old
+            (after_create path.now old))
             self.old self.new }
-        ensures cause { Counts result (refusals_of self.old) (refusals_of self.new) };
+        ensures cause { CountsRefusalOf result (refusals_of self.old) (refusals_of self.new) };
 
     fn open(&mut self, path: &str, permission: Permission) -> Result<Self::Handle, FsFault>
         ensures handle { IfOk result (λ h. (handle_path h ≡ path.now)
@@ -114,13 +115,13 @@ pub trait FileSystem: Send + Sync {
         ensures may_write { IfOk result (λ h. may_write h ≡ true
             ↔ (permission ≡ Permission.ReadWrite)) }
         ensures unchanged { OnlyReads directory moments self.old self.new }
-        ensures cause { Counts result (refusals_of self.old) (refusals_of self.new) };
+        ensures cause { CountsRefusalOf result (refusals_of self.old) (refusals_of self.new) };
 
     fn new_reader(&mut self, handle: &Self::Handle) -> Result<Self::Reader, FsFault>
         ensures reader { IfOk result (λ r. (reader_path r ≡ handle_path handle.now)
             × (reader_refusals r ≡ no_refusals)) }
         ensures unchanged { OnlyReads directory moments self.old self.new }
-        ensures cause { Counts result (refusals_of self.old) (refusals_of self.new) };
+        ensures cause { CountsRefusalOf result (refusals_of self.old) (refusals_of self.new) };
 
     /// Adds the reader's refusals to those of the file system.
     fn end_reader(&mut self, reader: Self::Reader)
@@ -134,58 +135,60 @@ pub trait FileSystem: Send + Sync {
             × (may_write handle.now ≡ true)) }
         ensures refused { may_write handle.now ≡ false → result ≡ Err (FsFault.Io IoKind.Other) }
         ensures unchanged { OnlyReads directory moments self.old self.new }
-        ensures cause { Counts result (refusals_of self.old) (refusals_of self.new) };
+        ensures cause { CountsRefusalOf result (refusals_of self.old) (refusals_of self.new) };
 
     /// Writes over what stands there, and past the end.
     fn write(&mut self, writer: &mut Self::Writer, at: usize, bytes: &[u8]) -> Result<(), FsFault>
         ensures writer { writer_path writer.new ≡ writer_path writer.old }
         ensures value { OnOk result (HasFile (directory self.old) (writer_path writer.old)) }
         ensures fits { OnOk result (at + length bytes.now < 2 ^ 63) }
-        ensures ok { OnOk result (directory self.new ≡ changed (writer_path writer.old)
-            (λ f. written at bytes.now true (overlaid f.now at bytes.now) f) (directory self.old)) }
+        ensures ok { OnOk result (directory self.new ≡ update_file (writer_path writer.old)
+            (λ f. file_after_write at bytes.now true (overlay f.now at bytes.now) f)
+            (directory self.old)) }
         ensures any_moment { MovesBy directory moments
             (IsWriting (writer_path writer.old) at bytes.now) self.old self.new }
-        ensures cause { Counts result (refusals_of self.old) (refusals_of self.new) };
+        ensures cause { CountsRefusalOf result (refusals_of self.old) (refusals_of self.new) };
 
     /// Cuts the file to a length; at or past its end it stays as it is.
     fn truncate(&mut self, writer: &mut Self::Writer, size: usize) -> Result<(), FsFault>
         ensures writer { writer_path writer.new ≡ writer_path writer.old }
         ensures value { OnOk result (HasFile (directory self.old) (writer_path writer.old)) }
-        ensures ok { OnOk result (directory self.new ≡ changed (writer_path writer.old)
-            (λ f. resized (take size f.now) f) (directory self.old)) }
+        ensures ok { OnOk result (directory self.new ≡ update_file (writer_path writer.old)
+            (λ f. file_after_resize (take size f.now) f) (directory self.old)) }
         ensures any_moment { MovesBy directory moments (IsTruncating (writer_path writer.old) size)
             self.old self.new }
-        ensures cause { Counts result (refusals_of self.old) (refusals_of self.new) };
+        ensures cause { CountsRefusalOf result (refusals_of self.old) (refusals_of self.new) };
 
     /// Lengthens the file with zeros to `at + size` bytes; a file that is as long stays as it is.
     fn allocate(&mut self, writer: &mut Self::Writer, at: usize, size: usize) -> Result<(), FsFault>
         ensures writer { writer_path writer.new ≡ writer_path writer.old }
         ensures value { OnOk result (HasFile (directory self.old) (writer_path writer.old)) }
         ensures fits { OnOk result (at + size < 2 ^ 63) }
-        ensures ok { OnOk result (directory self.new ≡ changed (writer_path writer.old)
-            (λ f. resized (padded f.now (at + size)) f) (directory self.old)) }
+        ensures ok { OnOk result (directory self.new ≡ update_file (writer_path writer.old)
+            (λ f. file_after_resize (pad_to f.now (at + size)) f) (directory self.old)) }
         ensures any_moment { MovesBy directory moments
             (IsAllocating (writer_path writer.old) (at + size)) self.old self.new }
-        ensures cause { Counts result (refusals_of self.old) (refusals_of self.new) };
+        ensures cause { CountsRefusalOf result (refusals_of self.old) (refusals_of self.new) };
 
     /// After `Ok` a crash leaves the bytes now and nothing else.
     fn sync(&mut self, writer: &mut Self::Writer) -> Result<(), FsFault>
         ensures writer { writer_path writer.new ≡ writer_path writer.old }
         ensures value { OnOk result (HasFile (directory self.old) (writer_path writer.old)) }
         ensures ok { OnOk result (directory self.new
-            ≡ changed (writer_path writer.old) synced_of (directory self.old)) }
+            ≡ update_file (writer_path writer.old) synced_of (directory self.old)) }
         ensures err { OnErr result (directory self.new ≡ directory self.old) }
         ensures any_moment { MovesBy directory moments
-            (λ old. IsOneOf old (changed (writer_path writer.old) synced_of old)) self.old
+            (λ old. IsOneOf old (update_file (writer_path writer.old) synced_of old)) self.old
             self.new }
-        ensures cause { Counts result (refusals_of self.old) (refusals_of self.new) };
+        ensures cause { CountsRefusalOf result (refusals_of self.old) (refusals_of self.new) };
 
     /// The number of bytes read: 0 only at the end or for an empty slice.
     fn read(&self, reader: &mut Self::Reader, at: usize, bytes: &mut [u8]) -> Result<usize, FsFault>
         ensures reader { reader_path reader.new ≡ reader_path reader.old }
         ensures ok { IfOk result (λ n. ReadsAt
             (file_at (directory self.now) (reader_path reader.old)) at n bytes.old bytes.new) }
-        ensures cause { Counts result (reader_refusals reader.old) (reader_refusals reader.new) };
+        ensures cause { CountsRefusalOf result (reader_refusals reader.old)
+            (reader_refusals reader.new) };
 
     fn file_size(&mut self, handle: &Self::Handle) -> Result<usize, FsFault>
         ensures size { IfOk result (λ n. (file : File)
@@ -193,21 +196,21 @@ pub trait FileSystem: Send + Sync {
             × (n ≡ length file.now)) }
         ensures fits { IfOk result (λ n. n < 2 ^ 63) }
         ensures unchanged { OnlyReads directory moments self.old self.new }
-        ensures cause { Counts result (refusals_of self.old) (refusals_of self.new) };
+        ensures cause { CountsRefusalOf result (refusals_of self.old) (refusals_of self.new) };
 
     /// Makes a folder, with those on the way to it. A folder that stands stays. A refusal may leave
     /// some of them made.
     fn make_dir(&mut self, path: &str) -> Result<(), FsFault>
         ensures ok { OnOk result (directory self.new ≡ folder_made path.now (directory self.old)) }
         ensures any_moment { MovesBy directory moments (IsMakingFolder path.now) self.old self.new }
-        ensures cause { Counts result (refusals_of self.old) (refusals_of self.new) };
+        ensures cause { CountsRefusalOf result (refusals_of self.old) (refusals_of self.new) };
 
     /// The names of the files in a folder, in the order of their bytes.
     fn list(&mut self, dir: &str) -> Result<Vec<String>, FsFault>
         ensures names { IfOk result (λ names. map string_bytes names.items
             ≡ names_in dir.now (directory self.old)) }
         ensures unchanged { OnlyReads directory moments self.old self.new }
-        ensures cause { Counts result (refusals_of self.old) (refusals_of self.new) };
+        ensures cause { CountsRefusalOf result (refusals_of self.old) (refusals_of self.new) };
 
     fn is_dir(&self, path: &str) -> bool
         ensures value { result ≡ (directory self.now).is_folder path.now };
@@ -215,7 +218,7 @@ pub trait FileSystem: Send + Sync {
     fn is_file(&self, path: &str) -> bool
         ensures value { result ≡ is_some (file_at (directory self.now) path.now) };
 
-    /// How many calls storage refused, but for the reads, which their readers count. It stops at
+    /// How many storage calls failed, but for the reads, which their readers count. It stops at
     /// 2^64 - 1.
     fn refusals(&self) -> u64
         ensures value { result ≡ (refusals_of self.now).storage };

@@ -1,7 +1,7 @@
 //! What holds of files, whatever calls were made.
 ghost use Rattle.std.specs.Prelude.{ℕ, List};
 ghost use Rattle.raft_env.specs.Consistent.{AreConsistent};
-ghost use Rattle.raft_env.specs.Directory.{Directory, IsOneOf, IsAllocating, IsMakingFolder, IsRestarted, IsTruncating, IsWriting, CrashImage, Path, changed, created};
+ghost use Rattle.raft_env.specs.Directory.{Directory, IsOneOf, IsAllocating, IsMakingFolder, IsRestarted, IsTruncating, IsWriting, CrashImage, Path, update_file, after_create};
 ghost use Rattle.raft_env.specs.Outcomes.{synced_of};
 
 /// Each call keeps files consistent: outside the ranges of its changes a file holds the bytes of its
@@ -15,9 +15,9 @@ pub fn calls_keep_files_consistent()
     ensures truncating { (path : Path) (size : ℕ) (old n : Directory) → AreConsistent old
         → IsTruncating path size old n → AreConsistent n }
     ensures syncing { (path : Path) (old n : Directory) → AreConsistent old
-        → IsOneOf old (changed path synced_of old) n → AreConsistent n }
+        → IsOneOf old (update_file path synced_of old) n → AreConsistent n }
     ensures creating { (path : Path) (old n : Directory) → AreConsistent old
-        → IsOneOf old (created path old) n → AreConsistent n }
+        → IsOneOf old (after_create path old) n → AreConsistent n }
     ensures folders { (path : Path) (old n : Directory) → AreConsistent old
         → IsMakingFolder path old n → AreConsistent n }
     ensures restarted { (n m : Directory) (d : CrashImage) → IsRestarted n d m → AreConsistent m }

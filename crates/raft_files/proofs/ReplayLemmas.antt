@@ -1,57 +1,21 @@
 -- What a replay takes of a file, and what can be read of it.
-use Rattle.std.proofs.Common.{◌≡◌, ℕ, zero, suc, ◌+◌, ◌-◌, ◌&&◌, not, Bool, true, false, cond, List, [], ◌∷◌, length, take, drop, Option, Some, None, option_and_then, refl, ap, sym, ◌∙◌, inl, inr, arith, length-drop}
-use Rattle.std.specs.Prelude.{◌||◌, option_map}
+use Rattle.std.proofs.Common.{◌≡◌, ℕ, zero, suc, ◌+◌, ◌&&◌, not, Bool, true, false, cond, List, ◌∷◌, length, drop, Option, Some, None, option_and_then, refl, ap, sym, ◌∙◌, inl, inr, arith, length-drop}
+use Rattle.std.specs.Prelude.{option_map}
 use Rattle.std.specs.List.{take_while}
-use Rattle.std.proofs.lemmas.Bool.{cases_Bool, eqb-true}
-use Rattle.std.proofs.lemmas.List.{length-take-le}
+use Rattle.std.proofs.lemmas.Bool.{cases_Bool}
 use Rattle.std.proofs.lemmas.List.Sums.{take_while-cons}
 use Rattle.raft_records.specs.Item.{Batch}
-use Rattle.raft_records.specs.ItemBatch.{are_key_values, compressed_refusal, parts_refusal, record_refusal}
-use Rattle.raft_records.specs.Record.{Parts, batch_by, fills_block, is_block, is_lz4_block, items_from, record_header, record_of, record_parts}
+use Rattle.raft_records.specs.Record.{Parts, batch_by, is_block, is_lz4_block, items_from, record_header, record_of, record_parts}
 use Rattle.raft_records.specs.Replay.{replayed_by, replayed_record}
-use Rattle.raft_base.specs.declared.errors.Fault.{Fault}
-use Rattle.raft_base.specs.declared.errors.Fault.TheVariants as fault
 use Rattle.raft_base.specs.declared.pipe_log.FileId.{FileId}
 use Rattle.raft_base.specs.FileId.{signature_in}
-use Rattle.raft_records.proofs.ItemBatchLemmas.{fills_block_of_key_values}
 use Rattle.raft_files.specs.Header.{header_len, header_of}
-use Rattle.raft_files.specs.Reading.{PlacedRecord, placed_by, readable_records, reading_in, record_at, record_place, next_record, records_after, records_of}
-use Rattle.raft_files.specs.Replay.{block_behind, has_sound_block_at, next_replayed, replayed_at, replayed_behind, replayed_in, replayed_records}
+use Rattle.raft_files.specs.Scan.{PlacedRecord, placed_by, readable_records, scan_after_header, record_at, record_place, next_record, records_after, records_of}
+use Rattle.raft_files.specs.Replay.{block_after, has_sound_block_at, next_replayed, replayed_at, replayed_after, replayed_in, replayed_records}
 use Rattle.raft_files.specs.declared.format.LogFileFormat.{LogFileFormat}
-use Rattle.raft_files.proofs.ExtentLemmas.{parts_there, some_if, record_header_is, same_some, some_then}
-use Rattle.raft_files.proofs.ReadingLemmas.{placed_there, record_place-forward}
-use Rattle.raft_files.proofs.PlacedLemmas.{StaysBefore, cases_next, first_placed}
-
--- a record that isn't refused has no block
-accepted_block : (signature : Option ℕ) (bytes : List ℕ) → record_refusal signature bytes ≡ None → is_block (block_behind bytes (record_header bytes)) ≡ true
-accepted_block signature bytes accepted = by_parts (record_parts signature bytes) refl accepted
-  where
-    kinds : (plain lz4 : Bool) (why : Fault) → cond (not plain) (Some fault.Corruption) (cond lz4 (Some why) None) ≡ None → (plain ≡ true) × (lz4 ≡ false)
-    kinds true true why e = cc
-    kinds true false why e = (refl, refl)
-    kinds false lz4 why e = cc
-
-    or_second : (a b : Bool) → a ≡ false → (a || b) ≡ true → b ≡ true
-    or_second true b none some = cc
-    or_second false b none some = some
-
-    empty : (block : List ℕ) → length block ≡ 0 → is_block block ≡ true
-    empty [] none = refl
-    empty (b ∷ block) none = absurd (omega arith)
-
-    by_parts : (o : Option Parts) → record_parts signature bytes ≡ o → parts_refusal o ≡ None → is_block (block_behind bytes (record_header bytes)) ≡ true
-    by_parts None e none = cc
-    by_parts (Some p) e none =
-        let is = parts_there signature bytes p e in
-        let has = record_header_is bytes p.header is.header in
-        let kind = kinds (are_key_values p.items) (is_lz4_block p.header.is_lz4 (length p.block)) (compressed_refusal p.block) none in
-        let cut : take (p.header.footer - 16) (drop 16 bytes) ≡ p.block = sym (ap (block_behind bytes) is.header) ∙ is.block in
-        let size : length p.block ≡ p.header.footer - 16 =
-        sym (ap length cut) ∙ length-take-le (p.header.footer - 16) (drop 16 bytes) (omega (arith, has.footer, has.len, is.within, length-drop 16 bytes)) in
-        let fills : fills_block p.items (length p.block) ≡ true =
-        or_second (is_lz4_block p.header.is_lz4 (length p.block)) (fills_block p.items (length p.block)) kind.1 (ap (λ n. is_lz4_block p.header.is_lz4 n || fills_block p.items n) size ∙ is.fills) in
-        let none_there = eqb-true (length p.block) 0 (sym (fills_block_of_key_values p.items (length p.block) kind.0) ∙ fills) in
-        ap is_block is.block ∙ empty p.block none_there
+use Rattle.raft_files.proofs.ScanExtentLemmas.{parts_there, some_if, record_header_is, same_some, some_then}
+use Rattle.raft_files.proofs.ScanLemmas.{placed_there, record_place-forward}
+use Rattle.raft_files.proofs.ScanPlacedLemmas.{StaysBefore, cases_next}
 
 -- What can be read is what a replay takes, where its block is sound.
 
@@ -59,7 +23,7 @@ cond_none : {A : Type 0} (b : Bool) → None ≡ cond {A = Option A} b None None
 cond_none true = refl
 cond_none false = refl
 
-record_of-replayed_record : (signature : Option ℕ) (bytes : List ℕ) → record_of signature bytes ≡ cond (is_block (block_behind bytes (record_header bytes))) (replayed_record signature bytes) None
+record_of-replayed_record : (signature : Option ℕ) (bytes : List ℕ) → record_of signature bytes ≡ cond (is_block (block_after bytes (record_header bytes))) (replayed_record signature bytes) None
 record_of-replayed_record signature bytes = by_parts (record_parts signature bytes) refl
   where
     either : (lz4 sound : Bool) (x : Batch × ℕ) → cond (not lz4 && sound) (Some x) None ≡ cond sound (cond lz4 None (Some x)) None
@@ -68,8 +32,8 @@ record_of-replayed_record signature bytes = by_parts (record_parts signature byt
     either false true x = refl
     either false false x = refl
 
-    by_parts : (o : Option Parts) → record_parts signature bytes ≡ o → option_and_then batch_by o ≡ cond (is_block (block_behind bytes (record_header bytes))) (option_and_then replayed_by o) None
-    by_parts None e = cond_none (is_block (block_behind bytes (record_header bytes)))
+    by_parts : (o : Option Parts) → record_parts signature bytes ≡ o → option_and_then batch_by o ≡ cond (is_block (block_after bytes (record_header bytes))) (option_and_then replayed_by o) None
+    by_parts None e = cond_none (is_block (block_after bytes (record_header bytes)))
     by_parts (Some p) e =
         let is = parts_there signature bytes p e in
         either (is_lz4_block p.header.is_lz4 (length p.block)) (is_block p.block) (items_from p.items p.block, p.header.len)
@@ -89,7 +53,7 @@ record_at-replayed_at signature bytes at = ap (option_map placed) (record_of-rep
 -- a record that can be read is taken by a replay
 pub replayed_of_record : (signature : Option ℕ) (bytes : List ℕ) (x : Batch × ℕ) → record_of signature bytes ≡ Some x → replayed_record signature bytes ≡ Some x
 replayed_of_record signature bytes x e =
-    some_if (is_block (block_behind bytes (record_header bytes))) (replayed_record signature bytes) x (sym (record_of-replayed_record signature bytes) ∙ e)
+    some_if (is_block (block_after bytes (record_header bytes))) (replayed_record signature bytes) x (sym (record_of-replayed_record signature bytes) ∙ e)
 
 -- one search stops where what the other finds isn't sound
 placed_by-sound : (sound : ℕ → Bool) (next next' : ℕ → Option PlacedRecord) → ((at : ℕ) → next at ≡ option_and_then (λ p. cond (sound p.at) (Some p) None) (next' at)) →
@@ -103,18 +67,18 @@ placed_by-sound sound next next' same (suc n) at = elim (cases_next (next' at)) 
   ])
 ]
 
-pub records_after-replayed_behind : (id : FileId) (format : LogFileFormat) (bytes : List ℕ) (at : ℕ) →
-    records_after id format bytes at ≡ take_while (λ p. has_sound_block_at bytes p.at) (replayed_behind id format bytes at)
-records_after-replayed_behind id format bytes at =
+pub records_after-replayed_after : (id : FileId) (format : LogFileFormat) (bytes : List ℕ) (at : ℕ) →
+    records_after id format bytes at ≡ take_while (λ p. has_sound_block_at bytes p.at) (replayed_after id format bytes at)
+records_after-replayed_after id format bytes at =
     placed_by-sound (has_sound_block_at bytes) (next_record id format bytes) (next_replayed id format bytes)
     (λ from. record_at-replayed_at (signature_in format.version id.seq) bytes (record_place format.alignment bytes from)) (length bytes) at
 
 pub readable_records-replayed_records : (id : FileId) (bytes : List ℕ) → readable_records id bytes ≡ take_while (λ p. has_sound_block_at bytes p.at) (replayed_records id bytes)
 readable_records-replayed_records id bytes = by_header (header_of bytes)
   where
-    by_header : (header : Option (LogFileFormat × List ℕ)) → records_of (option_map (λ (h : LogFileFormat × List ℕ). reading_in id h.0 bytes) header) ≡ take_while (λ p. has_sound_block_at bytes p.at) (replayed_in id bytes header)
+    by_header : (header : Option (LogFileFormat × List ℕ)) → records_of (option_map (λ (h : LogFileFormat × List ℕ). scan_after_header id h.0 bytes) header) ≡ take_while (λ p. has_sound_block_at bytes p.at) (replayed_in id bytes header)
     by_header None = refl
-    by_header (Some header) = records_after-replayed_behind id header.0 bytes (header_len header.0.version)
+    by_header (Some header) = records_after-replayed_after id header.0 bytes (header_len header.0.version)
 
 -- Where a replay goes on.
 
@@ -137,13 +101,3 @@ replayed_stay id format bytes = record {
     same_len : (lz4 : Bool) (x y : Batch × ℕ) → cond lz4 None (Some x) ≡ Some y → x.1 ≡ y.1
     same_len true x y e = cc
     same_len false x y e = ap (λ (z : Batch × ℕ). z.1) (same_some e)
-
--- what a replay takes next has a sound block where it isn't refused
-pub accepted_is_sound : (id : FileId) (format : LogFileFormat) (bytes : List ℕ) (at : ℕ) (p : PlacedRecord) (ps : List PlacedRecord) → replayed_behind id format bytes at ≡ p ∷ ps →
-    record_refusal (signature_in format.version id.seq) (drop (record_place format.alignment bytes at) bytes) ≡ None → has_sound_block_at bytes p.at ≡ true
-unfolding replayed_at
-accepted_is_sound id format bytes at p ps e accepted =
-    let place = record_place format.alignment bytes at in
-    let signature = signature_in format.version id.seq in
-    let first = first_placed (next_replayed id format bytes) (length bytes) at p ps e in
-    ap (has_sound_block_at bytes) (placed_there place (replayed_record signature (drop place bytes)) p first.is).0 ∙ accepted_block signature (drop place bytes) accepted

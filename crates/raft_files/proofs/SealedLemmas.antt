@@ -7,14 +7,14 @@ use Rattle.std.specs.List.{AllByRecursion}
 use Rattle.std.proofs.lemmas.List.{length-take-le, take_all}
 use Rattle.raft_records.specs.Item.{Batch}
 use Rattle.raft_base.specs.declared.pipe_log.FileId.{FileId}
-use Rattle.raft_env.specs.Outcomes.{File, Change, MayLeave, least_len, greatest_len, is_touched, settled}
+use Rattle.raft_env.specs.Outcomes.{File, Change, MayLeave, least_len, greatest_len, is_touched, synced_file}
 use Rattle.raft_env.specs.Directory.{Directory, CrashImage, Leaves, Path, IsRestarted, file_at}
 use Rattle.raft_files.specs.declared.format.LogFileFormat.{LogFileFormat}
-use Rattle.raft_files.specs.Reading.{PlacedRecord, readable_batches, records_of, ends_with, is_read_to_end}
+use Rattle.raft_files.specs.Scan.{PlacedRecord, readable_batches, records_of, ends_with, is_read_to_end}
 use Rattle.raft_files.specs.Records.{HasLog, image_of_file, bytes_after_crash, batches_after_crash}
 use Rattle.raft_files.specs.Writer.{HasChanged, IsClosed, IsClosing, IsCutting, IsSyncing, bytes_at, bytes_of}
 use Rattle.raft_env.proofs.ConsistentLemmas.{nowhere}
-use Rattle.raft_files.proofs.ChangedLemmas.{stands_after, was_file}
+use Rattle.raft_files.proofs.WriterChangeLemmas.{stands_after, was_file}
 use Rattle.raft_files.specs.Sealed.{IsSealed, IsStillBy}
 
 abbrev IsStill : List ℕ → List Change → Type 0
@@ -56,8 +56,8 @@ module _ (path : Path) (id : FileId) (batches : List Batch) (n : Directory) (sea
   sealed_restarted d m leaves restarted =
       let same : d path ≡ sealed.file.now = left_settled sealed.file (d path) sealed.still (leaves.each path sealed.file sealed.stands) ∙ sym sealed.latest in
       record {
-        file = settled (d path);
-        stands = restarted.each path ∙ ap (λ found. option_map (λ _. settled (d path)) found) sealed.stands;
+        file = synced_file (d path);
+        stands = restarted.each path ∙ ap (λ found. option_map (λ _. synced_file (d path)) found) sealed.stands;
         latest = refl;
         still = tt;
         read = ap (is_read_to_end id) same ∙ sealed.read;
@@ -97,8 +97,8 @@ module _ (path : Path) (id : FileId) (batches : List Batch) where
   -- a moment of a cut at the end
   cut_nothing : (at : ℕ) (old new : File) → at ≡ length old.now → old.now ≡ old.synced → IsStill old.synced old.changes → IsCutting at old new → (new.now ≡ old.now) × (new.synced ≡ old.synced) × IsStill old.synced new.changes
   cut_nothing at old new end latest still (inl same) = (ap (λ (f : File). f.now) same, ap (λ (f : File). f.synced) same, subst (λ (f : File). IsStill old.synced f.changes) (sym same) still)
-  cut_nothing at old new end latest still (inr (after, true, done, is)) =
-      let now : after ≡ old.now = done ∙ take_all at old.now (omega arith) in
+  cut_nothing at old new end latest still (inr (after, true, completed, is)) =
+      let now : after ≡ old.now = completed ∙ take_all at old.now (omega arith) in
       (ap (λ (f : File). f.now) is ∙ now, ap (λ (f : File). f.synced) is, subst (λ (f : File). IsStill old.synced f.changes) (sym is) (record { size = omega (arith, ap length now); after = now ∙ latest; shortest = ap length (now ∙ latest); longest = ap length (now ∙ latest) }, still))
   cut_nothing at old new end latest still (inr (after, false, part, is)) =
       let now : after ≡ old.now = sym (take_all (min at (length old.now)) after (omega (arith, part.no_longer))) ∙ part.kept ∙ take_all (min at (length old.now)) old.now (omega arith) in

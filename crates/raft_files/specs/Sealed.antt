@@ -5,7 +5,7 @@ use Rattle.raft_records.specs.Item.{Batch}
 use Rattle.raft_base.specs.declared.pipe_log.FileId.{FileId}
 use Rattle.raft_env.specs.Outcomes.{File, Change}
 use Rattle.raft_env.specs.Directory.{Directory, Path, file_at}
-use Rattle.raft_files.specs.Reading.{readable_batches, is_read_to_end}
+use Rattle.raft_files.specs.Scan.{readable_batches, is_read_to_end}
 
 -- the change touched no byte of a file with these, nor its length
 pub record IsStillBy (synced : List ℕ) (c : Change) : Type 0 where

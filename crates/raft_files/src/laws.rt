@@ -7,9 +7,9 @@ ghost use Rattle.raft_records.specs.Record.{record_bytes, record_of};
 ghost use Rattle.raft_records.specs.RecordLimits.{FitsRecord};
 ghost use Rattle.raft_base.specs.declared.pipe_log.FileId.{FileId};
 ghost use Rattle.raft_files.specs.Detectable.{IsDetectable, signature_by};
-ghost use Rattle.raft_env.specs.Directory.{Directory, IsOneOf, IsRestarted, IsTruncating, HasFile, Leaves, CrashImage, Path, created, file_at, renamed};
+ghost use Rattle.raft_env.specs.Directory.{Directory, IsOneOf, IsRestarted, IsTruncating, HasFile, Leaves, CrashImage, Path, after_create, file_at, after_rename};
 ghost use Rattle.raft_files.specs.Header.{HasHeader, header_bytes, header_len, header_of};
-ghost use Rattle.raft_files.specs.Reading.{Reading, end_of_reading, is_read_to_end, readable_batches, readable_records, reading};
+ghost use Rattle.raft_files.specs.Scan.{ScanResult, end_of_scan, is_read_to_end, readable_batches, readable_records, scan_file};
 ghost use Rattle.raft_files.specs.Replay.{has_sound_block_at, replayed_records};
 ghost use Rattle.raft_files.specs.Records.{FirstOf, HasLog, HasTornLog, RecoversPrefixAt, batches_after_crash, bytes_after_crash};
 ghost use Rattle.raft_files.specs.Sealed.{IsSealed};
@@ -29,13 +29,13 @@ pub fn appended_record_is_read()
         × (is_read_to_end id (bytes ++ more) ≡ true) }
 {}
 
-/// Bytes behind those that were read hide none of their batches.
-pub fn beginning_is_read()
+/// Bytes after those that were read hide none of their batches.
+pub fn more_bytes_hide_no_batch()
     ensures value { (id : FileId) (bytes more : List ℕ) → (later : List Batch)
         × (readable_batches id (bytes ++ more) ≡ readable_batches id bytes ++ later) }
 {}
 
-/// A replay looks at no entries block: what can be read of a file is the longest beginning of what
+/// A replay looks at no entries block: what can be read of a file is the longest prefix of what
 /// a replay takes in which all blocks are sound.
 pub fn readable_records_are_the_replayed_with_sound_blocks()
     ensures value { (id : FileId) (bytes : List ℕ) → readable_records id bytes
@@ -48,7 +48,7 @@ pub fn readable_records_are_the_replayed_with_sound_blocks()
 /// synced. Where no file stands nothing is left (`none`), more batches may be allowed (`more`), and
 /// a change of other files changes nothing of it (`beside`). The moments of a writer's calls are
 /// those that `LogFileWriter` names.
-pub fn crash_leaves_a_beginning()
+pub fn crash_of_a_file_leaves_a_prefix()
     ensures left { (path : Path) (id : FileId) (batches : List Batch) (synced : ℕ) (n : Directory)
         → RecoversPrefixAt path id batches synced n → (d : CrashImage) → Leaves n d
         → IsDetectable path id n d
@@ -61,10 +61,11 @@ pub fn crash_leaves_a_beginning()
         → HasTornLog path id format batches in_flight synced at n
         → RecoversPrefixAt path id (batches ++ in_flight) synced n }
     ensures appending { (path : Path) (id : FileId) (format : LogFileFormat) (batches : List Batch)
-        (synced at : ℕ) (old n : Directory) (room new_room : ℕ) (given : List ℕ) (batch : Batch)
+        (synced at : ℕ) (old n : Directory) (capacity new_capacity : ℕ) (given : List ℕ)
+        (batch : Batch)
         → HasLog path id format batches synced at old
         → record_of (signature_by id format) given ≡ Some (batch, length given)
-        → HasChanged path (IsAppending room new_room at given) old n
+        → HasChanged path (IsAppending capacity new_capacity at given) old n
         → RecoversPrefixAt path id (batches ++ batch ∷ []) synced n }
     ensures syncing { (path : Path) (id : FileId) (batches : List Batch) (synced : ℕ)
         (old n : Directory) → RecoversPrefixAt path id batches synced old
@@ -93,8 +94,8 @@ pub fn crash_leaves_a_beginning()
 {}
 
 /// What a writer's calls make of a log file. A header that is synced is a log without batches
-/// (`begun`), an append adds its batch, and after a sync all batches are synced. A refused append
-/// may have left its record behind the log (`torn`); the log that is then closed doesn't hold it
+/// (`begun`), an append adds its batch, and after a sync all batches are synced. A failed append
+/// may have left its record after the log (`torn`); the log that is then closed doesn't hold it
 /// (`torn_closed`). A change of other files leaves the log as it is (`beside`).
 pub fn a_writer_keeps_its_log()
     ensures begun { (path : Path) (id : FileId) (format : LogFileFormat) (old new : Directory)
@@ -102,10 +103,11 @@ pub fn a_writer_keeps_its_log()
         → HasChanged path IsSynced old new
         → HasLog path id format [] 0 (header_len format.version) new }
     ensures appended { (path : Path) (id : FileId) (format : LogFileFormat) (batches : List Batch)
-        (synced at : ℕ) (old new : Directory) (room new_room : ℕ) (given : List ℕ) (batch : Batch)
+        (synced at : ℕ) (old new : Directory) (capacity new_capacity : ℕ) (given : List ℕ)
+        (batch : Batch)
         → HasLog path id format batches synced at old
         → record_of (signature_by id format) given ≡ Some (batch, length given)
-        → HasChanged path (IsAppended room new_room at given) old new
+        → HasChanged path (IsAppended capacity new_capacity at given) old new
         → HasLog path id format (batches ++ batch ∷ []) synced (at + length given) new }
     ensures durable { (path : Path) (id : FileId) (format : LogFileFormat) (batches : List Batch)
         (synced at : ℕ) (old new : Directory) → HasLog path id format batches synced at old
@@ -115,10 +117,11 @@ pub fn a_writer_keeps_its_log()
         → HasChanged path (IsClosed at) old new
         → HasLog path id format batches (length batches) at new }
     ensures torn { (path : Path) (id : FileId) (format : LogFileFormat) (batches : List Batch)
-        (synced at : ℕ) (old n : Directory) (room new_room : ℕ) (given : List ℕ) (batch : Batch)
+        (synced at : ℕ) (old n : Directory) (capacity new_capacity : ℕ) (given : List ℕ)
+        (batch : Batch)
         → HasLog path id format batches synced at old
         → record_of (signature_by id format) given ≡ Some (batch, length given)
-        → HasChanged path (IsAppending room new_room at given) old n
+        → HasChanged path (IsAppending capacity new_capacity at given) old n
         → HasTornLog path id format batches (batch ∷ []) synced at n }
     ensures torn_closed { (path : Path) (id : FileId) (format : LogFileFormat)
         (batches in_flight : List Batch) (synced at : ℕ) (old new : Directory)
@@ -162,36 +165,37 @@ pub fn a_sealed_file_stays()
 pub fn opening_keeps_the_log()
     ensures created { (path : Path) (id : FileId) (batches : List Batch) (synced : ℕ)
         (old n : Directory) → RecoversPrefixAt path id batches synced old → IsOneOf old
-        (created path old) n
+        (after_create path old) n
         → RecoversPrefixAt path id batches synced n }
     ensures truncating { (path : Path) (id : FileId) (batches : List Batch) (synced : ℕ)
         (old n : Directory) → RecoversPrefixAt path id batches synced old
-        → IsTruncating path (end_of_reading id (bytes_at path old)) old n
+        → IsTruncating path (end_of_scan id (bytes_at path old)) old n
         → RecoversPrefixAt path id batches synced n }
     ensures header { (path : Path) (id : FileId) (format : LogFileFormat) (batches : List Batch)
         (synced : ℕ) (old n : Directory) → RecoversPrefixAt path id batches synced old
         → bytes_at path old ≡ [] → IsOpening path format old n
         → RecoversPrefixAt path id batches synced n }
-    ensures found { (path : Path) (id : FileId) (r : Reading) (old cut new : Directory)
+    ensures found { (path : Path) (id : FileId) (r : ScanResult) (old cut new : Directory)
         → let found = readable_batches id (bytes_at path old) in
-        reading id (bytes_at path old) ≡ Some r → bytes_at path cut ≡ take r.end (bytes_at path old)
+        scan_file id (bytes_at path old) ≡ Some r → bytes_at path cut
+        ≡ take r.end (bytes_at path old)
         → HasChanged path IsSynced cut new
         → HasLog path id r.format found (length found) r.end new }
     ensures renamed { (src path : Path) (id other : FileId) (batches : List Batch) (synced : ℕ)
         (old : Directory)
         → RecoversPrefixAt src other batches synced old → HasFile old src
-        → RecoversPrefixAt path id [] 0 (renamed src path old) }
+        → RecoversPrefixAt path id [] 0 (after_rename src path old) }
     ensures reusing { (src path : Path) (id other : FileId) (format : LogFileFormat)
-        (batches : List Batch) (synced : ℕ) (old n : Directory) (room new_room : ℕ)
+        (batches : List Batch) (synced : ℕ) (old n : Directory) (capacity new_capacity : ℕ)
         → RecoversPrefixAt src other batches synced old → HasFile old src → HasHeader format
         → format.alignment < 2 ^ 64
-        → HasChanged path (IsAppending room new_room 0 (header_bytes format))
-        (renamed src path old) n → RecoversPrefixAt path id [] 0 n }
+        → HasChanged path (IsAppending capacity new_capacity 0 (header_bytes format))
+        (after_rename src path old) n → RecoversPrefixAt path id [] 0 n }
     ensures reused { (src path : Path) (id other : FileId) (format : LogFileFormat)
-        (batches : List Batch) (synced : ℕ) (old mid new : Directory) (room new_room : ℕ)
+        (batches : List Batch) (synced : ℕ) (old mid new : Directory) (capacity new_capacity : ℕ)
         → RecoversPrefixAt src other batches synced old → HasFile old src → HasHeader format
         → format.alignment < 2 ^ 64
-        → HasChanged path (IsAppended room new_room 0 (header_bytes format))
-        (renamed src path old) mid → HasChanged path IsSynced mid new
+        → HasChanged path (IsAppended capacity new_capacity 0 (header_bytes format))
+        (after_rename src path old) mid → HasChanged path IsSynced mid new
         → HasLog path id format [] 0 (header_len format.version) new }
 {}

@@ -10,8 +10,15 @@ use Rattle.std.specs.declared.cmp.Ordering.TheVariants.{Less}
 use Rattle.std.proofs.lemmas.Grind.{common_steps}
 use Rattle.std.proofs.lemmas.List.{append-nil, map-append, nil_from_length}
 use Rattle.raft_records.specs.Contents.{Contents}
-use Rattle.raft_tables.specs.Listing.{IsListing, IsWithoutKeys, listed}
+use Rattle.raft_tables.specs.Listing.{IsListing, listed}
 use Rattle.raft_log_engine.specs.Image.{entries_of, IsGroupImageOf, IsImageOf, IsWithout, groups_of}
+use Rattle.std.specs.Prelude.{Option, Some, None, is_some}
+use Rattle.raft_records.specs.Places.{entries_in}
+use Rattle.raft_tables.specs.Table.{TableView, value_at}
+use Rattle.raft_tables.specs.Tables.{or_empty, tables_of}
+use Rattle.raft_tables.specs.declared.memtables.MemTables.{MemTables}
+use Rattle.raft_files.specs.Blocks.{no_blocks}
+use Rattle.raft_log_engine.specs.Contents.{contents_of_tables}
 use Rattle.raft_log_engine.specs.declared.engine.image.GroupImage.{GroupImage}
 
 pub record IsBuilding (m : Contents) (images : List GroupImage) (rest : List ℕ) : Type 0 where
@@ -39,9 +46,17 @@ all_push P (x ∷ xs) y all one = (all.0, all_push P xs y all.1 one)
 same_from_test : (a b : ℕ) → eqb a b ≡ true → a ≡ b
 same_from_test a b same = grind (arith, common_steps)
 
-pub building_begun : (m : Contents) (groups : List ℕ) → ((group : ℕ) → m.entries group ≡ []) → IsStrictlySortedBy nat_cmp groups → ((group : ℕ) → list_any (eqb group) groups ≡ false → IsWithoutKeys m group)
+pub building_begun : (m : Contents) (groups : List ℕ) → IsStrictlySortedBy nat_cmp groups → ((group : ℕ) → list_any (eqb group) groups ≡ false → IsWithout m group)
     → IsBuilding m [] groups
-building_begun m groups no_entries ascending others = record { ascending = ascending; each = tt; others = λ group none. (no_entries group, others group none) }
+building_begun m groups ascending others = record { ascending = ascending; each = tt; others = others }
+
+-- a group without a table
+pub holds_nothing : (tables : MemTables) (group : ℕ) → is_some (tables_of tables group) ≡ false → IsWithout (contents_of_tables tables) group
+holds_nothing tables group unknown = by_table (tables_of tables group) unknown
+  where
+    by_table : (table : Option TableView) → is_some table ≡ false → (entries_in no_blocks (or_empty table).entries ≡ []) × ((key : List ℕ) → value_at (or_empty table) key ≡ None)
+    by_table None unknown = (refl, λ key. refl)
+    by_table (Some t) unknown = cc
 
 -- a group without entries and keys is passed over
 pub building_passed : (m : Contents) (images : List GroupImage) (group : ℕ) (rest : List ℕ) → IsBuilding m images (group ∷ rest) → IsWithout m group → IsBuilding m images rest
@@ -78,7 +93,7 @@ ahead items i within =
     let next : suc i ≡ i + 1 = omega arith in
     drop-cons items i 0 within ∙ ap (λ (n : ℕ). get_or items i 0 ∷ drop n items) next
 
--- behind the last group nothing is to come
+-- after the last group nothing is to come
 pub building_ended : (m : Contents) (images : List GroupImage) (items : List ℕ) (i : ℕ) → length items ≤ i → IsBuilding m images (drop i items) → IsImageOf images m
 building_ended m images items i past building =
     let none : length (drop i items) ≡ 0 = length-drop i items ∙ (omega (arith, past)) in

@@ -1,4 +1,5 @@
 pub mod Answered
+pub mod Batches
 pub mod Contents
 pub mod Crash
 pub mod Cause

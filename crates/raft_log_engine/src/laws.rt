@@ -7,12 +7,12 @@ ghost use Rattle.raft_env.specs.Moments.{HoldsThroughout};
 ghost use Rattle.raft_log_engine.specs.Crash.{IsAllowedFrom, IsSound, RecoversContents, LeavesAllowed, contents_after_crash};
 ghost use Rattle.raft_files.specs.Records.{as_it_is};
 ghost use Rattle.raft_log_engine.specs.Contents.{contents_at};
-ghost use Rattle.raft_log_engine.specs.Engine.{begun_of, contents_of, directory_of, durable_of, folder_of, has_failed, moments_of, unsynced_of};
-ghost use Rattle.std.specs.List.{AllByRecursion};
+ghost use Rattle.raft_log_engine.specs.Opening.{FoundCompletedRecords};
+ghost use Rattle.raft_log_engine.specs.Engine.{contents_of, directory_of, durable_of, folder_of, has_failed, moments_of, unsynced_of};
 ghost use Rattle.raft_env.specs.Consistent.{AreConsistent};
 ghost use Rattle.raft_memory.specs.Choice.{AreWhole, left_by};
 ghost use Rattle.raft_memory.specs.declared.crash.Choice.{Choice};
-ghost use Rattle.raft_pipes.specs.Done.{HasSimplePastIn, IsDoneIn};
+ghost use Rattle.raft_pipes.specs.Completed.{HasSimplePastIn};
 ghost use Rattle.raft_pipes.specs.Folder.{HasNoLog, IsDetectableIn};
 ghost use Rattle.raft_pipes.specs.Queue.{IsOpenableIn};
 ghost use Rattle.raft_pipes.specs.declared.config.RecoveryMode.{RecoveryMode};
@@ -24,9 +24,9 @@ use raft_env::FileSystem;
 /// A folder that keeps contents through a crash leaves them then, possibly with a prefix of the
 /// batches after them, where damage is detectable. A restart after a crash finds what the crash
 /// left. Where that is sound, it keeps it, its log can be opened in each mode but the absolute one,
-/// and no file stands in the folder's place. Where no log stands, nothing is kept. Files that no
+/// and no file stands in the folder's place. Where no log stands, nothing is read and nothing is kept. Files that no
 /// crash met, as an engine gave them up, stand for what a crash could leave, and their log can be
-/// opened, where their damage is detectable: what a refused write left of its record may be any
+/// opened, where their damage is detectable: what a failed write left of its record may be any
 /// bytes.
 pub fn crash_leaves_contents()
     ensures left { (folder : Path) (m : Contents) (batches : List Batch) (n : Directory)
@@ -43,7 +43,7 @@ pub fn crash_leaves_contents()
         → IsAllowedFrom 0 m batches (contents_at folder n)
         × ((mode : RecoveryMode) → (mode ≡ AbsoluteConsistency → ⊥) → IsOpenableIn mode folder n) }
     ensures none { (folder : Path) (n : Directory) → HasNoLog folder n → (HasFile n folder → ⊥)
-        → RecoversContents folder no_contents [] n }
+        → (contents_at folder n ≡ no_contents) × RecoversContents folder no_contents [] n }
     ensures folder { (folder : Path) (m : Contents) (batches : List Batch) (n : Directory)
         → RecoversContents folder m batches n → HasFile n folder → ⊥ }
     ensures no_file { (folder : Path) (n m : Directory) (d : CrashImage) → IsRestarted n d m
@@ -64,15 +64,16 @@ pub fn an_engine_recovers_what_it_keeps<F: FileSystem>(engine: &Engine<F>)
         → contents_of engine.now ≡ after_batches (durable_of engine.now) (unsynced_of engine.now) }
 {}
 
-/// The premise on damage can be met of an engine that hasn't failed. If its openings found no record
-/// of a failed call in the log, and of the log's calls, also those before the opening, only writes
-/// failed, and the log was never renamed, the damage of a crash that leaves every file with all its
+/// The premise on damage can be met of an engine that hasn't failed. If its opening found no record
+/// of a failed call in the log (as after a crash, where no log stood, or after a `close` or `reopen`
+/// of an engine of which that is true), and of the log's calls, also those before the opening, only
+/// writes failed, and the log was never renamed, the damage of a crash that leaves every file with all its
 /// bytes now, or with those of its last sync, is detectable (`AreConsistent`: as in memory always).
 pub fn the_damage_of_an_engine_is_detectable<F: FileSystem>(engine: &Engine<F>)
     ensures crash { let folder = folder_of engine.now in let n = directory_of engine.now in
-        has_failed engine.now ≡ false → AllByRecursion (IsDoneIn folder) (begun_of engine.now)
+        has_failed engine.now ≡ false → FoundCompletedRecords engine.now
         → HasSimplePastIn folder n → AreConsistent n → (choices : List Choice) → AreWhole choices
         → ∥ IsDetectableIn folder n (left_by choices n) ∥₁ }
 {
-    raft_damage::laws::a_queue_can_be_told();
+    raft_damage::laws::damage_of_a_queue_is_detectable();
 }

@@ -5,7 +5,7 @@ pub mod engine;
 pub mod laws;
 
 pub use engine::{Engine, GroupImage, Image, Refused};
-pub use raft_env::FileSystem;
-pub use raft_memory::{Choice, MemoryFileSystem};
+pub use raft_env::{FileSystem, FsFault, Permission};
+pub use raft_memory::{Choice, FsCall, MemoryFileSystem};
 pub use raft_pipes::{Config, RecoveryMode};
 pub use raft_records::{Fault, Fresh, IoKind, LogBatch, ReadableSize, Version};

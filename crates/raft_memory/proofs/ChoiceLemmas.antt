@@ -6,7 +6,7 @@ use Rattle.std.proofs.lemmas.Bool.Decides.{nat_tests}
 use Rattle.std.proofs.lemmas.List.FromFn.{map-range_with_len_more, length-map-range_with_len, get_or-map-range_with_len}
 use Rattle.raft_env.specs.Outcomes.{File, MayLeave, is_touched, Change, least_len, greatest_len}
 use Rattle.raft_memory.specs.MemoryFile.{IsFileOf, is_covered}
-use Rattle.raft_memory.specs.Choice.{torn, torn_byte, touched_before}
+use Rattle.raft_memory.specs.Choice.{torn_bytes, torn_byte, touched_before}
 use Rattle.raft_memory.proofs.MemoryFileLemmas.{may_leave}
 
 -- the length at the last sync counts too
@@ -43,16 +43,16 @@ left_more touched kept i left after covered left_is covered_is after_is =
 
 module _ (bytes synced : List ℕ) (ranges : List (ℕ × ℕ)) (low high : ℕ) (file : File) (k : IsFileOf bytes synced ranges low high file) (kept fill : ℕ) where
   -- the ranges of a file cover what was touched
-  pub torn-covered : torn (is_covered ranges) kept fill bytes ≡ torn (is_touched file.changes) kept fill file.now
+  pub torn-covered : torn_bytes (is_covered ranges) kept fill bytes ≡ torn_bytes (is_touched file.changes) kept fill file.now
   torn-covered =
       let same : (i : ℕ) → is_covered ranges i ≡ is_touched file.changes i = λ i. sym (k.touched i) in
       let tests : is_covered ranges ≡ is_touched file.changes = λ j. λ i. same i j in
-      ap (λ (touched : ℕ → Bool). torn touched kept fill bytes) tests ∙ ap (torn (is_touched file.changes) kept fill) (sym k.now)
+      ap (λ (touched : ℕ → Bool). torn_bytes touched kept fill bytes) tests ∙ ap (torn_bytes (is_touched file.changes) kept fill) (sym k.now)
 
-  pub torn_may_be_left : MayLeave file (torn (is_covered ranges) kept fill bytes)
+  pub torn_may_be_left : MayLeave file (torn_bytes (is_covered ranges) kept fill bytes)
   torn_may_be_left =
       let byte = torn_byte (is_covered ranges) kept fill bytes in
-      let len : length (torn (is_covered ranges) kept fill bytes) ≡ length bytes = length-map-range_with_len byte 0 (length bytes) in
-      may_leave bytes synced ranges low high file k (torn (is_covered ranges) kept fill bytes) (omega (arith, len, k.above_low)) (omega (arith, len, k.below_high)) (λ i h s apart.
+      let len : length (torn_bytes (is_covered ranges) kept fill bytes) ≡ length bytes = length-map-range_with_len byte 0 (length bytes) in
+      may_leave bytes synced ranges low high file k (torn_bytes (is_covered ranges) kept fill bytes) (omega (arith, len, k.above_low)) (omega (arith, len, k.below_high)) (λ i h s apart.
       let inside : i < length bytes = omega (arith, len) in
       get_or-map-range_with_len byte 0 (length bytes) i i 0 inside (omega arith) ∙ ap (λ b. cond (b && leb kept (touched_before (is_covered ranges) i)) fill (get_or bytes i 0)) apart ∙ k.agree.each i apart)

@@ -17,16 +17,16 @@ use Rattle.std.proofs.lemmas.Map.Text.{btree_map_updates_text, is_eq-slice_cmp}
 use Rattle.std.proofs.lemmas.Slice.Eq.{bytes_eq-Decides}
 use Rattle.raft_base.specs.declared.errors.Fault.{Fault}
 use Rattle.raft_base.specs.declared.errors.Fault.TheVariants as fault
-use Rattle.raft_env.specs.Outcomes.{File, MayLeave, settled}
+use Rattle.raft_env.specs.Outcomes.{File, MayLeave, synced_file}
 use Rattle.raft_env.specs.Directory.{Path, CrashImage, Leaves, IsRestarted, file_at, is_on_way}
 use Rattle.raft_memory.specs.Files.{Files, folders_of, namespace_directory}
-use Rattle.raft_memory.specs.Choice.{chosen, chosen_at, choice_for, left_by, RefusesUnless}
+use Rattle.raft_memory.specs.Choice.{bytes_by_choice, bytes_by_choice_at, choice_for, left_by, RefusesUnless}
 use Rattle.raft_memory.specs.Crashed.{Stands, Copied, IsLeft, Puts, at_path}
 use Rattle.raft_memory.specs.declared.namespace.Namespace.{Namespace}
 use Rattle.raft_memory.specs.declared.crash.Choice.{Choice}
 use Rattle.raft_memory.specs.declared.crash.Choice.TheVariants as choice
 use Rattle.raft_memory.proofs.MemoryLemmas.{file_at-namespace_directory}
-use Rattle.raft_memory.proofs.ListedLemmas.{keys-directory_of, any_by_bytes}
+use Rattle.raft_memory.proofs.FilesLemmas.{keys-directory_of, any_by_bytes}
 
 abbrev Entry : Type 0
 Entry = String Global × File
@@ -38,7 +38,7 @@ behind false e f o o' rest found = rest found
 turned : (p q : Path) → is_eq (slice_cmp nat_cmp p q) ≡ is_eq (slice_cmp nat_cmp q p)
 turned p q = (eq_by_cmp_equiv nat_list_cmp_total).symm p q
 
--- the first entry at a path, behind those that don't stand there
+-- the first entry at a path, after those that don't stand there
 push_same : (es later : List Entry) (k : String Global) (f : File) (p : Path) → is_eq (slice_cmp nat_cmp p (string_bytes k)) ≡ true → at_path p es ≡ None → at_path p (es ++ (k, f) ∷ later) ≡ Some f
 push_same [] later k f p same none = ap (λ b. cond b (Some f) (at_path p later)) same
 push_same (e ∷ es) later k f p same none = behind (is_eq (slice_cmp nat_cmp p (string_bytes e.0))) e.1 f (at_path p es) (at_path p (es ++ (k, f) ∷ later)) (push_same es later k f p same) none
@@ -105,23 +105,23 @@ module _ (choices : List Choice) (t : Namespace) (done rest later : List Entry) 
   stands = file_at-namespace_directory t (string_bytes k) ∙ ap (at_path (string_bytes k)) (sym split) ∙ push_same done later k file (string_bytes k) (same_path (string_bytes k)) none_before
 
   -- the file's choice is the one at its turn
-  pub left_at_turn : left_by choices (namespace_directory t) (string_bytes k) ≡ chosen (slice_index_or choices (length done) choice.Synced) file
+  pub left_at_turn : left_by choices (namespace_directory t) (string_bytes k) ≡ bytes_by_choice (slice_index_or choices (length done) choice.Synced) file
   left_at_turn =
       let keys = keys-directory_of t.files (folders_of t.folders.items) sorted ∙ ap (λ (l : List Entry). map string_bytes (map (λ e. e.0) l)) (sym split) in
       let turn = ap (position_or_len (bytes_eq (string_bytes k))) keys ∙ position_there done later k file none_before in
-      ap (λ o. chosen_at (choice_for choices (finite.keys (namespace_directory t).files) (string_bytes k)) o) stands ∙ ap (λ (i : ℕ). chosen (slice_index_or choices i choice.Synced) file) turn
+      ap (λ o. bytes_by_choice_at (choice_for choices (finite.keys (namespace_directory t).files) (string_bytes k)) o) stands ∙ ap (λ (i : ℕ). bytes_by_choice (slice_index_or choices i choice.Synced) file) turn
 
   -- one turn of the loop
-  pub copied_turn : (m n : Files) → Copied (IsLeft (left_by choices (namespace_directory t))) done m → Puts m n (string_bytes k) (settled (chosen (slice_index_or choices (length done) choice.Synced) file))
-      → MayLeave file (chosen (slice_index_or choices (length done) choice.Synced) file)
+  pub copied_turn : (m n : Files) → Copied (IsLeft (left_by choices (namespace_directory t))) done m → Puts m n (string_bytes k) (synced_file (bytes_by_choice (slice_index_or choices (length done) choice.Synced) file))
+      → MayLeave file (bytes_by_choice (slice_index_or choices (length done) choice.Synced) file)
       → ((done ++ (k, file) ∷ []) ++ later ≡ t.files.entries) × Copied (IsLeft (left_by choices (namespace_directory t))) (done ++ (k, file) ∷ []) n
   copied_turn m n so_far puts may = (
     append_assoc done ((k, file) ∷ []) later ∙ split,
-    copied_more _ done k file _ m n so_far none_before puts (subst (MayLeave file) (sym left_at_turn) may, ap settled (sym left_at_turn)),
+    copied_more _ done k file _ m n so_far none_before puts (subst (MayLeave file) (sym left_at_turn) may, ap synced_file (sym left_at_turn)),
   )
 
   -- what storage may not leave of this file it may not leave at all
-  pub allowed_here : Leaves (namespace_directory t) (left_by choices (namespace_directory t)) → MayLeave file (chosen (slice_index_or choices (length done) choice.Synced) file)
+  pub allowed_here : Leaves (namespace_directory t) (left_by choices (namespace_directory t)) → MayLeave file (bytes_by_choice (slice_index_or choices (length done) choice.Synced) file)
   allowed_here leaves = subst (MayLeave file) left_at_turn (leaves.each (string_bytes k) file stands)
 
 pub refuses_unless_more : (P Q : Type 0) (e : Fault) → (Q → P) → RefusesUnless P e → RefusesUnless Q e
@@ -144,7 +144,7 @@ module _ (d : CrashImage) (t n : Namespace) (all : Copied (IsLeft d) t.files.ent
       let same : f ≡ file = cc in
       subst (λ (x : File). MayLeave x (d p)) same pair.0
 
-  holds_at : (p : Path) (o c : Option File) → Stands (IsLeft d p) o c → c ≡ option_map (λ _. settled (d p)) o
+  holds_at : (p : Path) (o c : Option File) → Stands (IsLeft d p) o c → c ≡ option_map (λ _. synced_file (d p)) o
   holds_at p None None pair = refl
   holds_at p None (Some copy) pair = absurd pair
   holds_at p (Some f) None pair = absurd pair
@@ -155,6 +155,6 @@ module _ (d : CrashImage) (t n : Namespace) (all : Copied (IsLeft d) t.files.ent
 
   pub restarted : map string_bytes n.folders.items ≡ map string_bytes t.folders.items → IsRestarted (namespace_directory t) d (namespace_directory n)
   restarted folders = record {
-    each = λ p. file_at-namespace_directory n p ∙ holds_at p (at_path p t.files.entries) (tree.get_by_text n.files p) (all.each p) ∙ ap (option_map (λ _. settled (d p))) (sym (file_at-namespace_directory t p));
+    each = λ p. file_at-namespace_directory n p ∙ holds_at p (at_path p t.files.entries) (tree.get_by_text n.files p) (all.each p) ∙ ap (option_map (λ _. synced_file (d p))) (sym (file_at-namespace_directory t p));
     folders = same_folders t.folders.items n.folders.items folders;
   }

@@ -12,8 +12,8 @@ use Rattle.std.specs.Map.{lookup, set_value}
 use Rattle.std.specs.FinMap as finite
 use Rattle.std.proofs.lemmas.Map.Text.{btree_map_updates_text, is_eq-slice_cmp}
 use Rattle.std.proofs.lemmas.Map.Steps.{set_value_same}
-use Rattle.raft_env.specs.Outcomes.{File, settled, Outcome}
-use Rattle.raft_env.specs.Directory.{Path, Directory, file_at, placed, changed, changed_at, created, IsChanging}
+use Rattle.raft_env.specs.Outcomes.{File, synced_file, Outcome}
+use Rattle.raft_env.specs.Directory.{Path, Directory, file_at, with_file, update_file, update_at, after_create, IsChanging}
 use Rattle.raft_memory.specs.declared.namespace.Namespace.{Namespace}
 use Rattle.raft_memory.specs.Files.{Files, by_bytes, directory_of, folders_of, namespace_directory}
 
@@ -31,7 +31,7 @@ turned : (p q : Path) → bytes_eq p q ≡ eq_by_cmp (slice_cmp nat_cmp) q p
 turned p q = sym (is_eq-slice_cmp p q) ∙ (eq_by_cmp_equiv nat_list_cmp_total).symm p q
 
 -- with another file at a path
-pub placed_after : (m n : Files) (is_folder : Path → Bool) (p : Path) (w : File) → tree.UpdatesBy string_cmp (λ k. slice_cmp nat_cmp p (string_bytes k)) m n (Some w) → directory_of n is_folder ≡ placed p w (directory_of m is_folder)
+pub placed_after : (m n : Files) (is_folder : Path → Bool) (p : Path) (w : File) → tree.UpdatesBy string_cmp (λ k. slice_cmp nat_cmp p (string_bytes k)) m n (Some w) → directory_of n is_folder ≡ with_file p w (directory_of m is_folder)
 placed_after m n is_folder p w updates =
     let same = finite.same_map nat_list_cmp_total path_cmp-IsAntisymmetric (directory_of n is_folder).files (finite.insert (directory_of m is_folder).files p w) (λ q.
     file_at-directory_of n is_folder q ∙ btree_map_updates_text p m n (Some w) updates q ∙ ap (λ b. cond b (Some w) (tree.get_by_text m q)) (turned p q) ∙ ap (cond (eq_by_cmp (slice_cmp nat_cmp) q p) (Some w)) (sym (file_at-directory_of m is_folder q))
@@ -46,12 +46,12 @@ same_after m n is_folder p w is written =
 
 -- the file at a path, changed
 pub changed_after : (m n : Files) (is_folder : Path → Bool) (p : Path) (f : File → File) (old w : File) → tree.get_by_text m p ≡ Some old → w ≡ f old → tree.UpdatesBy string_cmp (λ k. slice_cmp nat_cmp p (string_bytes k)) m n (Some w)
-    → directory_of n is_folder ≡ changed p f (directory_of m is_folder)
+    → directory_of n is_folder ≡ update_file p f (directory_of m is_folder)
 changed_after m n is_folder p f old w is done updates =
-    placed_after m n is_folder p w updates ∙ ap (λ (x : File). placed p x (directory_of m is_folder)) done ∙ ap (λ o. changed_at p f o (directory_of m is_folder)) (sym (file_at-directory_of m is_folder p ∙ is))
+    placed_after m n is_folder p w updates ∙ ap (λ (x : File). with_file p x (directory_of m is_folder)) done ∙ ap (λ o. update_at p f o (directory_of m is_folder)) (sym (file_at-directory_of m is_folder p ∙ is))
 
-pub created_after : (m n : Files) (is_folder : Path → Bool) (p : Path) → is_some (tree.get_by_text m p) ≡ false → tree.UpdatesBy string_cmp (λ k. slice_cmp nat_cmp p (string_bytes k)) m n (Some (settled [])) → directory_of n is_folder ≡ created p (directory_of m is_folder)
-created_after m n is_folder p none updates = rw (ap is_some (file_at-directory_of m is_folder p) ∙ none) (placed_after m n is_folder p (settled []) updates)
+pub created_after : (m n : Files) (is_folder : Path → Bool) (p : Path) → is_some (tree.get_by_text m p) ≡ false → tree.UpdatesBy string_cmp (λ k. slice_cmp nat_cmp p (string_bytes k)) m n (Some (synced_file [])) → directory_of n is_folder ≡ after_create p (directory_of m is_folder)
+created_after m n is_folder p none updates = rw (ap is_some (file_at-directory_of m is_folder p) ∙ none) (placed_after m n is_folder p (synced_file []) updates)
 
 -- the same of a tree
 pub file_at-namespace_directory : (t : Namespace) (p : Path) → file_at (namespace_directory t) p ≡ tree.get_by_text t.files p
@@ -64,9 +64,9 @@ found_in t p file stands = ap is_some (file_at-namespace_directory t p ∙ stand
 
 -- what a call leaves that changes one file is a moment of it
 pub changing : (path : Path) (step : Bool → List ℕ → File → File) (wanted : List ℕ → List ℕ) (IsPart : List ℕ → List ℕ → Type 0) (old new : Directory) (is_done : Bool) (left : List ℕ → List ℕ)
-    → ((now : List ℕ) → Outcome is_done (wanted now) (IsPart now) (left now)) → new ≡ changed path (λ f. step is_done (left f.now) f) old → IsChanging path step wanted IsPart old new
+    → ((now : List ℕ) → Outcome is_done (wanted now) (IsPart now) (left now)) → new ≡ update_file path (λ f. step is_done (left f.now) f) old → IsChanging path step wanted IsPart old new
 changing path step wanted IsPart old new is_done left outcome is = at_file (file_at old path) refl
   where
     at_file : (o : Option File) → file_at old path ≡ o → IsChanging path step wanted IsPart old new
-    at_file None e = inl (is ∙ ap (λ o. changed_at path (λ f. step is_done (left f.now) f) o old) e)
-    at_file (Some file) e = inr (file, left file.now, is_done, e, outcome file.now, is ∙ ap (λ o. changed_at path (λ f. step is_done (left f.now) f) o old) e)
+    at_file None e = inl (is ∙ ap (λ o. update_at path (λ f. step is_done (left f.now) f) o old) e)
+    at_file (Some file) e = inr (file, left file.now, is_done, e, outcome file.now, is ∙ ap (λ o. update_at path (λ f. step is_done (left f.now) f) o old) e)

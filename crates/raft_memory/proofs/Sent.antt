@@ -10,7 +10,7 @@ use Rattle.raft_memory.specs.contracts.armed.ArmedRefusal as refusal
 use Rattle.raft_memory.specs.contracts.armed.Armed as armed
 use Rattle.raft_memory.specs.contracts.namespace.Namespace as tree
 use Rattle.raft_memory.specs.contracts.memory_file.MemoryFile as file
-use Rattle.raft_memory.specs.contracts.known.Known as known
+use Rattle.raft_memory.specs.contracts.ghost_file.GhostFile as known
 use Rattle.raft_base.specs.contracts.history.History as history
 
 known_send : IsSend known.the_row

@@ -21,28 +21,31 @@ torn_byte touched kept fill now i = if touched i && nat_le kept (touched_before 
     else slice_index now i
 
 -- the bytes now, of which only the first few touched ones reached the disk
-abbrev pub torn : (ℕ → Bool) → ℕ → ℕ → List ℕ → List ℕ
-torn touched kept fill now = map (torn_byte touched kept fill now) (range_with_len 0 (length now))
+abbrev pub torn_bytes : (ℕ → Bool) → ℕ → ℕ → List ℕ → List ℕ
+torn_bytes touched kept fill now = map (torn_byte touched kept fill now) (range_with_len 0
+    (length now))
 
 -- the bytes that a choice leaves of a file
-abbrev pub chosen : Choice → File → List ℕ
-chosen choice.All file = file.now
-chosen choice.Synced file = file.synced
-chosen (choice.Torn kept fill) file = torn (is_touched file.changes) kept fill file.now
-chosen (choice.Bytes bytes) file = bytes.items
+abbrev pub bytes_by_choice : Choice → File → List ℕ
+bytes_by_choice choice.All file = file.now
+bytes_by_choice choice.Synced file = file.synced
+bytes_by_choice (choice.Torn kept fill) file = torn_bytes
+    (is_touched file.changes) kept fill file.now
+bytes_by_choice (choice.Bytes bytes) file = bytes.items
 
 -- the choices go to the paths in order, and `Synced` to those that are left over
 abbrev pub choice_for : List Choice → List Path → Path → Choice
 choice_for choices paths path = slice_index_or choices (position_or_len (bytes_eq path) paths)
     choice.Synced
 
-abbrev pub chosen_at : Choice → Option File → List ℕ
-chosen_at c None = []
-chosen_at c (Some file) = chosen c file
+abbrev pub bytes_by_choice_at : Choice → Option File → List ℕ
+bytes_by_choice_at c None = []
+bytes_by_choice_at c (Some file) = bytes_by_choice c file
 
 -- what the choices leave, by path
 abbrev pub left_by : List Choice → Directory → CrashImage
-left_by choices n path = chosen_at (choice_for choices (finite.keys n.files) path) (file_at n path)
+left_by choices n path = bytes_by_choice_at (choice_for choices (finite.keys n.files) path)
+    (file_at n path)
 
 -- the choice leaves all bytes, those of the last sync, or a torn file
 abbrev pub NamesNoBytes : Choice → Type 0
@@ -53,7 +56,7 @@ NamesNoBytes _ = Unit {0}
 abbrev pub NameNoBytes : List Choice → Type 0
 NameNoBytes choices = All NamesNoBytes choices
 
--- an invalid argument says that the fact fails, and want of memory says nothing of it
+-- an invalid argument says that the fact fails, and lack of memory says nothing of it
 abbrev pub RefusesUnless : Type 0 → Fault → Type 0
 RefusesUnless P (fault.InvalidArgument _) = P → ⊥
 RefusesUnless P fault.Memory = Unit {0}

@@ -6,7 +6,7 @@ use Rattle.std.specs.Ordering.{nat_cmp}
 use Rattle.std.specs.Cmp.Lexicographic.{slice_cmp}
 use Rattle.std.specs.Map.{lookup}
 use Rattle.std.specs.BTreeMap as tree
-use Rattle.raft_env.specs.Outcomes.{File, MayLeave, settled}
+use Rattle.raft_env.specs.Outcomes.{File, MayLeave, synced_file}
 use Rattle.raft_env.specs.Directory.{Path, CrashImage}
 use Rattle.raft_memory.specs.Files.{Files}
 
@@ -32,4 +32,4 @@ pub record Copied (R : Path → File → File → Type 0) (es : List (String Glo
 
 -- the copy holds what is left, which storage may leave
 abbrev pub IsLeft : CrashImage → Path → File → File → Type 0
-IsLeft d path file copy = MayLeave file (d path) × (copy ≡ settled (d path))
+IsLeft d path file copy = MayLeave file (d path) × (copy ≡ synced_file (d path))

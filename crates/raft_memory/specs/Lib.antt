@@ -1,5 +1,5 @@
 pub mod MemoryFile
-pub mod Stepped
+pub mod Step
 pub mod Armed
 pub mod Files
 pub mod Counted

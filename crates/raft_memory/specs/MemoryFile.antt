@@ -7,9 +7,9 @@ use Rattle.raft_env.specs.Outcomes.{File, is_within, is_touched, least_len, grea
 abbrev pub is_covered : List (ℕ × ℕ) → ℕ → Bool
 is_covered ranges i = list_any (λ r. is_within r.0 r.1 i) ranges
 
--- ranges, each a first place and a size, and the bytes that stood there, one behind the other
-abbrev pub OldBytes : Type 0
-OldBytes = List (ℕ × ℕ) × List ℕ
+-- ranges, each a first place and a size, and the bytes that stood there, one after the other
+abbrev pub BeforeImages : Type 0
+BeforeImages = List (ℕ × ℕ) × List ℕ
 
 -- how many bytes the ranges have
 abbrev pub places_len : List (ℕ × ℕ) → ℕ
@@ -17,20 +17,21 @@ places_len [] = 0
 places_len (p ∷ places) = p.1 + places_len places
 
 -- the byte of a place in the first range that has it
-abbrev pub saved_in : List (ℕ × ℕ) → List ℕ → ℕ → Option ℕ
-saved_in [] bytes i = None
-saved_in (p ∷ places) bytes i =
+abbrev pub before_image_in : List (ℕ × ℕ) → List ℕ → ℕ → Option ℕ
+before_image_in [] bytes i = None
+before_image_in (p ∷ places) bytes i =
     if is_within p.0 p.1 i then Some (slice_index bytes (i - p.0))
-    else saved_in places (drop p.1 bytes) i
+    else before_image_in places (drop p.1 bytes) i
 
-abbrev pub saved_at : OldBytes → ℕ → Option ℕ
-saved_at saved = saved_in saved.0 saved.1
+abbrev pub before_image_at : BeforeImages → ℕ → Option ℕ
+before_image_at saved = before_image_in saved.0 saved.1
 
 -- the bytes of the last sync are those now, but for what was saved
-pub record IsSaved (bytes : List ℕ) (saved : OldBytes) (len : ℕ) (synced : List ℕ) : Type 0 where
+pub record IsSaved (bytes : List ℕ) (saved : BeforeImages) (len : ℕ)
+    (synced : List ℕ) : Type 0 where
   pub len_is : length synced ≡ len
   pub each : (i : ℕ) → i < len
-      → slice_index synced i ≡ unwrap_or (saved_at saved i) (slice_index bytes i)
+      → slice_index synced i ≡ unwrap_or (before_image_at saved i) (slice_index bytes i)
 
 -- outside the ranges the bytes are those of the last sync
 pub record Agree (ranges : List (ℕ × ℕ)) (bytes synced : List ℕ) : Type 0 where

@@ -2,7 +2,7 @@
 ghost use Rattle.std.specs.Prelude.{◌≡◌, ◌<◌, ◌+◌, ◌-◌, ℕ, length, slice_index, unwrap_or, if◌then◌else◌, None, Some, OnOk, OnErr};
 ghost use Rattle.std.specs.Option.{option_or};
 ghost use Rattle.raft_env.specs.Outcomes.{is_within};
-ghost use Rattle.raft_memory.specs.MemoryFile.{saved_at};
+ghost use Rattle.raft_memory.specs.MemoryFile.{before_image_at};
 
 use std::alloc::{AllocError, Global};
 use std::marker::Model;
@@ -12,15 +12,15 @@ use std::marker::Model;
 pub(crate) struct BeforeImages {
     /// First places and sizes, the oldest first.
     places: Vec<(usize, usize)>,
-    /// What stood there, one behind the other.
+    /// What stood there, one after the other.
     bytes: Vec<u8>,
 }
 
 impl Model for BeforeImages {
     ghost use Rattle.std.specs.Prelude.{◌≡◌, length};
-    ghost use Rattle.raft_memory.specs.MemoryFile.{OldBytes, places_len};
+    ghost use Rattle.raft_memory.specs.MemoryFile.{BeforeImages, places_len};
 
-    ghost Value = { OldBytes };
+    ghost Value = { BeforeImages };
 
     ghost view = { λ s. (s.places.items, s.bytes.items) };
 
@@ -29,7 +29,7 @@ impl Model for BeforeImages {
 
 impl BeforeImages {
     pub(crate) fn new(alloc: Global) -> BeforeImages
-        ensures { (i : ℕ) → saved_at result i ≡ None }
+        ensures { (i : ℕ) → before_image_at result i ≡ None }
     {
         BeforeImages {
             places: Vec::new(alloc),
@@ -37,9 +37,10 @@ impl BeforeImages {
         }
     }
 
-    /// Saves what stands between two places. What stands behind the end is a zero.
+    /// Saves what stands between two places. What stands after the end is a zero.
     pub(crate) fn save(&mut self, bytes: &[u8], from: usize, end: usize) -> Result<(), AllocError>
-        ensures ok { OnOk result ((i : ℕ) → saved_at self.new i ≡ option_or (saved_at self.old i)
+        ensures ok { OnOk result ((i : ℕ) → before_image_at self.new i
+            ≡ option_or (before_image_at self.old i)
             (if is_within from (end - from) i then Some (slice_index bytes.now i) else None)) }
         ensures err { OnErr result (self.new ≡ self.old) }
     {
@@ -55,7 +56,7 @@ impl BeforeImages {
     }
 
     pub(crate) fn clear(&mut self)
-        ensures { (i : ℕ) → saved_at self.new i ≡ None }
+        ensures { (i : ℕ) → before_image_at self.new i ≡ None }
     {
         self.places.clear();
         self.bytes.clear();
@@ -63,9 +64,9 @@ impl BeforeImages {
 
     /// Puts what was saved where it stood.
     pub(crate) fn restore(&self, bytes: &mut [u8])
-        ensures len { length bytes.new ≡ length bytes.old }
-        ensures each { (i : ℕ) → i < length bytes.old → slice_index bytes.new i
-            ≡ unwrap_or (saved_at self.now i) (slice_index bytes.old i) }
+        ensures unchanged { length bytes.new ≡ length bytes.old }
+        ensures ok { (i : ℕ) → i < length bytes.old → slice_index bytes.new i
+            ≡ unwrap_or (before_image_at self.now i) (slice_index bytes.old i) }
     {
         let mut end = self.bytes.len();
         let mut left = self.places.len();
@@ -78,12 +79,12 @@ impl BeforeImages {
     }
 }
 
-// Appends so many bytes from that place on, with zeros for those behind the end.
+// Appends so many bytes from that place on, with zeros for those after the end.
 fn push_part(saved: &mut Vec<u8>, bytes: &[u8], from: usize, size: usize) -> Result<(), AllocError>
-    ensures len { OnOk result (length saved.new.items ≡ length saved.old.items + size) }
+    ensures ok { OnOk result (length saved.new.items ≡ length saved.old.items + size) }
     ensures unchanged { OnOk result ((i : ℕ) → i < length saved.old.items
         → slice_index saved.new.items i ≡ slice_index saved.old.items i) }
-    ensures added { OnOk result ((i : ℕ) → i < size
+    ensures contents { OnOk result ((i : ℕ) → i < size
         → slice_index saved.new.items (length saved.old.items + i)
         ≡ slice_index bytes.now (from + i)) }
     ensures err { OnErr result (saved.new.items ≡ saved.old.items) }
@@ -101,8 +102,8 @@ fn push_part(saved: &mut Vec<u8>, bytes: &[u8], from: usize, size: usize) -> Res
 
 // Writes over what stands there; what goes past the end is left out.
 fn put_part(bytes: &mut [u8], from: usize, given: &[u8])
-    ensures len { length bytes.new ≡ length bytes.old }
-    ensures each { (i : ℕ) → i < length bytes.old → slice_index bytes.new i
+    ensures unchanged { length bytes.new ≡ length bytes.old }
+    ensures ok { (i : ℕ) → i < length bytes.old → slice_index bytes.new i
         ≡ (if is_within from (length given.now) i then slice_index given.now (i - from)
         else slice_index bytes.old i) }
 {

@@ -1,11 +1,11 @@
 //! What a crash leaves of a file system in memory.
 ghost use Rattle.std.specs.Prelude.{◌≡◌, [], ◌∷◌, map, slice_index_or, IfOk, IfErr, OnOk, None};
 ghost use Rattle.std.specs.String.{string_bytes};
-ghost use Rattle.raft_env.specs.Outcomes.{MayLeave, settled};
+ghost use Rattle.raft_env.specs.Outcomes.{MayLeave, synced_file};
 ghost use Rattle.raft_env.specs.Directory.{Leaves, IsRestarted};
-ghost use Rattle.raft_memory.specs.Choice.{chosen, RefusesUnless};
+ghost use Rattle.raft_memory.specs.Choice.{bytes_by_choice, RefusesUnless};
 ghost use Rattle.raft_memory.specs.Crashed.{Puts};
-ghost use Rattle.raft_env.specs.Consistent.{AreConsistent, NoneRenamed, OnlyWritesRefusedIn};
+ghost use Rattle.raft_env.specs.Consistent.{AreConsistent, NoneRenamed, OnlyWritesFailedIn};
 
 use crate::armed::Armed;
 use crate::memory::MemoryFileSystem;
@@ -39,7 +39,7 @@ impl MemoryFileSystem {
     /// and a file that is left over keeps what was synced. Folders stay. The files are consistent,
     /// none was renamed, and of their changes only writes failed. So by
     /// `raft_damage::laws::premise_can_be_met` the damage of `All` and `Synced` is detectable of a log
-    /// that `raft_premise::laws::refused_calls_bring_no_record` keeps, and that of `Torn` where the
+    /// that `raft_premise::laws::failed_calls_add_no_record` keeps, and that of `Torn` where the
     /// torn record doesn't decode.
     pub fn crash(&self, choices: &[Choice]) -> Result<MemoryFileSystem, Fault>
         ensures ok { IfOk result (λ m. IsRestarted (memory_directory self.now)
@@ -48,7 +48,7 @@ impl MemoryFileSystem {
         ensures cause { IfOk result (λ m. memory_refusals m ≡ no_refusals) }
         ensures others { IfOk result (λ m. (armed_of m ≡ []) × (stop_of m ≡ None)) }
         ensures consistent { AreConsistent (memory_directory self.now) }
-        ensures only_writes { OnlyWritesRefusedIn (memory_directory self.now) }
+        ensures only_writes { OnlyWritesFailedIn (memory_directory self.now) }
         ensures not_renamed { NoneRenamed (memory_directory self.now) }
         ensures value { OnOk result (Leaves (memory_directory self.now)
             (left_by choices.now (memory_directory self.now))) }
@@ -73,7 +73,7 @@ impl Namespace {
     fn crashed(&self, alloc: Global, choices: &[Choice]) -> Result<Namespace, Fault>
         ensures ok { IfOk result (λ t. IsRestarted (namespace_directory self.now)
             (left_by choices.now (namespace_directory self.now)) (namespace_directory t)) }
-        ensures allowed { OnOk result (Leaves (namespace_directory self.now)
+        ensures crash { OnOk result (Leaves (namespace_directory self.now)
             (left_by choices.now (namespace_directory self.now))) }
         ensures refused { IfErr result (RefusesUnless
             (Leaves (namespace_directory self.now)
@@ -106,10 +106,10 @@ fn put_left(
     choice: &Choice,
 ) -> Result<(), Fault>
     ensures ok { OnOk result (Puts files.old files.new path.now
-        (settled (chosen choice.now file.now))) }
-    ensures allowed { OnOk result (MayLeave file.now (chosen choice.now file.now)) }
+        (synced_file (bytes_by_choice choice.now file.now))) }
+    ensures crash { OnOk result (MayLeave file.now (bytes_by_choice choice.now file.now)) }
     ensures refused { IfErr result (RefusesUnless
-        (MayLeave file.now (chosen choice.now file.now))) }
+        (MayLeave file.now (bytes_by_choice choice.now file.now))) }
 {
     let left = file.left(alloc, choice)?;
     let key = String::from_str(alloc, path)?;

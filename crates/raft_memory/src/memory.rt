@@ -2,12 +2,12 @@
 ghost use Rattle.std.specs.Prelude.{◌≡◌, ◌⊎◌, ◌≤◌, ◌<◌, ◌+◌, ◌^◌, ◌↔◌, [], ◌∷◌, length, map, refl, take, IfErr, IfOk, IsTrue, None, OnErr, OnOk, Some, false, true};
 ghost use Rattle.std.specs.String.{string_bytes};
 ghost use Rattle.std.proofs.Props.{props};
-ghost use Rattle.raft_env.specs.Consistent.{AreConsistent, NoneRenamed, OnlyWritesRefusedIn, past_prop};
+ghost use Rattle.raft_env.specs.Consistent.{AreConsistent, NoneRenamed, OnlyWritesFailedIn, past_prop};
 ghost use Rattle.raft_memory.specs.Files.{namespace_directory};
-ghost use Rattle.raft_env.specs.Outcomes.{overlaid, written};
-ghost use Rattle.raft_env.specs.Directory.{IsReading, IsWriting, changed};
+ghost use Rattle.raft_env.specs.Outcomes.{overlay, file_after_write};
+ghost use Rattle.raft_env.specs.Directory.{IsReading, IsWriting, update_file};
 ghost use Rattle.raft_env.specs.Moments.{MovesBy, OnlyReads};
-ghost use Rattle.raft_env.specs.Refusal.{CountsFault};
+ghost use Rattle.raft_env.specs.Refusal.{CountsRefusal};
 ghost use Rattle.raft_memory.specs.Counted.{by_storage};
 
 use crate::armed::{Armed, FsCall};
@@ -28,7 +28,8 @@ pub struct MemoryFileSystem {
     pub(crate) refusals: RefusalCount,
     pub(crate) armed: Armed,
     ghost consistent: { AreConsistent (namespace_directory namespace) } by { Prim.hlevel (props, past_prop) },
-    ghost only_writes: { OnlyWritesRefusedIn (namespace_directory namespace) } by { Prim.hlevel props },
+    ghost only_writes: { OnlyWritesFailedIn
+        (namespace_directory namespace) } by { Prim.hlevel props },
     ghost not_renamed: { NoneRenamed (namespace_directory namespace) } by { Prim.hlevel props },
 }
 
@@ -54,7 +55,7 @@ impl MemoryFileSystem {
     ghost use Rattle.raft_env.specs.Refusal.{no_refusals};
 
     pub fn new(alloc: Global) -> MemoryFileSystem
-        ensures files { memory_directory result ≡ no_files }
+        ensures value { memory_directory result ≡ no_files }
         ensures any_moment { memory_moments result ≡ no_files ∷ [] }
         ensures cause { memory_refusals result ≡ no_refusals }
         ensures others { (armed_of result ≡ []) × (stop_of result ≡ None) }
@@ -72,9 +73,9 @@ impl MemoryFileSystem {
 impl FileSystem for MemoryFileSystem {
     ghost use Rattle.raft_memory.specs.Memory.{memory_directory, memory_moments, memory_refusals, armed_of, stop_of, LeavesHalf};
     ghost use Rattle.raft_memory.specs.Armed.{arms_after, injected, stop_after};
-    ghost use Rattle.raft_env.specs.Directory.{HasFile, IsAllocating, IsMakingFolder, IsOneOf, IsTruncating, ReadsAt, created, file_at, folder_made, names_in};
-    ghost use Rattle.raft_env.specs.Outcomes.{File, padded, resized, synced_of};
-    ghost use Rattle.raft_env.specs.Refusal.{Counts, added_count, no_refusals};
+    ghost use Rattle.raft_env.specs.Directory.{HasFile, IsAllocating, IsMakingFolder, IsOneOf, IsTruncating, ReadsAt, after_create, file_at, folder_made, names_in};
+    ghost use Rattle.raft_env.specs.Outcomes.{File, pad_to, file_after_resize, synced_of};
+    ghost use Rattle.raft_env.specs.Refusal.{CountsRefusalOf, added_count, no_refusals};
     ghost use Rattle.raft_memory.specs.Refused.{HasNoFolder, HasNoPlace, HasNoRoom, IsAbsent, IsBarred, IsMissing, RefusesAs, WasArmed};
 
     type Handle = MemoryHandle;
@@ -105,17 +106,18 @@ impl FileSystem for MemoryFileSystem {
         ensures handle { IfOk result (λ h. (string_bytes h.path ≡ path.now)
             × (h.may_write ≡ true)) }
         ensures ok { OnOk result (memory_directory self.new
-            ≡ created path.now (memory_directory self.old)) }
+            ≡ after_create path.now (memory_directory self.old)) }
         ensures err { OnErr result (memory_directory self.new ≡ memory_directory self.old) }
         ensures any_moment { MovesBy memory_directory memory_moments
-            (λ old. IsOneOf old (created path.now old)) self.old self.new }
-        ensures cause { Counts result (memory_refusals self.old) (memory_refusals self.new) }
+            (λ old. IsOneOf old (after_create path.now old)) self.old self.new }
+        ensures cause { CountsRefusalOf result (memory_refusals self.old)
+            (memory_refusals self.new) }
         ensures refused { RefusesAs (injected FsCall.Create (armed_of self.old) (stop_of self.old))
             (HasNoPlace (memory_directory self.old) path.now) result }
         ensures stop { stop_of self.new ≡ stop_after (stop_of self.old) }
         ensures armed { armed_of self.new ≡ arms_after FsCall.Create (armed_of self.old) }
     {
-        if let Some(kind) = self.armed.due_change(FsCall::Create) {
+        if let Some(kind) = self.armed.fault_for_change(FsCall::Create) {
             return Err(self.refusals.count(FsFault::Io(kind)));
         }
         let stored = match String::from_str(self.alloc, path) {
@@ -139,13 +141,14 @@ impl FileSystem for MemoryFileSystem {
         ensures may_write { IfOk result (λ h. h.may_write ≡ true
             ↔ (permission ≡ Permission.ReadWrite)) }
         ensures unchanged { OnlyReads memory_directory memory_moments self.old self.new }
-        ensures cause { Counts result (memory_refusals self.old) (memory_refusals self.new) }
+        ensures cause { CountsRefusalOf result (memory_refusals self.old)
+            (memory_refusals self.new) }
         ensures refused { RefusesAs (injected FsCall.Open (armed_of self.old) None)
             (IsMissing (memory_directory self.old) path.now) result }
         ensures stop { stop_of self.new ≡ stop_of self.old }
         ensures armed { armed_of self.new ≡ arms_after FsCall.Open (armed_of self.old) }
     {
-        if let Some(kind) = self.armed.due(FsCall::Open) {
+        if let Some(kind) = self.armed.fault_for(FsCall::Open) {
             return Err(self.refusals.count(FsFault::Io(kind)));
         }
         if !self.is_file(path) {
@@ -164,13 +167,14 @@ impl FileSystem for MemoryFileSystem {
         ensures reader { IfOk result (λ r. (string_bytes r.path ≡ string_bytes handle.now.path)
             × (by_storage r.refused ≡ no_refusals)) }
         ensures unchanged { OnlyReads memory_directory memory_moments self.old self.new }
-        ensures cause { Counts result (memory_refusals self.old) (memory_refusals self.new) }
+        ensures cause { CountsRefusalOf result (memory_refusals self.old)
+            (memory_refusals self.new) }
         ensures refused { RefusesAs (injected FsCall.NewReader (armed_of self.old) None)
             (λ e. e ≡ FsFault.Memory) result }
         ensures stop { stop_of self.new ≡ stop_of self.old }
         ensures armed { armed_of self.new ≡ arms_after FsCall.NewReader (armed_of self.old) }
     {
-        if let Some(kind) = self.armed.due(FsCall::NewReader) {
+        if let Some(kind) = self.armed.fault_for(FsCall::NewReader) {
             return Err(self.refusals.count(FsFault::Io(kind)));
         }
         match handle.path.clone() {
@@ -197,11 +201,12 @@ impl FileSystem for MemoryFileSystem {
             → RefusesAs (injected FsCall.NewWriter (armed_of self.old) None)
             (λ e. e ≡ FsFault.Memory) result) }
         ensures unchanged { OnlyReads memory_directory memory_moments self.old self.new }
-        ensures cause { Counts result (memory_refusals self.old) (memory_refusals self.new) }
+        ensures cause { CountsRefusalOf result (memory_refusals self.old)
+            (memory_refusals self.new) }
         ensures stop { stop_of self.new ≡ stop_of self.old }
         ensures armed { armed_of self.new ≡ arms_after FsCall.NewWriter (armed_of self.old) }
     {
-        let due = self.armed.due(FsCall::NewWriter);
+        let due = self.armed.fault_for(FsCall::NewWriter);
         if !handle.may_write {
             return Err(self.refusals.count(FsFault::Io(IoKind::Other)));
         }
@@ -220,8 +225,8 @@ impl FileSystem for MemoryFileSystem {
             (string_bytes writer.old.path)) }
         ensures fits { OnOk result (at + length bytes.now < 2 ^ 63) }
         ensures ok { OnOk result (memory_directory self.new
-            ≡ changed (string_bytes writer.old.path)
-            (λ f. written at bytes.now true (overlaid f.now at bytes.now) f)
+            ≡ update_file (string_bytes writer.old.path)
+            (λ f. file_after_write at bytes.now true (overlay f.now at bytes.now) f)
             (memory_directory self.old)) }
         ensures err { IfErr result (λ e. LeavesHalf
             (injected FsCall.Write (armed_of self.old) (stop_of self.old)) e
@@ -229,7 +234,8 @@ impl FileSystem for MemoryFileSystem {
             (memory_directory self.new)) }
         ensures any_moment { MovesBy memory_directory memory_moments
             (IsWriting (string_bytes writer.old.path) at bytes.now) self.old self.new }
-        ensures cause { Counts result (memory_refusals self.old) (memory_refusals self.new) }
+        ensures cause { CountsRefusalOf result (memory_refusals self.old)
+            (memory_refusals self.new) }
         ensures refused { (result ≡ Err FsFault.Memory)
             ⊎ RefusesAs (injected FsCall.Write (armed_of self.old) (stop_of self.old))
             (λ e. HasNoRoom at (length bytes.now) e
@@ -237,7 +243,7 @@ impl FileSystem for MemoryFileSystem {
         ensures stop { stop_of self.new ≡ stop_after (stop_of self.old) }
         ensures armed { armed_of self.new ≡ arms_after FsCall.Write (armed_of self.old) }
     {
-        if let Some(kind) = self.armed.due_change(FsCall::Write) {
+        if let Some(kind) = self.armed.fault_for_change(FsCall::Write) {
             let fault = match self.write_half(writer.path.as_str(), at, bytes) {
                 Ok(()) => FsFault::Io(kind),
                 Err(fault) => fault,
@@ -262,19 +268,21 @@ impl FileSystem for MemoryFileSystem {
         ensures writer { string_bytes writer.new.path ≡ string_bytes writer.old.path }
         ensures value { OnOk result (HasFile (memory_directory self.old)
             (string_bytes writer.old.path)) }
-        ensures ok { OnOk result (memory_directory self.new ≡ changed (string_bytes writer.old.path)
-            (λ f. resized (take size f.now) f) (memory_directory self.old)) }
+        ensures ok { OnOk result (memory_directory self.new
+            ≡ update_file (string_bytes writer.old.path)
+            (λ f. file_after_resize (take size f.now) f) (memory_directory self.old)) }
         ensures err { OnErr result (memory_directory self.new ≡ memory_directory self.old) }
         ensures any_moment { MovesBy memory_directory memory_moments
             (IsTruncating (string_bytes writer.old.path) size) self.old self.new }
-        ensures cause { Counts result (memory_refusals self.old) (memory_refusals self.new) }
+        ensures cause { CountsRefusalOf result (memory_refusals self.old)
+            (memory_refusals self.new) }
         ensures refused { RefusesAs (injected FsCall.Truncate (armed_of self.old)
             (stop_of self.old)) (IsMissing (memory_directory self.old)
             (string_bytes writer.old.path)) result }
         ensures stop { stop_of self.new ≡ stop_after (stop_of self.old) }
         ensures armed { armed_of self.new ≡ arms_after FsCall.Truncate (armed_of self.old) }
     {
-        if let Some(kind) = self.armed.due_change(FsCall::Truncate) {
+        if let Some(kind) = self.armed.fault_for_change(FsCall::Truncate) {
             return Err(self.refusals.count(FsFault::Io(kind)));
         }
         let past = self.past.with(&self.namespace);
@@ -290,19 +298,21 @@ impl FileSystem for MemoryFileSystem {
         ensures value { OnOk result (HasFile (memory_directory self.old)
             (string_bytes writer.old.path)) }
         ensures fits { OnOk result (at + size < 2 ^ 63) }
-        ensures ok { OnOk result (memory_directory self.new ≡ changed (string_bytes writer.old.path)
-            (λ f. resized (padded f.now (at + size)) f) (memory_directory self.old)) }
+        ensures ok { OnOk result (memory_directory self.new
+            ≡ update_file (string_bytes writer.old.path)
+            (λ f. file_after_resize (pad_to f.now (at + size)) f) (memory_directory self.old)) }
         ensures err { OnErr result (memory_directory self.new ≡ memory_directory self.old) }
         ensures any_moment { MovesBy memory_directory memory_moments
             (IsAllocating (string_bytes writer.old.path) (at + size)) self.old self.new }
-        ensures cause { Counts result (memory_refusals self.old) (memory_refusals self.new) }
+        ensures cause { CountsRefusalOf result (memory_refusals self.old)
+            (memory_refusals self.new) }
         ensures refused { RefusesAs (injected FsCall.Allocate (armed_of self.old)
             (stop_of self.old)) (λ e. HasNoRoom at size e
             ⊎ IsMissing (memory_directory self.old) (string_bytes writer.old.path) e) result }
         ensures stop { stop_of self.new ≡ stop_after (stop_of self.old) }
         ensures armed { armed_of self.new ≡ arms_after FsCall.Allocate (armed_of self.old) }
     {
-        if let Some(kind) = self.armed.due_change(FsCall::Allocate) {
+        if let Some(kind) = self.armed.fault_for_change(FsCall::Allocate) {
             return Err(self.refusals.count(FsFault::Io(kind)));
         }
         if !fits(at, size) {
@@ -321,18 +331,19 @@ impl FileSystem for MemoryFileSystem {
         ensures value { OnOk result (HasFile (memory_directory self.old)
             (string_bytes writer.old.path)) }
         ensures ok { OnOk result (memory_directory self.new
-            ≡ changed (string_bytes writer.old.path) synced_of (memory_directory self.old)) }
+            ≡ update_file (string_bytes writer.old.path) synced_of (memory_directory self.old)) }
         ensures err { OnErr result (memory_directory self.new ≡ memory_directory self.old) }
         ensures any_moment { MovesBy memory_directory memory_moments
-            (λ old. IsOneOf old (changed (string_bytes writer.old.path) synced_of old)) self.old
+            (λ old. IsOneOf old (update_file (string_bytes writer.old.path) synced_of old)) self.old
             self.new }
-        ensures cause { Counts result (memory_refusals self.old) (memory_refusals self.new) }
+        ensures cause { CountsRefusalOf result (memory_refusals self.old)
+            (memory_refusals self.new) }
         ensures refused { RefusesAs (injected FsCall.Sync (armed_of self.old) (stop_of self.old))
             (IsAbsent (memory_directory self.old) (string_bytes writer.old.path)) result }
         ensures stop { stop_of self.new ≡ stop_after (stop_of self.old) }
         ensures armed { armed_of self.new ≡ arms_after FsCall.Sync (armed_of self.old) }
     {
-        if let Some(kind) = self.armed.due_change(FsCall::Sync) {
+        if let Some(kind) = self.armed.fault_for_change(FsCall::Sync) {
             return Err(self.refusals.count(FsFault::Io(kind)));
         }
         let past = self.past.with(&self.namespace);
@@ -348,12 +359,12 @@ impl FileSystem for MemoryFileSystem {
         ensures ok { IfOk result (λ n. ReadsAt
             (file_at (memory_directory self.now) (string_bytes reader.old.path)) at n bytes.old
             bytes.new) }
-        ensures cause { Counts result (by_storage reader.old.refused)
+        ensures cause { CountsRefusalOf result (by_storage reader.old.refused)
             (by_storage reader.new.refused) }
         ensures refused { IfErr result (λ e. WasArmed (armed_of self.now) FsCall.Read e
             ⊎ IsAbsent (memory_directory self.now) (string_bytes reader.old.path) e) }
     {
-        if let Some(kind) = self.armed.due_read() {
+        if let Some(kind) = self.armed.fault_for_read() {
             return Err(refused(reader, kind));
         }
         match self.namespace.files.get(reader.path.as_str()) {
@@ -368,13 +379,14 @@ impl FileSystem for MemoryFileSystem {
             × (n ≡ length file.now)) }
         ensures fits { IfOk result (λ n. n < 2 ^ 63) }
         ensures unchanged { OnlyReads memory_directory memory_moments self.old self.new }
-        ensures cause { Counts result (memory_refusals self.old) (memory_refusals self.new) }
+        ensures cause { CountsRefusalOf result (memory_refusals self.old)
+            (memory_refusals self.new) }
         ensures refused { RefusesAs (injected FsCall.FileSize (armed_of self.old) None)
             (IsAbsent (memory_directory self.old) (string_bytes handle.now.path)) result }
         ensures stop { stop_of self.new ≡ stop_of self.old }
         ensures armed { armed_of self.new ≡ arms_after FsCall.FileSize (armed_of self.old) }
     {
-        if let Some(kind) = self.armed.due(FsCall::FileSize) {
+        if let Some(kind) = self.armed.fault_for(FsCall::FileSize) {
             return Err(self.refusals.count(FsFault::Io(kind)));
         }
         match self.namespace.files.get(handle.path.as_str()) {
@@ -389,13 +401,14 @@ impl FileSystem for MemoryFileSystem {
         ensures err { OnErr result (memory_directory self.new ≡ memory_directory self.old) }
         ensures any_moment { MovesBy memory_directory memory_moments (IsMakingFolder path.now)
             self.old self.new }
-        ensures cause { Counts result (memory_refusals self.old) (memory_refusals self.new) }
+        ensures cause { CountsRefusalOf result (memory_refusals self.old)
+            (memory_refusals self.new) }
         ensures refused { RefusesAs (injected FsCall.MakeDir (armed_of self.old) (stop_of self.old))
             (IsBarred (memory_directory self.old) path.now) result }
         ensures stop { stop_of self.new ≡ stop_after (stop_of self.old) }
         ensures armed { armed_of self.new ≡ arms_after FsCall.MakeDir (armed_of self.old) }
     {
-        if let Some(kind) = self.armed.due_change(FsCall::MakeDir) {
+        if let Some(kind) = self.armed.fault_for_change(FsCall::MakeDir) {
             return Err(self.refusals.count(FsFault::Io(kind)));
         }
         let past = self.past.with(&self.namespace);
@@ -410,13 +423,14 @@ impl FileSystem for MemoryFileSystem {
         ensures names { IfOk result (λ names. map string_bytes names.items
             ≡ names_in dir.now (memory_directory self.old)) }
         ensures unchanged { OnlyReads memory_directory memory_moments self.old self.new }
-        ensures cause { Counts result (memory_refusals self.old) (memory_refusals self.new) }
+        ensures cause { CountsRefusalOf result (memory_refusals self.old)
+            (memory_refusals self.new) }
         ensures refused { RefusesAs (injected FsCall.List (armed_of self.old) None)
             (HasNoFolder (memory_directory self.old) dir.now) result }
         ensures stop { stop_of self.new ≡ stop_of self.old }
         ensures armed { armed_of self.new ≡ arms_after FsCall.List (armed_of self.old) }
     {
-        if let Some(kind) = self.armed.due(FsCall::List) {
+        if let Some(kind) = self.armed.fault_for(FsCall::List) {
             return Err(self.refusals.count(FsFault::Io(kind)));
         }
         match self.namespace.names(self.alloc, dir) {
@@ -445,7 +459,7 @@ impl FileSystem for MemoryFileSystem {
 fn refused(reader: &mut MemoryReader, kind: IoKind) -> FsFault
     ensures value { result ≡ FsFault.Io kind }
     ensures reader { string_bytes reader.new.path ≡ string_bytes reader.old.path }
-    ensures cause { CountsFault result (by_storage reader.old.refused)
+    ensures cause { CountsRefusal result (by_storage reader.old.refused)
         (by_storage reader.new.refused) }
 {
     reader.refused = reader.refused.saturating_add(1);

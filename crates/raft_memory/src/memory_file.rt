@@ -1,13 +1,13 @@
 //! A file in memory: its bytes now, what its changes since the last sync wrote over, and the ranges
 //! that they touched.
 ghost use Rattle.std.specs.Prelude.{◌≡◌, ◌≤◌, ◌<◌, ◌+◌, ◌-◌, ◌==◌, ◌&&◌, ◌++◌, ◌^◌, ◌||◌, ℕ, [], length, take, drop, if◌then◌else◌, true, OnOk, OnErr, IfOk, IfErr, MatchBool, vec_len, vec_capacity};
-ghost use Rattle.raft_env.specs.Outcomes.{File, MayLeave, settled, written, resized, synced_of, longest_of, overlaid, padded, is_within};
-ghost use Rattle.raft_memory.specs.Choice.{torn};
+ghost use Rattle.raft_env.specs.Outcomes.{File, MayLeave, synced_file, file_after_write, file_after_resize, synced_of, longest_of, overlay, pad_to, is_within};
+ghost use Rattle.raft_memory.specs.Choice.{torn_bytes};
 ghost use Rattle.raft_memory.specs.MemoryFile.{IsFileOf, IsSaved, is_covered, SameOutside};
 
 use crate::before_images::BeforeImages;
 use crate::crash::Choice;
-use crate::known::{Known, Step};
+use crate::ghost_file::{GhostFile, Step};
 use raft_base::Fault;
 use std::alloc::{AllocError, Global};
 use std::marker::Model;
@@ -20,20 +20,22 @@ pub(crate) struct MemoryFile {
     ranges: Vec<(usize, usize)>,
     least: usize,
     greatest: usize,
-    known: Known,
+    ghost_file: GhostFile,
 }
 
 impl Model for MemoryFile {
     ghost Value = { File };
 
-    ghost view = { λ s. s.known.file };
+    ghost view = { λ s. s.ghost_file.file };
 
-    ghost invariant = { λ s. IsFileOf s.bytes.items s.known.file.synced s.ranges.items s.least s.greatest s.known.file × IsSaved s.bytes.items s.saved s.synced_len s.known.file.synced };
+    ghost invariant = { λ s. IsFileOf s.bytes.items s.ghost_file.file.synced s.ranges.items s.least
+        s.greatest s.ghost_file.file
+        × IsSaved s.bytes.items s.saved s.synced_len s.ghost_file.file.synced };
 }
 
 impl MemoryFile {
     pub(crate) fn new(alloc: Global) -> MemoryFile
-        ensures { result ≡ settled [] }
+        ensures { result ≡ synced_file [] }
     {
         MemoryFile {
             bytes: Vec::new(alloc),
@@ -42,7 +44,7 @@ impl MemoryFile {
             ranges: Vec::new(alloc),
             least: 0,
             greatest: 0,
-            known: Known::after(&Step::Start(&[])),
+            ghost_file: GhostFile::after(&Step::Start(&[])),
         }
     }
 
@@ -50,7 +52,7 @@ impl MemoryFile {
         ensures value { result.now ≡ self.now.now }
         ensures fits { length result.now < 2 ^ 63 }
     {
-        let _known = &self.known;
+        let _ghost_file = &self.ghost_file;
         &self.bytes
     }
 
@@ -65,7 +67,7 @@ impl MemoryFile {
         requires fits { at + length given.now < 2 ^ 63 }
         requires part { length kept.now ≤ length given.now }
         ensures ok { OnOk result (self.new
-            ≡ written at given.now is_done (overlaid self.old.now at kept.now) self.old) }
+            ≡ file_after_write at given.now is_done (overlay self.old.now at kept.now) self.old) }
         ensures err { OnErr result (self.new ≡ self.old) }
     {
         self.ranges.reserve(1)?;
@@ -76,14 +78,20 @@ impl MemoryFile {
         self.least = self.least.min(self.bytes.len());
         let longest = longest_of(is_done, at, given.len(), self.bytes.len());
         self.greatest = self.greatest.max(longest);
-        self.known = Known::after(&Step::Write(&self.known, at, given, is_done, &self.bytes));
+        self.ghost_file = GhostFile::after(&Step::Write(
+            &self.ghost_file,
+            at,
+            given,
+            is_done,
+            &self.bytes,
+        ));
         Ok(())
     }
 }
 
 impl MemoryFile {
     pub(crate) fn cut(&mut self, size: usize) -> Result<(), AllocError>
-        ensures ok { OnOk result (self.new ≡ resized (take size self.old.now) self.old) }
+        ensures ok { OnOk result (self.new ≡ file_after_resize (take size self.old.now) self.old) }
         ensures err { OnErr result (self.new ≡ self.old) }
     {
         self.ranges.reserve(1)?;
@@ -93,12 +101,13 @@ impl MemoryFile {
         self.bytes.truncate(from);
         self.least = self.least.min(from);
         self.greatest = self.greatest.max(from);
-        self.known = Known::after(&Step::Resize(&self.known, &self.bytes));
+        self.ghost_file = GhostFile::after(&Step::Resize(&self.ghost_file, &self.bytes));
         Ok(())
     }
 
     pub(crate) fn lengthen(&mut self, size: usize) -> Result<(), AllocError>
-        ensures ok { OnOk result (self.new ≡ resized (padded self.old.now size) self.old) }
+        ensures ok { OnOk result (self.new
+            ≡ file_after_resize (pad_to self.old.now size) self.old) }
         ensures err { OnErr result (self.new ≡ self.old) }
     {
         self.ranges.reserve(1)?;
@@ -108,7 +117,7 @@ impl MemoryFile {
         add_range(&mut self.ranges, from, len - from);
         self.least = self.least.min(len);
         self.greatest = self.greatest.max(len);
-        self.known = Known::after(&Step::Resize(&self.known, &self.bytes));
+        self.ghost_file = GhostFile::after(&Step::Resize(&self.ghost_file, &self.bytes));
         Ok(())
     }
 
@@ -121,25 +130,25 @@ impl MemoryFile {
         self.ranges.clear();
         self.least = self.bytes.len();
         self.greatest = self.bytes.len();
-        self.known = Known::after(&Step::Sync(&self.known));
+        self.ghost_file = GhostFile::after(&Step::Sync(&self.ghost_file));
     }
 }
 
 impl MemoryFile {
-    ghost use Rattle.raft_memory.specs.Choice.{chosen, RefusesUnless};
+    ghost use Rattle.raft_memory.specs.Choice.{bytes_by_choice, RefusesUnless};
 
     /// A file of these bytes, which a crash leaves as they are.
     pub(crate) fn restarted(alloc: Global, bytes: Vec<u8>) -> MemoryFile
-        ensures { result ≡ settled bytes.items }
+        ensures { result ≡ synced_file bytes.items }
     {
-        let known = Known::after(&Step::Start(&bytes));
+        let ghost_file = GhostFile::after(&Step::Start(&bytes));
         MemoryFile {
             synced_len: bytes.len(),
             saved: BeforeImages::new(alloc),
             ranges: Vec::new(alloc),
             least: bytes.len(),
             greatest: bytes.len(),
-            known,
+            ghost_file,
             bytes,
         }
     }
@@ -156,10 +165,10 @@ impl MemoryFile {
 
     /// What the choice leaves of the file.
     pub(crate) fn left(&self, alloc: Global, choice: &Choice) -> Result<Vec<u8>, Fault>
-        ensures ok { IfOk result (λ left. left.items ≡ chosen choice.now self.now) }
-        ensures allowed { OnOk result (MayLeave self.now (chosen choice.now self.now)) }
+        ensures ok { IfOk result (λ left. left.items ≡ bytes_by_choice choice.now self.now) }
+        ensures crash { OnOk result (MayLeave self.now (bytes_by_choice choice.now self.now)) }
         ensures refused { IfErr result (RefusesUnless
-            (MayLeave self.now (chosen choice.now self.now))) }
+            (MayLeave self.now (bytes_by_choice choice.now self.now))) }
     {
         match choice {
             Choice::All => Ok(self.bytes.to_vec(alloc)?),
@@ -212,7 +221,8 @@ fn torn_bytes(
     kept: usize,
     fill: u8,
 ) -> Result<Vec<u8>, AllocError>
-    ensures { IfOk result (λ bytes. bytes.items ≡ torn (is_covered ranges.now) kept fill now.now) }
+    ensures { IfOk result (λ bytes. bytes.items
+        ≡ torn_bytes (is_covered ranges.now) kept fill now.now) }
 {
     let mut bytes = Vec::new(alloc);
     let mut left = kept;
@@ -276,7 +286,7 @@ fn add_range(ranges: &mut Vec<(usize, usize)>, from: usize, size: usize)
 // Writes over what is there, and past the end; no bytes change nothing.
 fn overlay(bytes: &mut Vec<u8>, at: usize, given: &[u8]) -> Result<(), AllocError>
     requires { at + length given.now < 2 ^ 63 }
-    ensures ok { OnOk result (bytes.new.items ≡ overlaid bytes.old.items at given.now) }
+    ensures ok { OnOk result (bytes.new.items ≡ overlay bytes.old.items at given.now) }
     ensures err { OnErr result (bytes.new.items ≡ bytes.old.items) }
 {
     if given.is_empty() {
@@ -292,8 +302,8 @@ fn overlay(bytes: &mut Vec<u8>, at: usize, given: &[u8]) -> Result<(), AllocErro
 
 fn put(bytes: &mut [u8], at: usize, given: &[u8])
     requires { at + length given.now ≤ length bytes.old }
-    ensures len { length bytes.new ≡ length bytes.old }
-    ensures put { bytes.new
+    ensures unchanged { length bytes.new ≡ length bytes.old }
+    ensures ok { bytes.new
         ≡ take at bytes.old ++ given.now ++ drop (at + length given.now) bytes.old }
 {
     bytes[at..at + given.len()].copy_from_slice(given);

@@ -1,13 +1,12 @@
 //! The files and folders of a file system in memory.
 ghost use Rattle.std.specs.Prelude.{◌≡◌, ◌≤◌, ◌<◌, ◌+◌, ◌^◌, length, take, map, true, OnOk, OnErr, IfOk, IfErr};
 ghost use Rattle.std.specs.String.{string_bytes};
-ghost use Rattle.raft_env.specs.Outcomes.{written, resized, synced_of, overlaid, padded};
-ghost use Rattle.raft_env.specs.Directory.{changed, created, folder_made, names_in, HasFile};
+ghost use Rattle.raft_env.specs.Outcomes.{file_after_write, file_after_resize, synced_of, overlay, pad_to};
+ghost use Rattle.raft_env.specs.Directory.{update_file, after_create, folder_made, names_in, HasFile};
 ghost use Rattle.raft_memory.specs.Refused.{HasNoFolder, HasNoPlace, IsAbsent, IsBarred, IsMissing};
 
 use crate::memory_file::MemoryFile;
-use raft_env::paths::{is_on_way, name_in, parent};
-use raft_env::{FsFault, IoKind};
+use raft_env::{FsFault, IoKind, is_on_way, name_in, parent};
 use std::alloc::Global;
 use std::collections::BTreeMap;
 
@@ -45,7 +44,7 @@ impl Namespace {
     /// A path that stands keeps its file.
     pub(crate) fn create(&mut self, alloc: Global, path: &str) -> Result<(), FsFault>
         ensures ok { OnOk result (namespace_directory self.new
-            ≡ created path.now (namespace_directory self.old)) }
+            ≡ after_create path.now (namespace_directory self.old)) }
         ensures err { OnErr result (namespace_directory self.new ≡ namespace_directory self.old) }
         ensures refused { IfErr result (HasNoPlace (namespace_directory self.old) path.now) }
     {
@@ -94,8 +93,8 @@ impl Namespace {
         requires fits { at + length given.now < 2 ^ 63 }
         requires part { length kept.now ≤ length given.now }
         ensures value { OnOk result (HasFile (namespace_directory self.old) path.now) }
-        ensures ok { OnOk result (namespace_directory self.new ≡ changed path.now
-            (λ f. written at given.now is_done (overlaid f.now at kept.now) f)
+        ensures ok { OnOk result (namespace_directory self.new ≡ update_file path.now
+            (λ f. file_after_write at given.now is_done (overlay f.now at kept.now) f)
             (namespace_directory self.old)) }
         ensures err { OnErr result (namespace_directory self.new ≡ namespace_directory self.old) }
         ensures refused { IfErr result (IsMissing (namespace_directory self.old) path.now) }
@@ -111,8 +110,8 @@ impl Namespace {
 
     pub(crate) fn cut(&mut self, path: &str, size: usize) -> Result<(), FsFault>
         ensures value { OnOk result (HasFile (namespace_directory self.old) path.now) }
-        ensures ok { OnOk result (namespace_directory self.new ≡ changed path.now
-            (λ f. resized (take size f.now) f) (namespace_directory self.old)) }
+        ensures ok { OnOk result (namespace_directory self.new ≡ update_file path.now
+            (λ f. file_after_resize (take size f.now) f) (namespace_directory self.old)) }
         ensures err { OnErr result (namespace_directory self.new ≡ namespace_directory self.old) }
         ensures refused { IfErr result (IsMissing (namespace_directory self.old) path.now) }
     {
@@ -127,8 +126,8 @@ impl Namespace {
 
     pub(crate) fn lengthen(&mut self, path: &str, size: usize) -> Result<(), FsFault>
         ensures value { OnOk result (HasFile (namespace_directory self.old) path.now) }
-        ensures ok { OnOk result (namespace_directory self.new ≡ changed path.now
-            (λ f. resized (padded f.now size) f) (namespace_directory self.old)) }
+        ensures ok { OnOk result (namespace_directory self.new ≡ update_file path.now
+            (λ f. file_after_resize (pad_to f.now size) f) (namespace_directory self.old)) }
         ensures err { OnErr result (namespace_directory self.new ≡ namespace_directory self.old) }
         ensures refused { IfErr result (IsMissing (namespace_directory self.old) path.now) }
     {
@@ -144,7 +143,7 @@ impl Namespace {
     pub(crate) fn sync(&mut self, path: &str) -> Result<(), FsFault>
         ensures value { OnOk result (HasFile (namespace_directory self.old) path.now) }
         ensures ok { OnOk result (namespace_directory self.new
-            ≡ changed path.now synced_of (namespace_directory self.old)) }
+            ≡ update_file path.now synced_of (namespace_directory self.old)) }
         ensures err { OnErr result (namespace_directory self.new ≡ namespace_directory self.old) }
         ensures refused { IfErr result (IsAbsent (namespace_directory self.old) path.now) }
     {

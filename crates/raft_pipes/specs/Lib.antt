@@ -1,5 +1,5 @@
 pub mod Config
-pub mod Done
+pub mod Completed
 pub mod Folder
 pub mod LogFile
 pub mod Open

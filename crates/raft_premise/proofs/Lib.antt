@@ -1,3 +1,3 @@
-pub mod ZerosLemmas
-pub mod DoneLemmas
-pub mod OpeningLemmas
+pub mod CompletedLemmas
+pub mod CompletedOpeningLemmas
+pub mod CompletedZerosLemmas

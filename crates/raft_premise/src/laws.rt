@@ -6,68 +6,76 @@ ghost use Rattle.raft_base.specs.declared.pipe_log.FileId.{FileId};
 ghost use Rattle.raft_files.specs.Detectable.{signature_by};
 ghost use Rattle.raft_env.specs.Directory.{Directory, IsRestarted, CrashImage, Path};
 ghost use Rattle.raft_files.specs.Header.{HasHeader, header_bytes, header_len};
-ghost use Rattle.raft_files.specs.Reading.{PlacedRecord, Reading, readable_batches, reading};
+ghost use Rattle.raft_files.specs.Scan.{PlacedRecord, ScanResult, readable_batches, scan_file};
 ghost use Rattle.raft_files.specs.Records.{HasLog};
-ghost use Rattle.raft_premise.specs.Done.{AreDoneAt, HasDoneLog, HasDoneRecords, HasSimplePastAt};
+ghost use Rattle.raft_premise.specs.Completed.{AreFromCompletedCallsAt, HasCompletedLog, HasCompletedRecords, HasSimplePastAt};
 ghost use Rattle.raft_files.specs.Writer.{HasChanged, IsAppended, IsAppending, IsClosed, IsCut, IsCutting, IsSynced, bytes_at};
 ghost use Rattle.raft_files.specs.declared.format.LogFileFormat.{LogFileFormat};
 
-/// A record that can be read and that no refused call brought stays so in every further call. So
-/// calls keep a log whose records no refused call brought, where only writes are refused and no
+/// A record that can be read and that no failed call brought stays so in every further call. So
+/// calls keep a log whose records no failed call brought, where only writes fail and no
 /// file is renamed: when it is made (`made`), found and cut where its reading ends (`found`),
-/// appended to, synced and closed, and when a refused append is taken back (`undone`). The records
-/// stay so at each moment of an append (`appending`) and of a cut (`cutting`). No refused call
+/// appended to, synced and closed, and when a failed append is taken back (`undone`). The records
+/// stay so at each moment of an append (`appending`) and of a cut (`cutting`). No failed call
 /// brought what a crash left (`restarted`), nor what a cut leaves of that (`cut`).
-pub fn refused_calls_bring_no_record()
+pub fn failed_calls_add_no_record()
     ensures log { (path : Path) (id : FileId) (format : LogFileFormat) (batches : List Batch)
-        (synced at : ℕ) (n : Directory) → HasDoneLog path id format batches synced at n
+        (synced at : ℕ) (n : Directory) → HasCompletedLog path id format batches synced at n
         → HasLog path id format batches synced at n }
     ensures made { (path : Path) (id : FileId) (format : LogFileFormat) (old new : Directory)
         → HasHeader format → format.alignment < 2 ^ 64 → bytes_at path old ≡ header_bytes format
         → HasSimplePastAt path old → HasChanged path IsSynced old new
-        → HasDoneLog path id format [] 0 (header_len format.version) new }
+        → HasCompletedLog path id format [] 0 (header_len format.version) new }
     ensures restarted { (path : Path) (id : FileId) (format : LogFileFormat)
         (records : List PlacedRecord)
-        (n m : Directory) (d : CrashImage) → IsRestarted n d m → AreDoneAt path id format records m
+        (n m : Directory) (d : CrashImage) → IsRestarted n d m
+        → AreFromCompletedCallsAt path id format records m
         × HasSimplePastAt path m }
-    ensures cut { (path : Path) (id : FileId) (r : Reading) (size : ℕ) (old cut : Directory)
-        → reading id (bytes_at path old) ≡ Some r → AreDoneAt path id r.format r.records old
+    ensures cut { (path : Path) (id : FileId) (r : ScanResult) (size : ℕ) (old cut : Directory)
+        → scan_file id (bytes_at path old) ≡ Some r
+        → AreFromCompletedCallsAt path id r.format r.records old
         → HasSimplePastAt path old → HasChanged path (IsCut size) old cut
-        → AreDoneAt path id r.format r.records cut × HasSimplePastAt path cut }
-    ensures found { (path : Path) (id : FileId) (r : Reading) (old cut new : Directory)
+        → AreFromCompletedCallsAt path id r.format r.records cut × HasSimplePastAt path cut }
+    ensures found { (path : Path) (id : FileId) (r : ScanResult) (old cut new : Directory)
         → let found = readable_batches id (bytes_at path old) in
-        reading id (bytes_at path old) ≡ Some r → bytes_at path cut ≡ take r.end (bytes_at path old)
-        → AreDoneAt path id r.format r.records cut → HasSimplePastAt path cut
+        scan_file id (bytes_at path old) ≡ Some r → bytes_at path cut
+        ≡ take r.end (bytes_at path old)
+        → AreFromCompletedCallsAt path id r.format r.records cut → HasSimplePastAt path cut
         → HasChanged path IsSynced cut new
-        → HasDoneLog path id r.format found (length found) r.end new }
+        → HasCompletedLog path id r.format found (length found) r.end new }
     ensures appended { (path : Path) (id : FileId) (format : LogFileFormat) (batches : List Batch)
-        (synced at : ℕ) (old new : Directory) (room new_room : ℕ) (given : List ℕ) (batch : Batch)
-        → HasDoneLog path id format batches synced at old
+        (synced at : ℕ) (old new : Directory) (capacity new_capacity : ℕ) (given : List ℕ)
+        (batch : Batch)
+        → HasCompletedLog path id format batches synced at old
         → record_of (signature_by id format) given ≡ Some (batch, length given)
-        → HasChanged path (IsAppended room new_room at given) old new → HasSimplePastAt path new
-        → HasDoneLog path id format (batches ++ batch ∷ []) synced (at + length given) new }
+        → HasChanged path (IsAppended capacity new_capacity at given) old new
+        → HasSimplePastAt path new
+        → HasCompletedLog path id format (batches ++ batch ∷ []) synced (at + length given) new }
     ensures appending { (path : Path) (id : FileId) (format : LogFileFormat) (batches : List Batch)
-        (synced at : ℕ) (old n : Directory) (room new_room : ℕ) (given : List ℕ) (batch : Batch)
-        → HasDoneLog path id format batches synced at old
+        (synced at : ℕ) (old n : Directory) (capacity new_capacity : ℕ) (given : List ℕ)
+        (batch : Batch)
+        → HasCompletedLog path id format batches synced at old
         → record_of (signature_by id format) given ≡ Some (batch, length given)
-        → HasChanged path (IsAppending room new_room at given) old n
-        → HasDoneRecords path id format batches synced at n }
+        → HasChanged path (IsAppending capacity new_capacity at given) old n
+        → HasCompletedRecords path id format batches synced at n }
     ensures cutting { (path : Path) (id : FileId) (format : LogFileFormat) (batches : List Batch)
-        (synced at : ℕ) (old n : Directory) → HasDoneRecords path id format batches synced at old
-        → HasChanged path (IsCutting at) old n → HasDoneRecords path id format batches synced at n }
+        (synced at : ℕ) (old n : Directory)
+        → HasCompletedRecords path id format batches synced at old
+        → HasChanged path (IsCutting at) old n
+        → HasCompletedRecords path id format batches synced at n }
     ensures undone { (path : Path) (id : FileId) (format : LogFileFormat) (batches : List Batch)
-        (synced at : ℕ) (old mid new : Directory) (room new_room : ℕ) (given : List ℕ)
-        (batch : Batch) → HasDoneLog path id format batches synced at old
+        (synced at : ℕ) (old mid new : Directory) (capacity new_capacity : ℕ) (given : List ℕ)
+        (batch : Batch) → HasCompletedLog path id format batches synced at old
         → record_of (signature_by id format) given ≡ Some (batch, length given)
-        → HasChanged path (IsAppending room new_room at given) old mid
+        → HasChanged path (IsAppending capacity new_capacity at given) old mid
         → HasChanged path (IsClosed at) mid new → HasSimplePastAt path new
-        → HasDoneLog path id format batches (length batches) at new }
+        → HasCompletedLog path id format batches (length batches) at new }
     ensures durable { (path : Path) (id : FileId) (format : LogFileFormat) (batches : List Batch)
-        (synced at : ℕ) (old new : Directory) → HasDoneLog path id format batches synced at old
+        (synced at : ℕ) (old new : Directory) → HasCompletedLog path id format batches synced at old
         → HasChanged path IsSynced old new
-        → HasDoneLog path id format batches (length batches) at new }
+        → HasCompletedLog path id format batches (length batches) at new }
     ensures closed { (path : Path) (id : FileId) (format : LogFileFormat) (batches : List Batch)
-        (synced at : ℕ) (old new : Directory) → HasDoneLog path id format batches synced at old
+        (synced at : ℕ) (old new : Directory) → HasCompletedLog path id format batches synced at old
         → HasChanged path (IsClosed at) old new
-        → HasDoneLog path id format batches (length batches) at new }
+        → HasCompletedLog path id format batches (length batches) at new }
 {}

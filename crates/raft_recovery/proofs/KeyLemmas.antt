@@ -19,9 +19,9 @@ value_after_content key v (Delete changed) = cond (bytes_eq key changed) None v
 abbrev pub value_after_item : ℕ → List ℕ → Option (List ℕ) → Item → Option (List ℕ)
 value_after_item group key v item = cond (eqb group item.group) (value_after_content key v item.content) v
 
-changed_at : {X : Type 0} (b c : Bool) (new old : X) → cond (b && c) new old ≡ cond b (cond c new old) old
-changed_at true c new old = refl
-changed_at false c new old = refl
+update_at : {X : Type 0} (b c : Bool) (new old : X) → cond (b && c) new old ≡ cond b (cond c new old) old
+update_at true c new old = refl
+update_at false c new old = refl
 
 put_at : (mark same at_key : Bool) (value : List ℕ) (old : Option (List ℕ)) → cond mark old (cond (same && at_key) (Some value) old) ≡ cond same (cond mark old (cond at_key (Some value) old)) old
 put_at true true c value old = refl
@@ -42,7 +42,7 @@ value-after_content group (Entries es) m g k = same_either_way (eqb g group) (m.
 value-after_content group Clean m g k = refl
 value-after_content group (Compact index) m g k = same_either_way (eqb g group) (m.value g k)
 value-after_content group (Put key value) m g k = value_of_cond (bytes_eq key group_mark_key) _ _ g k ∙ put_at (bytes_eq key group_mark_key) (eqb g group) (bytes_eq k key) value (m.value g k)
-value-after_content group (Delete key) m g k = changed_at (eqb g group) (bytes_eq k key) None (m.value g k)
+value-after_content group (Delete key) m g k = update_at (eqb g group) (bytes_eq k key) None (m.value g k)
 
 pub value-after_item : (m : Contents) (item : Item) (g : ℕ) (k : List ℕ) → (after_item m item).value g k ≡ value_after_item g k (m.value g k) item
 value-after_item m item g k = value-after_content item.group item.content m g k

@@ -9,7 +9,7 @@ use Rattle.std.proofs.lemmas.Bool.{le-ltb, lt-ltb}
 use Rattle.std.proofs.lemmas.Bool.Decides.{nat_tests}
 use Rattle.std.proofs.lemmas.List.{drop-drop, drop_all, drop_more, length-drop, take_all}
 use Rattle.std.proofs.lemmas.List.Splits.{slice_split_first}
-use Rattle.raft_script.specs.Line.{BeginsWith, Delete, Get, HasNoWord, Put, Reopen, alone, asked_by, delete_by, get_by, is_word, number_in, put_by, sync_by, torn_by, words_in}
+use Rattle.raft_script.specs.Line.{BeginsWith, Delete, Get, HasNoWord, Put, Reopen, if_last, parsed_words, delete_by, get_by, is_word, number_in, put_by, sync_by, torn_by, words_in}
 use Rattle.raft_script.specs.declared.line.CrashChoice.{CrashChoice}
 use Rattle.raft_script.specs.declared.line.CrashChoice.TheVariants.{Torn}
 
@@ -49,8 +49,8 @@ module _ (text word rest : List ℕ) (len : ℕ) (len_is : len ≡ position_or_l
   parts_to_end : length text ≤ len → slice_split is_space text ≡ word ∷ []
   parts_to_end past = split_alone text (omega (arith, past, len_is)) ∙ ap (λ w. w ∷ []) (sym (word_is ∙ take_all len text past))
 
-  parts_behind : len < length text → slice_split is_space text ≡ word ∷ slice_split is_space (drop (len + 1) text)
-  parts_behind within =
+  parts_after : len < length text → slice_split is_space text ≡ word ∷ slice_split is_space (drop (len + 1) text)
+  parts_after within =
       slice_split_first is_space text 0 (omega (arith, within, len_is))
       ∙ ap (λ n. take n text ∷ slice_split is_space (drop (n + 1) text)) (sym len_is)
       ∙ ap (λ w. w ∷ slice_split is_space (drop (len + 1) text)) (sym word_is)
@@ -75,7 +75,7 @@ module _ (text word rest : List ℕ) (len : ℕ) (len_is : len ≡ position_or_l
               let both : None ≡ Some (first ∷ words) = sym none ∙ found in cc
 
       by_length : (b : Bool) → nat_lt len (length text) ≡ b → (first : List ℕ) (words : List (List ℕ)) → words_in text ≡ Some (first ∷ words) → ⊥
-      by_length true e = none_of _ (parts_behind (grind (arith, nat_tests)))
+      by_length true e = none_of _ (parts_after (grind (arith, nat_tests)))
       by_length false e = none_of [] (parts_to_end (grind (arith, nat_tests)))
 
   pub last_word : is_word word ≡ true → length rest ≡ 0 → BeginsWith text word rest
@@ -88,7 +88,7 @@ module _ (text word rest : List ℕ) (len : ℕ) (len_is : len ≡ position_or_l
   space_at_end e one = λ first words found.
       let within : len < length text = omega (arith, one, ap length rest_is, length-drop len text) in
       let empty : drop (len + 1) text ≡ [] = drop_all (len + 1) text (omega (arith, one, ap length rest_is, length-drop len text)) in
-      let none : words_in text ≡ None = words_of_parts text (word ∷ [] ∷ []) (some_text e) (parts_behind within ∙ ap (λ r. word ∷ slice_split is_space r) empty) ∙ checked-cons word ([] ∷ []) e in
+      let none : words_in text ≡ None = words_of_parts text (word ∷ [] ∷ []) (some_text e) (parts_after within ∙ ap (λ r. word ∷ slice_split is_space r) empty) ∙ checked-cons word ([] ∷ []) e in
       let both : None ≡ Some (first ∷ words) = sym none ∙ found in cc
 
   pub next_word : is_word word ≡ true → 2 ≤ length rest → BeginsWith text word (take (length rest - 1) (drop 1 rest))
@@ -96,7 +96,7 @@ module _ (text word rest : List ℕ) (len : ℕ) (len_is : len ≡ position_or_l
       let within : len < length text = omega (arith, more, ap length rest_is, length-drop len text) in
       let behind : take (length rest - 1) (drop 1 rest) ≡ drop (len + 1) text = take_all (length rest - 1) (drop 1 rest) (omega (arith, length-drop 1 rest)) ∙ ap (drop 1) rest_is ∙ drop-drop 1 len text in
       let some : 0 < length (drop (len + 1) text) = omega (arith, more, ap length rest_is, length-drop len text, length-drop (len + 1) text) in
-      words_of_parts text (word ∷ slice_split is_space (drop (len + 1) text)) (some_text e) (parts_behind within)
+      words_of_parts text (word ∷ slice_split is_space (drop (len + 1) text)) (some_text e) (parts_after within)
       ∙ checked-cons word (slice_split is_space (drop (len + 1) text)) e
       ∙ ap (option_map (λ words. word ∷ words)) (sym (words_of_parts (drop (len + 1) text) (slice_split is_space (drop (len + 1) text)) some refl))
       ∙ ap (λ r. option_map (λ words. word ∷ words) (words_in r)) (sym behind)
@@ -169,7 +169,7 @@ module _ (text : List ℕ) (none : (word : List ℕ) (words : List (List ℕ)) �
       by_words None e = refl
       by_words (Some []) e = refl
       by_words (Some (group ∷ [])) e = refl
-      by_words (Some (group ∷ key ∷ words)) e = ap (option_and_then (λ g. alone (Get g key) words)) (none group (key ∷ words) e)
+      by_words (Some (group ∷ key ∷ words)) e = ap (option_and_then (λ g. if_last (Get g key) words)) (none group (key ∷ words) e)
 
   pub torn_without_kept : option_and_then torn_by (words_in text) ≡ None
   torn_without_kept = by_words (words_in text) refl
@@ -178,9 +178,9 @@ module _ (text : List ℕ) (none : (word : List ℕ) (words : List (List ℕ)) �
       by_words None e = refl
       by_words (Some []) e = refl
       by_words (Some (kept ∷ [])) e = refl
-      by_words (Some (kept ∷ fill ∷ words)) e = ap (option_and_then (λ k. option_and_then (λ f. cond (nat_lt f 256) (alone (Torn k f) words) None) (number_in fill))) (none kept (fill ∷ words) e)
+      by_words (Some (kept ∷ fill ∷ words)) e = ap (option_and_then (λ k. option_and_then (λ f. cond (nat_lt f 256) (if_last (Torn k f) words) None) (number_in fill))) (none kept (fill ∷ words) e)
 
-  -- .. where this text stands behind a word
+  -- .. where this text stands after a word
   pub torn_without_fill : (whole kept : List ℕ) → BeginsWith whole kept text → option_and_then torn_by (words_in whole) ≡ None
   torn_without_fill whole kept begins = ap (option_and_then torn_by) begins ∙ by_words (words_in text) refl
     where
@@ -191,19 +191,19 @@ module _ (text : List ℕ) (none : (word : List ℕ) (words : List (List ℕ)) �
       by_words : (found : Option (List (List ℕ))) → words_in text ≡ found → option_and_then torn_by (option_map (λ words. kept ∷ words) found) ≡ None
       by_words None e = refl
       by_words (Some []) e = refl
-      by_words (Some (fill ∷ words)) e = ap (λ n. option_and_then (λ k. option_and_then (λ f. cond (nat_lt f 256) (alone (Torn k f) words) None) n) (number_in kept)) (none fill words e) ∙ by_kept (number_in kept)
+      by_words (Some (fill ∷ words)) e = ap (λ n. option_and_then (λ k. option_and_then (λ f. cond (nat_lt f 256) (if_last (Torn k f) words) None) n) (number_in kept)) (none fill words e) ∙ by_kept (number_in kept)
 
 -- What stands alone.
 
-pub something_follows : {T : Type 0} (x : T) (found : Option (List (List ℕ))) → option_and_then (alone {T = Unit {0}} tt) found ≡ None → option_and_then (alone x) found ≡ None
+pub something_follows : {T : Type 0} (x : T) (found : Option (List (List ℕ))) → option_and_then (if_last {T = Unit {0}} tt) found ≡ None → option_and_then (if_last x) found ≡ None
 something_follows x None e = refl
 something_follows x (Some []) e = cc
 something_follows x (Some (word ∷ words)) e = refl
 
-pub nothing_follows : {T : Type 0} (x : T) (found : Option (List (List ℕ))) → option_and_then (alone {T = Unit {0}} tt) found ≡ Some tt → option_and_then (alone x) found ≡ Some x
+pub nothing_follows : {T : Type 0} (x : T) (found : Option (List (List ℕ))) → option_and_then (if_last {T = Unit {0}} tt) found ≡ Some tt → option_and_then (if_last x) found ≡ Some x
 nothing_follows x None e = cc
 nothing_follows x (Some []) e = refl
 nothing_follows x (Some (word ∷ words)) e = cc
 
-pub asked_reopen : (verb : List ℕ) (found : Option (List (List ℕ))) → verb ≡ codes "reopen" → option_and_then (λ words. asked_by (verb ∷ words)) found ≡ option_and_then (alone Reopen) found
-asked_reopen verb found e = ap (λ v. option_and_then (λ words. asked_by (v ∷ words)) found) e
+pub asked_reopen : (verb : List ℕ) (found : Option (List (List ℕ))) → verb ≡ codes "reopen" → option_and_then (λ words. parsed_words (verb ∷ words)) found ≡ option_and_then (if_last Reopen) found
+asked_reopen verb found e = ap (λ v. option_and_then (λ words. parsed_words (v ∷ words)) found) e

@@ -4,19 +4,14 @@ use Rattle.std.specs.Prelude.{◌||◌, is_none, is_some, option_map, if◌then�
 use Rattle.std.proofs.lemmas.List.{append-nil, nil_from_length}
 use Rattle.std.proofs.lemmas.List.Sums.{fold-append, sum_by-append}
 use Rattle.std.proofs.Math.Seq.{take-suc}
-use Rattle.raft_env.specs.Refusal.{Refusals, Rose}
-use Rattle.raft_records.specs.Contents.{Contents, no_contents, after_batch, after_batches, after_item}
+use Rattle.raft_env.specs.Refusal.{Refusals, StorageRefusalsRose}
+use Rattle.raft_records.specs.Contents.{Contents, after_batch, after_batches, after_item}
 use Rattle.raft_records.specs.Batch.{is_internal_key}
 use Rattle.raft_records.specs.Item.{Item, Batch, Put, Delete}
 use Rattle.raft_records.specs.Validity.{batch_refusal}
 use Rattle.raft_base.specs.declared.errors.Fault.{Fault}
 use Rattle.raft_log_engine.specs.Crash.{written_batch}
-use Rattle.std.specs.FinMap.{get-empty}
-use Rattle.raft_env.specs.Directory.{Directory, Path}
-use Rattle.raft_memory.specs.Memory.{no_files}
-use Rattle.raft_pipes.proofs.SoundLemmas.{readable_none}
-use Rattle.raft_log_engine.specs.Contents.{contents_at, recovered}
-use Rattle.raft_script.specs.Run.{accepted_batches, accepted_of, AreAnswers, AreSteady, FailsAt, IsFailing, IsFailurePlace, Refuses, RoseBy, batch_of_acts, io_count, is_refused_by_storage, IsAnswer, item_of_act, pending_batches, with_first, written_batches}
+use Rattle.raft_script.specs.Run.{accepted_batches, accepted_of, AreAnswers, AreSteady, FailsAt, IsFailing, IsFailurePlace, Refuses, StorageRefusalsRoseBy, batch_of_acts, io_count, is_refused_by_storage, IsAnswer, item_of_act, pending_batches, with_first, written_batches}
 use Rattle.raft_script.specs.declared.operation.Act.{Act}
 use Rattle.raft_script.specs.declared.operation.Act.TheVariants as act
 use Rattle.raft_script.specs.declared.operation.Op.{Op}
@@ -139,10 +134,6 @@ module _ (before : Contents) (ops : List Op) (outcomes : List Outcome) (now : Co
 pub acts_ended : (items : Batch) (n : ℕ) (acts : List Act) → length acts ≤ n → IsBuilt items n acts → batch_of_acts acts ≡ Some items
 acts_ended items n acts past built = built_ended items n acts (nil_from_length (drop n acts) (length-drop n acts ∙ omega (arith, past))) built
 
--- a folder without files holds nothing
-pub contents_at-no_files : (folder : Path) (n : Directory) → n ≡ no_files → contents_at folder n ≡ no_contents
-contents_at-no_files folder n is = ap (contents_at folder) is ∙ ap recovered (readable_none folder no_files (get-empty _ _))
-
 -- Failures.
 
 steady_more : (failed : Bool) (ops : List Op) (outcomes : List Outcome) (op : Op) (outcome : Outcome) → AreSteady failed ops outcomes → IsFailing failed op outcome failed → AreSteady failed (ops ++ op ∷ []) (outcomes ++ outcome ∷ [])
@@ -228,10 +219,10 @@ stands_so_far false = refl
 -- Storage's refusals.
 
 -- one outcome more
-pub rose_more : (outcomes : List Outcome) (outcome : Outcome) (old mid new : Refusals) → RoseBy (io_count outcomes) old mid → Refuses outcome mid new → RoseBy (io_count (outcomes ++ outcome ∷ [])) old new
+pub rose_more : (outcomes : List Outcome) (outcome : Outcome) (old mid new : Refusals) → StorageRefusalsRoseBy (io_count outcomes) old mid → Refuses outcome mid new → StorageRefusalsRoseBy (io_count (outcomes ++ outcome ∷ [])) old new
 rose_more outcomes outcome old mid new so_far refuses =
-    subst (λ (n : ℕ). RoseBy n old new) (sym (sum_by-append _ outcomes (outcome ∷ []))) (by_case (is_refused_by_storage outcome) refuses.1)
+    subst (λ (n : ℕ). StorageRefusalsRoseBy n old new) (sym (sum_by-append _ outcomes (outcome ∷ []))) (by_case (is_refused_by_storage outcome) refuses.1)
   where
-    by_case : (b : Bool) → (b ≡ true → Rose mid new) → RoseBy (io_count outcomes + (0 + cond b 1 0)) old new
+    by_case : (b : Bool) → (b ≡ true → StorageRefusalsRose mid new) → StorageRefusalsRoseBy (io_count outcomes + (0 + cond b 1 0)) old new
     by_case true rose = let one = rose refl in omega (arith, so_far, one)
     by_case false rose = let counts = refuses.0 in omega (arith, so_far, counts.0)

@@ -8,17 +8,17 @@ use Rattle.raft_base.specs.Fault.{fault_code}
 use Rattle.raft_memory.specs.Choice.{RefusesUnless, left_by, NameNoBytes}
 use Rattle.raft_env.specs.Consistent.{AreConsistent}
 use Rattle.raft_env.specs.Directory.{Directory, HasFile, IsRestarted, Leaves, CrashImage, Path, file_at}
-use Rattle.raft_env.specs.Outcomes.{File, settled}
+use Rattle.raft_env.specs.Outcomes.{File, synced_file}
 use Rattle.raft_memory.specs.Memory.{no_files}
 use Rattle.raft_memory.specs.declared.crash.Choice.{Choice}
-use Rattle.raft_memory.proofs.TornLemmas.{choices_may_leave}
+use Rattle.raft_memory.proofs.ChoiceTornLemmas.{choices_may_leave}
 use Rattle.raft_log_engine.specs.Crash.{RecoversContents, LeavesAllowedFrom, contents_after_crash}
 use Rattle.raft_base.specs.declared.errors.Fault.{Fault}
 use Rattle.raft_base.specs.declared.errors.Fault.TheVariants as fault
 use Rattle.raft_log_engine.specs.Image.{IsImageOf}
 use Rattle.raft_log_engine.specs.declared.engine.image.Image.{Image}
 use Rattle.raft_log_engine.specs.Contents.{contents_at}
-use Rattle.raft_pipes.specs.Done.{IsDoneIn}
+use Rattle.raft_pipes.specs.Completed.{ReadsCompletedRecordsIn}
 use Rattle.raft_pipes.specs.Folder.{HasNoLog, IsDetectableIn, log_path}
 use Rattle.raft_script.specs.Durability.{LeavesAllowedAfter, Progress, progress_after_all, progress_from}
 use Rattle.raft_pipes.specs.Queue.{HasDamageIn, HasLeftDamage, IsOpenableIn}
@@ -28,7 +28,6 @@ use Rattle.raft_pipes.specs.declared.config.RecoveryMode.{RecoveryMode}
 use Rattle.raft_pipes.specs.declared.config.RecoveryMode.TheVariants.{AbsoluteConsistency}
 use Rattle.raft_script.specs.declared.operation.Op.{Op}
 use Rattle.raft_script.specs.declared.operation.Outcome.{Outcome}
-use Rattle.raft_script.proofs.RunLemmas.{contents_at-no_files}
 
 -- the run of an engine that was opened with all synced
 pub opened_after : (folder dir : Path) (m durable : Contents) (unsynced : List Batch) (ops : List Op) (outcomes : List Outcome) (failed_at : Option ℕ) (n : Directory) → folder ≡ dir → durable ≡ m → unsynced ≡ [] → LeavesAllowedAfter failed_at folder durable unsynced ops outcomes n → LeavesAllowedAfter failed_at dir m [] ops outcomes n
@@ -40,28 +39,28 @@ no_progress : (p : Progress) (ops : List Op) → progress_after_all p ops [] ≡
 no_progress p [] = refl
 no_progress p (op ∷ ops) = refl
 
--- where the opening was refused, no operation was done
+-- where the opening failed, no operation was done
 pub refused_after : (folder : Path) (m : Contents) (ops : List Op) (n : Directory) → LeavesAllowedFrom 0 folder m [] n → LeavesAllowedAfter None folder m [] ops [] n
 refused_after folder m ops n leaves =
     ([], refl, subst (λ (p : Progress). LeavesAllowedFrom p.covered folder m (p.batches ++ []) n) (sym (no_progress (progress_from []) ops)) leaves)
 
--- of a folder without files no refused call brought a record
-pub none_done : (folder : Path) (n : Directory) → (HasNoLog folder n → IsDoneIn folder n) → n ≡ no_files → IsDoneIn folder n
+-- of a folder without files no failed call brought a record
+pub none_done : (folder : Path) (n : Directory) → (HasNoLog folder n → ReadsCompletedRecordsIn folder n) → n ≡ no_files → ReadsCompletedRecordsIn folder n
 none_done folder n done is = done (ap (λ (x : Directory). file_at x (log_path folder)) is ∙ get-empty _ (log_path folder))
 
--- a folder without files keeps nothing
-pub nothing_kept : (folder : Path) (n : Directory) → (HasNoLog folder n → (HasFile n folder → ⊥) → RecoversContents folder no_contents [] n) → n ≡ no_files → RecoversContents folder no_contents [] n
+-- a folder without files holds nothing and keeps nothing
+pub nothing_kept : (folder : Path) (n : Directory) → (HasNoLog folder n → (HasFile n folder → ⊥) → (contents_at folder n ≡ no_contents) × RecoversContents folder no_contents [] n) → n ≡ no_files → (contents_at folder n ≡ no_contents) × RecoversContents folder no_contents [] n
 nothing_kept folder n keeps is =
     let absent : (path : Path) → file_at n path ≡ None = λ path. ap (λ (x : Directory). file_at x path) is ∙ get-empty _ path in
     keeps (absent _) (λ found. let clash = subst IsSome (absent folder) found in absurd cc)
 
 -- what a run shows that began with no files
-pub run_shown : (dir : Path) (before n : Directory) (ops : List Op) (outcomes : List Outcome) (failed_at : Option ℕ) → (HasNoLog dir before → (HasFile before dir → ⊥) → RecoversContents dir no_contents [] before) → before ≡ no_files
+pub run_shown : (dir : Path) (before n : Directory) (ops : List Op) (outcomes : List Outcome) (failed_at : Option ℕ) → (HasNoLog dir before → (HasFile before dir → ⊥) → (contents_at dir before ≡ no_contents) × RecoversContents dir no_contents [] before) → before ≡ no_files
     → (RecoversContents dir (contents_at dir before) [] before → RunsOver dir (contents_at dir before) ops outcomes failed_at n) → RunsOver dir no_contents ops outcomes failed_at n
 run_shown dir before n ops outcomes failed_at keeps none ran =
-    let empty = contents_at-no_files dir before none in
-    let kept = subst (λ (m : Contents). RecoversContents dir m [] before) (sym empty) (nothing_kept dir before keeps none) in
-    subst (λ (m : Contents). RunsOver dir m ops outcomes failed_at n) empty (ran kept)
+    let found = nothing_kept dir before keeps none in
+    let kept = subst (λ (m : Contents). RecoversContents dir m [] before) (sym found.0) found.1 in
+    subst (λ (m : Contents). RunsOver dir m ops outcomes failed_at n) found.0 (ran kept)
 
 same_opened : {m m' : Contents} (opened : Result Image Fault) → m ≡ m' → IfOk opened (λ image. IsImageOf image.groups.items m) → IfOk opened (λ image. IsImageOf image.groups.items m')
 same_opened (Ok image) same is = subst (IsImageOf image.groups.items) same is
@@ -71,7 +70,7 @@ same_opened (Err e) same is = is
 pub image_restarted : (dir folder : Path) (n m : Directory) (d : CrashImage) (opened : Result Image Fault) → dir ≡ folder → contents_at folder m ≡ contents_after_crash folder n d → IfOk opened (λ image. IsImageOf image.groups.items (contents_at dir m)) → IfOk opened (λ image. IsImageOf image.groups.items (contents_after_crash folder n d))
 image_restarted dir folder n m d opened same found is = same_opened opened (ap (λ (p : Path). contents_at p m) same ∙ found) is
 
--- Why the opening after a crash is refused.
+-- Why the opening after a crash fails.
 
 if_err : {T G : Type 0} (P Q : G → Type 0) (result : Result T G) → ((e : G) → P e → Q e) → IfErr result P → IfErr result Q
 if_err P Q (Ok x) f holds = tt
@@ -81,7 +80,7 @@ if_err P Q (Err e) f holds = f e holds
 restarted_stood : (path : Path) (n m : Directory) (d : CrashImage) → IsRestarted n d m → HasFile m path → HasFile n path
 restarted_stood path n m d restarted there = sym (by_file (file_at n path)) ∙ ap is_some (sym (restarted.each path)) ∙ there
   where
-    by_file : (found : Option File) → is_some (option_map (λ _. settled (d path)) found) ≡ is_some found
+    by_file : (found : Option File) → is_some (option_map (λ _. synced_file (d path)) found) ≡ is_some found
     by_file None = refl
     by_file (Some file) = refl
 

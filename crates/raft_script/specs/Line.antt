@@ -44,14 +44,14 @@ number_in word = if all_ascii_digits word && nat_lt (digits_value 10 word) (2 ^ 
     (digits_value 10 word) else None
 
 -- this, where no word follows
-abbrev pub alone : {T : Type 0} → T → List (List ℕ) → Option T
-alone x [] = Some x
-alone x (word ∷ words) = None
+abbrev pub if_last : {T : Type 0} → T → List (List ℕ) → Option T
+if_last x [] = Some x
+if_last x (word ∷ words) = None
 
 -- [sync]
 abbrev pub sync_by : List (List ℕ) → Option Bool
 sync_by [] = Some false
-sync_by (word ∷ words) = if bytes_eq word (codes "sync") then alone true words else None
+sync_by (word ∷ words) = if bytes_eq word (codes "sync") then if_last true words else None
 
 -- put G K V [sync]
 abbrev pub put_by : List (List ℕ) → Option Asked
@@ -67,13 +67,13 @@ delete_by _ = None
 
 -- get G K
 abbrev pub get_by : List (List ℕ) → Option Asked
-get_by (group ∷ key ∷ words) = option_and_then (λ g. alone (Get g key) words) (number_in group)
+get_by (group ∷ key ∷ words) = option_and_then (λ g. if_last (Get g key) words) (number_in group)
 get_by _ = None
 
 -- torn KEPT FILL, where FILL is a byte
 abbrev pub torn_by : List (List ℕ) → Option CrashChoice
 torn_by (kept ∷ fill ∷ words) =
-    option_and_then (λ k. option_and_then (λ f. if nat_lt f 256 then alone
+    option_and_then (λ k. option_and_then (λ f. if nat_lt f 256 then if_last
     (left.Torn k f) words else None) (number_in fill)) (number_in kept)
 torn_by _ = None
 
@@ -81,27 +81,28 @@ torn_by _ = None
 abbrev pub left_by : List (List ℕ) → Option CrashChoice
 left_by [] = None
 left_by (word ∷ words) =
-    if bytes_eq word (codes "all") then alone left.All words
-    else if bytes_eq word (codes "synced") then alone left.Synced words
+    if bytes_eq word (codes "all") then if_last left.All words
+    else if bytes_eq word (codes "synced") then if_last left.Synced words
     else if bytes_eq word (codes "torn") then torn_by words
     else None
 
 -- what words ask for, by the first of them
-abbrev pub asked_by : List (List ℕ) → Option Asked
-asked_by [] = None
-asked_by (verb ∷ words) =
+abbrev pub parsed_words : List (List ℕ) → Option Asked
+parsed_words [] = None
+parsed_words (verb ∷ words) =
     if bytes_eq verb (codes "put") then put_by words
     else if bytes_eq verb (codes "del") then delete_by words
     else if bytes_eq verb (codes "get") then get_by words
-    else if bytes_eq verb (codes "sync") then alone Sync words
-    else if bytes_eq verb (codes "reopen") then alone Reopen words
+    else if bytes_eq verb (codes "sync") then if_last Sync words
+    else if bytes_eq verb (codes "reopen") then if_last Reopen words
     else if bytes_eq verb (codes "crash") then option_map Crash (left_by words)
     else None
 
 -- what a line asks for: nothing where it is empty or begins with #
 abbrev pub asked_in : List ℕ → Option Asked
 asked_in [] = Some Nothing
-asked_in (c ∷ cs) = if c == 35 then Some Nothing else option_and_then asked_by (words_in (c ∷ cs))
+asked_in (c ∷ cs) = if c == 35 then Some Nothing else option_and_then parsed_words (words_in
+    (c ∷ cs))
 
 -- the same of a call that was parsed
 abbrev pub asked_of_call : Call → Asked
@@ -133,7 +134,7 @@ asked_by_op (op.Get group key) = Some (Get group key.items)
 abbrev pub HasNoWord : List ℕ → Type 0
 HasNoWord text = (word : List ℕ) (words : List (List ℕ)) → words_in text ≡ Some (word ∷ words) → ⊥
 
--- the text begins with this word, and has the other's words behind it
+-- the text begins with this word, and has the other's words after it
 abbrev pub BeginsWith : List ℕ → List ℕ → List ℕ → Type 0
 BeginsWith text word rest = words_in text ≡ option_map (λ words. word ∷ words) (words_in rest)
 
@@ -156,13 +157,13 @@ EndsOn text ended.Done = first_bad_line text ≡ None
 EndsOn text (ended.BadLine number) = first_bad_line text ≡ Some number
 EndsOn text _ = Unit {0}
 
--- a line was found, and these bytes are left behind it; or there was none
+-- a line was found, and these bytes are left after it; or there was none
 abbrev pub IsNextLine : Bool → List ℕ → List ℕ → Option (List ℕ) → Type 0
 IsNextLine true text line left =
     (rest : List ℕ) × (left ≡ Some rest) × (lines_in text ≡ line ∷ lines_in rest)
 IsNextLine false text line left = text ≡ []
 
--- the lines before this number are good, and these bytes are left behind them
+-- the lines before this number are good, and these bytes are left after them
 abbrev pub IsReading : Option (List ℕ) → Option (List ℕ) → ℕ → Type 0
 IsReading None left number = Unit {0}
 IsReading (Some text) left number =
@@ -171,7 +172,7 @@ IsReading (Some text) left number =
     × (position_or_len is_bad (lines_in text) + 1 ≡ number + position_or_len is_bad (lines_in rest))
     × (length (lines_in text) + 1 ≡ number + length (lines_in rest))
 
--- the program goes on behind the line of this number, or it ends there
+-- the program goes on after the line of this number, or it ends there
 abbrev pub GoesOnOrEnds : Option (List ℕ) → Option (List ℕ) → ℕ → Option Ended → Type 0
 GoesOnOrEnds known left number None = IsReading known left (number + 1)
 GoesOnOrEnds known left number (Some ended) = IfSome known (λ text. EndsOn text ended)

@@ -1,20 +1,62 @@
 -- What the program answers.
-use Rattle.std.specs.Prelude.{◌≡◌, false, Some}
+use Rattle.std.specs.Prelude.{◌≡◌, ◌⊎◌, false, Option, Some, None, codes}
+use Rattle.raft_base.specs.declared.errors.Fault.{Fault}
+use Rattle.raft_env.specs.Directory.{CrashImage, Leaves}
 use Rattle.raft_env.specs.declared.env.FileSystem.{Ghosts}
 use Rattle.raft_log_engine.specs.declared.engine.Engine.{Engine}
-use Rattle.raft_log_engine.specs.Engine.{contents_of, has_failed}
-use Rattle.raft_records.specs.Contents.{Contents, after_batches}
-use Rattle.raft_script.specs.Line.{Asked, asked_by_op}
+use Rattle.raft_log_engine.specs.Crash.{contents_after_crash}
+use Rattle.raft_log_engine.specs.Engine.{contents_of, directory_of, has_failed}
+use Rattle.raft_records.specs.Contents.{Contents, after_batches, no_contents}
+use Rattle.raft_script.specs.Line.{Asked, Nothing, Reopen, Crash, asked_by_op}
 use Rattle.raft_script.specs.Run.{IsAnswer, accepted_of}
+use Rattle.raft_script.specs.declared.answer.Answer.{Answer}
+use Rattle.raft_script.specs.declared.answer.Answer.TheVariants as answer
 use Rattle.raft_script.specs.declared.operation.Op.{Op}
 use Rattle.raft_script.specs.declared.operation.Outcome.{Outcome}
 
--- the operation that does what is asked is answered so by the engine
-pub record IsAnswered {F H R W : Type 0} {g : Ghosts F H R W} (asked : Asked) (outcome : Outcome)
-    (old new : Engine F H R W g) : Type 0 where
-  pub op : Op
-  pub does : asked_by_op op ≡ Some asked
-  pub answer : (m : Contents) → (has_failed old ≡ false → m ≡ contents_of old)
-      → IsAnswer m op outcome
-  pub contents : has_failed new ≡ false
-      → contents_of new ≡ after_batches (contents_of old) (accepted_of op outcome)
+module _ {F H R W : Type 0} {g : Ghosts F H R W} where
+  -- the operation that does what is asked is answered so by the engine
+  pub record IsAnswered (asked : Asked) (outcome : Outcome) (old new : Engine F H R W g) : Type 0 where
+    pub op : Op
+    pub does : asked_by_op op ≡ Some asked
+    pub answer : (m : Contents) → (has_failed old ≡ false → m ≡ contents_of old)
+        → IsAnswer m op outcome
+    pub contents : has_failed new ≡ false
+        → contents_of new ≡ after_batches (contents_of old) (accepted_of op outcome)
+
+  -- the engine that a line meets: the one before it, or one that is opened for it and holds nothing
+  abbrev pub IsMetBy : Option (Engine F H R W g) → Engine F H R W g → Type 0
+  IsMetBy None e = (contents_of e ≡ no_contents) × (has_failed e ≡ false)
+  IsMetBy (Some before) e = e ≡ before
+
+  -- an engine holds what a crash left of another one's files
+  abbrev pub HoldsAfterCrash : Engine F H R W g → Engine F H R W g → Type 0
+  HoldsAfterCrash old new = (image : CrashImage) × Leaves (directory_of old) image
+      × (contents_of new ≡ contents_after_crash (codes "raft") (directory_of old) image)
+
+  -- what a line asks for is answered so by the engine that it meets, and this one is there after it
+  abbrev pub AnswersAsked : Asked → Answer → Engine F H R W g → Engine F H R W g → Type 0
+  AnswersAsked Reopen answer.Done old new = contents_of new ≡ contents_of old
+  AnswersAsked (Crash choice) answer.Done old new = HoldsAfterCrash old new
+  AnswersAsked asked (answer.Outcome outcome) old new = IsAnswered asked outcome old new
+  AnswersAsked asked _ old new = ⊥
+
+  -- such an engine is there after an opening, or none at all
+  abbrev pub OpensTo : Answer → Option (Engine F H R W g) → (Engine F H R W g → Type 0) → Type 0
+  OpensTo answer.Done (Some new) P = P new
+  OpensTo (answer.Fatal fault) new P = Unit {0}
+  OpensTo a new P = ⊥
+
+  -- .. or none is there, and the program ends
+  abbrev pub AnswersFrom : Asked → Answer → Engine F H R W g → Option (Engine F H R W g) → Type 0
+  AnswersFrom asked (answer.Fatal fault) met new = Unit {0}
+  AnswersFrom asked a met (Some new) = AnswersAsked asked a met new
+  AnswersFrom asked a met None = ⊥
+
+  -- a line that asks for nothing is passed over; else the engine that the line meets answers it, or
+  -- none could be opened, and the program ends
+  abbrev pub AnswersLine : Asked → Answer → Option (Engine F H R W g) → Option (Engine F H R W g)
+      → Type 0
+  AnswersLine asked a old new = ((asked ≡ Nothing) × (a ≡ answer.Nothing) × (new ≡ old))
+      ⊎ ((fault : Fault) × (a ≡ answer.Fatal fault))
+      ⊎ ((met : Engine F H R W g) × IsMetBy old met × AnswersFrom asked a met new)

@@ -8,7 +8,7 @@ use Rattle.raft_records.specs.Validity.{batch_refusal}
 use Rattle.raft_base.specs.Fault.{fault_code}
 use Rattle.raft_base.specs.declared.errors.Fault.{Fault}
 use Rattle.raft_base.specs.declared.errors.Fault.TheVariants as fault
-use Rattle.raft_env.specs.Refusal.{NoFewer, Refusals, Rose}
+use Rattle.raft_env.specs.Refusal.{NoFewer, Refusals, StorageRefusalsRose}
 use Rattle.raft_log_engine.specs.Crash.{written_batch}
 use Rattle.raft_log_engine.specs.Engine.{record_len}
 use Rattle.raft_script.specs.declared.operation.Act.{Act}
@@ -39,6 +39,11 @@ batch_of_acts (a ∷ acts) = with_first (item_of_act a) (batch_of_acts acts)
 abbrev pub written_batches : Option Batch → List Batch
 written_batches None = []
 written_batches (Some batch) = written_batch batch
+
+-- what an engine is given to write in the operation
+abbrev pub given_batches : Op → List Batch
+given_batches (Write acts sync) = written_batches (batch_of_acts acts.items)
+given_batches _ = []
 
 -- the batch that the operation wrote
 abbrev pub accepted_of : Op → Outcome → List Batch
@@ -96,7 +101,7 @@ IsWritten acts len = (batch : Batch) × (batch_of_acts acts ≡ Some batch) × (
 abbrev pub IsTooLong : List Act → Type 0
 IsTooLong acts = (batch : Batch) × (batch_of_acts acts ≡ Some batch) × (2 ^ 56 ≤ record_len batch)
 
--- a write is refused for an act that can't be done, or for want of memory; its batch by storage,
+-- a write fails for an act that can't be done, or for lack of memory; its batch by storage,
 -- for its length, or by a failed engine
 abbrev pub IsWriteRefusal : List Act → Fault → Type 0
 IsWriteRefusal acts (fault.InvalidArgument _) = batch_of_acts acts ≡ None
@@ -117,7 +122,7 @@ IsGetRefusal fault.Memory = Unit {0}
 IsGetRefusal fault.Failed = Unit {0}
 IsGetRefusal _ = ⊥
 
--- an operation is answered so, or refused, at these contents
+-- an operation is answered so, or fails so, at these contents
 abbrev pub IsAnswer : Contents → Op → Outcome → Type 0
 IsAnswer m (Write acts sync) (Size answer) =
     MatchResult answer (IsWritten acts.items) (IsWriteRefusal acts.items)
@@ -145,19 +150,20 @@ is_refused_by_storage (Size answer) = is_io answer
 is_refused_by_storage (Done answer) = is_io answer
 is_refused_by_storage (Value answer) = is_io answer
 
--- how many of the operations storage refused
+-- how many of the operations failed in storage
 abbrev pub io_count : List Outcome → ℕ
 io_count outcomes = count_by is_refused_by_storage outcomes
 
--- storage's count rose where the operation was refused by it, and no count fell
+-- storage's count rose where the operation failed in it, and no count fell
 abbrev pub Refuses : Outcome → Refusals → Refusals → Type 0
-Refuses outcome old new = NoFewer old new × (is_refused_by_storage outcome ≡ true → Rose old new)
+Refuses outcome old new = NoFewer old new × (is_refused_by_storage outcome ≡ true
+    → StorageRefusalsRose old new)
 
 -- storage's count rose by so many at least, or it is full
-abbrev pub RoseBy : ℕ → Refusals → Refusals → Type 0
-RoseBy count old new = min (old.storage + count) (2 ^ 64 - 1) ≤ new.storage
+abbrev pub StorageRefusalsRoseBy : ℕ → Refusals → Refusals → Type 0
+StorageRefusalsRoseBy count old new = min (old.storage + count) (2 ^ 64 - 1) ≤ new.storage
 
--- by storage, or for want of memory
+-- by storage, or for lack of memory
 abbrev pub IsStorageOrMemory : Fault → Type 0
 IsStorageOrMemory (fault.Io kind path) = Unit {0}
 IsStorageOrMemory fault.Memory = Unit {0}
@@ -175,12 +181,12 @@ pub record FailsBy {T : Type 0} (failed : Bool) (answer : Result T Fault) (fails
   -- it stays failed
   pub still : failed ≡ true → fails ≡ true
   -- a failure is told where there was one, and nowhere else
-  pub told : is_failure answer ≡ true → failed ≡ true
+  pub only_failed : is_failure answer ≡ true → failed ≡ true
   pub refused : failed ≡ true → (is_failure answer ≡ true) ⊎ IsErrAnd answer Other
-  -- it fails by storage or for want of memory alone
+  -- it fails by storage or for lack of memory alone
   pub cause : failed ≡ false → fails ≡ true → IsErrAnd answer IsStorageOrMemory
 
--- .. in an operation; a refused sync fails the engine, and a get doesn't
+-- .. in an operation; a failed sync fails the engine, and a get doesn't
 abbrev pub IsFailing : Bool → Op → Outcome → Bool → Type 0
 IsFailing failed (Write acts sync) (Size answer) fails =
     FailsBy failed answer fails (IsUnbuilt acts.items)

@@ -11,7 +11,7 @@ use Rattle.raft_memory.specs.declared.crash.Choice.{Choice}
 use Rattle.raft_log_engine.specs.Crash.{RecoversContents, contents_after_crash}
 use Rattle.raft_log_engine.specs.Image.{IsImageOf}
 use Rattle.raft_script.specs.Durability.{LeavesAllowedAfter}
-use Rattle.raft_pipes.specs.Done.{HasSimplePastIn}
+use Rattle.raft_pipes.specs.Completed.{HasSimplePastIn}
 use Rattle.raft_pipes.specs.Folder.{IsDetectableIn}
 use Rattle.raft_pipes.specs.Queue.{HasDamageIn, HasLeftDamage}
 use Rattle.raft_script.specs.Run.{AreAnswers, IsFailurePlace, IsStorageOrMemory}
@@ -27,7 +27,7 @@ pub record AreAnswered (m : Contents) (ops : List Op) (outcomes : List Outcome)
   pub answers : AreAnswers m ops outcomes
   pub place : IsFailurePlace false ops outcomes failed_at
 
--- the opening was refused, and no operation was done; the files keep what they kept
+-- the opening failed, and no operation was done; the files keep what they kept
 pub record AreNotAsked (folder : Path) (m : Contents) (files : Directory) (outcomes : List Outcome)
     (failed_at : Option ℕ) : Type 0 where
   pub none : outcomes ≡ []
@@ -46,31 +46,34 @@ pub record RunsOver (folder : Path) (m : Contents) (ops : List Op) (outcomes : L
   -- no file stands in the folder's place
   pub no_file : HasFile files folder → ⊥
 
--- operations over files that were empty may leave files of which storage may not leave what the
--- choices say
-pub record AreNotAllowed (folder : Path) (ops : List Op) (choices : List Choice) : Type 0 where
+-- operations over files in memory that were empty, with this stop for the calls from the first
+-- opening on: the files once they are done
+pub record RunsFromEmpty (folder : Path) (ops : List Op) (stop : Option ℕ) (outcomes : List Outcome)
+    (failed_at : Option ℕ) (last : MemoryFileSystem) : Type 0 where
+  pub first : MemoryFileSystem
+  pub stop_is : stop_of first ≡ stop
+  pub none : memory_directory first ≡ no_files
+  -- the moments there were by then follow those of the first files
+  pub added : List Directory
+  pub later : memory_moments last ≡ added ++ memory_moments first
+  pub ran : RunsOver folder no_contents ops outcomes failed_at (memory_directory last)
+
+-- they may leave files of which storage may not leave what the choices say
+pub record AreNotAllowed (folder : Path) (ops : List Op) (stop : Option ℕ) (choices : List Choice)
+    : Type 0 where
   pub outcomes : List Outcome
   pub failed_at : Option ℕ
-  pub files : Directory
-  pub ran : RunsOver folder no_contents ops outcomes failed_at files
-  pub refused : Leaves files (left_by choices files) → ⊥
+  pub last : MemoryFileSystem
+  pub runs : RunsFromEmpty folder ops stop outcomes failed_at last
+  pub refused : let files = memory_directory last in Leaves files (left_by choices files) → ⊥
 
--- an opening is refused by storage, for want of memory, or for the damage of the log in the folder
+-- an opening fails by storage, for lack of memory, or for the damage of the log in the folder
 abbrev pub IsLogRefusal : RecoveryMode → Path → Directory → Fault → Type 0
 IsLogRefusal mode folder files e = IsStorageOrMemory e ⊎ HasDamageIn mode folder files e
 
 -- .. of what a crash left of it
 abbrev pub IsLeftRefusal : RecoveryMode → Path → Directory → CrashImage → Fault → Type 0
 IsLeftRefusal mode folder files d e = IsStorageOrMemory e ⊎ HasLeftDamage mode folder files d e
-
--- files in memory that were empty, with this stop for the first opening, and the same once the
--- operations are done
-pub record IsStopped (stop : Option ℕ) (first last : MemoryFileSystem) : Type 0 where
-  pub stop_is : stop_of first ≡ stop
-  pub none : memory_directory first ≡ no_files
-  -- the moments there were by then follow those of the first
-  pub added : List Directory
-  pub later : memory_moments last ≡ added ++ memory_moments first
 
 -- where only writes failed on the log of consistent files, choices that leave each file whole, as it
 -- is now or as it was synced, leave detectable damage of it
@@ -83,10 +86,8 @@ LeavesDetectable folder files = HasSimplePastIn folder files → AreConsistent f
 -- mode
 pub record IsTrialOf (mode : RecoveryMode) (folder : Path) (ops : List Op) (stop : Option ℕ)
     (choices : List Choice) (t : Trial) : Type 0 where
-  pub first : MemoryFileSystem
   pub last : MemoryFileSystem
-  pub stopped : IsStopped stop first last
-  pub ran : RunsOver folder no_contents ops t.outcomes.items t.failed_at (memory_directory last)
+  pub runs : RunsFromEmpty folder ops stop t.outcomes.items t.failed_at last
   -- storage may leave of them what the choices say
   pub left : let files = memory_directory last in Leaves files (left_by choices files)
   -- where an engine answered and none failed, choices that leave each file whole, as it is now or as
@@ -102,7 +103,7 @@ pub record IsTrialOf (mode : RecoveryMode) (folder : Path) (ops : List Op) (stop
   pub refused : let files = memory_directory last in
       IsDetectableIn folder files (left_by choices files)
       → (mode ≡ AbsoluteConsistency → ⊥) → IfErr t.opened IsStorageOrMemory
-  -- in any mode and of any damage it is refused by storage, for want of memory, or for what is left
+  -- in any mode and of any damage it fails by storage, for lack of memory, or for what is left
   -- of the log
   pub cause : let files = memory_directory last in
       IfErr t.opened (IsLeftRefusal mode folder files (left_by choices files))

@@ -13,7 +13,7 @@ pub(crate) enum Answer {
     Done,
     Outcome(Outcome),
     /// The engine is gone, so that the program ends.
-    Gone(Fault),
+    Fatal(Fault),
 }
 
 pub(crate) fn print<W: Write>(output: &mut W, answer: &Answer) -> io::Result<()> {
@@ -21,7 +21,7 @@ pub(crate) fn print<W: Write>(output: &mut W, answer: &Answer) -> io::Result<()>
         Answer::Nothing => Ok(()),
         Answer::Done => output.write_all(b"ok\n"),
         Answer::Outcome(outcome) => print_outcome(output, outcome),
-        Answer::Gone(fault) => print_fault(output, fault),
+        Answer::Fatal(fault) => print_fault(output, fault),
     }
 }
 

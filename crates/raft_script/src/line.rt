@@ -1,7 +1,7 @@
 //! A line of the program's input.
 ghost use Rattle.std.specs.Prelude.{◌≡◌, ◌==◌, ◌≤◌, List, ℕ, length, None, Some, [], ◌∷◌, IfOk, MatchOption, option_map, option_and_then};
 ghost use Rattle.std.specs.List.{position_or_len};
-ghost use Rattle.raft_script.specs.Line.{Crash, BeginsWith, HasNoWord, alone, asked_by, asked_in, asked_of, asked_of_call, delete_by, get_by, is_word, left_by, number_in, put_by, sync_by, torn_by, words_in};
+ghost use Rattle.raft_script.specs.Line.{Crash, BeginsWith, HasNoWord, if_last, parsed_words, asked_in, asked_of, asked_of_call, delete_by, get_by, is_word, left_by, number_in, put_by, sync_by, torn_by, words_in};
 
 use crate::operation::{Act, Op};
 use std::alloc::{AllocError, Global};
@@ -87,7 +87,7 @@ pub(crate) fn parse_line(text: &[u8]) -> Option<Line<'_>>
 
 fn parse_asked<'a>(verb: &[u8], rest: &'a [u8]) -> Option<Line<'a>>
     ensures value { option_map asked_of result
-        ≡ option_and_then (λ words. asked_by (verb.now ∷ words)) (words_in rest.now) }
+        ≡ option_and_then (λ words. parsed_words (verb.now ∷ words)) (words_in rest.now) }
 {
     if verb == b"put".as_slice() {
         Some(Line::Call(parse_put(rest)?))
@@ -168,8 +168,8 @@ fn parse_delete(rest: &[u8]) -> Option<Call<'_>>
     Some(Call::Delete { group, key, sync })
 }
 
-// The first word, and what follows the space behind it: a word is of printable characters, and one space stands
-// between two words. Behind the last word nothing follows.
+// The first word, and what follows the space after it: a word is of printable characters, and one space stands
+// between two words. After the last word nothing follows.
 fn split_word(text: &[u8]) -> Option<(&[u8], &[u8])>
     ensures value { MatchOption result (HasNoWord text.now)
         (λ found. BeginsWith text.now found.0.now found.1.now) }
@@ -248,7 +248,7 @@ fn parse_sync(rest: &[u8]) -> Option<bool>
 }
 
 fn ends(rest: &[u8]) -> Option<()>
-    ensures value { result ≡ option_and_then (alone tt) (words_in rest.now) }
+    ensures value { result ≡ option_and_then (if_last tt) (words_in rest.now) }
 {
     if rest.is_empty() { Some(()) } else { None }
 }

@@ -1,13 +1,20 @@
 //! The program `raftlog` over any reader and writer.
-ghost use Rattle.std.specs.Prelude.{IfOk, IfSome, List, Option, ℕ};
-ghost use Rattle.raft_script.specs.Line.{EndsOn, GoesOnOrEnds, IsNextLine, IsReading, asked_of_call};
-ghost use Rattle.raft_script.specs.Program.{IsAnswered};
+ghost use Rattle.std.specs.Prelude.{◌≡◌, IfOk, IfSome, List, MatchResult, None, Option, Some, codes, ℕ};
+ghost use Rattle.std.specs.String.{string_bytes};
+ghost use Rattle.raft_env.specs.Directory.{CrashImage, IsRestarted, Leaves};
+ghost use Rattle.raft_log_engine.specs.Contents.{contents_at};
+ghost use Rattle.raft_log_engine.specs.Engine.{contents_of, has_failed};
+ghost use Rattle.raft_memory.specs.Memory.{memory_directory};
+ghost use Rattle.raft_records.specs.Contents.{no_contents};
+ghost use Rattle.raft_script.specs.Line.{EndsOn, GoesOnOrEnds, IsNextLine, IsReading, asked_of, asked_of_call};
+ghost use Rattle.raft_script.specs.Program.{AnswersFrom, AnswersLine, HoldsAfterCrash, IsAnswered, IsMetBy, OpensTo};
 
 use crate::answer::{Answer, print};
 use crate::line::{Call, CrashChoice, Line, parse_line};
 use crate::operation::Outcome;
 use crate::runs::step;
 use raft_env::FileSystem;
+use raft_log_engine::laws::crash_leaves_contents;
 use raft_log_engine::{Config, Engine, Refused};
 use raft_memory::{Choice, MemoryFileSystem};
 use raft_records::{Fault, Fresh, ReadableSize};
@@ -22,7 +29,7 @@ pub enum Ended {
     Done,
     /// A line, counted from 1, asks for nothing that the program knows.
     BadLine(u64),
-    /// The input could not be read, or memory was refused outside the engine's calls.
+    /// The input could not be read, or memory ran out outside the engine's calls.
     Input,
     /// The output could not be written.
     Output,
@@ -94,7 +101,7 @@ fn serve_line<R: BufRead, W: Write>(
         return Some(Ended::Output);
     }
     match answer {
-        Answer::Gone(_) => Some(Ended::Opening),
+        Answer::Fatal(_) => Some(Ended::Opening),
         _ => None,
     }
 }
@@ -119,29 +126,55 @@ fn answer_line(
     alloc: Global,
     engine: &mut Option<MemoryEngine>,
     line: &Line<'_>,
-) -> Result<Answer, AllocError> {
+) -> Result<Answer, AllocError>
+    ensures value { IfOk result (λ answer.
+        AnswersLine (asked_of line.now) answer engine.old engine.new) }
+{
     if let Line::Nothing = line {
         return Ok(Answer::Nothing);
     }
-    let opened = match engine.take() {
-        Some(opened) => opened,
-        None => match open(alloc)? {
-            Ok(opened) => opened,
-            Err(refused) => return Ok(Answer::Gone(refused.fault)),
-        },
-    };
+    match take_or_open(alloc, engine)? {
+        Ok(opened) => answer_asked(alloc, engine, opened, line),
+        Err(refused) => Ok(Answer::Fatal(refused.fault)),
+    }
+}
+
+fn take_or_open(alloc: Global, engine: &mut Option<MemoryEngine>) -> Result<Opening, AllocError>
+    ensures value { IfOk result (λ opening. IfOk opening (IsMetBy engine.old)) }
+{
+    match engine.take() {
+        Some(opened) => Ok(Ok(opened)),
+        None => open(alloc),
+    }
+}
+
+// What the line asks for, of the engine that it meets.
+fn answer_asked(
+    alloc: Global,
+    engine: &mut Option<MemoryEngine>,
+    opened: MemoryEngine,
+    line: &Line<'_>,
+) -> Result<Answer, AllocError>
+    requires { line.now ≡ Line.Nothing → ⊥ }
+    ensures value { IfOk result (λ answer.
+        AnswersFrom (asked_of line.now) answer opened engine.new) }
+{
     match line {
         Line::Reopen => Ok(reopen(engine, opened)),
         Line::Crash(choice) => crash(alloc, engine, opened, choice),
         Line::Call(call) => {
-            let outcome = answer_call(alloc, engine.insert(opened), call)?;
+            let mut opened = opened;
+            let outcome = answer_call(alloc, &mut opened, call)?;
+            *engine = Some(opened);
             Ok(Answer::Outcome(outcome))
         }
         Line::Nothing => Ok(Answer::Nothing),
     }
 }
 
-fn settings(alloc: Global) -> Result<Config, AllocError> {
+fn settings(alloc: Global) -> Result<Config, AllocError>
+    ensures folder { IfOk result (λ config. string_bytes config.dir ≡ codes "raft") }
+{
     let mut config = Config::fresh(alloc);
     config.dir.push_str(FOLDER)?;
     config.target_file_size = ReadableSize::kb(1);
@@ -149,7 +182,10 @@ fn settings(alloc: Global) -> Result<Config, AllocError> {
     Ok(config)
 }
 
-fn open(alloc: Global) -> Result<Opening, AllocError> {
+fn open(alloc: Global) -> Result<Opening, AllocError>
+    ensures value { IfOk result (λ opening. IfOk opening (IsMetBy None)) }
+{
+    crash_leaves_contents();
     let config = settings(alloc)?;
     Ok(Engine::open_in_order(alloc, config, MemoryFileSystem::new(alloc)))
 }
@@ -160,11 +196,14 @@ fn crash(
     engine: &mut Option<MemoryEngine>,
     opened: MemoryEngine,
     left: &CrashChoice,
-) -> Result<Answer, AllocError> {
+) -> Result<Answer, AllocError>
+    ensures value { IfOk result (λ answer. OpensTo answer engine.new (HoldsAfterCrash opened)) }
+{
+    crash_leaves_contents();
     let config = settings(alloc)?;
     match crashed(alloc, opened.give_up(), left) {
         Ok(files) => Ok(open_again(alloc, engine, config, files)),
-        Err(fault) => Ok(Answer::Gone(fault)),
+        Err(fault) => Ok(Answer::Fatal(fault)),
     }
 }
 
@@ -173,24 +212,32 @@ fn open_again<F: FileSystem + Drop>(
     engine: &mut Option<Engine<F>>,
     config: Config,
     files: F,
-) -> Answer {
+) -> Answer
+    ensures value { OpensTo result engine.new (λ e. contents_of e
+        ≡ contents_at (string_bytes config.dir) (F.directory files)) }
+{
     answer_opening(engine, Engine::open_in_order(alloc, config, files))
 }
 
-fn reopen<F: FileSystem + Drop>(engine: &mut Option<Engine<F>>, opened: Engine<F>) -> Answer {
+fn reopen<F: FileSystem + Drop>(engine: &mut Option<Engine<F>>, opened: Engine<F>) -> Answer
+    ensures value { OpensTo result engine.new (λ e. contents_of e ≡ contents_of opened) }
+{
     answer_opening(engine, opened.reopen())
 }
 
 fn answer_opening<F: FileSystem + Drop>(
     engine: &mut Option<Engine<F>>,
     opening: Result<Engine<F>, Refused<F>>,
-) -> Answer {
+) -> Answer
+    ensures value { MatchResult opening (λ opened. (result ≡ Answer.Done)
+        × (engine.new ≡ Some opened)) (λ refused. result ≡ Answer.Fatal refused.fault) }
+{
     match opening {
         Ok(opened) => {
             *engine = Some(opened);
             Answer::Done
         }
-        Err(refused) => Answer::Gone(refused.fault),
+        Err(refused) => Answer::Fatal(refused.fault),
     }
 }
 
@@ -199,7 +246,11 @@ fn crashed(
     alloc: Global,
     mut files: MemoryFileSystem,
     left: &CrashChoice,
-) -> Result<MemoryFileSystem, Fault> {
+) -> Result<MemoryFileSystem, Fault>
+    ensures value { IfOk result (λ again. (image : CrashImage)
+        × Leaves (memory_directory files) image
+        × IsRestarted (memory_directory files) image (memory_directory again)) }
+{
     let count = count_files(alloc, &mut files)?;
     let mut choices = Vec::with_capacity(alloc, count)?;
     for _ in 0..count {
@@ -208,7 +259,9 @@ fn crashed(
     files.crash(&choices)
 }
 
-fn count_files<F: FileSystem>(alloc: Global, files: &mut F) -> Result<usize, Fault> {
+fn count_files<F: FileSystem>(alloc: Global, files: &mut F) -> Result<usize, Fault>
+    ensures unchanged { F.directory files.new ≡ F.directory files.old }
+{
     match files.list(FOLDER) {
         Ok(names) => Ok(names.len()),
         Err(fault) => Err(fault.with_path(alloc, FOLDER)),

@@ -8,7 +8,7 @@ ghost use Rattle.raft_memory.specs.Memory.{memory_directory, memory_moments, no_
 ghost use Rattle.raft_log_engine.specs.Image.{IsImageOf};
 ghost use Rattle.raft_log_engine.specs.Contents.{contents_at};
 ghost use Rattle.raft_log_engine.specs.Crash.{RecoversContents};
-ghost use Rattle.raft_pipes.specs.Done.{IsDoneIn};
+ghost use Rattle.raft_pipes.specs.Completed.{ReadsCompletedRecordsIn};
 ghost use Rattle.raft_pipes.specs.Queue.{IsOpenableIn};
 ghost use Rattle.raft_script.specs.Run.{IsStorageOrMemory};
 ghost use Rattle.raft_script.specs.Trial.{AreNotAllowed, IsLogRefusal, IsTrialOf, LeavesDetectable, RunsOver};
@@ -19,14 +19,14 @@ use raft_env::FileSystem;
 use raft_log_engine::laws::{crash_leaves_contents, the_damage_of_an_engine_is_detectable};
 use raft_log_engine::{Config, Engine, Image};
 use raft_memory::{Choice, MemoryFileSystem};
-use raft_pipes::laws::{a_queue_stays_done, crash_leaves_a_prefix};
+use raft_pipes::laws::{a_queue_keeps_its_completed_log, crash_leaves_a_prefix};
 use raft_records::Fault;
 use std::alloc::Global;
 
 /// Opens a log in memory, does the operations, crashes, and opens again. From the first opening on the calls that may
-/// change files are counted from 1, and from the one at `stop` on each is refused; the opening after the crash has no
+/// change files are counted from 1, and from the one at `stop` on each fails; the opening after the crash has no
 /// stop. The choices say what the crash leaves; bytes that storage doesn't allow are refused, and no others. Where
-/// the damage of what it leaves is detectable, a tolerant opening fails by storage or for want of memory alone; any
+/// the damage of what it leaves is detectable, a tolerant opening fails by storage or for lack of memory alone; any
 /// other opening only for these, or for what is left of the log. It is detectable where an engine answered and didn't
 /// fail, and the choices leave each file whole, as it is at the crash or as it was synced.
 pub fn trial(
@@ -40,9 +40,9 @@ pub fn trial(
         (IsTrialOf config.recovery_mode (string_bytes config.dir) ops.now stop choices.now) }
     ensures cause { IfErr result (λ e. (e ≡ Fault.Memory)
         ⊎ ((fault_code e ≡ 1) × (NameNoBytes choices.now → ⊥)
-        × AreNotAllowed (string_bytes config.dir) ops.now choices.now)) }
+        × AreNotAllowed (string_bytes config.dir) ops.now stop choices.now)) }
 {
-    a_queue_stays_done();
+    a_queue_keeps_its_completed_log();
     crash_leaves_a_prefix();
     crash_leaves_contents();
     let again = config.clone()?;
@@ -79,7 +79,7 @@ fn run_over<F: FileSystem + Drop>(
         RecoversContents dir found [] (F.directory files)
         → RunsOver dir found ops.now r.0.outcomes.items r.0.failed_at (F.directory r.1)) }
     ensures crash { IfOk result (λ r.
-        IsDoneIn (string_bytes config.dir) (F.directory files) → r.0.failed_at ≡ None
+        ReadsCompletedRecordsIn (string_bytes config.dir) (F.directory files) → r.0.failed_at ≡ None
         → (r.0.outcomes.items ≡ [] → ⊥)
         → LeavesDetectable (string_bytes config.dir) (F.directory r.1)) }
     ensures any_moment { IfOk result (λ r.

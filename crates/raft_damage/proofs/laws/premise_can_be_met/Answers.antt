@@ -1,14 +1,14 @@
-use Rattle.raft_memory.proofs.TornLemmas.{choices_may_leave}
-use Rattle.raft_damage.proofs.PremiseLemmas.{records_told, records_torn, log_whole}
-use Rattle.raft_damage.proofs.PastLemmas.{own_told, now_is_read, synced_is_read}
-use Rattle.raft_damage.proofs.ToldLemmas.{broken_zeros}
+use Rattle.raft_memory.proofs.ChoiceTornLemmas.{choices_may_leave}
+use Rattle.raft_damage.proofs.PremiseLemmas.{records_detectable, records_torn, log_whole}
+use Rattle.raft_damage.proofs.PastLemmas.{own_detectable, now_is_read, synced_is_read}
+use Rattle.raft_damage.proofs.DetectableDamageLemmas.{broken_zeros}
 use Rattle.raft_damage.proofs.laws.premise_can_be_met.Goals as goal
 
 pub returns-clause-allowed : goal.returns-clause-allowed
 returns-clause-allowed c = choices_may_leave
 
-pub returns-clause-told : goal.returns-clause-told
-returns-clause-told c = records_told
+pub returns-clause-first_records : goal.returns-clause-first_records
+returns-clause-first_records c = records_detectable
 
 pub returns-clause-torn : goal.returns-clause-torn
 returns-clause-torn c = records_torn
@@ -20,7 +20,7 @@ pub returns-clause-detectable : goal.returns-clause-detectable
 returns-clause-detectable c = log_whole
 
 pub returns-clause-own : goal.returns-clause-own
-returns-clause-own c = own_told
+returns-clause-own c = own_detectable
 
 pub returns-clause-read_now : goal.returns-clause-read_now
 returns-clause-read_now c = now_is_read

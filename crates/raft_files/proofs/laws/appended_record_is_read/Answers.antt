@@ -1,4 +1,4 @@
-use Rattle.raft_files.proofs.ReadingLemmas.{header_alone_is_read, appended_record_is_read}
+use Rattle.raft_files.proofs.ScanLemmas.{header_alone_is_read, appended_record_is_read}
 use Rattle.raft_files.proofs.laws.appended_record_is_read.Goals as goal
 
 pub returns-clause-header : goal.returns-clause-header

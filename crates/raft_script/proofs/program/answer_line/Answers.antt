@@ -1,15 +1,6 @@
-use denote.Param.Send.{sendable}
-use Rattle.raft_memory.proofs.Sent.{memory_send, memory_sync}
+use Rattle.raft_script.proofs.ProgramLemmas.{line_answered}
+use Rattle.raft_script.specs.Line.{asked_of}
 use Rattle.raft_script.proofs.program.answer_line.Goals as goal
 
-pub reopen-requires-send-F : goal.reopen-requires-send-F
-reopen-requires-send-F c = λ κs. search (sendable, memory_send) depth 20
-
-pub reopen-requires-sync-F : goal.reopen-requires-sync-F
-reopen-requires-sync-F c = λ κs. search (sendable, memory_sync) depth 20
-
-pub answer_call-requires-send-F : goal.answer_call-requires-send-F
-answer_call-requires-send-F c = λ κs. search (sendable, memory_send) depth 20
-
-pub answer_call-requires-sync-F : goal.answer_call-requires-sync-F
-answer_call-requires-sync-F c = λ κs. search (sendable, memory_sync) depth 20
+pub returns-in-Ok : goal.returns-in-Ok
+returns-in-Ok c = record { value = line_answered (asked_of c.args.line.now) c.args.engine.now c.answer_asked.new.engine c.in-Ok.opened c.in_ok-opened.field-0 c.answer_asked.result c.in-Ok.is c.in_ok-opened.ensures.value c.answer_asked.ensures.value }

@@ -8,10 +8,10 @@ use Rattle.raft_env.specs.Moments.{HoldsThroughout}
 use Rattle.raft_log_engine.specs.Crash.{LeavesAllowed}
 use Rattle.raft_script.specs.Durability.{Answers, AreAllowedInside, Progress, progress_after, progress_after_all, progress_from}
 use Rattle.raft_log_engine.specs.Durability.{durability_of}
-use Rattle.raft_script.specs.Run.{IsFailurePlace, IsUnasked}
+use Rattle.raft_script.specs.Run.{IsFailurePlace, IsUnasked, given_batches}
 use Rattle.raft_script.specs.declared.operation.Op.{Op}
-use Rattle.raft_log_engine.specs.Engine.{contents_of, directory_of, durable_of, folder_of, has_failed, moments_of, note_of, refusals_of, unsynced_of}
-use Rattle.raft_script.proofs.AnswersLemmas.{allowed_more, inside_call}
+use Rattle.raft_log_engine.specs.Engine.{answer_now, contents_of, directory_of, durable_of, folder_of, has_failed, moments_of, refusals_of, snapshot_of, unsynced_of}
+use Rattle.raft_script.proofs.RunAnswersLemmas.{allowed_more, inside_call}
 use Rattle.raft_script.proofs.DurabilityLemmas.{IsUnderWay, durable_after, inside_here, leaves_after, leaves_standing, progress_more, under_way_begun, under_way_more}
 use Rattle.raft_script.proofs.RunLemmas.{IsNextPlace, IsRunning, place_more, rose_more, running_begun, running_more, stands_so_far, still_failing, taken_more}
 use Rattle.raft_script.proofs.runs.run_watched.Goals as goal
@@ -59,7 +59,7 @@ loop-op-preserved g c =
     let leaves = subst (λ (f : Path). LeavesAllowed f (durable_of new) (unsynced_of new) (directory_of new)) (step.folder ∙ kept.3) law.crash in
     let newest : (x : Directory) (earlier : List Directory) → moments_of new ≡ x ∷ earlier → LeavesAllowed (folder_of begun) (durable_of new) (unsynced_of new) x = λ x earlier moments.
     let same : directory_of new ≡ x = cc now.1 in subst (λ (y : Directory). LeavesAllowed (folder_of begun) (durable_of new) (unsynced_of new) y) same leaves in
-    let inside = λ (asks : Answers flight old new). inside_call (folder_of begun) m p op outcome (note_of old) (note_of new) (LeavesAllowed (folder_of begun) (durable_of old) (unsynced_of old ++ flight)) (directory_of new)
+    let inside = λ (asks : Answers (given_batches op) flight old new). inside_call (folder_of begun) m p op outcome (snapshot_of old) (answer_now (given_batches op) new) refl (LeavesAllowed (folder_of begun) (durable_of old) (unsynced_of old ++ flight)) (directory_of new)
     (λ x alive allowed. inside_here m p c.args.ops.now c.loop-op.op-index c.loop-op.failed_at c.if-stood.failed_at (durability_of old) kept.4 op outcome flight (durability_of new) next (folder_of begun) x does.may_be holds alive allowed)
     (λ alive. subst (λ (f : Path). HoldsThroughout (moments_of old) (moments_of new) (directory_of new) (LeavesAllowed f (durable_of old) (unsynced_of old ++ flight))) kept.3 (asks.moments alive)) asks.rests
     (λ stands x earlier moments. leaves_standing (folder_of begun) m (progress_after p op outcome) c.args.ops.now c.if-stood.failed_at (durability_of new) way stands x (newest x earlier moments)) step.failed in

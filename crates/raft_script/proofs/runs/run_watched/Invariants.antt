@@ -2,8 +2,8 @@ use Rattle.std.proofs.Common.{All, ◌≡◌, ◌||◌, ◌≤◌, is_some, leng
 use Rattle.raft_script.specs.Durability.{AreAllowedInside, progress_after_all, progress_from}
 use Rattle.raft_log_engine.specs.Durability.{durability_of}
 use Rattle.raft_log_engine.specs.Engine.{begun_of, contents_of, directory_of, durable_of, folder_of, has_failed, refusals_of, unsynced_of}
-use Rattle.raft_script.specs.Run.{IsFailurePlace, IsUnasked, RoseBy, io_count}
-use Rattle.raft_script.proofs.AnswersLemmas.{Keeps}
+use Rattle.raft_script.specs.Run.{IsFailurePlace, IsUnasked, StorageRefusalsRoseBy, io_count}
+use Rattle.raft_script.proofs.RunAnswersLemmas.{Keeps}
 use Rattle.raft_script.proofs.DurabilityLemmas.{IsUnderWay}
 use Rattle.raft_script.proofs.RunLemmas.{IsRunning}
 use Rattle.raft_script.proofs.runs.run_watched.Given as goal
@@ -18,7 +18,7 @@ invariant-loop-op g l =
     × AreAllowedInside (take l.op-index l.ops) l.outcomes.items l.initial.engine l.engine
     × (has_failed l.engine ≡ (has_failed l.initial.engine || is_some l.failed_at))
     × IsFailurePlace (has_failed l.initial.engine) (take l.op-index l.ops) l.outcomes.items l.failed_at
-    × RoseBy (io_count l.outcomes.items) (refusals_of l.initial.engine) (refusals_of l.engine)
+    × StorageRefusalsRoseBy (io_count l.outcomes.items) (refusals_of l.initial.engine) (refusals_of l.engine)
     × (All IsUnasked l.ops → l.engine ≡ l.initial.engine)
     × Keeps (folder_of l.engine) (durability_of l.engine) (directory_of l.engine)
     × (begun_of l.engine ≡ begun_of l.initial.engine)

@@ -1,6 +1,8 @@
-use Rattle.std.proofs.Common.{◌≡◌, ◌∙◌, [], Some, ap, inl, inr, refl, rules, sym}
+use Rattle.std.proofs.Common.{◌≡◌, ◌∙◌, ◌∷◌, [], List, Some, ap, inl, inr, refl, rules, sym}
+use Rattle.raft_records.specs.Item.{Batch}
+use Rattle.raft_log_engine.specs.Crash.{written_batch}
 use Rattle.raft_log_engine.specs.Durability.{durability_of}
-use Rattle.raft_log_engine.specs.Engine.{contents_of, directory_of, durable_of, folder_of, moments_of, unsynced_of}
+use Rattle.raft_log_engine.specs.Engine.{answer_now, answered_of, contents_of, directory_of, durable_of, folder_of, moments_of, unsynced_of}
 use Rattle.raft_script.specs.Run.{batch_of_acts, written_batches}
 use Rattle.raft_script.proofs.DurabilityLemmas.{moments_of_batch, written_progress}
 use Rattle.raft_script.proofs.RunLemmas.{acts_pending}
@@ -19,7 +21,7 @@ returns-in-Ok-clause-progress g c =
       may_be = acts_pending (contents_of e) acts.items;
       progress = written_progress acts items c.in-Write.sync built c.write.result (durability_of e) (durability_of n) write.progress;
       answers = inr (record {
-        noted = write.answered;
+        noted = write.answered ∙ ap (λ (given : List Batch). answer_now given n ∷ answered_of e) (ap written_batches (sym built));
         moments = λ alive. moments_of_batch (folder_of e) (durable_of e) (unsynced_of e) items (batch_of_acts acts.items) (moments_of e) (moments_of n) (directory_of n) built write.any_moment;
         rests = λ failed. (write.unchanged failed).0.moments;
       });
@@ -46,7 +48,7 @@ returns-in-Sync-clause-progress g c = rw c.in-Sync.is (record {
 pub returns-in-Ok-clause-failed : goal.returns-in-Ok-clause-failed
 returns-in-Ok-clause-failed g c = rw c.in-Write.is (record {
   still = λ failed. search rules;
-  told = λ told. search rules;
+  only_failed = λ told. search rules;
   refused = λ failed. search rules;
   cause = λ alive fails. search rules;
 })

@@ -3,14 +3,14 @@ use Rattle.std.specs.String.{string_bytes}
 use Rattle.raft_records.specs.Contents.{Contents}
 use Rattle.raft_env.specs.Directory.{Directory, HasFile, Path}
 use Rattle.raft_script.specs.Durability.{LeavesAllowedAfter}
-use Rattle.raft_log_engine.specs.Engine.{answered_of, begun_of, directory_of, durable_of, folder_of, has_failed, note_of, unsynced_of}
+use Rattle.raft_log_engine.specs.Engine.{answered_of, begun_of, directory_of, durable_of, folder_of, has_failed, snapshot_of, unsynced_of}
 use Rattle.raft_log_engine.specs.Contents.{contents_at}
 use Rattle.std.specs.List.{AllByRecursion}
-use Rattle.raft_pipes.specs.Done.{IsDoneIn}
+use Rattle.raft_pipes.specs.Completed.{ReadsCompletedRecordsIfSimple}
 use Rattle.raft_script.specs.Trial.{LeavesDetectable}
 use Rattle.raft_script.specs.Run.{AreAnswers, IsFailurePlace}
 use Rattle.raft_script.specs.Durability.{progress_from}
-use Rattle.raft_script.proofs.AnswersLemmas.{through_moments}
+use Rattle.raft_script.proofs.RunAnswersLemmas.{through_moments}
 use Rattle.raft_script.proofs.TrialLemmas.{opened_after, refused_after}
 use Rattle.raft_script.proofs.trials.run_over.Goals as goal
 
@@ -57,8 +57,8 @@ returns-in_ok-ran-in-Ok-clause-crash g c = λ done none some.
     let folder : folder_of ran ≡ dir = c.in_ok-ran-in-Ok.ensures.folder ∙ c.in-Ok.ensures.ok.folder_is in
     let stands : has_failed ran ≡ false = failures ∙ ap (λ (b : Bool). b || is_some c.in_ok-ran-in-Ok.ran.failed_at) c.in-Ok.ensures.ok.stands ∙ ap (λ (o : Option ℕ). is_some o) none in
     let begun : begun_of ran ≡ g.F.FileSystem.directory c.args.files ∷ [] = c.in_ok-ran-in-Ok.ensures.others ∙ c.in-Ok.ensures.value in
-    let all : AllByRecursion (IsDoneIn dir) (begun_of ran) = subst (λ (l : List Directory). AllByRecursion (IsDoneIn dir) l) (sym begun) (done, tt) in
-    let told : LeavesDetectable dir (directory_of ran) = subst (λ (p : Path). AllByRecursion (IsDoneIn p) (begun_of ran) → LeavesDetectable p (directory_of ran)) folder (c.the_damage_of_an_engine_is_detectable.ensures.crash stands) all in
+    let all : AllByRecursion (ReadsCompletedRecordsIfSimple dir) (begun_of ran) = subst (λ (l : List Directory). AllByRecursion (ReadsCompletedRecordsIfSimple dir) l) (sym begun) ((λ past. done), tt) in
+    let told : LeavesDetectable dir (directory_of ran) = subst (λ (p : Path). AllByRecursion (ReadsCompletedRecordsIfSimple p) (begun_of ran) → LeavesDetectable p (directory_of ran)) folder (c.the_damage_of_an_engine_is_detectable.ensures.crash stands) all in
     subst (λ (n : Directory). LeavesDetectable dir n) (sym c.give_up.ensures.unchanged.0) told
 
 pub returns-in-Err-clause-crash : goal.returns-in-Err-clause-crash
@@ -70,7 +70,7 @@ returns-in_ok-ran-in-Ok-clause-any_moment g c =
     let before = g.F.FileSystem.moments c.args.files in
     let opened = c.in-Ok.ensures.any_moment in
     let outcomes = c.in_ok-ran-in-Ok.ran.outcomes.items in
-    let run = through_moments (folder_of e) (durable_of e) (progress_from (unsynced_of e)) (note_of e) (answered_of e) c.args.ops.now outcomes (note_of c.run_watched.new.engine) (answered_of c.run_watched.new.engine) c.in_ok-ran-in-Ok.ensures.any_moment in (
+    let run = through_moments (folder_of e) (durable_of e) (progress_from (unsynced_of e)) (snapshot_of e) (answered_of e) c.args.ops.now outcomes (snapshot_of c.run_watched.new.engine) (answered_of c.run_watched.new.engine) c.in_ok-ran-in-Ok.ensures.any_moment in (
       run.0 ++ opened.added,
       c.give_up.ensures.unchanged.1 ∙ run.1 ∙ ap (λ (l : List Directory). run.0 ++ l) opened.is ∙ sym (append_assoc run.0 opened.added before),
     )

@@ -37,12 +37,10 @@ returns-clause-value c =
     let restarted = c.in_ok-left.ensures.ok in
     let sound : IsDetectableIn dir files left → IsSound dir files left = λ detectable. (shown.after.2 left leaves detectable).1 in
     record {
-      first = c.new_files.result;
       last = c.in_ok-ran.files;
-      stopped = record { stop_is = search rules; none = none; added = c.in_ok-ran.ensures.any_moment.0; later = c.in_ok-ran.ensures.any_moment.1 };
-      ran = shown;
+      runs = record { first = c.new_files.result; stop_is = search rules; none = none; added = c.in_ok-ran.ensures.any_moment.0; later = c.in_ok-ran.ensures.any_moment.1; ran = shown };
       left = leaves;
-      detectable = λ none some whole. c.in_ok-ran.ensures.crash (none_done dir before (λ absent. (c.a_queue_stays_done.ensures.none dir before absent).0) c.new_files.ensures.files) none some
+      detectable = λ none some whole. c.in_ok-ran.ensures.crash (none_done dir before (λ absent. (c.a_queue_keeps_its_completed_log.ensures.none dir before absent).0) c.new_files.ensures.files) none some
           (λ file stands. record { never_renamed = c.in_ok-left.ensures.not_renamed (log_path dir) file stands; only_writes = c.in_ok-left.ensures.only_writes (log_path dir) file stands })
           c.in_ok-left.ensures.consistent c.args.choices.now whole;
       found = image_restarted (string_bytes c.in_ok-again.again.dir) dir files (memory_directory c.in_ok-left.left) left c.open_image.result c.in_ok-again.ensures.value.dir (c.crash_leaves_contents.ensures.found dir files m left restarted) c.open_image.ensures.value;
@@ -60,4 +58,10 @@ returns-in_err-left-clause-cause c =
     let shown = run_shown (string_bytes c.args.config.dir) (memory_directory c.new_files.result) files c.args.ops.now ran.outcomes.items ran.failed_at (c.crash_leaves_contents.ensures.none (string_bytes c.args.config.dir) (memory_directory c.new_files.result)) c.new_files.ensures.files c.in_ok-ran.ensures.ok in
     let p = err_from_is_err_and c.from_residual-in_err-left.result c.from_residual-in_err-left.ensures.1 in
     rw (p.1, p.2) (choices_refused files c.args.choices.now c.in_err-left.field-0.0 c.in_err-left.ensures.consistent c.in_err-left.ensures.refused
-    (λ not_left. record { outcomes = ran.outcomes.items; failed_at = ran.failed_at; files = files; ran = shown; refused = not_left }))
+    (λ not_left. record {
+      outcomes = ran.outcomes.items;
+      failed_at = ran.failed_at;
+      last = c.in_ok-ran.files;
+      runs = record { first = c.new_files.result; stop_is = search rules; none = c.new_files.ensures.files; added = c.in_ok-ran.ensures.any_moment.0; later = c.in_ok-ran.ensures.any_moment.1; ran = shown };
+      refused = not_left;
+    }))

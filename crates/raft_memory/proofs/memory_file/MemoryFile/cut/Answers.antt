@@ -1,7 +1,7 @@
 use Rattle.std.proofs.Common.{◌≡◌, ◌≤◌, length, take, min, max, rules}
-use Rattle.raft_env.specs.Outcomes.{resized}
+use Rattle.raft_env.specs.Outcomes.{file_after_resize}
 use Rattle.raft_memory.proofs.MemoryFileLemmas.{file_cut}
-use Rattle.raft_memory.proofs.BeforeImagesLemmas.{saved_cut}
+use Rattle.raft_memory.proofs.MemoryFileBeforeImagesLemmas.{saved_cut}
 use Rattle.raft_memory.proofs.memory_file.MemoryFile.cut.Goals as goal
 
 pub invariant_of-self-2 : goal.invariant_of-self-2
@@ -17,5 +17,5 @@ invariant_of-self-2 c =
     let saved = saved_cut _ _ _ _ c.self.invariant.1 c.save.new.self from (rw bytes at c.in_ok-save.ensures.ok) in
     let low : c.min-self-inside.result ≡ min s.least from = search rules in
     let high : c.max-self-inside.result ≡ max s.greatest from = search rules in
-    let file : c.after-self-inside.result.file ≡ resized c.truncate.new.self.items s.known.file = search rules in
+    let file : c.after-self-inside.result.file ≡ file_after_resize c.truncate.new.self.items s.ghost_file.file = search rules in
     rw (low, high, file, after) (kept, saved)

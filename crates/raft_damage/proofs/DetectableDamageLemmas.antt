@@ -1,0 +1,177 @@
+-- The damage of a crash can be told.
+use Rattle.std.proofs.Common.{◌≡◌, ℕ, ◌<◌, ◌≤◌, List, [], ◌++◌, length, take, drop, slice_index, Option, Some, None, Contains, refl, ap, sym, subst, ◌∙◌, inl, arith, length-drop}
+use Rattle.std.proofs.lemmas.List.{append-nil, take_all, take-take, take-append-drop, length-take}
+use Rattle.std.proofs.lemmas.List.Elements.{Contains-append_left}
+use Rattle.raft_records.specs.Record.{record_header, parts_by}
+use Rattle.raft_base.specs.declared.pipe_log.FileId.{FileId}
+use Rattle.raft_files.specs.declared.format.LogFileFormat.{LogFileFormat}
+use Rattle.raft_env.specs.Outcomes.{File, MayLeave, untouched_len, bytes_after}
+use Rattle.raft_files.specs.Scan.{PlacedRecord, record_place, record_at, next_record, end_of_records, ScanResult, records_after, scan_file, records_of, readable_records}
+use Rattle.raft_files.specs.Detectable.{IsPrefixOf, format_of, signature_by, AreFromCompletedCalls, HasCompressedAt, IsDetectableFile}
+use Rattle.raft_files.specs.Records.{ReadsFirst, HoldsRecords}
+use Rattle.raft_env.specs.Consistent.{IsConsistent}
+use Rattle.raft_premise.specs.Completed.{EndsInZeros, HoldsCompletedRecords}
+use Rattle.raft_damage.specs.DetectableDamage.{IsBrokenFrom, IsTornAfter}
+use Rattle.raft_premise.proofs.CompletedZerosLemmas.{never_stale, only_zeros}
+use Rattle.raft_premise.proofs.CompletedLemmas.{IsWrittenByCompletedCalls}
+use Rattle.raft_files.proofs.DetectableLemmas.{prefix_itself, prefix_trans, prefix_append}
+use Rattle.raft_files.proofs.ScanExtentLemmas.{record_header_is, same_some, some_then}
+use Rattle.raft_files.proofs.ScanPlacedLemmas.{placed_by-none}
+use Rattle.raft_files.proofs.ScanLemmas.{found_record, record_place-forward, reading_is}
+use Rattle.raft_env.proofs.OutcomesLemmas.{same_front}
+use Rattle.raft_files.proofs.RecordsEmptyLemmas.{record_header_zeros}
+use Rattle.raft_files.proofs.RecordsHeldLemmas.{reading-held, readable-held, format_of_read, format_of-held}
+use Rattle.raft_files.proofs.RecordsLemmas.{reads_first-within, reads_first-kept}
+use Rattle.raft_files.proofs.RecordsLengthLemmas.{holds_same}
+use Rattle.raft_env.proofs.ConsistentLemmas.{now_may_be_left, before_is_untouched}
+
+-- Zeros.
+
+none_unless : {A : Type 0} (o : Option A) → ((x : A) → o ≡ Some x → ⊥) → o ≡ None
+none_unless None never = refl
+none_unless (Some x) never = absurd (never x refl)
+
+-- where zeros alone stand there is no record
+pub broken_zeros : (id : FileId) (format : LogFileFormat) (at : ℕ) (bytes : List ℕ) → EndsInZeros at bytes → IsBrokenFrom id format at bytes
+broken_zeros id format at bytes ends = (none_unless (record_at signature bytes place) no_record, no_mark)
+  where
+    signature : Option ℕ
+    signature = signature_by id format
+
+    place : ℕ
+    place = record_place format.alignment bytes at
+
+    no_record : (found : PlacedRecord) → record_at signature bytes place ≡ Some found → ⊥
+    no_record found e =
+        let forward : at ≤ place = record_place-forward format.alignment bytes at in
+        let is = found_record signature bytes place found e in
+        record_header_zeros bytes place is.header (omega (arith, is.long, is.within)) (λ i above below. ends.zeros i (omega arith) (omega (arith, is.long, is.within))) is.has
+
+    no_mark : HasCompressedAt signature bytes place → ⊥
+    no_mark marked =
+        let forward : at ≤ place = record_place-forward format.alignment bytes at in
+        let header = some_then (parts_by signature (drop place bytes)) (record_header (drop place bytes)) marked.0 marked.1 in
+        let has = record_header_is (drop place bytes) header.0 header.1 in
+        record_header_zeros bytes place header.0 (omega (arith, has.long, length-drop place bytes)) (λ i above below. ends.zeros i (omega arith) (omega (arith, has.long, length-drop place bytes))) header.1
+
+-- Readings.
+
+-- where no record stands after those that bytes hold, the reading ends with them
+reading-broken : (id : FileId) (format : LogFileFormat) (records : List PlacedRecord) (at : ℕ) (bytes : List ℕ) → HoldsRecords id format records at bytes → IsBrokenFrom id format at bytes →
+    scan_file id bytes ≡ Some (record { format = format; records = records; end = at })
+reading-broken id format records at bytes holds broken =
+    let none : records_after id format bytes at ≡ [] = placed_by-none (next_record id format bytes) (length bytes) at broken.0 in
+    reading-held id format records at bytes holds
+    ∙ ap (λ rs. Some (record { format = format; records = records ++ rs; end = end_of_records at rs })) none
+    ∙ ap (λ rs. Some (record { format = format; records = rs; end = at })) (append-nil records)
+
+reading-torn : (id : FileId) (format : LogFileFormat) (records : List PlacedRecord) (file : File) (left : List ℕ) (torn : IsTornAfter id format records file left) → scan_file id left ≡ Some (record { format = format; records = take torn.count records; end = torn.end })
+reading-torn id format records file left torn = reading-broken id format (take torn.count records) torn.end left (holds_same id format (take torn.count records) torn.end file.now left torn.holds (sym torn.same) torn.within) torn.broken
+
+-- Outcomes.
+
+-- a prefix of bytes is read as a prefix of their records
+pub readable_records-take : (id : FileId) (n : ℕ) (bytes : List ℕ) → IsPrefixOf (readable_records id (take n bytes)) (readable_records id bytes)
+readable_records-take id n bytes = by_reading (scan_file id (take n bytes)) refl
+  where
+    by_reading : (read : Option ScanResult) → scan_file id (take n bytes) ≡ read → IsPrefixOf (records_of read) (readable_records id bytes)
+    by_reading None e = (readable_records id bytes, refl)
+    by_reading (Some r) e =
+        let is = reading_is id (take n bytes) r e in
+        let last = length (take n bytes) in
+        let short : last ≤ n = omega (arith, length-take n bytes) in
+        let reads : ReadsFirst id r.format r.records (take n bytes) = record { all = r.records; end = r.end; read = e; first = prefix_itself r.records } in
+        let same : take last (take n bytes) ≡ take last bytes = take-take last n bytes short in
+        let whole = reads_first-kept id r.format r.records last (take n bytes) bytes reads same (reads_first-within id r.format r.records (take n bytes) reads) in
+        subst (λ rs. IsPrefixOf r.records rs) (sym (ap (λ q. records_of q) whole.read)) whole.first
+
+-- what the last sync found reads as the synced records
+readable-synced : (id : FileId) (format : LogFileFormat) (records : List PlacedRecord) (synced at : ℕ) (file : File) → HoldsCompletedRecords id format records synced at file → readable_records id file.synced ≡ take synced records
+readable-synced id format records synced at file completed =
+    ap records_of (reading-broken id format (take synced records) completed.end file.synced completed.begins (broken_zeros id format completed.end file.synced completed.zeros))
+
+-- .. so each outcome that storage allows begins with it
+synced_left : (id : FileId) (format : LogFileFormat) (records : List PlacedRecord) (synced at : ℕ) (file : File) (left : List ℕ) → (completed : HoldsCompletedRecords id format records synced at file) → MayLeave file left → (completed.end ≤ length left) × (take completed.end file.synced ≡ take completed.end left)
+synced_left id format records synced at file left completed may =
+    let apart = completed.apart in
+    let within = completed.begins.within in
+    let long : completed.end ≤ length left = omega (arith, completed.long, may.no_shorter) in
+    let each : (i : ℕ) → i < completed.end → slice_index file.synced i ≡ slice_index left i = λ i before. sym (may.untouched i (omega arith) (omega arith) (before_is_untouched file.synced file.changes i (omega arith))) in
+    (long, same_front completed.end file.synced left within long each)
+
+-- the damage of an outcome can be told that holds the first records as they stand now and is broken after them
+pub torn_is_detectable : (id : FileId) (format : LogFileFormat) (records : List PlacedRecord) (synced at : ℕ) (file : File) (left : List ℕ) → HoldsCompletedRecords id format records synced at file → file.now ≡ bytes_after file.synced file.changes → file.renamed_after ≡ None → MayLeave file left → IsTornAfter id format records file left → IsDetectableFile id file left
+torn_is_detectable id format records synced at file left completed latest never may torn = record {
+  header = inl (header ∙ sym (format_of-held id format records at file.now completed.holds));
+  newer = [];
+  upto = file.changes;
+  moment = refl;
+  prefix = subst (λ b. IsPrefixOf read (readable_records id b)) latest prefix;
+  completed = λ other is.
+      let same : other ≡ format = same_some (sym is ∙ header) in
+      subst (λ f. AreFromCompletedCalls id (signature_by id f) (file.changes ++ file.older) read) (sym same) (λ r has. completed.completed r (among r has));
+  untouched = prefix_trans (readable_records id untouched) (take synced records) read untouched_read synced_read;
+  unmarked = λ r e marked.
+      let whole : ScanResult = record { format = format; records = take torn.count records; end = torn.end } in
+      let same : r ≡ whole = same_some (sym e ∙ whole_read) in
+      torn.broken.1 (subst (λ (q : ScanResult). HasCompressedAt (signature_by id q.format) left (record_place q.format.alignment left q.end)) same marked);
+  none_stale = λ r has. never_stale file.renamed_after (file.changes ++ file.older) r.at never;
+}
+  where
+    whole_read : scan_file id left ≡ Some (record { format = format; records = take torn.count records; end = torn.end })
+    whole_read = reading-torn id format records file left torn
+
+    header : format_of left ≡ Some format
+    header = format_of_read id left _ whole_read
+
+    read : List PlacedRecord
+    read = readable_records id left
+
+    read_is : read ≡ take torn.count records
+    read_is = ap records_of whole_read
+
+    among : (r : PlacedRecord) → Contains read r → Contains records r
+    among r has = subst (λ rs. Contains rs r) (take-append-drop torn.count records) (Contains-append_left (take torn.count records) (drop torn.count records) r (subst (λ rs. Contains rs r) read_is has))
+
+    prefix : IsPrefixOf read (readable_records id file.now)
+    prefix = subst (λ rs. IsPrefixOf rs (readable_records id file.now)) (sym read_is)
+        (subst (λ rs. IsPrefixOf (take torn.count records) rs) (sym (readable-held id format (take torn.count records) torn.end file.now torn.holds)) (prefix_append (take torn.count records) _))
+
+    untouched : List ℕ
+    untouched = take (untouched_len file.synced file.changes) file.synced
+
+    untouched_read : IsPrefixOf (readable_records id untouched) (take synced records)
+    untouched_read = subst (λ rs. IsPrefixOf (readable_records id untouched) rs) (readable-synced id format records synced at file completed) (readable_records-take id (untouched_len file.synced file.changes) file.synced)
+
+    synced_read : IsPrefixOf (take synced records) read
+    synced_read =
+        let begins = synced_left id format records synced at file left completed may in
+        let holds = holds_same id format (take synced records) completed.end file.synced left completed.begins begins.1 begins.0 in
+        subst (λ rs. IsPrefixOf (take synced records) rs) (sym (readable-held id format (take synced records) completed.end left holds)) (prefix_append (take synced records) _)
+
+-- what holds all bytes now is one
+pub now_is_torn : (id : FileId) (format : LogFileFormat) (records : List PlacedRecord) (synced at : ℕ) (file : File) → IsWrittenByCompletedCalls id format records synced at file → IsTornAfter id format records file file.now
+now_is_torn id format records synced at file completed =
+    let all : take (length records) records ≡ records = take_all (length records) records (omega arith) in
+    let ends = only_zeros at file.now file.renamed_after (file.changes ++ file.older) completed.past.never_renamed completed.written.empty completed.past.only_writes in
+    record {
+      count = length records;
+      end = at;
+      holds = subst (λ rs. HoldsRecords id format rs at file.now) (sym all) completed.held.holds;
+      within = completed.held.holds.within;
+      same = refl;
+      broken = broken_zeros id format at file.now ends;
+    }
+
+-- .. and so is what holds those of the last sync
+pub synced_is_torn : (id : FileId) (format : LogFileFormat) (records : List PlacedRecord) (synced at : ℕ) (file : File) → IsConsistent file → HoldsCompletedRecords id format records synced at file → IsTornAfter id format records file file.synced
+synced_is_torn id format records synced at file consistent completed =
+    let begins = synced_left id format records synced at file file.now completed (now_may_be_left file consistent) in
+    record {
+      count = synced;
+      end = completed.end;
+      holds = holds_same id format (take synced records) completed.end file.synced file.now completed.begins begins.1 begins.0;
+      within = completed.begins.within;
+      same = begins.1;
+      broken = broken_zeros id format completed.end file.synced completed.zeros;
+    }

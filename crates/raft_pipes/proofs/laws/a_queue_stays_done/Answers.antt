@@ -1,8 +1,0 @@
-use Rattle.raft_pipes.proofs.DoneLemmas.{queue_done_none, queue_done_restarted}
-use Rattle.raft_pipes.proofs.laws.a_queue_stays_done.Goals as goal
-
-pub returns-clause-restarted : goal.returns-clause-restarted
-returns-clause-restarted c = queue_done_restarted
-
-pub returns-clause-none : goal.returns-clause-none
-returns-clause-none c = queue_done_none
