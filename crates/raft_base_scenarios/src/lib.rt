@@ -1,4 +1,4 @@
-//! Tests of numbers, records, tables, and the names and readings of log files. Each is one loop over a table of cases.
+//! Tests of numbers, batches, tables, and the names and readings of log files. Each is one loop over a table of cases.
 #![tactic(auto)]
 
 #[cfg(test)]
@@ -6,19 +6,11 @@ mod batches;
 #[cfg(test)]
 mod changes;
 #[cfg(test)]
-mod encoded;
-#[cfg(test)]
 mod names;
 #[cfg(test)]
 mod numbers;
 #[cfg(test)]
 mod reading;
-#[cfg(test)]
-mod record_rows;
-#[cfg(test)]
-mod records;
-#[cfg(test)]
-mod refused_rows;
 #[cfg(test)]
 mod sizes;
 #[cfg(test)]
