@@ -6,6 +6,7 @@ pub mod WriterLemmas
 pub mod ReaderLemmas
 pub mod RecordReaderLemmas
 pub mod ExtentLemmas
+pub mod BlocksLemmas
 pub mod PlacedLemmas
 pub mod ScanLemmas
 pub mod ReplayLemmas
