@@ -1,7 +1,7 @@
-pub mod BatchLemmas
-pub mod PlainLemmas
-pub mod AllowedLemmas
-pub mod EngineLemmas
+pub mod ContentsLemmas
+pub mod CrashLemmas
 pub mod DurabilityLemmas
+pub mod EngineLemmas
 pub mod ImageLemmas
-pub mod ReopenLemmas
+pub mod OpeningLemmas
+pub mod PlainLemmas

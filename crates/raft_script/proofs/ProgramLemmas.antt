@@ -23,7 +23,7 @@ module _ {F H R W : Type 0} {g : Ghosts F H R W} where
   opens_weaker P Q weaker answer.Done (Some e) opened = weaker e opened
   opens_weaker P Q weaker answer.Done None none = absurd none
   opens_weaker P Q weaker (answer.Outcome outcome) new none = absurd none
-  opens_weaker P Q weaker (answer.Gone fault) new opened = tt
+  opens_weaker P Q weaker (answer.Fatal fault) new opened = tt
 
   -- an opening of a folder that holds nothing
   pub opens_new : (folder : Path) (m : Contents) (opening : Result (Engine F H R W g) (Refused F)) → m ≡ no_contents → IfOk opening (λ e. contents_of e ≡ m) → IfOk opening (IsNewIn folder) → IfOk opening (IsMetBy None)

@@ -29,7 +29,7 @@ pub enum Ended {
     Done,
     /// A line, counted from 1, asks for nothing that the program knows.
     BadLine(u64),
-    /// The input could not be read, or memory was refused outside the engine's calls.
+    /// The input could not be read, or memory ran out outside the engine's calls.
     Input,
     /// The output could not be written.
     Output,

@@ -17,4 +17,4 @@ pub returns : goal.returns
 returns c =
     let dir = string_bytes c.in_ok-config.config.dir in
     let files = memory_directory c.new.result in
-    record { value = opens_new dir (contents_at dir files) c.open_in_order.result (contents_at-no_files dir files c.new.ensures.files) c.open_in_order.ensures.contents c.open_in_order.ensures.ok }
+    record { value = opens_new dir (contents_at dir files) c.open_in_order.result (contents_at-no_files dir files c.new.ensures.value) c.open_in_order.ensures.contents c.open_in_order.ensures.ok }
