@@ -1,7 +1,7 @@
 pub mod ContentsLemmas
+pub mod PlainLemmas
 pub mod CrashLemmas
-pub mod DurabilityLemmas
 pub mod EngineLemmas
+pub mod DurabilityLemmas
 pub mod ImageLemmas
 pub mod OpeningLemmas
-pub mod PlainLemmas
