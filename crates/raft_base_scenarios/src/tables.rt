@@ -1,7 +1,9 @@
-//! Tables of keys and values.
+//! Tables of entries, and of keys and values.
 
 use crate::changes::{Change, items_of};
-use raft_records::{Fault, FileId, LogQueue};
+use raft_records::{
+    Command, EntryIndex, Fault, FileBlockHandle, FileId, LogItem, LogItemContent, LogQueue,
+};
 use raft_tables::{GlobalStats, MemTable, MemTables};
 use std::alloc::{AllocError, Global};
 use std::test::Fail;
@@ -144,6 +146,100 @@ fn a_table_keeps_each_key_once(rt: HostRuntime) -> Result<(), Fail> {
         assert_eq!(rt; table.get(&[1]), *value);
         assert_eq!(rt; table.place(&[1]), value.map(|_| file(7)));
         assert_eq!(rt; table.is_empty(), value.is_none());
+    }
+    Ok(())
+}
+
+/// What is asked of the entries of group 1.
+enum Ask {
+    /// Entries with these indexes.
+    Put(&'static [u64]),
+    Compact(u64),
+    Clean,
+}
+
+/// The number of the file in which an item stands, the item, the indexes of the entries after it,
+/// each with the number of its file, and whether the group is known then.
+struct Step(u64, Ask, &'static [(u64, u64)], bool);
+
+const STEPS: [Step; 17] = [
+    Step(1, Ask::Compact(3), &[], false),
+    Step(2, Ask::Put(&[]), &[], false),
+    Step(3, Ask::Put(&[1, 2, 3]), &[(1, 3), (2, 3), (3, 3)], true),
+    Step(4, Ask::Put(&[4, 5]),
+        &[(1, 3), (2, 3), (3, 3), (4, 4), (5, 4)],
+        true,
+    ),
+    Step(5, Ask::Put(&[3, 4]), &[(1, 3), (2, 3), (3, 5), (4, 5)], true),
+    Step(6, Ask::Compact(0), &[(1, 3), (2, 3), (3, 5), (4, 5)], true),
+    Step(7, Ask::Compact(2), &[(2, 3), (3, 5), (4, 5)], true),
+    Step(8, Ask::Put(&[1]), &[(1, 8)], true),
+    Step(9, Ask::Put(&[7, 8]), &[(7, 9), (8, 9)], true),
+    Step(10, Ask::Put(&[]), &[(7, 9), (8, 9)], true),
+    Step(11, Ask::Put(&[9, 11]), &[(7, 9), (8, 9)], true),
+    Step(12, Ask::Put(&[u64::MAX]), &[(7, 9), (8, 9)], true),
+    Step(13, Ask::Compact(8), &[(8, 9)], true),
+    Step(14, Ask::Compact(9), &[], true),
+    Step(15, Ask::Put(&[5]), &[(5, 15)], true),
+    Step(16, Ask::Clean, &[], false),
+    Step(17, Ask::Put(&[u64::MAX - 1]), &[(u64::MAX - 1, 17)], true),
+];
+
+fn indexes_of(alloc: Global, seq: u64, indexes: &[u64]) -> Result<Vec<EntryIndex>, AllocError> {
+    let mut entries = Vec::new(alloc);
+    for index in indexes {
+        entries.push(EntryIndex {
+            index: *index,
+            entries: Some(FileBlockHandle {
+                id: file(seq),
+                offset: 16,
+                len: 9,
+            }),
+            entry_offset: 0,
+            entry_len: 5,
+            lz4: false,
+        })?;
+    }
+    Ok(entries)
+}
+
+fn item_of(alloc: Global, seq: u64, ask: &Ask) -> Result<LogItem, AllocError> {
+    let content = match ask {
+        Ask::Put(indexes) => LogItemContent::EntryIndexes(indexes_of(alloc, seq, indexes)?),
+        Ask::Compact(index) => LogItemContent::Command(Command::Compact { index: *index }),
+        Ask::Clean => LogItemContent::Command(Command::Clean),
+    };
+    Ok(LogItem {
+        raft_group_id: 1,
+        content,
+    })
+}
+
+// The number of the file in which the entry stands.
+fn file_of(tables: &MemTables, index: u64) -> Option<u64> {
+    let block = tables.entry(1, index)?.block?;
+    Some(block.id.seq)
+}
+
+// Whether the group has these entries: between the first and the last index, each in its file.
+fn has_entries(tables: &MemTables, wanted: &[(u64, u64)]) -> bool {
+    tables.first_index(1) == wanted.first().map(|entry| entry.0)
+        && tables.last_index(1) == wanted.last().map(|entry| entry.0)
+        && wanted
+            .iter()
+            .all(|entry| file_of(tables, entry.0) == Some(entry.1))
+}
+
+#[test]
+fn entries_are_put_and_dropped(rt: HostRuntime) -> Result<(), Fail> {
+    let mut tables = MemTables::new(rt.alloc());
+    let mut items = Vec::new(rt.alloc());
+    for Step(seq, ask, wanted, known) in &STEPS {
+        items.push(item_of(rt.alloc(), *seq, ask)?)?;
+        tables.apply_append_writes(&mut items, file(*seq))?;
+        assert!(rt; has_entries(&tables, wanted), "after item {seq}");
+        assert_eq!(rt; file_of(&tables, 6), None, "after item {seq}");
+        assert_eq!(rt; !tables.groups()?.is_empty(), *known, "after item {seq}");
     }
     Ok(())
 }

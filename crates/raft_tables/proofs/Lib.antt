@@ -4,4 +4,5 @@ pub mod TableLemmas
 pub mod TablesLemmas
 pub mod ListingLemmas
 pub mod ContentsLemmas
+pub mod KnownLemmas
 pub mod AppliedLemmas
