@@ -44,7 +44,7 @@ pub(crate) fn batch_of(alloc: Global, changes: &[Change]) -> Result<LogBatch, Fa
     Ok(batch)
 }
 
-/// The parts, one behind the other.
+/// The parts, one after the other.
 pub(crate) fn joined(alloc: Global, parts: &[&[u8]]) -> Result<Vec<u8>, AllocError> {
     let mut bytes = Vec::new(alloc);
     for part in parts {

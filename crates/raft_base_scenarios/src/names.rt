@@ -54,7 +54,7 @@ fn names_are_built(rt: HostRuntime) -> Result<(), Fail> {
 
 const MAGIC: &[u8] = b"RAFT-LOG-FILE-HEADER-9986AB3E47F320B394C8E84916EB0ED5";
 
-/// A format, and what stands behind the fixed bytes of its header, if it has one.
+/// A format, and what stands after the fixed bytes of its header, if it has one.
 const HEADERS: [(Version, u64, Option<&[u8]>); 3] = [
     (
         Version::V2,

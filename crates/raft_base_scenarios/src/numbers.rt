@@ -56,7 +56,7 @@ const REFUSED: [(Form, &[u8]); 7] = [
     ),
 ];
 
-/// A byte that stands behind a number.
+/// A byte that stands after a number.
 const BEHIND: &[u8] = &[0xEE];
 
 fn push(form: &Form, bytes: &mut Vec<u8>, number: u64) -> Result<(), Fail> {

@@ -1,4 +1,4 @@
-//! Records of a log file, read one behind the other. They were made by Python's struct and binascii, for file 5.
+//! Records of a log file, read one after the other. They were made by Python's struct and binascii, for file 5.
 
 use crate::changes::{Change, items_of};
 use raft_files::{LogFileFormat, RecordReader};
@@ -57,7 +57,7 @@ enum Step {
     Read(Found, usize),
 }
 
-/// A file of version 2: its number and alignment, the records behind byte 128, and what is read.
+/// A file of version 2: its number and alignment, the records after byte 128, and what is read.
 struct Case {
     name: &'static str,
     seq: u64,

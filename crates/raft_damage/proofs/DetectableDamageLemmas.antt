@@ -12,17 +12,17 @@ use Rattle.raft_files.specs.Records.{ReadsFirst, HoldsRecords}
 use Rattle.raft_env.specs.Consistent.{IsConsistent}
 use Rattle.raft_premise.specs.Completed.{EndsInZeros, HoldsCompletedRecords}
 use Rattle.raft_damage.specs.DetectableDamage.{IsBrokenFrom, IsTornAfter}
-use Rattle.raft_premise.proofs.ZerosLemmas.{never_stale, only_zeros}
-use Rattle.raft_premise.proofs.CompletedLemmas.{IsDoneTo}
+use Rattle.raft_premise.proofs.CompletedZerosLemmas.{never_stale, only_zeros}
+use Rattle.raft_premise.proofs.CompletedLemmas.{IsWrittenByCompletedCalls}
 use Rattle.raft_files.proofs.DetectableLemmas.{prefix_itself, prefix_trans, prefix_append}
-use Rattle.raft_files.proofs.ExtentLemmas.{record_header_is, same_some, some_then}
-use Rattle.raft_files.proofs.PlacedLemmas.{placed_by-none}
+use Rattle.raft_files.proofs.ScanExtentLemmas.{record_header_is, same_some, some_then}
+use Rattle.raft_files.proofs.ScanPlacedLemmas.{placed_by-none}
 use Rattle.raft_files.proofs.ScanLemmas.{found_record, record_place-forward, reading_is}
-use Rattle.raft_env.proofs.ChangeLemmas.{same_front}
-use Rattle.raft_files.proofs.EmptyLemmas.{record_header_zeros}
-use Rattle.raft_files.proofs.HeldLemmas.{reading-held, readable-held, format_of_read, format_of-held}
+use Rattle.raft_env.proofs.OutcomesLemmas.{same_front}
+use Rattle.raft_files.proofs.RecordsEmptyLemmas.{record_header_zeros}
+use Rattle.raft_files.proofs.RecordsHeldLemmas.{reading-held, readable-held, format_of_read, format_of-held}
 use Rattle.raft_files.proofs.RecordsLemmas.{reads_first-within, reads_first-kept}
-use Rattle.raft_files.proofs.LengthLemmas.{holds_same}
+use Rattle.raft_files.proofs.RecordsLengthLemmas.{holds_same}
 use Rattle.raft_env.proofs.ConsistentLemmas.{now_may_be_left, before_is_untouched}
 
 -- Zeros.
@@ -56,7 +56,7 @@ broken_zeros id format at bytes ends = (none_unless (record_at signature bytes p
 
 -- Readings.
 
--- where no record stands behind those that bytes hold, the reading ends with them
+-- where no record stands after those that bytes hold, the reading ends with them
 reading-broken : (id : FileId) (format : LogFileFormat) (records : List PlacedRecord) (at : ℕ) (bytes : List ℕ) → HoldsRecords id format records at bytes → IsBrokenFrom id format at bytes →
     scan_file id bytes ≡ Some (record { format = format; records = records; end = at })
 reading-broken id format records at bytes holds broken =
@@ -70,7 +70,7 @@ reading-torn id format records file left torn = reading-broken id format (take t
 
 -- Outcomes.
 
--- a beginning of bytes is read as a beginning of their records
+-- a prefix of bytes is read as a prefix of their records
 pub readable_records-take : (id : FileId) (n : ℕ) (bytes : List ℕ) → IsPrefixOf (readable_records id (take n bytes)) (readable_records id bytes)
 readable_records-take id n bytes = by_reading (scan_file id (take n bytes)) refl
   where
@@ -99,14 +99,14 @@ synced_left id format records synced at file left completed may =
     let each : (i : ℕ) → i < completed.end → slice_index file.synced i ≡ slice_index left i = λ i before. sym (may.untouched i (omega arith) (omega arith) (before_is_untouched file.synced file.changes i (omega arith))) in
     (long, same_front completed.end file.synced left within long each)
 
--- the damage of an outcome can be told that holds the first records as they stand now and is broken behind them
+-- the damage of an outcome can be told that holds the first records as they stand now and is broken after them
 pub torn_is_detectable : (id : FileId) (format : LogFileFormat) (records : List PlacedRecord) (synced at : ℕ) (file : File) (left : List ℕ) → HoldsCompletedRecords id format records synced at file → file.now ≡ bytes_after file.synced file.changes → file.renamed_after ≡ None → MayLeave file left → IsTornAfter id format records file left → IsDetectableFile id file left
 torn_is_detectable id format records synced at file left completed latest never may torn = record {
   header = inl (header ∙ sym (format_of-held id format records at file.now completed.holds));
   newer = [];
   upto = file.changes;
   moment = refl;
-  beginning = subst (λ b. IsPrefixOf read (readable_records id b)) latest beginning;
+  prefix = subst (λ b. IsPrefixOf read (readable_records id b)) latest prefix;
   completed = λ other is.
       let same : other ≡ format = same_some (sym is ∙ header) in
       subst (λ f. AreFromCompletedCalls id (signature_by id f) (file.changes ++ file.older) read) (sym same) (λ r has. completed.completed r (among r has));
@@ -133,8 +133,8 @@ torn_is_detectable id format records synced at file left completed latest never 
     among : (r : PlacedRecord) → Contains read r → Contains records r
     among r has = subst (λ rs. Contains rs r) (take-append-drop torn.count records) (Contains-append_left (take torn.count records) (drop torn.count records) r (subst (λ rs. Contains rs r) read_is has))
 
-    beginning : IsPrefixOf read (readable_records id file.now)
-    beginning = subst (λ rs. IsPrefixOf rs (readable_records id file.now)) (sym read_is)
+    prefix : IsPrefixOf read (readable_records id file.now)
+    prefix = subst (λ rs. IsPrefixOf rs (readable_records id file.now)) (sym read_is)
         (subst (λ rs. IsPrefixOf (take torn.count records) rs) (sym (readable-held id format (take torn.count records) torn.end file.now torn.holds)) (prefix_append (take torn.count records) _))
 
     untouched : List ℕ
@@ -150,7 +150,7 @@ torn_is_detectable id format records synced at file left completed latest never 
         subst (λ rs. IsPrefixOf (take synced records) rs) (sym (readable-held id format (take synced records) completed.end left holds)) (prefix_append (take synced records) _)
 
 -- what holds all bytes now is one
-pub now_is_torn : (id : FileId) (format : LogFileFormat) (records : List PlacedRecord) (synced at : ℕ) (file : File) → IsDoneTo id format records synced at file → IsTornAfter id format records file file.now
+pub now_is_torn : (id : FileId) (format : LogFileFormat) (records : List PlacedRecord) (synced at : ℕ) (file : File) → IsWrittenByCompletedCalls id format records synced at file → IsTornAfter id format records file file.now
 now_is_torn id format records synced at file completed =
     let all : take (length records) records ≡ records = take_all (length records) records (omega arith) in
     let ends = only_zeros at file.now file.renamed_after (file.changes ++ file.older) completed.past.never_renamed completed.written.empty completed.past.only_writes in

@@ -16,13 +16,13 @@ use Rattle.raft_damage.specs.DetectableDamage.{AddsOnlyItsRecord, EachAddsOnlyIt
 use Rattle.raft_memory.specs.declared.crash.Choice.{Choice}
 use Rattle.raft_memory.specs.declared.crash.Choice.TheVariants as choice
 use Rattle.raft_files.proofs.DetectableLemmas.{prefix_itself}
-use Rattle.raft_files.proofs.ExtentLemmas.{same_some, record_of_header}
-use Rattle.raft_env.proofs.ChangeLemmas.{within_is, same_front}
-use Rattle.raft_files.proofs.PlacedLemmas.{contains_cases}
+use Rattle.raft_files.proofs.ScanExtentLemmas.{same_some, record_of_header}
+use Rattle.raft_env.proofs.OutcomesLemmas.{within_is, same_front}
+use Rattle.raft_files.proofs.ScanPlacedLemmas.{contains_cases}
 use Rattle.raft_env.proofs.ConsistentLemmas.{before_is_untouched}
-use Rattle.raft_memory.proofs.TornLemmas.{length-torn, no_bytes_at_turn, choices_may_leave}
+use Rattle.raft_memory.proofs.ChoiceTornLemmas.{length-torn, no_bytes_at_turn, choices_may_leave}
 use Rattle.raft_damage.proofs.DetectableDamageLemmas.{readable_records-take}
-use Rattle.raft_premise.proofs.ZerosLemmas.{never_stale}
+use Rattle.raft_premise.proofs.CompletedZerosLemmas.{never_stale}
 
 -- Records.
 
@@ -39,12 +39,12 @@ given_covers by c changes r range given (x ∷ later) d before e refused with_by
     let false_is : true ≡ false = sym touched ∙ with_byte.4 in
     absurd cc
 
--- where each change brought only the record that it was to write, no refused call brought what is read
-own_done : (id : FileId) (by : Option ℕ) (bytes : List ℕ) (changes : List Change) → IsPastOf bytes changes → ((c : Change) → Contains changes c → AddsOnlyItsRecord id by c) → (r : PlacedRecord) → Contains (readable_records id bytes) r → IsFromCompletedCall id by changes r
-own_done id by bytes [] past own r has = tt
-own_done id by bytes (c ∷ changes) past own r has =
+-- where each change brought only the record that it was to write, no failed call brought what is read
+own_completed : (id : FileId) (by : Option ℕ) (bytes : List ℕ) (changes : List Change) → IsPastOf bytes changes → ((c : Change) → Contains changes c → AddsOnlyItsRecord id by c) → (r : PlacedRecord) → Contains (readable_records id bytes) r → IsFromCompletedCall id by changes r
+own_completed id by bytes [] past own r has = tt
+own_completed id by bytes (c ∷ changes) past own r has =
     elim (own c (0, omega arith, refl) r (subst (λ b. Contains (readable_records id b) r) (sym past.0) has)) [
-      | inl earlier ↦ inr (earlier, own_done id by c.before changes past.3 (λ d older. own d (Contains-append_right (c ∷ []) changes d older)) r earlier)
+      | inl earlier ↦ inr (earlier, own_completed id by c.before changes past.3 (λ d older. own d (Contains-append_right (c ∷ []) changes d older)) r earlier)
       | inr given ↦ inl (given_covers by c changes r past.1 given)
     ]
 
@@ -129,7 +129,7 @@ now_is_read id file is unmarked = record {
   header = inl refl;
   bytes = file.now;
   moment = subst (Contains (bytes_since_sync file)) (sym is.latest) (newest_moment file.synced file.changes);
-  beginning = prefix_itself (readable_records id file.now);
+  prefix = prefix_itself (readable_records id file.now);
   unmarked = unmarked;
 }
 
@@ -138,7 +138,7 @@ synced_is_read id file header unmarked = record {
   header = header;
   bytes = file.synced;
   moment = Contains-append_right (map (λ (c : Change). c.after) file.changes) (file.synced ∷ []) file.synced (0, omega arith, refl);
-  beginning = prefix_itself (readable_records id file.synced);
+  prefix = prefix_itself (readable_records id file.synced);
   unmarked = unmarked;
 }
 
@@ -148,7 +148,7 @@ own_is_detectable id file left consistent never own may long reads = record {
   newer = m.newer;
   upto = m.upto;
   moment = m.split;
-  beginning = begins;
+  prefix = begins;
   completed = λ format is r has. own_done id (signature_by id format) (bytes_after file.synced m.upto) (m.upto ++ file.older) (past_at file consistent m.newer m.upto m.split) (λ c among. own format (format_now format is) c (of_file c among)) r (read_then r has);
   untouched = untouched_is_read id file left may long;
   unmarked = reads.unmarked;
@@ -159,7 +159,7 @@ own_is_detectable id file left consistent never own may long reads = record {
     m = moment_of file.synced file.changes reads.bytes reads.moment
 
     begins : IsPrefixOf (readable_records id left) (readable_records id (bytes_after file.synced m.upto))
-    begins = subst (λ b. IsPrefixOf (readable_records id left) (readable_records id b)) (sym m.is) reads.beginning
+    begins = subst (λ b. IsPrefixOf (readable_records id left) (readable_records id b)) (sym m.is) reads.prefix
 
     read_then : (r : PlacedRecord) → Contains (readable_records id left) r → Contains (readable_records id (bytes_after file.synced m.upto)) r
     read_then r has = subst (λ rs. Contains rs r) (sym begins.1) (Contains-append_left (readable_records id left) begins.0 r has)

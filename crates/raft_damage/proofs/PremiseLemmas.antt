@@ -15,12 +15,12 @@ use Rattle.raft_premise.specs.Completed.{HasCompletedRecords, HasCompletedLog}
 use Rattle.raft_damage.specs.DetectableDamage.{IsBrokenFrom, IsTornAfter}
 use Rattle.raft_memory.specs.declared.crash.Choice.{Choice}
 use Rattle.raft_memory.specs.declared.crash.Choice.TheVariants as choice
-use Rattle.raft_files.proofs.ExtentLemmas.{same_some}
-use Rattle.raft_memory.proofs.WholeLemmas.{whole_choice}
-use Rattle.raft_memory.proofs.TornLemmas.{choice_may_leave, length-torn, take-torn}
+use Rattle.raft_files.proofs.ScanExtentLemmas.{same_some}
+use Rattle.raft_memory.proofs.ChoiceWholeLemmas.{whole_choice}
+use Rattle.raft_memory.proofs.ChoiceTornLemmas.{choice_may_leave, length-torn, take-torn}
 use Rattle.raft_damage.proofs.DetectableDamageLemmas.{torn_is_detectable, now_is_torn, synced_is_torn}
 
--- Records that no refused call brought.
+-- Records that no failed call brought.
 
 module _ (path : Path) (id : FileId) (format : LogFileFormat) (batches : List Batch) (synced at : ℕ) (n : Directory) (log : HasCompletedRecords path id format batches synced at n) (never : log.file.renamed_after ≡ None) (consistent : AreConsistent n) where
   is_consistent : IsConsistent log.file
@@ -29,7 +29,7 @@ module _ (path : Path) (id : FileId) (format : LogFileFormat) (batches : List Ba
   detectable_at : (d : CrashImage) → MayLeave log.file (d path) → IsTornAfter id format log.records log.file (d path) → IsDetectable path id n d
   detectable_at d may is_torn file stands = subst (λ f. IsDetectableFile id f (d path)) (same_some (sym log.stands ∙ stands)) (torn_is_detectable id format log.records synced at log.file (d path) log.held is_consistent.latest never may is_torn)
 
-  -- damage behind the first of them can be told
+  -- damage after the first of them can be told
   pub records_detectable : (d : CrashImage) → Leaves n d → IsTornAfter id format log.records log.file (d path) → IsDetectable path id n d
   records_detectable d leaves = detectable_at d (leaves.each path log.file log.stands)
 

@@ -14,7 +14,7 @@ IsBrokenFrom id format at bytes =
     (record_at (signature_by id format) bytes place ≡ None)
     × (HasCompressedAt (signature_by id format) bytes place → ⊥)
 
--- a crash left the first of these records of a file as they stand now, and behind them no record
+-- a crash left the first of these records of a file as they stand now, and after them no record
 pub record IsTornAfter (id : FileId) (format : LogFileFormat) (records : List PlacedRecord)
     (file : File)
     (left : List ℕ) : Type 0 where
@@ -36,11 +36,11 @@ EachAddsOnlyItsRecord id file = (format : LogFileFormat) → format_of file.now 
     → (c : Change)
     → Contains (file.changes ++ file.older) c → AddsOnlyItsRecord id (signature_by id format) c
 
--- a crash left a beginning of the records that could be read at a moment since the last sync, under
--- the header now or none, and broken bytes behind them
+-- a crash left a prefix of the records that could be read at a moment since the last sync, under
+-- the header now or none, and broken bytes after them
 pub record IsReadAsBefore (id : FileId) (file : File) (left : List ℕ) : Type 0 where
   pub header : (format_of left ≡ format_of file.now) ⊎ (format_of left ≡ None)
   pub bytes : List ℕ
   pub moment : Contains (bytes_since_sync file) bytes
-  pub beginning : IsPrefixOf (readable_records id left) (readable_records id bytes)
+  pub prefix : IsPrefixOf (readable_records id left) (readable_records id bytes)
   pub unmarked : EndsWithoutCompressed id left

@@ -12,8 +12,8 @@ use Rattle.raft_env.specs.Outcomes.{File, Change, MayLeave, Outcome, IsPartOf, I
 use Rattle.raft_env.specs.Directory.{Directory, CrashImage, Path, file_at, with_file, update_file, update_at, after_create, IsMakingFolder, IsChanging, IsWriting, IsTruncating, IsAllocating, IsOneOf, IsRestarted}
 use Rattle.raft_env.specs.Consistent.{HasItsRange, HasItsLength, IsPastOf, IsConsistent, AreConsistent}
 use Rattle.raft_env.proofs.DirectoryLemmas.{file_at-making}
-use Rattle.raft_env.proofs.OverlayLemmas.{overlaid_bounds, overlaid_outside_part, longest_of-more}
-use Rattle.raft_env.proofs.ChangeLemmas.{not_within}
+use Rattle.raft_env.proofs.OutcomesOverlayLemmas.{overlaid_bounds, overlaid_outside_part, longest_of-more}
+use Rattle.raft_env.proofs.OutcomesLemmas.{not_within}
 
 -- Files.
 

@@ -1,6 +1,6 @@
 -- What stands at a path after a change, and what a crash leaves of it.
 use Rattle.std.proofs.lemmas.List.{nil_from_length}
-use Rattle.raft_env.proofs.OverlayLemmas.{overlaid_bounds, overlaid_outside_part}
+use Rattle.raft_env.proofs.OutcomesOverlayLemmas.{overlaid_bounds, overlaid_outside_part}
 use Rattle.std.proofs.Common.{◌≡◌, ◌≢◌, ℕ, ◌<◌, true, false, cond, Some, refl, ◌∙◌, ap, arith, ◌≤◌, List, length}
 use Rattle.std.specs.Ordering.{nat_cmp, eq_by_cmp}
 use Rattle.std.specs.Cmp.Lexicographic.{slice_cmp, nat_list_cmp_total}

@@ -1,6 +1,6 @@
-pub mod MomentsLemmas
-pub mod DirectoryLemmas
-pub mod PathPartsLemmas
-pub mod ChangeLemmas
 pub mod ConsistentLemmas
-pub mod OverlayLemmas
+pub mod DirectoryLemmas
+pub mod MomentsLemmas
+pub mod OutcomesLemmas
+pub mod OutcomesOverlayLemmas
+pub mod PathPartsLemmas

@@ -1,6 +1,6 @@
 -- What every call keeps of a file: outside the ranges of its changes it holds the bytes of the last
 -- sync, and each change began with what the one before it left. Files in memory keep more: of their
--- changes only writes were refused, and none was renamed.
+-- changes only writes failed, and none was renamed.
 use Rattle.std.specs.Prelude.{◌≡◌, ℕ, ◌<◌, ◌≤◌, ◌++◌, false, List, [], ◌∷◌, length, Some, None, slice_index}
 use Rattle.std.proofs.Props.{props}
 use Rattle.raft_env.specs.Outcomes.{File, Change, OnlyWritesFailed, bytes_after, is_touched}
@@ -36,7 +36,7 @@ pub record IsConsistent (file : File) : Type 0 where
 abbrev pub AreConsistent : Directory → Type 0
 AreConsistent n = (path : Path) (file : File) → file_at n path ≡ Some file → IsConsistent file
 
--- only writes were refused among all changes of the file at a path
+-- only writes failed among all changes of the file at a path
 abbrev pub OnlyWritesFailedAt : Path → Directory → Type 0
 OnlyWritesFailedAt path n = (file : File) → file_at n path ≡ Some file
     → OnlyWritesFailed (file.changes ++ file.older)

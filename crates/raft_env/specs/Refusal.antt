@@ -1,4 +1,4 @@
--- How often calls were refused, when these counts rise, and the fault of a refused call.
+-- How often calls failed, when these counts rise, and the fault of a failed call.
 use Rattle.std.specs.Prelude.{◌≡◌, ◌⊎◌, ℕ, ◌+◌, ◌-◌, ◌^◌, ◌<◌, ◌≤◌, min, List, [], Result, MatchResult, String}
 use Rattle.std.specs.declared.alloc.Global.{Global}
 use Rattle.std.specs.String.{string_bytes}
@@ -10,7 +10,7 @@ use Rattle.raft_env.specs.declared.env.FsFault.TheVariants.{Io, Memory}
 pub record Refusals : Type 0 where
   -- by storage, which stops at 2^64 - 1
   pub storage : ℕ
-  -- for want of memory
+  -- for lack of memory
   pub memory : ℕ
 
 abbrev pub no_refusals : Refusals
@@ -69,12 +69,12 @@ RefusalsRoseFor result old new = MatchResult result (λ _. NoFewer old new)
 abbrev pub NamesFile : List ℕ → String Global → Type 0
 NamesFile path text = (string_bytes text ≡ path) ⊎ (string_bytes text ≡ [])
 
--- the fault for a refused call on the file at the path
+-- the fault for a failed call on the file at the path
 abbrev pub IsFaultOf : List ℕ → FsFault → Fault → Type 0
 IsFaultOf path (Io kind) f = (text : String Global) × (f ≡ fault.Io kind text) × NamesFile path text
 IsFaultOf path Memory f = f ≡ fault.Memory
 
--- by a call on the file at the path: by storage, which the fault names, or for want of memory, where
+-- by a call on the file at the path: by storage, which the fault names, or for lack of memory, where
 -- that count rose in the call
 abbrev pub IsFileRefusal : List ℕ → Refusals → Refusals → Fault → Type 0
 IsFileRefusal path old new (fault.Io kind text) = StorageRefusalsRose old new × NamesFile path text

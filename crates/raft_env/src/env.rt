@@ -18,7 +18,7 @@ pub enum Permission {
     ReadWrite,
 }
 
-/// Why a file call was refused: by storage, or for want of memory, which only clauses count.
+/// Why a file call failed: by storage, or for lack of memory, which only clauses count.
 #[derive(Clone, Copy, Debug, PartialEq, Eq)]
 pub enum FsFault {
     Io(IoKind),
@@ -33,9 +33,9 @@ impl FsFault {
         ensures value { IsFaultOf path.now self result }
         ensures cause { (old new : Refusals) → RefusalsRoseForFault self old new
             → IsRefusal path.now old new result }
-        ensures counted { (old new : Refusals) → CountsRefusal self old new
+        ensures refused { (old new : Refusals) → CountsRefusal self old new
             → IsFileRefusal path.now old new result }
-        ensures not_failed { result ≡ Fault.Failed → ⊥ }
+        ensures failed { result ≡ Fault.Failed → ⊥ }
     {
         match self {
             FsFault::Memory => Fault::Memory,
@@ -86,7 +86,7 @@ pub trait FileSystem: Send + Sync {
     /// Each directory that there was, the newest first. A crash comes at one of these moments.
     ghost moments: { Self → List Directory };
 
-    /// How many calls were refused.
+    /// How many calls failed.
     ghost refusals_of: { Self → Refusals };
 
     ghost handle_path: { Self.Handle → Path };
@@ -218,7 +218,7 @@ pub trait FileSystem: Send + Sync {
     fn is_file(&self, path: &str) -> bool
         ensures value { result ≡ is_some (file_at (directory self.now) path.now) };
 
-    /// How many calls storage refused, but for the reads, which their readers count. It stops at
+    /// How many storage calls failed, but for the reads, which their readers count. It stops at
     /// 2^64 - 1.
     fn refusals(&self) -> u64
         ensures value { result ≡ (refusals_of self.now).storage };

@@ -1,8 +1,9 @@
 //! What the engine assumes of storage: files, and what a crash may leave of them.
 #![tactic(auto)]
 
-pub mod env;
+mod env;
 pub mod laws;
-pub mod paths;
+mod paths;
 
 pub use env::{FileSystem, FsFault, IoKind, Permission};
+pub use paths::{is_on_way, name_in, parent};

@@ -46,7 +46,7 @@ fn take_step<F: FileSystem>(
     }
 }
 
-// The place of the first step behind which the file ends elsewhere.
+// The place of the first step after which the file ends elsewhere.
 fn first_wrong<F: FileSystem>(
     fs: &mut F,
     alloc: Global,

@@ -35,9 +35,9 @@ enum Step {
     Refuses(Call, IoKind),
     IsFolder(&'static str, bool),
     IsFile(&'static str, bool),
-    /// So many calls were refused.
+    /// So many calls failed.
     Refused(u64),
-    /// The nth call of the sort is to be refused.
+    /// The nth call of the sort is to fail.
     Arm(FsCall, u64),
     /// No call is the 0th.
     ArmNone(FsCall),
@@ -123,7 +123,7 @@ const SCRIPTS: [Script; 5] = [
             Step::Arm(FsCall::Read, 1),
             Step::Refuses(Call::Read("a", 0, b"?"), IoKind::NoSpace),
             Step::Refused(12),
-            // The refused write has written the first half of its bytes.
+            // The failed write has written the first half of its bytes.
             Step::Does(Call::Read("a", 2, b"ab?")),
             Step::Does(Call::Write("a", 2, b"cd")),
             Step::Refuses(Call::Write("a", 4, b"ef"), IoKind::NoSpace),
@@ -182,7 +182,7 @@ fn size_is<F: FileSystem>(fs: &mut F, path: &str, size: usize) -> Result<bool, F
     Ok(fs.file_size(&handle)? == size)
 }
 
-// A refused read is counted by its reader, and by the files when the reader is given back.
+// A failed read is counted by its reader, and by the files when the reader is given back.
 fn reads<F: FileSystem>(
     alloc: Global,
     fs: &mut F,

@@ -21,7 +21,7 @@ prefix_length xs ys begins = omega (arith, ap length begins.1, length-append xs 
 pub prefix_is : {A : Type 0} (xs ys : List A) → IsPrefixOf xs ys → xs ≡ take (length xs) ys
 prefix_is xs ys begins = sym (ap (λ all. take (length xs) all) begins.1 ∙ take_at xs begins.0 (length xs) refl)
 
--- a beginning of two lists ends in the first or in the second
+-- a prefix of two lists ends in the first or in the second
 pub prefix_split : {A : Type 0} (xs ys zs : List A) → IsPrefixOf xs (ys ++ zs) → IsPrefixOf xs ys ⊎ ((rest : List A) × (xs ≡ ys ++ rest) × IsPrefixOf rest zs)
 prefix_split xs [] zs begins = inr (xs, refl, begins)
 prefix_split [] (y ∷ ys) zs begins = inl (y ∷ ys, refl)

@@ -14,8 +14,8 @@ use Rattle.raft_files.specs.Detectable.{IsPrefixOf, format_of, signature_by, IsD
 use Rattle.raft_files.specs.Records.{AreReadAt, AreReadAfter, ReadsFirst, RecoversRecords, HasNothingFrom, HoldsRecords, FirstOf}
 use Rattle.raft_files.proofs.DetectableLemmas.{prefix_trans, prefix_append, prefix_take, prefix_length, prefix_is}
 use Rattle.raft_files.proofs.ScanLemmas.{records_stay, reading_is, reading-kept, end_of_read_within}
-use Rattle.raft_files.proofs.PlacedLemmas.{end_of_front}
-use Rattle.raft_files.proofs.HeldLemmas.{format_of-held, left_of_held}
+use Rattle.raft_files.proofs.ScanPlacedLemmas.{end_of_front}
+use Rattle.raft_files.proofs.RecordsHeldLemmas.{format_of-held, left_of_held}
 
 -- The synced records.
 
@@ -43,7 +43,7 @@ untouched_len_more synced c changes len before within = elim (cases_Bool (c.size
   | inr some ↦ omega (arith, ap (λ b. cond b (untouched_len synced changes) (min c.from (untouched_len synced changes))) some)
 ]
 
--- a change behind them touches none of them
+-- a change after them touches none of them
 covered_more : (id : FileId) (format : LogFileFormat) (records : List PlacedRecord) (synced : List ℕ) (c : Change) (changes : List Change) → ReadsFirst id format records (take (untouched_len synced changes) synced) →
     end_of_records (header_len format.version) records ≤ c.from → ReadsFirst id format records (take (untouched_len synced (c ∷ changes)) synced)
 covered_more id format records synced c changes reads behind =
@@ -122,13 +122,13 @@ readable_without_header id bytes none = by_header (header_of bytes) none
     by_header None e = refl
     by_header (Some h) e = cc
 
--- a beginning of the records is read, with the synced ones
+-- a prefix of the records is read, with the synced ones
 pub read_of_left : (id : FileId) (format : LogFileFormat) (records : List PlacedRecord) (synced : ℕ) (file : File) (left : List ℕ) → RecoversRecords id format records synced file → IsDetectableFile id file left →
     (count : ℕ) × (synced ≤ count) × (count ≤ length records) × (readable_records id left ≡ take count records)
 read_of_left id format records synced file left keeps detectable =
     let read = readable_records id left in
     let begins : IsPrefixOf read records = elim detectable.header [
-      | inl same ↦ keeps.moments detectable.newer detectable.upto detectable.moment read (record { beginning = detectable.beginning; completed = detectable.completed format (same ∙ keeps.header); fresh = detectable.none_stale })
+      | inl same ↦ keeps.moments detectable.newer detectable.upto detectable.moment read (record { prefix = detectable.prefix; completed = detectable.completed format (same ∙ keeps.header); fresh = detectable.none_stale })
       | inr none ↦ subst (λ rs. IsPrefixOf rs records) (sym (readable_without_header id left none)) (records, refl)
     ] in
     let untouched = take (untouched_len file.synced file.changes) file.synced in

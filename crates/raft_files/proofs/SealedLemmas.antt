@@ -14,7 +14,7 @@ use Rattle.raft_files.specs.Scan.{PlacedRecord, readable_batches, records_of, en
 use Rattle.raft_files.specs.Records.{HasLog, image_of_file, bytes_after_crash, batches_after_crash}
 use Rattle.raft_files.specs.Writer.{HasChanged, IsClosed, IsClosing, IsCutting, IsSyncing, bytes_at, bytes_of}
 use Rattle.raft_env.proofs.ConsistentLemmas.{nowhere}
-use Rattle.raft_files.proofs.ChangedLemmas.{stands_after, was_file}
+use Rattle.raft_files.proofs.WriterChangeLemmas.{stands_after, was_file}
 use Rattle.raft_files.specs.Sealed.{IsSealed, IsStillBy}
 
 abbrev IsStill : List ℕ → List Change → Type 0

@@ -1,4 +1,4 @@
--- The records that a replay takes of a file, one behind the other: their entries blocks may be
+-- The records that a replay takes of a file, one after the other: their entries blocks may be
 -- broken.
 use Rattle.std.specs.Prelude.{ℕ, ◌-◌, Bool, List, [], length, take, drop, Option, Some, None, option_map}
 use Rattle.raft_base.specs.FileId.{signature_in}
@@ -32,7 +32,7 @@ replayed_in id bytes (Some header) = replayed_after id header.0 bytes (header_le
 abbrev pub replayed_records : FileId → List ℕ → List PlacedRecord
 replayed_records id bytes = replayed_in id bytes (header_of bytes)
 
--- the entries block that stands behind a header
+-- the entries block that stands after a header
 abbrev pub block_after : List ℕ → Option Header → List ℕ
 block_after bytes None = []
 block_after bytes (Some header) = take (header.footer - 16) (drop 16 bytes)

@@ -29,13 +29,13 @@ pub fn appended_record_is_read()
         × (is_read_to_end id (bytes ++ more) ≡ true) }
 {}
 
-/// Bytes behind those that were read hide none of their batches.
+/// Bytes after those that were read hide none of their batches.
 pub fn more_bytes_hide_no_batch()
     ensures value { (id : FileId) (bytes more : List ℕ) → (later : List Batch)
         × (readable_batches id (bytes ++ more) ≡ readable_batches id bytes ++ later) }
 {}
 
-/// A replay looks at no entries block: what can be read of a file is the longest beginning of what
+/// A replay looks at no entries block: what can be read of a file is the longest prefix of what
 /// a replay takes in which all blocks are sound.
 pub fn readable_records_are_the_replayed_with_sound_blocks()
     ensures value { (id : FileId) (bytes : List ℕ) → readable_records id bytes
@@ -94,8 +94,8 @@ pub fn crash_of_a_file_leaves_a_prefix()
 {}
 
 /// What a writer's calls make of a log file. A header that is synced is a log without batches
-/// (`begun`), an append adds its batch, and after a sync all batches are synced. A refused append
-/// may have left its record behind the log (`torn`); the log that is then closed doesn't hold it
+/// (`begun`), an append adds its batch, and after a sync all batches are synced. A failed append
+/// may have left its record after the log (`torn`); the log that is then closed doesn't hold it
 /// (`torn_closed`). A change of other files leaves the log as it is (`beside`).
 pub fn a_writer_keeps_its_log()
     ensures begun { (path : Path) (id : FileId) (format : LogFileFormat) (old new : Directory)

@@ -1,10 +1,10 @@
 //! Log files: their names and headers, and how they are written and read.
 #![tactic(auto)]
 
-pub mod format;
+mod format;
 pub mod laws;
-pub mod log_file;
-pub mod reader;
+mod log_file;
+mod reader;
 
 pub use format::{FileNameExt, LogFileFormat, is_zero_padded};
 pub use log_file::{LogFileReader, LogFileWriter};

@@ -94,7 +94,7 @@ ahead items i within =
     let next : suc i ≡ i + 1 = omega arith in
     drop-cons items i 0 within ∙ ap (λ (n : ℕ). get_or items i 0 ∷ drop n items) next
 
--- behind the last group nothing is to come
+-- after the last group nothing is to come
 pub building_ended : (m : Contents) (images : List GroupImage) (items : List ℕ) (i : ℕ) → length items ≤ i → IsBuilding m images (drop i items) → IsImageOf images m
 building_ended m images items i past building =
     let none : length (drop i items) ≡ 0 = length-drop i items ∙ (omega (arith, past)) in

@@ -1,7 +1,7 @@
-pub mod BatchLemmas
+pub mod ContentsLemmas
 pub mod PlainLemmas
-pub mod AllowedLemmas
+pub mod CrashLemmas
 pub mod EngineLemmas
 pub mod DurabilityLemmas
 pub mod ImageLemmas
-pub mod ReopenLemmas
+pub mod OpeningLemmas

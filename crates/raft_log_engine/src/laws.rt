@@ -26,7 +26,7 @@ use raft_env::FileSystem;
 /// left. Where that is sound, it keeps it, its log can be opened in each mode but the absolute one,
 /// and no file stands in the folder's place. Where no log stands, nothing is read and nothing is kept. Files that no
 /// crash met, as an engine gave them up, stand for what a crash could leave, and their log can be
-/// opened, where their damage is detectable: what a refused write left of its record may be any
+/// opened, where their damage is detectable: what a failed write left of its record may be any
 /// bytes.
 pub fn crash_leaves_contents()
     ensures left { (folder : Path) (m : Contents) (batches : List Batch) (n : Directory)

@@ -26,7 +26,7 @@ use Rattle.raft_memory.specs.declared.namespace.Namespace.{Namespace}
 use Rattle.raft_memory.specs.declared.crash.Choice.{Choice}
 use Rattle.raft_memory.specs.declared.crash.Choice.TheVariants as choice
 use Rattle.raft_memory.proofs.MemoryLemmas.{file_at-namespace_directory}
-use Rattle.raft_memory.proofs.ListedLemmas.{keys-directory_of, any_by_bytes}
+use Rattle.raft_memory.proofs.FilesLemmas.{keys-directory_of, any_by_bytes}
 
 abbrev Entry : Type 0
 Entry = String Global × File
@@ -38,7 +38,7 @@ behind false e f o o' rest found = rest found
 turned : (p q : Path) → is_eq (slice_cmp nat_cmp p q) ≡ is_eq (slice_cmp nat_cmp q p)
 turned p q = (eq_by_cmp_equiv nat_list_cmp_total).symm p q
 
--- the first entry at a path, behind those that don't stand there
+-- the first entry at a path, after those that don't stand there
 push_same : (es later : List Entry) (k : String Global) (f : File) (p : Path) → is_eq (slice_cmp nat_cmp p (string_bytes k)) ≡ true → at_path p es ≡ None → at_path p (es ++ (k, f) ∷ later) ≡ Some f
 push_same [] later k f p same none = ap (λ b. cond b (Some f) (at_path p later)) same
 push_same (e ∷ es) later k f p same none = behind (is_eq (slice_cmp nat_cmp p (string_bytes e.0))) e.1 f (at_path p es) (at_path p (es ++ (k, f) ∷ later)) (push_same es later k f p same) none

@@ -6,7 +6,7 @@ use Rattle.raft_env.specs.Outcomes.{File, MayLeave, is_within, file_after_write,
 use Rattle.raft_memory.specs.MemoryFile.{IsFileOf, is_covered}
 use Rattle.std.specs.Prelude.{replicate}
 use Rattle.std.proofs.lemmas.List.{length-replicate, get_or-take, get_or_past, length-take-le, take_all, drop_all, append-nil}
-use Rattle.raft_env.proofs.OverlayLemmas.{get_or-padded, longest_of-more, overlaid_is}
+use Rattle.raft_env.proofs.OutcomesOverlayLemmas.{get_or-padded, longest_of-more, overlaid_is}
 
 or_comm : (a b : Bool) → (a || b) ≡ (b || a)
 or_comm true true = refl

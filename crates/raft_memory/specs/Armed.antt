@@ -8,7 +8,7 @@ use Rattle.raft_memory.specs.declared.armed.FsCall.{FsCall}
 use Rattle.raft_memory.specs.declared.armed.ArmedRefusal.{ArmedRefusal}
 use Rattle.raft_memory.specs.contracts.armed.FsCall as declared_call
 
--- the sort of calls, how many of them come up to the refused one, and the kind that is answered
+-- the sort of calls, how many of them come up to the failed one, and the kind that is answered
 abbrev pub Arm : Type 0
 Arm = FsCall × ℕ × IoKind
 
@@ -21,11 +21,11 @@ arms_of refusals = map arm_of refusals
 abbrev pub same_call : FsCall → FsCall → Bool
 same_call a b = sameb declared_call.the_type a b
 
--- the next call of that sort is the refused one
+-- the next call of that sort is the failed one
 abbrev pub is_due : FsCall → Arm → Bool
 is_due call arm = same_call call arm.0 && nat_le arm.1 1
 
--- a call of that sort brings the refused one nearer
+-- a call of that sort brings the failed one nearer
 abbrev pub one_less : FsCall → Arm → Arm
 one_less call arm = if same_call call arm.0 then (arm.0, arm.1 - 1, arm.2) else arm
 
@@ -37,7 +37,7 @@ arms_after call arms = retain_mut (λ arm. not (is_due call arm)) (one_less call
 abbrev pub due_kind : FsCall → List Arm → Option IoKind
 due_kind call arms = option_map (λ arm. arm.2) (find (is_due call) arms)
 
--- as what a call is refused: by what is due, or, once the stop has come, as `Other`
+-- as what a call fails: by what is due, or, once the stop has come, as `Other`
 abbrev pub injected : FsCall → List Arm → Option ℕ → Option IoKind
 injected call arms None = due_kind call arms
 injected call arms (Some nth) = if nat_lt 1 nth then due_kind call arms else Some Other

@@ -56,7 +56,7 @@ NamesNoBytes _ = Unit {0}
 abbrev pub NameNoBytes : List Choice → Type 0
 NameNoBytes choices = All NamesNoBytes choices
 
--- an invalid argument says that the fact fails, and want of memory says nothing of it
+-- an invalid argument says that the fact fails, and lack of memory says nothing of it
 abbrev pub RefusesUnless : Type 0 → Fault → Type 0
 RefusesUnless P (fault.InvalidArgument _) = P → ⊥
 RefusesUnless P fault.Memory = Unit {0}

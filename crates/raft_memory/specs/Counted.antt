@@ -3,7 +3,7 @@ use Rattle.std.specs.Prelude.{ℕ, length}
 use Rattle.raft_env.specs.Refusal.{Refusals}
 use Rattle.raft_memory.specs.declared.refusals.RefusalCount.{RefusalCount}
 
--- one entry stands for each want of memory
+-- one entry stands for each lack of memory
 abbrev pub refusals_in : RefusalCount → Refusals
 refusals_in count = record { storage = count.storage; memory = length count.memory.items }
 

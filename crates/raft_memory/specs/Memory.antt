@@ -22,7 +22,7 @@ abbrev pub memory_moments : MemoryFileSystem → List Directory
 memory_moments memory =
     namespace_directory memory.namespace ∷ map namespace_directory memory.past.items
 
--- how many calls were refused
+-- how many calls failed
 abbrev pub memory_refusals : MemoryFileSystem → Refusals
 memory_refusals memory = refusals_in memory.refusals
 
@@ -31,15 +31,15 @@ abbrev pub no_files : Directory
 no_files = record { files = finite.empty; is_folder = λ q. length q == 0 }
 
 -- the refusals that are armed, in that order: the sort of calls, which of them from now on (of
--- reads, from the arming on), and as what it is refused
+-- reads, from the arming on), and with which fault it fails
 abbrev pub armed_of : MemoryFileSystem → List (FsCall × ℕ × IoKind)
 armed_of memory = arms_of memory.armed.refusals.items
 
--- which of the changing calls from now on is the first that is refused
+-- which of the changing calls from now on is the first that fails
 abbrev pub stop_of : MemoryFileSystem → Option ℕ
 stop_of memory = memory.armed.stop
 
--- with the first half of the bytes, rounded down, written to the file there by a refused call
+-- with the first half of the bytes, rounded down, written to the file there by a failed call
 abbrev pub half_written : Path → ℕ → List ℕ → Directory → Directory
 half_written path at given n = update_file path (λ f. file_after_write at given false
     (overlay f.now at (take (length given / 2) given)) f) n
@@ -49,7 +49,7 @@ abbrev pub half_left : Path → ℕ → List ℕ → Directory → Directory
 half_left path at given n = if nat_le (at + length given) (2 ^ 62) then half_written path at given n
     else n
 
--- what a refused write leaves: the first half where the refusal was injected, and else all as it
+-- what a failed write leaves: the first half where the refusal was injected, and else all as it
 -- was, as where memory for the half was wanting
 abbrev pub LeavesHalf : Option IoKind → FsFault → Path → ℕ → List ℕ → Directory → Directory → Type 0
 LeavesHalf (Some kind) (Io answered) path at given old new = new ≡ half_left path at given old

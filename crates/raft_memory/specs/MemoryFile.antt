@@ -7,7 +7,7 @@ use Rattle.raft_env.specs.Outcomes.{File, is_within, is_touched, least_len, grea
 abbrev pub is_covered : List (ℕ × ℕ) → ℕ → Bool
 is_covered ranges i = list_any (λ r. is_within r.0 r.1 i) ranges
 
--- ranges, each a first place and a size, and the bytes that stood there, one behind the other
+-- ranges, each a first place and a size, and the bytes that stood there, one after the other
 abbrev pub BeforeImages : Type 0
 BeforeImages = List (ℕ × ℕ) × List ℕ
 

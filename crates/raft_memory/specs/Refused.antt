@@ -1,4 +1,4 @@
--- Why a call on files in memory was refused.
+-- Why a call on files in memory failed.
 use Rattle.std.specs.Prelude.{◌≡◌, ◌⊎◌, ℕ, ◌+◌, ◌<◌, ◌^◌, true, false, List, Option, Some, None, Result, Err, IfErr}
 use Rattle.std.specs.List.{list_any}
 use Rattle.std.specs.FinMap as map
@@ -45,7 +45,7 @@ abbrev pub WasArmed : List (FsCall × ℕ × IoKind) → FsCall → FsFault → 
 WasArmed armed call (Io kind) = IsArmed armed call kind
 WasArmed armed call Memory = ⊥
 
--- an injected refusal is answered, and without one the call is refused only for a cause of its own
+-- an injected refusal is answered, and without one the call fails only for a cause of its own
 abbrev pub RefusesAs : {T : Type 0} → Option IoKind → (FsFault → Type 0) → Result T FsFault → Type 0
 RefusesAs None IsCause result = IfErr result IsCause
 RefusesAs (Some kind) IsCause result = result ≡ Err (Io kind)

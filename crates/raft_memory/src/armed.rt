@@ -32,7 +32,7 @@ pub enum FsCall {
 #[derive(Drop)]
 pub(crate) struct ArmedRefusal {
     call: FsCall,
-    // How many calls of that sort come up to the refused one, with it; reads don't count here.
+    // How many calls of that sort come up to the failed one, with it; reads don't count here.
     left: u64,
     kind: IoKind,
     // The same of reads, which share the file system. No clause tells its value.
@@ -50,8 +50,8 @@ impl ArmedRefusal {
 
     // Counts a call, and says whether the refusal stays armed.
     fn stays_after(&mut self, call: FsCall) -> bool
-        ensures stays { result ≡ not (is_due call (arm_of self.old)) }
-        ensures less { arm_of self.new ≡ one_less call (arm_of self.old) }
+        ensures value { result ≡ not (is_due call (arm_of self.old)) }
+        ensures ok { arm_of self.new ≡ one_less call (arm_of self.old) }
     {
         let is_due = self.is_due(call);
         if call == self.call {
@@ -60,7 +60,7 @@ impl ArmedRefusal {
         !is_due
     }
 
-    // Counts a read, and says whether that is the refused one.
+    // Counts a read, and says whether that is the failed one.
     fn is_due_read(&self) -> bool
         ensures { IsTrue result → self.now.call ≡ FsCall.Read }
     {
@@ -78,7 +78,7 @@ impl Armed {
     ghost use Rattle.raft_memory.specs.Armed.{IsArmed, arm_of, arms_after, arms_of, due_kind, injected, is_due, one_less, stop_after};
 
     pub(crate) fn new(alloc: Global) -> Armed
-        ensures refusals { arms_of result.refusals.items ≡ [] }
+        ensures armed { arms_of result.refusals.items ≡ [] }
         ensures stop { result.stop ≡ None }
     {
         Armed {
@@ -87,7 +87,7 @@ impl Armed {
         }
     }
 
-    // As what the next call of that sort is to be refused.
+    // The fault with which the next call of that sort is to fail.
     fn due_kind(&self, call: FsCall) -> Option<IoKind>
         ensures { result ≡ due_kind call (arms_of self.now.refusals.items) }
     {
@@ -99,7 +99,7 @@ impl Armed {
         None
     }
 
-    /// Counts the call, and says as what it is to be refused.
+    /// Counts the call, and says with which fault it is to fail.
     pub(crate) fn fault_for(&mut self, call: FsCall) -> Option<IoKind>
         ensures value { result ≡ due_kind call (arms_of self.old.refusals.items) }
         ensures armed { arms_of self.new.refusals.items
@@ -133,7 +133,7 @@ impl Armed {
         }
     }
 
-    /// The same of a read. Reads may come at once, so no clause tells which of them is refused.
+    /// The same of a read. Reads may come at once, so no clause tells which of them fails.
     pub(crate) fn fault_for_read(&self) -> Option<IoKind>
         ensures { IfSome result (λ kind. IsArmed (arms_of self.now.refusals.items) FsCall.Read
             kind) }
@@ -152,7 +152,7 @@ impl MemoryFileSystem {
     ghost use Rattle.raft_memory.specs.Memory.{memory_directory, memory_moments, memory_refusals, armed_of, stop_of};
 
     /// Arms one more refusal: of the calls of that sort from now on the nth, counted from 1, and no
-    /// other is refused so. A write that is refused so has written the first half of its bytes,
+    /// other fails so. A write that fails so has written the first half of its bytes,
     /// rounded down, if all of them have room; where memory for the half is wanting, it has written
     /// nothing and answers `Memory`. Any other call has changed nothing.
     pub fn refuse(&mut self, call: FsCall, nth: u64, kind: IoKind) -> Result<(), Fault>
@@ -178,7 +178,7 @@ impl MemoryFileSystem {
     }
 
     /// Of the calls from now on that may change files the nth, counted from 1, and each later one
-    /// are refused as `Other`. These are to create, delete, rename, delete metadata, write,
+    /// fail as `Other`. These are to create, delete, rename, delete metadata, write,
     /// truncate, allocate, sync and make a folder.
     pub fn stop_at(&mut self, nth: u64)
         ensures ok { stop_of self.new ≡ Some nth }

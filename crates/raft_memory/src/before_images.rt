@@ -12,7 +12,7 @@ use std::marker::Model;
 pub(crate) struct BeforeImages {
     /// First places and sizes, the oldest first.
     places: Vec<(usize, usize)>,
-    /// What stood there, one behind the other.
+    /// What stood there, one after the other.
     bytes: Vec<u8>,
 }
 
@@ -37,7 +37,7 @@ impl BeforeImages {
         }
     }
 
-    /// Saves what stands between two places. What stands behind the end is a zero.
+    /// Saves what stands between two places. What stands after the end is a zero.
     pub(crate) fn save(&mut self, bytes: &[u8], from: usize, end: usize) -> Result<(), AllocError>
         ensures ok { OnOk result ((i : ℕ) → before_image_at self.new i
             ≡ option_or (before_image_at self.old i)
@@ -64,8 +64,8 @@ impl BeforeImages {
 
     /// Puts what was saved where it stood.
     pub(crate) fn restore(&self, bytes: &mut [u8])
-        ensures len { length bytes.new ≡ length bytes.old }
-        ensures each { (i : ℕ) → i < length bytes.old → slice_index bytes.new i
+        ensures unchanged { length bytes.new ≡ length bytes.old }
+        ensures ok { (i : ℕ) → i < length bytes.old → slice_index bytes.new i
             ≡ unwrap_or (before_image_at self.now i) (slice_index bytes.old i) }
     {
         let mut end = self.bytes.len();
@@ -79,12 +79,12 @@ impl BeforeImages {
     }
 }
 
-// Appends so many bytes from that place on, with zeros for those behind the end.
+// Appends so many bytes from that place on, with zeros for those after the end.
 fn push_part(saved: &mut Vec<u8>, bytes: &[u8], from: usize, size: usize) -> Result<(), AllocError>
-    ensures len { OnOk result (length saved.new.items ≡ length saved.old.items + size) }
+    ensures ok { OnOk result (length saved.new.items ≡ length saved.old.items + size) }
     ensures unchanged { OnOk result ((i : ℕ) → i < length saved.old.items
         → slice_index saved.new.items i ≡ slice_index saved.old.items i) }
-    ensures added { OnOk result ((i : ℕ) → i < size
+    ensures contents { OnOk result ((i : ℕ) → i < size
         → slice_index saved.new.items (length saved.old.items + i)
         ≡ slice_index bytes.now (from + i)) }
     ensures err { OnErr result (saved.new.items ≡ saved.old.items) }
@@ -102,8 +102,8 @@ fn push_part(saved: &mut Vec<u8>, bytes: &[u8], from: usize, size: usize) -> Res
 
 // Writes over what stands there; what goes past the end is left out.
 fn put_part(bytes: &mut [u8], from: usize, given: &[u8])
-    ensures len { length bytes.new ≡ length bytes.old }
-    ensures each { (i : ℕ) → i < length bytes.old → slice_index bytes.new i
+    ensures unchanged { length bytes.new ≡ length bytes.old }
+    ensures ok { (i : ℕ) → i < length bytes.old → slice_index bytes.new i
         ≡ (if is_within from (length given.now) i then slice_index given.now (i - from)
         else slice_index bytes.old i) }
 {

@@ -73,7 +73,7 @@ impl Namespace {
     fn crashed(&self, alloc: Global, choices: &[Choice]) -> Result<Namespace, Fault>
         ensures ok { IfOk result (λ t. IsRestarted (namespace_directory self.now)
             (left_by choices.now (namespace_directory self.now)) (namespace_directory t)) }
-        ensures allowed { OnOk result (Leaves (namespace_directory self.now)
+        ensures crash { OnOk result (Leaves (namespace_directory self.now)
             (left_by choices.now (namespace_directory self.now))) }
         ensures refused { IfErr result (RefusesUnless
             (Leaves (namespace_directory self.now)
@@ -107,7 +107,7 @@ fn put_left(
 ) -> Result<(), Fault>
     ensures ok { OnOk result (Puts files.old files.new path.now
         (synced_file (bytes_by_choice choice.now file.now))) }
-    ensures allowed { OnOk result (MayLeave file.now (bytes_by_choice choice.now file.now)) }
+    ensures crash { OnOk result (MayLeave file.now (bytes_by_choice choice.now file.now)) }
     ensures refused { IfErr result (RefusesUnless
         (MayLeave file.now (bytes_by_choice choice.now file.now))) }
 {

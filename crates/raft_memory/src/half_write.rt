@@ -12,7 +12,7 @@ impl MemoryFileSystem {
     ghost use Rattle.raft_memory.specs.Memory.{memory_directory, memory_moments, memory_refusals, armed_of, stop_of, half_left};
 
     /// Writes the first half of the bytes, rounded down, if a file stands there and has room for all
-    /// of them. It fails for want of memory alone.
+    /// of them. It fails for lack of memory alone.
     pub(crate) fn write_half(&mut self, path: &str, at: usize, bytes: &[u8]) -> Result<(), FsFault>
         ensures ok { OnOk result (memory_directory self.new
             ≡ half_left path.now at bytes.now (memory_directory self.old)) }

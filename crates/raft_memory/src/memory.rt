@@ -55,7 +55,7 @@ impl MemoryFileSystem {
     ghost use Rattle.raft_env.specs.Refusal.{no_refusals};
 
     pub fn new(alloc: Global) -> MemoryFileSystem
-        ensures files { memory_directory result ≡ no_files }
+        ensures value { memory_directory result ≡ no_files }
         ensures any_moment { memory_moments result ≡ no_files ∷ [] }
         ensures cause { memory_refusals result ≡ no_refusals }
         ensures others { (armed_of result ≡ []) × (stop_of result ≡ None) }

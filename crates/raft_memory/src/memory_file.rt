@@ -166,7 +166,7 @@ impl MemoryFile {
     /// What the choice leaves of the file.
     pub(crate) fn left(&self, alloc: Global, choice: &Choice) -> Result<Vec<u8>, Fault>
         ensures ok { IfOk result (λ left. left.items ≡ bytes_by_choice choice.now self.now) }
-        ensures allowed { OnOk result (MayLeave self.now (bytes_by_choice choice.now self.now)) }
+        ensures crash { OnOk result (MayLeave self.now (bytes_by_choice choice.now self.now)) }
         ensures refused { IfErr result (RefusesUnless
             (MayLeave self.now (bytes_by_choice choice.now self.now))) }
     {
@@ -302,8 +302,8 @@ fn overlay(bytes: &mut Vec<u8>, at: usize, given: &[u8]) -> Result<(), AllocErro
 
 fn put(bytes: &mut [u8], at: usize, given: &[u8])
     requires { at + length given.now ≤ length bytes.old }
-    ensures len { length bytes.new ≡ length bytes.old }
-    ensures put { bytes.new
+    ensures unchanged { length bytes.new ≡ length bytes.old }
+    ensures ok { bytes.new
         ≡ take at bytes.old ++ given.now ++ drop (at + length given.now) bytes.old }
 {
     bytes[at..at + given.len()].copy_from_slice(given);

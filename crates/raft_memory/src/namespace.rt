@@ -6,8 +6,7 @@ ghost use Rattle.raft_env.specs.Directory.{update_file, after_create, folder_mad
 ghost use Rattle.raft_memory.specs.Refused.{HasNoFolder, HasNoPlace, IsAbsent, IsBarred, IsMissing};
 
 use crate::memory_file::MemoryFile;
-use raft_env::paths::{is_on_way, name_in, parent};
-use raft_env::{FsFault, IoKind};
+use raft_env::{FsFault, IoKind, is_on_way, name_in, parent};
 use std::alloc::Global;
 use std::collections::BTreeMap;
 

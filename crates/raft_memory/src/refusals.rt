@@ -1,11 +1,11 @@
-//! How often calls on files in memory were refused.
+//! How often calls on files in memory failed.
 ghost use Rattle.std.specs.Prelude.{◌≡◌};
 ghost use Rattle.raft_env.specs.Refusal.{CountsRefusal, added_count, no_refusals};
 
 use raft_base::History;
 use raft_env::FsFault;
 
-/// The count for want of memory is for clauses alone.
+/// The count for lack of memory is for clauses alone.
 #[derive(Drop)]
 pub(crate) struct RefusalCount {
     storage: u64,

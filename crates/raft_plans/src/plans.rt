@@ -72,7 +72,7 @@ pub fn choice_of(alloc: Global, left: &Left) -> Result<Choice, AllocError> {
     }
 }
 
-/// The fault that an operation was refused with.
+/// The fault that an operation failed with.
 pub fn fault_of(outcome: &Outcome) -> Option<&Fault> {
     match outcome {
         Outcome::Size(answer) => answer.as_ref().err(),

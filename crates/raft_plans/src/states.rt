@@ -91,12 +91,12 @@ pub fn is_done(outcome: &Outcome) -> bool {
     }
 }
 
-/// The place of the first operation that was refused.
+/// The place of the first operation that failed.
 pub fn first_refused(outcomes: &[Outcome]) -> Option<usize> {
     outcomes.iter().position(|outcome| !is_done(outcome))
 }
 
-// Whether all that was done before is safe behind the operation.
+// Whether all that was done before is safe after the operation.
 fn covers(op: &Op) -> bool {
     match op {
         Op::Write(_, sync) => *sync,
@@ -106,7 +106,7 @@ fn covers(op: &Op) -> bool {
 }
 
 /// Whether a log that was answered so may hold the state after a crash: that of the operations done up to a place at
-/// or behind the last one that made sure of them, or of all of them and the one in which the engine failed.
+/// or after the last one that made sure of them, or of all of them and the one in which the engine failed.
 pub fn is_allowed(
     ops: &[Op],
     outcomes: &[Outcome],

@@ -1,3 +1,3 @@
-pub mod ZerosLemmas
 pub mod CompletedLemmas
-pub mod OpeningLemmas
+pub mod CompletedOpeningLemmas
+pub mod CompletedZerosLemmas

@@ -12,11 +12,11 @@ ghost use Rattle.raft_premise.specs.Completed.{AreFromCompletedCallsAt, HasCompl
 ghost use Rattle.raft_files.specs.Writer.{HasChanged, IsAppended, IsAppending, IsClosed, IsCut, IsCutting, IsSynced, bytes_at};
 ghost use Rattle.raft_files.specs.declared.format.LogFileFormat.{LogFileFormat};
 
-/// A record that can be read and that no refused call brought stays so in every further call. So
-/// calls keep a log whose records no refused call brought, where only writes are refused and no
+/// A record that can be read and that no failed call brought stays so in every further call. So
+/// calls keep a log whose records no failed call brought, where only writes fail and no
 /// file is renamed: when it is made (`made`), found and cut where its reading ends (`found`),
-/// appended to, synced and closed, and when a refused append is taken back (`undone`). The records
-/// stay so at each moment of an append (`appending`) and of a cut (`cutting`). No refused call
+/// appended to, synced and closed, and when a failed append is taken back (`undone`). The records
+/// stay so at each moment of an append (`appending`) and of a cut (`cutting`). No failed call
 /// brought what a crash left (`restarted`), nor what a cut leaves of that (`cut`).
 pub fn failed_calls_add_no_record()
     ensures log { (path : Path) (id : FileId) (format : LogFileFormat) (batches : List Batch)

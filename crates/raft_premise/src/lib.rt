@@ -1,4 +1,4 @@
-//! Logs whose records no refused call brought, and the calls that keep them so: laws alone.
+//! Logs whose records no failed call brought, and the calls that keep them so: laws alone.
 #![tactic(auto)]
 
 pub mod laws;

@@ -1,4 +1,4 @@
-//! What an opening finds behind a crash, and behind a refusal of storage.
+//! What an opening finds after a crash, and after a refusal of storage.
 
 use raft_env::{FileSystem, IoKind};
 use raft_log_engine::{Engine, Refused};
@@ -16,7 +16,7 @@ enum Step {
     Write(bool, Result<usize, u8>),
     Sync(Result<(), u8>),
     Get(&'static [u8], Result<Option<&'static [u8]>, u8>),
-    /// The nth call of the sort is refused.
+    /// The nth call of the sort fails.
     Refuse(FsCall, u64),
     Stop(u64),
     Failed(bool),
@@ -27,7 +27,7 @@ enum End {
     GiveUp,
     OpenAgain,
     Close,
-    /// Closing is refused with this code.
+    /// Closing fails with this code.
     CloseRefused(u8),
     Reopen,
 }
@@ -53,7 +53,7 @@ const TWO: &[Step] = &[
     Step::Write(false, Ok(28)),
 ];
 
-/// A value that fills the room, so that no zeros stand behind it.
+/// A value that fills the room, so that no zeros stand after it.
 const LONG: &[Step] = &[Step::Put(b"a", &[1; 1024]), Step::Write(false, Ok(1052))];
 
 const CASES: [Case; 9] = [

@@ -1,7 +1,7 @@
-pub mod RunLemmas
 pub mod DurabilityLemmas
-pub mod AnswersLemmas
-pub mod TrialLemmas
 pub mod LineLemmas
-pub mod LinesLemmas
+pub mod LineReadingLemmas
 pub mod ProgramLemmas
+pub mod RunAnswersLemmas
+pub mod RunLemmas
+pub mod TrialLemmas

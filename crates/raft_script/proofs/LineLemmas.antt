@@ -180,7 +180,7 @@ module _ (text : List ℕ) (none : (word : List ℕ) (words : List (List ℕ)) �
       by_words (Some (kept ∷ [])) e = refl
       by_words (Some (kept ∷ fill ∷ words)) e = ap (option_and_then (λ k. option_and_then (λ f. cond (nat_lt f 256) (if_last (Torn k f) words) None) (number_in fill))) (none kept (fill ∷ words) e)
 
-  -- .. where this text stands behind a word
+  -- .. where this text stands after a word
   pub torn_without_fill : (whole kept : List ℕ) → BeginsWith whole kept text → option_and_then torn_by (words_in whole) ≡ None
   torn_without_fill whole kept begins = ap (option_and_then torn_by) begins ∙ by_words (words_in text) refl
     where

@@ -23,7 +23,7 @@ module _ {F H R W : Type 0} {g : Ghosts F H R W} where
   opens_weaker P Q weaker answer.Done (Some e) opened = weaker e opened
   opens_weaker P Q weaker answer.Done None none = absurd none
   opens_weaker P Q weaker (answer.Outcome outcome) new none = absurd none
-  opens_weaker P Q weaker (answer.Gone fault) new opened = tt
+  opens_weaker P Q weaker (answer.Fatal fault) new opened = tt
 
   -- an opening of a folder that holds nothing
   pub opens_new : (folder : Path) (m : Contents) (opening : Result (Engine F H R W g) (Refused F)) → m ≡ no_contents → IfOk opening (λ e. contents_of e ≡ m) → IfOk opening (IsNewIn folder) → IfOk opening (IsMetBy None)
@@ -32,9 +32,11 @@ module _ {F H R W : Type 0} {g : Ghosts F H R W} where
 
   -- an opening of what a crash left
   pub opens_after_crash : (old e : Engine F H R W g) (dir : Path) (n m : Directory) (image : CrashImage) → dir ≡ codes "raft" → n ≡ directory_of old → Leaves n image → contents_at dir m ≡ contents_after_crash dir n image → contents_of e ≡ contents_at dir m → HoldsAfterCrash old e
-  opens_after_crash old e dir n m image dir_is n_is leaves found is =
-      (image, subst (λ (x : Directory). Leaves x image) n_is leaves,
-      is ∙ found ∙ ap (λ (x : Path). contents_after_crash x n image) dir_is ∙ ap (λ (x : Directory). contents_after_crash (codes "raft") x image) n_is)
+  opens_after_crash old e dir n m image dir_is n_is leaves found is = (
+    image,
+    subst (λ (x : Directory). Leaves x image) n_is leaves,
+    is ∙ found ∙ ap (λ (x : Path). contents_after_crash x n image) dir_is ∙ ap (λ (x : Directory). contents_after_crash (codes "raft") x image) n_is,
+  )
 
   -- a line is answered by the engine that it meets
   pub line_answered : (asked : Asked) (old new : Option (Engine F H R W g)) (met : Engine F H R W g) (opening : Result (Engine F H R W g) (Refused F)) (result : Result Answer AllocError) → opening ≡ Ok met → IfOk opening (IsMetBy old) → IfOk result (λ a. AnswersFrom asked a met new) → IfOk result (λ a. AnswersLine asked a old new)

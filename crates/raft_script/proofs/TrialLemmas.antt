@@ -11,7 +11,7 @@ use Rattle.raft_env.specs.Directory.{Directory, HasFile, IsRestarted, Leaves, Cr
 use Rattle.raft_env.specs.Outcomes.{File, synced_file}
 use Rattle.raft_memory.specs.Memory.{no_files}
 use Rattle.raft_memory.specs.declared.crash.Choice.{Choice}
-use Rattle.raft_memory.proofs.TornLemmas.{choices_may_leave}
+use Rattle.raft_memory.proofs.ChoiceTornLemmas.{choices_may_leave}
 use Rattle.raft_log_engine.specs.Crash.{RecoversContents, LeavesAllowedFrom, contents_after_crash}
 use Rattle.raft_base.specs.declared.errors.Fault.{Fault}
 use Rattle.raft_base.specs.declared.errors.Fault.TheVariants as fault
@@ -39,12 +39,12 @@ no_progress : (p : Progress) (ops : List Op) → progress_after_all p ops [] ≡
 no_progress p [] = refl
 no_progress p (op ∷ ops) = refl
 
--- where the opening was refused, no operation was done
+-- where the opening failed, no operation was done
 pub refused_after : (folder : Path) (m : Contents) (ops : List Op) (n : Directory) → LeavesAllowedFrom 0 folder m [] n → LeavesAllowedAfter None folder m [] ops [] n
 refused_after folder m ops n leaves =
     ([], refl, subst (λ (p : Progress). LeavesAllowedFrom p.covered folder m (p.batches ++ []) n) (sym (no_progress (progress_from []) ops)) leaves)
 
--- of a folder without files no refused call brought a record
+-- of a folder without files no failed call brought a record
 pub none_done : (folder : Path) (n : Directory) → (HasNoLog folder n → ReadsCompletedRecordsIn folder n) → n ≡ no_files → ReadsCompletedRecordsIn folder n
 none_done folder n done is = done (ap (λ (x : Directory). file_at x (log_path folder)) is ∙ get-empty _ (log_path folder))
 
@@ -70,7 +70,7 @@ same_opened (Err e) same is = is
 pub image_restarted : (dir folder : Path) (n m : Directory) (d : CrashImage) (opened : Result Image Fault) → dir ≡ folder → contents_at folder m ≡ contents_after_crash folder n d → IfOk opened (λ image. IsImageOf image.groups.items (contents_at dir m)) → IfOk opened (λ image. IsImageOf image.groups.items (contents_after_crash folder n d))
 image_restarted dir folder n m d opened same found is = same_opened opened (ap (λ (p : Path). contents_at p m) same ∙ found) is
 
--- Why the opening after a crash is refused.
+-- Why the opening after a crash fails.
 
 if_err : {T G : Type 0} (P Q : G → Type 0) (result : Result T G) → ((e : G) → P e → Q e) → IfErr result P → IfErr result Q
 if_err P Q (Ok x) f holds = tt

@@ -134,7 +134,7 @@ asked_by_op (op.Get group key) = Some (Get group key.items)
 abbrev pub HasNoWord : List ℕ → Type 0
 HasNoWord text = (word : List ℕ) (words : List (List ℕ)) → words_in text ≡ Some (word ∷ words) → ⊥
 
--- the text begins with this word, and has the other's words behind it
+-- the text begins with this word, and has the other's words after it
 abbrev pub BeginsWith : List ℕ → List ℕ → List ℕ → Type 0
 BeginsWith text word rest = words_in text ≡ option_map (λ words. word ∷ words) (words_in rest)
 
@@ -157,13 +157,13 @@ EndsOn text ended.Done = first_bad_line text ≡ None
 EndsOn text (ended.BadLine number) = first_bad_line text ≡ Some number
 EndsOn text _ = Unit {0}
 
--- a line was found, and these bytes are left behind it; or there was none
+-- a line was found, and these bytes are left after it; or there was none
 abbrev pub IsNextLine : Bool → List ℕ → List ℕ → Option (List ℕ) → Type 0
 IsNextLine true text line left =
     (rest : List ℕ) × (left ≡ Some rest) × (lines_in text ≡ line ∷ lines_in rest)
 IsNextLine false text line left = text ≡ []
 
--- the lines before this number are good, and these bytes are left behind them
+-- the lines before this number are good, and these bytes are left after them
 abbrev pub IsReading : Option (List ℕ) → Option (List ℕ) → ℕ → Type 0
 IsReading None left number = Unit {0}
 IsReading (Some text) left number =
@@ -172,7 +172,7 @@ IsReading (Some text) left number =
     × (position_or_len is_bad (lines_in text) + 1 ≡ number + position_or_len is_bad (lines_in rest))
     × (length (lines_in text) + 1 ≡ number + length (lines_in rest))
 
--- the program goes on behind the line of this number, or it ends there
+-- the program goes on after the line of this number, or it ends there
 abbrev pub GoesOnOrEnds : Option (List ℕ) → Option (List ℕ) → ℕ → Option Ended → Type 0
 GoesOnOrEnds known left number None = IsReading known left (number + 1)
 GoesOnOrEnds known left number (Some ended) = IfSome known (λ text. EndsOn text ended)

@@ -44,12 +44,12 @@ module _ {F H R W : Type 0} {g : Ghosts F H R W} where
   -- such an engine is there after an opening, or none at all
   abbrev pub OpensTo : Answer → Option (Engine F H R W g) → (Engine F H R W g → Type 0) → Type 0
   OpensTo answer.Done (Some new) P = P new
-  OpensTo (answer.Gone fault) new P = Unit {0}
+  OpensTo (answer.Fatal fault) new P = Unit {0}
   OpensTo a new P = ⊥
 
   -- .. or none is there, and the program ends
   abbrev pub AnswersFrom : Asked → Answer → Engine F H R W g → Option (Engine F H R W g) → Type 0
-  AnswersFrom asked (answer.Gone fault) met new = Unit {0}
+  AnswersFrom asked (answer.Fatal fault) met new = Unit {0}
   AnswersFrom asked a met (Some new) = AnswersAsked asked a met new
   AnswersFrom asked a met None = ⊥
 
@@ -58,5 +58,5 @@ module _ {F H R W : Type 0} {g : Ghosts F H R W} where
   abbrev pub AnswersLine : Asked → Answer → Option (Engine F H R W g) → Option (Engine F H R W g)
       → Type 0
   AnswersLine asked a old new = ((asked ≡ Nothing) × (a ≡ answer.Nothing) × (new ≡ old))
-      ⊎ ((fault : Fault) × (a ≡ answer.Gone fault))
+      ⊎ ((fault : Fault) × (a ≡ answer.Fatal fault))
       ⊎ ((met : Engine F H R W g) × IsMetBy old met × AnswersFrom asked a met new)

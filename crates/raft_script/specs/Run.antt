@@ -101,7 +101,7 @@ IsWritten acts len = (batch : Batch) × (batch_of_acts acts ≡ Some batch) × (
 abbrev pub IsTooLong : List Act → Type 0
 IsTooLong acts = (batch : Batch) × (batch_of_acts acts ≡ Some batch) × (2 ^ 56 ≤ record_len batch)
 
--- a write is refused for an act that can't be done, or for want of memory; its batch by storage,
+-- a write fails for an act that can't be done, or for lack of memory; its batch by storage,
 -- for its length, or by a failed engine
 abbrev pub IsWriteRefusal : List Act → Fault → Type 0
 IsWriteRefusal acts (fault.InvalidArgument _) = batch_of_acts acts ≡ None
@@ -122,7 +122,7 @@ IsGetRefusal fault.Memory = Unit {0}
 IsGetRefusal fault.Failed = Unit {0}
 IsGetRefusal _ = ⊥
 
--- an operation is answered so, or refused, at these contents
+-- an operation is answered so, or fails so, at these contents
 abbrev pub IsAnswer : Contents → Op → Outcome → Type 0
 IsAnswer m (Write acts sync) (Size answer) =
     MatchResult answer (IsWritten acts.items) (IsWriteRefusal acts.items)
@@ -150,11 +150,11 @@ is_refused_by_storage (Size answer) = is_io answer
 is_refused_by_storage (Done answer) = is_io answer
 is_refused_by_storage (Value answer) = is_io answer
 
--- how many of the operations storage refused
+-- how many of the operations failed in storage
 abbrev pub io_count : List Outcome → ℕ
 io_count outcomes = count_by is_refused_by_storage outcomes
 
--- storage's count rose where the operation was refused by it, and no count fell
+-- storage's count rose where the operation failed in it, and no count fell
 abbrev pub Refuses : Outcome → Refusals → Refusals → Type 0
 Refuses outcome old new = NoFewer old new × (is_refused_by_storage outcome ≡ true
     → StorageRefusalsRose old new)
@@ -163,7 +163,7 @@ Refuses outcome old new = NoFewer old new × (is_refused_by_storage outcome ≡ 
 abbrev pub StorageRefusalsRoseBy : ℕ → Refusals → Refusals → Type 0
 StorageRefusalsRoseBy count old new = min (old.storage + count) (2 ^ 64 - 1) ≤ new.storage
 
--- by storage, or for want of memory
+-- by storage, or for lack of memory
 abbrev pub IsStorageOrMemory : Fault → Type 0
 IsStorageOrMemory (fault.Io kind path) = Unit {0}
 IsStorageOrMemory fault.Memory = Unit {0}
@@ -183,10 +183,10 @@ pub record FailsBy {T : Type 0} (failed : Bool) (answer : Result T Fault) (fails
   -- a failure is told where there was one, and nowhere else
   pub only_failed : is_failure answer ≡ true → failed ≡ true
   pub refused : failed ≡ true → (is_failure answer ≡ true) ⊎ IsErrAnd answer Other
-  -- it fails by storage or for want of memory alone
+  -- it fails by storage or for lack of memory alone
   pub cause : failed ≡ false → fails ≡ true → IsErrAnd answer IsStorageOrMemory
 
--- .. in an operation; a refused sync fails the engine, and a get doesn't
+-- .. in an operation; a failed sync fails the engine, and a get doesn't
 abbrev pub IsFailing : Bool → Op → Outcome → Bool → Type 0
 IsFailing failed (Write acts sync) (Size answer) fails =
     FailsBy failed answer fails (IsUnbuilt acts.items)

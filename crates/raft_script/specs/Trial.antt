@@ -27,7 +27,7 @@ pub record AreAnswered (m : Contents) (ops : List Op) (outcomes : List Outcome)
   pub answers : AreAnswers m ops outcomes
   pub place : IsFailurePlace false ops outcomes failed_at
 
--- the opening was refused, and no operation was done; the files keep what they kept
+-- the opening failed, and no operation was done; the files keep what they kept
 pub record AreNotAsked (folder : Path) (m : Contents) (files : Directory) (outcomes : List Outcome)
     (failed_at : Option ℕ) : Type 0 where
   pub none : outcomes ≡ []
@@ -67,7 +67,7 @@ pub record AreNotAllowed (folder : Path) (ops : List Op) (stop : Option ℕ) (ch
   pub runs : RunsFromEmpty folder ops stop outcomes failed_at last
   pub refused : let files = memory_directory last in Leaves files (left_by choices files) → ⊥
 
--- an opening is refused by storage, for want of memory, or for the damage of the log in the folder
+-- an opening fails by storage, for lack of memory, or for the damage of the log in the folder
 abbrev pub IsLogRefusal : RecoveryMode → Path → Directory → Fault → Type 0
 IsLogRefusal mode folder files e = IsStorageOrMemory e ⊎ HasDamageIn mode folder files e
 
@@ -103,7 +103,7 @@ pub record IsTrialOf (mode : RecoveryMode) (folder : Path) (ops : List Op) (stop
   pub refused : let files = memory_directory last in
       IsDetectableIn folder files (left_by choices files)
       → (mode ≡ AbsoluteConsistency → ⊥) → IfErr t.opened IsStorageOrMemory
-  -- in any mode and of any damage it is refused by storage, for want of memory, or for what is left
+  -- in any mode and of any damage it fails by storage, for lack of memory, or for what is left
   -- of the log
   pub cause : let files = memory_directory last in
       IfErr t.opened (IsLeftRefusal mode folder files (left_by choices files))

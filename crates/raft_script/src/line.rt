@@ -168,8 +168,8 @@ fn parse_delete(rest: &[u8]) -> Option<Call<'_>>
     Some(Call::Delete { group, key, sync })
 }
 
-// The first word, and what follows the space behind it: a word is of printable characters, and one space stands
-// between two words. Behind the last word nothing follows.
+// The first word, and what follows the space after it: a word is of printable characters, and one space stands
+// between two words. After the last word nothing follows.
 fn split_word(text: &[u8]) -> Option<(&[u8], &[u8])>
     ensures value { MatchOption result (HasNoWord text.now)
         (λ found. BeginsWith text.now found.0.now found.1.now) }

@@ -30,7 +30,7 @@ pub enum Outcome {
 /// What a trial showed.
 #[derive(Debug, PartialEq, Eq, Drop)]
 pub struct Trial {
-    /// Empty where the first opening was refused.
+    /// Empty where the first opening failed.
     pub outcomes: Vec<Outcome>,
     /// The place, counted from 0, of the operation in which the engine failed.
     pub failed_at: Option<usize>,

@@ -29,7 +29,7 @@ pub enum Ended {
     Done,
     /// A line, counted from 1, asks for nothing that the program knows.
     BadLine(u64),
-    /// The input could not be read, or memory was refused outside the engine's calls.
+    /// The input could not be read, or memory ran out outside the engine's calls.
     Input,
     /// The output could not be written.
     Output,
@@ -139,10 +139,7 @@ fn answer_line(
     }
 }
 
-fn take_or_open(
-    alloc: Global,
-    engine: &mut Option<MemoryEngine>,
-) -> Result<Opening, AllocError>
+fn take_or_open(alloc: Global, engine: &mut Option<MemoryEngine>) -> Result<Opening, AllocError>
     ensures value { IfOk result (λ opening. IfOk opening (IsMetBy engine.old)) }
 {
     match engine.take() {
@@ -188,6 +185,7 @@ fn settings(alloc: Global) -> Result<Config, AllocError>
 fn open(alloc: Global) -> Result<Opening, AllocError>
     ensures value { IfOk result (λ opening. IfOk opening (IsMetBy None)) }
 {
+    crash_leaves_contents();
     let config = settings(alloc)?;
     Ok(Engine::open_in_order(alloc, config, MemoryFileSystem::new(alloc)))
 }

@@ -24,9 +24,9 @@ use raft_records::Fault;
 use std::alloc::Global;
 
 /// Opens a log in memory, does the operations, crashes, and opens again. From the first opening on the calls that may
-/// change files are counted from 1, and from the one at `stop` on each is refused; the opening after the crash has no
+/// change files are counted from 1, and from the one at `stop` on each fails; the opening after the crash has no
 /// stop. The choices say what the crash leaves; bytes that storage doesn't allow are refused, and no others. Where
-/// the damage of what it leaves is detectable, a tolerant opening fails by storage or for want of memory alone; any
+/// the damage of what it leaves is detectable, a tolerant opening fails by storage or for lack of memory alone; any
 /// other opening only for these, or for what is left of the log. It is detectable where an engine answered and didn't
 /// fail, and the choices leave each file whole, as it is at the crash or as it was synced.
 pub fn trial(

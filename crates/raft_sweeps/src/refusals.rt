@@ -1,4 +1,4 @@
-//! Operations with one call to the files refused.
+//! Operations with one failing call to the files.
 
 use raft_env::{FileSystem, IoKind};
 use raft_log_engine::Engine;
@@ -99,8 +99,8 @@ fn tells(state: State, op: &Op, outcome: &Outcome) -> bool {
     }
 }
 
-// Each operation is answered as the ones done before it tell. One alone is refused by the files, and those behind it
-// by a failed engine, if at all. Whether one is refused.
+// Each operation is answered as the ones done before it tell. One alone fails by the files, and those after it
+// by a failed engine, if at all. Whether one fails.
 fn are_answers(rt: &impl Abort, ops: &[Op], outcomes: &[Outcome], kind: IoKind) -> bool {
     let mut state = EMPTY;
     let mut refused = false;
@@ -120,7 +120,7 @@ fn are_answers(rt: &impl Abort, ops: &[Op], outcomes: &[Outcome], kind: IoKind) 
     refused
 }
 
-// Up to the first refused one the outcomes are those that were wanted.
+// Up to the first failed one the outcomes are those that were wanted.
 fn begin_as_wanted(rt: &impl Abort, outcomes: &[Outcome], wanted: &[Outcome]) {
     for (outcome, wanted) in outcomes.iter().zip(wanted.iter()) {
         if !is_done(outcome) {
@@ -130,7 +130,7 @@ fn begin_as_wanted(rt: &impl Abort, outcomes: &[Outcome], wanted: &[Outcome]) {
     }
 }
 
-// What the operations are answered where nothing is refused.
+// What the operations are answered where nothing fails.
 fn answered(rt: &impl Abort, alloc: Global, ops: &[Op]) -> Result<Vec<Outcome>, Fail> {
     let shown = run_over(alloc, ops, MemoryFileSystem::new(alloc))?;
     assert_eq!(rt; shown.outcomes.len(), ops.len());
@@ -138,7 +138,7 @@ fn answered(rt: &impl Abort, alloc: Global, ops: &[Op]) -> Result<Vec<Outcome>, 
     Ok(shown.outcomes)
 }
 
-// With the nth call of a sort refused: whether there were so many.
+// With the nth call of a sort failing: whether there were so many.
 fn refuse_one(
     rt: &impl Abort,
     alloc: Global,

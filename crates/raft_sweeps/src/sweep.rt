@@ -13,7 +13,7 @@ const MAX_CALLS: u64 = 100;
 /// of records, and three syncs.
 const MIN_CHANGES: u64 = 13;
 
-// The trial found what may be found. Behind the stop each change is refused, so that the engine fails at the first.
+// The trial found what may be found. After the stop each change fails, so that the engine fails at the first.
 fn holds(rt: &impl Abort, ops: &[Op], trial: &Trial) {
     assert_eq!(rt; trial.failed_at, first_refused(&trial.outcomes));
     match &trial.opened {

@@ -19,7 +19,7 @@ const PLANS: [Plan; 4] = [
     Plan::Get(1, b"b"),
 ];
 
-/// What the operations are answered where nothing is refused.
+/// What the operations are answered where nothing fails.
 const ANSWERS: [Answer; 4] = [
     Answer::Size(28),
     Answer::Size(28),

@@ -13,7 +13,7 @@ enum Pass {
     Sum,
     /// Both, the copy over the one before.
     InPlace,
-    /// Both, the copy behind the one before.
+    /// Both, the copy after the one before.
     Append,
 }
 

@@ -9,7 +9,7 @@ pub(crate) trait Host: Print + Eprint + AllocGlobal + Clock {}
 
 impl<R: Print + Eprint + AllocGlobal + Clock> Host for R {}
 
-/// Prints what so many operations on so many bytes took since then, on standard error, and answers the time behind it.
+/// Prints what so many operations on so many bytes took since then, on standard error, and answers the time after it.
 pub(crate) fn report<R: Host>(
     rt: &R,
     name: &str,

@@ -1,4 +1,4 @@
-use Rattle.raft_memory.proofs.TornLemmas.{choices_may_leave}
+use Rattle.raft_memory.proofs.ChoiceTornLemmas.{choices_may_leave}
 use Rattle.raft_damage.proofs.PremiseLemmas.{records_detectable, records_torn, log_whole}
 use Rattle.raft_damage.proofs.PastLemmas.{own_detectable, now_is_read, synced_is_read}
 use Rattle.raft_damage.proofs.DetectableDamageLemmas.{broken_zeros}

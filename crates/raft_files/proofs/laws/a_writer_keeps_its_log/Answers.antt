@@ -1,4 +1,4 @@
-use Rattle.raft_files.proofs.LogLemmas.{log_begun, log_appended, log_appending, log_synced, log_closed, torn_log_closed, log_beside}
+use Rattle.raft_files.proofs.RecordsLogLemmas.{log_begun, log_appended, log_appending, log_synced, log_closed, torn_log_closed, log_beside}
 use Rattle.raft_files.proofs.laws.a_writer_keeps_its_log.Goals as goal
 
 pub returns-clause-begun : goal.returns-clause-begun

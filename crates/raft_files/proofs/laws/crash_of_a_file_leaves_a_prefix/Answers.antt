@@ -1,5 +1,5 @@
-use Rattle.raft_files.proofs.LogLemmas.{log_appending}
-use Rattle.raft_files.proofs.KeptLemmas.{kept_left, log_kept, torn_log_kept, log_closing_kept, torn_log_closing_kept, kept_syncing, kept_restarted, kept_none, kept_more, kept_beside}
+use Rattle.raft_files.proofs.RecordsLogLemmas.{log_appending}
+use Rattle.raft_files.proofs.RecordsCrashLemmas.{kept_left, log_kept, torn_log_kept, log_closing_kept, torn_log_closing_kept, kept_syncing, kept_restarted, kept_none, kept_more, kept_beside}
 use Rattle.raft_files.proofs.laws.crash_of_a_file_leaves_a_prefix.Goals as goal
 
 pub returns-clause-left : goal.returns-clause-left

@@ -1,6 +1,6 @@
 use Rattle.std.proofs.Common.{refl}
-use Rattle.raft_files.proofs.KeptLemmas.{kept_created, kept_truncating, kept_opening, log_found_cut}
-use Rattle.raft_files.proofs.ReusedLemmas.{kept_renamed, kept_reusing, log_reused}
+use Rattle.raft_files.proofs.RecordsCrashLemmas.{kept_created, kept_truncating, kept_opening, log_found_cut}
+use Rattle.raft_files.proofs.RecordsReusedLemmas.{kept_renamed, kept_reusing, log_reused}
 use Rattle.raft_files.proofs.laws.opening_keeps_the_log.Goals as goal
 
 pub returns-clause-created : goal.returns-clause-created

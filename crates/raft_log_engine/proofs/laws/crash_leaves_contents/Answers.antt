@@ -3,7 +3,7 @@ use Rattle.raft_pipes.specs.Folder.{readable_after_crash}
 use Rattle.raft_files.specs.Records.{as_it_is}
 use Rattle.raft_log_engine.specs.Contents.{recovered_contents}
 use Rattle.raft_log_engine.specs.Crash.{IsAllowedFrom, contents_after_crash}
-use Rattle.raft_log_engine.proofs.AllowedLemmas.{contents_folder, contents_found, contents_left, keeps_all}
+use Rattle.raft_log_engine.proofs.CrashLemmas.{contents_folder, contents_found, contents_left, keeps_all}
 use Rattle.raft_log_engine.proofs.laws.crash_leaves_contents.Goals as goal
 
 pub returns-clause-left : goal.returns-clause-left

@@ -14,8 +14,8 @@ returns-clause-ok c =
     let value = c.deref_mut.ensures.value in
     let test : (length c.args.given.now == 0) ≡ false = sym c.is_empty.ensures ∙ c.if-is_empty.false in
     let some : 0 < length c.args.given.now = grind (arith, nat_tests) in
-    let long : length c.put.new.bytes ≡ c.if-end-len.bytes.len = c.put.ensures.len ∙ c.deref_mut.ensures.len in
-    take_at _ _ _ long ∙ c.put.ensures.put
+    let long : length c.put.new.bytes ≡ c.if-end-len.bytes.len = c.put.ensures.unchanged ∙ c.deref_mut.ensures.len in
+    take_at _ _ _ long ∙ c.put.ensures.ok
     ∙ ap (λ (l : List ℕ). take c.args.at l ++ c.args.given.now ++ drop (c.args.at + length c.args.given.now) l) value
     ∙ (elim c.if-end-len.branch [
       | then-end-len+in_ok-resize w ↦

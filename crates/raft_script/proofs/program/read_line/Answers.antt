@@ -1,5 +1,5 @@
 use Rattle.std.proofs.Common.{◌≡◌, ◌≢◌, ◌-◌, ◌<◌, [], length, rules, slice_index, take}
-use Rattle.raft_script.proofs.LinesLemmas.{line_with_end, line_without_end}
+use Rattle.raft_script.proofs.LineReadingLemmas.{line_with_end, line_without_end}
 use Rattle.raft_script.proofs.program.read_line.Goals as goal
 
 pub returns-then-eq : goal.returns-then-eq

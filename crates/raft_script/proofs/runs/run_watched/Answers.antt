@@ -11,7 +11,7 @@ use Rattle.raft_log_engine.specs.Durability.{durability_of}
 use Rattle.raft_script.specs.Run.{IsFailurePlace, IsUnasked, given_batches}
 use Rattle.raft_script.specs.declared.operation.Op.{Op}
 use Rattle.raft_log_engine.specs.Engine.{answer_now, contents_of, directory_of, durable_of, folder_of, has_failed, moments_of, refusals_of, snapshot_of, unsynced_of}
-use Rattle.raft_script.proofs.AnswersLemmas.{allowed_more, inside_call}
+use Rattle.raft_script.proofs.RunAnswersLemmas.{allowed_more, inside_call}
 use Rattle.raft_script.proofs.DurabilityLemmas.{IsUnderWay, durable_after, inside_here, leaves_after, leaves_standing, progress_more, under_way_begun, under_way_more}
 use Rattle.raft_script.proofs.RunLemmas.{IsNextPlace, IsRunning, place_more, rose_more, running_begun, running_more, stands_so_far, still_failing, taken_more}
 use Rattle.raft_script.proofs.runs.run_watched.Goals as goal

@@ -3,7 +3,7 @@ use Rattle.raft_script.specs.Durability.{AreAllowedInside, progress_after_all, p
 use Rattle.raft_log_engine.specs.Durability.{durability_of}
 use Rattle.raft_log_engine.specs.Engine.{begun_of, contents_of, directory_of, durable_of, folder_of, has_failed, refusals_of, unsynced_of}
 use Rattle.raft_script.specs.Run.{IsFailurePlace, IsUnasked, StorageRefusalsRoseBy, io_count}
-use Rattle.raft_script.proofs.AnswersLemmas.{Keeps}
+use Rattle.raft_script.proofs.RunAnswersLemmas.{Keeps}
 use Rattle.raft_script.proofs.DurabilityLemmas.{IsUnderWay}
 use Rattle.raft_script.proofs.RunLemmas.{IsRunning}
 use Rattle.raft_script.proofs.runs.run_watched.Given as goal

@@ -10,7 +10,7 @@ use Rattle.raft_pipes.specs.Completed.{ReadsCompletedRecordsIfSimple}
 use Rattle.raft_script.specs.Trial.{LeavesDetectable}
 use Rattle.raft_script.specs.Run.{AreAnswers, IsFailurePlace}
 use Rattle.raft_script.specs.Durability.{progress_from}
-use Rattle.raft_script.proofs.AnswersLemmas.{through_moments}
+use Rattle.raft_script.proofs.RunAnswersLemmas.{through_moments}
 use Rattle.raft_script.proofs.TrialLemmas.{opened_after, refused_after}
 use Rattle.raft_script.proofs.trials.run_over.Goals as goal
 

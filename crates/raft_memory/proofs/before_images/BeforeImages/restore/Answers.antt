@@ -1,6 +1,6 @@
 use Rattle.std.proofs.Common.{◌≡◌, ℕ, ◌+◌, ◌-◌, ◌<◌, length, take, drop, get_or, unwrap_or, List, ◌∙◌, ap, rules, arith}
 use Rattle.raft_memory.specs.MemoryFile.{places_len, before_image_in}
-use Rattle.raft_memory.proofs.BeforeImagesLemmas.{end_before, restored_from}
+use Rattle.raft_memory.proofs.MemoryFileBeforeImagesLemmas.{end_before, restored_from}
 use Rattle.raft_memory.proofs.before_images.BeforeImages.restore.Goals as goal
 
 pub overflow_sub-end : goal.overflow_sub-end
@@ -39,6 +39,6 @@ loop-left-preserved c =
       within = omega (arith, c.loop-left.invariant.within);
       end_is = omega (arith, before);
       last = omega (arith, c.loop-left.invariant.last);
-      len = c.put_part.ensures.len ∙ c.loop-left.invariant.len;
-      each = λ i h. restored_from places saved k end p inside is end_is _ c.args.bytes.now c.loop-left.bytes _ i c.loop-left.invariant.last (ap (λ (l : List ℕ). take (end - (end - p.1)) (drop (end - p.1) l)) c.deref.ensures.value ∙ given_is) (c.loop-left.invariant.each i h ∙ ap (λ (n : ℕ). unwrap_or (before_image_in (drop n places) (drop end saved) i) (get_or c.args.bytes.now i 0)) left) (c.put_part.ensures.each i (omega (arith, h, c.loop-left.invariant.len)));
+      len = c.put_part.ensures.unchanged ∙ c.loop-left.invariant.len;
+      each = λ i h. restored_from places saved k end p inside is end_is _ c.args.bytes.now c.loop-left.bytes _ i c.loop-left.invariant.last (ap (λ (l : List ℕ). take (end - (end - p.1)) (drop (end - p.1) l)) c.deref.ensures.value ∙ given_is) (c.loop-left.invariant.each i h ∙ ap (λ (n : ℕ). unwrap_or (before_image_in (drop n places) (drop end saved) i) (get_or c.args.bytes.now i 0)) left) (c.put_part.ensures.ok i (omega (arith, h, c.loop-left.invariant.len)));
     }

@@ -1,4 +1,4 @@
-use Rattle.raft_memory.proofs.InvariantLemmas.{invariant-no_files}
+use Rattle.raft_memory.proofs.MemoryInvariantLemmas.{invariant-no_files}
 use Rattle.raft_memory.proofs.memory.MemoryFileSystem.new.Goals as goal
 
 pub invariant_of-result : goal.invariant_of-result

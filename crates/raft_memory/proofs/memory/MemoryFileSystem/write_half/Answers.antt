@@ -6,7 +6,7 @@ use Rattle.raft_memory.specs.Files.{namespace_directory}
 use Rattle.raft_env.proofs.MomentsLemmas.{passes_one}
 use Rattle.raft_memory.proofs.MemoryLemmas.{changing}
 use Rattle.raft_env.proofs.DirectoryLemmas.{writing_part}
-use Rattle.raft_memory.proofs.InvariantLemmas.{invariant-written_part, invariant-same}
+use Rattle.raft_memory.proofs.MemoryInvariantLemmas.{invariant-written_part, invariant-same}
 use Rattle.raft_memory.proofs.memory.MemoryFileSystem.write_half.Goals as goal
 
 pub returns-in-Ok-clause-any_moment : goal.returns-in-Ok-clause-any_moment

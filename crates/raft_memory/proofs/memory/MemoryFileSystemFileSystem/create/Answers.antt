@@ -2,7 +2,7 @@ use Rattle.std.proofs.Common.{◌≡◌, inr, ◌∷◌, map, ap, rules}
 use Rattle.raft_env.specs.Directory.{after_create}
 use Rattle.raft_memory.specs.Files.{namespace_directory}
 use Rattle.raft_env.proofs.MomentsLemmas.{passes_one}
-use Rattle.raft_memory.proofs.InvariantLemmas.{invariant-created, invariant-same}
+use Rattle.raft_memory.proofs.MemoryInvariantLemmas.{invariant-created, invariant-same}
 use Rattle.raft_memory.proofs.memory.MemoryFileSystemFileSystem.create.Goals as goal
 
 pub returns-clause-any_moment : goal.returns-clause-any_moment

@@ -4,7 +4,7 @@ use Rattle.raft_env.specs.Outcomes.{synced_of}
 use Rattle.raft_env.specs.Directory.{update_file}
 use Rattle.raft_memory.specs.Files.{namespace_directory}
 use Rattle.raft_env.proofs.MomentsLemmas.{passes_one}
-use Rattle.raft_memory.proofs.InvariantLemmas.{invariant-synced, invariant-same}
+use Rattle.raft_memory.proofs.MemoryInvariantLemmas.{invariant-synced, invariant-same}
 use Rattle.raft_memory.proofs.memory.MemoryFileSystemFileSystem.sync.Goals as goal
 
 pub returns-clause-any_moment : goal.returns-clause-any_moment

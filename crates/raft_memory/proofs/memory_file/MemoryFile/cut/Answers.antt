@@ -1,7 +1,7 @@
 use Rattle.std.proofs.Common.{◌≡◌, ◌≤◌, length, take, min, max, rules}
 use Rattle.raft_env.specs.Outcomes.{file_after_resize}
 use Rattle.raft_memory.proofs.MemoryFileLemmas.{file_cut}
-use Rattle.raft_memory.proofs.BeforeImagesLemmas.{saved_cut}
+use Rattle.raft_memory.proofs.MemoryFileBeforeImagesLemmas.{saved_cut}
 use Rattle.raft_memory.proofs.memory_file.MemoryFile.cut.Goals as goal
 
 pub invariant_of-self-2 : goal.invariant_of-self-2

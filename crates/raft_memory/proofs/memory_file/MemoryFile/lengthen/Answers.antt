@@ -3,7 +3,7 @@ use Rattle.std.specs.Prelude.{replicate}
 use Rattle.std.proofs.lemmas.Grind.{common_steps}
 use Rattle.raft_env.specs.Outcomes.{file_after_resize, pad_to}
 use Rattle.raft_memory.proofs.MemoryFileLemmas.{file_lengthened, lengthened}
-use Rattle.raft_memory.proofs.BeforeImagesLemmas.{saved_lengthened}
+use Rattle.raft_memory.proofs.MemoryFileBeforeImagesLemmas.{saved_lengthened}
 use Rattle.raft_memory.proofs.memory_file.MemoryFile.lengthen.Goals as goal
 
 pub invariant_of-self-2 : goal.invariant_of-self-2

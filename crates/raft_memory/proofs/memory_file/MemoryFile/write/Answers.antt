@@ -2,8 +2,8 @@ use Rattle.std.proofs.Common.{◌≡◌, List, ℕ, ◌+◌, length, ◌∙◌, 
 use Rattle.raft_env.specs.Outcomes.{file_after_write, longest_of}
 use Rattle.raft_memory.specs.MemoryFile.{IsSaved}
 use Rattle.raft_memory.proofs.MemoryFileLemmas.{file_written}
-use Rattle.raft_env.proofs.OverlayLemmas.{overlaid_outside_part}
-use Rattle.raft_memory.proofs.BeforeImagesLemmas.{saved_written}
+use Rattle.raft_env.proofs.OutcomesOverlayLemmas.{overlaid_outside_part}
+use Rattle.raft_memory.proofs.MemoryFileBeforeImagesLemmas.{saved_written}
 use Rattle.raft_memory.proofs.memory_file.MemoryFile.write.Goals as goal
 
 pub invariant_of-self-2 : goal.invariant_of-self-2

@@ -21,8 +21,8 @@ returns-clause-ok c =
     (subst (λ l. Copied (IsLeft (left_by c.args.choices.now (namespace_directory c.args.self.now))) l c.loop-path.files) all c.loop-path.invariant.copied)
     (c.in_ok-folders.ensures ∙ ap (map string_bytes) c.deref.ensures.value)
 
-pub returns-clause-allowed : goal.returns-clause-allowed
-returns-clause-allowed c =
+pub returns-clause-crash : goal.returns-clause-crash
+returns-clause-crash c =
     let all : map deref_pair c.loop-path.yielded ≡ c.args.self.now.files.entries = grind (arith, common_steps, append-nil, c.in-None.ensures.steps, c.loop-path.invariant.whole) in
     leaves_all (left_by c.args.choices.now (namespace_directory c.args.self.now)) c.args.self.now (record { files = c.loop-path.files; folders = c.in_ok-folders.folders })
     (subst (λ l. Copied (IsLeft (left_by c.args.choices.now (namespace_directory c.args.self.now))) l c.loop-path.files) all c.loop-path.invariant.copied)
@@ -37,7 +37,7 @@ loop-path-preserved c =
     let pick : c.choice_at.result.now ≡ slice_index_or c.args.choices.now (length done) choice.Synced = c.choice_at.ensures ∙ ap (slice_index_or c.args.choices.now c.loop-path.turn) c.loop-path.invariant.left_over ∙ ap (λ (i : ℕ). slice_index_or c.args.choices.now i choice.Synced) count in
     let path : c.as_str.result.now ≡ string_bytes k = c.as_str.ensures.value in
     let puts : Puts c.loop-path.files c.put_left.new.files (string_bytes k) (synced_file (bytes_by_choice (slice_index_or c.args.choices.now (length done) choice.Synced) file)) = rw (path, pick) at c.in_ok-put_left.ensures.ok in
-    let may : MayLeave file (bytes_by_choice (slice_index_or c.args.choices.now (length done) choice.Synced) file) = rw pick at c.in_ok-put_left.ensures.allowed in
+    let may : MayLeave file (bytes_by_choice (slice_index_or c.args.choices.now (length done) choice.Synced) file) = rw pick at c.in_ok-put_left.ensures.crash in
     let turn = copied_turn c.args.choices.now c.args.self.now done c.loop-path.path-iterator c.next.new.self k file c.loop-path.invariant.whole next c.iter-path-items.ensures.ordered c.loop-path.files c.put_left.new.files c.loop-path.invariant.copied puts may in
     let more : map deref_pair (c.loop-path.yielded ++ (c.in-Some.path, c.in-Some.file) ∷ []) ≡ done ++ (k, file) ∷ [] = map-append deref_pair c.loop-path.yielded ((c.in-Some.path, c.in-Some.file) ∷ []) in
     record {

@@ -6,8 +6,8 @@ use Rattle.std.proofs.lemmas.Iterator.Consumers.{YieldsList-from_rest}
 use Rattle.std.proofs.lemmas.Iterator.Search.{any_from_yields_List}
 use Rattle.raft_env.specs.Directory.{is_on_way}
 use Rattle.raft_memory.specs.Files.{folders_of}
-use Rattle.raft_memory.proofs.ListedLemmas.{any_by_bytes, keys-directory_of}
-use Rattle.raft_memory.proofs.FolderLemmas.{folder_made_again}
+use Rattle.raft_memory.proofs.FilesLemmas.{any_by_bytes, keys-directory_of}
+use Rattle.raft_memory.proofs.FilesFolderLemmas.{folder_made_again}
 use Rattle.raft_memory.proofs.namespace.Namespace.make_folder.Goals as goal
 
 pub returns-then-has_folder-clause-ok : goal.returns-then-has_folder-clause-ok

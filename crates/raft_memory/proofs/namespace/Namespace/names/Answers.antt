@@ -6,7 +6,7 @@ use Rattle.std.proofs.lemmas.Grind.{common_steps}
 use Rattle.std.proofs.lemmas.List.{append-nil}
 use Rattle.raft_env.specs.Directory.{name_in}
 use Rattle.raft_memory.specs.Files.{folders_of}
-use Rattle.raft_memory.proofs.ListedLemmas.{keys-directory_of}
+use Rattle.raft_memory.proofs.FilesLemmas.{keys-directory_of}
 use Rattle.raft_memory.proofs.namespace.Namespace.names.Goals as goal
 
 pub returns : goal.returns

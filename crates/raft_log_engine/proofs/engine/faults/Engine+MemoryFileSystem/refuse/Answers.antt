@@ -1,0 +1,19 @@
+use Rattle.std.proofs.Common.{◌++◌, length, subst, sym}
+use Rattle.raft_pipes.specs.Completed.{PipeHasCompletedLogIfSimple}
+use Rattle.raft_pipes.specs.Pipe.{HasQueue}
+use Rattle.raft_pipes.specs.Queue.{RecoversPrefix}
+use Rattle.raft_log_engine.specs.Engine.{base_of, folder_of, unsynced_of}
+use Rattle.raft_log_engine.proofs.engine.faults.Engine+MemoryFileSystem.refuse.Goals as goal
+
+-- its files are the same
+pub invariant_of-self : goal.invariant_of-self
+invariant_of-self c =
+    let e = c.args.self.now in
+    let same = c.refuse.ensures.unchanged in
+    record {
+      emptied = e.emptied;
+      holds = e.holds;
+      queue = λ alive. subst (λ n. HasQueue e.pipe (folder_of e) (base_of e ++ unsynced_of e) (length (base_of e)) n) (sym same) (e.queue alive);
+      completed = λ alive begun. subst (λ n. PipeHasCompletedLogIfSimple e.pipe (folder_of e) n) (sym same) (e.completed alive begun);
+      left = subst (λ n. RecoversPrefix (folder_of e) (base_of e ++ unsynced_of e) (length (base_of e)) n) (sym same) e.left;
+    }

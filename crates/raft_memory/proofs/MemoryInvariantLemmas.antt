@@ -1,0 +1,109 @@
+-- What is true of files in memory, whatever calls were made.
+use Rattle.std.proofs.Common.{◌≡◌, ℕ, ◌≤◌, true, false, Bool, cond, List, [], ◌++◌, length, take, Option, Some, None, is_some, refl, sym, subst, inl, inr}
+use Rattle.std.specs.FinMap.{get-empty}
+use Rattle.std.proofs.lemmas.List.Elements.{All-cons, All-nil}
+use Rattle.raft_env.specs.Outcomes.{File, IsWriteIfFailed, OnlyWritesFailed, file_after_write, file_after_resize, synced_of, synced_file, overlay, pad_to}
+use Rattle.raft_env.specs.Directory.{Directory, Path, file_at, with_file, update_file, update_at, after_create, folder_made}
+use Rattle.raft_env.specs.Consistent.{IsConsistent, AreConsistent, OnlyWritesFailedIn, NoneRenamed}
+use Rattle.raft_memory.specs.Memory.{memory_directory, no_files}
+use Rattle.raft_memory.specs.declared.memory.MemoryFileSystem.{MemoryFileSystem}
+use Rattle.raft_env.proofs.DirectoryLemmas.{writing_part}
+use Rattle.raft_env.proofs.ConsistentLemmas.{placed_cases, settled_consistent, synced_consistent, written_consistent, allocated_consistent, cut_consistent}
+
+-- the ghost fields of a file system in memory
+abbrev pub Invariant : Directory → Type 0
+Invariant n = record { consistent : AreConsistent n; only_writes : OnlyWritesFailedIn n; not_renamed : NoneRenamed n }
+
+-- Files.
+
+-- what they say of one file
+record Holds (file : File) : Type 0 where
+  pub consistent : IsConsistent file
+  pub only_writes : OnlyWritesFailed (file.changes ++ file.older)
+  pub not_renamed : file.renamed_after ≡ None
+
+settled_holds : (bytes : List ℕ) → Holds (synced_file bytes)
+settled_holds bytes = record { consistent = settled_consistent bytes; only_writes = All-nil IsWriteIfFailed; not_renamed = refl }
+
+synced_holds : (file : File) → Holds file → Holds (synced_of file)
+synced_holds file old = record { consistent = synced_consistent file old.consistent; only_writes = old.only_writes; not_renamed = old.not_renamed }
+
+written_holds : (at : ℕ) (given after : List ℕ) (is_done : Bool) (file : File) → Holds file → IsConsistent (file_after_write at given is_done after file) → Holds (file_after_write at given is_done after file)
+written_holds at given after is_done file old consistent = record {
+  consistent = consistent;
+  only_writes = All-cons IsWriteIfFailed _ (file.changes ++ file.older) (λ refused. refl) old.only_writes;
+  not_renamed = old.not_renamed;
+}
+
+resized_holds : (after : List ℕ) (file : File) → Holds file → IsConsistent (file_after_resize after file) → Holds (file_after_resize after file)
+resized_holds after file old consistent = record {
+  consistent = consistent;
+  only_writes = All-cons IsWriteIfFailed _ (file.changes ++ file.older) (λ refused. absurd cc) old.only_writes;
+  not_renamed = old.not_renamed;
+}
+
+-- Directories.
+
+abbrev Each : Directory → Type 0
+Each n = (path : Path) (file : File) → file_at n path ≡ Some file → Holds file
+
+of_each : (n : Directory) → Each n → Invariant n
+of_each n each = record {
+  consistent = λ path file stands. (each path file stands).consistent;
+  only_writes = λ path file stands. (each path file stands).only_writes;
+  not_renamed = λ path file stands. (each path file stands).not_renamed;
+}
+
+placed_each : (path : Path) (file : File) (n : Directory) → Each n → Holds file → Each (with_file path file n)
+placed_each path file n each holds q found stands = elim (placed_cases path q file found n stands) [
+  | inl same ↦ subst Holds same holds
+  | inr stood ↦ each q found stood
+]
+
+module _ (m : MemoryFileSystem) (new : Directory) where
+  each_now : Each (memory_directory m)
+  each_now path file stands = record { consistent = m.consistent path file stands; only_writes = m.only_writes path file stands; not_renamed = m.not_renamed path file stands }
+
+  pub invariant-same : new ≡ memory_directory m → Invariant new
+  invariant-same same = subst Invariant (sym same) (of_each (memory_directory m) each_now)
+
+  invariant-changed : (path : Path) (step : File → File) → ((file : File) → Holds file → Holds (step file)) → new ≡ update_file path step (memory_directory m) → Invariant new
+  invariant-changed path step holds is = subst Invariant (sym is) (of_each (update_file path step (memory_directory m)) (by_file (file_at (memory_directory m) path) refl))
+    where
+      by_file : (found : Option File) → file_at (memory_directory m) path ≡ found → Each (update_at path step found (memory_directory m))
+      by_file None none = each_now
+      by_file (Some file) stands = placed_each path (step file) (memory_directory m) each_now (holds file (each_now path file stands))
+
+  pub invariant-written : (path : Path) (at : ℕ) (given : List ℕ) → new ≡ update_file path (λ f. file_after_write at given true (overlay f.now at given) f) (memory_directory m) → Invariant new
+  invariant-written path at given = invariant-changed path _ (λ file holds. written_holds at given _ true file holds (written_consistent at given _ true file holds.consistent refl))
+
+  -- a failed write
+  pub invariant-written_part : (path : Path) (at : ℕ) (given kept : List ℕ) → length kept ≤ length given → new ≡ update_file path (λ f. file_after_write at given false (overlay f.now at kept) f) (memory_directory m) → Invariant new
+  invariant-written_part path at given kept part = invariant-changed path _ (λ file holds. written_holds at given _ false file holds (written_consistent at given _ false file holds.consistent (writing_part at given kept part file.now)))
+
+  pub invariant-cut : (path : Path) (size : ℕ) → new ≡ update_file path (λ f. file_after_resize (take size f.now) f) (memory_directory m) → Invariant new
+  invariant-cut path size = invariant-changed path _ (λ file holds. resized_holds _ file holds (cut_consistent size _ true file holds.consistent refl))
+
+  pub invariant-lengthened : (path : Path) (size : ℕ) → new ≡ update_file path (λ f. file_after_resize (pad_to f.now size) f) (memory_directory m) → Invariant new
+  invariant-lengthened path size = invariant-changed path _ (λ file holds. resized_holds _ file holds (allocated_consistent size _ true file holds.consistent refl))
+
+  pub invariant-synced : (path : Path) → new ≡ update_file path synced_of (memory_directory m) → Invariant new
+  invariant-synced path = invariant-changed path synced_of synced_holds
+
+  pub invariant-created : (path : Path) → new ≡ after_create path (memory_directory m) → Invariant new
+  invariant-created path is = subst Invariant (sym is) (of_each (after_create path (memory_directory m)) (by_test (is_some (file_at (memory_directory m) path))))
+    where
+      by_test : (stands : Bool) → Each (cond stands (memory_directory m) (with_file path (synced_file []) (memory_directory m)))
+      by_test true = each_now
+      by_test false = placed_each path (synced_file []) (memory_directory m) each_now (settled_holds [])
+
+  pub invariant-folder_made : (path : Path) → new ≡ folder_made path (memory_directory m) → Invariant new
+  invariant-folder_made path is = subst Invariant (sym is) (of_each (folder_made path (memory_directory m)) each_now)
+
+pub invariant-no_files : (n : Directory) → n ≡ no_files → Invariant n
+invariant-no_files n is = subst Invariant (sym is) (of_each no_files (λ path file stands. absurd (absent path file stands)))
+  where
+    absent : (path : Path) (file : File) → file_at no_files path ≡ Some file → ⊥
+    absent path file stands =
+        let none : file_at no_files path ≡ None = get-empty _ path in
+        absurd (cc (none, stands))
