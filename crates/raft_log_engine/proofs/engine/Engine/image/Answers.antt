@@ -1,9 +1,9 @@
-use Rattle.std.proofs.Common.{◌≡◌, ℕ, ◌+◌, ◌==◌, ◌∙◌, true, false, List, [], ◌∷◌, ◌++◌, length, drop, refl, ap, sym, arith}
+use Rattle.std.proofs.Common.{◌≡◌, ℕ, ◌+◌, ◌==◌, ◌∙◌, true, false, List, [], ◌∷◌, ◌++◌, length, drop, refl, ap, subst, sym, arith}
 use Rattle.std.proofs.lemmas.Grind.{common_steps}
 use Rattle.raft_tables.specs.Listing.{listed}
 use Rattle.raft_log_engine.specs.Contents.{contents_of_tables}
 use Rattle.raft_log_engine.specs.Engine.{base_of, unsynced_of}
-use Rattle.raft_log_engine.specs.Image.{entries_of}
+use Rattle.raft_log_engine.specs.Image.{IsImageOf, entries_of}
 use Rattle.raft_records.specs.Contents.{Contents}
 use Rattle.raft_log_engine.proofs.PlainLemmas.{plain_entries}
 use Rattle.raft_log_engine.proofs.ImageLemmas.{holds_nothing, building_begun, building_without, building_with, building_ended}
@@ -41,4 +41,4 @@ loop-group-preserved g c =
     ]
 
 pub returns-clause-value : goal.returns-clause-value
-returns-clause-value g c = building_ended (contents_of_tables c.args.self.now.tables) c.loop-group.groups.items c.deref-group-items.result.now c.loop-group.group-index c.loop-group-test.false c.loop-group.invariant
+returns-clause-value g c = subst (IsImageOf c.loop-group.groups.items) (c.args.self.now.holds c.if-self.false) (building_ended (contents_of_tables c.args.self.now.tables) c.loop-group.groups.items c.deref-group-items.result.now c.loop-group.group-index c.loop-group-test.false c.loop-group.invariant)
