@@ -12,7 +12,11 @@ mod numbers;
 #[cfg(test)]
 mod reading;
 #[cfg(test)]
+mod record_rows;
+#[cfg(test)]
 mod records;
+#[cfg(test)]
+mod refused_rows;
 #[cfg(test)]
 mod sizes;
 #[cfg(test)]

@@ -1,347 +1,206 @@
-//! Records as bytes. They were made by Python's struct and zlib.
+//! Records as bytes: what is read and replayed of them.
 
-use crate::changes::{Change, items_of};
+use crate::record_rows::{DECODED, DecodedRecord, UNSIGNED, WantedItem};
+use crate::refused_rows::{REFUSED, RefusedRecord};
 use raft_records::{
-    Fault, FileId, LogFileContext, LogItem, LogItemBatch, LogQueue, RecordHeader, Version,
-    begins_with_record, decode_header, decode_record,
+    Command, EntryIndex, Fault, FileBlockHandle, KeyValue, LogFileContext, LogItem, LogItemBatch,
+    LogItemContent, RecordHeader, decode_entries_block, decode_header, decode_record,
+    replay_record,
 };
 use std::alloc::{AllocError, Global};
 use std::test::Fail;
 
-/// Bytes in a file, the changes that they are decoded to or the fault's code, and whether they begin with a record.
-struct Record {
-    name: &'static str,
-    file: LogFileContext,
-    bytes: &'static [u8],
-    decoded: Result<&'static [Change], u8>,
-    begins: bool,
+fn entries_of(
+    alloc: Global,
+    entries: &[(u64, u32, u32)],
+    record: &DecodedRecord,
+) -> Result<Vec<EntryIndex>, AllocError> {
+    let (offset, len, lz4) = record.block;
+    let block = FileBlockHandle {
+        id: record.file.id,
+        offset,
+        len,
+    };
+    let mut indexes = Vec::new(alloc);
+    for (index, entry_offset, entry_len) in entries {
+        indexes.push(EntryIndex {
+            index: *index,
+            entries: Some(block),
+            entry_offset: *entry_offset,
+            entry_len: *entry_len,
+            lz4,
+        })?;
+    }
+    Ok(indexes)
 }
 
-const UNSIGNED: LogFileContext = LogFileContext {
-    id: FileId {
-        queue: LogQueue::Append,
-        seq: 1,
-    },
-    version: Version::V1,
-};
+fn item_of(
+    alloc: Global,
+    wanted: &WantedItem,
+    record: &DecodedRecord,
+) -> Result<LogItem, AllocError> {
+    let (raft_group_id, content) = match wanted {
+        WantedItem::Entries(group, entries) => (
+            *group,
+            LogItemContent::EntryIndexes(entries_of(alloc, entries, record)?),
+        ),
+        WantedItem::Clean(group) => (*group, LogItemContent::Command(Command::Clean)),
+        WantedItem::Compact(group, index) => {
+            let command = Command::Compact { index: *index };
+            (*group, LogItemContent::Command(command))
+        }
+        WantedItem::Put(group, key, value) => {
+            let key = key.to_vec(alloc)?;
+            let value = value.to_vec(alloc)?;
+            (*group, LogItemContent::Kv(KeyValue::Put { key, value }))
+        }
+        WantedItem::Delete(group, key) => {
+            let key = key.to_vec(alloc)?;
+            (*group, LogItemContent::Kv(KeyValue::Delete { key }))
+        }
+    };
+    Ok(LogItem {
+        raft_group_id,
+        content,
+    })
+}
 
-const FILE_1: LogFileContext = LogFileContext {
-    id: FileId {
-        queue: LogQueue::Append,
-        seq: 1,
-    },
-    version: Version::V2,
-};
+fn items_of(alloc: Global, record: &DecodedRecord) -> Result<Vec<LogItem>, AllocError> {
+    let mut items = Vec::new(alloc);
+    for wanted in record.items {
+        items.push(item_of(alloc, wanted, record)?)?;
+    }
+    Ok(items)
+}
 
-const FILE_2: LogFileContext = LogFileContext {
-    id: FileId {
-        queue: LogQueue::Append,
-        seq: 2,
-    },
-    version: Version::V2,
-};
+fn is_batch(batch: LogItemBatch, items: &[LogItem]) -> bool {
+    batch.items() == items
+        && batch.iter().count() == items.len()
+        && batch.into_items().as_slice() == items
+}
 
-const RECORDS: [Record; 34] = [
-    Record {
-        name: "no items",
-        file: UNSIGNED,
-        bytes: b"\x00\x00\x00\x00\x00\x00\x15\x00\x00\x00\x00\x00\x00\x00\x00\x10\x00\x8d\xef\x02\xd2",
-        decoded: Ok(&[]),
-        begins: true,
-    },
-    Record {
-        name: "no items, marked as compressed",
-        file: UNSIGNED,
-        bytes: b"\x00\x00\x00\x00\x00\x00\x15\x01\x00\x00\x00\x00\x00\x00\x00\x10\x00\x8d\xef\x02\xd2",
-        decoded: Ok(&[]),
-        begins: true,
-    },
-    Record {
-        name: "a put",
-        file: UNSIGNED,
-        bytes: b"\x00\x00\x00\x00\x00\x00\x1c\x00\x00\x00\x00\x00\x00\x00\x00\x10\x01\x01\x03\x01\x01\x6b\x01\x76\xb1\x29\x48\xe8",
-        decoded: Ok(&[Change(1, b"k", Some(b"v"))]),
-        begins: true,
-    },
-    Record {
-        name: "a put that is not signed",
-        file: FILE_1,
-        bytes: b"\x00\x00\x00\x00\x00\x00\x1c\x00\x00\x00\x00\x00\x00\x00\x00\x10\x01\x01\x03\x01\x01\x6b\x01\x76\xb1\x29\x48\xe8",
-        decoded: Err(2),
-        begins: false,
-    },
-    Record {
-        name: "a put, signed",
-        file: FILE_1,
-        bytes: b"\x00\x00\x00\x00\x00\x00\x1c\x00\x00\x00\x00\x00\x00\x00\x00\x10\x01\x01\x03\x01\x01\x6b\x01\x76\xb0\x29\x48\xe8",
-        decoded: Ok(&[Change(1, b"k", Some(b"v"))]),
-        begins: true,
-    },
-    Record {
-        name: "a put, signed for another file",
-        file: FILE_2,
-        bytes: b"\x00\x00\x00\x00\x00\x00\x1c\x00\x00\x00\x00\x00\x00\x00\x00\x10\x01\x01\x03\x01\x01\x6b\x01\x76\xb0\x29\x48\xe8",
-        decoded: Err(2),
-        begins: false,
-    },
-    Record {
-        name: "a put and a delete",
-        file: UNSIGNED,
-        bytes: b"\x00\x00\x00\x00\x00\x00\x2b\x00\x00\x00\x00\x00\x00\x00\x00\x10\x02\xac\x02\x03\x01\x03\x6b\x65\x79\x05\x76\x61\x6c\x75\x65\xac\x02\x03\x02\x03\x6b\x65\x79\x80\x22\xa4\xbe",
-        decoded: Ok(&[
-            Change(300, b"key", Some(b"value")),
-            Change(300, b"key", None),
-        ]),
-        begins: true,
-    },
-    Record {
-        name: "a compressed block of one byte",
-        file: UNSIGNED,
-        bytes: b"\x00\x00\x00\x00\x00\x00\x16\x01\x00\x00\x00\x00\x00\x00\x00\x11\x01\x00\x8d\xef\x02\xd2",
-        decoded: Err(2),
-        begins: false,
-    },
-    Record {
-        name: "a compressed block whose checksum holds",
-        file: UNSIGNED,
-        bytes: b"\x00\x00\x00\x00\x00\x00\x1c\x01\x00\x00\x00\x00\x00\x00\x00\x17\x78\x79\x7a\x67\xba\x8e\xeb\x00\x8d\xef\x02\xd2",
-        decoded: Err(13),
-        begins: true,
-    },
-    Record {
-        name: "two entries",
-        file: UNSIGNED,
-        bytes: b"\x00\x00\x00\x00\x00\x00\x24\x00\x00\x00\x00\x00\x00\x00\x00\x19\x61\x62\x63\x64\x65\x65\xd8\x87\x85\x01\x07\x01\x02\x05\x03\x02\x4d\xf5\x9f\x72",
-        decoded: Err(2),
-        begins: true,
-    },
-    Record {
-        name: "two entries that are not signed",
-        file: FILE_1,
-        bytes: b"\x00\x00\x00\x00\x00\x00\x24\x00\x00\x00\x00\x00\x00\x00\x00\x19\x61\x62\x63\x64\x65\x65\xd8\x87\x85\x01\x07\x01\x02\x05\x03\x02\x4d\xf5\x9f\x72",
-        decoded: Err(2),
-        begins: false,
-    },
-    Record {
-        name: "a clean, and a compaction to 300",
-        file: UNSIGNED,
-        bytes: b"\x00\x00\x00\x00\x00\x00\x1d\x00\x00\x00\x00\x00\x00\x00\x00\x10\x02\x07\x02\x01\x07\x02\x02\xac\x02\x81\xa5\xe8\x69",
-        decoded: Err(2),
-        begins: true,
-    },
-    Record {
-        name: "an item without entries",
-        file: UNSIGNED,
-        bytes: b"\x00\x00\x00\x00\x00\x00\x18\x00\x00\x00\x00\x00\x00\x00\x00\x10\x01\x07\x01\x00\xbd\x9f\xac\x85",
-        decoded: Err(2),
-        begins: true,
-    },
-    Record {
-        name: "an entry of 100 bytes in a compressed block",
-        file: UNSIGNED,
-        bytes: b"\x00\x00\x00\x00\x00\x00\x21\x01\x00\x00\x00\x00\x00\x00\x00\x17\x78\x79\x7a\x67\xba\x8e\xeb\x01\x07\x01\x01\x05\x64\x40\xf2\x68\x46",
-        decoded: Err(2),
-        begins: true,
-    },
-    Record {
-        name: "a wrong checksum",
-        file: UNSIGNED,
-        bytes: b"\x00\x00\x00\x00\x00\x00\x1c\x00\x00\x00\x00\x00\x00\x00\x00\x10\x01\x01\x03\x01\x01\x6b\x01\x76\xb1\x29\x48\xe9",
-        decoded: Err(2),
-        begins: false,
-    },
-    Record {
-        name: "a byte short",
-        file: UNSIGNED,
-        bytes: b"\x00\x00\x00\x00\x00\x00\x1c\x00\x00\x00\x00\x00\x00\x00\x00\x10\x01\x01\x03\x01\x01\x6b\x01\x76\xb1\x29\x48",
-        decoded: Err(2),
-        begins: false,
-    },
-    Record {
-        name: "a byte left over",
-        file: UNSIGNED,
-        bytes: b"\x00\x00\x00\x00\x00\x00\x1d\x00\x00\x00\x00\x00\x00\x00\x00\x10\x01\x01\x03\x01\x01\x6b\x01\x76\x00\xbe\x24\x8c\x6e",
-        decoded: Err(2),
-        begins: false,
-    },
-    Record {
-        name: "an item of kind 4",
-        file: UNSIGNED,
-        bytes: b"\x00\x00\x00\x00\x00\x00\x1a\x00\x00\x00\x00\x00\x00\x00\x00\x10\x01\x01\x04\x01\x01\x6b\x47\x2f\x25\x0a",
-        decoded: Err(2),
-        begins: false,
-    },
-    Record {
-        name: "a clean",
-        file: UNSIGNED,
-        bytes: b"\x00\x00\x00\x00\x00\x00\x18\x00\x00\x00\x00\x00\x00\x00\x00\x10\x01\x01\x02\x01\x5a\x80\x0b\xdd",
-        decoded: Err(2),
-        begins: true,
-    },
-    Record {
-        name: "an item without entries",
-        file: UNSIGNED,
-        bytes: b"\x00\x00\x00\x00\x00\x00\x18\x00\x00\x00\x00\x00\x00\x00\x00\x10\x01\x01\x01\x00\x0f\xe3\x21\x81",
-        decoded: Err(2),
-        begins: true,
-    },
-    Record {
-        name: "too few items",
-        file: UNSIGNED,
-        bytes: b"\x00\x00\x00\x00\x00\x00\x25\x00\x00\x00\x00\x00\x00\x00\x00\x10\xff\xff\xff\xff\xff\xff\xff\xff\xff\x01\x01\x03\x01\x01\x6b\x01\x76\x11\xbc\x51\xcb",
-        decoded: Err(2),
-        begins: false,
-    },
-    Record {
-        name: "a block without entries",
-        file: UNSIGNED,
-        bytes: b"\x00\x00\x00\x00\x00\x00\x19\x00\x00\x00\x00\x00\x00\x00\x00\x14\x00\x00\x00\x00\x00\x8d\xef\x02\xd2",
-        decoded: Err(2),
-        begins: false,
-    },
-    Record {
-        name: "half a header",
-        file: UNSIGNED,
-        bytes: b"\x00\x00\x00\x00\x00\x00\x1c\x00\x00\x00\x00\x00\x00\x00\x00",
-        decoded: Err(2),
-        begins: false,
-    },
-    Record {
-        name: "a record of kind 2",
-        file: UNSIGNED,
-        bytes: b"\x00\x00\x00\x00\x00\x00\x15\x02\x00\x00\x00\x00\x00\x00\x00\x10\x00\x8d\xef\x02\xd2",
-        decoded: Err(2),
-        begins: false,
-    },
-    Record {
-        name: "a footer inside the header",
-        file: UNSIGNED,
-        bytes: b"\x00\x00\x00\x00\x00\x00\x15\x00\x00\x00\x00\x00\x00\x00\x00\x0f\x00\x8d\xef\x02\xd2",
-        decoded: Err(2),
-        begins: false,
-    },
-    Record {
-        name: "a footer of 4 bytes",
-        file: UNSIGNED,
-        bytes: b"\x00\x00\x00\x00\x00\x00\x14\x00\x00\x00\x00\x00\x00\x00\x00\x10\x00\x8d\xef\x02\xd2",
-        decoded: Err(2),
-        begins: false,
-    },
-    Record {
-        name: "a count in more bytes than it needs",
-        file: UNSIGNED,
-        bytes: b"\x00\x00\x00\x00\x00\x00\x16\x00\x00\x00\x00\x00\x00\x00\x00\x10\x80\x00\xb4\x8a\x5a\x7a",
-        decoded: Err(2),
-        begins: false,
-    },
-    Record {
-        name: "a block whose checksum doesn't hold",
-        file: UNSIGNED,
-        bytes: b"\x00\x00\x00\x00\x00\x00\x24\x00\x00\x00\x00\x00\x00\x00\x00\x19\x60\x62\x63\x64\x65\x65\xd8\x87\x85\x01\x07\x01\x02\x05\x03\x02\x4d\xf5\x9f\x72",
-        decoded: Err(2),
-        begins: false,
-    },
-    Record {
-        name: "a block of four bytes for entries of five",
-        file: UNSIGNED,
-        bytes: b"\x00\x00\x00\x00\x00\x00\x23\x00\x00\x00\x00\x00\x00\x00\x00\x18\x61\x62\x63\x64\x11\xcd\x82\xed\x01\x07\x01\x02\x05\x03\x02\x4d\xf5\x9f\x72",
-        decoded: Err(2),
-        begins: false,
-    },
-    Record {
-        name: "an index of 2^64 - 1",
-        file: UNSIGNED,
-        bytes: b"\x00\x00\x00\x00\x00\x00\x2a\x00\x00\x00\x00\x00\x00\x00\x00\x17\x61\x62\x63\xc2\x41\x24\x35\x01\x07\x01\x01\xff\xff\xff\xff\xff\xff\xff\xff\xff\x01\x03\xa1\xdd\xb7\x85",
-        decoded: Err(2),
-        begins: false,
-    },
-    Record {
-        name: "an entry of 2^32 bytes",
-        file: UNSIGNED,
-        bytes: b"\x00\x00\x00\x00\x00\x00\x25\x00\x00\x00\x00\x00\x00\x00\x00\x17\x61\x62\x63\xc2\x41\x24\x35\x01\x07\x01\x01\x05\x80\x80\x80\x80\x10\x1e\x61\x87\xc9",
-        decoded: Err(2),
-        begins: false,
-    },
-    Record {
-        name: "two entries, a byte short",
-        file: UNSIGNED,
-        bytes: b"\x00\x00\x00\x00\x00\x00\x24\x00\x00\x00\x00\x00\x00\x00\x00\x19\x61\x62\x63\x64\x65\x65\xd8\x87\x85\x01\x07\x01\x02\x05\x03\x02\x4d\xf5\x9f",
-        decoded: Err(2),
-        begins: false,
-    },
-    Record {
-        name: "half a header of two entries",
-        file: UNSIGNED,
-        bytes: b"\x00\x00\x00\x00\x00\x00\x24\x00\x00\x00\x00\x00\x00\x00\x00",
-        decoded: Err(2),
-        begins: false,
-    },
-    Record {
-        name: "nothing",
-        file: UNSIGNED,
-        bytes: b"",
-        decoded: Err(2),
-        begins: false,
-    },
+fn read(
+    alloc: Global,
+    bytes: &[u8],
+    at: u64,
+    file: &LogFileContext,
+) -> Result<(LogItemBatch, usize), Fault> {
+    match at.checked_add(bytes.len() as u64) {
+        Some(_) => decode_record(alloc, bytes, at, file),
+        None => Err(Fault::Range),
+    }
+}
+
+fn replay(
+    alloc: Global,
+    bytes: &[u8],
+    at: u64,
+    file: &LogFileContext,
+) -> Result<(LogItemBatch, usize), Fault> {
+    match at.checked_add(bytes.len() as u64) {
+        Some(_) => replay_record(alloc, bytes, at, file),
+        None => Err(Fault::Range),
+    }
+}
+
+fn is_record(
+    decoded: Result<(LogItemBatch, usize), Fault>,
+    record: &DecodedRecord,
+    items: &[LogItem],
+) -> bool {
+    match decoded {
+        Ok((batch, len)) => len == record.len && is_batch(batch, items),
+        Err(_) => false,
+    }
+}
+
+#[test]
+fn records_are_decoded(rt: HostRuntime) -> Result<(), Fail> {
+    let alloc = rt.alloc();
+    for record in &DECODED {
+        let items = items_of(alloc, record)?;
+        let decoded = read(alloc, record.bytes, record.at, &record.file);
+        assert!(rt; is_record(decoded, record, &items), "{}", record.name);
+        let replayed = replay(alloc, record.bytes, record.at, &record.file);
+        assert!(rt; is_record(replayed, record, &items), "{}", record.name);
+    }
+    Ok(())
+}
+
+fn is_refused(decoded: Result<(LogItemBatch, usize), Fault>, code: Option<u8>) -> bool {
+    match decoded {
+        Ok(_) => code.is_none(),
+        Err(fault) => code == Some(fault.code()),
+    }
+}
+
+fn is_refused_twice(alloc: Global, record: &RefusedRecord) -> bool {
+    is_refused(
+        read(alloc, record.bytes, 0, &record.file),
+        Some(record.code),
+    ) && is_refused(
+        replay(alloc, record.bytes, 0, &record.file),
+        record.replayed,
+    )
+}
+
+#[test]
+fn broken_records_are_refused(rt: HostRuntime) {
+    for record in &REFUSED {
+        assert!(rt; is_refused_twice(rt.alloc(), record), "{}", record.name);
+    }
+}
+
+/// A put of `v` at `k` in group 1, and two entries of three and two bytes in group 7.
+const FOOTERS: [(&[u8], [(usize, bool, bool); 3]); 2] = [
+    (
+        b"\x01\x01\x03\x01\x01\x6b\x01\x76\xb1\x29\x48\xe8",
+        [(0, false, true), (9, true, true), (9, false, false)],
+    ),
+    (
+        b"\x01\x07\x01\x02\x05\x03\x02\x4d\xf5\x9f\x72",
+        [(9, false, true), (4, true, true), (0, true, false)],
+    ),
 ];
 
-fn is_batch(batch: LogItemBatch, items: Vec<LogItem>) -> bool {
-    batch.items() == items.as_slice()
-        && batch.iter().count() == items.len()
-        && batch.into_items() == items
-}
-
-fn is_decoded(alloc: Global, record: &Record) -> Result<bool, AllocError> {
-    match (
-        decode_record(alloc, record.bytes, &record.file),
-        &record.decoded,
-    ) {
-        (Ok((batch, len)), Ok(changes)) => {
-            Ok(len == record.bytes.len() && is_batch(batch, items_of(alloc, changes)?))
-        }
-        (Err(fault), Err(code)) => Ok(fault.code() == *code),
-        _ => Ok(false),
-    }
-}
-
-fn is_told(record: &Record) -> bool {
-    begins_with_record(record.bytes, &record.file) == record.begins
-}
-
+/// Each footer with lengths of the block before it, whether that is marked as compressed, and whether
+/// the footer is decoded.
 #[test]
-fn records_are_decoded_and_told(rt: HostRuntime) -> Result<(), Fail> {
-    for record in &RECORDS {
-        assert!(rt; is_told(record), "{}", record.name);
-        assert!(rt; is_decoded(rt.alloc(), record)?, "{}", record.name);
-    }
-    Ok(())
-}
-
-/// A put of `v` at `k` in group 1.
-const FOOTER: &[u8] = b"\x01\x01\x03\x01\x01\x6b\x01\x76\xb1\x29\x48\xe8";
-
-const PUT: [Change; 1] = [Change(1, b"k", Some(b"v"))];
-
-/// How long the entries block before the footer is, whether it is marked as compressed, and whether the footer is decoded.
-const FOOTERS: [(usize, bool, bool); 3] = [(0, false, true), (9, true, true), (9, false, false)];
-
-#[test]
-fn footers_are_decoded(rt: HostRuntime) -> Result<(), Fail> {
-    for (block_len, lz4, wanted) in &FOOTERS {
-        match LogItemBatch::decode(rt.alloc(), FOOTER, *block_len, *lz4, &UNSIGNED) {
-            Ok(batch) => {
-                let items = items_of(rt.alloc(), &PUT)?;
-                assert!(rt; *wanted && is_batch(batch, items), "behind {block_len}");
-            }
-            Err(fault) => {
-                assert!(rt;
-                    !*wanted && fault == Fault::Corruption,
-                    "behind {block_len}"
-                );
+fn footers_are_decoded(rt: HostRuntime) {
+    for (footer, blocks) in &FOOTERS {
+        for (len, lz4, wanted) in blocks {
+            let block = FileBlockHandle {
+                id: UNSIGNED.id,
+                offset: 16,
+                len: *len,
+            };
+            match LogItemBatch::decode(rt.alloc(), footer, block, *lz4, &UNSIGNED) {
+                Ok(batch) => assert!(rt; *wanted && batch.items().len() == 1, "behind {len}"),
+                Err(fault) => assert!(rt; !*wanted && fault.code() == 2, "behind {len}"),
             }
         }
     }
-    Ok(())
+}
+
+/// Entries blocks, whether each is marked as compressed, and its entries or the fault's code.
+const BLOCKS: [(&[u8], bool, Result<&[u8], u8>); 6] = [
+    (b"", false, Ok(b"")),
+    (b"", true, Ok(b"")),
+    (b"abcde\x65\xd8\x87\x85", false, Ok(b"abcde")),
+    (b"abcde\x65\xd8\x87\x85", true, Err(13)),
+    (b"abcdf\x65\xd8\x87\x85", true, Err(2)),
+    (b"abc", false, Err(2)),
+];
+
+#[test]
+fn blocks_are_decoded(rt: HostRuntime) {
+    for (block, lz4, wanted) in &BLOCKS {
+        match (decode_entries_block(block, *lz4), wanted) {
+            (Ok(entries), Ok(bytes)) => assert!(rt; entries == *bytes),
+            (Err(fault), Err(code)) => assert!(rt; fault.code() == *code),
+            _ => assert!(rt; false),
+        }
+    }
 }
 
 /// Bytes, and the header that they begin with.
