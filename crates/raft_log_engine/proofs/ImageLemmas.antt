@@ -11,8 +11,7 @@ use Rattle.std.proofs.lemmas.Grind.{common_steps}
 use Rattle.std.proofs.lemmas.List.{append-nil, map-append, nil_from_length}
 use Rattle.raft_records.specs.Contents.{Contents}
 use Rattle.raft_tables.specs.Listing.{IsListing, listed}
-use Rattle.raft_log_engine.specs.Image.{entries_of, IsGroupImageOf, IsImageOf, groups_of}
-use Rattle.raft_log_engine.specs.Reads.{HoldsNothing}
+use Rattle.raft_log_engine.specs.Image.{entries_of, IsGroupImageOf, IsImageOf, IsWithout, groups_of}
 use Rattle.std.specs.Prelude.{Option, Some, None, is_some}
 use Rattle.raft_records.specs.Places.{entries_in}
 use Rattle.raft_tables.specs.Table.{TableView, value_at}
@@ -25,7 +24,7 @@ use Rattle.raft_log_engine.specs.declared.engine.image.GroupImage.{GroupImage}
 pub record IsBuilding (m : Contents) (images : List GroupImage) (rest : List ℕ) : Type 0 where
   pub ascending : IsStrictlySortedBy nat_cmp (groups_of images ++ rest)
   pub each : AllByRecursion (IsGroupImageOf m) images
-  pub others : (group : ℕ) → list_any (eqb group) (groups_of images ++ rest) ≡ false → HoldsNothing m group
+  pub others : (group : ℕ) → list_any (eqb group) (groups_of images ++ rest) ≡ false → IsWithout m group
 
 all_without : {X : Type 0} (P : X → Type 0) (xs : List X) (y : X) (ys : List X) → AllByRecursion P (xs ++ y ∷ ys) → AllByRecursion P (xs ++ ys)
 all_without P [] y ys all = all.1
@@ -47,12 +46,12 @@ all_push P (x ∷ xs) y all one = (all.0, all_push P xs y all.1 one)
 same_from_test : (a b : ℕ) → eqb a b ≡ true → a ≡ b
 same_from_test a b same = grind (arith, common_steps)
 
-pub building_begun : (m : Contents) (groups : List ℕ) → IsStrictlySortedBy nat_cmp groups → ((group : ℕ) → list_any (eqb group) groups ≡ false → HoldsNothing m group)
+pub building_begun : (m : Contents) (groups : List ℕ) → IsStrictlySortedBy nat_cmp groups → ((group : ℕ) → list_any (eqb group) groups ≡ false → IsWithout m group)
     → IsBuilding m [] groups
 building_begun m groups ascending others = record { ascending = ascending; each = tt; others = others }
 
 -- a group without a table
-pub holds_nothing : (tables : MemTables) (group : ℕ) → is_some (tables_of tables group) ≡ false → HoldsNothing (contents_of_tables tables) group
+pub holds_nothing : (tables : MemTables) (group : ℕ) → is_some (tables_of tables group) ≡ false → IsWithout (contents_of_tables tables) group
 holds_nothing tables group unknown = by_table (tables_of tables group) unknown
   where
     by_table : (table : Option TableView) → is_some table ≡ false → (entries_in no_blocks (or_empty table).entries ≡ []) × ((key : List ℕ) → value_at (or_empty table) key ≡ None)
@@ -60,15 +59,15 @@ holds_nothing tables group unknown = by_table (tables_of tables group) unknown
     by_table (Some t) unknown = cc
 
 -- a group without entries and keys is passed over
-pub building_passed : (m : Contents) (images : List GroupImage) (group : ℕ) (rest : List ℕ) → IsBuilding m images (group ∷ rest) → HoldsNothing m group → IsBuilding m images rest
+pub building_passed : (m : Contents) (images : List GroupImage) (group : ℕ) (rest : List ℕ) → IsBuilding m images (group ∷ rest) → IsWithout m group → IsBuilding m images rest
 building_passed m images group rest building without = record {
   ascending = sorted_without nat_cmp (groups_of images) group rest building.ascending;
   each = building.each;
   others = λ g none. at g none (eqb g group) refl;
 }
   where
-    at : (g : ℕ) → list_any (eqb g) (groups_of images ++ rest) ≡ false → (b : Bool) → eqb g group ≡ b → HoldsNothing m g
-    at g none true is = subst (HoldsNothing m) (sym (same_from_test g group is)) without
+    at : (g : ℕ) → list_any (eqb g) (groups_of images ++ rest) ≡ false → (b : Bool) → eqb g group ≡ b → IsWithout m g
+    at g none true is = subst (IsWithout m) (sym (same_from_test g group is)) without
     at g none false is = building.others g (any_without (eqb g) (groups_of images) group rest is ∙ none)
 
 pub building_more : (m : Contents) (images : List GroupImage) (image : GroupImage) (rest : List ℕ) → IsBuilding m images (image.group ∷ rest) → IsGroupImageOf m image → IsBuilding m (images ++ image ∷ []) rest

@@ -6,8 +6,7 @@ use Rattle.std.specs.List.Sorted.{IsStrictlySortedBy}
 use Rattle.std.specs.Ordering.{nat_cmp}
 use Rattle.raft_records.specs.Contents.{Contents}
 use Rattle.raft_records.specs.Item.{Entry}
-use Rattle.raft_tables.specs.Listing.{IsListing, listed}
-use Rattle.raft_log_engine.specs.Reads.{HoldsNothing}
+use Rattle.raft_tables.specs.Listing.{IsListing, IsWithoutKeys, listed}
 use Rattle.raft_log_engine.specs.declared.engine.image.GroupImage.{GroupImage}
 
 abbrev pub groups_of : List GroupImage → List ℕ
@@ -23,8 +22,12 @@ pub record IsGroupImageOf (m : Contents) (image : GroupImage) : Type 0 where
   pub keys : IsListing (m.value image.group) (listed image.pairs.items)
   pub some : image.entries.items ≡ [] → image.pairs.items ≡ [] → ⊥
 
+-- the group has neither entries nor keys
+abbrev pub IsWithout : Contents → ℕ → Type 0
+IsWithout m group = (m.entries group ≡ []) × IsWithoutKeys m group
+
 -- the groups with entries or keys, each once and in order, with what they hold
 pub record IsImageOf (images : List GroupImage) (m : Contents) : Type 0 where
   pub ascending : IsStrictlySortedBy nat_cmp (groups_of images)
   pub each : AllByRecursion (IsGroupImageOf m) images
-  pub others : (group : ℕ) → list_any (nat_eq group) (groups_of images) ≡ false → HoldsNothing m group
+  pub others : (group : ℕ) → list_any (nat_eq group) (groups_of images) ≡ false → IsWithout m group
