@@ -6,6 +6,8 @@ mod batches;
 #[cfg(test)]
 mod changes;
 #[cfg(test)]
+mod encoded;
+#[cfg(test)]
 mod names;
 #[cfg(test)]
 mod numbers;

@@ -65,7 +65,7 @@ fn item_of(
     })
 }
 
-fn items_of(alloc: Global, record: &DecodedRecord) -> Result<Vec<LogItem>, AllocError> {
+pub(crate) fn items_of(alloc: Global, record: &DecodedRecord) -> Result<Vec<LogItem>, AllocError> {
     let mut items = Vec::new(alloc);
     for wanted in record.items {
         items.push(item_of(alloc, wanted, record)?)?;
@@ -175,8 +175,8 @@ fn footers_are_decoded(rt: HostRuntime) {
                 len: *len,
             };
             match LogItemBatch::decode(rt.alloc(), footer, block, *lz4, &UNSIGNED) {
-                Ok(batch) => assert!(rt; *wanted && batch.items().len() == 1, "behind {len}"),
-                Err(fault) => assert!(rt; !*wanted && fault.code() == 2, "behind {len}"),
+                Ok(batch) => assert!(rt; *wanted && batch.items().len() == 1, "after {len}"),
+                Err(fault) => assert!(rt; !*wanted && fault.code() == 2, "after {len}"),
             }
         }
     }
