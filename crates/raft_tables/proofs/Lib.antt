@@ -6,3 +6,6 @@ pub mod ListingLemmas
 pub mod ContentsLemmas
 pub mod KnownLemmas
 pub mod AppliedLemmas
+pub mod SpanLemmas
+pub mod IndexLemmas
+pub mod ValidityLemmas

@@ -5,6 +5,7 @@ pub mod entries;
 pub mod memtable;
 pub mod memtables;
 pub mod stats;
+mod validity;
 
 pub use entries::EntryTable;
 pub use memtable::{KeyAndValue, MemTable};
