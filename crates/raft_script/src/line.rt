@@ -219,7 +219,7 @@ fn parse_number(text: &[u8]) -> Option<(u64, &[u8])>
     Some((number_of(word)?, rest))
 }
 
-fn number_of(word: &[u8]) -> Option<u64>
+pub(crate) fn number_of(word: &[u8]) -> Option<u64>
     ensures value { result ≡ number_in word.now }
 {
     let mut number = 0u64;
