@@ -3,7 +3,7 @@
 use crate::blocks::report_ceilings;
 use crate::entries::append_entry_fetch;
 use crate::files::append;
-use crate::log::put_get_reopen;
+use crate::log::{GROUPS, put_get_reopen};
 use crate::measure::Host;
 use anyhow::Result;
 use raft_env::FileSystem;
@@ -120,7 +120,7 @@ impl Workload {
                 report_ceilings(rt, count, load.size)?;
             }
             Workload::Append | Workload::AppendSync | Workload::AppendBatch => {
-                let batch_len = self.batch_len(load.size).min(count);
+                let batch_len = self.batch_len(load.size).min(count / GROUPS);
                 let entry_len = append_entry_fetch(rt, self.name(), files, load, batch_len)?;
                 report_ceilings(rt, count, entry_len)?;
                 report_ceilings(rt, count, load.size)?;
