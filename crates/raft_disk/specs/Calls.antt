@@ -1,5 +1,5 @@
 -- The calls that a folder was told, and what they make of files.
-use Rattle.std.specs.Prelude.{ℕ, ◌+◌, true, take, List, [], ◌∷◌}
+use Rattle.std.specs.Prelude.{ℕ, true, take, List, [], ◌∷◌}
 use Rattle.raft_env.specs.Outcomes.{file_after_write, file_after_resize, overlay, pad_to, synced_of}
 use Rattle.raft_env.specs.Directory.{Directory, Path, after_create, folder_made, update_file}
 

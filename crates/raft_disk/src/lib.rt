@@ -2,9 +2,14 @@
 #![tactic(auto)]
 
 mod disk;
+mod folder;
 mod mirror;
+mod opening;
+mod places;
 mod refusals;
 mod told;
 
 pub use disk::Disk;
+pub use folder::{Folder, FolderFile};
 pub use mirror::{DiskHandle, DiskReader, DiskWriter, Mirror};
+pub use opening::{DiskFileSystem, OpenFault};

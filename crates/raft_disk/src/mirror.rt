@@ -222,3 +222,35 @@ impl<D: Disk, F: FileSystem> FileSystem for Mirror<D, F> {
         self.image.read_refusals(&reader.inner)
     }
 }
+
+impl<D: Disk, F: FileSystem> Mirror<D, F> {
+    ghost use Rattle.raft_disk.specs.Mirror.{IsOnDisk, has_failed, mirror_directory, mirror_moments, mirror_refusals};
+    ghost use Rattle.raft_env.specs.Refusal.{added_count, no_refusals};
+
+    /// A mirror of a disk on which stand the files of the image and no others.
+    pub(crate) fn new(alloc: Global, disk: D, image: F) -> Mirror<D, F>
+        requires { D.told disk ≡ F.directory image }
+        ensures value { mirror_directory result ≡ F.directory image }
+        ensures any_moment { mirror_moments result ≡ F.moments image }
+        ensures cause { mirror_refusals result
+            ≡ added_count (F.refusals_of image) no_refusals }
+        ensures failed { has_failed result ≡ false }
+    {
+        Mirror {
+            alloc,
+            disk,
+            image,
+            refused: DiskRefusals::new(),
+            failed: false,
+        }
+    }
+
+    /// Whether a change failed, so that the disk may differ from the files and no file can be changed
+    /// any more. Until then the disk carried out each change that the files had.
+    pub fn has_failed(&self) -> bool
+        ensures value { result ≡ has_failed self.now }
+        ensures ok { result ≡ false → IsOnDisk self.now }
+    {
+        self.failed
+    }
+}

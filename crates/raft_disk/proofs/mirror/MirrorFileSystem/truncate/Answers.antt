@@ -1,5 +1,5 @@
-use Rattle.std.proofs.Common.{true, take, ◌+◌}
-use Rattle.raft_env.specs.Outcomes.{file_after_write, file_after_resize, overlay, pad_to, synced_of}
+use Rattle.std.proofs.Common.{take}
+use Rattle.raft_env.specs.Outcomes.{file_after_resize}
 use Rattle.raft_env.specs.Directory.{update_file}
 use Rattle.raft_disk.proofs.OnDiskLemmas.{told_with}
 use Rattle.raft_disk.proofs.mirror.MirrorFileSystem.truncate.Goals as goal
