@@ -7,3 +7,5 @@ pub mod ContentsLemmas
 pub mod KnownLemmas
 pub mod PlacesLemmas
 pub mod AppliedLemmas
+pub mod ScratchA
+pub mod ScratchB
