@@ -9,6 +9,7 @@ mod half_write;
 mod memory;
 mod memory_file;
 mod namespace;
+mod reading;
 mod refusals;
 
 pub use armed::FsCall;
