@@ -12,8 +12,8 @@ ghost use Rattle.raft_memory.specs.Counted.{by_storage};
 
 use crate::armed::{Armed, FsCall};
 use crate::half_write::fits;
+use crate::handles::{MemoryHandle, MemoryReader, MemoryWriter, copy_from};
 use crate::namespace::Namespace;
-use crate::reading::{copy_from, refused};
 use crate::refusals::RefusalCount;
 use raft_base::History;
 use raft_env::{FileSystem, FsFault, IoKind, Permission};
@@ -31,23 +31,6 @@ pub struct MemoryFileSystem {
     ghost consistent: { AreConsistent (namespace_directory namespace) } by { Prim.hlevel (props, past_prop) },
     ghost only_writes: { OnlyWritesFailedIn
         (namespace_directory namespace) } by { Prim.hlevel props },
-}
-
-#[derive(Drop)]
-pub struct MemoryHandle {
-    path: String,
-    may_write: bool,
-}
-
-#[derive(Drop)]
-pub struct MemoryReader {
-    pub(crate) path: String,
-    pub(crate) refused: u64,
-}
-
-#[derive(Drop)]
-pub struct MemoryWriter {
-    path: String,
 }
 
 impl MemoryFileSystem {
@@ -416,11 +399,11 @@ impl FileSystem for MemoryFileSystem {
             ⊎ IsAbsent (memory_directory self.now) (string_bytes reader.old.path) e) }
     {
         if let Some(kind) = self.armed.fault_for_read() {
-            return Err(refused(reader, kind));
+            return Err(reader.refuse(kind));
         }
         match self.namespace.files.get(reader.path.as_str()) {
             Some(file) => Ok(copy_from(file.bytes(), at, bytes)),
-            None => Err(refused(reader, IoKind::NotFound)),
+            None => Err(reader.refuse(IoKind::NotFound)),
         }
     }
 
