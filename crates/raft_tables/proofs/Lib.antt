@@ -5,4 +5,5 @@ pub mod TablesLemmas
 pub mod ListingLemmas
 pub mod ContentsLemmas
 pub mod KnownLemmas
+pub mod PlacesLemmas
 pub mod AppliedLemmas
