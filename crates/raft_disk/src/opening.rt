@@ -4,7 +4,7 @@ ghost use Rattle.raft_env.specs.Refusal.{no_refusals};
 
 use crate::folder::Folder;
 use crate::mirror::Mirror;
-use crate::places::{LOCK, join, make_folders, sync_folder};
+use crate::places::{LOCK, join, make_folders, sync_folder, sync_name};
 use raft_env::{FileSystem, FsFault};
 use raft_memory::MemoryFileSystem;
 use std::alloc::{AllocError, AllocFailed, Global};
@@ -77,6 +77,9 @@ impl DiskFileSystem {
 fn lock(rt: HostRuntime, path: &str) -> Result<Folder, OpenFault> {
     let alloc = rt.alloc();
     if let Err(e) = make_folders(&rt, path) {
+        return Err(OpenFault::at(alloc, path, e));
+    }
+    if let Err(e) = sync_name(&rt, path) {
         return Err(OpenFault::at(alloc, path, e));
     }
     let place = String::from_str(alloc, path)?;

@@ -72,7 +72,7 @@ pub(crate) fn make_folders(rt: &HostRuntime, path: &str) -> io::Result<()> {
 
 fn make_folder(rt: &HostRuntime, path: &str) -> io::Result<()> {
     match fs::create_dir(rt, path) {
-        Ok(()) => sync_folder(rt, parent_place(path)),
+        Ok(()) => sync_name(rt, path),
         Err(_) if is_folder(rt, path) => Ok(()),
         Err(e) => Err(e),
     }
@@ -92,6 +92,11 @@ fn parent_place(path: &str) -> &str {
         return folder;
     }
     if path.starts_with('/') { "/" } else { "." }
+}
+
+/// The name of what stands at the path stays through a crash.
+pub(crate) fn sync_name(rt: &HostRuntime, path: &str) -> io::Result<()> {
+    sync_folder(rt, parent_place(path.trim_end_matches('/')))
 }
 
 /// The names in a folder stay through a crash.

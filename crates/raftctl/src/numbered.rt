@@ -130,12 +130,13 @@ fn key_of(alloc: Global, number: u64) -> Result<Vec<u8>, AllocError> {
 // The number and a space, again and again, cut to the size.
 fn value_of(alloc: Global, number: u64, size: u64) -> Result<Vec<u8>, AllocError> {
     let text = format!(in alloc; "{number} ")?;
+    let text = text.as_bytes();
+    let period = text.len().max(1);
     let mut value = Vec::new(alloc);
-    for byte in text.as_bytes().iter().cycle() {
-        if value.len() as u64 >= size {
-            break;
+    for place in 0..size as usize {
+        if let Some(byte) = text.get(place % period) {
+            value.push(*byte)?;
         }
-        value.push(*byte)?;
     }
     Ok(value)
 }
