@@ -1,19 +1,21 @@
 -- Entries of text as bytes.
-use Rattle.std.proofs.Common.{◌≡◌, ℕ, ◌^◌, ◌<◌, ◌==◌, ◌&&◌, not, nat_lt, Bool, true, false, cond, List, [], ◌∷◌, ◌++◌, length, get_or, take, drop, suc, zero, ◌+◌, ◌-◌, ◌≤◌, Option, Some, None, MatchOption, refl, sym, ◌∙◌, ap, subst, arith}
+use Rattle.std.proofs.Common.{◌≡◌, ℕ, ◌^◌, ◌<◌, ◌==◌, ◌&&◌, not, nat_lt, Bool, true, false, cond, List, [], ◌∷◌, ◌++◌, length, get_or, map, take, drop, suc, zero, ◌+◌, ◌-◌, ◌≤◌, Option, Some, None, MatchOption, refl, sym, ◌∙◌, ap, arith}
 use Rattle.std.specs.Fmt.{decimal}
 use Rattle.std.specs.Int.{IsInRange}
 use Rattle.std.specs.Char.{is_ascii_digit}
-use Rattle.std.specs.List.{position_or_len}
+use Rattle.std.specs.List.{position_or_len, range_with_len}
+use Rattle.std.proofs.lemmas.List.FromFn.{map-range_with_len_more}
 use Rattle.std.specs.Str.{all_ascii_digits}
 use Rattle.std.specs.Str.Parse.{IsNumeral, digits_value}
 use Rattle.std.proofs.lemmas.Bool.Decides.{nat_tests}
 use Rattle.std.proofs.lemmas.Bool.{eqb-true, lt-ltb}
-use Rattle.std.proofs.lemmas.List.{take-append-drop, take_all}
+use Rattle.std.proofs.lemmas.List.{map-append, take-append-drop, take_all}
 use Rattle.std.proofs.Math.Seq.{drop-append_seam, take-append_seam}
 use Rattle.std.proofs.lemmas.Fmt.{decimal-digits_value, decimal_digit, decimal_is_IsNumeral, decimal_nonempty, first_decimal}
 use Rattle.std.proofs.lemmas.Str.Parse.{IsNumeralModel, numerals_by_value, tells_all_ascii_digits, digit_at}
 use Rattle.raft_script.specs.Line.{number_in}
-use Rattle.raft_script.specs.Entry.{text_bytes}
+use Rattle.raft_script.specs.Entry.{indexed_word, text_bytes}
+use Rattle.raft_script.specs.declared.text_entry.TextEntry.{TextEntry}
 
 digits_model : IsNumeralModel (λ ds. all_ascii_digits ds ≡ true) (digits_value 10)
 digits_model = numerals_by_value _ tells_all_ascii_digits
@@ -99,9 +101,10 @@ module _ (bytes digits rest : List ℕ) (len : ℕ) (len_is : len ≡ position_o
   -- bytes of an entry are cut at the colon
   cut_there : (index : ℕ) (word : List ℕ) → index < 2 ^ 64 → bytes ≡ text_bytes index word → (digits ≡ decimal index) × (rest ≡ 58 ∷ word)
   cut_there index word small is =
-      let place : len ≡ length (decimal index) = len_is ∙ ap (position_or_len is_colon) is ∙ colon_place (decimal index) word (decimal_digits index small) in
-      (digits_is ∙ ap (λ n. take n bytes) place ∙ ap (take (length (decimal index))) is ∙ take-append_seam (decimal index) (58 ∷ word),
-      rest_is ∙ ap (λ n. drop n bytes) place ∙ ap (drop (length (decimal index))) is ∙ drop-append_seam (decimal index) (58 ∷ word))
+      let place : len ≡ length (decimal index) = len_is ∙ ap (position_or_len is_colon) is ∙ colon_place (decimal index) word (decimal_digits index small) in (
+        digits_is ∙ ap (λ n. take n bytes) place ∙ ap (take (length (decimal index))) is ∙ take-append_seam (decimal index) (58 ∷ word),
+        rest_is ∙ ap (λ n. drop n bytes) place ∙ ap (drop (length (decimal index))) is ∙ drop-append_seam (decimal index) (58 ∷ word),
+      )
 
   pub no_colon : length rest ≡ 0 → (index : ℕ) (word : List ℕ) → index < 2 ^ 64 → bytes ≡ text_bytes index word → ⊥
   no_colon none index word small is = absurd (omega (arith, none, ap length (cut_there index word small is).1))
@@ -118,3 +121,14 @@ module _ (bytes digits rest : List ℕ) (len : ℕ) (len_is : len ≡ position_o
           let colon : b ≡ 58 = first_colon bytes b bs (ap (λ n. drop n bytes) (sym len_is) ∙ sym from) in
           sym (take-append-drop len bytes) ∙ ap (λ d. d ++ drop len bytes) (sym digits_is ∙ is) ∙ ap (λ r. decimal number ++ r) (sym from)
           ∙ ap (λ c. decimal number ++ c ∷ bs) colon ∙ ap (λ w. text_bytes number w) (sym (take_all (length (b ∷ bs) - 1) bs (omega arith)))
+
+-- Entries one after the other.
+
+pub words_more : (first index : ℕ) (word : List ℕ) (old new : List TextEntry) (e : TextEntry) → first ≤ index → map indexed_word old ≡ map (λ i. (i, word)) (range_with_len first (index - first)) → new ≡ old ++ e ∷ [] → e.index ≡ index → e.word.items ≡ word
+    → map indexed_word new ≡ map (λ i. (i, word)) (range_with_len first (index + 1 - first))
+words_more first index word old new e low words more index_is word_is =
+    let pair : indexed_word e ≡ (index, word) = ap (λ (n : ℕ). let p : ℕ × List ℕ = (n, e.word.items) in p) index_is ∙ ap (λ (w : List ℕ). let p : ℕ × List ℕ = (index, w) in p) word_is in
+    ap (map indexed_word) more ∙ map-append indexed_word old (e ∷ []) ∙ ap (λ (l : List (ℕ × List ℕ)). map indexed_word old ++ l) (ap (λ (p : ℕ × List ℕ). p ∷ []) pair)
+    ∙ ap (λ (l : List (ℕ × List ℕ)). l ++ (index, word) ∷ []) words
+    ∙ sym (map-range_with_len_more (λ i. (i, word)) first (index - first) index (omega (arith, low)))
+    ∙ ap (λ k. map (λ i. (i, word)) (range_with_len first k)) (omega (arith, low))

@@ -1,5 +1,6 @@
 -- Entries of text.
-use Rattle.std.specs.Prelude.{◌≡◌, ◌<◌, ◌^◌, ℕ, List, ◌∷◌, ◌++◌}
+use Rattle.std.specs.Prelude.{◌≡◌, ◌<◌, ◌^◌, ◌+◌, ◌-◌, ℕ, List, ◌∷◌, ◌++◌, map}
+use Rattle.std.specs.List.{range_with_len}
 use Rattle.std.specs.Fmt.{decimal}
 use Rattle.raft_records.specs.Item.{Entry}
 use Rattle.raft_script.specs.declared.text_entry.TextEntry.{TextEntry}
@@ -19,3 +20,11 @@ IsTextOf bytes e = (e.index < 2 ^ 64) × (bytes ≡ bytes_of_entry e)
 -- the entry as a log holds it
 abbrev pub entry_of_text : TextEntry → Entry
 entry_of_text e = (e.index, bytes_of_entry e)
+
+-- an entry's index and word
+abbrev pub indexed_word : TextEntry → ℕ × List ℕ
+indexed_word e = (e.index, e.word.items)
+
+-- the indexes from `first` to `last`, each with this word
+abbrev pub indexed_words : ℕ → ℕ → List ℕ → List (ℕ × List ℕ)
+indexed_words first last word = map (λ i. (i, word)) (range_with_len first (last + 1 - first))

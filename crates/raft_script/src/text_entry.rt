@@ -1,8 +1,8 @@
 //! Entries of text.
-ghost use Rattle.std.specs.Prelude.{◌≡◌, ◌==◌, ◌<◌, ◌≤◌, ◌^◌, ℕ, List, length, MatchOption};
+ghost use Rattle.std.specs.Prelude.{◌≡◌, ◌==◌, ◌<◌, ◌≤◌, ◌^◌, ℕ, IfOk, List, length, map, MatchOption};
 ghost use Rattle.std.specs.Fmt.{decimal};
 ghost use Rattle.std.specs.List.{position_or_len};
-ghost use Rattle.raft_script.specs.Entry.{IsTextOf, bytes_of_entry, text_bytes};
+ghost use Rattle.raft_script.specs.Entry.{IsTextOf, bytes_of_entry, indexed_word, indexed_words, text_bytes};
 
 use crate::line::number_of;
 use itoa::Buffer;
@@ -45,6 +45,24 @@ impl MessageExt for TextEntry {
     fn index(entry: &TextEntry) -> u64 {
         entry.index
     }
+}
+
+/// Entries with the indexes from `first` to `last` and this word.
+pub(crate) fn entries_between(
+    alloc: Global,
+    first: u64,
+    last: u64,
+    word: &[u8],
+) -> Result<Vec<TextEntry>, AllocError>
+    ensures value { IfOk result (λ entries. map indexed_word entries.items
+        ≡ indexed_words first last word.now) }
+{
+    let mut entries = Vec::new(alloc);
+    for index in first..=last {
+        let word = word.to_vec(alloc)?;
+        entries.push(TextEntry { index, word })?;
+    }
+    Ok(entries)
 }
 
 // The index before the first colon, and the word after it.
