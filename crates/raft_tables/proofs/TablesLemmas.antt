@@ -13,7 +13,7 @@ use Rattle.raft_tables.specs.declared.memtables.MemTables.{MemTables}
 abbrev pub Groups : Type 0
 Groups = BTreeMap ℕ MemTable
 
-is_eq-nat_cmp : (a b : ℕ) → is_eq (nat_cmp a b) ≡ (b == a)
+pub is_eq-nat_cmp : (a b : ℕ) → is_eq (nat_cmp a b) ≡ (b == a)
 is_eq-nat_cmp a b = grind (arith, common_steps)
 
 eq_from_test : (a b : ℕ) → (a == b) ≡ true → a ≡ b
