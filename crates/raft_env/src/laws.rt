@@ -1,7 +1,8 @@
 //! What holds of files, whatever calls were made.
-ghost use Rattle.std.specs.Prelude.{◌≡◌, ◌≢◌, ◌++◌, ◌↔◌, ℕ, List, Some, None};
+ghost use Rattle.std.specs.Prelude.{◌≡◌, ◌≢◌, ◌++◌, ◌↔◌, ℕ, List, Some, None, true};
+ghost use Rattle.std.specs.List.{Contains};
 ghost use Rattle.raft_env.specs.Consistent.{AreConsistent};
-ghost use Rattle.raft_env.specs.Directory.{Directory, IsOneOf, IsAllocating, IsMakingFolder, IsRestarted, IsTruncating, IsWriting, CrashImage, Path, file_at, update_file, after_create, after_rename, without_file};
+ghost use Rattle.raft_env.specs.Directory.{Directory, IsOneOf, IsAllocating, IsMakingFolder, IsRestarted, IsTruncating, IsWriting, CrashImage, HasFile, Path, is_name, names_in, path_in, file_at, update_file, after_create, after_rename, without_file};
 ghost use Rattle.raft_env.specs.Outcomes.{File, IsStaleAfter, MayLeave, renamed_of, synced_of};
 
 /// Each call keeps files consistent: outside the ranges of its changes a file holds the bytes of its
@@ -44,4 +45,10 @@ pub fn other_files_stay()
         × (MayLeave (renamed_of file) left ↔ MayLeave file left) }
     ensures stale { (file : File) (i : ℕ) → let renamed = renamed_of file in
         IsStaleAfter renamed.renamed_after (renamed.changes ++ renamed.older) i }
+{}
+
+/// A folder lists a name exactly where a file stands at its path in the folder.
+pub fn a_folder_lists_its_files()
+    ensures { (folder : Path) (name : List ℕ) (n : Directory) → Contains (names_in folder n) name
+        ↔ ((is_name name ≡ true) × HasFile n (path_in folder name)) }
 {}

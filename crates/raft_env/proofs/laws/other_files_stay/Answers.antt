@@ -1,5 +1,4 @@
-use Rattle.std.proofs.Common.{◌≡◌, ◌-◌, refl, arith, take, length, false, ◌++◌}
-use Rattle.raft_env.specs.Outcomes.{is_written}
+use Rattle.std.proofs.Common.{◌≡◌, ◌-◌, refl, arith, length, ◌++◌}
 use Rattle.raft_env.proofs.DirectoryLemmas.{file_at-removed_same, file_at-removed_other, file_at-renamed_to, file_at-renamed_from, file_at-renamed_other}
 use Rattle.raft_env.proofs.laws.other_files_stay.Goals as goal
 

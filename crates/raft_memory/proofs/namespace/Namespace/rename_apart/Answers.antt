@@ -1,4 +1,4 @@
-use Rattle.std.proofs.Common.{◌≡◌, true, false, Some, None, [], refl, ap, inr, ◌∙◌, rules, arith}
+use Rattle.std.proofs.Common.{◌≡◌, true, false, Some, [], refl, ap, inr, ◌∙◌, rules, arith}
 use Rattle.std.specs.Prelude.{is_some}
 use Rattle.std.specs.BTreeMap as tree
 use Rattle.std.specs.String.{string_bytes}
