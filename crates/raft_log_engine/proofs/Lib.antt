@@ -1,7 +1,7 @@
 pub mod ContentsLemmas
-pub mod PlainLemmas
+pub mod TableLemmas
+pub mod ValidityLemmas
 pub mod CrashLemmas
 pub mod EngineLemmas
 pub mod DurabilityLemmas
-pub mod ImageLemmas
 pub mod OpeningLemmas

@@ -4,8 +4,6 @@ pub mod Contents
 pub mod Crash
 pub mod Cause
 pub mod Engine
-pub mod Image
 pub mod Durability
 pub mod Opening
-pub mod Reads
-pub mod Scan
+pub mod Write
