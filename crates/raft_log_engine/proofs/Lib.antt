@@ -5,3 +5,8 @@ pub mod CrashLemmas
 pub mod EngineLemmas
 pub mod DurabilityLemmas
 pub mod OpeningLemmas
+pub mod PlacedLemmas
+pub mod HeldLemmas
+pub mod FaultLemmas
+pub mod NumberedLemmas
+pub mod ImageLemmas

@@ -7,3 +7,5 @@ pub mod Engine
 pub mod Durability
 pub mod Opening
 pub mod Write
+pub mod Image
+pub mod Reads
