@@ -1,13 +1,19 @@
 //! Operations on an engine, and what they are answered.
 
+use crate::text_entry::TextEntry;
 use raft_log_engine::Image;
 use raft_records::Fault;
 
-/// A change of one key.
+/// A change of one group.
 #[derive(Debug, PartialEq, Eq, Drop)]
 pub enum Act {
     Put(u64, Vec<u8>, Vec<u8>),
     Delete(u64, Vec<u8>),
+    Entries(u64, Vec<TextEntry>),
+    /// The group goes, with its entries and keys.
+    Clean(u64),
+    /// The entries below an index go.
+    Compact(u64, u64),
 }
 
 /// A call of an engine.
@@ -17,6 +23,8 @@ pub enum Op {
     Write(Vec<Act>, bool),
     Sync,
     Get(u64, Vec<u8>),
+    /// The group's entries below the index go.
+    CompactTo(u64, u64),
 }
 
 /// What an operation was answered: a write with the length of its record.
@@ -25,6 +33,8 @@ pub enum Outcome {
     Size(Result<usize, Fault>),
     Done(Result<(), Fault>),
     Value(Result<Option<Vec<u8>>, Fault>),
+    /// How many entries went.
+    Count(Result<u64, Fault>),
 }
 
 /// What a trial showed.
