@@ -1,0 +1,9 @@
+use Rattle.std.proofs.Common.{◌+◌}
+use Rattle.raft_env.specs.Outcomes.{file_after_resize, pad_to}
+use Rattle.raft_env.specs.Directory.{update_file}
+use Rattle.raft_disk.proofs.OnDiskLemmas.{told_with}
+use Rattle.raft_disk.proofs.mirror.MirrorFileSystem.allocate.Goals as goal
+
+pub invariant_of-self-2 : goal.invariant_of-self-2
+invariant_of-self-2 g c =
+    record { is_on_disk = λ _. told_with (λ p. update_file p (λ f. file_after_resize (pad_to f.now (c.args.at + c.args.size)) f)) c.args.writer.now.same (c.args.self.now.is_on_disk c.if-self.false) c.in_default.ensures.ok c.in_ok-allocate.ensures.ok }
