@@ -8,9 +8,9 @@ use crate::refusals::DiskRefusals;
 use raft_env::{FileSystem, FsFault, IoKind, Permission, parent};
 use std::alloc::Global;
 
-/// Names are on the disk before the image has them, a change of bytes is in the image and then on the
-/// disk, and a sync on the disk and then in the image. Where a change fails, the disk may differ from
-/// the image, and no file can be changed any more.
+/// Names are on the disk before the image has them, a change of bytes is in the image and then on
+/// the disk, and a sync on the disk and then in the image. Where a change fails, the disk may differ
+/// from the image, and no file can be changed any more.
 #[derive(Drop)]
 pub struct Mirror<D: Disk, F: FileSystem> {
     alloc: Global,
@@ -227,8 +227,8 @@ impl<D: Disk, F: FileSystem> FileSystem for Mirror<D, F> {
             ≡ update_file (F.writer_path writer.old.inner) synced_of (mirror_directory self.old)) }
         ensures err { OnErr result (mirror_directory self.new ≡ mirror_directory self.old) }
         ensures any_moment { MovesBy mirror_directory mirror_moments
-            (λ old. IsOneOf old (update_file (F.writer_path writer.old.inner) synced_of old)) self.old
-            self.new }
+            (λ old. IsOneOf old (update_file (F.writer_path writer.old.inner) synced_of old))
+            self.old self.new }
         ensures cause { CountsRefusalOf result (mirror_refusals self.old)
             (mirror_refusals self.new) }
         ensures failed { StaysFailed self.old self.new result }
@@ -322,8 +322,8 @@ impl<D: Disk, F: FileSystem> Mirror<D, F> {
         }
     }
 
-    /// Whether a change failed, so that the disk may differ from the files and no file can be changed
-    /// any more. Until then the disk carried out each change that the files had.
+    /// Whether a change failed, so that the disk may differ from the files and no file can be
+    /// changed any more. Until then the disk carried out each change that the files had.
     pub fn has_failed(&self) -> bool
         ensures value { result ≡ has_failed self.now }
         ensures ok { result ≡ false → IsOnDisk self.now }
