@@ -4,4 +4,6 @@ pub mod ValidityLemmas
 pub mod CrashLemmas
 pub mod EngineLemmas
 pub mod DurabilityLemmas
+pub mod GroupLemmas
+pub mod GroupRunLemmas
 pub mod OpeningLemmas
