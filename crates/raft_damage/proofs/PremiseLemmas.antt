@@ -6,7 +6,7 @@ use Rattle.raft_base.specs.declared.pipe_log.FileId.{FileId}
 use Rattle.raft_files.specs.declared.format.LogFileFormat.{LogFileFormat}
 use Rattle.raft_env.specs.Outcomes.{MayLeave, is_touched}
 use Rattle.raft_env.specs.Directory.{Directory, CrashImage, Path, Leaves, file_at}
-use Rattle.raft_memory.specs.Choice.{torn_bytes, touched_before, bytes_by_choice, bytes_by_choice_at, choice_for, left_by, NamesNoBytes}
+use Rattle.raft_memory.specs.Choice.{touched_before, bytes_by_choice, bytes_by_choice_at, choice_for, left_by, NamesNoBytes}
 use Rattle.raft_env.specs.Consistent.{IsConsistent, AreConsistent}
 use Rattle.raft_memory.specs.Choice.{AreWhole}
 use Rattle.raft_files.specs.Detectable.{IsDetectableFile, IsDetectable}

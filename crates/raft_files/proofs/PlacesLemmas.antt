@@ -1,6 +1,6 @@
 -- How many bytes the entries of a record have.
-use Rattle.std.proofs.Common.{◌≡◌, ℕ, ◌+◌, ◌-◌, ◌^◌, ◌≤◌, ◌==◌, ◌||◌, min, Bool, true, false, cond, List, [], ◌∷◌, length, take, drop, option_map, Option, Some, arith, refl, sym, ◌∙◌, ap, length-append, length-drop, length-take-le}
-use Rattle.std.specs.List.{flat_map, list_all, sum}
+use Rattle.std.proofs.Common.{◌≡◌, ℕ, ◌+◌, ◌-◌, ◌≤◌, ◌==◌, ◌||◌, min, Bool, true, false, cond, List, [], ◌∷◌, length, take, drop, option_map, Option, Some, arith, sym, ◌∙◌, ap, length-append, length-drop, length-take-le}
+use Rattle.std.specs.List.{flat_map, sum}
 use Rattle.std.proofs.lemmas.Bool.{and_parts}
 use Rattle.std.proofs.lemmas.Bool.Decides.{nat_tests}
 use Rattle.std.proofs.lemmas.List.{length-take}
@@ -11,7 +11,7 @@ use Rattle.raft_base.specs.declared.pipe_log.LogQueue.TheVariants.{Append}
 use Rattle.raft_records.specs.Item.{Entry, Entries, Clean, Compact, Put, Delete}
 use Rattle.raft_records.specs.ItemBatch.{block_of_record, locate_content, locate_items, locate_parts}
 use Rattle.raft_records.specs.Layout.{entry_bytes}
-use Rattle.raft_records.specs.PlacedItem.{PlacedItem, is_placed_in_order}
+use Rattle.raft_records.specs.PlacedItem.{is_placed_in_order}
 use Rattle.raft_records.specs.Record.{Stored, Indexes, Other, Parts, content_from, entries_from, entries_len, entry_bytes_of, fills_block, is_lz4_block, items_from, record_parts, stored_len}
 use Rattle.raft_records.proofs.OrderLemmas.{are_ordered, placed_record-ordered}
 use Rattle.raft_files.specs.Replay.{block_after}

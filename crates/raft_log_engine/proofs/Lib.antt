@@ -7,3 +7,8 @@ pub mod DurabilityLemmas
 pub mod GroupLemmas
 pub mod GroupRunLemmas
 pub mod OpeningLemmas
+pub mod PlacedLemmas
+pub mod HeldLemmas
+pub mod FaultLemmas
+pub mod NumberedLemmas
+pub mod ImageLemmas

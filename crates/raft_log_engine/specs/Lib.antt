@@ -8,3 +8,5 @@ pub mod Group
 pub mod Durability
 pub mod Opening
 pub mod Write
+pub mod Image
+pub mod Reads
