@@ -16,6 +16,7 @@ use Rattle.raft_base.specs.Fault.{fault_code}
 use Rattle.raft_base.specs.declared.errors.Fault.{Fault}
 use Rattle.raft_base.specs.declared.errors.Fault.TheVariants as fault
 use Rattle.raft_log_engine.specs.Cause as engine
+use Rattle.raft_pipes.specs.Queue.{IsRefusalIn}
 use Rattle.raft_log_engine.specs.Durability.{HasWritten}
 use Rattle.raft_log_engine.specs.Engine.{contents_of, has_failed, refusals_of}
 use Rattle.raft_log_engine.specs.declared.engine.Engine.{Engine}
@@ -122,16 +123,22 @@ module _ {F H R W : Type 0} {g : Ghosts F H R W} (acts : List Act) (items rest :
       by_fault _ h = absurd h
 
 -- .. and so is a compaction
-pub compaction_answered : (m n : Contents) (group index : ℕ) (failed : Bool) (result : Result ℕ Fault) → (failed ≡ false → m ≡ n) → IfOk result (λ count. count ≡ compact_count index (n.entries group)) → ((result ≡ Err fault.Failed) ↔ (failed ≡ true)) → IfErr result (λ e. failed ≡ false → (e ≡ fault.Failed → ⊥) → IsEngineRefusal e)
-    → MatchResult result (λ count. count ≡ compact_count index (m.entries group)) IsEngineRefusal
-compaction_answered m n group index failed (Ok count) same is fails cause = elim (cases_Bool failed) [
-  | inl gone ↦ absurd (let clash = fails.1 gone in cc)
-  | inr stands ↦ is ∙ ap (λ (c : Contents). compact_count index (c.entries group)) (sym (same stands))
-]
-compaction_answered m n group index failed (Err e) same is fails cause = elim (cases_Bool failed) [
-  | inl gone ↦ let e_is : e ≡ fault.Failed = same_err (Err e) refl (fails.1 gone) in subst IsEngineRefusal (sym e_is) tt
-  | inr stands ↦ cause stands (λ e_is. let clash = fails.0 (ap Err e_is) in let both = sym clash ∙ stands in cc)
-]
+module _ (m n : Contents) (group index : ℕ) (failed : Bool) (folder : Path) (old new : Refusals) (same : failed ≡ false → m ≡ n) where
+  engine_refusal : (e : Fault) → IsRefusalIn folder old new e → IsEngineRefusal e
+  engine_refusal (fault.Io kind path) h = tt
+  engine_refusal fault.Memory h = tt
+  engine_refusal _ h = absurd h
+
+  pub compaction_answered : (result : Result ℕ Fault) → IfOk result (λ count. count ≡ compact_count index (n.entries group)) → ((result ≡ Err fault.Failed) ↔ (failed ≡ true)) → IfErr result (λ e. failed ≡ false → IsRefusalIn folder old new e)
+      → MatchResult result (λ count. count ≡ compact_count index (m.entries group)) IsEngineRefusal
+  compaction_answered (Ok count) is fails cause = elim (cases_Bool failed) [
+    | inl gone ↦ absurd (let clash = fails.1 gone in cc)
+    | inr stands ↦ is ∙ ap (λ (c : Contents). compact_count index (c.entries group)) (sym (same stands))
+  ]
+  compaction_answered (Err e) is fails cause = elim (cases_Bool failed) [
+    | inl gone ↦ let e_is : e ≡ fault.Failed = same_err (Err e) refl (fails.1 gone) in subst IsEngineRefusal (sym e_is) tt
+    | inr stands ↦ engine_refusal e (cause stands)
+  ]
 
 -- What depends on the contents of an engine that stands alone.
 

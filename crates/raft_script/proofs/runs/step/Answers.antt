@@ -5,7 +5,7 @@ use Rattle.raft_log_engine.specs.Durability.{durability_of}
 use Rattle.raft_log_engine.specs.Engine.{answer_now, answered_of, contents_of, directory_of, durable_of, folder_of, moments_of, unsynced_of}
 use Rattle.raft_script.specs.Run.{batch_of_acts, compaction_in, pending_batches, written_batches}
 use Rattle.raft_script.proofs.DurabilityLemmas.{compaction_progress, moments_of_batch, written_progress}
-use Rattle.raft_script.proofs.RunLemmas.{write_answered}
+use Rattle.raft_script.proofs.RunLemmas.{compaction_answered, write_answered}
 use Rattle.raft_script.proofs.runs.step.Goals as goal
 
 pub returns-in-Ok-clause-value : goal.returns-in-Ok-clause-value
@@ -48,6 +48,16 @@ returns-in-Err-clause-progress g c =
       answers = inl (search rules, refl {a = c.args.engine.now});
     })
 
+pub returns-in-Get-clause-progress : goal.returns-in-Get-clause-progress
+returns-in-Get-clause-progress g c = rw c.in-Get.is (record {
+  flight = [];
+  may_be = refl;
+  given = [];
+  is_given = refl;
+  progress = inl (record { none = refl; covers_none = refl; failed = refl; durable = refl; unsynced = refl });
+  answers = inl (tt, refl {a = c.args.engine.now});
+})
+
 pub returns-in-Sync-clause-progress : goal.returns-in-Sync-clause-progress
 returns-in-Sync-clause-progress g c = rw c.in-Sync.is (record {
   flight = [];
@@ -65,6 +75,11 @@ returns-in-Ok-clause-failed g c = rw c.in-Write.is (record {
   refused = λ failed. search rules;
   cause = λ alive fails. search rules;
 })
+
+pub returns-in-CompactTo-clause-value : goal.returns-in-CompactTo-clause-value
+returns-in-CompactTo-clause-value g c =
+    let compaction = c.compact_to.ensures in
+    rw c.in-CompactTo.is (λ m same. compaction_answered m (contents_of c.args.engine.now) c.in-CompactTo.group c.in-CompactTo.index _ _ _ _ same c.compact_to.result compaction.value compaction.failed compaction.cause)
 
 pub returns-in-CompactTo-clause-progress : goal.returns-in-CompactTo-clause-progress
 returns-in-CompactTo-clause-progress g c =
