@@ -4,6 +4,8 @@ pub mod ValidityLemmas
 pub mod CrashLemmas
 pub mod EngineLemmas
 pub mod DurabilityLemmas
+pub mod GroupLemmas
+pub mod GroupRunLemmas
 pub mod OpeningLemmas
 pub mod PlacedLemmas
 pub mod HeldLemmas
