@@ -97,6 +97,14 @@ impl<D: Disk, F: FileSystem> FileSystem for Mirror<D, F> {
         Ok(DiskHandle { inner, path: copy })
     }
 
+    fn delete(&mut self, _path: &str) -> Result<(), FsFault> {
+        Err(self.refused.count(FsFault::Io(IoKind::Other)))
+    }
+
+    fn rename(&mut self, _from: &str, _to: &str) -> Result<(), FsFault> {
+        Err(self.refused.count(FsFault::Io(IoKind::Other)))
+    }
+
     fn new_reader(&mut self, handle: &DiskHandle<F>) -> Result<DiskReader<F>, FsFault> {
         let inner = self.image.new_reader(&handle.inner)?;
         Ok(DiskReader { inner })
