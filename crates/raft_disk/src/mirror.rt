@@ -1,5 +1,5 @@
 //! A file system that answers from an image and carries each change out on a disk.
-ghost use Rattle.std.specs.Prelude.{◌≡◌, false};
+ghost use Rattle.std.specs.Prelude.{◌≡◌, ◌+◌, ◌<◌, ◌^◌, false, true, length, take, IfOk, OnErr, OnOk};
 ghost use Rattle.std.specs.String.{string_bytes};
 ghost use Rattle.std.proofs.Props.{props};
 
@@ -8,9 +8,9 @@ use crate::refusals::DiskRefusals;
 use raft_env::{FileSystem, FsFault, IoKind, Permission, parent};
 use std::alloc::Global;
 
-/// Names are on the disk before the image has them, a change of bytes is in the image and then on the
-/// disk, and a sync on the disk and then in the image. Where a change fails, the disk may differ from
-/// the image, and no file can be changed any more.
+/// Names are on the disk before the image has them, a change of bytes is in the image and then on
+/// the disk, and a sync on the disk and then in the image. Where a change fails, the disk may differ
+/// from the image, and no file can be changed any more.
 #[derive(Drop)]
 pub struct Mirror<D: Disk, F: FileSystem> {
     alloc: Global,
@@ -41,8 +41,12 @@ pub struct DiskWriter<D: Disk, F: FileSystem> {
 }
 
 impl<D: Disk, F: FileSystem> FileSystem for Mirror<D, F> {
-    ghost use Rattle.raft_env.specs.Refusal.{added_count};
+    ghost use Rattle.raft_env.specs.Refusal.{CountsRefusalOf, added_count};
     ghost use Rattle.raft_disk.specs.Counted.{refusals_in};
+    ghost use Rattle.raft_disk.specs.Mirror.{StaysFailed, mirror_directory, mirror_moments, mirror_refusals};
+    ghost use Rattle.raft_env.specs.Directory.{HasFile, IsAllocating, IsMakingFolder, IsOneOf, IsTruncating, IsWriting, after_create, folder_made, update_file};
+    ghost use Rattle.raft_env.specs.Moments.{MovesBy};
+    ghost use Rattle.raft_env.specs.Outcomes.{file_after_resize, file_after_write, overlay, pad_to, synced_of};
 
     type Handle = DiskHandle<F>;
 
@@ -68,7 +72,19 @@ impl<D: Disk, F: FileSystem> FileSystem for Mirror<D, F> {
 
     ghost now_counts = { λ m. F.now_counts m.image };
 
-    fn create(&mut self, path: &str) -> Result<DiskHandle<F>, FsFault> {
+    fn create(&mut self, path: &str) -> Result<DiskHandle<F>, FsFault>
+        ensures handle { IfOk result (λ h. (F.handle_path h.inner ≡ path.now) ×
+            (F.may_write h.inner ≡ true)) }
+        ensures ok { OnOk result (mirror_directory self.new ≡ after_create path.now
+            (mirror_directory self.old)) }
+        ensures err { OnErr result (mirror_directory self.new ≡ mirror_directory self.old) }
+        ensures any_moment { MovesBy mirror_directory mirror_moments (λ old. IsOneOf old
+            (after_create path.now old))
+            self.old self.new }
+        ensures cause { CountsRefusalOf result (mirror_refusals self.old)
+            (mirror_refusals self.new) }
+        ensures failed { StaysFailed self.old self.new result }
+    {
         if self.failed || !self.disk.can_hold_file(path) || self.image.is_dir(path) {
             return Err(self.refused.count(FsFault::Io(IoKind::Other)));
         }
@@ -119,7 +135,21 @@ impl<D: Disk, F: FileSystem> FileSystem for Mirror<D, F> {
         writer: &mut DiskWriter<D, F>,
         at: usize,
         bytes: &[u8],
-    ) -> Result<(), FsFault> {
+    ) -> Result<(), FsFault>
+        ensures writer { F.writer_path writer.new.inner ≡ F.writer_path writer.old.inner }
+        ensures value { OnOk result (HasFile (mirror_directory self.old)
+            (F.writer_path writer.old.inner)) }
+        ensures fits { OnOk result (at + length bytes.now < 2 ^ 63) }
+        ensures ok { OnOk result (mirror_directory self.new ≡ update_file
+            (F.writer_path writer.old.inner)
+            (λ f. file_after_write at bytes.now true (overlay f.now at bytes.now) f)
+            (mirror_directory self.old)) }
+        ensures any_moment { MovesBy mirror_directory mirror_moments
+            (IsWriting (F.writer_path writer.old.inner) at bytes.now) self.old self.new }
+        ensures cause { CountsRefusalOf result (mirror_refusals self.old)
+            (mirror_refusals self.new) }
+        ensures failed { StaysFailed self.old self.new result }
+    {
         if self.failed {
             return Err(self.refused.count(FsFault::Io(IoKind::Other)));
         }
@@ -132,7 +162,20 @@ impl<D: Disk, F: FileSystem> FileSystem for Mirror<D, F> {
         Ok(())
     }
 
-    fn truncate(&mut self, writer: &mut DiskWriter<D, F>, size: usize) -> Result<(), FsFault> {
+    fn truncate(&mut self, writer: &mut DiskWriter<D, F>, size: usize) -> Result<(), FsFault>
+        ensures writer { F.writer_path writer.new.inner ≡ F.writer_path writer.old.inner }
+        ensures value { OnOk result (HasFile (mirror_directory self.old)
+            (F.writer_path writer.old.inner)) }
+        ensures ok { OnOk result (mirror_directory self.new ≡ update_file
+            (F.writer_path writer.old.inner)
+            (λ f. file_after_resize (take size f.now) f) (mirror_directory self.old)) }
+        ensures any_moment { MovesBy mirror_directory mirror_moments (IsTruncating
+            (F.writer_path writer.old.inner) size)
+            self.old self.new }
+        ensures cause { CountsRefusalOf result (mirror_refusals self.old)
+            (mirror_refusals self.new) }
+        ensures failed { StaysFailed self.old self.new result }
+    {
         if self.failed {
             return Err(self.refused.count(FsFault::Io(IoKind::Other)));
         }
@@ -150,7 +193,20 @@ impl<D: Disk, F: FileSystem> FileSystem for Mirror<D, F> {
         writer: &mut DiskWriter<D, F>,
         at: usize,
         size: usize,
-    ) -> Result<(), FsFault> {
+    ) -> Result<(), FsFault>
+        ensures writer { F.writer_path writer.new.inner ≡ F.writer_path writer.old.inner }
+        ensures value { OnOk result (HasFile (mirror_directory self.old)
+            (F.writer_path writer.old.inner)) }
+        ensures fits { OnOk result (at + size < 2 ^ 63) }
+        ensures ok { OnOk result (mirror_directory self.new ≡ update_file
+            (F.writer_path writer.old.inner)
+            (λ f. file_after_resize (pad_to f.now (at + size)) f) (mirror_directory self.old)) }
+        ensures any_moment { MovesBy mirror_directory mirror_moments
+            (IsAllocating (F.writer_path writer.old.inner) (at + size)) self.old self.new }
+        ensures cause { CountsRefusalOf result (mirror_refusals self.old)
+            (mirror_refusals self.new) }
+        ensures failed { StaysFailed self.old self.new result }
+    {
         if self.failed {
             return Err(self.refused.count(FsFault::Io(IoKind::Other)));
         }
@@ -163,7 +219,20 @@ impl<D: Disk, F: FileSystem> FileSystem for Mirror<D, F> {
         Ok(())
     }
 
-    fn sync(&mut self, writer: &mut DiskWriter<D, F>) -> Result<(), FsFault> {
+    fn sync(&mut self, writer: &mut DiskWriter<D, F>) -> Result<(), FsFault>
+        ensures writer { F.writer_path writer.new.inner ≡ F.writer_path writer.old.inner }
+        ensures value { OnOk result (HasFile (mirror_directory self.old)
+            (F.writer_path writer.old.inner)) }
+        ensures ok { OnOk result (mirror_directory self.new
+            ≡ update_file (F.writer_path writer.old.inner) synced_of (mirror_directory self.old)) }
+        ensures err { OnErr result (mirror_directory self.new ≡ mirror_directory self.old) }
+        ensures any_moment { MovesBy mirror_directory mirror_moments
+            (λ old. IsOneOf old (update_file (F.writer_path writer.old.inner) synced_of old))
+            self.old self.new }
+        ensures cause { CountsRefusalOf result (mirror_refusals self.old)
+            (mirror_refusals self.new) }
+        ensures failed { StaysFailed self.old self.new result }
+    {
         if self.failed {
             return Err(self.refused.count(FsFault::Io(IoKind::Other)));
         }
@@ -189,7 +258,15 @@ impl<D: Disk, F: FileSystem> FileSystem for Mirror<D, F> {
         self.image.file_size(&handle.inner)
     }
 
-    fn make_dir(&mut self, path: &str) -> Result<(), FsFault> {
+    fn make_dir(&mut self, path: &str) -> Result<(), FsFault>
+        ensures ok { OnOk result (mirror_directory self.new ≡ folder_made path.now
+            (mirror_directory self.old)) }
+        ensures any_moment { MovesBy mirror_directory mirror_moments
+            (IsMakingFolder path.now) self.old self.new }
+        ensures cause { CountsRefusalOf result (mirror_refusals self.old)
+            (mirror_refusals self.new) }
+        ensures failed { StaysFailed self.old self.new result }
+    {
         if self.failed || !self.disk.can_hold_folder(path) {
             return Err(self.refused.count(FsFault::Io(IoKind::Other)));
         }
@@ -245,8 +322,8 @@ impl<D: Disk, F: FileSystem> Mirror<D, F> {
         }
     }
 
-    /// Whether a change failed, so that the disk may differ from the files and no file can be changed
-    /// any more. Until then the disk carried out each change that the files had.
+    /// Whether a change failed, so that the disk may differ from the files and no file can be
+    /// changed any more. Until then the disk carried out each change that the files had.
     pub fn has_failed(&self) -> bool
         ensures value { result ≡ has_failed self.now }
         ensures ok { result ≡ false → IsOnDisk self.now }
