@@ -1,7 +1,7 @@
 //! A folder that holds files by their paths.
 ghost use Rattle.std.specs.Prelude.{◌≡◌, ◌+◌, true, take, IfOk, OnOk};
 ghost use Rattle.raft_env.specs.Outcomes.{file_after_write, file_after_resize, overlay, pad_to, synced_of};
-ghost use Rattle.raft_env.specs.Directory.{Path, Directory, after_create, folder_made, update_file};
+ghost use Rattle.raft_env.specs.Directory.{Path, Directory, after_create, after_rename, without_file, folder_made, update_file};
 
 use raft_env::FsFault;
 
@@ -9,7 +9,7 @@ use raft_env::FsFault;
 /// the calls that were answered with `Ok` were to make of the files, and an implementation notes
 /// each there once it was carried out.
 pub trait Disk: Send + Sync {
-    /// A file that is open to be changed.
+    /// A file that is open to be changed. It means what stands at its path when it is used.
     type File: Send + Drop;
 
     /// The files that were found, after each call that was answered with `Ok`.
@@ -27,9 +27,22 @@ pub trait Disk: Send + Sync {
     fn create(&mut self, path: &str) -> Result<(), FsFault>
         ensures ok { OnOk result (told self.new ≡ after_create path.now (told self.old)) };
 
+    /// Deletes a file, whose name a crash doesn't bring back.
+    fn delete(&mut self, path: &str) -> Result<(), FsFault>
+        ensures ok { OnOk result (told self.new ≡ without_file path.now (told self.old)) };
+
+    /// Moves a file over what stands at the other path; a crash leaves the new names.
+    fn rename(&mut self, from: &str, to: &str) -> Result<(), FsFault>
+        ensures ok { OnOk result (told self.new
+            ≡ after_rename from.now to.now (told self.old)) };
+
     /// Makes a folder, with those on the way to it, whose names a crash leaves.
     fn make_dir(&mut self, path: &str) -> Result<(), FsFault>
         ensures ok { OnOk result (told self.new ≡ folder_made path.now (told self.old)) };
+
+    /// The path of a file.
+    fn path_of<'a>(&self, file: &'a Self::File) -> &'a str
+        ensures value { result.now ≡ file_path file.now };
 
     /// Opens a file that stands.
     fn open(&self, path: &str) -> Result<Self::File, FsFault>

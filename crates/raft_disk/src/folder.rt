@@ -9,7 +9,7 @@ use crate::told::{Call, Told};
 use raft_base::History;
 use raft_env::{FsFault, IoKind, parent};
 use raft_memory::MemoryFileSystem;
-use std::fs::{File, OpenOptions};
+use std::fs::{self, File, OpenOptions};
 use std::io;
 use std::os::unix::fs::FileExt;
 
@@ -19,6 +19,8 @@ pub struct Folder {
     pub(crate) rt: HostRuntime,
     pub(crate) path: String,
     lock: File,
+    /// How often a file was deleted or renamed.
+    renamed: u64,
     told: Told,
     /// The files that its opening found, for clauses alone.
     found: History<MemoryFileSystem>,
@@ -29,6 +31,8 @@ pub struct Folder {
 pub struct FolderFile {
     file: File,
     path: String,
+    /// The folder's count when it was opened.
+    renamed: u64,
 }
 
 impl Folder {
@@ -39,6 +43,7 @@ impl Folder {
             rt,
             path,
             lock,
+            renamed: 0,
             told: Told::after(&Call::None),
             found: History::new(),
         }
@@ -52,6 +57,7 @@ impl Folder {
             rt: self.rt,
             path: self.path,
             lock: self.lock,
+            renamed: self.renamed,
             told: Told::after(&Call::None),
             found: History::new().with(files),
         }
@@ -71,6 +77,26 @@ impl Folder {
         sync_folder(&self.rt, folder.as_str())
     }
 
+    fn remove_file(&self, path: &str) -> io::Result<()> {
+        let place = self.place(path)?;
+        fs::remove_file(&self.rt, place.as_str())?;
+        let folder = self.place(parent(path))?;
+        sync_folder(&self.rt, folder.as_str())
+    }
+
+    fn rename_file(&self, from: &str, to: &str) -> io::Result<()> {
+        let old = self.place(from)?;
+        let new = self.place(to)?;
+        fs::rename(&self.rt, old.as_str(), new.as_str())?;
+        let folder = self.place(parent(to))?;
+        sync_folder(&self.rt, folder.as_str())?;
+        if parent(from) == parent(to) {
+            return Ok(());
+        }
+        let folder = self.place(parent(from))?;
+        sync_folder(&self.rt, folder.as_str())
+    }
+
     fn make_folder(&self, path: &str) -> io::Result<()> {
         let place = self.place(path)?;
         make_folders(&self.rt, place.as_str())
@@ -84,7 +110,29 @@ impl Folder {
         options.read(true).write(true);
         let file = options.open(&self.rt, place.as_str())?;
         let path = String::from_str(self.rt.alloc(), path)?;
-        Ok(FolderFile { file, path })
+        let renamed = self.renamed;
+        Ok(FolderFile {
+            file,
+            path,
+            renamed,
+        })
+    }
+
+    // Another file may stand at the path since the file was opened.
+    fn reopen(&self, file: &mut FolderFile) -> Result<(), FsFault>
+        ensures path { string_bytes file.new.path ≡ string_bytes file.old.path }
+    {
+        if file.renamed == self.renamed {
+            return Ok(());
+        }
+        match self.open_file(file.path.as_str()) {
+            Ok(opened) => {
+                file.file = opened.file;
+                file.renamed = self.renamed;
+                Ok(())
+            }
+            Err(e) => Err(fault_of(&e)),
+        }
     }
 }
 
@@ -135,12 +183,34 @@ impl Disk for Folder {
         Ok(())
     }
 
+    fn delete(&mut self, path: &str) -> Result<(), FsFault> {
+        self.renamed = self.renamed.wrapping_add(1);
+        if let Err(e) = self.remove_file(path) {
+            return Err(fault_of(&e));
+        }
+        self.told = Told::after(&Call::Delete(&self.told, path));
+        Ok(())
+    }
+
+    fn rename(&mut self, from: &str, to: &str) -> Result<(), FsFault> {
+        self.renamed = self.renamed.wrapping_add(1);
+        if let Err(e) = self.rename_file(from, to) {
+            return Err(fault_of(&e));
+        }
+        self.told = Told::after(&Call::Rename(&self.told, from, to));
+        Ok(())
+    }
+
     fn make_dir(&mut self, path: &str) -> Result<(), FsFault> {
         if let Err(e) = self.make_folder(path) {
             return Err(fault_of(&e));
         }
         self.told = Told::after(&Call::MakeFolder(&self.told, path));
         Ok(())
+    }
+
+    fn path_of<'a>(&self, file: &'a FolderFile) -> &'a str {
+        file.path.as_str()
     }
 
     fn open(&self, path: &str) -> Result<FolderFile, FsFault> {
@@ -151,6 +221,7 @@ impl Disk for Folder {
     }
 
     fn write(&mut self, file: &mut FolderFile, at: usize, bytes: &[u8]) -> Result<(), FsFault> {
+        self.reopen(file)?;
         if let Err(e) = file.file.write_all_at(bytes, at as u64) {
             return Err(fault_of(&e));
         }
@@ -159,6 +230,7 @@ impl Disk for Folder {
     }
 
     fn truncate(&mut self, file: &mut FolderFile, size: usize) -> Result<(), FsFault> {
+        self.reopen(file)?;
         if let Err(e) = file.cut(size as u64) {
             return Err(fault_of(&e));
         }
@@ -170,6 +242,7 @@ impl Disk for Folder {
         let Some(end) = at.checked_add(size) else {
             return Err(FsFault::Io(IoKind::NoSpace));
         };
+        self.reopen(file)?;
         if let Err(e) = file.lengthen(end as u64) {
             return Err(fault_of(&e));
         }
@@ -178,6 +251,7 @@ impl Disk for Folder {
     }
 
     fn sync(&mut self, file: &mut FolderFile) -> Result<(), FsFault> {
+        self.reopen(file)?;
         if let Err(e) = file.file.sync_data() {
             return Err(fault_of(&e));
         }

@@ -113,6 +113,35 @@ impl<D: Disk, F: FileSystem> FileSystem for Mirror<D, F> {
         Ok(DiskHandle { inner, path: copy })
     }
 
+    fn delete(&mut self, path: &str) -> Result<(), FsFault> {
+        if self.failed || !self.image.is_file(path) {
+            return Err(self.refused.count(refusal(self.failed)));
+        }
+        self.failed = true;
+        if let Err(fault) = self.disk.delete(path) {
+            return Err(self.refused.count(fault));
+        }
+        self.image.delete(path)?;
+        self.failed = false;
+        Ok(())
+    }
+
+    fn rename(&mut self, from: &str, to: &str) -> Result<(), FsFault> {
+        if self.failed || !self.disk.can_hold_file(to) || self.image.is_dir(to) {
+            return Err(self.refused.count(FsFault::Io(IoKind::Other)));
+        }
+        if !self.image.is_file(from) || !self.image.is_dir(parent(to)) {
+            return Err(self.refused.count(FsFault::Io(IoKind::NotFound)));
+        }
+        self.failed = true;
+        if let Err(fault) = self.disk.rename(from, to) {
+            return Err(self.refused.count(fault));
+        }
+        self.image.rename(from, to)?;
+        self.failed = false;
+        Ok(())
+    }
+
     fn new_reader(&mut self, handle: &DiskHandle<F>) -> Result<DiskReader<F>, FsFault> {
         let inner = self.image.new_reader(&handle.inner)?;
         Ok(DiskReader { inner })
@@ -150,8 +179,8 @@ impl<D: Disk, F: FileSystem> FileSystem for Mirror<D, F> {
             (mirror_refusals self.new) }
         ensures failed { StaysFailed self.old self.new result }
     {
-        if self.failed {
-            return Err(self.refused.count(FsFault::Io(IoKind::Other)));
+        if self.failed || !self.image.is_file(self.disk.path_of(&writer.file)) {
+            return Err(self.refused.count(refusal(self.failed)));
         }
         self.failed = true;
         self.image.write(&mut writer.inner, at, bytes)?;
@@ -176,8 +205,8 @@ impl<D: Disk, F: FileSystem> FileSystem for Mirror<D, F> {
             (mirror_refusals self.new) }
         ensures failed { StaysFailed self.old self.new result }
     {
-        if self.failed {
-            return Err(self.refused.count(FsFault::Io(IoKind::Other)));
+        if self.failed || !self.image.is_file(self.disk.path_of(&writer.file)) {
+            return Err(self.refused.count(refusal(self.failed)));
         }
         self.failed = true;
         self.image.truncate(&mut writer.inner, size)?;
@@ -207,8 +236,8 @@ impl<D: Disk, F: FileSystem> FileSystem for Mirror<D, F> {
             (mirror_refusals self.new) }
         ensures failed { StaysFailed self.old self.new result }
     {
-        if self.failed {
-            return Err(self.refused.count(FsFault::Io(IoKind::Other)));
+        if self.failed || !self.image.is_file(self.disk.path_of(&writer.file)) {
+            return Err(self.refused.count(refusal(self.failed)));
         }
         self.failed = true;
         self.image.allocate(&mut writer.inner, at, size)?;
@@ -233,8 +262,8 @@ impl<D: Disk, F: FileSystem> FileSystem for Mirror<D, F> {
             (mirror_refusals self.new) }
         ensures failed { StaysFailed self.old self.new result }
     {
-        if self.failed {
-            return Err(self.refused.count(FsFault::Io(IoKind::Other)));
+        if self.failed || !self.image.is_file(self.disk.path_of(&writer.file)) {
+            return Err(self.refused.count(refusal(self.failed)));
         }
         self.failed = true;
         if let Err(fault) = self.disk.sync(&mut writer.file) {
@@ -297,6 +326,15 @@ impl<D: Disk, F: FileSystem> FileSystem for Mirror<D, F> {
 
     fn read_refusals(&self, reader: &DiskReader<F>) -> u64 {
         self.image.read_refusals(&reader.inner)
+    }
+}
+
+// Why no change is made: one failed, or no file stands at the path.
+fn refusal(failed: bool) -> FsFault {
+    if failed {
+        FsFault::Io(IoKind::Other)
+    } else {
+        FsFault::Io(IoKind::NotFound)
     }
 }
 

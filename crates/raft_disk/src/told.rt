@@ -25,6 +25,8 @@ unsafe impl Sync for Told {}
 pub(crate) enum Call<'a> {
     None,
     Create(&'a Told, &'a str),
+    Delete(&'a Told, &'a str),
+    Rename(&'a Told, &'a str, &'a str),
     MakeFolder(&'a Told, &'a str),
     Write(&'a Told, &'a str, usize, &'a [u8]),
     Truncate(&'a Told, &'a str, usize),
