@@ -1,10 +1,9 @@
 use Rattle.std.proofs.Common.{◌≡◌, ◌∙◌, ◌∷◌, [], List, Some, ap, inl, inr, refl, rules, sym}
 use Rattle.raft_records.specs.Item.{Batch}
-use Rattle.raft_log_engine.specs.Crash.{pending_of, written_batch}
 use Rattle.raft_log_engine.specs.Durability.{durability_of}
 use Rattle.raft_log_engine.specs.Engine.{answer_now, answered_of, contents_of, directory_of, durable_of, folder_of, moments_of, unsynced_of}
-use Rattle.raft_script.specs.Run.{batch_of_acts, compaction_in, pending_batches, written_batches}
-use Rattle.raft_script.proofs.DurabilityLemmas.{compaction_progress, moments_of_batch, written_progress}
+use Rattle.raft_script.specs.Run.{batch_of_acts, pending_batches, written_batches}
+use Rattle.raft_script.proofs.DurabilityLemmas.{moments_of_batch, written_progress}
 use Rattle.raft_script.proofs.RunLemmas.{write_answered}
 use Rattle.raft_script.proofs.runs.step.Goals as goal
 
@@ -48,6 +47,16 @@ returns-in-Err-clause-progress g c =
       answers = inl (search rules, refl {a = c.args.engine.now});
     })
 
+pub returns-in-Get-clause-progress : goal.returns-in-Get-clause-progress
+returns-in-Get-clause-progress g c = rw c.in-Get.is (record {
+  flight = [];
+  may_be = refl;
+  given = [];
+  is_given = refl;
+  progress = inl (record { none = refl; covers_none = refl; failed = refl; durable = refl; unsynced = refl });
+  answers = inl (tt, refl {a = c.args.engine.now});
+})
+
 pub returns-in-Sync-clause-progress : goal.returns-in-Sync-clause-progress
 returns-in-Sync-clause-progress g c = rw c.in-Sync.is (record {
   flight = [];
@@ -65,19 +74,3 @@ returns-in-Ok-clause-failed g c = rw c.in-Write.is (record {
   refused = λ failed. search rules;
   cause = λ alive fails. search rules;
 })
-
-pub returns-in-CompactTo-clause-progress : goal.returns-in-CompactTo-clause-progress
-returns-in-CompactTo-clause-progress g c =
-    let e = c.args.engine.now in
-    let m = contents_of e in
-    let group = c.in-CompactTo.group in
-    let index = c.in-CompactTo.index in
-    let compaction = c.compact_to.ensures in
-    rw c.in-CompactTo.is (record {
-      flight = pending_of m (compaction_in m group index);
-      may_be = refl;
-      given = written_batch (compaction_in m group index);
-      is_given = λ stands. refl;
-      progress = compaction_progress m group index c.compact_to.result (pending_of m (compaction_in m group index)) (durability_of e) (durability_of c.compact_to.new.self) compaction.progress;
-      answers = inr (record { noted = compaction.answered; moments = λ alive. compaction.any_moment; rests = λ failed. (compaction.unchanged failed).moments });
-    })
