@@ -12,3 +12,4 @@ pub mod HeldLemmas
 pub mod FaultLemmas
 pub mod NumberedLemmas
 pub mod ImageLemmas
+pub mod FetchLemmas
