@@ -1,4 +1,4 @@
-use Rattle.std.proofs.Common.{◌≡◌, ◌++◌, List, ℕ}
+use Rattle.std.proofs.Common.{◌≡◌, ◌++◌}
 use Rattle.raft_env.specs.Moments.{OnlyReads}
 use Rattle.raft_env.specs.Refusal.{NoFewer}
 use Rattle.raft_records.specs.Places.{entries_in}

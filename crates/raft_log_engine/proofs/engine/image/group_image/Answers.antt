@@ -1,10 +1,10 @@
-use Rattle.std.proofs.Common.{◌≡◌, ◌∙◌, List, ℕ, Option, ap, refl, sym, subst}
+use Rattle.std.proofs.Common.{◌∙◌, Option, ap, refl, sym, subst}
 use Rattle.std.specs.Map.{lookup}
 use Rattle.std.specs.Str.{bytes_eq}
 use Rattle.raft_records.specs.Places.{entries_in}
 use Rattle.raft_tables.specs.Listing.{IsListing, listed}
 use Rattle.raft_tables.specs.Table.{TableView, value_at}
-use Rattle.raft_tables.specs.Tables.{or_empty, tables_of}
+use Rattle.raft_tables.specs.Tables.{or_empty}
 use Rattle.raft_log_engine.specs.Image.{entries_of}
 use Rattle.raft_pipes.specs.Blocks.{blocks_now}
 use Rattle.raft_log_engine.proofs.engine.image.group_image.Goals as goal
