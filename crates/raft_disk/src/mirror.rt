@@ -114,8 +114,11 @@ impl<D: Disk, F: FileSystem> FileSystem for Mirror<D, F> {
     }
 
     fn delete(&mut self, path: &str) -> Result<(), FsFault> {
-        if self.failed || !self.image.is_file(path) {
-            return Err(self.refused.count(refusal(self.failed)));
+        if self.failed {
+            return Err(self.refused.count(FsFault::Io(IoKind::Other)));
+        }
+        if !self.image.is_file(path) {
+            return Err(self.refused.count(FsFault::Io(IoKind::NotFound)));
         }
         self.failed = true;
         if let Err(fault) = self.disk.delete(path) {
@@ -179,8 +182,11 @@ impl<D: Disk, F: FileSystem> FileSystem for Mirror<D, F> {
             (mirror_refusals self.new) }
         ensures failed { StaysFailed self.old self.new result }
     {
-        if self.failed || !self.image.is_file(self.disk.path_of(&writer.file)) {
-            return Err(self.refused.count(refusal(self.failed)));
+        if self.failed {
+            return Err(self.refused.count(FsFault::Io(IoKind::Other)));
+        }
+        if !self.image.is_file(self.disk.path_of(&writer.file)) {
+            return Err(self.refused.count(FsFault::Io(IoKind::NotFound)));
         }
         self.failed = true;
         self.image.write(&mut writer.inner, at, bytes)?;
@@ -205,8 +211,11 @@ impl<D: Disk, F: FileSystem> FileSystem for Mirror<D, F> {
             (mirror_refusals self.new) }
         ensures failed { StaysFailed self.old self.new result }
     {
-        if self.failed || !self.image.is_file(self.disk.path_of(&writer.file)) {
-            return Err(self.refused.count(refusal(self.failed)));
+        if self.failed {
+            return Err(self.refused.count(FsFault::Io(IoKind::Other)));
+        }
+        if !self.image.is_file(self.disk.path_of(&writer.file)) {
+            return Err(self.refused.count(FsFault::Io(IoKind::NotFound)));
         }
         self.failed = true;
         self.image.truncate(&mut writer.inner, size)?;
@@ -236,8 +245,11 @@ impl<D: Disk, F: FileSystem> FileSystem for Mirror<D, F> {
             (mirror_refusals self.new) }
         ensures failed { StaysFailed self.old self.new result }
     {
-        if self.failed || !self.image.is_file(self.disk.path_of(&writer.file)) {
-            return Err(self.refused.count(refusal(self.failed)));
+        if self.failed {
+            return Err(self.refused.count(FsFault::Io(IoKind::Other)));
+        }
+        if !self.image.is_file(self.disk.path_of(&writer.file)) {
+            return Err(self.refused.count(FsFault::Io(IoKind::NotFound)));
         }
         self.failed = true;
         self.image.allocate(&mut writer.inner, at, size)?;
@@ -262,8 +274,11 @@ impl<D: Disk, F: FileSystem> FileSystem for Mirror<D, F> {
             (mirror_refusals self.new) }
         ensures failed { StaysFailed self.old self.new result }
     {
-        if self.failed || !self.image.is_file(self.disk.path_of(&writer.file)) {
-            return Err(self.refused.count(refusal(self.failed)));
+        if self.failed {
+            return Err(self.refused.count(FsFault::Io(IoKind::Other)));
+        }
+        if !self.image.is_file(self.disk.path_of(&writer.file)) {
+            return Err(self.refused.count(FsFault::Io(IoKind::NotFound)));
         }
         self.failed = true;
         if let Err(fault) = self.disk.sync(&mut writer.file) {
@@ -326,15 +341,6 @@ impl<D: Disk, F: FileSystem> FileSystem for Mirror<D, F> {
 
     fn read_refusals(&self, reader: &DiskReader<F>) -> u64 {
         self.image.read_refusals(&reader.inner)
-    }
-}
-
-// Why no change is made: one failed, or no file stands at the path.
-fn refusal(failed: bool) -> FsFault {
-    if failed {
-        FsFault::Io(IoKind::Other)
-    } else {
-        FsFault::Io(IoKind::NotFound)
     }
 }
 
