@@ -44,7 +44,7 @@ impl<D: Disk, F: FileSystem> FileSystem for Mirror<D, F> {
     ghost use Rattle.raft_env.specs.Refusal.{CountsRefusalOf, added_count};
     ghost use Rattle.raft_disk.specs.Counted.{refusals_in};
     ghost use Rattle.raft_disk.specs.Mirror.{StaysFailed, mirror_directory, mirror_moments, mirror_refusals};
-    ghost use Rattle.raft_env.specs.Directory.{HasFile, IsAllocating, IsMakingFolder, IsOneOf, IsTruncating, IsWriting, after_create, folder_made, update_file};
+    ghost use Rattle.raft_env.specs.Directory.{HasFile, IsAllocating, IsMakingFolder, IsOneOf, IsTruncating, IsWriting, after_create, after_rename, folder_made, update_file, without_file};
     ghost use Rattle.raft_env.specs.Moments.{MovesBy};
     ghost use Rattle.raft_env.specs.Outcomes.{file_after_resize, file_after_write, overlay, pad_to, synced_of};
 
@@ -113,7 +113,17 @@ impl<D: Disk, F: FileSystem> FileSystem for Mirror<D, F> {
         Ok(DiskHandle { inner, path: copy })
     }
 
-    fn delete(&mut self, path: &str) -> Result<(), FsFault> {
+    fn delete(&mut self, path: &str) -> Result<(), FsFault>
+        ensures value { OnOk result (HasFile (mirror_directory self.old) path.now) }
+        ensures ok { OnOk result (mirror_directory self.new
+            ≡ without_file path.now (mirror_directory self.old)) }
+        ensures err { OnErr result (mirror_directory self.new ≡ mirror_directory self.old) }
+        ensures any_moment { MovesBy mirror_directory mirror_moments
+            (λ old. IsOneOf old (without_file path.now old)) self.old self.new }
+        ensures cause { CountsRefusalOf result (mirror_refusals self.old)
+            (mirror_refusals self.new) }
+        ensures failed { StaysFailed self.old self.new result }
+    {
         if self.failed {
             return Err(self.refused.count(FsFault::Io(IoKind::Other)));
         }
@@ -129,7 +139,17 @@ impl<D: Disk, F: FileSystem> FileSystem for Mirror<D, F> {
         Ok(())
     }
 
-    fn rename(&mut self, from: &str, to: &str) -> Result<(), FsFault> {
+    fn rename(&mut self, from: &str, to: &str) -> Result<(), FsFault>
+        ensures value { OnOk result (HasFile (mirror_directory self.old) from.now) }
+        ensures ok { OnOk result (mirror_directory self.new
+            ≡ after_rename from.now to.now (mirror_directory self.old)) }
+        ensures err { OnErr result (mirror_directory self.new ≡ mirror_directory self.old) }
+        ensures any_moment { MovesBy mirror_directory mirror_moments
+            (λ old. IsOneOf old (after_rename from.now to.now old)) self.old self.new }
+        ensures cause { CountsRefusalOf result (mirror_refusals self.old)
+            (mirror_refusals self.new) }
+        ensures failed { StaysFailed self.old self.new result }
+    {
         if self.failed || !self.disk.can_hold_file(to) || self.image.is_dir(to) {
             return Err(self.refused.count(FsFault::Io(IoKind::Other)));
         }
