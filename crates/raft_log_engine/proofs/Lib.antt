@@ -1,3 +1,4 @@
+pub mod CompactLemmas
 pub mod ContentsLemmas
 pub mod TableLemmas
 pub mod ValidityLemmas
