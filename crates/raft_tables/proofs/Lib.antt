@@ -9,5 +9,3 @@ pub mod SpanLemmas
 pub mod ValidityLemmas
 pub mod PlacesLemmas
 pub mod AppliedLemmas
-pub mod ScratchA
-pub mod ScratchB
