@@ -1,7 +1,9 @@
 -- A folder may go to another thread and be shared.
 use denote.RattleType.{RattleType}
 use denote.Struct.Declared.{shape}
-use denote.Param.Send.{IsSend, IsSync, AllSend, AllSync, sendable, owning_send, part_keyless, recorded_send, recorded_sync, struct_send, struct_sync}
+use denote.Param.Send.{IsSend, IsSync, AllSend, AllSync, sendable}
+use denote.Param.Send.{owning_send, part_keyless}
+use denote.Param.Send.{recorded_send, recorded_sync, struct_send, struct_sync}
 use Rattle.std.proofs.Crossing as items
 use Rattle.std.specs.contracts.fs.File as file
 use Rattle.raft_memory.proofs.Sent.{memory_send}
@@ -41,13 +43,29 @@ history_send : (A : RattleType) → IsSend A → IsSend (history.the_row A)
 history_send A a = owning_send (history.the_type A) (search sendable, tt) (λ d. tt) (λ k x w. tt)
 
 history_sync : (A : RattleType) → IsSend A → IsSync (history.the_row A)
-history_sync A a = record { shared = λ d b o κ q. part_keyless (history.the_row A) (history_send A a) q d b o }
+history_sync A a = record {
+  shared = λ d b o κ q. part_keyless (history.the_row A) (history_send A a) q d b o;
+}
 
 pub folder_send : IsSend folder.the_row
-folder_send = search (sendable, items.crosses, told_field_send, file_field_send, history_send, memory_send) depth 20
+folder_send = search (
+  sendable,
+  items.crosses,
+  told_field_send,
+  file_field_send,
+  history_send,
+  memory_send,
+) depth 20
 
 pub folder_sync : IsSync folder.the_row
-folder_sync = search (sendable, items.crosses, told_field_send, told_field_sync, file_field_send, file_field_sync, history_send, history_sync, memory_send) depth 20
+folder_sync = search (
+  sendable,
+  items.crosses,
+  told_field_sync,
+  file_field_sync,
+  history_sync,
+  memory_send,
+) depth 20
 
 refusals_field_send : IsSend (refusals.the_field).row
 refusals_field_send = search (sendable, items.crosses, history_send) depth 20
@@ -56,15 +74,20 @@ refusals_field_sync : IsSync (refusals.the_field).row
 refusals_field_sync = search (sendable, items.crosses, history_send, history_sync) depth 20
 
 -- .. and so may a mirror of a disk and an image that may
-module _ (D F X H R W : RattleType) (d : DiskGhosts D.Denot X.Denot) (g : FileGhosts F.Denot H.Denot R.Denot W.Denot) where
+module _ (D F X H R W : RattleType) (d : DiskGhosts D.Denot X.Denot)
+    (g : FileGhosts F.Denot H.Denot R.Denot W.Denot) where
   parts_send : IsSend D → IsSend F → AllSend (shape (mirror.the_type D F X H R W d g)).fields
-  parts_send a b = (search sendable depth 20, (a, (b, (refusals_field_send, (search sendable, tt)))))
+  parts_send a b =
+      (search sendable depth 20, (a, (b, (refusals_field_send, (search sendable, tt)))))
 
   parts_sync : IsSync D → IsSync F → AllSync (shape (mirror.the_type D F X H R W d g)).fields
-  parts_sync a b = (search sendable depth 20, (a, (b, (refusals_field_sync, (search sendable, tt)))))
+  parts_sync a b =
+      (search sendable depth 20, (a, (b, (refusals_field_sync, (search sendable, tt)))))
 
   pub mirror_send : IsSend D → IsSend F → IsSend (mirror.the_row D F X H R W d g)
-  mirror_send a b = recorded_send _ _ _ (mirror.the_type D F X H R W d g).to_one (struct_send (shape (mirror.the_type D F X H R W d g)) (parts_send a b))
+  mirror_send a b = recorded_send _ _ _ (mirror.the_type D F X H R W d g).to_one
+      (struct_send (shape (mirror.the_type D F X H R W d g)) (parts_send a b))
 
   pub mirror_sync : IsSync D → IsSync F → IsSync (mirror.the_row D F X H R W d g)
-  mirror_sync a b = recorded_sync _ _ _ (mirror.the_type D F X H R W d g).to_one (struct_sync (shape (mirror.the_type D F X H R W d g)) (parts_sync a b))
+  mirror_sync a b = recorded_sync _ _ _ (mirror.the_type D F X H R W d g).to_one
+      (struct_sync (shape (mirror.the_type D F X H R W d g)) (parts_sync a b))

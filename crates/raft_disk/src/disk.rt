@@ -6,8 +6,8 @@ ghost use Rattle.raft_env.specs.Directory.{Path, Directory, after_create, after_
 use raft_env::FsFault;
 
 /// What a mirror needs of a folder. No clause can say what an operating system did: `told` is what
-/// the calls that were answered with `Ok` were to make of the files, and an implementation notes each
-/// there once it was carried out.
+/// the calls that were answered with `Ok` were to make of the files, and an implementation notes
+/// each there once it was carried out.
 pub trait Disk: Send + Sync {
     /// A file that is open to be changed. It means what stands at its path when it is used.
     type File: Send + Drop;

@@ -13,7 +13,7 @@ use std::fs::{self, File, OpenOptions};
 use std::io;
 use std::os::unix::fs::FileExt;
 
-/// A folder that no other process has open as one, since this one holds the lock of its file `LOCK`.
+/// A folder that no other process has open as one: this one holds the lock of its file `LOCK`.
 #[derive(Drop)]
 pub struct Folder {
     pub(crate) rt: HostRuntime,

@@ -1,4 +1,4 @@
-//! Files in a folder of the operating system, after an image of them in memory that answers for them.
+//! Files in a folder of the operating system, with an image of them in memory that answers.
 #![tactic(auto)]
 
 mod disk;

@@ -1,5 +1,5 @@
 //! A file system that answers from an image and carries each change out on a disk.
-ghost use Rattle.std.specs.Prelude.{◌≡◌, false};
+ghost use Rattle.std.specs.Prelude.{◌≡◌, ◌+◌, ◌<◌, ◌^◌, false, true, length, take, IfOk, OnErr, OnOk};
 ghost use Rattle.std.specs.String.{string_bytes};
 ghost use Rattle.std.proofs.Props.{props};
 
@@ -8,9 +8,9 @@ use crate::refusals::DiskRefusals;
 use raft_env::{FileSystem, FsFault, IoKind, Permission, parent};
 use std::alloc::Global;
 
-/// Names are on the disk before the image has them, a change of bytes is in the image and then on the
-/// disk, and a sync on the disk and then in the image. Where a change fails, the disk may differ from
-/// the image, and no file can be changed any more.
+/// Names are on the disk before the image has them, a change of bytes is in the image and then on
+/// the disk, and a sync on the disk and then in the image. Where a change fails, the disk may differ
+/// from the image, and no file can be changed any more.
 #[derive(Drop)]
 pub struct Mirror<D: Disk, F: FileSystem> {
     alloc: Global,
@@ -41,8 +41,12 @@ pub struct DiskWriter<D: Disk, F: FileSystem> {
 }
 
 impl<D: Disk, F: FileSystem> FileSystem for Mirror<D, F> {
-    ghost use Rattle.raft_env.specs.Refusal.{added_count};
+    ghost use Rattle.raft_env.specs.Refusal.{CountsRefusalOf, added_count};
     ghost use Rattle.raft_disk.specs.Counted.{refusals_in};
+    ghost use Rattle.raft_disk.specs.Mirror.{StaysFailed, mirror_directory, mirror_moments, mirror_refusals};
+    ghost use Rattle.raft_env.specs.Directory.{HasFile, IsAllocating, IsMakingFolder, IsOneOf, IsTruncating, IsWriting, after_create, after_rename, folder_made, update_file, without_file};
+    ghost use Rattle.raft_env.specs.Moments.{MovesBy};
+    ghost use Rattle.raft_env.specs.Outcomes.{file_after_resize, file_after_write, overlay, pad_to, synced_of};
 
     type Handle = DiskHandle<F>;
 
@@ -68,7 +72,19 @@ impl<D: Disk, F: FileSystem> FileSystem for Mirror<D, F> {
 
     ghost now_counts = { λ m. F.now_counts m.image };
 
-    fn create(&mut self, path: &str) -> Result<DiskHandle<F>, FsFault> {
+    fn create(&mut self, path: &str) -> Result<DiskHandle<F>, FsFault>
+        ensures handle { IfOk result (λ h. (F.handle_path h.inner ≡ path.now) ×
+            (F.may_write h.inner ≡ true)) }
+        ensures ok { OnOk result (mirror_directory self.new ≡ after_create path.now
+            (mirror_directory self.old)) }
+        ensures err { OnErr result (mirror_directory self.new ≡ mirror_directory self.old) }
+        ensures any_moment { MovesBy mirror_directory mirror_moments (λ old. IsOneOf old
+            (after_create path.now old))
+            self.old self.new }
+        ensures cause { CountsRefusalOf result (mirror_refusals self.old)
+            (mirror_refusals self.new) }
+        ensures failed { StaysFailed self.old self.new result }
+    {
         if self.failed || !self.disk.can_hold_file(path) || self.image.is_dir(path) {
             return Err(self.refused.count(FsFault::Io(IoKind::Other)));
         }
@@ -97,9 +113,22 @@ impl<D: Disk, F: FileSystem> FileSystem for Mirror<D, F> {
         Ok(DiskHandle { inner, path: copy })
     }
 
-    fn delete(&mut self, path: &str) -> Result<(), FsFault> {
-        if self.failed || !self.image.is_file(path) {
-            return Err(self.refused.count(refusal(self.failed)));
+    fn delete(&mut self, path: &str) -> Result<(), FsFault>
+        ensures value { OnOk result (HasFile (mirror_directory self.old) path.now) }
+        ensures ok { OnOk result (mirror_directory self.new
+            ≡ without_file path.now (mirror_directory self.old)) }
+        ensures err { OnErr result (mirror_directory self.new ≡ mirror_directory self.old) }
+        ensures any_moment { MovesBy mirror_directory mirror_moments
+            (λ old. IsOneOf old (without_file path.now old)) self.old self.new }
+        ensures cause { CountsRefusalOf result (mirror_refusals self.old)
+            (mirror_refusals self.new) }
+        ensures failed { StaysFailed self.old self.new result }
+    {
+        if self.failed {
+            return Err(self.refused.count(FsFault::Io(IoKind::Other)));
+        }
+        if !self.image.is_file(path) {
+            return Err(self.refused.count(FsFault::Io(IoKind::NotFound)));
         }
         self.failed = true;
         if let Err(fault) = self.disk.delete(path) {
@@ -110,7 +139,17 @@ impl<D: Disk, F: FileSystem> FileSystem for Mirror<D, F> {
         Ok(())
     }
 
-    fn rename(&mut self, from: &str, to: &str) -> Result<(), FsFault> {
+    fn rename(&mut self, from: &str, to: &str) -> Result<(), FsFault>
+        ensures value { OnOk result (HasFile (mirror_directory self.old) from.now) }
+        ensures ok { OnOk result (mirror_directory self.new
+            ≡ after_rename from.now to.now (mirror_directory self.old)) }
+        ensures err { OnErr result (mirror_directory self.new ≡ mirror_directory self.old) }
+        ensures any_moment { MovesBy mirror_directory mirror_moments
+            (λ old. IsOneOf old (after_rename from.now to.now old)) self.old self.new }
+        ensures cause { CountsRefusalOf result (mirror_refusals self.old)
+            (mirror_refusals self.new) }
+        ensures failed { StaysFailed self.old self.new result }
+    {
         if self.failed || !self.disk.can_hold_file(to) || self.image.is_dir(to) {
             return Err(self.refused.count(FsFault::Io(IoKind::Other)));
         }
@@ -148,9 +187,26 @@ impl<D: Disk, F: FileSystem> FileSystem for Mirror<D, F> {
         writer: &mut DiskWriter<D, F>,
         at: usize,
         bytes: &[u8],
-    ) -> Result<(), FsFault> {
-        if self.failed || !self.image.is_file(self.disk.path_of(&writer.file)) {
-            return Err(self.refused.count(refusal(self.failed)));
+    ) -> Result<(), FsFault>
+        ensures writer { F.writer_path writer.new.inner ≡ F.writer_path writer.old.inner }
+        ensures value { OnOk result (HasFile (mirror_directory self.old)
+            (F.writer_path writer.old.inner)) }
+        ensures fits { OnOk result (at + length bytes.now < 2 ^ 63) }
+        ensures ok { OnOk result (mirror_directory self.new ≡ update_file
+            (F.writer_path writer.old.inner)
+            (λ f. file_after_write at bytes.now true (overlay f.now at bytes.now) f)
+            (mirror_directory self.old)) }
+        ensures any_moment { MovesBy mirror_directory mirror_moments
+            (IsWriting (F.writer_path writer.old.inner) at bytes.now) self.old self.new }
+        ensures cause { CountsRefusalOf result (mirror_refusals self.old)
+            (mirror_refusals self.new) }
+        ensures failed { StaysFailed self.old self.new result }
+    {
+        if self.failed {
+            return Err(self.refused.count(FsFault::Io(IoKind::Other)));
+        }
+        if !self.image.is_file(self.disk.path_of(&writer.file)) {
+            return Err(self.refused.count(FsFault::Io(IoKind::NotFound)));
         }
         self.failed = true;
         self.image.write(&mut writer.inner, at, bytes)?;
@@ -161,9 +217,25 @@ impl<D: Disk, F: FileSystem> FileSystem for Mirror<D, F> {
         Ok(())
     }
 
-    fn truncate(&mut self, writer: &mut DiskWriter<D, F>, size: usize) -> Result<(), FsFault> {
-        if self.failed || !self.image.is_file(self.disk.path_of(&writer.file)) {
-            return Err(self.refused.count(refusal(self.failed)));
+    fn truncate(&mut self, writer: &mut DiskWriter<D, F>, size: usize) -> Result<(), FsFault>
+        ensures writer { F.writer_path writer.new.inner ≡ F.writer_path writer.old.inner }
+        ensures value { OnOk result (HasFile (mirror_directory self.old)
+            (F.writer_path writer.old.inner)) }
+        ensures ok { OnOk result (mirror_directory self.new ≡ update_file
+            (F.writer_path writer.old.inner)
+            (λ f. file_after_resize (take size f.now) f) (mirror_directory self.old)) }
+        ensures any_moment { MovesBy mirror_directory mirror_moments (IsTruncating
+            (F.writer_path writer.old.inner) size)
+            self.old self.new }
+        ensures cause { CountsRefusalOf result (mirror_refusals self.old)
+            (mirror_refusals self.new) }
+        ensures failed { StaysFailed self.old self.new result }
+    {
+        if self.failed {
+            return Err(self.refused.count(FsFault::Io(IoKind::Other)));
+        }
+        if !self.image.is_file(self.disk.path_of(&writer.file)) {
+            return Err(self.refused.count(FsFault::Io(IoKind::NotFound)));
         }
         self.failed = true;
         self.image.truncate(&mut writer.inner, size)?;
@@ -179,9 +251,25 @@ impl<D: Disk, F: FileSystem> FileSystem for Mirror<D, F> {
         writer: &mut DiskWriter<D, F>,
         at: usize,
         size: usize,
-    ) -> Result<(), FsFault> {
-        if self.failed || !self.image.is_file(self.disk.path_of(&writer.file)) {
-            return Err(self.refused.count(refusal(self.failed)));
+    ) -> Result<(), FsFault>
+        ensures writer { F.writer_path writer.new.inner ≡ F.writer_path writer.old.inner }
+        ensures value { OnOk result (HasFile (mirror_directory self.old)
+            (F.writer_path writer.old.inner)) }
+        ensures fits { OnOk result (at + size < 2 ^ 63) }
+        ensures ok { OnOk result (mirror_directory self.new ≡ update_file
+            (F.writer_path writer.old.inner)
+            (λ f. file_after_resize (pad_to f.now (at + size)) f) (mirror_directory self.old)) }
+        ensures any_moment { MovesBy mirror_directory mirror_moments
+            (IsAllocating (F.writer_path writer.old.inner) (at + size)) self.old self.new }
+        ensures cause { CountsRefusalOf result (mirror_refusals self.old)
+            (mirror_refusals self.new) }
+        ensures failed { StaysFailed self.old self.new result }
+    {
+        if self.failed {
+            return Err(self.refused.count(FsFault::Io(IoKind::Other)));
+        }
+        if !self.image.is_file(self.disk.path_of(&writer.file)) {
+            return Err(self.refused.count(FsFault::Io(IoKind::NotFound)));
         }
         self.failed = true;
         self.image.allocate(&mut writer.inner, at, size)?;
@@ -192,9 +280,25 @@ impl<D: Disk, F: FileSystem> FileSystem for Mirror<D, F> {
         Ok(())
     }
 
-    fn sync(&mut self, writer: &mut DiskWriter<D, F>) -> Result<(), FsFault> {
-        if self.failed || !self.image.is_file(self.disk.path_of(&writer.file)) {
-            return Err(self.refused.count(refusal(self.failed)));
+    fn sync(&mut self, writer: &mut DiskWriter<D, F>) -> Result<(), FsFault>
+        ensures writer { F.writer_path writer.new.inner ≡ F.writer_path writer.old.inner }
+        ensures value { OnOk result (HasFile (mirror_directory self.old)
+            (F.writer_path writer.old.inner)) }
+        ensures ok { OnOk result (mirror_directory self.new
+            ≡ update_file (F.writer_path writer.old.inner) synced_of (mirror_directory self.old)) }
+        ensures err { OnErr result (mirror_directory self.new ≡ mirror_directory self.old) }
+        ensures any_moment { MovesBy mirror_directory mirror_moments
+            (λ old. IsOneOf old (update_file (F.writer_path writer.old.inner) synced_of old))
+            self.old self.new }
+        ensures cause { CountsRefusalOf result (mirror_refusals self.old)
+            (mirror_refusals self.new) }
+        ensures failed { StaysFailed self.old self.new result }
+    {
+        if self.failed {
+            return Err(self.refused.count(FsFault::Io(IoKind::Other)));
+        }
+        if !self.image.is_file(self.disk.path_of(&writer.file)) {
+            return Err(self.refused.count(FsFault::Io(IoKind::NotFound)));
         }
         self.failed = true;
         if let Err(fault) = self.disk.sync(&mut writer.file) {
@@ -218,7 +322,15 @@ impl<D: Disk, F: FileSystem> FileSystem for Mirror<D, F> {
         self.image.file_size(&handle.inner)
     }
 
-    fn make_dir(&mut self, path: &str) -> Result<(), FsFault> {
+    fn make_dir(&mut self, path: &str) -> Result<(), FsFault>
+        ensures ok { OnOk result (mirror_directory self.new ≡ folder_made path.now
+            (mirror_directory self.old)) }
+        ensures any_moment { MovesBy mirror_directory mirror_moments
+            (IsMakingFolder path.now) self.old self.new }
+        ensures cause { CountsRefusalOf result (mirror_refusals self.old)
+            (mirror_refusals self.new) }
+        ensures failed { StaysFailed self.old self.new result }
+    {
         if self.failed || !self.disk.can_hold_folder(path) {
             return Err(self.refused.count(FsFault::Io(IoKind::Other)));
         }
@@ -252,15 +364,6 @@ impl<D: Disk, F: FileSystem> FileSystem for Mirror<D, F> {
     }
 }
 
-// Why no change is made: one failed, or no file stands at the path.
-fn refusal(failed: bool) -> FsFault {
-    if failed {
-        FsFault::Io(IoKind::Other)
-    } else {
-        FsFault::Io(IoKind::NotFound)
-    }
-}
-
 impl<D: Disk, F: FileSystem> Mirror<D, F> {
     ghost use Rattle.raft_disk.specs.Mirror.{IsOnDisk, has_failed, mirror_directory, mirror_moments, mirror_refusals};
     ghost use Rattle.raft_env.specs.Refusal.{added_count, no_refusals};
@@ -283,8 +386,8 @@ impl<D: Disk, F: FileSystem> Mirror<D, F> {
         }
     }
 
-    /// Whether a change failed, so that the disk may differ from the files and no file can be changed
-    /// any more. Until then the disk carried out each change that the files had.
+    /// Whether a change failed, so that the disk may differ from the files and no file can be
+    /// changed any more. Until then the disk carried out each change that the files had.
     pub fn has_failed(&self) -> bool
         ensures value { result ≡ has_failed self.now }
         ensures ok { result ≡ false → IsOnDisk self.now }

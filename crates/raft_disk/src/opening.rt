@@ -58,8 +58,8 @@ impl DiskFileSystem {
 
     /// Opens a folder, which is made where it is missing, with those on the way to it. Each file is
     /// synced before it is read, so that a crash leaves what was found. It fails without a change,
-    /// but for new folders and the lock's file, where the folder is open already, where a file stands
-    /// in its place, and where a file in it can't be read or has a second path.
+    /// but for new folders and the lock's file, where the folder is open already, where a file
+    /// stands in its place, and where a file in it can't be read or has a second path.
     pub fn open(rt: HostRuntime, path: &str) -> Result<DiskFileSystem, OpenFault>
         ensures any_moment { IfOk result (λ m. mirror_moments m ≡ mirror_directory m ∷ []) }
         ensures cause { IfOk result (λ m. mirror_refusals m ≡ no_refusals) }

@@ -4,9 +4,12 @@ pub mod ValidityLemmas
 pub mod CrashLemmas
 pub mod EngineLemmas
 pub mod DurabilityLemmas
+pub mod GroupLemmas
+pub mod GroupRunLemmas
 pub mod OpeningLemmas
 pub mod PlacedLemmas
 pub mod HeldLemmas
 pub mod FaultLemmas
 pub mod NumberedLemmas
 pub mod ImageLemmas
+pub mod FetchLemmas

@@ -4,6 +4,7 @@ pub mod Contents
 pub mod Crash
 pub mod Cause
 pub mod Engine
+pub mod Group
 pub mod Durability
 pub mod Opening
 pub mod Write

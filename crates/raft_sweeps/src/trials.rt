@@ -39,13 +39,13 @@ const ENTRIES: [Plan; 5] = [
     Plan::Write(&[Change::Entries(3, 3, 3, b"x")], false),
 ];
 
-/// A record of three entries of three bytes is 16 + 9 + 4 + 10 + 4 bytes long, one of one entry 16 + 3 + 4 + 8 + 4.
+/// A record of three entries of three bytes is 16 + 9 + 4 + 8 + 4 bytes long, one of one entry 16 + 3 + 4 + 6 + 4.
 const ENTRY_ANSWERS: [Answer; 5] = [
-    Answer::Size(43),
+    Answer::Size(41),
     Answer::Fails(5),
-    Answer::Size(35),
+    Answer::Size(33),
     Answer::Count(1),
-    Answer::Size(35),
+    Answer::Size(33),
 ];
 
 /// Operations, a stop, what a crash is to leave, the answers, and what is found or the code of the refusal.

@@ -1,4 +1,4 @@
-//! Does one command on a log in a folder of the operating system. `raftctl --help` lists the commands.
+//! Does one command on a log in a folder. `raftctl --help` lists the commands.
 #![tactic(auto)]
 
 mod arguments;

@@ -11,8 +11,8 @@ const GROUP: u64 = 1;
 /// After how many keys progress is printed.
 const PROGRESS: u64 = 100_000;
 
-/// Puts the keys below a number, each with a value of so many bytes, syncs after so many of them and
-/// at the end, or never for 0, and prints the last key that each sync covers.
+/// Puts the keys below a number, each with a value of so many bytes, syncs after so many of them
+/// and at the end, or never for 0, and prints the last key that each sync covers.
 pub(crate) fn load<F: FileSystem + Drop>(
     rt: &HostRuntime,
     files: F,
