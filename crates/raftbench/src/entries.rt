@@ -88,7 +88,13 @@ pub(crate) fn append_entry_fetch<R: Host, F: FileSystem + Drop>(
     let sum = read_each(&mut engine, &places)?;
     let start = report(rt, "  entry", start, count, load.bytes())?;
     let fetched = fetch_each(rt.alloc(), &mut engine, &places)?;
-    report(rt, "  fetch", start, fetched, fetched.saturating_mul(load.size as u64))?;
+    report(
+        rt,
+        "  fetch",
+        start,
+        fetched,
+        fetched.saturating_mul(load.size as u64),
+    )?;
     println!(rt;
         "{name}: {count} entries, {len} bytes of log\n  \
          entry: checksum {sum:08x}\n  \
