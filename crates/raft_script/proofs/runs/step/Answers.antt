@@ -1,10 +1,11 @@
 use Rattle.std.proofs.Common.{◌≡◌, ◌∙◌, ◌∷◌, [], List, Some, ap, inl, inr, refl, rules, sym}
 use Rattle.raft_records.specs.Item.{Batch}
+use Rattle.raft_log_engine.specs.Crash.{pending_of, written_batch}
 use Rattle.raft_log_engine.specs.Durability.{durability_of}
-use Rattle.raft_log_engine.specs.Engine.{answer_now, answered_of, contents_of, directory_of, durable_of, folder_of, moments_of, unsynced_of}
-use Rattle.raft_script.specs.Run.{batch_of_acts, pending_batches, written_batches}
-use Rattle.raft_script.proofs.DurabilityLemmas.{moments_of_batch, written_progress}
-use Rattle.raft_script.proofs.RunLemmas.{write_answered}
+use Rattle.raft_log_engine.specs.Engine.{answer_now, answered_of, contents_of, directory_of, durable_of, folder_of, has_failed, moments_of, refusals_of, unsynced_of}
+use Rattle.raft_script.specs.Run.{batch_of_acts, compaction_in, pending_batches, written_batches}
+use Rattle.raft_script.proofs.DurabilityLemmas.{compaction_progress, moments_of_batch, written_progress}
+use Rattle.raft_script.proofs.RunLemmas.{compaction_answered, write_answered}
 use Rattle.raft_script.proofs.runs.step.Goals as goal
 
 pub returns-in-Ok-clause-value : goal.returns-in-Ok-clause-value
@@ -74,3 +75,25 @@ returns-in-Ok-clause-failed g c = rw c.in-Write.is (record {
   refused = λ failed. search rules;
   cause = λ alive fails. search rules;
 })
+
+pub returns-in-CompactTo-clause-value : goal.returns-in-CompactTo-clause-value
+returns-in-CompactTo-clause-value g c =
+    let compaction = c.compact_to.ensures in
+    let e = c.args.engine.now in
+    rw c.in-CompactTo.is (λ m same. compaction_answered m (contents_of e) c.in-CompactTo.group c.in-CompactTo.index (has_failed e) (folder_of e) (refusals_of e) (refusals_of c.compact_to.new.self) same c.compact_to.result compaction.value compaction.failed compaction.cause)
+
+pub returns-in-CompactTo-clause-progress : goal.returns-in-CompactTo-clause-progress
+returns-in-CompactTo-clause-progress g c =
+    let e = c.args.engine.now in
+    let m = contents_of e in
+    let group = c.in-CompactTo.group in
+    let index = c.in-CompactTo.index in
+    let compaction = c.compact_to.ensures in
+    rw c.in-CompactTo.is (record {
+      flight = pending_of m (compaction_in m group index);
+      may_be = refl;
+      given = written_batch (compaction_in m group index);
+      is_given = λ stands. refl;
+      progress = compaction_progress m group index c.compact_to.result (pending_of m (compaction_in m group index)) (durability_of e) (durability_of c.compact_to.new.self) compaction.progress;
+      answers = inr (record { noted = compaction.answered; moments = λ alive. compaction.any_moment; rests = λ failed. (compaction.unchanged failed).moments });
+    })
