@@ -1,5 +1,5 @@
 -- The moments of operations on an engine, divided by its answers.
-use Rattle.std.proofs.Common.{◌≡◌, ◌⊎◌, ◌∙◌, true, false, List, [], ◌∷◌, ◌++◌, append_assoc, refl, sym, subst, ap, inl, inr}
+use Rattle.std.proofs.Common.{◌≡◌, ◌⊎◌, ◌∙◌, true, false, List, [], ◌∷◌, ◌++◌, append_assoc, refl, sym, subst, ap, arith, inl, inr}
 use Rattle.std.proofs.lemmas.Bool.{cases_Bool}
 use Rattle.raft_env.proofs.MomentsLemmas.{passes_weaker}
 use Rattle.raft_env.specs.Directory.{Directory, Path}
@@ -7,13 +7,13 @@ use Rattle.raft_env.specs.Moments.{HoldsThroughout}
 use Rattle.raft_env.specs.declared.env.FileSystem.{Ghosts}
 use Rattle.raft_log_engine.specs.Answered.{Answered, Snapshot}
 use Rattle.raft_log_engine.specs.Crash.{LeavesAllowed, LeavesAllowedFrom}
-use Rattle.raft_log_engine.specs.Durability.{Durability}
-use Rattle.raft_log_engine.specs.Engine.{answer_now, answered_of, durable_of, folder_of, snapshot_of, unsynced_of}
+use Rattle.raft_log_engine.specs.Durability.{Durability, HasOnlyRead}
+use Rattle.raft_log_engine.specs.Engine.{answer_now, answered_of, contents_of, durable_of, folder_of, has_failed, moments_of, snapshot_of, unsynced_of}
 use Rattle.raft_log_engine.specs.declared.engine.Engine.{Engine}
 use Rattle.raft_records.specs.Contents.{Contents, after_batches}
 use Rattle.raft_records.specs.Item.{Batch}
-use Rattle.raft_script.specs.Durability.{Answers, AreAllowedInside, IsAllowedInside, LeavesInside, PassesThrough, Progress, progress_after, progress_after_all, progress_from}
-use Rattle.raft_script.specs.Run.{IsFailing, IsGiven, IsUnnoted}
+use Rattle.raft_script.specs.Durability.{Answers, AreAllowedInside, Does, IsAllowedInside, LeavesInside, PassesThrough, Progress, progress_after, progress_after_all, progress_from}
+use Rattle.raft_script.specs.Run.{IsFailing, IsGiven, IsUnnoted, MayBeInFlight, accepted_of, is_covering}
 use Rattle.raft_script.specs.declared.operation.Op.{Op}
 use Rattle.raft_script.specs.declared.operation.Outcome.{Outcome}
 
@@ -56,12 +56,40 @@ module _ (folder : Path) (m : Contents) (p : Progress) (op : Op) (outcome : Outc
         record { given = given; added = all.added; is = all.is; inside = all.each; fails = fails; after = after }
   ]
 
+module _ {F H R W : Type 0} {g : Ghosts F H R W} (old new : Engine F H R W g) where
+  -- an engine that only read has no other moments, and stands or has failed as before
+  same_snapshot : HasOnlyRead old new → snapshot_of new ≡ snapshot_of old
+  same_snapshot read =
+      ap (λ (l : List Directory). let s : Snapshot = record { moments = l; failed = has_failed new } in s) read.moments
+      ∙ ap (λ (d : Durability). let s : Snapshot = record { moments = moments_of old; failed = d.failed } in s) read.state
+
+  -- what it has done
+  pub does_read : (op : Op) (outcome : Outcome) → IsUnnoted op outcome → HasOnlyRead old new → accepted_of (contents_of old) op outcome ≡ [] → is_covering op outcome ≡ false → MayBeInFlight (contents_of old) op [] → IsGiven (has_failed old) (contents_of old) op [] → Does op outcome old new
+  does_read op outcome unnoted read none covers_none flight given = record {
+    flight = [];
+    may_be = flight;
+    given = [];
+    is_given = given;
+    progress = inl (record {
+      none = none;
+      covers_none = covers_none;
+      failed = ap (λ (d : Durability). d.failed) read.state;
+      durable = ap (λ (d : Durability). d.durable) read.state;
+      unsynced = ap (λ (d : Durability). d.unsynced) read.state;
+    });
+    answers = inl (unnoted, read);
+  }
+
+-- an engine that isn't asked only read
+pub read_same : {F H R W : Type 0} {g : Ghosts F H R W} (e : Engine F H R W g) → HasOnlyRead e e
+read_same e = record { files = refl; moments = refl; refusals = (omega arith, omega arith); folder = refl; state = refl; known = λ group. refl; answered = refl; begun = refl }
+
 -- one operation more
 module _ {F H R W : Type 0} {g : Ghosts F H R W} (ops : List Op) (outcomes : List Outcome) (op : Op) (outcome : Outcome) (e old new : Engine F H R W g) (a : AreAllowedInside ops outcomes e old) (given flight : List Batch) where
-  pub allowed_more : (IsUnnoted op outcome × (new ≡ old)) ⊎ Answers given flight old new → (Answers given flight old new → IsAllowedInside (folder_of e) (durable_of e) (progress_after_all (durable_of e) (progress_from (unsynced_of e)) ops outcomes) op outcome (snapshot_of old) (answer_now given new))
+  pub allowed_more : (IsUnnoted op outcome × HasOnlyRead old new) ⊎ Answers given flight old new → (Answers given flight old new → IsAllowedInside (folder_of e) (durable_of e) (progress_after_all (durable_of e) (progress_from (unsynced_of e)) ops outcomes) op outcome (snapshot_of old) (answer_now given new))
       → AreAllowedInside (ops ++ op ∷ []) (outcomes ++ outcome ∷ []) e new
   allowed_more answers inside =
       through-append (folder_of e) (durable_of e) (snapshot_of old) (snapshot_of new) (answered_of old) (answered_of new) (op ∷ []) (outcome ∷ []) (progress_from (unsynced_of e)) (snapshot_of e) (answered_of e) ops outcomes a (elim answers [
-        | inl none ↦ inl (none.0, (ap snapshot_of none.1, ap answered_of none.1))
+        | inl none ↦ inl (none.0, (same_snapshot old new none.1, none.1.answered))
         | inr asked ↦ inr (answer_now given new, inside asked, (refl, asked.noted))
       ])

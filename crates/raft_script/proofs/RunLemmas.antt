@@ -20,13 +20,17 @@ use Rattle.raft_log_engine.specs.Durability.{HasWritten}
 use Rattle.raft_log_engine.specs.Engine.{contents_of, has_failed, refusals_of}
 use Rattle.raft_log_engine.specs.declared.engine.Engine.{Engine}
 use Rattle.raft_log_engine.specs.Crash.{written_batch}
-use Rattle.raft_script.specs.Run.{accepted_batches, accepted_of, AreAnswers, AreSteady, FailsAt, IsFailing, IsFailurePlace, Refuses, StorageRefusalsRoseBy, batch_of_acts, io_count, is_refused_by_storage, IsAnswer, IsEngineRefusal, IsUnbuilt, IsGiven, IsWritten, IsWriteRefusal, compaction_in, items_of_act, with_items, written_batches}
-use Rattle.raft_log_engine.specs.Reads.{compact_count}
+use Rattle.raft_script.specs.Run.{accepted_batches, accepted_of, AreAnswers, AreSteady, FailsAt, IsFailing, IsFailurePlace, Refuses, StorageRefusalsRoseBy, batch_of_acts, io_count, is_refused_by_storage, IsAnswer, IsEngineRefusal, IsTextRefusal, IsUnbuilt, IsGiven, IsWritten, IsWriteRefusal, compaction_in, items_of_act, with_items, written_batches}
+use Rattle.raft_log_engine.specs.Reads.{IsEntryAnswer, entry_of}
+use Rattle.raft_script.specs.Entry.{IsTextOf, index_of}
+use Rattle.raft_script.specs.declared.text_entry.TextEntry.{TextEntry}
 use Rattle.raft_script.specs.declared.operation.Act.{Act}
 use Rattle.raft_script.specs.declared.operation.Op.{Op}
-use Rattle.raft_script.specs.declared.operation.Op.TheVariants.{Write, Sync, Get, CompactTo}
+use Rattle.raft_script.specs.declared.operation.Op.TheVariants.{Write, Sync, Get, CompactTo, Entry, First, Last}
+use Rattle.raft_script.specs.declared.operation.Op.TheVariants as call
 use Rattle.raft_script.specs.declared.operation.Outcome.{Outcome}
-use Rattle.raft_script.specs.declared.operation.Outcome.TheVariants.{Size, Done, Value, Count}
+use Rattle.raft_script.specs.declared.operation.Outcome.TheVariants.{Size, Done, Value, Count, Text, Index}
+use Rattle.raft_script.specs.declared.operation.Outcome.TheVariants as reply
 
 -- items, followed by the batch of more acts, where there is one
 abbrev pub followed_by : Batch → Option Batch → Option Batch
@@ -121,16 +125,16 @@ module _ {F H R W : Type 0} {g : Ghosts F H R W} (acts : List Act) (items rest :
       by_fault fault.Range h = inr (of_built (engine.IsOutOfRange m) acts items built h.0)
       by_fault _ h = absurd h
 
--- .. and so is a compaction
-pub compaction_answered : (m n : Contents) (group index : ℕ) (failed : Bool) (result : Result ℕ Fault) → (failed ≡ false → m ≡ n) → IfOk result (λ count. count ≡ compact_count index (n.entries group)) → ((result ≡ Err fault.Failed) ↔ (failed ≡ true)) → IfErr result (λ e. failed ≡ false → (e ≡ fault.Failed → ⊥) → IsEngineRefusal e)
-    → MatchResult result (λ count. count ≡ compact_count index (m.entries group)) IsEngineRefusal
-compaction_answered m n group index failed (Ok count) same is fails cause = elim (cases_Bool failed) [
+-- .. and a read of an entry
+pub entry_answered : (m n : Contents) (group index : ℕ) (failed : Bool) (result : Result (Option TextEntry) Fault) → (failed ≡ false → m ≡ n) → IfOk result (IsEntryAnswer IsTextOf index_of index (entry_of n group index)) → ((result ≡ Err fault.Failed) ↔ (failed ≡ true)) → IfErr result (λ e. failed ≡ false → IsTextRefusal index (entry_of n group index) e)
+    → MatchResult result (IsEntryAnswer IsTextOf index_of index (entry_of m group index)) (IsTextRefusal index (entry_of m group index))
+entry_answered m n group index failed (Ok found) same is fails cause = elim (cases_Bool failed) [
   | inl gone ↦ absurd (let clash = fails.1 gone in cc)
-  | inr stands ↦ is ∙ ap (λ (c : Contents). compact_count index (c.entries group)) (sym (same stands))
+  | inr stands ↦ subst (λ (c : Contents). IsEntryAnswer IsTextOf index_of index (entry_of c group index) found) (sym (same stands)) is
 ]
-compaction_answered m n group index failed (Err e) same is fails cause = elim (cases_Bool failed) [
-  | inl gone ↦ let e_is : e ≡ fault.Failed = same_err (Err e) refl (fails.1 gone) in subst IsEngineRefusal (sym e_is) tt
-  | inr stands ↦ cause stands (λ e_is. let clash = fails.0 (ap Err e_is) in let both = sym clash ∙ stands in cc)
+entry_answered m n group index failed (Err e) same is fails cause = elim (cases_Bool failed) [
+  | inl gone ↦ let e_is : e ≡ fault.Failed = same_err (Err e) refl (fails.1 gone) in inr (subst IsEngineRefusal (sym e_is) tt)
+  | inr stands ↦ subst (λ (c : Contents). IsTextRefusal index (entry_of c group index) e) (sym (same stands)) (cause stands)
 ]
 
 -- What depends on the contents of an engine that stands alone.
@@ -143,27 +147,21 @@ module _ (m n : Contents) (op : Op) (failed : Bool) (same : failed ≡ false →
       by_op (Write acts sync) is = is
       by_op Sync is = is
       by_op (Get group key) is = is
+      by_op (Entry group index) is = is
+      by_op (First group) is = is
+      by_op (Last group) is = is
+      by_op call.Groups is = is
       by_op (CompactTo group index) is = λ stands. is stands ∙ ap (λ (c : Contents). written_batch (compaction_in c group index)) (same stands)
 
   pub accepted_same : (outcome : Outcome) (fails : Bool) → IsFailing failed op outcome fails → accepted_of m op outcome ≡ accepted_of n op outcome
   accepted_same outcome fails failing = by_op op outcome failing
     where
       by_op : (op : Op) (outcome : Outcome) → IsFailing failed op outcome fails → accepted_of m op outcome ≡ accepted_of n op outcome
-      by_op (Write acts sync) (Size (Ok len)) f = refl
-      by_op (Write acts sync) (Size (Err e)) f = refl
-      by_op (Write acts sync) (Done answer) f = refl
-      by_op (Write acts sync) (Value answer) f = refl
-      by_op (Write acts sync) (Count answer) f = refl
-      by_op Sync outcome f = refl
-      by_op (Get group key) outcome f = refl
-      by_op (CompactTo group index) (Size answer) f = refl
-      by_op (CompactTo group index) (Done answer) f = refl
-      by_op (CompactTo group index) (Value answer) f = refl
-      by_op (CompactTo group index) (Count (Err e)) f = refl
       by_op (CompactTo group index) (Count (Ok count)) f = elim (cases_Bool failed) [
         | inl gone ↦ absurd (⊎_elim (λ told. let clash = told in cc) (λ other. other) (f.refused gone))
         | inr stands ↦ ap (λ (c : Contents). written_batch (compaction_in c group index)) (same stands)
       ]
+      by_op _ _ f = refl
 
 -- what a run has come to: the operations so far, their outcomes, and what the engine holds
 pub record IsRunning (before : Contents) (ops : List Op) (outcomes : List Outcome) (now : Contents) (failed : Bool) : Type 0 where
@@ -232,21 +230,14 @@ steady_more failed (p ∷ ops) (o ∷ outcomes) op outcome are is = (are.0, stea
 -- a failed engine stays failed
 still_by : (op : Op) (outcome : Outcome) (fails : Bool) → IsFailing true op outcome fails → fails ≡ true
 still_by (Write acts sync) (Size answer) fails is = is.still refl
-still_by (Write acts sync) (Done answer) fails is = absurd is
-still_by (Write acts sync) (Value answer) fails is = absurd is
-still_by (Write acts sync) (Count answer) fails is = absurd is
-still_by Sync (Size answer) fails is = absurd is
 still_by Sync (Done answer) fails is = is.0.still refl
-still_by Sync (Value answer) fails is = absurd is
-still_by Sync (Count answer) fails is = absurd is
-still_by (Get group key) (Size answer) fails is = absurd is
-still_by (Get group key) (Done answer) fails is = absurd is
 still_by (Get group key) (Value answer) fails is = is.0.still refl
-still_by (Get group key) (Count answer) fails is = absurd is
-still_by (CompactTo group index) (Size answer) fails is = absurd is
-still_by (CompactTo group index) (Done answer) fails is = absurd is
-still_by (CompactTo group index) (Value answer) fails is = absurd is
 still_by (CompactTo group index) (Count answer) fails is = is.still refl
+still_by (Entry group index) (Text answer) fails is = is.0.still refl
+still_by (First group) (Index answer) fails is = is.0.still refl
+still_by (Last group) (Index answer) fails is = is.0.still refl
+still_by call.Groups (reply.Groups answer) fails is = is.0.still refl
+still_by _ _ fails is = absurd is
 
 pub still_failing : (op : Op) (outcome : Outcome) (failed fails : Bool) → IsFailing failed op outcome fails → failed ≡ true → fails ≡ true
 still_failing op outcome failed fails is had = still_by op outcome fails (subst (λ (b : Bool). IsFailing b op outcome fails) had is)

@@ -21,6 +21,9 @@ IsTextOf bytes e = (e.index < 2 ^ 64) × (bytes ≡ bytes_of_entry e)
 abbrev pub entry_of_text : TextEntry → Entry
 entry_of_text e = (e.index, bytes_of_entry e)
 
+abbrev pub index_of : TextEntry → ℕ
+index_of e = e.index
+
 -- an entry's index and word
 abbrev pub indexed_word : TextEntry → ℕ × List ℕ
 indexed_word e = (e.index, e.word.items)

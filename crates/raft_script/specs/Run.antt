@@ -2,8 +2,9 @@
 use Rattle.std.specs.Prelude.{◌≡◌, ◌⊎◌, ◌||◌, ℕ, zero, suc, ◌+◌, ◌-◌, ◌^◌, ◌≤◌, length, map, min, take, Bool, true, false, List, [], ◌∷◌, ◌++◌, Option, Some, None, is_some, option_map, Result, Ok, Err, is_ok, MatchResult, IsErrAnd, IsSome, IsSomeAnd, if◌then◌else◌}
 use Rattle.std.specs.List.{count_by}
 use Rattle.raft_records.specs.Batch.{is_internal_key}
-use Rattle.raft_records.specs.Contents.{Contents, after_batches}
-use Rattle.raft_records.specs.Item.{Batch, Clean, Compact, Delete, Entries, Entry, Put}
+use Rattle.raft_records.specs.Contents.{Contents, after_batches, first_index_of, last_index_of}
+use Rattle.raft_records.specs.Item as item
+use Rattle.raft_records.specs.Item.{Batch, Clean, Compact, Delete, Entries, Put}
 use Rattle.raft_records.specs.Layout.{entry_bytes}
 use Rattle.raft_records.specs.Validity.{IsValidBatch, batch_refusal}
 use Rattle.raft_base.specs.Fault.{fault_code}
@@ -13,17 +14,19 @@ use Rattle.raft_env.specs.Refusal.{NoFewer, Refusals, StorageRefusalsRose}
 use Rattle.raft_log_engine.specs.Cause.{IsOutOfRange}
 use Rattle.raft_log_engine.specs.Crash.{pending_of, written_batch}
 use Rattle.raft_log_engine.specs.Engine.{record_len}
-use Rattle.raft_log_engine.specs.Reads.{compact_batch, compact_count}
-use Rattle.raft_script.specs.Entry.{entry_of_text}
+use Rattle.raft_log_engine.specs.Reads.{IsEntryAnswer, IsEntryRefusalAt, IsGroupList, compact_batch, compact_count, entry_of}
+use Rattle.raft_script.specs.Entry.{IsTextOf, entry_of_text, index_of}
 use Rattle.raft_script.specs.declared.operation.Act.{Act}
 use Rattle.raft_script.specs.declared.operation.Act.TheVariants as act
 use Rattle.raft_script.specs.declared.operation.Op.{Op}
-use Rattle.raft_script.specs.declared.operation.Op.TheVariants.{Write, Sync, Get, CompactTo}
+use Rattle.raft_script.specs.declared.operation.Op.TheVariants.{Write, Sync, Get, CompactTo, Entry, First, Last}
+use Rattle.raft_script.specs.declared.operation.Op.TheVariants as call
 use Rattle.raft_script.specs.declared.operation.Outcome.{Outcome}
-use Rattle.raft_script.specs.declared.operation.Outcome.TheVariants.{Size, Done, Value, Count}
+use Rattle.raft_script.specs.declared.operation.Outcome.TheVariants.{Size, Done, Value, Count, Text, Index}
+use Rattle.raft_script.specs.declared.operation.Outcome.TheVariants as reply
 
 -- entries as one item, and nothing for none
-abbrev pub entries_items : ℕ → List Entry → Batch
+abbrev pub entries_items : ℕ → List item.Entry → Batch
 entries_items group [] = []
 entries_items group (e ∷ es) = record { group = group; content = Entries (e ∷ es) } ∷ []
 
@@ -104,12 +107,17 @@ MayBeInFlight m (CompactTo group index) flight =
     flight ≡ pending_of m (compaction_in m group index)
 MayBeInFlight m _ flight = flight ≡ []
 
--- the operation doesn't change the engine: a get, or a write of acts without a batch
+-- the operation doesn't change the engine: a get, a look at indexes or groups, or a write of acts
+-- without a batch
 abbrev pub IsUnasked : Op → Type 0
 IsUnasked (Write acts sync) = batch_of_acts acts.items ≡ None
 IsUnasked Sync = ⊥
 IsUnasked (Get group key) = Unit {0}
 IsUnasked (CompactTo group index) = ⊥
+IsUnasked (Entry group index) = ⊥
+IsUnasked (First group) = Unit {0}
+IsUnasked (Last group) = Unit {0}
+IsUnasked call.Groups = Unit {0}
 
 -- no batch of these acts could be built: one of them can't be done, there was no memory, or they
 -- have too many bytes of entries
@@ -117,10 +125,14 @@ abbrev pub IsUnbuilt : List Act → Fault → Type 0
 IsUnbuilt acts e = (e ≡ fault.Memory) ⊎ ((fault_code e ≡ 1) × (batch_of_acts acts ≡ None))
     ⊎ ((e ≡ fault.Range) × IsOversized acts)
 
--- an engine notes no answer to the operation: a get, or a write whose batch isn't built
+-- an engine notes no answer to the operation: a read, or a write whose batch isn't built
 abbrev pub IsUnnoted : Op → Outcome → Type 0
 IsUnnoted (Write acts sync) (Size (Err e)) = IsUnbuilt acts.items e
 IsUnnoted (Get group key) _ = Unit {0}
+IsUnnoted (Entry group index) _ = Unit {0}
+IsUnnoted (First group) _ = Unit {0}
+IsUnnoted (Last group) _ = Unit {0}
+IsUnnoted call.Groups _ = Unit {0}
 IsUnnoted _ _ = ⊥
 
 -- a write that was answered had a batch that the contents take, and is answered with its record's
@@ -154,6 +166,10 @@ IsGetRefusal fault.Memory = Unit {0}
 IsGetRefusal fault.Failed = Unit {0}
 IsGetRefusal _ = ⊥
 
+-- an entry isn't read as one of text, or the engine fails the call
+abbrev pub IsTextRefusal : ℕ → Option (List ℕ) → Fault → Type 0
+IsTextRefusal index bytes e = IsEntryRefusalAt IsTextOf index_of index bytes e ⊎ IsEngineRefusal e
+
 -- an operation is answered so, or fails so, at these contents
 abbrev pub IsAnswer : Contents → Op → Outcome → Type 0
 IsAnswer m (Write acts sync) (Size answer) =
@@ -164,6 +180,15 @@ IsAnswer m (Get group key) (Value answer) =
     ≡ m.value group key.items) IsGetRefusal
 IsAnswer m (CompactTo group index) (Count answer) = MatchResult answer (λ count.
     count ≡ compact_count index (m.entries group)) IsEngineRefusal
+IsAnswer m (Entry group index) (Text answer) =
+    MatchResult answer (IsEntryAnswer IsTextOf index_of index (entry_of m group index))
+    (IsTextRefusal index (entry_of m group index))
+IsAnswer m (First group) (Index answer) =
+    MatchResult answer (λ index. index ≡ first_index_of (m.entries group)) (λ e. e ≡ fault.Failed)
+IsAnswer m (Last group) (Index answer) =
+    MatchResult answer (λ index. index ≡ last_index_of (m.entries group)) (λ e. e ≡ fault.Failed)
+IsAnswer m call.Groups (reply.Groups answer) = MatchResult answer (λ groups.
+    (is_known : ℕ → Bool) × IsGroupList m is_known groups.items) IsGetRefusal
 IsAnswer m _ _ = ⊥
 
 -- each operation is answered at the contents that those before it leave
@@ -185,6 +210,9 @@ is_refused_by_storage (Size answer) = is_io answer
 is_refused_by_storage (Done answer) = is_io answer
 is_refused_by_storage (Value answer) = is_io answer
 is_refused_by_storage (Count answer) = is_io answer
+is_refused_by_storage (Text answer) = is_io answer
+is_refused_by_storage (Index answer) = is_io answer
+is_refused_by_storage (reply.Groups answer) = is_io answer
 
 -- how many of the operations failed in storage
 abbrev pub io_count : List Outcome → ℕ
@@ -222,14 +250,21 @@ pub record FailsBy {T : Type 0} (failed : Bool) (answer : Result T Fault) (fails
   -- it fails by storage or for lack of memory alone
   pub cause : failed ≡ false → fails ≡ true → IsErrAnd answer IsStorageOrMemory
 
--- .. in an operation; a failed sync fails the engine, and a get doesn't
+-- .. and its failing doesn't change
+abbrev pub StandsBy : {T : Type 0} → Bool → Result T Fault → Bool → Type 0
+StandsBy failed answer fails = FailsBy failed answer fails (λ _. ⊥) × (fails ≡ failed)
+
+-- .. in an operation; a failed sync fails the engine, and a read doesn't
 abbrev pub IsFailing : Bool → Op → Outcome → Bool → Type 0
 IsFailing failed (Write acts sync) (Size answer) fails =
     FailsBy failed answer fails (IsUnbuilt acts.items)
 IsFailing failed Sync (Done answer) fails =
     FailsBy failed answer fails (λ _. ⊥) × (is_ok answer ≡ false → fails ≡ true)
-IsFailing failed (Get group key) (Value answer) fails =
-    FailsBy failed answer fails (λ _. ⊥) × (fails ≡ failed)
+IsFailing failed (Get group key) (Value answer) fails = StandsBy failed answer fails
+IsFailing failed (Entry group index) (Text answer) fails = StandsBy failed answer fails
+IsFailing failed (First group) (Index answer) fails = StandsBy failed answer fails
+IsFailing failed (Last group) (Index answer) fails = StandsBy failed answer fails
+IsFailing failed call.Groups (reply.Groups answer) fails = StandsBy failed answer fails
 IsFailing failed (CompactTo group index) (Count answer) fails =
     FailsBy failed answer fails (λ _. ⊥)
 IsFailing failed _ _ fails = ⊥

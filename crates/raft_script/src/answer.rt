@@ -1,6 +1,7 @@
 //! What the program prints for a line.
 
 use crate::operation::Outcome;
+use crate::text_entry::TextEntry;
 use raft_records::Fault;
 use std::io;
 use std::io::Write;
@@ -35,11 +36,33 @@ fn print_outcome<W: Write>(output: &mut W, outcome: &Outcome) -> io::Result<()> 
             output.write_all(b"\n")
         }
         Outcome::Count(Ok(count)) => writeln!(output, "dropped {count}"),
+        Outcome::Text(Ok(None)) | Outcome::Index(Ok(None)) => output.write_all(b"none\n"),
+        Outcome::Text(Ok(Some(entry))) => print_entry(output, entry),
+        Outcome::Index(Ok(Some(index))) => writeln!(output, "index {index}"),
+        Outcome::Groups(Ok(groups)) => print_groups(output, groups),
         Outcome::Size(Err(fault))
         | Outcome::Done(Err(fault))
         | Outcome::Value(Err(fault))
-        | Outcome::Count(Err(fault)) => print_fault(output, fault),
+        | Outcome::Count(Err(fault))
+        | Outcome::Text(Err(fault))
+        | Outcome::Index(Err(fault))
+        | Outcome::Groups(Err(fault)) => print_fault(output, fault),
     }
+}
+
+fn print_entry<W: Write>(output: &mut W, entry: &TextEntry) -> io::Result<()> {
+    let index = entry.index;
+    write!(output, "entry {index}:")?;
+    output.write_all(&entry.word)?;
+    output.write_all(b"\n")
+}
+
+fn print_groups<W: Write>(output: &mut W, groups: &[u64]) -> io::Result<()> {
+    output.write_all(b"groups")?;
+    for group in groups {
+        write!(output, " {group}")?;
+    }
+    output.write_all(b"\n")
 }
 
 fn print_fault<W: Write>(output: &mut W, fault: &Fault) -> io::Result<()> {

@@ -1,6 +1,6 @@
 //! Operations one after the other, each with its outcome.
-ghost use Rattle.std.specs.Prelude.{All, ◌≡◌, ◌⊎◌, ◌≤◌, ◌^◌, ◌++◌, false, length, Some, None, IfOk, IfErr, OnOk, OnErr};
-ghost use Rattle.raft_records.specs.Contents.{Contents, after_batches};
+ghost use Rattle.std.specs.Prelude.{All, ◌≡◌, ◌↔◌, ◌⊎◌, ◌≤◌, ◌^◌, ◌++◌, false, true, length, Some, None, IfOk, IfErr, OnOk, OnErr};
+ghost use Rattle.raft_records.specs.Contents.{Contents, after_batches, first_index_of, last_index_of};
 ghost use Rattle.raft_base.specs.Fault.{fault_code};
 ghost use Rattle.raft_records.specs.Item.{Batch};
 ghost use Rattle.raft_records.specs.Layout.{entry_bytes};
@@ -117,7 +117,37 @@ pub(crate) fn step<F: FileSystem>(alloc: Global, engine: &mut Engine<F>, op: &Op
         Op::Sync => Outcome::Done(engine.sync()),
         Op::Get(group, key) => Outcome::Value(engine.get(*group, key)),
         Op::CompactTo(group, index) => Outcome::Count(engine.compact_to(*group, *index)),
+        Op::Entry(group, index) => Outcome::Text(engine.get_entry::<TextEntry>(*group, *index)),
+        Op::First(group) => Outcome::Index(first_index(engine, *group)),
+        Op::Last(group) => Outcome::Index(last_index(engine, *group)),
+        Op::Groups => Outcome::Groups(engine.raft_groups()),
     }
+}
+
+// A failed engine tells no index.
+fn first_index<F: FileSystem>(engine: &Engine<F>, group: u64) -> Result<Option<u64>, Fault>
+    ensures value { IfOk result (λ index.
+        index ≡ first_index_of ((contents_of engine.now).entries group)) }
+    ensures failed { (result ≡ Err Fault.Failed) ↔ (has_failed engine.now ≡ true) }
+    ensures cause { IfErr result (λ e. e ≡ Fault.Failed) }
+{
+    if engine.failed() {
+        return Err(Fault::Failed);
+    }
+    Ok(engine.first_index(group))
+}
+
+// .. nor does it tell the last.
+fn last_index<F: FileSystem>(engine: &Engine<F>, group: u64) -> Result<Option<u64>, Fault>
+    ensures value { IfOk result (λ index.
+        index ≡ last_index_of ((contents_of engine.now).entries group)) }
+    ensures failed { (result ≡ Err Fault.Failed) ↔ (has_failed engine.now ≡ true) }
+    ensures cause { IfErr result (λ e. e ≡ Fault.Failed) }
+{
+    if engine.failed() {
+        return Err(Fault::Failed);
+    }
+    Ok(engine.last_index(group))
 }
 
 fn build(alloc: Global, acts: &[Act]) -> Result<LogBatch, Fault>

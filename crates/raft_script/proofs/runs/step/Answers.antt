@@ -5,7 +5,8 @@ use Rattle.raft_log_engine.specs.Durability.{durability_of}
 use Rattle.raft_log_engine.specs.Engine.{answer_now, answered_of, contents_of, directory_of, durable_of, folder_of, moments_of, unsynced_of}
 use Rattle.raft_script.specs.Run.{batch_of_acts, compaction_in, pending_batches, written_batches}
 use Rattle.raft_script.proofs.DurabilityLemmas.{compaction_progress, moments_of_batch, written_progress}
-use Rattle.raft_script.proofs.RunLemmas.{write_answered}
+use Rattle.raft_script.proofs.RunAnswersLemmas.{does_read, read_same}
+use Rattle.raft_script.proofs.RunLemmas.{entry_answered, write_answered}
 use Rattle.raft_script.proofs.runs.step.Goals as goal
 
 pub returns-in-Ok-clause-value : goal.returns-in-Ok-clause-value
@@ -45,7 +46,7 @@ returns-in-Err-clause-progress g c =
       given = written_batches (batch_of_acts acts.items);
       is_given = refl;
       progress = inl (record { none = refl; covers_none = refl; failed = refl; durable = refl; unsynced = refl });
-      answers = inl (search rules, refl {a = c.args.engine.now});
+      answers = inl (search rules, read_same c.args.engine.now);
     })
 
 pub returns-in-Sync-clause-progress : goal.returns-in-Sync-clause-progress
@@ -81,3 +82,23 @@ returns-in-CompactTo-clause-progress g c =
       progress = compaction_progress m group index c.compact_to.result (pending_of m (compaction_in m group index)) (durability_of e) (durability_of c.compact_to.new.self) compaction.progress;
       answers = inr (record { noted = compaction.answered; moments = λ alive. compaction.any_moment; rests = λ failed. (compaction.unchanged failed).moments });
     })
+
+pub returns-in-Get-clause-progress : goal.returns-in-Get-clause-progress
+returns-in-Get-clause-progress g c = let e = c.args.engine.now in rw c.in-Get.is (does_read e e _ _ tt (read_same e) refl refl refl refl)
+
+pub returns-in-Entry-clause-progress : goal.returns-in-Entry-clause-progress
+returns-in-Entry-clause-progress g c = rw c.in-Entry.is (does_read c.args.engine.now c.get_entry.new.self _ _ tt c.get_entry.ensures.unchanged refl refl refl refl)
+
+pub returns-in-Entry-clause-value : goal.returns-in-Entry-clause-value
+returns-in-Entry-clause-value g c =
+    let read = c.get_entry.ensures in
+    rw c.in-Entry.is (λ m same. entry_answered m (contents_of c.args.engine.now) c.in-Entry.group c.in-Entry.index _ c.get_entry.result same read.value read.failed (search rules))
+
+pub returns-in-First-clause-progress : goal.returns-in-First-clause-progress
+returns-in-First-clause-progress g c = let e = c.args.engine.now in rw c.in-First.is (does_read e e _ _ tt (read_same e) refl refl refl refl)
+
+pub returns-in-Last-clause-progress : goal.returns-in-Last-clause-progress
+returns-in-Last-clause-progress g c = let e = c.args.engine.now in rw c.in-Last.is (does_read e e _ _ tt (read_same e) refl refl refl refl)
+
+pub returns-in-Groups-clause-progress : goal.returns-in-Groups-clause-progress
+returns-in-Groups-clause-progress g c = let e = c.args.engine.now in rw c.in-Groups.is (does_read e e _ _ tt (read_same e) refl refl refl refl)
