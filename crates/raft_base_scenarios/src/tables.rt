@@ -150,7 +150,7 @@ fn a_table_keeps_each_key_once(rt: HostRuntime) -> Result<(), Fail> {
     Ok(())
 }
 
-/// What is asked of the entries of group 1.
+/// What is asked of the entries of a group.
 enum Ask {
     /// Entries with these indexes.
     Put(&'static [u64]),
@@ -210,14 +210,14 @@ fn indexes_of(alloc: Global, seq: u64, indexes: &[u64]) -> Result<Vec<EntryIndex
     Ok(entries)
 }
 
-fn item_of(alloc: Global, seq: u64, ask: &Ask) -> Result<LogItem, AllocError> {
+fn item_of(alloc: Global, group: u64, seq: u64, ask: &Ask) -> Result<LogItem, AllocError> {
     let content = match ask {
         Ask::Put(indexes) => LogItemContent::EntryIndexes(indexes_of(alloc, seq, indexes)?),
         Ask::Compact(index) => LogItemContent::Command(Command::Compact { index: *index }),
         Ask::Clean => LogItemContent::Command(Command::Clean),
     };
     Ok(LogItem {
-        raft_group_id: 1,
+        raft_group_id: group,
         content,
     })
 }
@@ -242,11 +242,89 @@ fn entries_are_put_and_dropped(rt: HostRuntime) -> Result<(), Fail> {
     let mut tables = MemTables::new(rt.alloc());
     let mut items = Vec::new(rt.alloc());
     for Step(seq, ask, wanted, known) in &STEPS {
-        items.push(item_of(rt.alloc(), *seq, ask)?)?;
+        items.push(item_of(rt.alloc(), 1, *seq, ask)?)?;
         tables.apply_append_writes(&mut items, file(*seq))?;
         assert!(rt; has_entries(&tables, wanted), "after item {seq}");
         assert_eq!(rt; file_of(&tables, 6), None, "after item {seq}");
         assert_eq!(rt; !tables.groups()?.is_empty(), *known, "after item {seq}");
+    }
+    Ok(())
+}
+
+/// Whether items fit, or why the first of the others doesn't.
+#[derive(Clone, Copy, Debug, PartialEq, Eq)]
+enum Fit {
+    Whole,
+    Gap,
+    Range,
+}
+
+/// The group of each item with the item, and whether they fit after the entries 1 to 3 of group 1.
+struct Check(&'static [(u64, Ask)], Fit);
+
+const CHECKS: [Check; 18] = [
+    Check(&[], Fit::Whole),
+    Check(&[(1, Ask::Put(&[4]))], Fit::Whole),
+    Check(&[(1, Ask::Put(&[1]))], Fit::Whole),
+    Check(&[(1, Ask::Put(&[5]))], Fit::Gap),
+    Check(&[(1, Ask::Put(&[0]))], Fit::Gap),
+    Check(&[(1, Ask::Put(&[4, 6]))], Fit::Gap),
+    Check(&[(2, Ask::Put(&[9, 10]))], Fit::Whole),
+    Check(&[(2, Ask::Put(&[9, 11]))], Fit::Gap),
+    Check(&[(2, Ask::Put(&[9, u64::MAX]))], Fit::Range),
+    Check(&[(1, Ask::Put(&[4])), (1, Ask::Put(&[5]))], Fit::Whole),
+    Check(&[(1, Ask::Put(&[2])), (1, Ask::Put(&[4]))], Fit::Gap),
+    Check(&[(1, Ask::Clean), (1, Ask::Put(&[9]))], Fit::Whole),
+    Check(&[(1, Ask::Compact(4)), (1, Ask::Put(&[9]))], Fit::Whole),
+    Check(&[(1, Ask::Compact(3)), (1, Ask::Put(&[2]))], Fit::Gap),
+    Check(&[(1, Ask::Put(&[4])), (2, Ask::Put(&[7]))], Fit::Whole),
+    Check(
+        &[
+            (2, Ask::Put(&[7])),
+            (1, Ask::Put(&[4])),
+            (2, Ask::Put(&[8])),
+        ],
+        Fit::Whole,
+    ),
+    Check(
+        &[
+            (2, Ask::Put(&[7])),
+            (1, Ask::Put(&[4])),
+            (2, Ask::Put(&[9])),
+        ],
+        Fit::Gap,
+    ),
+    Check(
+        &[
+            (2, Ask::Put(&[7])),
+            (1, Ask::Compact(3)),
+            (1, Ask::Put(&[2])),
+        ],
+        Fit::Gap,
+    ),
+];
+
+fn fit_of(tables: &MemTables, items: &[LogItem]) -> Result<Fit, Fault> {
+    match tables.check(items) {
+        Ok(()) => Ok(Fit::Whole),
+        Err(Fault::Gap) => Ok(Fit::Gap),
+        Err(Fault::Range) => Ok(Fit::Range),
+        Err(fault) => Err(fault),
+    }
+}
+
+#[test]
+fn items_are_checked(rt: HostRuntime) -> Result<(), Fail> {
+    let mut tables = MemTables::new(rt.alloc());
+    let mut items = Vec::new(rt.alloc());
+    items.push(item_of(rt.alloc(), 1, 1, &Ask::Put(&[1, 2, 3]))?)?;
+    tables.apply_append_writes(&mut items, file(1))?;
+    for Check(asks, wanted) in &CHECKS {
+        items.clear();
+        for (group, ask) in *asks {
+            items.push(item_of(rt.alloc(), *group, 2, ask)?)?;
+        }
+        assert_eq!(rt; fit_of(&tables, &items)?, *wanted);
     }
     Ok(())
 }

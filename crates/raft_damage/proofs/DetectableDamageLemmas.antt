@@ -153,7 +153,7 @@ torn_is_detectable id format records synced at file left completed latest never 
 pub now_is_torn : (id : FileId) (format : LogFileFormat) (records : List PlacedRecord) (synced at : ℕ) (file : File) → IsWrittenByCompletedCalls id format records synced at file → IsTornAfter id format records file file.now
 now_is_torn id format records synced at file completed =
     let all : take (length records) records ≡ records = take_all (length records) records (omega arith) in
-    let ends = only_zeros at file.now file.renamed_after (file.changes ++ file.older) completed.past.never_renamed completed.written.empty completed.past.only_writes in
+    let ends = only_zeros at file.now file.renamed_after (file.changes ++ file.older) completed.never_renamed completed.written.empty completed.past.only_writes in
     record {
       count = length records;
       end = at;

@@ -8,8 +8,8 @@ use Rattle.std.proofs.lemmas.Option.{same_Some}
 use Rattle.std.specs.Ordering.{nat_cmp, eq_by_cmp}
 use Rattle.std.specs.Cmp.Lexicographic.{slice_cmp, nat_list_cmp_total}
 use Rattle.std.specs.FinMap as finite
-use Rattle.raft_env.specs.Outcomes.{File, Change, MayLeave, Outcome, IsPartOf, IsCutOf, is_within, is_touched, bytes_after, untouched_len, least_len, greatest_len, changed_by, file_after_write, lengthened_to, cut_to, synced_of, synced_file, pad_to, overlay}
-use Rattle.raft_env.specs.Directory.{Directory, CrashImage, Path, file_at, with_file, update_file, update_at, after_create, IsMakingFolder, IsChanging, IsWriting, IsTruncating, IsAllocating, IsOneOf, IsRestarted}
+use Rattle.raft_env.specs.Outcomes.{File, Change, MayLeave, Outcome, IsPartOf, IsCutOf, is_within, is_touched, bytes_after, untouched_len, least_len, greatest_len, changed_by, file_after_write, lengthened_to, cut_to, synced_of, synced_file, renamed_of, pad_to, overlay}
+use Rattle.raft_env.specs.Directory.{Directory, CrashImage, Path, file_at, with_file, without_file, after_rename, after_rename_at, update_file, update_at, after_create, IsMakingFolder, IsChanging, IsWriting, IsTruncating, IsAllocating, IsOneOf, IsRestarted}
 use Rattle.raft_env.specs.Consistent.{HasItsRange, HasItsLength, IsPastOf, IsConsistent, AreConsistent}
 use Rattle.raft_env.proofs.DirectoryLemmas.{file_at-making}
 use Rattle.raft_env.proofs.OutcomesOverlayLemmas.{overlaid_bounds, overlaid_outside_part, longest_of-more}
@@ -146,6 +146,40 @@ creating_consistent path old new all (inr is) = subst AreConsistent (sym is) (by
     by_test : (stands : Bool) → AreConsistent (cond stands old (with_file path (synced_file []) old))
     by_test true = all
     by_test false = placed_consistent path (synced_file []) old all (settled_consistent [])
+
+removed_cases : (path q : Path) (found : File) (n : Directory) → file_at (without_file path n) q ≡ Some found → file_at n q ≡ Some found
+removed_cases path q found n stands = by_test (eq_by_cmp (slice_cmp nat_cmp) q path) (sym (finite.get-remove nat_list_cmp_total n.files path q) ∙ stands)
+  where
+    by_test : (same : Bool) → cond same None (file_at n q) ≡ Some found → file_at n q ≡ Some found
+    by_test true e = absurd cc
+    by_test false e = e
+
+-- what holds of each file holds of each that is left
+pub without_each : (P : File → Type 0) (path : Path) (n : Directory) → ((q : Path) (file : File) → file_at n q ≡ Some file → P file) → (q : Path) (file : File) → file_at (without_file path n) q ≡ Some file → P file
+without_each P path n each q file stands = each q file (removed_cases path q file n stands)
+
+-- .. and of each file after a renaming, if it goes over to the renamed one
+pub renamed_each : (P : File → Type 0) (src dst : Path) (n : Directory) → ((file : File) → P file → P (renamed_of file)) → ((q : Path) (file : File) → file_at n q ≡ Some file → P file)
+    → (q : Path) (file : File) → file_at (after_rename src dst n) q ≡ Some file → P file
+renamed_each P src dst n goes each = by_file (file_at n src) refl
+  where
+    by_file : (found : Option File) → file_at n src ≡ found → (q : Path) (file : File) → file_at (after_rename_at src dst found n) q ≡ Some file → P file
+    by_file None none q file found = each q file found
+    by_file (Some moved) stands q file found = elim (placed_cases dst q (renamed_of moved) file (without_file src n) found) [
+      | inl same ↦ subst P same (goes moved (each src moved stands))
+      | inr stood ↦ each q file (removed_cases src q file n stood)
+    ]
+
+pub renamed_consistent : (file : File) → IsConsistent file → IsConsistent (renamed_of file)
+renamed_consistent file is = record { latest = is.latest; untouched = is.untouched; past = is.past; earlier = is.earlier }
+
+pub deleting_consistent : (path : Path) (old new : Directory) → AreConsistent old → IsOneOf old (without_file path old) new → AreConsistent new
+deleting_consistent path old new all (inl same) = subst AreConsistent (sym same) all
+deleting_consistent path old new all (inr is) = subst AreConsistent (sym is) (without_each IsConsistent path old all)
+
+pub renaming_consistent : (src dst : Path) (old new : Directory) → AreConsistent old → IsOneOf old (after_rename src dst old) new → AreConsistent new
+renaming_consistent src dst old new all (inl same) = subst AreConsistent (sym same) all
+renaming_consistent src dst old new all (inr is) = subst AreConsistent (sym is) (renamed_each IsConsistent src dst old renamed_consistent all)
 
 pub folders_consistent : (path : Path) (old new : Directory) → AreConsistent old → IsMakingFolder path old new → AreConsistent new
 folders_consistent path old new all making q file stands = all q file (sym (file_at-making path q old new making) ∙ stands)

@@ -1,5 +1,6 @@
 pub mod ConsistentLemmas
 pub mod DirectoryLemmas
+pub mod DirectoryNamesLemmas
 pub mod MomentsLemmas
 pub mod OutcomesLemmas
 pub mod OutcomesOverlayLemmas

@@ -1,6 +1,6 @@
 -- What every call keeps of a file: outside the ranges of its changes it holds the bytes of the last
 -- sync, and each change began with what the one before it left. Files in memory keep more: of their
--- changes only writes failed, and none was renamed.
+-- changes only writes failed.
 use Rattle.std.specs.Prelude.{◌≡◌, ℕ, ◌<◌, ◌≤◌, ◌++◌, false, List, [], ◌∷◌, length, Some, None, slice_index}
 use Rattle.std.proofs.Props.{props}
 use Rattle.raft_env.specs.Outcomes.{File, Change, OnlyWritesFailed, bytes_after, is_touched}
@@ -45,6 +45,6 @@ OnlyWritesFailedAt path n = (file : File) → file_at n path ≡ Some file
 abbrev pub OnlyWritesFailedIn : Directory → Type 0
 OnlyWritesFailedIn n = (path : Path) → OnlyWritesFailedAt path n
 
--- no file was renamed
-abbrev pub NoneRenamed : Directory → Type 0
-NoneRenamed n = (path : Path) (file : File) → file_at n path ≡ Some file → file.renamed_after ≡ None
+-- the file at a path was never renamed
+abbrev pub IsNeverRenamedAt : Path → Directory → Type 0
+IsNeverRenamedAt path n = (file : File) → file_at n path ≡ Some file → file.renamed_after ≡ None

@@ -3,7 +3,7 @@
 ghost use Rattle.std.specs.Prelude.{◌≡◌, ◌⊎◌, ◌↔◌, ◌<◌, ◌+◌, ◌^◌, [], ◌∷◌, List, ℕ, Bool, true, false, length, take, map, IfOk, OnOk, OnErr, Some, is_some};
 ghost use Rattle.std.specs.String.{string_bytes};
 ghost use Rattle.raft_env.specs.Outcomes.{File, file_after_write, file_after_resize, synced_of, overlay, pad_to};
-ghost use Rattle.raft_env.specs.Directory.{Path, Directory, file_at, update_file, after_create, folder_made, IsWriting, IsTruncating, IsAllocating, IsMakingFolder, IsOneOf, ReadsAt, names_in, HasFile};
+ghost use Rattle.raft_env.specs.Directory.{Path, Directory, file_at, update_file, after_create, after_rename, without_file, folder_made, IsWriting, IsTruncating, IsAllocating, IsMakingFolder, IsOneOf, ReadsAt, names_in, HasFile};
 ghost use Rattle.raft_env.specs.Moments.{MovesBy, OnlyReads};
 ghost use Rattle.raft_env.specs.Refusal.{CountsRefusalOf, Refusals, added_count, no_refusals};
 ghost use Rattle.raft_env.specs.declared.env.FsFault.TheVariants.{Memory};
@@ -116,6 +116,58 @@ pub trait FileSystem: Send + Sync {
             ↔ (permission ≡ Permission.ReadWrite)) }
         ensures unchanged { OnlyReads directory moments self.old self.new }
         ensures cause { CountsRefusalOf result (refusals_of self.old) (refusals_of self.new) };
+
+    /// A handle of the file finds none from then on.
+    fn delete(&mut self, path: &str) -> Result<(), FsFault>
+        ensures value { OnOk result (HasFile (directory self.old) path.now) }
+        ensures ok { OnOk result (directory self.new ≡ without_file path.now (directory self.old)) }
+        ensures err { OnErr result (directory self.new ≡ directory self.old) }
+        ensures any_moment { MovesBy directory moments (λ old. IsOneOf old
+            (without_file path.now old))
+            self.old self.new }
+        ensures cause { CountsRefusalOf result (refusals_of self.old) (refusals_of self.new) };
+
+    /// The file keeps its bytes and what a crash may leave of them, and all its places are stale.
+    /// A file that stands at the other path is replaced. A handle of either path means what stands
+    /// there from then on.
+    fn rename(&mut self, from: &str, to: &str) -> Result<(), FsFault>
+        ensures value { OnOk result (HasFile (directory self.old) from.now) }
+        ensures ok { OnOk result (directory self.new
+            ≡ after_rename from.now to.now (directory self.old)) }
+        ensures err { OnErr result (directory self.new ≡ directory self.old) }
+        ensures any_moment { MovesBy directory moments (λ old. IsOneOf old
+            (after_rename from.now to.now old))
+            self.old self.new }
+        ensures cause { CountsRefusalOf result (refusals_of self.old) (refusals_of self.new) };
+
+    /// As `rename`, for a file whose bytes are to be written over.
+    fn reuse(&mut self, from: &str, to: &str) -> Result<(), FsFault>
+        ensures value { OnOk result (HasFile (directory self.old) from.now) }
+        ensures ok { OnOk result (directory self.new
+            ≡ after_rename from.now to.now (directory self.old)) }
+        ensures err { OnErr result (directory self.new ≡ directory self.old) }
+        ensures any_moment { MovesBy directory moments (λ old. IsOneOf old
+            (after_rename from.now to.now old))
+            self.old self.new }
+        ensures cause { CountsRefusalOf result (refusals_of self.old) (refusals_of self.new) }
+    {
+        self.rename(from, to)
+    }
+
+    /// Where only the opening fails, the file stays renamed.
+    fn reuse_and_open(&mut self, from: &str, to: &str) -> Result<Self::Handle, FsFault>
+        ensures handle { IfOk result (λ h. (handle_path h ≡ to.now) × (may_write h ≡ true)) }
+        ensures value { OnOk result (HasFile (directory self.old) from.now) }
+        ensures ok { OnOk result (directory self.new
+            ≡ after_rename from.now to.now (directory self.old)) }
+        ensures any_moment { MovesBy directory moments (λ old. IsOneOf old
+            (after_rename from.now to.now old))
+            self.old self.new }
+        ensures cause { CountsRefusalOf result (refusals_of self.old) (refusals_of self.new) }
+    {
+        self.reuse(from, to)?;
+        self.open(to, Permission::ReadWrite)
+    }
 
     fn new_reader(&mut self, handle: &Self::Handle) -> Result<Self::Reader, FsFault>
         ensures reader { IfOk result (λ r. (reader_path r ≡ handle_path handle.now)

@@ -15,6 +15,10 @@ enum Call {
     Truncate(&'static str, usize),
     Allocate(&'static str, usize, usize),
     Sync(&'static str),
+    Delete(&'static str),
+    Rename(&'static str, &'static str),
+    /// Reuses the file under the other path and makes a writer.
+    Reuse(&'static str, &'static str),
     Size(&'static str, usize),
     /// Reads from the start into a buffer full of `?`: so many bytes, and the buffer after it.
     Read(&'static str, usize, &'static [u8]),
@@ -54,7 +58,7 @@ struct Script {
     steps: &'static [Step],
 }
 
-const SCRIPTS: [Script; 5] = [
+const SCRIPTS: [Script; 6] = [
     Script {
         name: "written, read, cut and listed",
         steps: &[
@@ -114,6 +118,10 @@ const SCRIPTS: [Script; 5] = [
             Step::Refuses(Call::Allocate("a", 0, 9), IoKind::NoSpace),
             Step::Arm(FsCall::Sync, 1),
             Step::Refuses(Call::Sync("a"), IoKind::NoSpace),
+            Step::Arm(FsCall::Delete, 1),
+            Step::Refuses(Call::Delete("a"), IoKind::NoSpace),
+            Step::Arm(FsCall::Rename, 1),
+            Step::Refuses(Call::Rename("a", "b"), IoKind::NoSpace),
             Step::Arm(FsCall::FileSize, 1),
             Step::Refuses(Call::Size("a", 2), IoKind::NoSpace),
             Step::Arm(FsCall::MakeDir, 1),
@@ -122,7 +130,7 @@ const SCRIPTS: [Script; 5] = [
             Step::Refuses(Call::List("", &[]), IoKind::NoSpace),
             Step::Arm(FsCall::Read, 1),
             Step::Refuses(Call::Read("a", 0, b"?"), IoKind::NoSpace),
-            Step::Refused(12),
+            Step::Refused(14),
             // The failed write has written the first half of its bytes.
             Step::Does(Call::Read("a", 2, b"ab?")),
             Step::Does(Call::Write("a", 2, b"cd")),
@@ -132,7 +140,36 @@ const SCRIPTS: [Script; 5] = [
             Step::Refuses(Call::Sync("a"), IoKind::Other),
             Step::Refuses(Call::Create("b"), IoKind::Other),
             Step::Does(Call::Read("a", 5, b"xbcde?")),
-            Step::Refused(15),
+            Step::Refused(17),
+        ],
+    },
+    Script {
+        name: "deleted, renamed and reused",
+        steps: &[
+            Step::Does(Call::MakeDir("log")),
+            Step::Does(Call::Create("log/a")),
+            Step::Does(Call::Write("log/a", 0, b"first")),
+            Step::Does(Call::Sync("log/a")),
+            Step::Does(Call::Write("log/a", 3, b"m!")),
+            Step::Does(Call::Create("log/b")),
+            Step::Does(Call::Rename("log/a", "log/c")),
+            Step::Does(Call::List("log", &["b", "c"])),
+            Step::Does(Call::Read("log/c", 5, b"firm!?")),
+            Step::Does(Call::Rename("log/c", "log/b")),
+            Step::Does(Call::Rename("log/b", "log/b")),
+            Step::Does(Call::List("log", &["b"])),
+            Step::Does(Call::Reuse("log/b", "a")),
+            Step::Does(Call::List("log", &[])),
+            Step::Leaves(Left::Synced, 5, b"first?"),
+            Step::Leaves(Left::All, 5, b"firm!?"),
+            Step::Refuses(Call::Rename("b", "c"), IoKind::NotFound),
+            Step::Refuses(Call::Rename("a", "old/c"), IoKind::NotFound),
+            Step::Refuses(Call::Rename("a", "log"), IoKind::Other),
+            Step::Refuses(Call::Reuse("b", "c"), IoKind::NotFound),
+            Step::Refuses(Call::Delete("b"), IoKind::NotFound),
+            Step::Does(Call::Delete("a")),
+            Step::IsFile("a", false),
+            Step::Refused(5),
         ],
     },
     Script {
@@ -228,6 +265,12 @@ fn change<F: FileSystem>(fs: &mut F, call: &Call) -> Result<(), FsFault> {
         Call::Sync(path) => {
             let mut writer = writer_of(fs, path, Permission::ReadWrite)?;
             fs.sync(&mut writer)
+        }
+        Call::Delete(path) => fs.delete(path),
+        Call::Rename(from, to) => fs.rename(from, to),
+        Call::Reuse(from, to) => {
+            let handle = fs.reuse_and_open(from, to)?;
+            fs.new_writer(&handle).map(|_| ())
         }
         _ => Ok(()),
     }

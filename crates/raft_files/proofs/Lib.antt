@@ -1,7 +1,9 @@
+pub mod BlocksLemmas
 pub mod DetectableLemmas
 pub mod DetectableStaleLemmas
 pub mod HeaderLemmas
 pub mod NameLemmas
+pub mod PlacesLemmas
 pub mod ReaderLemmas
 pub mod RecordReaderLemmas
 pub mod RecordsCrashLemmas

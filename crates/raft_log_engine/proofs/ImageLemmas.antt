@@ -2,23 +2,18 @@
 use Rattle.std.proofs.Common.{◌≡◌, ℕ, suc, ◌+◌, ◌<◌, ◌≤◌, length, length-drop, drop, get_or, drop-cons, Bool, true, false, eqb, ◌||◌, List, [], ◌∷◌, ◌++◌, refl, sym, ◌∙◌, ap, subst, append_assoc, arith}
 use Rattle.std.specs.List.{AllByRecursion, list_any}
 use Rattle.std.specs.List.Sorted.{IsStrictlySortedBy}
-use Rattle.std.specs.Map.{lookup}
 use Rattle.std.specs.Ordering.{nat_cmp}
-use Rattle.std.specs.Str.{bytes_eq}
 use Rattle.std.specs.declared.cmp.Ordering.{Ordering}
 use Rattle.std.specs.declared.cmp.Ordering.TheVariants.{Less}
 use Rattle.std.proofs.lemmas.Grind.{common_steps}
 use Rattle.std.proofs.lemmas.List.{append-nil, map-append, nil_from_length}
 use Rattle.raft_records.specs.Contents.{Contents}
-use Rattle.raft_tables.specs.Listing.{IsListing, listed}
-use Rattle.raft_log_engine.specs.Image.{entries_of, IsGroupImageOf, IsImageOf, IsWithout, groups_of}
-use Rattle.std.specs.Prelude.{Option, Some, None, is_some}
-use Rattle.raft_records.specs.Places.{entries_in}
-use Rattle.raft_tables.specs.Table.{TableView, value_at}
-use Rattle.raft_tables.specs.Tables.{or_empty, tables_of}
+use Rattle.raft_log_engine.specs.Image.{IsGroupImageOf, IsImageOf, IsWithout, groups_of}
+use Rattle.std.specs.Prelude.{is_some}
+use Rattle.raft_records.specs.Places.{Blocks}
+use Rattle.raft_tables.specs.Tables.{contents_in, tables_of}
+use Rattle.raft_log_engine.proofs.PlacedLemmas.{without_table}
 use Rattle.raft_tables.specs.declared.memtables.MemTables.{MemTables}
-use Rattle.raft_files.specs.Blocks.{no_blocks}
-use Rattle.raft_log_engine.specs.Contents.{contents_of_tables}
 use Rattle.raft_log_engine.specs.declared.engine.image.GroupImage.{GroupImage}
 
 pub record IsBuilding (m : Contents) (images : List GroupImage) (rest : List ℕ) : Type 0 where
@@ -51,12 +46,8 @@ pub building_begun : (m : Contents) (groups : List ℕ) → IsStrictlySortedBy n
 building_begun m groups ascending others = record { ascending = ascending; each = tt; others = others }
 
 -- a group without a table
-pub holds_nothing : (tables : MemTables) (group : ℕ) → is_some (tables_of tables group) ≡ false → IsWithout (contents_of_tables tables) group
-holds_nothing tables group unknown = by_table (tables_of tables group) unknown
-  where
-    by_table : (table : Option TableView) → is_some table ≡ false → (entries_in no_blocks (or_empty table).entries ≡ []) × ((key : List ℕ) → value_at (or_empty table) key ≡ None)
-    by_table None unknown = (refl, λ key. refl)
-    by_table (Some t) unknown = cc
+pub holds_nothing : (blocks : Blocks) (tables : MemTables) (group : ℕ) → is_some (tables_of tables group) ≡ false → IsWithout (contents_in blocks (tables_of tables)) group
+holds_nothing blocks tables group unknown = without_table blocks (tables_of tables group) unknown
 
 -- a group without entries and keys is passed over
 pub building_passed : (m : Contents) (images : List GroupImage) (group : ℕ) (rest : List ℕ) → IsBuilding m images (group ∷ rest) → IsWithout m group → IsBuilding m images rest
@@ -99,17 +90,14 @@ building_ended m images items i past building =
     let none : length (drop i items) ≡ 0 = length-drop i items ∙ (omega (arith, past)) in
     image_built m images (subst (IsBuilding m images) (nil_from_length (drop i items) none) building)
 
--- a group's turn, where it has no keys
-pub building_without : (m : Contents) (images : List GroupImage) (items : List ℕ) (i : ℕ) → i < length items → IsBuilding m images (drop i items) → m.entries (get_or items i 0) ≡ []
-    → (pairs : List (List ℕ × List ℕ)) → IsListing (m.value (get_or items i 0)) pairs → pairs ≡ [] → IsBuilding m images (drop (i + 1) items)
-building_without m images items i within building no_entries pairs listing empty =
-    building_passed m images (get_or items i 0) (drop (i + 1) items) (subst (IsBuilding m images) (ahead items i within) building)
-    (no_entries, λ key. sym (listing.value key) ∙ ap (lookup (bytes_eq key)) empty)
+-- a group's turn, where it has nothing
+pub building_without : (m : Contents) (images : List GroupImage) (items : List ℕ) (i : ℕ) → i < length items → IsBuilding m images (drop i items) → IsWithout m (get_or items i 0) → IsBuilding m images (drop (i + 1) items)
+building_without m images items i within building without =
+    building_passed m images (get_or items i 0) (drop (i + 1) items) (subst (IsBuilding m images) (ahead items i within) building) without
 
--- a group's turn, where it has some
-pub building_with : (m : Contents) (images : List GroupImage) (image : GroupImage) (items : List ℕ) (i : ℕ) → i < length items → IsBuilding m images (drop i items) → image.group ≡ get_or items i 0
-    → entries_of image.entries.items ≡ m.entries image.group → IsListing (m.value image.group) (listed image.pairs.items) → (image.pairs.items ≡ [] → ⊥) → IsBuilding m (images ++ image ∷ []) (drop (i + 1) items)
-building_with m images image items i within building is entries listing some =
+-- a group's turn, where it has something
+pub building_with : (m : Contents) (images : List GroupImage) (image : GroupImage) (items : List ℕ) (i : ℕ) → i < length items → IsBuilding m images (drop i items) → image.group ≡ get_or items i 0 → IsGroupImageOf m image → IsBuilding m (images ++ image ∷ []) (drop (i + 1) items)
+building_with m images image items i within building is one =
     building_more m images image (drop (i + 1) items)
     (subst (λ (n : ℕ). IsBuilding m images (n ∷ drop (i + 1) items)) (sym is) (subst (IsBuilding m images) (ahead items i within) building))
-    (record { entries = entries; keys = listing; some = λ _ none. some none })
+    one

@@ -4,8 +4,9 @@ pub mod Contents
 pub mod Crash
 pub mod Cause
 pub mod Engine
-pub mod Image
+pub mod Group
 pub mod Durability
 pub mod Opening
+pub mod Write
+pub mod Image
 pub mod Reads
-pub mod Scan

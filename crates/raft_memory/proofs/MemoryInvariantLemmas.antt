@@ -2,17 +2,17 @@
 use Rattle.std.proofs.Common.{◌≡◌, ℕ, ◌≤◌, true, false, Bool, cond, List, [], ◌++◌, length, take, Option, Some, None, is_some, refl, sym, subst, inl, inr}
 use Rattle.std.specs.FinMap.{get-empty}
 use Rattle.std.proofs.lemmas.List.Elements.{All-cons, All-nil}
-use Rattle.raft_env.specs.Outcomes.{File, IsWriteIfFailed, OnlyWritesFailed, file_after_write, file_after_resize, synced_of, synced_file, overlay, pad_to}
-use Rattle.raft_env.specs.Directory.{Directory, Path, file_at, with_file, update_file, update_at, after_create, folder_made}
-use Rattle.raft_env.specs.Consistent.{IsConsistent, AreConsistent, OnlyWritesFailedIn, NoneRenamed}
+use Rattle.raft_env.specs.Outcomes.{File, IsWriteIfFailed, OnlyWritesFailed, file_after_write, file_after_resize, synced_of, synced_file, renamed_of, overlay, pad_to}
+use Rattle.raft_env.specs.Directory.{Directory, Path, file_at, with_file, update_file, update_at, after_create, after_rename, without_file, folder_made}
+use Rattle.raft_env.specs.Consistent.{IsConsistent, AreConsistent, OnlyWritesFailedIn}
 use Rattle.raft_memory.specs.Memory.{memory_directory, no_files}
 use Rattle.raft_memory.specs.declared.memory.MemoryFileSystem.{MemoryFileSystem}
 use Rattle.raft_env.proofs.DirectoryLemmas.{writing_part}
-use Rattle.raft_env.proofs.ConsistentLemmas.{placed_cases, settled_consistent, synced_consistent, written_consistent, allocated_consistent, cut_consistent}
+use Rattle.raft_env.proofs.ConsistentLemmas.{placed_cases, settled_consistent, synced_consistent, renamed_consistent, renamed_each, without_each, written_consistent, allocated_consistent, cut_consistent}
 
 -- the ghost fields of a file system in memory
 abbrev pub Invariant : Directory → Type 0
-Invariant n = record { consistent : AreConsistent n; only_writes : OnlyWritesFailedIn n; not_renamed : NoneRenamed n }
+Invariant n = record { consistent : AreConsistent n; only_writes : OnlyWritesFailedIn n }
 
 -- Files.
 
@@ -20,26 +20,26 @@ Invariant n = record { consistent : AreConsistent n; only_writes : OnlyWritesFai
 record Holds (file : File) : Type 0 where
   pub consistent : IsConsistent file
   pub only_writes : OnlyWritesFailed (file.changes ++ file.older)
-  pub not_renamed : file.renamed_after ≡ None
 
 settled_holds : (bytes : List ℕ) → Holds (synced_file bytes)
-settled_holds bytes = record { consistent = settled_consistent bytes; only_writes = All-nil IsWriteIfFailed; not_renamed = refl }
+settled_holds bytes = record { consistent = settled_consistent bytes; only_writes = All-nil IsWriteIfFailed }
 
 synced_holds : (file : File) → Holds file → Holds (synced_of file)
-synced_holds file old = record { consistent = synced_consistent file old.consistent; only_writes = old.only_writes; not_renamed = old.not_renamed }
+synced_holds file old = record { consistent = synced_consistent file old.consistent; only_writes = old.only_writes }
+
+renamed_holds : (file : File) → Holds file → Holds (renamed_of file)
+renamed_holds file old = record { consistent = renamed_consistent file old.consistent; only_writes = old.only_writes }
 
 written_holds : (at : ℕ) (given after : List ℕ) (is_done : Bool) (file : File) → Holds file → IsConsistent (file_after_write at given is_done after file) → Holds (file_after_write at given is_done after file)
 written_holds at given after is_done file old consistent = record {
   consistent = consistent;
   only_writes = All-cons IsWriteIfFailed _ (file.changes ++ file.older) (λ refused. refl) old.only_writes;
-  not_renamed = old.not_renamed;
 }
 
 resized_holds : (after : List ℕ) (file : File) → Holds file → IsConsistent (file_after_resize after file) → Holds (file_after_resize after file)
 resized_holds after file old consistent = record {
   consistent = consistent;
   only_writes = All-cons IsWriteIfFailed _ (file.changes ++ file.older) (λ refused. absurd cc) old.only_writes;
-  not_renamed = old.not_renamed;
 }
 
 -- Directories.
@@ -51,7 +51,6 @@ of_each : (n : Directory) → Each n → Invariant n
 of_each n each = record {
   consistent = λ path file stands. (each path file stands).consistent;
   only_writes = λ path file stands. (each path file stands).only_writes;
-  not_renamed = λ path file stands. (each path file stands).not_renamed;
 }
 
 placed_each : (path : Path) (file : File) (n : Directory) → Each n → Holds file → Each (with_file path file n)
@@ -62,7 +61,7 @@ placed_each path file n each holds q found stands = elim (placed_cases path q fi
 
 module _ (m : MemoryFileSystem) (new : Directory) where
   each_now : Each (memory_directory m)
-  each_now path file stands = record { consistent = m.consistent path file stands; only_writes = m.only_writes path file stands; not_renamed = m.not_renamed path file stands }
+  each_now path file stands = record { consistent = m.consistent path file stands; only_writes = m.only_writes path file stands }
 
   pub invariant-same : new ≡ memory_directory m → Invariant new
   invariant-same same = subst Invariant (sym same) (of_each (memory_directory m) each_now)
@@ -96,6 +95,12 @@ module _ (m : MemoryFileSystem) (new : Directory) where
       by_test : (stands : Bool) → Each (cond stands (memory_directory m) (with_file path (synced_file []) (memory_directory m)))
       by_test true = each_now
       by_test false = placed_each path (synced_file []) (memory_directory m) each_now (settled_holds [])
+
+  pub invariant-deleted : (path : Path) → new ≡ without_file path (memory_directory m) → Invariant new
+  invariant-deleted path is = subst Invariant (sym is) (of_each (without_file path (memory_directory m)) (without_each Holds path (memory_directory m) each_now))
+
+  pub invariant-renamed : (from to : Path) → new ≡ after_rename from to (memory_directory m) → Invariant new
+  invariant-renamed from to is = subst Invariant (sym is) (of_each (after_rename from to (memory_directory m)) (renamed_each Holds from to (memory_directory m) renamed_holds each_now))
 
   pub invariant-folder_made : (path : Path) → new ≡ folder_made path (memory_directory m) → Invariant new
   invariant-folder_made path is = subst Invariant (sym is) (of_each (folder_made path (memory_directory m)) each_now)

@@ -5,7 +5,7 @@ ghost use Rattle.raft_env.specs.Outcomes.{MayLeave, synced_file};
 ghost use Rattle.raft_env.specs.Directory.{Leaves, IsRestarted};
 ghost use Rattle.raft_memory.specs.Choice.{bytes_by_choice, RefusesUnless};
 ghost use Rattle.raft_memory.specs.Crashed.{Puts};
-ghost use Rattle.raft_env.specs.Consistent.{AreConsistent, NoneRenamed, OnlyWritesFailedIn};
+ghost use Rattle.raft_env.specs.Consistent.{AreConsistent, OnlyWritesFailedIn};
 
 use crate::armed::Armed;
 use crate::memory::MemoryFileSystem;
@@ -37,10 +37,10 @@ impl MemoryFileSystem {
 
     /// The files after a crash now. The choices go to the files in the order of their paths' bytes,
     /// and a file that is left over keeps what was synced. Folders stay. The files are consistent,
-    /// none was renamed, and of their changes only writes failed. So by
-    /// `raft_damage::laws::premise_can_be_met` the damage of `All` and `Synced` is detectable of a log
-    /// that `raft_premise::laws::failed_calls_add_no_record` keeps, and that of `Torn` where the
-    /// torn record doesn't decode.
+    /// and of their changes only writes failed. So by `raft_damage::laws::premise_can_be_met` the
+    /// damage of `All` and `Synced` is detectable of a log that
+    /// `raft_premise::laws::failed_calls_add_no_record` keeps, and that of `Torn` where the torn
+    /// record doesn't decode.
     pub fn crash(&self, choices: &[Choice]) -> Result<MemoryFileSystem, Fault>
         ensures ok { IfOk result (λ m. IsRestarted (memory_directory self.now)
             (left_by choices.now (memory_directory self.now)) (memory_directory m)) }
@@ -49,7 +49,6 @@ impl MemoryFileSystem {
         ensures others { IfOk result (λ m. (armed_of m ≡ []) × (stop_of m ≡ None)) }
         ensures consistent { AreConsistent (memory_directory self.now) }
         ensures only_writes { OnlyWritesFailedIn (memory_directory self.now) }
-        ensures not_renamed { NoneRenamed (memory_directory self.now) }
         ensures value { OnOk result (Leaves (memory_directory self.now)
             (left_by choices.now (memory_directory self.now))) }
         ensures refused { IfErr result (RefusesUnless

@@ -26,6 +26,7 @@ pub(crate) enum Step<'a> {
     Write(&'a GhostFile, usize, &'a [u8], bool, &'a [u8]),
     Resize(&'a GhostFile, &'a [u8]),
     Sync(&'a GhostFile),
+    Rename(&'a GhostFile),
     /// The file is new, or a crash left these bytes.
     Start(&'a [u8]),
 }

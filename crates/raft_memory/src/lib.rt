@@ -6,6 +6,7 @@ mod before_images;
 mod crash;
 mod ghost_file;
 mod half_write;
+mod handles;
 mod memory;
 mod memory_file;
 mod namespace;
@@ -13,4 +14,5 @@ mod refusals;
 
 pub use armed::FsCall;
 pub use crash::Choice;
-pub use memory::{MemoryFileSystem, MemoryHandle, MemoryReader, MemoryWriter};
+pub use handles::{MemoryHandle, MemoryReader, MemoryWriter};
+pub use memory::MemoryFileSystem;

@@ -2,7 +2,7 @@
 ghost use Rattle.std.specs.Prelude.{◌≡◌, ◌⊎◌, ◌≤◌, ◌<◌, ◌+◌, ◌^◌, ◌↔◌, [], ◌∷◌, length, map, refl, take, IfErr, IfOk, IsTrue, None, OnErr, OnOk, Some, false, true};
 ghost use Rattle.std.specs.String.{string_bytes};
 ghost use Rattle.std.proofs.Props.{props};
-ghost use Rattle.raft_env.specs.Consistent.{AreConsistent, NoneRenamed, OnlyWritesFailedIn, past_prop};
+ghost use Rattle.raft_env.specs.Consistent.{AreConsistent, OnlyWritesFailedIn, past_prop};
 ghost use Rattle.raft_memory.specs.Files.{namespace_directory};
 ghost use Rattle.raft_env.specs.Outcomes.{overlay, file_after_write};
 ghost use Rattle.raft_env.specs.Directory.{IsReading, IsWriting, update_file};
@@ -12,6 +12,7 @@ ghost use Rattle.raft_memory.specs.Counted.{by_storage};
 
 use crate::armed::{Armed, FsCall};
 use crate::half_write::fits;
+use crate::handles::{MemoryHandle, MemoryReader, MemoryWriter, copy_from};
 use crate::namespace::Namespace;
 use crate::refusals::RefusalCount;
 use raft_base::History;
@@ -30,24 +31,6 @@ pub struct MemoryFileSystem {
     ghost consistent: { AreConsistent (namespace_directory namespace) } by { Prim.hlevel (props, past_prop) },
     ghost only_writes: { OnlyWritesFailedIn
         (namespace_directory namespace) } by { Prim.hlevel props },
-    ghost not_renamed: { NoneRenamed (namespace_directory namespace) } by { Prim.hlevel props },
-}
-
-#[derive(Drop)]
-pub struct MemoryHandle {
-    path: String,
-    may_write: bool,
-}
-
-#[derive(Drop)]
-pub struct MemoryReader {
-    path: String,
-    refused: u64,
-}
-
-#[derive(Drop)]
-pub struct MemoryWriter {
-    path: String,
 }
 
 impl MemoryFileSystem {
@@ -73,7 +56,7 @@ impl MemoryFileSystem {
 impl FileSystem for MemoryFileSystem {
     ghost use Rattle.raft_memory.specs.Memory.{memory_directory, memory_moments, memory_refusals, armed_of, stop_of, LeavesHalf};
     ghost use Rattle.raft_memory.specs.Armed.{arms_after, injected, stop_after};
-    ghost use Rattle.raft_env.specs.Directory.{HasFile, IsAllocating, IsMakingFolder, IsOneOf, IsTruncating, ReadsAt, after_create, file_at, folder_made, names_in};
+    ghost use Rattle.raft_env.specs.Directory.{HasFile, IsAllocating, IsMakingFolder, IsOneOf, IsTruncating, ReadsAt, after_create, after_rename, without_file, file_at, folder_made, names_in};
     ghost use Rattle.raft_env.specs.Outcomes.{File, pad_to, file_after_resize, synced_of};
     ghost use Rattle.raft_env.specs.Refusal.{CountsRefusalOf, added_count, no_refusals};
     ghost use Rattle.raft_memory.specs.Refused.{HasNoFolder, HasNoPlace, HasNoRoom, IsAbsent, IsBarred, IsMissing, RefusesAs, WasArmed};
@@ -161,6 +144,57 @@ impl FileSystem for MemoryFileSystem {
             }),
             Err(_) => Err(self.refusals.count(FsFault::Memory)),
         }
+    }
+
+    fn delete(&mut self, path: &str) -> Result<(), FsFault>
+        ensures value { OnOk result (HasFile (memory_directory self.old) path.now) }
+        ensures ok { OnOk result (memory_directory self.new
+            ≡ without_file path.now (memory_directory self.old)) }
+        ensures err { OnErr result (memory_directory self.new ≡ memory_directory self.old) }
+        ensures any_moment { MovesBy memory_directory memory_moments
+            (λ old. IsOneOf old (without_file path.now old)) self.old self.new }
+        ensures cause { CountsRefusalOf result (memory_refusals self.old)
+            (memory_refusals self.new) }
+        ensures refused { RefusesAs (injected FsCall.Delete (armed_of self.old) (stop_of self.old))
+            (IsAbsent (memory_directory self.old) path.now) result }
+        ensures stop { stop_of self.new ≡ stop_after (stop_of self.old) }
+        ensures armed { armed_of self.new ≡ arms_after FsCall.Delete (armed_of self.old) }
+    {
+        if let Some(kind) = self.armed.fault_for_change(FsCall::Delete) {
+            return Err(self.refusals.count(FsFault::Io(kind)));
+        }
+        let past = self.past.with(&self.namespace);
+        if let Err(fault) = self.namespace.delete(path) {
+            return Err(self.refusals.count(fault));
+        }
+        self.past = past;
+        Ok(())
+    }
+
+    fn rename(&mut self, from: &str, to: &str) -> Result<(), FsFault>
+        ensures value { OnOk result (HasFile (memory_directory self.old) from.now) }
+        ensures ok { OnOk result (memory_directory self.new
+            ≡ after_rename from.now to.now (memory_directory self.old)) }
+        ensures err { OnErr result (memory_directory self.new ≡ memory_directory self.old) }
+        ensures any_moment { MovesBy memory_directory memory_moments
+            (λ old. IsOneOf old (after_rename from.now to.now old)) self.old self.new }
+        ensures cause { CountsRefusalOf result (memory_refusals self.old)
+            (memory_refusals self.new) }
+        ensures refused { RefusesAs (injected FsCall.Rename (armed_of self.old) (stop_of self.old))
+            (λ e. IsMissing (memory_directory self.old) from.now e
+            ⊎ HasNoPlace (memory_directory self.old) to.now e) result }
+        ensures stop { stop_of self.new ≡ stop_after (stop_of self.old) }
+        ensures armed { armed_of self.new ≡ arms_after FsCall.Rename (armed_of self.old) }
+    {
+        if let Some(kind) = self.armed.fault_for_change(FsCall::Rename) {
+            return Err(self.refusals.count(FsFault::Io(kind)));
+        }
+        let past = self.past.with(&self.namespace);
+        if let Err(fault) = self.namespace.rename(self.alloc, from, to) {
+            return Err(self.refusals.count(fault));
+        }
+        self.past = past;
+        Ok(())
     }
 
     fn new_reader(&mut self, handle: &MemoryHandle) -> Result<MemoryReader, FsFault>
@@ -365,11 +399,11 @@ impl FileSystem for MemoryFileSystem {
             ⊎ IsAbsent (memory_directory self.now) (string_bytes reader.old.path) e) }
     {
         if let Some(kind) = self.armed.fault_for_read() {
-            return Err(refused(reader, kind));
+            return Err(reader.refuse(kind));
         }
         match self.namespace.files.get(reader.path.as_str()) {
             Some(file) => Ok(copy_from(file.bytes(), at, bytes)),
-            None => Err(refused(reader, IoKind::NotFound)),
+            None => Err(reader.refuse(IoKind::NotFound)),
         }
     }
 
@@ -454,26 +488,4 @@ impl FileSystem for MemoryFileSystem {
     fn read_refusals(&self, reader: &MemoryReader) -> u64 {
         reader.refused
     }
-}
-
-fn refused(reader: &mut MemoryReader, kind: IoKind) -> FsFault
-    ensures value { result ≡ FsFault.Io kind }
-    ensures reader { string_bytes reader.new.path ≡ string_bytes reader.old.path }
-    ensures cause { CountsRefusal result (by_storage reader.old.refused)
-        (by_storage reader.new.refused) }
-{
-    reader.refused = reader.refused.saturating_add(1);
-    FsFault::Io(kind)
-}
-
-// As many bytes as there are from that place on, at most as many as fit.
-fn copy_from(from: &[u8], at: usize, bytes: &mut [u8]) -> usize
-    ensures { IsReading from.now at result bytes.old bytes.new }
-{
-    if at >= from.len() {
-        return 0;
-    }
-    let count = bytes.len().min(from.len() - at);
-    bytes[..count].copy_from_slice(&from[at..at + count]);
-    count
 }

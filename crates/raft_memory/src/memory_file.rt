@@ -1,7 +1,7 @@
 //! A file in memory: its bytes now, what its changes since the last sync wrote over, and the ranges
 //! that they touched.
 ghost use Rattle.std.specs.Prelude.{◌≡◌, ◌≤◌, ◌<◌, ◌+◌, ◌-◌, ◌==◌, ◌&&◌, ◌++◌, ◌^◌, ◌||◌, ℕ, [], length, take, drop, if◌then◌else◌, true, OnOk, OnErr, IfOk, IfErr, MatchBool, vec_len, vec_capacity};
-ghost use Rattle.raft_env.specs.Outcomes.{File, MayLeave, synced_file, file_after_write, file_after_resize, synced_of, longest_of, overlay, pad_to, is_within};
+ghost use Rattle.raft_env.specs.Outcomes.{File, MayLeave, synced_file, file_after_write, file_after_resize, synced_of, renamed_of, longest_of, overlay, pad_to, is_within};
 ghost use Rattle.raft_memory.specs.Choice.{torn_bytes};
 ghost use Rattle.raft_memory.specs.MemoryFile.{IsFileOf, IsSaved, is_covered, SameOutside};
 
@@ -131,6 +131,13 @@ impl MemoryFile {
         self.least = self.bytes.len();
         self.greatest = self.bytes.len();
         self.ghost_file = GhostFile::after(&Step::Sync(&self.ghost_file));
+    }
+
+    /// Touches no byte.
+    pub(crate) fn rename(&mut self)
+        ensures { self.new ≡ renamed_of self.old }
+    {
+        self.ghost_file = GhostFile::after(&Step::Rename(&self.ghost_file));
     }
 }
 

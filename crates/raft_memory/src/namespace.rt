@@ -1,8 +1,8 @@
 //! The files and folders of a file system in memory.
-ghost use Rattle.std.specs.Prelude.{◌≡◌, ◌≤◌, ◌<◌, ◌+◌, ◌^◌, length, take, map, true, OnOk, OnErr, IfOk, IfErr};
+ghost use Rattle.std.specs.Prelude.{◌≡◌, ◌≢◌, ◌⊎◌, ◌≤◌, ◌<◌, ◌+◌, ◌^◌, length, take, map, true, OnOk, OnErr, IfOk, IfErr};
 ghost use Rattle.std.specs.String.{string_bytes};
-ghost use Rattle.raft_env.specs.Outcomes.{file_after_write, file_after_resize, synced_of, overlay, pad_to};
-ghost use Rattle.raft_env.specs.Directory.{update_file, after_create, folder_made, names_in, HasFile};
+ghost use Rattle.raft_env.specs.Outcomes.{file_after_write, file_after_resize, synced_of, renamed_of, overlay, pad_to};
+ghost use Rattle.raft_env.specs.Directory.{update_file, after_create, after_rename, without_file, folder_made, names_in, HasFile};
 ghost use Rattle.raft_memory.specs.Refused.{HasNoFolder, HasNoPlace, IsAbsent, IsBarred, IsMissing};
 
 use crate::memory_file::MemoryFile;
@@ -171,5 +171,85 @@ impl Namespace {
             }
         }
         Ok(names)
+    }
+}
+
+impl Namespace {
+    ghost use Rattle.raft_memory.specs.Files.{namespace_directory};
+
+    pub(crate) fn delete(&mut self, path: &str) -> Result<(), FsFault>
+        ensures value { OnOk result (HasFile (namespace_directory self.old) path.now) }
+        ensures ok { OnOk result (namespace_directory self.new
+            ≡ without_file path.now (namespace_directory self.old)) }
+        ensures err { OnErr result (namespace_directory self.new ≡ namespace_directory self.old) }
+        ensures refused { IfErr result (IsAbsent (namespace_directory self.old) path.now) }
+    {
+        if !self.files.contains_key(path) {
+            return Err(FsFault::Io(IoKind::NotFound));
+        }
+        self.files.remove(path);
+        Ok(())
+    }
+
+    /// Moves the file, without a copy of its bytes. What stands at the other path is gone.
+    pub(crate) fn rename(&mut self, alloc: Global, from: &str, to: &str) -> Result<(), FsFault>
+        ensures value { OnOk result (HasFile (namespace_directory self.old) from.now) }
+        ensures ok { OnOk result (namespace_directory self.new
+            ≡ after_rename from.now to.now (namespace_directory self.old)) }
+        ensures err { OnErr result (namespace_directory self.new ≡ namespace_directory self.old) }
+        ensures refused { IfErr result (λ e. IsMissing (namespace_directory self.old) from.now e
+            ⊎ HasNoPlace (namespace_directory self.old) to.now e) }
+    {
+        if from == to {
+            return self.rename_in_place(from);
+        }
+        if self.has_folder(to) {
+            return Err(FsFault::Io(IoKind::Other));
+        }
+        if !self.has_folder(parent(to)) {
+            return Err(FsFault::Io(IoKind::NotFound));
+        }
+        self.rename_apart(alloc, from, to)
+    }
+
+    fn rename_in_place(&mut self, path: &str) -> Result<(), FsFault>
+        ensures value { OnOk result (HasFile (namespace_directory self.old) path.now) }
+        ensures ok { OnOk result (namespace_directory self.new
+            ≡ update_file path.now renamed_of (namespace_directory self.old)) }
+        ensures err { OnErr result (namespace_directory self.new ≡ namespace_directory self.old) }
+        ensures refused { IfErr result (IsAbsent (namespace_directory self.old) path.now) }
+    {
+        match self.files.get_mut(path) {
+            Some(file) => {
+                file.rename();
+                Ok(())
+            }
+            None => Err(FsFault::Io(IoKind::NotFound)),
+        }
+    }
+
+    // An empty file makes room at the other path first, so nothing fails once the file is taken.
+    fn rename_apart(&mut self, alloc: Global, from: &str, to: &str) -> Result<(), FsFault>
+        requires { from.now ≢ to.now }
+        ensures value { OnOk result (HasFile (namespace_directory self.old) from.now) }
+        ensures ok { OnOk result (namespace_directory self.new
+            ≡ after_rename from.now to.now (namespace_directory self.old)) }
+        ensures err { OnErr result (namespace_directory self.new ≡ namespace_directory self.old) }
+        ensures refused { IfErr result (IsMissing (namespace_directory self.old) from.now) }
+    {
+        if !self.files.contains_key(from) {
+            return Err(FsFault::Io(IoKind::NotFound));
+        }
+        let first = String::from_str(alloc, to)?;
+        let second = String::from_str(alloc, to)?;
+        self.files.insert(first, MemoryFile::new(alloc))?;
+        let Some(mut file) = self.files.remove(from) else {
+            unreachable!()
+        };
+        file.rename();
+        let Ok(_) = self.files.insert(second, file) else {
+            unreachable!()
+        };
+        Ok(())
     }
 }

@@ -1,3 +1,4 @@
+pub mod BlocksLemmas
 pub mod CompletedLemmas
 pub mod FolderLemmas
 pub mod LogFileLemmas

@@ -1,3 +1,4 @@
+pub mod Blocks
 pub mod Config
 pub mod Completed
 pub mod Folder

@@ -2,12 +2,16 @@
 
 use raft_memory::Choice;
 use raft_records::Fault;
-use raft_script::{Act, Op, Outcome};
+use raft_script::{Act, Op, Outcome, TextEntry};
 use std::alloc::{AllocError, Global};
 
 pub enum Change {
     Put(u64, &'static [u8], &'static [u8]),
     Delete(u64, &'static [u8]),
+    /// Entries of a group with the indexes from the first to the last and this word.
+    Entries(u64, u64, u64, &'static [u8]),
+    Clean(u64),
+    Compact(u64, u64),
 }
 
 pub enum Plan {
@@ -28,6 +32,8 @@ pub enum Left {
 pub enum Answer {
     Size(usize),
     Value(Option<&'static [u8]>),
+    /// It fails with this code.
+    Fails(u8),
 }
 
 fn act_of(alloc: Global, change: &Change) -> Result<Act, AllocError> {
@@ -36,7 +42,26 @@ fn act_of(alloc: Global, change: &Change) -> Result<Act, AllocError> {
             Ok(Act::Put(*group, key.to_vec(alloc)?, value.to_vec(alloc)?))
         }
         Change::Delete(group, key) => Ok(Act::Delete(*group, key.to_vec(alloc)?)),
+        Change::Entries(group, first, last, word) => {
+            Ok(Act::Entries(*group, entries_of(alloc, *first, *last, word)?))
+        }
+        Change::Clean(group) => Ok(Act::Clean(*group)),
+        Change::Compact(group, index) => Ok(Act::Compact(*group, *index)),
     }
+}
+
+fn entries_of(
+    alloc: Global,
+    first: u64,
+    last: u64,
+    word: &[u8],
+) -> Result<Vec<TextEntry>, AllocError> {
+    let mut entries = Vec::new(alloc);
+    for index in first..=last {
+        let word = word.to_vec(alloc)?;
+        entries.push(TextEntry { index, word })?;
+    }
+    Ok(entries)
 }
 
 fn acts_of(alloc: Global, changes: &[Change]) -> Result<Vec<Act>, AllocError> {
@@ -87,6 +112,10 @@ fn is_answer(outcome: &Outcome, answer: &Answer) -> bool {
         (Outcome::Value(Ok(Some(value))), Answer::Value(Some(wanted))) => value.as_slice()
             == *wanted,
         (Outcome::Value(Ok(None)), Answer::Value(None)) => true,
+        (_, Answer::Fails(code)) => match fault_of(outcome) {
+            Some(fault) => fault.code() == *code,
+            None => false,
+        },
         _ => false,
     }
 }

@@ -1,19 +1,21 @@
-//! Operations on four keys, and what the keys hold: told from the operations alone, and read from an image.
+//! Operations on four keys and eight entries, and what these hold: told from the operations alone, and read from an
+//! image.
 
 use crate::plans::{Change, Plan};
 use raft_log_engine::{Config, Image};
 use raft_records::{Fresh, ReadableSize};
-use raft_script::{Act, Op, Outcome};
+use raft_script::{Act, Op, Outcome, TextEntry};
 use std::alloc::{AllocError, Global};
 
-/// The first byte of the value at each key, 0 where there is none: `a` and `b` are keys of group 1, `c` and `d` of
-/// group 2.
+/// The first byte of the value at each key and of the word of each entry, 0 where there is none: `a` and `b` are keys
+/// of group 1, `c` and `d` of group 2; the entries are those of group 3, by their indexes.
 #[derive(Clone, Copy, Debug, PartialEq, Eq)]
 pub struct State {
     pub a: u8,
     pub b: u8,
     pub c: u8,
     pub d: u8,
+    pub words: [u8; 8],
     /// Something else is there.
     pub other: bool,
 }
@@ -23,6 +25,7 @@ pub const EMPTY: State = State {
     b: 0,
     c: 0,
     d: 0,
+    words: [0; 8],
     other: false,
 };
 
@@ -57,18 +60,95 @@ pub fn value_of(state: State, group: u64, key: &[u8]) -> u8 {
     }
 }
 
+fn with_word(state: State, group: u64, index: u64, word: u8) -> State {
+    let mut state = state;
+    match state.words.get_mut(index as usize) {
+        Some(place) if group == 3 => *place = word,
+        _ => state.other = true,
+    }
+    state
+}
+
+// The words at the indexes from `first` up to the one before `end` go.
+fn without_words(words: [u8; 8], first: u64, end: u64) -> [u8; 8] {
+    let mut words = words;
+    for (index, word) in words.iter_mut().enumerate() {
+        if first <= index as u64 && (index as u64) < end {
+            *word = 0;
+        }
+    }
+    words
+}
+
+// Entries stand before those with greater indexes alone, which go.
+fn with_entries(state: State, group: u64, entries: &[TextEntry]) -> State {
+    let mut state = state;
+    if let Some(first) = entries.first() {
+        state.words = without_words(state.words, first.index, u64::MAX);
+    }
+    for entry in entries {
+        state = with_word(state, group, entry.index, first_byte(&entry.word));
+    }
+    state
+}
+
+fn compacted(state: State, group: u64, index: u64) -> State {
+    if group == 3 {
+        State {
+            words: without_words(state.words, 0, index),
+            ..state
+        }
+    } else {
+        state
+    }
+}
+
+fn cleaned(state: State, group: u64) -> State {
+    match group {
+        1 => State {
+            a: 0,
+            b: 0,
+            ..state
+        },
+        2 => State {
+            c: 0,
+            d: 0,
+            ..state
+        },
+        _ => compacted(state, group, u64::MAX),
+    }
+}
+
+fn after_act(state: State, act: &Act) -> State {
+    match act {
+        Act::Put(group, key, value) => with(state, *group, key, first_byte(value)),
+        Act::Delete(group, key) => with(state, *group, key, 0),
+        Act::Entries(group, entries) => with_entries(state, *group, entries),
+        Act::Clean(group) => cleaned(state, *group),
+        Act::Compact(group, index) => compacted(state, *group, *index),
+    }
+}
+
 /// The state after an operation that was done.
 pub fn after(state: State, op: &Op) -> State {
     let mut state = state;
-    if let Op::Write(acts, _) = op {
-        for act in acts {
-            state = match act {
-                Act::Put(group, key, value) => with(state, *group, key, first_byte(value)),
-                Act::Delete(group, key) => with(state, *group, key, 0),
-            };
+    match op {
+        Op::Write(acts, _) => {
+            for act in acts {
+                state = after_act(state, act);
+            }
         }
+        Op::Sync | Op::Get(_, _) => {}
     }
     state
+}
+
+// The word's first byte, if these are the bytes of the entry of that index.
+fn word_of(index: u64, bytes: &[u8]) -> Option<u8> {
+    match bytes {
+        [digit, b':', word, ..] if u64::from(*digit) == index.saturating_add(48) => Some(*word),
+        _ => None,
+    }
 }
 
 /// What an image shows.
@@ -77,6 +157,15 @@ pub fn state_of(image: &Image) -> State {
     for group in &image.groups {
         for pair in &group.pairs {
             state = with(state, group.group, &pair.0, first_byte(&pair.1));
+        }
+        for entry in &group.entries {
+            state = match word_of(entry.0, &entry.1) {
+                Some(word) => with_word(state, group.group, entry.0, word),
+                None => State {
+                    other: true,
+                    ..state
+                },
+            };
         }
     }
     state
@@ -134,8 +223,8 @@ pub fn settings(alloc: Global) -> Result<Config, AllocError> {
     Ok(config)
 }
 
-/// Operations on the four keys.
-pub const OPERATIONS: [Plan; 9] = [
+/// Operations on the four keys and the entries.
+pub const OPERATIONS: [Plan; 13] = [
     Plan::Write(&[Change::Put(1, b"a", &[1])], true),
     Plan::Write(
         &[Change::Put(1, b"b", &[2; 40]), Change::Put(2, b"c", &[3])],
@@ -151,4 +240,11 @@ pub const OPERATIONS: [Plan; 9] = [
     Plan::Get(1, b"a"),
     Plan::Write(&[Change::Delete(2, b"c")], true),
     Plan::Write(&[Change::Put(2, b"c", &[6; 9])], false),
+    Plan::Write(&[Change::Entries(3, 1, 4, b"x")], false),
+    Plan::Write(
+        &[Change::Entries(3, 3, 5, b"y"), Change::Put(1, b"b", &[7])],
+        true,
+    ),
+    Plan::Write(&[Change::Compact(3, 2)], false),
+    Plan::Write(&[Change::Clean(2), Change::Compact(3, 4)], false),
 ];

@@ -146,7 +146,7 @@ const CASES: [Case; 16] = [
         name: "entries",
         mode: RecoveryMode::TolerateTailCorruption,
         log: &[HEADER_2, PUT, ENTRIES],
-        kept: Err(2),
+        kept: Ok(&[HEADER_2, PUT, ENTRIES]),
     },
     Case {
         name: "a compressed block",

@@ -9,7 +9,7 @@ use std::test::Fail;
 /// A script, what it prints, and how it ends.
 struct Case(&'static str, &'static str, Ended);
 
-const CASES: [Case; 24] = [
+const CASES: [Case; 32] = [
     Case(
         "put 1 k v sync\nreopen\nget 1 k\nget 1 x\n",
         "ok\nok\nvalue v\nnone\n",
@@ -79,6 +79,31 @@ const CASES: [Case; 24] = [
     Case("sync\ncrash\n", "ok\n", Ended::BadLine(2)),
     Case("crash all now\n", "", Ended::BadLine(1)),
     Case("crash none\n", "", Ended::BadLine(1)),
+    // Entries follow one another.
+    Case(
+        "ent 1 1 3 w\nent 1 5 5 w\nent 1 4 4 w\n",
+        "ok\nrefused 5 gap\nok\n",
+        Ended::Done,
+    ),
+    Case(
+        "ent 1 1 3 w\nent 1 2 2 w\nent 1 4 4 w\nent 1 3 3 w\n",
+        "ok\nok\nrefused 5 gap\nok\n",
+        Ended::Done,
+    ),
+    Case(
+        "ent 1 18446744073709551615 18446744073709551615 w\nent 1 18446744073709551614 18446744073709551614 w\n",
+        "refused 6 range\nok\n",
+        Ended::Done,
+    ),
+    Case("ent 1 3 2 w\n", "", Ended::BadLine(1)),
+    Case("ent 1 3 w\n", "", Ended::BadLine(1)),
+    Case("ent 1 1 1 w now\n", "", Ended::BadLine(1)),
+    Case(
+        "put 1 k v\nent 1 1 3 w sync\nclean 1\nget 1 k\nent 1 7 7 w\nreopen\nent 1 9 9 w\n",
+        "ok\nok\nok\nnone\nok\nok\nrefused 5 gap\n",
+        Ended::Done,
+    ),
+    Case("clean 1 2\n", "", Ended::BadLine(1)),
 ];
 
 #[test]

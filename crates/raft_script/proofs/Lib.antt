@@ -1,4 +1,5 @@
 pub mod DurabilityLemmas
+pub mod EntryLemmas
 pub mod LineLemmas
 pub mod LineReadingLemmas
 pub mod ProgramLemmas

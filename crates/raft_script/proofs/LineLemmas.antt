@@ -9,7 +9,7 @@ use Rattle.std.proofs.lemmas.Bool.{le-ltb, lt-ltb}
 use Rattle.std.proofs.lemmas.Bool.Decides.{nat_tests}
 use Rattle.std.proofs.lemmas.List.{drop-drop, drop_all, drop_more, length-drop, take_all}
 use Rattle.std.proofs.lemmas.List.Splits.{slice_split_first}
-use Rattle.raft_script.specs.Line.{BeginsWith, Delete, Get, HasNoWord, Put, Reopen, if_last, parsed_words, delete_by, get_by, is_word, number_in, put_by, sync_by, torn_by, words_in}
+use Rattle.raft_script.specs.Line.{BeginsWith, Delete, Get, HasNoWord, Put, Reopen, if_last, parsed_words, delete_by, get_by, is_word, number_in, put_by, sync_by, torn_by, with_number, words_in}
 use Rattle.raft_script.specs.declared.line.CrashChoice.{CrashChoice}
 use Rattle.raft_script.specs.declared.line.CrashChoice.TheVariants.{Torn}
 
@@ -139,6 +139,29 @@ number_over word i n within digit low high over = number_next word i n within di
 
 pub number_ends : (word : List ℕ) (i n : ℕ) → length word ≤ i → n < 2 ^ 64 → number_from n (drop i word) ≡ Some n
 number_ends word i n past small = ap (number_from n) (drop_all i word past) ∙ ap (λ b. cond b (Some n) None) (lt-ltb n (2 ^ 64) small)
+
+-- Words after a number.
+
+module _ {T : Type 0} (text : List ℕ) (asked : ℕ → List (List ℕ) → Option T) where
+  pub without_number : ((word : List ℕ) (words : List (List ℕ)) → words_in text ≡ Some (word ∷ words) → number_in word ≡ None) → option_and_then (with_number asked) (words_in text) ≡ None
+  without_number none = by_words (words_in text) refl
+    where
+      by_words : (found : Option (List (List ℕ))) → words_in text ≡ found → option_and_then (with_number asked) found ≡ None
+      by_words None e = refl
+      by_words (Some []) e = refl
+      by_words (Some (word ∷ words)) e = ap (option_and_then (λ n. asked n words)) (none word words e)
+
+  pub after_number : (word rest : List ℕ) (n : ℕ) → number_in word ≡ Some n → BeginsWith text word rest → option_and_then (with_number asked) (words_in text) ≡ option_and_then (asked n) (words_in rest)
+  after_number word rest n is begins = ap (option_and_then (with_number asked)) begins ∙ by_words (words_in rest)
+    where
+      by_words : (found : Option (List (List ℕ))) → option_and_then (with_number asked) (option_map (λ words. word ∷ words) found) ≡ option_and_then (asked n) found
+      by_words None = refl
+      by_words (Some words) = ap (option_and_then (λ k. asked k words)) is
+
+-- what is asked of the words that follow
+pub map-and_then : {T U : Type 0} (f : T → U) (by : List (List ℕ) → Option T) (found : Option (List (List ℕ))) → option_and_then (λ words. option_map f (by words)) found ≡ option_map f (option_and_then by found)
+map-and_then f by None = refl
+map-and_then f by (Some words) = refl
 
 -- Lines whose group is no number.
 

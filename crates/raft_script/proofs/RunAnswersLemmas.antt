@@ -13,21 +13,21 @@ use Rattle.raft_log_engine.specs.declared.engine.Engine.{Engine}
 use Rattle.raft_records.specs.Contents.{Contents, after_batches}
 use Rattle.raft_records.specs.Item.{Batch}
 use Rattle.raft_script.specs.Durability.{Answers, AreAllowedInside, IsAllowedInside, LeavesInside, PassesThrough, Progress, progress_after, progress_after_all, progress_from}
-use Rattle.raft_script.specs.Run.{IsFailing, IsUnnoted, given_batches}
+use Rattle.raft_script.specs.Run.{IsFailing, IsGiven, IsUnnoted}
 use Rattle.raft_script.specs.declared.operation.Op.{Op}
 use Rattle.raft_script.specs.declared.operation.Outcome.{Outcome}
 
 -- operations after others
 module _ (folder : Path) (m : Contents) (mid now : Snapshot) (mid_notes notes : List Answered) (more : List Op) (more_outcomes : List Outcome) where
   pub through-append : (p : Progress) (before : Snapshot) (noted : List Answered) (ops : List Op) (outcomes : List Outcome) → PassesThrough folder m p before noted ops outcomes mid mid_notes
-      → PassesThrough folder m (progress_after_all p ops outcomes) mid mid_notes more more_outcomes now notes → PassesThrough folder m p before noted (ops ++ more) (outcomes ++ more_outcomes) now notes
+      → PassesThrough folder m (progress_after_all m p ops outcomes) mid mid_notes more more_outcomes now notes → PassesThrough folder m p before noted (ops ++ more) (outcomes ++ more_outcomes) now notes
   through-append p before noted [] [] passed rest =
       subst (λ (x : Snapshot). PassesThrough folder m p x noted more more_outcomes now notes) passed.0
       (subst (λ (l : List Answered). PassesThrough folder m p mid l more more_outcomes now notes) passed.1 rest)
   through-append p before noted [] (o ∷ outcomes) passed rest = absurd passed
   through-append p before noted (op ∷ ops) [] passed rest = absurd passed
-  through-append p before noted (op ∷ ops) (o ∷ outcomes) (inl passed) rest = inl (passed.0, through-append (progress_after p op o) before noted ops outcomes passed.1 rest)
-  through-append p before noted (op ∷ ops) (o ∷ outcomes) (inr passed) rest = inr (passed.0, passed.1, through-append (progress_after p op o) passed.0.snapshot (passed.0 ∷ noted) ops outcomes passed.2 rest)
+  through-append p before noted (op ∷ ops) (o ∷ outcomes) (inl passed) rest = inl (passed.0, through-append (progress_after m p op o) before noted ops outcomes passed.1 rest)
+  through-append p before noted (op ∷ ops) (o ∷ outcomes) (inr passed) rest = inr (passed.0, passed.1, through-append (progress_after m p op o) passed.0.snapshot (passed.0 ∷ noted) ops outcomes passed.2 rest)
 
 -- the moments there are then follow those that there were
 pub through_moments : (folder : Path) (m : Contents) (p : Progress) (before : Snapshot) (noted : List Answered) (ops : List Op) (outcomes : List Outcome) (now : Snapshot) (notes : List Answered) → PassesThrough folder m p before noted ops outcomes now notes
@@ -35,9 +35,9 @@ pub through_moments : (folder : Path) (m : Contents) (p : Progress) (before : Sn
 through_moments folder m p before noted [] [] now notes passed = ([], ap (λ (x : Snapshot). x.moments) passed.0)
 through_moments folder m p before noted [] (o ∷ outcomes) now notes passed = absurd passed
 through_moments folder m p before noted (op ∷ ops) [] now notes passed = absurd passed
-through_moments folder m p before noted (op ∷ ops) (o ∷ outcomes) now notes (inl passed) = through_moments folder m (progress_after p op o) before noted ops outcomes now notes passed.1
+through_moments folder m p before noted (op ∷ ops) (o ∷ outcomes) now notes (inl passed) = through_moments folder m (progress_after m p op o) before noted ops outcomes now notes passed.1
 through_moments folder m p before noted (op ∷ ops) (o ∷ outcomes) now notes (inr passed) =
-    let rest = through_moments folder m (progress_after p op o) passed.0.snapshot (passed.0 ∷ noted) ops outcomes now notes passed.2 in
+    let rest = through_moments folder m (progress_after m p op o) passed.0.snapshot (passed.0 ∷ noted) ops outcomes now notes passed.2 in
     (rest.0 ++ passed.1.added, rest.1 ∙ ap (λ (l : List Directory). rest.0 ++ l) passed.1.is ∙ sym (append_assoc rest.0 passed.1.added before.moments))
 
 -- what holds of each engine between two calls
@@ -46,9 +46,9 @@ pub record Keeps (folder : Path) (now : Durability) (n : Directory) : Type 0 whe
   pub holds : now.failed ≡ false → now.contents ≡ after_batches now.durable now.unsynced
 
 -- the moments of one call: those inside it, and the newest of them once it is answered
-module _ (folder : Path) (m : Contents) (p : Progress) (op : Op) (outcome : Outcome) (before : Snapshot) (answer : Answered) (given : answer.given ≡ given_batches op) (P : Directory → Type 0) (n : Directory) where
+module _ (folder : Path) (m : Contents) (p : Progress) (op : Op) (outcome : Outcome) (before : Snapshot) (answer : Answered) (given : IsGiven before.failed (after_batches m p.batches) op answer.given) (P : Directory → Type 0) (n : Directory) where
   pub inside_call : (inside : (x : Directory) → before.failed ≡ false → P x → LeavesInside folder m p op x) → (before.failed ≡ false → HoldsThroughout before.moments answer.snapshot.moments n P) → (before.failed ≡ true → answer.snapshot.moments ≡ before.moments)
-      → (answer.snapshot.failed ≡ false → (x : Directory) (earlier : List Directory) → answer.snapshot.moments ≡ x ∷ earlier → let q = progress_after p op outcome in LeavesAllowedFrom q.covered folder m q.batches x) → IsFailing before.failed op outcome answer.snapshot.failed → IsAllowedInside folder m p op outcome before answer
+      → (answer.snapshot.failed ≡ false → (x : Directory) (earlier : List Directory) → answer.snapshot.moments ≡ x ∷ earlier → let q = progress_after m p op outcome in LeavesAllowedFrom q.covered folder m q.batches x) → IsFailing before.failed op outcome answer.snapshot.failed → IsAllowedInside folder m p op outcome before answer
   inside_call inside passing rests after fails = elim (cases_Bool before.failed) [
     | inl failed ↦ record { given = given; added = []; is = rests failed; inside = tt; fails = fails; after = after }
     | inr alive ↦
@@ -57,11 +57,11 @@ module _ (folder : Path) (m : Contents) (p : Progress) (op : Op) (outcome : Outc
   ]
 
 -- one operation more
-module _ {F H R W : Type 0} {g : Ghosts F H R W} (ops : List Op) (outcomes : List Outcome) (op : Op) (outcome : Outcome) (e old new : Engine F H R W g) (a : AreAllowedInside ops outcomes e old) (flight : List Batch) where
-  pub allowed_more : (IsUnnoted op outcome × (new ≡ old)) ⊎ Answers (given_batches op) flight old new → (Answers (given_batches op) flight old new → IsAllowedInside (folder_of e) (durable_of e) (progress_after_all (progress_from (unsynced_of e)) ops outcomes) op outcome (snapshot_of old) (answer_now (given_batches op) new))
+module _ {F H R W : Type 0} {g : Ghosts F H R W} (ops : List Op) (outcomes : List Outcome) (op : Op) (outcome : Outcome) (e old new : Engine F H R W g) (a : AreAllowedInside ops outcomes e old) (given flight : List Batch) where
+  pub allowed_more : (IsUnnoted op outcome × (new ≡ old)) ⊎ Answers given flight old new → (Answers given flight old new → IsAllowedInside (folder_of e) (durable_of e) (progress_after_all (durable_of e) (progress_from (unsynced_of e)) ops outcomes) op outcome (snapshot_of old) (answer_now given new))
       → AreAllowedInside (ops ++ op ∷ []) (outcomes ++ outcome ∷ []) e new
   allowed_more answers inside =
       through-append (folder_of e) (durable_of e) (snapshot_of old) (snapshot_of new) (answered_of old) (answered_of new) (op ∷ []) (outcome ∷ []) (progress_from (unsynced_of e)) (snapshot_of e) (answered_of e) ops outcomes a (elim answers [
         | inl none ↦ inl (none.0, (ap snapshot_of none.1, ap answered_of none.1))
-        | inr asked ↦ inr (answer_now (given_batches op) new, inside asked, (refl, asked.noted))
+        | inr asked ↦ inr (answer_now given new, inside asked, (refl, asked.noted))
       ])

@@ -1,28 +1,26 @@
 -- Operations under way: the batch of acts, and what the operations so far leave.
-use Rattle.std.proofs.Common.{◌≡◌, ℕ, zero, suc, ◌+◌, ◌<◌, ◌≤◌, Bool, true, false, cond, ◌&&◌, inl, inr, List, [], ◌∷◌, ◌++◌, length, length-append, length-drop, take, drop, drop-cons, get_or, Option, Some, None, refl, sym, ◌∙◌, ap, subst, append_assoc, arith}
-use Rattle.std.specs.Prelude.{◌||◌, ◌↔◌, IfErr, IfOk, IsSome, MatchResult, Result, Ok, Err, is_none, is_some, option_map, if◌then◌else◌}
+use Rattle.std.proofs.Common.{◌≡◌, ℕ, zero, suc, ◌+◌, ◌<◌, ◌≤◌, Bool, true, false, cond, inl, inr, List, [], ◌∷◌, ◌++◌, length, length-append, length-drop, take, drop, drop-cons, get_or, Option, Some, None, refl, sym, ◌∙◌, ap, subst, append_assoc, arith}
+use Rattle.std.specs.Prelude.{◌^◌, ◌⊎◌, ◌||◌, ◌↔◌, IfErr, IfOk, IsSome, IsSomeAnd, MatchResult, Result, Ok, Err, is_some, option_map}
 use Rattle.std.proofs.lemmas.Bool.{cases_Bool}
 use Rattle.std.proofs.lemmas.List.{append-nil, nil_from_length}
 use Rattle.std.proofs.lemmas.List.Sums.{fold-append, sum_by-append}
 use Rattle.std.proofs.Math.Seq.{take-suc}
 use Rattle.raft_env.specs.Refusal.{Refusals, StorageRefusalsRose}
-use Rattle.raft_records.specs.Contents.{Contents, after_batch, after_batches, after_item}
-use Rattle.raft_records.specs.Batch.{is_internal_key}
+use Rattle.raft_records.specs.Contents.{Contents, after_batch, after_batches}
 use Rattle.raft_env.specs.Directory.{Path}
 use Rattle.raft_env.specs.declared.env.FileSystem.{Ghosts}
-use Rattle.raft_pipes.specs.LogFile.{is_plain}
-use Rattle.raft_records.specs.Item.{Item, Batch, Put, Delete, is_put_or_delete}
-use Rattle.raft_records.specs.Validity.{batch_refusal}
+use Rattle.raft_records.specs.Item.{Batch}
+use Rattle.raft_records.specs.Layout.{entry_bytes}
+use Rattle.raft_records.specs.Validity.{IsValidBatch, batch_refusal}
+use Rattle.raft_base.specs.Fault.{fault_code}
 use Rattle.raft_base.specs.declared.errors.Fault.{Fault}
 use Rattle.raft_base.specs.declared.errors.Fault.TheVariants as fault
 use Rattle.raft_log_engine.specs.Cause as engine
 use Rattle.raft_log_engine.specs.Durability.{HasWritten}
-use Rattle.raft_log_engine.specs.Engine.{has_failed, refusals_of}
+use Rattle.raft_log_engine.specs.Engine.{contents_of, has_failed, refusals_of}
 use Rattle.raft_log_engine.specs.declared.engine.Engine.{Engine}
-use Rattle.raft_log_engine.specs.Crash.{written_batch}
-use Rattle.raft_script.specs.Run.{accepted_batches, accepted_of, AreAnswers, AreSteady, FailsAt, IsFailing, IsFailurePlace, Refuses, StorageRefusalsRoseBy, batch_of_acts, io_count, is_refused_by_storage, IsAnswer, IsWritten, IsWriteRefusal, item_of_act, pending_batches, with_first, written_batches}
+use Rattle.raft_script.specs.Run.{accepted_batches, accepted_of, AreAnswers, AreSteady, FailsAt, IsFailing, IsFailurePlace, Refuses, StorageRefusalsRoseBy, batch_of_acts, io_count, is_refused_by_storage, IsAnswer, IsUnbuilt, IsGiven, IsWritten, IsWriteRefusal, items_of_act, with_items, written_batches}
 use Rattle.raft_script.specs.declared.operation.Act.{Act}
-use Rattle.raft_script.specs.declared.operation.Act.TheVariants as act
 use Rattle.raft_script.specs.declared.operation.Op.{Op}
 use Rattle.raft_script.specs.declared.operation.Op.TheVariants.{Write, Sync, Get}
 use Rattle.raft_script.specs.declared.operation.Outcome.{Outcome}
@@ -36,28 +34,56 @@ followed_by items rest = option_map (λ more. items ++ more) rest
 abbrev pub IsBuilt : Batch → ℕ → List Act → Type 0
 IsBuilt items n acts = followed_by items (batch_of_acts (drop n acts)) ≡ batch_of_acts acts
 
-followed_by-with_first : (items : Batch) (item : Item) (rest : Option Batch) → followed_by items (with_first (Some item) rest) ≡ followed_by (items ++ item ∷ []) rest
-followed_by-with_first items item None = refl
-followed_by-with_first items item (Some more) = ap Some (sym (append_assoc items (item ∷ []) more))
+followed_by-with_items : (items more : Batch) (rest : Option Batch) → followed_by items (with_items (Some more) rest) ≡ followed_by (items ++ more) rest
+followed_by-with_items items more None = refl
+followed_by-with_items items more (Some others) = ap Some (sym (append_assoc items more others))
 
 pub ahead : {X : Type 0} (xs : List X) (i : ℕ) (x : X) → i < length xs → x ≡ get_or xs i x → drop i xs ≡ x ∷ drop (i + 1) xs
 ahead xs i x within is =
     let next : suc i ≡ i + 1 = omega arith in
     drop-cons xs i x within ∙ ap (λ y. y ∷ drop (suc i) xs) (sym is) ∙ ap (λ (n : ℕ). x ∷ drop n xs) next
 
-pub built_more : (items : Batch) (n : ℕ) (acts : List Act) (act : Act) (item : Item) → n < length acts → act ≡ get_or acts n act → item_of_act act ≡ Some item → IsBuilt items n acts → IsBuilt (items ++ item ∷ []) (n + 1) acts
-built_more items n acts act item within is item_is built =
-    sym (followed_by-with_first items item (batch_of_acts (drop (n + 1) acts)))
-    ∙ ap (λ o. followed_by items (with_first o (batch_of_acts (drop (n + 1) acts)))) (sym item_is)
+pub built_more : (items : Batch) (n : ℕ) (acts : List Act) (act : Act) (more : Batch) → n < length acts → act ≡ get_or acts n act → items_of_act act ≡ Some more → IsBuilt items n acts → IsBuilt (items ++ more) (n + 1) acts
+built_more items n acts act more within is more_is built =
+    sym (followed_by-with_items items more (batch_of_acts (drop (n + 1) acts)))
+    ∙ ap (λ o. followed_by items (with_items o (batch_of_acts (drop (n + 1) acts)))) (sym more_is)
     ∙ ap (λ l. followed_by items (batch_of_acts l)) (sym (ahead acts n act within is))
     ∙ built
 
+pub taken_more : {X : Type 0} (xs : List X) (i : ℕ) (x : X) → i < length xs → x ≡ get_or xs i x → take (i + 1) xs ≡ take i xs ++ x ∷ []
+taken_more xs i x within is =
+    let next : i + 1 ≡ suc i = omega arith in
+    ap (λ (n : ℕ). take n xs) next ∙ take-suc xs i x within ∙ ap (λ y. take i xs ++ y ∷ []) (sym is)
+
+-- the batch of one act more
+batch_push : (acts : List Act) (a : Act) (items more : Batch) → batch_of_acts acts ≡ Some items → items_of_act a ≡ Some more → batch_of_acts (acts ++ a ∷ []) ≡ Some (items ++ more)
+batch_push [] a items more built is = let none : [] ≡ items = cc in ap (λ o. with_items o (Some [])) is ∙ ap Some (append-nil more ∙ ap (λ (l : Batch). l ++ more) none)
+batch_push (b ∷ acts) a items more built is = by_first (items_of_act b) (batch_of_acts acts) built (λ others rest. batch_push acts a others more rest is)
+  where
+    by_first : (first rest : Option Batch) → with_items first rest ≡ Some items → ((others : Batch) → rest ≡ Some others → batch_of_acts (acts ++ a ∷ []) ≡ Some (others ++ more)) → with_items first (batch_of_acts (acts ++ a ∷ [])) ≡ Some (items ++ more)
+    by_first None rest built pushed = cc
+    by_first (Some first) None built pushed = cc
+    by_first (Some first) (Some others) built pushed =
+        let all : first ++ others ≡ items = cc in
+        ap (with_items (Some first)) (pushed others refl) ∙ ap Some (sym (append_assoc first others more) ∙ ap (λ (l : Batch). l ++ more) all)
+
+-- the batch of the first acts, with one more
+pub taken_built : (items more : Batch) (n : ℕ) (acts : List Act) (act : Act) → n < length acts → act ≡ get_or acts n act → items_of_act act ≡ Some more → batch_of_acts (take n acts) ≡ Some items → batch_of_acts (take (n + 1) acts) ≡ Some (items ++ more)
+taken_built items more n acts act within is more_is built = ap batch_of_acts (taken_more acts n act within is) ∙ batch_push (take n acts) act items more built more_is
+
 -- no batch where an act has no item
-pub built_refused : (items : Batch) (n : ℕ) (acts : List Act) (act : Act) → n < length acts → act ≡ get_or acts n act → item_of_act act ≡ None → IsBuilt items n acts → batch_of_acts acts ≡ None
+built_refused : (items : Batch) (n : ℕ) (acts : List Act) (act : Act) → n < length acts → act ≡ get_or acts n act → items_of_act act ≡ None → IsBuilt items n acts → batch_of_acts acts ≡ None
 built_refused items n acts act within is none built =
     sym built
     ∙ ap (λ l. followed_by items (batch_of_acts l)) (ahead acts n act within is)
-    ∙ ap (λ o. followed_by items (with_first o (batch_of_acts (drop (n + 1) acts)))) none
+    ∙ ap (λ o. followed_by items (with_items o (batch_of_acts (drop (n + 1) acts)))) none
+
+-- what the refusal of one act more says of all acts
+pub unbuilt_by : (e : Fault) (items : Batch) (n : ℕ) (acts : List Act) (act : Act) → n < length acts → act ≡ get_or acts n act → IsBuilt items n acts → batch_of_acts (take n acts) ≡ Some items
+    → (e ≡ fault.Memory) ⊎ ((fault_code e ≡ 1) × (items_of_act act ≡ None)) ⊎ ((e ≡ fault.Range) × (more : Batch) × (items_of_act act ≡ Some more) × (2 ^ 32 ≤ length (entry_bytes (items ++ more)))) → IsUnbuilt acts e
+unbuilt_by e items n acts act within is built first (inl memory) = inl memory
+unbuilt_by e items n acts act within is built first (inr (inl r)) = inr (inl (r.0, built_refused items n acts act within is r.1 built))
+unbuilt_by e items n acts act within is built first (inr (inr r)) = inr (inr (r.0, (n + 1, items ++ r.1, taken_built items r.1 n acts act within is r.2 first, r.3)))
 
 pub built_ended : (items : Batch) (n : ℕ) (acts : List Act) → drop n acts ≡ [] → IsBuilt items n acts → batch_of_acts acts ≡ Some items
 built_ended items n acts none built = sym built ∙ ap (λ l. followed_by items (batch_of_acts l)) none ∙ ap Some (append-nil items)
@@ -66,115 +92,101 @@ pub after-written_batches : (m : Contents) (batch : Batch) → after_batches m (
 after-written_batches m [] = refl
 after-written_batches m (item ∷ items) = refl
 
--- acts are puts and deletes
-pub acts_plain : (acts : List Act) (items : Batch) → batch_of_acts acts ≡ Some items → is_plain items ≡ true
-acts_plain [] [] built = refl
-acts_plain [] (item ∷ items) built = cc
-acts_plain (a ∷ acts) items built = by_act a (batch_of_acts acts) (λ more is. acts_plain acts more is) built
-  where
-    by_item : (item : Item) (rest : Option Batch) → ((more : Batch) → rest ≡ Some more → is_plain more ≡ true) → is_put_or_delete item.content ≡ true → with_first (Some item) rest ≡ Some items → is_plain items ≡ true
-    by_item item None others plain first = cc
-    by_item item (Some more) others plain first =
-        let all : item ∷ more ≡ items = cc in
-        ap is_plain (sym all) ∙ ap (λ (b : Bool). b && is_plain more) plain ∙ others more refl
-
-    by_key : (internal : Bool) (item : Item) (rest : Option Batch) → ((more : Batch) → rest ≡ Some more → is_plain more ≡ true) → is_put_or_delete item.content ≡ true → with_first (if internal then None else Some item) rest ≡ Some items → is_plain items ≡ true
-    by_key true item rest others plain first = cc
-    by_key false item rest others plain first = by_item item rest others plain first
-
-    by_act : (a : Act) (rest : Option Batch) → ((more : Batch) → rest ≡ Some more → is_plain more ≡ true) → with_first (item_of_act a) rest ≡ Some items → is_plain items ≡ true
-    by_act (act.Put group key value) rest others first = by_key (is_internal_key key.items) (record { group = group; content = Put key.items value.items }) rest others refl first
-    by_act (act.Delete group key) rest others first = by_item (record { group = group; content = Delete key.items }) rest others refl first
-
 same_err : {T : Type 0} {x y : Fault} (r : Result T Fault) → r ≡ Err x → r ≡ Err y → x ≡ y
 same_err r a b = cc
 
+-- what is known of the batch of acts
+of_built : (P : Batch → Type 0) (acts : List Act) (items : Batch) → batch_of_acts acts ≡ Some items → P items → IsSomeAnd (batch_of_acts acts) P
+of_built P acts items built h = subst (λ (o : Option Batch). IsSomeAnd o P) (sym built) h
+
 -- an engine's write of such a batch is answered as the operation
-module _ {F H R W : Type 0} {g : Ghosts F H R W} (acts : List Act) (items rest : Batch) (folder : Path) (old new : Engine F H R W g) (built : batch_of_acts acts ≡ Some items) where
-  pub write_answered : (result : Result ℕ Fault) → IfOk result (HasWritten items rest old new) → ((result ≡ Err fault.Failed) ↔ (has_failed old ≡ true)) → IfErr result (λ e. has_failed old ≡ false → engine.IsWriteRefusal folder items (has_failed old) (has_failed new) (refusals_of old) (refusals_of new) e) →
-      MatchResult result (IsWritten acts) (IsWriteRefusal acts)
-  write_answered (Ok len) written failed cause = (items, built, written.len_is)
+module _ {F H R W : Type 0} {g : Ghosts F H R W} (acts : List Act) (items rest : Batch) (folder : Path) (m : Contents) (old new : Engine F H R W g) (built : batch_of_acts acts ≡ Some items) (same : has_failed old ≡ false → m ≡ contents_of old) where
+  pub write_answered : (result : Result ℕ Fault) → IfOk result (HasWritten items rest old new) → ((result ≡ Err fault.Failed) ↔ (has_failed old ≡ true)) → IfErr result (λ e. has_failed old ≡ false → engine.IsWriteRefusal folder (contents_of old) items (has_failed new) (refusals_of old) (refusals_of new) e) →
+      MatchResult result (IsWritten m acts) (IsWriteRefusal m acts)
+  write_answered (Ok len) written failed cause = elim (cases_Bool (has_failed old)) [
+    | inl gone ↦ absurd (let clash = failed.1 gone in cc)
+    | inr stands ↦ (items, built, subst (λ (c : Contents). IsValidBatch c items) (sym (same stands)) written.valid, written.len_is)
+  ]
   write_answered (Err e) written failed cause = elim (cases_Bool (has_failed old)) [
-    | inl gone ↦ let is : e ≡ fault.Failed = same_err (Err e) refl (failed.1 gone) in subst (IsWriteRefusal acts) (sym is) (subst IsSome (sym built) refl)
-    | inr stands ↦ by_fault e (cause stands)
+    | inl gone ↦ let is : e ≡ fault.Failed = same_err (Err e) refl (failed.1 gone) in subst (IsWriteRefusal m acts) (sym is) (subst IsSome (sym built) refl)
+    | inr stands ↦ by_fault e (subst (λ (c : Contents). engine.IsWriteRefusal folder c items (has_failed new) (refusals_of old) (refusals_of new) e) (sym (same stands)) (cause stands))
   ]
     where
-      by_fault : (e : Fault) → engine.IsWriteRefusal folder items (has_failed old) (has_failed new) (refusals_of old) (refusals_of new) e → IsWriteRefusal acts e
-      by_fault (fault.InvalidArgument why) h = let plain = acts_plain acts items built in cc
+      by_fault : (e : Fault) → engine.IsWriteRefusal folder m items (has_failed new) (refusals_of old) (refusals_of new) e → IsWriteRefusal m acts e
       by_fault (fault.Io kind path) h = subst IsSome (sym built) refl
       by_fault fault.Memory h = tt
-      by_fault fault.Range h = (items, built, h.0)
+      by_fault fault.Gap h = of_built (λ batch. batch_refusal m batch ≡ Some fault.Gap) acts items built h.0
+      by_fault fault.Range h = inr (of_built (engine.IsOutOfRange m) acts items built h.0)
       by_fault _ h = absurd h
 
--- a batch of puts and deletes is refused by no contents
-abbrev refusal_of : Contents → Option Batch → Option Fault
-refusal_of m None = None
-refusal_of m (Some batch) = batch_refusal m batch
+-- What depends on the contents of an engine that stands alone.
 
-put_refusal : (m : Contents) (internal : Bool) (group : ℕ) (key value : List ℕ) (rest : Option Batch) → ((n : Contents) → refusal_of n rest ≡ None) → refusal_of m (with_first (if internal then None else Some (record { group = group; content = Put key value })) rest) ≡ None
-put_refusal m true group key value rest valid = refl
-put_refusal m false group key value None valid = refl
-put_refusal m false group key value (Some items) valid = valid (after_item m (record { group = group; content = Put key value }))
+module _ (m n : Contents) (op : Op) (failed : Bool) (same : failed ≡ false → m ≡ n) where
+  pub given_same : (given : List Batch) → IsGiven failed m op given → IsGiven failed n op given
+  given_same given is = by_op op is
+    where
+      by_op : (op : Op) → IsGiven failed m op given → IsGiven failed n op given
+      by_op (Write acts sync) is = is
+      by_op Sync is = is
+      by_op (Get group key) is = is
 
-act_refusal : (m : Contents) (a : Act) (rest : Option Batch) → ((n : Contents) → refusal_of n rest ≡ None) → refusal_of m (with_first (item_of_act a) rest) ≡ None
-act_refusal m (act.Put group key value) rest valid = put_refusal m (is_internal_key key.items) group key.items value.items rest valid
-act_refusal m (act.Delete group key) None valid = refl
-act_refusal m (act.Delete group key) (Some items) valid = valid (after_item m (record { group = group; content = Delete key.items }))
-
-acts_refusal : (m : Contents) (acts : List Act) → refusal_of m (batch_of_acts acts) ≡ None
-acts_refusal m [] = refl
-acts_refusal m (a ∷ acts) = act_refusal m a (batch_of_acts acts) (λ n. acts_refusal n acts)
-
-pending_all : (m : Contents) (built : Option Batch) → refusal_of m built ≡ None → written_batches built ≡ pending_batches m built
-pending_all m None valid = refl
-pending_all m (Some batch) valid = ap (λ (r : Option Fault). if is_none r then written_batch batch else []) (sym valid)
-
--- so all of it may be in flight
-pub acts_pending : (m : Contents) (acts : List Act) → written_batches (batch_of_acts acts) ≡ pending_batches m (batch_of_acts acts)
-acts_pending m acts = pending_all m (batch_of_acts acts) (acts_refusal m acts)
+  pub accepted_same : (outcome : Outcome) (fails : Bool) → IsFailing failed op outcome fails → accepted_of m op outcome ≡ accepted_of n op outcome
+  accepted_same outcome fails failing = by_op op outcome failing
+    where
+      by_op : (op : Op) (outcome : Outcome) → IsFailing failed op outcome fails → accepted_of m op outcome ≡ accepted_of n op outcome
+      by_op (Write acts sync) (Size (Ok len)) f = refl
+      by_op (Write acts sync) (Size (Err e)) f = refl
+      by_op (Write acts sync) (Done answer) f = refl
+      by_op (Write acts sync) (Value answer) f = refl
+      by_op Sync outcome f = refl
+      by_op (Get group key) outcome f = refl
 
 -- what a run has come to: the operations so far, their outcomes, and what the engine holds
 pub record IsRunning (before : Contents) (ops : List Op) (outcomes : List Outcome) (now : Contents) (failed : Bool) : Type 0 where
   pub len : length outcomes ≡ length ops
   pub answers : AreAnswers before ops outcomes
-  pub contents : failed ≡ false → now ≡ after_batches before (accepted_batches ops outcomes)
+  pub contents : failed ≡ false → now ≡ after_batches before (accepted_batches before ops outcomes)
 
 pub running_begun : (m : Contents) (failed : Bool) → IsRunning m [] [] m failed
 running_begun m failed = record { len = refl; answers = tt; contents = λ _. refl }
 
-answers_more : (m : Contents) (ops : List Op) (outcomes : List Outcome) (op : Op) (outcome : Outcome) → AreAnswers m ops outcomes → IsAnswer (after_batches m (accepted_batches ops outcomes)) op outcome
+answers_more : (m : Contents) (ops : List Op) (outcomes : List Outcome) (op : Op) (outcome : Outcome) → AreAnswers m ops outcomes → IsAnswer (after_batches m (accepted_batches m ops outcomes)) op outcome
     → AreAnswers m (ops ++ op ∷ []) (outcomes ++ outcome ∷ [])
 answers_more m [] [] op outcome answers more = (more, tt)
 answers_more m [] (o ∷ outcomes) op outcome answers more = absurd answers
 answers_more m (p ∷ ops) [] op outcome answers more = absurd answers
-answers_more m (p ∷ ops) (o ∷ outcomes) op outcome answers more = (
-  answers.0,
-  answers_more (after_batches m (accepted_of p o)) ops outcomes op outcome answers.1 (subst (λ (n : Contents). IsAnswer n op outcome) (fold-append after_batch m (accepted_of p o) (accepted_batches ops outcomes)) more),
-)
+answers_more m (p ∷ ops) (o ∷ outcomes) op outcome answers more =
+    let n = after_batches m (accepted_of m p o) in (
+      answers.0,
+      answers_more n ops outcomes op outcome answers.1 (subst (λ (c : Contents). IsAnswer c op outcome) (fold-append after_batch m (accepted_of m p o) (accepted_batches n ops outcomes)) more),
+    )
 
-pub accepted_more : (ops : List Op) (outcomes : List Outcome) (op : Op) (outcome : Outcome) → length outcomes ≡ length ops → accepted_batches (ops ++ op ∷ []) (outcomes ++ outcome ∷ []) ≡ accepted_batches ops outcomes ++ accepted_of op outcome
-accepted_more [] [] op outcome same = append-nil (accepted_of op outcome)
-accepted_more [] (o ∷ outcomes) op outcome same = absurd (omega (arith, same))
-accepted_more (p ∷ ops) [] op outcome same = absurd (omega (arith, same))
-accepted_more (p ∷ ops) (o ∷ outcomes) op outcome same =
-    ap (λ (l : List Batch). accepted_of p o ++ l) (accepted_more ops outcomes op outcome (omega (arith, same))) ∙ sym (append_assoc (accepted_of p o) (accepted_batches ops outcomes) (accepted_of op outcome))
-
-pub taken_more : {X : Type 0} (xs : List X) (i : ℕ) (x : X) → i < length xs → x ≡ get_or xs i x → take (i + 1) xs ≡ take i xs ++ x ∷ []
-taken_more xs i x within is =
-    let next : i + 1 ≡ suc i = omega arith in
-    ap (λ (n : ℕ). take n xs) next ∙ take-suc xs i x within ∙ ap (λ y. take i xs ++ y ∷ []) (sym is)
+pub accepted_more : (m : Contents) (ops : List Op) (outcomes : List Outcome) (op : Op) (outcome : Outcome) → length outcomes ≡ length ops
+    → accepted_batches m (ops ++ op ∷ []) (outcomes ++ outcome ∷ []) ≡ accepted_batches m ops outcomes ++ accepted_of (after_batches m (accepted_batches m ops outcomes)) op outcome
+accepted_more m [] [] op outcome same = append-nil (accepted_of m op outcome)
+accepted_more m [] (o ∷ outcomes) op outcome same = absurd (omega (arith, same))
+accepted_more m (p ∷ ops) [] op outcome same = absurd (omega (arith, same))
+accepted_more m (p ∷ ops) (o ∷ outcomes) op outcome same =
+    let first = accepted_of m p o in
+    let n = after_batches m first in
+    let rest = accepted_batches n ops outcomes in
+    ap (λ (l : List Batch). first ++ l) (accepted_more n ops outcomes op outcome (omega (arith, same))) ∙ sym (append_assoc first rest (accepted_of (after_batches n rest) op outcome))
+    ∙ ap (λ (c : Contents). (first ++ rest) ++ accepted_of c op outcome) (sym (fold-append after_batch m first rest))
 
 -- one operation more
 module _ (before : Contents) (ops : List Op) (outcomes : List Outcome) (now : Contents) (failed : Bool) (running : IsRunning before ops outcomes now failed)
     (op : Op) (outcome : Outcome) (next : Contents) (fails : Bool) where
-  pub running_more : ((m : Contents) → (failed ≡ false → m ≡ now) → IsAnswer m op outcome) → (fails ≡ false → next ≡ after_batches now (accepted_of op outcome)) → (failed ≡ true → fails ≡ true)
+  pub running_more : ((m : Contents) → (failed ≡ false → m ≡ now) → IsAnswer m op outcome) → (fails ≡ false → next ≡ after_batches now (accepted_of now op outcome)) → (failed ≡ true → fails ≡ true)
       → IsRunning before (ops ++ op ∷ []) (outcomes ++ outcome ∷ []) next fails
-  running_more answer contents still = record {
-    len = length-append outcomes (outcome ∷ []) ∙ ap (λ (n : ℕ). n + 1) running.len ∙ sym (length-append ops (op ∷ []));
-    answers = answers_more before ops outcomes op outcome running.answers (answer (after_batches before (accepted_batches ops outcomes)) (λ stands. sym (running.contents stands)));
-    contents = λ stands. contents stands ∙ ap (λ (m : Contents). after_batches m (accepted_of op outcome)) (running.contents (stood failed still stands))
-        ∙ sym (fold-append after_batch before (accepted_batches ops outcomes) (accepted_of op outcome)) ∙ ap (after_batches before) (sym (accepted_more ops outcomes op outcome running.len));
-  }
+  running_more answer contents still =
+      let so_far = accepted_batches before ops outcomes in
+      let held = after_batches before so_far in
+      record {
+        len = length-append outcomes (outcome ∷ []) ∙ ap (λ (n : ℕ). n + 1) running.len ∙ sym (length-append ops (op ∷ []));
+        answers = answers_more before ops outcomes op outcome running.answers (answer held (λ stands. sym (running.contents stands)));
+        contents = λ stands. contents stands ∙ ap (λ (m : Contents). after_batches m (accepted_of m op outcome)) (running.contents (stood failed still stands))
+            ∙ sym (fold-append after_batch before so_far (accepted_of held op outcome)) ∙ ap (after_batches before) (sym (accepted_more before ops outcomes op outcome running.len));
+      }
     where
       stood : (b : Bool) → (b ≡ true → fails ≡ true) → fails ≡ false → b ≡ false
       stood true still stands = absurd (let now = still refl in cc)

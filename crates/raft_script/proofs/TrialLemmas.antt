@@ -35,14 +35,14 @@ opened_after folder dir m durable unsynced ops outcomes failed_at n folder_is du
     subst (λ (p : Path). LeavesAllowedAfter failed_at p m [] ops outcomes n) folder_is
     (subst (λ (x : Contents). LeavesAllowedAfter failed_at folder x [] ops outcomes n) durable_is (subst (λ (b : List Batch). LeavesAllowedAfter failed_at folder durable b ops outcomes n) unsynced_is leaves))
 
-no_progress : (p : Progress) (ops : List Op) → progress_after_all p ops [] ≡ p
-no_progress p [] = refl
-no_progress p (op ∷ ops) = refl
+no_progress : (m : Contents) (p : Progress) (ops : List Op) → progress_after_all m p ops [] ≡ p
+no_progress m p [] = refl
+no_progress m p (op ∷ ops) = refl
 
 -- where the opening failed, no operation was done
 pub refused_after : (folder : Path) (m : Contents) (ops : List Op) (n : Directory) → LeavesAllowedFrom 0 folder m [] n → LeavesAllowedAfter None folder m [] ops [] n
 refused_after folder m ops n leaves =
-    ([], refl, subst (λ (p : Progress). LeavesAllowedFrom p.covered folder m (p.batches ++ []) n) (sym (no_progress (progress_from []) ops)) leaves)
+    ([], refl, subst (λ (p : Progress). LeavesAllowedFrom p.covered folder m (p.batches ++ []) n) (sym (no_progress m (progress_from []) ops)) leaves)
 
 -- of a folder without files no failed call brought a record
 pub none_done : (folder : Path) (n : Directory) → (HasNoLog folder n → ReadsCompletedRecordsIn folder n) → n ≡ no_files → ReadsCompletedRecordsIn folder n

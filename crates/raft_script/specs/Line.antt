@@ -1,9 +1,10 @@
 -- The lines that the program reads, and what each asks for.
-use Rattle.std.specs.Prelude.{◌≡◌, ℕ, ◌+◌, ◌^◌, ◌==◌, ◌&&◌, not, nat_lt, Bool, true, false, List, [], ◌∷◌, length, codes, Option, Some, None, is_none, IfSome, option_and_then, option_map, if◌then◌else◌}
+use Rattle.std.specs.Prelude.{◌≡◌, ℕ, ◌+◌, ◌^◌, ◌==◌, ◌&&◌, not, map, nat_le, nat_lt, Bool, true, false, List, [], ◌∷◌, length, codes, Option, Some, None, is_none, IfSome, option_and_then, option_map, if◌then◌else◌}
 use Rattle.std.specs.List.{list_all, onto_first, position, position_or_len, slice_split}
 use Rattle.std.specs.Char.{is_ascii_graphic}
 use Rattle.std.specs.Str.{all_ascii_digits, bytes_eq}
 use Rattle.std.specs.Str.Parse.{digits_value}
+use Rattle.raft_script.specs.Entry.{indexed_word, indexed_words}
 use Rattle.raft_script.specs.declared.program.Ended.{Ended}
 use Rattle.raft_script.specs.declared.program.Ended.TheVariants as ended
 use Rattle.raft_script.specs.declared.line.CrashChoice.{CrashChoice}
@@ -23,6 +24,8 @@ pub data Asked : Type 0 where
   Put : (group : ℕ) (key : List ℕ) (value : List ℕ) (sync : Bool) → Asked
   Delete : (group : ℕ) (key : List ℕ) (sync : Bool) → Asked
   Get : (group : ℕ) (key : List ℕ) → Asked
+  Entries : (group : ℕ) (entries : List (ℕ × List ℕ)) (sync : Bool) → Asked
+  Clean : (group : ℕ) (sync : Bool) → Asked
   Sync : Asked
   Reopen : Asked
   Crash : (left : CrashChoice) → Asked
@@ -48,6 +51,11 @@ abbrev pub if_last : {T : Type 0} → T → List (List ℕ) → Option T
 if_last x [] = Some x
 if_last x (word ∷ words) = None
 
+-- what the words after a number ask for
+abbrev pub with_number : {T : Type 0} → (ℕ → List (List ℕ) → Option T) → List (List ℕ) → Option T
+with_number asked [] = None
+with_number asked (word ∷ words) = option_and_then (λ n. asked n words) (number_in word)
+
 -- [sync]
 abbrev pub sync_by : List (List ℕ) → Option Bool
 sync_by [] = Some false
@@ -64,6 +72,21 @@ abbrev pub delete_by : List (List ℕ) → Option Asked
 delete_by (group ∷ key ∷ words) =
     option_and_then (λ g. option_map (λ sync. Delete g key sync) (sync_by words)) (number_in group)
 delete_by _ = None
+
+-- W [sync], where the first index isn't past the last
+abbrev pub words_by : ℕ → ℕ → ℕ → List (List ℕ) → Option Asked
+words_by group first last [] = None
+words_by group first last (word ∷ words) = if nat_le first last then option_map
+    (λ sync. Entries group (indexed_words first last word) sync) (sync_by words) else None
+
+-- ent G A B W [sync]
+abbrev pub entries_by : List (List ℕ) → Option Asked
+entries_by words =
+    with_number (λ group. with_number (λ first. with_number (words_by group first))) words
+
+-- clean G [sync]
+abbrev pub clean_by : List (List ℕ) → Option Asked
+clean_by words = with_number (λ group rest. option_map (Clean group) (sync_by rest)) words
 
 -- get G K
 abbrev pub get_by : List (List ℕ) → Option Asked
@@ -94,6 +117,8 @@ parsed_words (verb ∷ words) =
     else if bytes_eq verb (codes "del") then delete_by words
     else if bytes_eq verb (codes "get") then get_by words
     else if bytes_eq verb (codes "sync") then if_last Sync words
+    else if bytes_eq verb (codes "ent") then entries_by words
+    else if bytes_eq verb (codes "clean") then clean_by words
     else if bytes_eq verb (codes "reopen") then if_last Reopen words
     else if bytes_eq verb (codes "crash") then option_map Crash (left_by words)
     else None
@@ -109,6 +134,9 @@ abbrev pub asked_of_call : Call → Asked
 asked_of_call (call.Put group key value sync) = Put group key.now value.now sync
 asked_of_call (call.Delete group key sync) = Delete group key.now sync
 asked_of_call (call.Get group key) = Get group key.now
+asked_of_call (call.Entries group first last word sync) =
+    Entries group (indexed_words first last word.now) sync
+asked_of_call (call.Clean group sync) = Clean group sync
 asked_of_call call.Sync = Sync
 
 -- .. and of a line
@@ -122,6 +150,9 @@ asked_of (line.Crash left) = Crash left
 abbrev pub asked_by_acts : List Act → Bool → Option Asked
 asked_by_acts (act.Put group key value ∷ []) sync = Some (Put group key.items value.items sync)
 asked_by_acts (act.Delete group key ∷ []) sync = Some (Delete group key.items sync)
+asked_by_acts (act.Entries group entries ∷ []) sync =
+    Some (Entries group (map indexed_word entries.items) sync)
+asked_by_acts (act.Clean group ∷ []) sync = Some (Clean group sync)
 asked_by_acts _ sync = None
 
 -- .. and that an operation does

@@ -22,7 +22,8 @@ module _ {F H R W : Type 0} {g : Ghosts F H R W} where
     pub answer : (m : Contents) → (has_failed old ≡ false → m ≡ contents_of old)
         → IsAnswer m op outcome
     pub contents : has_failed new ≡ false
-        → contents_of new ≡ after_batches (contents_of old) (accepted_of op outcome)
+        → contents_of new
+        ≡ after_batches (contents_of old) (accepted_of (contents_of old) op outcome)
 
   -- the engine that a line meets: the one before it, or one that is opened for it and holds nothing
   abbrev pub IsMetBy : Option (Engine F H R W g) → Engine F H R W g → Type 0

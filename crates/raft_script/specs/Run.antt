@@ -1,16 +1,19 @@
 -- What operations are answered, and what they leave.
-use Rattle.std.specs.Prelude.{◌≡◌, ◌⊎◌, ◌||◌, ℕ, zero, suc, ◌+◌, ◌-◌, ◌^◌, ◌≤◌, min, Bool, true, false, List, [], ◌∷◌, ◌++◌, Option, Some, None, is_some, option_map, Result, Ok, Err, is_none, is_ok, MatchResult, IsErrAnd, IsSome, if◌then◌else◌}
+use Rattle.std.specs.Prelude.{◌≡◌, ◌⊎◌, ◌||◌, ℕ, zero, suc, ◌+◌, ◌-◌, ◌^◌, ◌≤◌, length, map, min, take, Bool, true, false, List, [], ◌∷◌, ◌++◌, Option, Some, None, is_some, option_map, Result, Ok, Err, is_ok, MatchResult, IsErrAnd, IsSome, IsSomeAnd, if◌then◌else◌}
 use Rattle.std.specs.List.{count_by}
 use Rattle.raft_records.specs.Batch.{is_internal_key}
 use Rattle.raft_records.specs.Contents.{Contents, after_batches}
-use Rattle.raft_records.specs.Item.{Item, Batch, Put, Delete}
-use Rattle.raft_records.specs.Validity.{batch_refusal}
+use Rattle.raft_records.specs.Item.{Batch, Clean, Compact, Delete, Entries, Entry, Put}
+use Rattle.raft_records.specs.Layout.{entry_bytes}
+use Rattle.raft_records.specs.Validity.{IsValidBatch, batch_refusal}
 use Rattle.raft_base.specs.Fault.{fault_code}
 use Rattle.raft_base.specs.declared.errors.Fault.{Fault}
 use Rattle.raft_base.specs.declared.errors.Fault.TheVariants as fault
 use Rattle.raft_env.specs.Refusal.{NoFewer, Refusals, StorageRefusalsRose}
-use Rattle.raft_log_engine.specs.Crash.{written_batch}
+use Rattle.raft_log_engine.specs.Cause.{IsOutOfRange}
+use Rattle.raft_log_engine.specs.Crash.{pending_of, written_batch}
 use Rattle.raft_log_engine.specs.Engine.{record_len}
+use Rattle.raft_script.specs.Entry.{entry_of_text}
 use Rattle.raft_script.specs.declared.operation.Act.{Act}
 use Rattle.raft_script.specs.declared.operation.Act.TheVariants as act
 use Rattle.raft_script.specs.declared.operation.Op.{Op}
@@ -18,43 +21,60 @@ use Rattle.raft_script.specs.declared.operation.Op.TheVariants.{Write, Sync, Get
 use Rattle.raft_script.specs.declared.operation.Outcome.{Outcome}
 use Rattle.raft_script.specs.declared.operation.Outcome.TheVariants.{Size, Done, Value}
 
--- the item of an act; a key that begins with two underscores can't be put
-abbrev pub item_of_act : Act → Option Item
-item_of_act (act.Put group key value) = if is_internal_key key.items then None else Some
-    (record { group = group; content = Put key.items value.items })
-item_of_act (act.Delete group key) = Some (record { group = group; content = Delete key.items })
+-- entries as one item, and nothing for none
+abbrev pub entries_items : ℕ → List Entry → Batch
+entries_items group [] = []
+entries_items group (e ∷ es) = record { group = group; content = Entries (e ∷ es) } ∷ []
 
--- an item before others, where there are all of them
-abbrev pub with_first : Option Item → Option Batch → Option Batch
-with_first None items = None
-with_first (Some item) None = None
-with_first (Some item) (Some items) = Some (item ∷ items)
+-- the items of an act; a key that begins with two underscores can't be put
+abbrev pub items_of_act : Act → Option Batch
+items_of_act (act.Put group key value) = if is_internal_key key.items then None else Some
+    (record { group = group; content = Put key.items value.items } ∷ [])
+items_of_act (act.Delete group key) =
+    Some (record { group = group; content = Delete key.items } ∷ [])
+items_of_act (act.Entries group entries) =
+    Some (entries_items group (map entry_of_text entries.items))
+items_of_act (act.Clean group) = Some (record { group = group; content = Clean } ∷ [])
+items_of_act (act.Compact group index) =
+    Some (record { group = group; content = Compact index } ∷ [])
+
+-- items before others, where there are both
+abbrev pub with_items : Option Batch → Option Batch → Option Batch
+with_items None others = None
+with_items (Some items) None = None
+with_items (Some items) (Some others) = Some (items ++ others)
 
 -- the batch of the acts, where none is refused
 abbrev pub batch_of_acts : List Act → Option Batch
 batch_of_acts [] = Some []
-batch_of_acts (a ∷ acts) = with_first (item_of_act a) (batch_of_acts acts)
+batch_of_acts (a ∷ acts) = with_items (items_of_act a) (batch_of_acts acts)
+
+-- the first acts, so many of them, have more bytes of entries than a batch takes
+abbrev pub IsOversized : List Act → Type 0
+IsOversized acts = (count : ℕ) × (batch : Batch) × (batch_of_acts (take count acts) ≡ Some batch)
+    × (2 ^ 32 ≤ length (entry_bytes batch))
 
 -- what is written of it
 abbrev pub written_batches : Option Batch → List Batch
 written_batches None = []
 written_batches (Some batch) = written_batch batch
 
--- what an engine is given to write in the operation
-abbrev pub given_batches : Op → List Batch
-given_batches (Write acts sync) = written_batches (batch_of_acts acts.items)
-given_batches _ = []
+-- what an engine that had failed or not is given to write in the operation, at these contents
+abbrev pub IsGiven : Bool → Contents → Op → List Batch → Type 0
+IsGiven failed m (Write acts sync) given = given ≡ written_batches (batch_of_acts acts.items)
+IsGiven failed m _ given = given ≡ []
 
--- the batch that the operation wrote
-abbrev pub accepted_of : Op → Outcome → List Batch
-accepted_of (Write acts sync) (Size (Ok len)) = written_batches (batch_of_acts acts.items)
-accepted_of _ _ = []
+-- the batch that the operation wrote, at these contents
+abbrev pub accepted_of : Contents → Op → Outcome → List Batch
+accepted_of m (Write acts sync) (Size (Ok len)) = written_batches (batch_of_acts acts.items)
+accepted_of m _ _ = []
 
--- the batches of the accepted writes, in order
-abbrev pub accepted_batches : List Op → List Outcome → List Batch
-accepted_batches (op ∷ ops) (outcome ∷ outcomes) =
-    accepted_of op outcome ++ accepted_batches ops outcomes
-accepted_batches _ _ = []
+-- the batches of the accepted writes, in order, from these contents on
+abbrev pub accepted_batches : Contents → List Op → List Outcome → List Batch
+accepted_batches m (op ∷ ops) (outcome ∷ outcomes) =
+    let accepted = accepted_of m op outcome in
+    accepted ++ accepted_batches (after_batches m accepted) ops outcomes
+accepted_batches m _ _ = []
 
 -- the operation made sure of all that was accepted up to it: a sync that was answered, or a write
 -- that asked for one
@@ -63,11 +83,7 @@ is_covering (Write acts sync) (Size (Ok len)) = sync
 is_covering Sync (Done (Ok x)) = true
 is_covering _ _ = false
 
--- what of a batch a crash may find written: nothing where these contents refuse it
-abbrev pub pending_of : Contents → Batch → List Batch
-pending_of m batch = if is_none (batch_refusal m batch) then written_batch batch else []
-
--- .. where there is a batch
+-- what of a batch a crash may find written, where there is one
 abbrev pub pending_batches : Contents → Option Batch → List Batch
 pending_batches m None = []
 pending_batches m (Some batch) = pending_of m batch
@@ -83,9 +99,11 @@ IsUnasked (Write acts sync) = batch_of_acts acts.items ≡ None
 IsUnasked Sync = ⊥
 IsUnasked (Get group key) = Unit {0}
 
--- no batch of these acts could be built: one of them can't be done, or there was no memory
+-- no batch of these acts could be built: one of them can't be done, there was no memory, or they
+-- have too many bytes of entries
 abbrev pub IsUnbuilt : List Act → Fault → Type 0
 IsUnbuilt acts e = (e ≡ fault.Memory) ⊎ ((fault_code e ≡ 1) × (batch_of_acts acts ≡ None))
+    ⊎ ((e ≡ fault.Range) × IsOversized acts)
 
 -- an engine notes no answer to the operation: a get, or a write whose batch isn't built
 abbrev pub IsUnnoted : Op → Outcome → Type 0
@@ -93,29 +111,31 @@ IsUnnoted (Write acts sync) (Size (Err e)) = IsUnbuilt acts.items e
 IsUnnoted (Get group key) _ = Unit {0}
 IsUnnoted _ _ = ⊥
 
--- a write that was answered had a batch, and is answered with its record's length
-abbrev pub IsWritten : List Act → ℕ → Type 0
-IsWritten acts len = (batch : Batch) × (batch_of_acts acts ≡ Some batch) × (len ≡ record_len batch)
+-- a write that was answered had a batch that the contents take, and is answered with its record's
+-- length
+abbrev pub IsWritten : Contents → List Act → ℕ → Type 0
+IsWritten m acts len = (batch : Batch) × (batch_of_acts acts ≡ Some batch) × IsValidBatch m batch
+    × (len ≡ record_len batch)
 
--- a record of the batch would be too long
-abbrev pub IsTooLong : List Act → Type 0
-IsTooLong acts = (batch : Batch) × (batch_of_acts acts ≡ Some batch) × (2 ^ 56 ≤ record_len batch)
+-- a write fails for an act that can't be done, too many bytes of entries, or lack of memory; its
+-- batch since the contents don't take it, by storage, for its length, or by a failed engine
+abbrev pub IsWriteRefusal : Contents → List Act → Fault → Type 0
+IsWriteRefusal m acts (fault.InvalidArgument _) = batch_of_acts acts ≡ None
+IsWriteRefusal m acts (fault.Io kind path) = IsSome (batch_of_acts acts)
+IsWriteRefusal m acts fault.Memory = Unit {0}
+IsWriteRefusal m acts fault.Gap =
+    IsSomeAnd (batch_of_acts acts) (λ batch. batch_refusal m batch ≡ Some fault.Gap)
+IsWriteRefusal m acts fault.Range =
+    IsOversized acts ⊎ IsSomeAnd (batch_of_acts acts) (IsOutOfRange m)
+IsWriteRefusal m acts fault.Failed = IsSome (batch_of_acts acts)
+IsWriteRefusal m acts _ = ⊥
 
--- a write fails for an act that can't be done, or for lack of memory; its batch by storage,
--- for its length, or by a failed engine
-abbrev pub IsWriteRefusal : List Act → Fault → Type 0
-IsWriteRefusal acts (fault.InvalidArgument _) = batch_of_acts acts ≡ None
-IsWriteRefusal acts (fault.Io kind path) = IsSome (batch_of_acts acts)
-IsWriteRefusal acts fault.Memory = Unit {0}
-IsWriteRefusal acts fault.Range = IsTooLong acts
-IsWriteRefusal acts fault.Failed = IsSome (batch_of_acts acts)
-IsWriteRefusal acts _ = ⊥
-
-abbrev pub IsSyncRefusal : Fault → Type 0
-IsSyncRefusal (fault.Io kind path) = Unit {0}
-IsSyncRefusal fault.Memory = Unit {0}
-IsSyncRefusal fault.Failed = Unit {0}
-IsSyncRefusal _ = ⊥
+-- an engine fails a call that has no batch: by storage, for lack of memory, or since it had failed
+abbrev pub IsEngineRefusal : Fault → Type 0
+IsEngineRefusal (fault.Io kind path) = Unit {0}
+IsEngineRefusal fault.Memory = Unit {0}
+IsEngineRefusal fault.Failed = Unit {0}
+IsEngineRefusal _ = ⊥
 
 abbrev pub IsGetRefusal : Fault → Type 0
 IsGetRefusal fault.Memory = Unit {0}
@@ -125,8 +145,8 @@ IsGetRefusal _ = ⊥
 -- an operation is answered so, or fails so, at these contents
 abbrev pub IsAnswer : Contents → Op → Outcome → Type 0
 IsAnswer m (Write acts sync) (Size answer) =
-    MatchResult answer (IsWritten acts.items) (IsWriteRefusal acts.items)
-IsAnswer m Sync (Done answer) = MatchResult answer (λ _. Unit {0}) IsSyncRefusal
+    MatchResult answer (IsWritten m acts.items) (IsWriteRefusal m acts.items)
+IsAnswer m Sync (Done answer) = MatchResult answer (λ _. Unit {0}) IsEngineRefusal
 IsAnswer m (Get group key) (Value answer) =
     MatchResult answer (λ value. option_map (λ v. v.items) value
     ≡ m.value group key.items) IsGetRefusal
@@ -136,7 +156,8 @@ IsAnswer m _ _ = ⊥
 abbrev pub AreAnswers : Contents → List Op → List Outcome → Type 0
 AreAnswers m [] [] = Unit {0}
 AreAnswers m (op ∷ ops) (outcome ∷ outcomes) =
-    IsAnswer m op outcome × AreAnswers (after_batches m (accepted_of op outcome)) ops outcomes
+    IsAnswer m op outcome
+    × AreAnswers (after_batches m (accepted_of m op outcome)) ops outcomes
 AreAnswers m _ _ = ⊥
 
 -- storage's refusal

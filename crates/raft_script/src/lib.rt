@@ -6,9 +6,11 @@ mod line;
 mod operation;
 mod program;
 mod runs;
+mod text_entry;
 mod trials;
 
 pub use operation::{Act, Op, Outcome, Trial};
 pub use program::{Ended, serve};
 pub use runs::run;
+pub use text_entry::TextEntry;
 pub use trials::trial;

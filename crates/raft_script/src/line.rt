@@ -1,9 +1,10 @@
 //! A line of the program's input.
 ghost use Rattle.std.specs.Prelude.{◌≡◌, ◌==◌, ◌≤◌, List, ℕ, length, None, Some, [], ◌∷◌, IfOk, MatchOption, option_map, option_and_then};
 ghost use Rattle.std.specs.List.{position_or_len};
-ghost use Rattle.raft_script.specs.Line.{Crash, BeginsWith, HasNoWord, if_last, parsed_words, asked_in, asked_of, asked_of_call, delete_by, get_by, is_word, left_by, number_in, put_by, sync_by, torn_by, words_in};
+ghost use Rattle.raft_script.specs.Line.{Crash, BeginsWith, HasNoWord, if_last, parsed_words, asked_in, asked_of, asked_of_call, clean_by, delete_by, entries_by, get_by, is_word, left_by, number_in, put_by, sync_by, torn_by, words_by, words_in};
 
 use crate::operation::{Act, Op};
+use crate::text_entry::entries_between;
 use std::alloc::{AllocError, Global};
 
 /// What a line asks for.
@@ -34,6 +35,17 @@ pub(crate) enum Call<'a> {
         group: u64,
         key: &'a [u8],
     },
+    Entries {
+        group: u64,
+        first: u64,
+        last: u64,
+        word: &'a [u8],
+        sync: bool,
+    },
+    Clean {
+        group: u64,
+        sync: bool,
+    },
     Sync,
 }
 
@@ -59,6 +71,19 @@ impl Call<'_> {
                 Ok(Op::Write(vec![in alloc; act]?, *sync))
             }
             Call::Get { group, key } => Ok(Op::Get(*group, key.to_vec(alloc)?)),
+            Call::Entries {
+                group,
+                first,
+                last,
+                word,
+                sync,
+            } => {
+                let act = Act::Entries(*group, entries_between(alloc, *first, *last, word)?);
+                Ok(Op::Write(vec![in alloc; act]?, *sync))
+            }
+            Call::Clean { group, sync } => {
+                Ok(Op::Write(vec![in alloc; Act::Clean(*group)]?, *sync))
+            }
             Call::Sync => Ok(Op::Sync),
         }
     }
@@ -98,6 +123,10 @@ fn parse_asked<'a>(verb: &[u8], rest: &'a [u8]) -> Option<Line<'a>>
     } else if verb == b"sync".as_slice() {
         ends(rest)?;
         Some(Line::Call(Call::Sync))
+    } else if verb == b"ent".as_slice() {
+        Some(Line::Call(parse_entries(rest)?))
+    } else if verb == b"clean".as_slice() {
+        Some(Line::Call(parse_clean(rest)?))
     } else if verb == b"reopen".as_slice() {
         ends(rest)?;
         Some(Line::Reopen)
@@ -168,6 +197,42 @@ fn parse_delete(rest: &[u8]) -> Option<Call<'_>>
     Some(Call::Delete { group, key, sync })
 }
 
+fn parse_entries(rest: &[u8]) -> Option<Call<'_>>
+    ensures value { option_map asked_of_call result ≡ option_and_then entries_by
+        (words_in rest.now) }
+{
+    let (group, rest) = parse_number(rest)?;
+    let (first, rest) = parse_number(rest)?;
+    let (last, rest) = parse_number(rest)?;
+    parse_words(group, first, last, rest)
+}
+
+fn parse_words(group: u64, first: u64, last: u64, rest: &[u8]) -> Option<Call<'_>>
+    ensures value { option_map asked_of_call result
+        ≡ option_and_then (words_by group first last) (words_in rest.now) }
+{
+    let (word, rest) = split_word(rest)?;
+    if first > last {
+        return None;
+    }
+    let sync = parse_sync(rest)?;
+    Some(Call::Entries {
+        group,
+        first,
+        last,
+        word,
+        sync,
+    })
+}
+
+fn parse_clean<'a>(rest: &[u8]) -> Option<Call<'a>>
+    ensures value { option_map asked_of_call result ≡ option_and_then clean_by (words_in rest.now) }
+{
+    let (group, rest) = parse_number(rest)?;
+    let sync = parse_sync(rest)?;
+    Some(Call::Clean { group, sync })
+}
+
 // The first word, and what follows the space after it: a word is of printable characters, and one space stands
 // between two words. After the last word nothing follows.
 fn split_word(text: &[u8]) -> Option<(&[u8], &[u8])>
@@ -219,7 +284,7 @@ fn parse_number(text: &[u8]) -> Option<(u64, &[u8])>
     Some((number_of(word)?, rest))
 }
 
-fn number_of(word: &[u8]) -> Option<u64>
+pub(crate) fn number_of(word: &[u8]) -> Option<u64>
     ensures value { result ≡ number_in word.now }
 {
     let mut number = 0u64;

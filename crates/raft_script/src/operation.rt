@@ -1,13 +1,19 @@
 //! Operations on an engine, and what they are answered.
 
+use crate::text_entry::TextEntry;
 use raft_log_engine::Image;
 use raft_records::Fault;
 
-/// A change of one key.
+/// A change of one group.
 #[derive(Debug, PartialEq, Eq, Drop)]
 pub enum Act {
     Put(u64, Vec<u8>, Vec<u8>),
     Delete(u64, Vec<u8>),
+    Entries(u64, Vec<TextEntry>),
+    /// The group goes, with its entries and keys.
+    Clean(u64),
+    /// The entries below an index go.
+    Compact(u64, u64),
 }
 
 /// A call of an engine.

@@ -1,18 +1,20 @@
 //! Operations one after the other, each with its outcome.
-ghost use Rattle.std.specs.Prelude.{All, ◌≡◌, ◌⊎◌, ◌++◌, [], ◌∷◌, false, Some, None, IfOk, IfErr, OnOk, OnErr};
+ghost use Rattle.std.specs.Prelude.{All, ◌≡◌, ◌⊎◌, ◌≤◌, ◌^◌, ◌++◌, false, length, Some, None, IfOk, IfErr, OnOk, OnErr};
 ghost use Rattle.raft_records.specs.Contents.{Contents, after_batches};
 ghost use Rattle.raft_base.specs.Fault.{fault_code};
-ghost use Rattle.raft_records.specs.Item.{Item};
+ghost use Rattle.raft_records.specs.Item.{Batch};
+ghost use Rattle.raft_records.specs.Layout.{entry_bytes};
 ghost use Rattle.raft_log_engine.specs.Crash.{LeavesAllowed};
 ghost use Rattle.raft_log_engine.specs.Engine.{begun_of, contents_of, directory_of, durable_of, folder_of, has_failed, refusals_of, unsynced_of};
 ghost use Rattle.raft_script.specs.Durability.{AreAllowedInside, Does, HaveRun, Runs};
-ghost use Rattle.raft_script.specs.Run.{IsAnswer, IsUnbuilt, IsFailing, IsUnasked, Refuses, accepted_of, batch_of_acts, item_of_act};
+ghost use Rattle.raft_script.specs.Run.{IsAnswer, IsUnbuilt, IsFailing, IsUnasked, Refuses, accepted_of, batch_of_acts, items_of_act};
 
 use crate::operation::{Act, Op, Outcome};
+use crate::text_entry::TextEntry;
 use raft_env::FileSystem;
 use raft_log_engine::Engine;
 use raft_log_engine::laws::an_engine_recovers_what_it_keeps;
-use raft_records::{Fault, LogBatch};
+use raft_records::{Command, Fault, LogBatch};
 use std::alloc::Global;
 
 /// Outcomes, and the place of the operation in which the engine failed.
@@ -26,8 +28,8 @@ pub(crate) struct RunReport {
 /// is not asked.
 ///
 /// The engine notes what there was each time that it answered a write or a sync, and what that call was to write. A
-/// crash after one note and up to the next leaves, if its damage is detectable, a prefix of the writes accepted
-/// before that operation, or all of them and a prefix of its own batch, with every write that an answered sync
+/// crash after one note and up to the next leaves, if its damage is detectable, a prefix of the batches accepted
+/// before that operation, or all of them and a prefix of its own batch, with every one that an answered sync
 /// covered before it. Once the operation is answered and the engine stands, a crash leaves a prefix of what was
 /// accepted by then, with every covered write. Each answer says whether the engine failed, and a call of a failed
 /// engine adds no moment. A get, and a write whose batch can't be built, have no note of their own: moments in them,
@@ -100,7 +102,8 @@ pub(crate) fn step<F: FileSystem>(alloc: Global, engine: &mut Engine<F>, op: &Op
     ensures refused { Refuses result (refusals_of engine.old) (refusals_of engine.new) }
     ensures contents { has_failed engine.new ≡ false
         → contents_of engine.new
-        ≡ after_batches (contents_of engine.old) (accepted_of op.now result) }
+        ≡ after_batches (contents_of engine.old)
+        (accepted_of (contents_of engine.old) op.now result) }
     ensures progress { Does op.now result engine.old engine.new }
     ensures folder { folder_of engine.new ≡ folder_of engine.old }
     ensures others { begun_of engine.new ≡ begun_of engine.old }
@@ -128,15 +131,22 @@ fn build(alloc: Global, acts: &[Act]) -> Result<LogBatch, Fault>
 }
 
 fn add(alloc: Global, batch: &mut LogBatch, act: &Act) -> Result<(), Fault>
-    ensures ok { OnOk result ((item : Item) × (item_of_act act.now ≡ Some item)
-        × (batch.new.items ≡ batch.old.items ++ item ∷ [])) }
+    ensures ok { OnOk result ((items : Batch) × (items_of_act act.now ≡ Some items)
+        × (batch.new.items ≡ batch.old.items ++ items)) }
     ensures cause { IfErr result (λ e.
-        (e ≡ Fault.Memory) ⊎ ((fault_code e ≡ 1) × (item_of_act act.now ≡ None))) }
+        (e ≡ Fault.Memory) ⊎ ((fault_code e ≡ 1) × (items_of_act act.now ≡ None))
+        ⊎ ((e ≡ Fault.Range) × (items : Batch) × (items_of_act act.now ≡ Some items)
+        × (2 ^ 32 ≤ length (entry_bytes (batch.old.items ++ items))))) }
 {
     match act {
         Act::Put(group, key, value) => {
             batch.put(*group, key.to_vec(alloc)?, value.to_vec(alloc)?)
         }
         Act::Delete(group, key) => batch.delete(*group, key.to_vec(alloc)?),
+        Act::Entries(group, entries) => batch.add_entries::<TextEntry>(*group, entries),
+        Act::Clean(group) => batch.add_command(*group, Command::Clean),
+        Act::Compact(group, index) => {
+            batch.add_command(*group, Command::Compact { index: *index })
+        }
     }
 }

@@ -9,9 +9,9 @@ use std::test::Fail;
 
 const MAX_CALLS: u64 = 100;
 
-/// So many calls at least change files: four of the opening (the folder, the file, its header and a sync), six writes
-/// of records, and three syncs.
-const MIN_CHANGES: u64 = 13;
+/// So many calls at least change files: four of the opening (the folder, the file, its header and a sync), ten writes
+/// of records, and four syncs.
+const MIN_CHANGES: u64 = 18;
 
 // The trial found what may be found. After the stop each change fails, so that the engine fails at the first.
 fn holds(rt: &impl Abort, ops: &[Op], trial: &Trial) {

@@ -27,18 +27,63 @@ const ANSWERS: [Answer; 4] = [
     Answer::Value(Some(&[2])),
 ];
 
-/// A stop, what a crash is to leave, the answers, and what is found or the code of the refusal.
-struct Case(Option<u64>, Left, &'static [Answer], Result<State, u8>);
+/// Entries, of which some don't follow those before them.
+const ENTRIES: [Plan; 4] = [
+    Plan::Write(&[Change::Entries(3, 1, 3, b"w")], false),
+    Plan::Write(
+        &[Change::Put(1, b"a", &[1]), Change::Entries(3, 5, 5, b"w")],
+        true,
+    ),
+    Plan::Write(&[Change::Entries(3, 4, 4, b"w")], true),
+    Plan::Write(&[Change::Entries(3, 3, 3, b"x")], false),
+];
 
-const CASES: [Case; 6] = [
-    Case(None, Left::All, &ANSWERS, Ok(BOTH)),
-    Case(None, Left::Synced, &ANSWERS, Ok(FIRST)),
-    Case(None, Left::Torn(1, 0), &ANSWERS, Ok(FIRST)),
-    Case(None, Left::Torn(1, 255), &ANSWERS, Ok(FIRST)),
+/// A record of three entries of three bytes is 16 + 9 + 4 + 8 + 4 bytes long, one of one entry 16 + 3 + 4 + 6 + 4.
+const ENTRY_ANSWERS: [Answer; 4] = [
+    Answer::Size(41),
+    Answer::Fails(5),
+    Answer::Size(33),
+    Answer::Size(33),
+];
+
+/// Operations, a stop, what a crash is to leave, the answers, and what is found or the code of the refusal.
+struct Case(
+    &'static [Plan],
+    Option<u64>,
+    Left,
+    &'static [Answer],
+    Result<State, u8>,
+);
+
+const CASES: [Case; 8] = [
+    Case(&PLANS, None, Left::All, &ANSWERS, Ok(BOTH)),
+    Case(&PLANS, None, Left::Synced, &ANSWERS, Ok(FIRST)),
+    Case(&PLANS, None, Left::Torn(1, 0), &ANSWERS, Ok(FIRST)),
+    Case(&PLANS, None, Left::Torn(1, 255), &ANSWERS, Ok(FIRST)),
     // The first call that changes files is one of the opening.
-    Case(Some(1), Left::All, &[], Ok(EMPTY)),
+    Case(&PLANS, Some(1), Left::All, &[], Ok(EMPTY)),
     // Storage may not leave these bytes.
-    Case(None, Left::Bytes(&[]), &[], Err(1)),
+    Case(&PLANS, None, Left::Bytes(&[]), &[], Err(1)),
+    Case(
+        &ENTRIES,
+        None,
+        Left::All,
+        &ENTRY_ANSWERS,
+        Ok(State {
+            words: [0, b'w', b'w', b'x', 0, 0, 0, 0],
+            ..EMPTY
+        }),
+    ),
+    Case(
+        &ENTRIES,
+        None,
+        Left::Synced,
+        &ENTRY_ANSWERS,
+        Ok(State {
+            words: [0, b'w', b'w', b'w', b'w', 0, 0, 0],
+            ..EMPTY
+        }),
+    ),
 ];
 
 fn finds(shown: &Trial, wanted: State) -> bool {
@@ -49,8 +94,8 @@ fn finds(shown: &Trial, wanted: State) -> bool {
 }
 
 fn holds(alloc: Global, case: &Case) -> Result<bool, Fault> {
-    let Case(stop, left, answers, found) = case;
-    let ops = ops_of(alloc, &PLANS)?;
+    let Case(plans, stop, left, answers, found) = case;
+    let ops = ops_of(alloc, plans)?;
     let choice = choice_of(alloc, left)?;
     let tried = trial(alloc, settings(alloc)?, &ops, *stop, &[choice]);
     match (&tried, found) {
@@ -71,8 +116,8 @@ fn trial_really_crashes(rt: HostRuntime) {
             holds(rt.alloc(), case),
             Ok(true),
             "{:?} {:?}",
-            case.0,
-            case.3
+            case.1,
+            case.4
         );
     }
 }

@@ -25,7 +25,7 @@ with_group group entries values m = record {
 }
 
 -- what a group has, put into it again
-same_at : {X : Type 0} (group g : ℕ) (f : ℕ → X) → cond (g == group) (f group) (f g) ≡ f g
+pub same_at : {X : Type 0} (group g : ℕ) (f : ℕ → X) → cond (g == group) (f group) (f g) ≡ f g
 same_at {X} group g f = at (g == group) refl
   where
     at : (b : Bool) → (g == group) ≡ b → cond b (f group) (f g) ≡ f g

@@ -1,14 +1,15 @@
 -- Which groups are known after items.
-use Rattle.std.proofs.Common.{◌≡◌, ℕ, ◌==◌, ◌&&◌, Bool, true, false, cond, List, [], ◌∷◌, Option, Some, None, is_some, map, refl, ◌∙◌, ap, sym, arith}
+use Rattle.std.proofs.Common.{◌≡◌, ℕ, ◌==◌, ◌&&◌, Bool, true, false, cond, List, [], ◌∷◌, ◌++◌, Option, Some, None, is_some, map, refl, ◌∙◌, ap, sym, arith}
 use Rattle.std.specs.List.{list_all}
 use Rattle.std.specs.Option.{option_map}
 use Rattle.std.specs.Str.{bytes_eq}
 use Rattle.std.proofs.lemmas.Grind.{common_steps}
+use Rattle.std.proofs.lemmas.List.Sums.{fold-append}
 use Rattle.raft_base.specs.declared.pipe_log.FileId.{FileId}
-use Rattle.raft_records.specs.Item.{Entries, Clean, Compact, Put, Delete, group_mark_key}
+use Rattle.raft_records.specs.Item.{Entries, Clean, Compact, Put, Delete, Batch, group_mark_key}
 use Rattle.raft_records.specs.PlacedItem.{PlacedContent, EntriesAt, Plain, PlacedItem, content_in, item_in, is_placed_in_order}
 use Rattle.raft_records.specs.Places.{Blocks}
-use Rattle.raft_tables.specs.Known.{known_after_content, known_after_item, known_after}
+use Rattle.raft_tables.specs.Known.{known_after_content, known_after_item, known_after, known_in}
 use Rattle.raft_tables.specs.Table.{TableView}
 use Rattle.raft_tables.specs.Tables.{Tables, table_after, tables_after_item, tables_after}
 
@@ -51,3 +52,7 @@ known_after_items id blocks group t (item ∷ items) in_order =
     let parts = both (is_placed_in_order item.content) (list_all (λ i. is_placed_in_order i.content) items) in_order in
     known_after_items id blocks group (tables_after_item id t item) items parts.1
     ∙ ap (λ k. known_after group k (map (item_in blocks) items)) (known_after_one id blocks group t item parts.0)
+
+-- one batch more
+pub known_in-push : (batches : List Batch) (batch : Batch) (group : ℕ) → known_in (batches ++ batch ∷ []) group ≡ known_after group (known_in batches group) batch
+known_in-push batches batch group = fold-append (known_after group) false batches (batch ∷ [])

@@ -5,4 +5,7 @@ pub mod TablesLemmas
 pub mod ListingLemmas
 pub mod ContentsLemmas
 pub mod KnownLemmas
+pub mod SpanLemmas
+pub mod ValidityLemmas
+pub mod PlacesLemmas
 pub mod AppliedLemmas

@@ -1,8 +1,9 @@
 -- What a change of one group's table leaves in the tables.
-use Rattle.std.proofs.Common.{◌≡◌, ℕ, ◌==◌, Bool, true, false, cond, Option, Some, None, refl, sym, ◌∙◌, ap, arith}
+use Rattle.std.proofs.Common.{◌≡◌, ℕ, ◌==◌, Bool, true, false, cond, List, [], ◌∷◌, length, Option, Some, None, refl, sym, ◌∙◌, ap, arith}
 use Rattle.std.proofs.lemmas.Grind.{common_steps}
 use Rattle.std.specs.BTreeMap as tree
 use Rattle.std.specs.BTreeMap.{BTreeMap}
+use Rattle.std.specs.Map.{lookup}
 use Rattle.std.specs.Option.{option_map}
 use Rattle.std.specs.Ordering.{is_eq, nat_cmp}
 use Rattle.raft_tables.specs.Table.{TableView, table_of}
@@ -13,7 +14,7 @@ use Rattle.raft_tables.specs.declared.memtables.MemTables.{MemTables}
 abbrev pub Groups : Type 0
 Groups = BTreeMap ℕ MemTable
 
-is_eq-nat_cmp : (a b : ℕ) → is_eq (nat_cmp a b) ≡ (b == a)
+pub is_eq-nat_cmp : (a b : ℕ) → is_eq (nat_cmp a b) ≡ (b == a)
 is_eq-nat_cmp a b = grind (arith, common_steps)
 
 eq_from_test : (a b : ℕ) → (a == b) ≡ true → a ≡ b
@@ -43,3 +44,15 @@ pub first_of_group : (m : MemTables) (n : Groups) (group : ℕ) (after : MemTabl
     → Some (table_of after) ≡ f None → tables_of (record { alloc = m.alloc; tables = n }) ≡ with_table group (f (tables_of m group)) (tables_of m)
 first_of_group m n group after f none updates is =
     table_changed m n group (Some after) updates ∙ ap (λ v. with_table group v (tables_of m)) (is ∙ ap (λ o. f (option_map table_of o)) none)
+
+-- a map without entries has no tables
+pub no_tables : (es : List (ℕ × MemTable)) → length es ≡ 0 → (group : ℕ) → option_map table_of (lookup (tree.is_at (nat_cmp group)) es) ≡ None
+no_tables [] short group = refl
+no_tables (e ∷ es) short group = absurd (omega (arith, short))
+
+pub none_stored : (es : List (ℕ × MemTable)) → ((group : ℕ) → option_map table_of (lookup (tree.is_at (nat_cmp group)) es) ≡ None) → length es ≡ 0
+none_stored [] none = refl
+none_stored (e ∷ es) none =
+    let same : (e.0 == e.0) ≡ true = grind (arith, common_steps) in
+    let first : Some (table_of e.1) ≡ None = rw (is_eq-nat_cmp e.0 e.0, same) at (none e.0) in
+    absurd cc

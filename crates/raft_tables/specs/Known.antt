@@ -1,5 +1,5 @@
 -- Which groups are known.
-use Rattle.std.specs.Prelude.{ℕ, ◌==◌, Bool, true, false, [], ◌∷◌, fold, if◌then◌else◌}
+use Rattle.std.specs.Prelude.{ℕ, ◌==◌, Bool, true, false, List, [], ◌∷◌, fold, if◌then◌else◌}
 use Rattle.std.specs.Str.{bytes_eq}
 use Rattle.raft_records.specs.Item.{Content, Entries, Clean, Compact, Put, Delete, Item, Batch, group_mark_key}
 
@@ -20,3 +20,7 @@ known_after_item group known item =
 -- whether a group is known after the items of a batch
 abbrev pub known_after : ℕ → Bool → Batch → Bool
 known_after group known batch = fold (known_after_item group) known batch
+
+-- whether a group is known after these batches, where none was known before them
+abbrev pub known_in : List Batch → ℕ → Bool
+known_in batches group = fold (known_after group) false batches

@@ -4,3 +4,5 @@ pub mod Known
 pub mod Tables
 pub mod Counters
 pub mod Listing
+pub mod Span
+pub mod Validity

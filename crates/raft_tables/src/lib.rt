@@ -4,7 +4,9 @@
 pub mod entries;
 pub mod memtable;
 pub mod memtables;
+mod span;
 pub mod stats;
+mod validity;
 
 pub use entries::EntryTable;
 pub use memtable::{KeyAndValue, MemTable};

@@ -10,7 +10,7 @@ use raft_records::{Fault, Fresh, LogBatch};
 use std::alloc::{AllocError, Global};
 use std::time::Instant;
 
-const GROUPS: u64 = 100;
+pub(crate) const GROUPS: u64 = 100;
 
 const FOLDER: &str = "bench";
 
@@ -145,7 +145,7 @@ fn reopen<R: Host, F: FileSystem + Drop>(
     Ok((len, has_last(rt.alloc(), &engine, load)?))
 }
 
-fn open<F: FileSystem + Drop>(alloc: Global, files: F) -> Result<Engine<F>, Fault> {
+pub(crate) fn open<F: FileSystem + Drop>(alloc: Global, files: F) -> Result<Engine<F>, Fault> {
     let mut config = Config::fresh(alloc);
     config.dir.push_str(FOLDER)?;
     match Engine::open_in_order(alloc, config, files) {

@@ -3,6 +3,7 @@
 #![tactic(auto)]
 
 mod blocks;
+mod entries;
 mod files;
 mod log;
 mod measure;

@@ -1,8 +1,9 @@
 //! The workloads by their names.
 
 use crate::blocks::report_ceilings;
+use crate::entries::append_entry_fetch;
 use crate::files::append;
-use crate::log::put_get_reopen;
+use crate::log::{GROUPS, put_get_reopen};
 use crate::measure::Host;
 use anyhow::Result;
 use raft_env::FileSystem;
@@ -14,6 +15,9 @@ pub(crate) enum Workload {
     Put,
     PutSync,
     Overwrite,
+    Append,
+    AppendSync,
+    AppendBatch,
     FsAppend,
     FsSync,
 }
@@ -39,12 +43,18 @@ const FEW_KEYS: u64 = 1000;
 /// The blocks of the workload `crc`.
 const BLOCK_SIZE: usize = 65536;
 
+/// The bytes of entries in a batch of the workload `append-batch`.
+const BATCH_SIZE: u64 = 1 << 20;
+
 impl Workload {
-    pub(crate) const ALL: [Workload; 6] = [
+    pub(crate) const ALL: [Workload; 9] = [
         Workload::Crc,
         Workload::Put,
         Workload::PutSync,
         Workload::Overwrite,
+        Workload::Append,
+        Workload::AppendSync,
+        Workload::AppendBatch,
         Workload::FsAppend,
         Workload::FsSync,
     ];
@@ -59,6 +69,9 @@ impl Workload {
             Workload::Put => "put",
             Workload::PutSync => "put-sync",
             Workload::Overwrite => "overwrite",
+            Workload::Append => "append",
+            Workload::AppendSync => "append-sync",
+            Workload::AppendBatch => "append-batch",
             Workload::FsAppend => "fs-append",
             Workload::FsSync => "fs-sync",
         }
@@ -73,9 +86,20 @@ impl Workload {
                 _ => count,
             },
             size,
-            sync: matches!(self, Workload::PutSync | Workload::FsSync),
+            sync: matches!(
+                self,
+                Workload::PutSync | Workload::AppendSync | Workload::FsSync
+            ),
         };
         self.run_over(rt, MemoryFileSystem::new(rt.alloc()), load)
+    }
+
+    /// How many entries of this size a batch has.
+    fn batch_len(self, size: usize) -> u64 {
+        match self {
+            Workload::AppendBatch => BATCH_SIZE / (size as u64).max(1),
+            _ => 1,
+        }
     }
 
     fn run_over<R: Host, F: FileSystem + Drop>(
@@ -93,6 +117,12 @@ impl Workload {
             }
             Workload::FsAppend | Workload::FsSync => {
                 append(rt, self.name(), &mut files, load)?;
+                report_ceilings(rt, count, load.size)?;
+            }
+            Workload::Append | Workload::AppendSync | Workload::AppendBatch => {
+                let batch_len = self.batch_len(load.size).min(count / GROUPS);
+                let entry_len = append_entry_fetch(rt, self.name(), files, load, batch_len)?;
+                report_ceilings(rt, count, entry_len)?;
                 report_ceilings(rt, count, load.size)?;
             }
             Workload::Put | Workload::PutSync | Workload::Overwrite => {

@@ -1,19 +1,21 @@
-use Rattle.std.proofs.Common.{◌≡◌, ◌∙◌, ℕ, ◌++◌, ◌∷◌, List, length, length-take, take, Some, refl, sym, ap, subst, arith}
+use Rattle.std.proofs.Common.{◌≡◌, ◌∙◌, ℕ, ◌++◌, ◌∷◌, List, length, length-take, take, Some, false, refl, sym, ap, subst, arith}
 use Rattle.std.proofs.lemmas.Grind.{common_steps}
 use Rattle.std.proofs.lemmas.List.{take_all}
 use Rattle.std.proofs.lemmas.List.Elements.{All-get_or}
 use Rattle.std.proofs.lemmas.Option.{slice_get_read}
 use Rattle.raft_env.specs.Directory.{Directory, Path}
+use Rattle.raft_records.specs.Contents.{after_batches}
+use Rattle.raft_records.specs.Item.{Batch}
 use Rattle.raft_env.specs.Moments.{HoldsThroughout}
 use Rattle.raft_log_engine.specs.Crash.{LeavesAllowed}
 use Rattle.raft_script.specs.Durability.{Answers, AreAllowedInside, Progress, progress_after, progress_after_all, progress_from}
-use Rattle.raft_log_engine.specs.Durability.{durability_of}
-use Rattle.raft_script.specs.Run.{IsFailurePlace, IsUnasked, given_batches}
+use Rattle.raft_log_engine.specs.Durability.{Progresses, durability_of}
+use Rattle.raft_script.specs.Run.{IsFailurePlace, IsUnasked, accepted_of, is_covering}
 use Rattle.raft_script.specs.declared.operation.Op.{Op}
 use Rattle.raft_log_engine.specs.Engine.{answer_now, contents_of, directory_of, durable_of, folder_of, has_failed, moments_of, refusals_of, snapshot_of, unsynced_of}
 use Rattle.raft_script.proofs.RunAnswersLemmas.{allowed_more, inside_call}
-use Rattle.raft_script.proofs.DurabilityLemmas.{IsUnderWay, durable_after, inside_here, leaves_after, leaves_standing, progress_more, under_way_begun, under_way_more}
-use Rattle.raft_script.proofs.RunLemmas.{IsNextPlace, IsRunning, place_more, rose_more, running_begun, running_more, stands_so_far, still_failing, taken_more}
+use Rattle.raft_script.proofs.DurabilityLemmas.{IsUnderWay, durable_after, holds_all, inside_here, leaves_after, leaves_standing, progress_more, under_way_begun, under_way_more}
+use Rattle.raft_script.proofs.RunLemmas.{IsNextPlace, IsRunning, accepted_same, given_same, place_more, rose_more, running_begun, running_more, stands_so_far, still_failing, taken_more}
 use Rattle.raft_script.proofs.runs.run_watched.Goals as goal
 use Rattle.raft_script.proofs.runs.run_watched.Goals.{then-stood+then-failed, else-stood, else-stood-via-then-stood+else-failed, else-stood-via-else-stood}
 
@@ -49,22 +51,27 @@ loop-op-preserved g c =
     ] in
     let m = durable_of begun in
     let first = progress_from (unsynced_of begun) in
-    let p = progress_after_all first ops outcomes in
+    let p = progress_after_all m first ops outcomes in
     let here = slice_get_read c.args.ops.now (length c.args.ops.now) c.loop-op.op-index op refl c.loop-op-test.true c.op-item.is in
     let does = step.progress in
     let flight = does.flight in
     let holds = kept.10.holds in
-    let way = under_way_more m p c.args.ops.now c.loop-op.op-index c.loop-op.failed_at c.if-stood.failed_at (durability_of old) kept.4 op outcome flight (durability_of new) next here does.may_be does.progress holds step.contents still in
+    let held : has_failed old ≡ false → contents_of old ≡ after_batches m p.batches = holds_all m p c.args.ops.now c.loop-op.op-index c.loop-op.failed_at c.if-stood.failed_at (durability_of old) kept.4 op outcome flight (durability_of new) next holds in
+    let wrote = accepted_same (contents_of old) (after_batches m p.batches) op (has_failed old) held outcome fails step.failed in
+    let progress = subst (λ (l : List Batch). Progresses l (is_covering op outcome) flight (durability_of old) (durability_of new)) wrote does.progress in
+    let contents : fails ≡ false → contents_of new ≡ after_batches (contents_of old) (accepted_of (after_batches m p.batches) op outcome) = λ stands. step.contents stands ∙ ap (after_batches (contents_of old)) wrote in
+    let is_given = given_same (contents_of old) (after_batches m p.batches) op (has_failed old) held does.given does.is_given in
+    let way = under_way_more m p c.args.ops.now c.loop-op.op-index c.loop-op.failed_at c.if-stood.failed_at (durability_of old) kept.4 op outcome flight (durability_of new) next here does.may_be progress holds contents still in
     let now = (g.met.F.FileSystem g.world.𝓛 g.world.𝓜 g.world.𝓡 ((λ s allowed. allowed), (λ patient. patient), (λ solo. solo), (λ cuts. cuts))).now_counts new.file_system in
     let leaves = subst (λ (f : Path). LeavesAllowed f (durable_of new) (unsynced_of new) (directory_of new)) (step.folder ∙ kept.3) law.crash in
     let newest : (x : Directory) (earlier : List Directory) → moments_of new ≡ x ∷ earlier → LeavesAllowed (folder_of begun) (durable_of new) (unsynced_of new) x = λ x earlier moments.
     let same : directory_of new ≡ x = cc now.1 in subst (λ (y : Directory). LeavesAllowed (folder_of begun) (durable_of new) (unsynced_of new) y) same leaves in
-    let inside = λ (asks : Answers (given_batches op) flight old new). inside_call (folder_of begun) m p op outcome (snapshot_of old) (answer_now (given_batches op) new) refl (LeavesAllowed (folder_of begun) (durable_of old) (unsynced_of old ++ flight)) (directory_of new)
+    let inside = λ (asks : Answers does.given flight old new). inside_call (folder_of begun) m p op outcome (snapshot_of old) (answer_now does.given new) is_given (LeavesAllowed (folder_of begun) (durable_of old) (unsynced_of old ++ flight)) (directory_of new)
     (λ x alive allowed. inside_here m p c.args.ops.now c.loop-op.op-index c.loop-op.failed_at c.if-stood.failed_at (durability_of old) kept.4 op outcome flight (durability_of new) next (folder_of begun) x does.may_be holds alive allowed)
     (λ alive. subst (λ (f : Path). HoldsThroughout (moments_of old) (moments_of new) (directory_of new) (LeavesAllowed f (durable_of old) (unsynced_of old ++ flight))) kept.3 (asks.moments alive)) asks.rests
-    (λ stands x earlier moments. leaves_standing (folder_of begun) m (progress_after p op outcome) c.args.ops.now c.if-stood.failed_at (durability_of new) way stands x (newest x earlier moments)) step.failed in
-    let allowed = allowed_more ops outcomes op outcome begun old new kept.5 flight does.answers inside in
-    let way_more = subst (λ (q : Progress). IsUnderWay m q c.args.ops.now c.if-stood.failed_at (durability_of new)) (sym (progress_more first ops outcomes op outcome kept.0.len)) way in
+    (λ stands x earlier moments. leaves_standing (folder_of begun) m (progress_after m p op outcome) c.args.ops.now c.if-stood.failed_at (durability_of new) way stands x (newest x earlier moments)) step.failed in
+    let allowed = allowed_more ops outcomes op outcome begun old new kept.5 does.given flight does.answers inside in
+    let way_more = subst (λ (q : Progress). IsUnderWay m q c.args.ops.now c.if-stood.failed_at (durability_of new)) (sym (progress_more m first ops outcomes op outcome kept.0.len)) way in
     let place = place_more ops outcomes op outcome (has_failed begun) (has_failed old) fails c.loop-op.failed_at c.if-stood.failed_at kept.6 kept.7 step.failed
     (subst (λ (k : ℕ). IsNextPlace (has_failed old) fails k c.loop-op.failed_at c.if-stood.failed_at) (sym done) next) in (
       rw (taken, c.in_ok-push.ensures.items) more,
@@ -110,7 +117,7 @@ returns-clause-ok g c =
     let first = progress_from (unsynced_of old) in
     let kept = c.loop-op.invariant in
     let whole : take c.loop-op.op-index ops ≡ ops = take_all c.loop-op.op-index ops (omega (arith, c.loop-op-test.false)) in
-    let way = subst (λ (l : List Op). IsUnderWay (durable_of old) (progress_after_all first l outcomes) ops failed_at (durability_of e)) whole kept.4 in
+    let way = subst (λ (l : List Op). IsUnderWay (durable_of old) (progress_after_all (durable_of old) first l outcomes) ops failed_at (durability_of e)) whole kept.4 in
     let running = subst (λ (l : List Op). IsRunning (contents_of old) l outcomes (contents_of e) (has_failed e)) whole kept.0 in
     record {
       answers = running.answers;

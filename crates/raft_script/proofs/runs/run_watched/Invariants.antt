@@ -14,7 +14,7 @@ invariant-loop-op g l =
     × (vec_len l.outcomes ≡ l.op-index)
     × (length l.ops ≤ vec_capacity l.outcomes)
     × (folder_of l.engine ≡ folder_of l.initial.engine)
-    × IsUnderWay (durable_of l.initial.engine) (progress_after_all (progress_from (unsynced_of l.initial.engine)) (take l.op-index l.ops) l.outcomes.items) l.ops l.failed_at (durability_of l.engine)
+    × IsUnderWay (durable_of l.initial.engine) (progress_after_all (durable_of l.initial.engine) (progress_from (unsynced_of l.initial.engine)) (take l.op-index l.ops) l.outcomes.items) l.ops l.failed_at (durability_of l.engine)
     × AreAllowedInside (take l.op-index l.ops) l.outcomes.items l.initial.engine l.engine
     × (has_failed l.engine ≡ (has_failed l.initial.engine || is_some l.failed_at))
     × IsFailurePlace (has_failed l.initial.engine) (take l.op-index l.ops) l.outcomes.items l.failed_at

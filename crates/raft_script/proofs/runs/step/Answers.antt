@@ -1,11 +1,10 @@
 use Rattle.std.proofs.Common.{◌≡◌, ◌∙◌, ◌∷◌, [], List, Some, ap, inl, inr, refl, rules, sym}
 use Rattle.raft_records.specs.Item.{Batch}
-use Rattle.raft_log_engine.specs.Crash.{written_batch}
 use Rattle.raft_log_engine.specs.Durability.{durability_of}
 use Rattle.raft_log_engine.specs.Engine.{answer_now, answered_of, contents_of, directory_of, durable_of, folder_of, moments_of, unsynced_of}
-use Rattle.raft_script.specs.Run.{batch_of_acts, written_batches}
+use Rattle.raft_script.specs.Run.{batch_of_acts, pending_batches, written_batches}
 use Rattle.raft_script.proofs.DurabilityLemmas.{moments_of_batch, written_progress}
-use Rattle.raft_script.proofs.RunLemmas.{acts_pending, write_answered}
+use Rattle.raft_script.proofs.RunLemmas.{write_answered}
 use Rattle.raft_script.proofs.runs.step.Goals as goal
 
 pub returns-in-Ok-clause-value : goal.returns-in-Ok-clause-value
@@ -13,7 +12,7 @@ returns-in-Ok-clause-value g c =
     let write = c.write.ensures in
     let acts = c.in-Write.acts in
     let built : batch_of_acts acts.items ≡ Some c.in-Ok.batch.items = ap batch_of_acts (sym c.deref.ensures.value) ∙ c.in-Ok.ensures.value in
-    rw c.in-Write.is (λ m is. write_answered acts.items c.in-Ok.batch.items c.write.new.batch.items (folder_of c.args.engine.now) c.args.engine.now c.write.new.self built c.write.result write.ok write.failed write.cause)
+    rw c.in-Write.is (λ m is. write_answered acts.items c.in-Ok.batch.items c.write.new.batch.items (folder_of c.args.engine.now) m c.args.engine.now c.write.new.self built is c.write.result write.ok write.failed write.cause)
 
 pub returns-in-Ok-clause-progress : goal.returns-in-Ok-clause-progress
 returns-in-Ok-clause-progress g c =
@@ -24,12 +23,14 @@ returns-in-Ok-clause-progress g c =
     let n = c.write.new.self in
     let built : batch_of_acts acts.items ≡ Some items = ap batch_of_acts (sym c.deref.ensures.value) ∙ c.in-Ok.ensures.value in
     rw c.in-Write.is (record {
-      flight = written_batches (batch_of_acts acts.items);
-      may_be = acts_pending (contents_of e) acts.items;
-      progress = written_progress acts items c.in-Write.sync built c.write.result (durability_of e) (durability_of n) write.progress;
+      flight = pending_batches (contents_of e) (batch_of_acts acts.items);
+      may_be = refl;
+      given = written_batches (batch_of_acts acts.items);
+      is_given = refl;
+      progress = written_progress (contents_of e) acts items c.in-Write.sync built c.write.result (durability_of e) (durability_of n) write.progress;
       answers = inr (record {
         noted = write.answered ∙ ap (λ (given : List Batch). answer_now given n ∷ answered_of e) (ap written_batches (sym built));
-        moments = λ alive. moments_of_batch (folder_of e) (durable_of e) (unsynced_of e) items (batch_of_acts acts.items) (moments_of e) (moments_of n) (directory_of n) built write.any_moment;
+        moments = λ alive. moments_of_batch (folder_of e) (durable_of e) (contents_of e) (unsynced_of e) items (batch_of_acts acts.items) (moments_of e) (moments_of n) (directory_of n) built write.any_moment;
         rests = λ failed. (write.unchanged failed).0.moments;
       });
     })
@@ -38,16 +39,30 @@ pub returns-in-Err-clause-progress : goal.returns-in-Err-clause-progress
 returns-in-Err-clause-progress g c =
     let acts = c.in-Write.acts in
     rw c.in-Write.is (record {
-      flight = written_batches (batch_of_acts acts.items);
-      may_be = acts_pending (contents_of c.args.engine.now) acts.items;
+      flight = pending_batches (contents_of c.args.engine.now) (batch_of_acts acts.items);
+      may_be = refl;
+      given = written_batches (batch_of_acts acts.items);
+      is_given = refl;
       progress = inl (record { none = refl; covers_none = refl; failed = refl; durable = refl; unsynced = refl });
       answers = inl (search rules, refl {a = c.args.engine.now});
     })
+
+pub returns-in-Get-clause-progress : goal.returns-in-Get-clause-progress
+returns-in-Get-clause-progress g c = rw c.in-Get.is (record {
+  flight = [];
+  may_be = refl;
+  given = [];
+  is_given = refl;
+  progress = inl (record { none = refl; covers_none = refl; failed = refl; durable = refl; unsynced = refl });
+  answers = inl (tt, refl {a = c.args.engine.now});
+})
 
 pub returns-in-Sync-clause-progress : goal.returns-in-Sync-clause-progress
 returns-in-Sync-clause-progress g c = rw c.in-Sync.is (record {
   flight = [];
   may_be = refl;
+  given = [];
+  is_given = refl;
   progress = search rules;
   answers = inr (record { noted = search rules; moments = λ alive. search rules; rests = search rules });
 })

@@ -41,7 +41,7 @@ returns-clause-value c =
       runs = record { first = c.new_files.result; stop_is = search rules; none = none; added = c.in_ok-ran.ensures.any_moment.0; later = c.in_ok-ran.ensures.any_moment.1; ran = shown };
       left = leaves;
       detectable = λ none some whole. c.in_ok-ran.ensures.crash (none_done dir before (λ absent. (c.a_queue_keeps_its_completed_log.ensures.none dir before absent).0) c.new_files.ensures.files) none some
-          (λ file stands. record { never_renamed = c.in_ok-left.ensures.not_renamed (log_path dir) file stands; only_writes = c.in_ok-left.ensures.only_writes (log_path dir) file stands })
+          (λ file stands. record { only_writes = c.in_ok-left.ensures.only_writes (log_path dir) file stands })
           c.in_ok-left.ensures.consistent c.args.choices.now whole;
       found = image_restarted (string_bytes c.in_ok-again.again.dir) dir files (memory_directory c.in_ok-left.left) left c.open_image.result c.in_ok-again.ensures.value.dir (c.crash_leaves_contents.ensures.found dir files m left restarted) c.open_image.ensures.value;
       refused = opened_outside c.args.config.recovery_mode c.in_ok-again.again.recovery_mode dir (string_bytes c.in_ok-again.again.dir) files (memory_directory c.in_ok-left.left) left c.open_image.result (ap (λ (x : Config). x.recovery_mode) c.in_ok-again.ensures.value.others)

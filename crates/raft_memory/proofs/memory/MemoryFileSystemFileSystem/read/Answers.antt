@@ -16,4 +16,4 @@ pub returns-in-None-clause-refused : goal.returns-in-None-clause-refused
 returns-in-None-clause-refused c =
     let path = string_bytes c.args.reader.now.path in
     let none : tree.get_by_text c.args.self.now.namespace.files path ≡ None = search rules in
-    inr (c.refused-in-None.ensures.value, file_at-namespace_directory c.args.self.now.namespace path ∙ none)
+    inr (c.refuse-in-None.ensures.value, file_at-namespace_directory c.args.self.now.namespace path ∙ none)

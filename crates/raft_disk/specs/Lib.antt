@@ -1,0 +1,5 @@
+pub mod Calls
+pub mod Folder
+pub mod Mirror
+pub mod Counted
+pub mod Told

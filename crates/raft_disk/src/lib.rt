@@ -1,0 +1,15 @@
+//! Files in a folder of the operating system, with an image of them in memory that answers.
+#![tactic(auto)]
+
+mod disk;
+mod folder;
+mod mirror;
+mod opening;
+mod places;
+mod refusals;
+mod told;
+
+pub use disk::Disk;
+pub use folder::{Folder, FolderFile};
+pub use mirror::{DiskHandle, DiskReader, DiskWriter, Mirror};
+pub use opening::{DiskFileSystem, OpenFault};

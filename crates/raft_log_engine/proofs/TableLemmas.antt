@@ -1,0 +1,53 @@
+-- What tables hold, where blocks hold the bytes of their entries.
+use Rattle.std.proofs.Common.{◌≡◌, ℕ, true, List, [], ◌∷◌, ◌++◌, map, take, drop, Option, Some, None, is_some, refl, ap, sym, ◌∙◌}
+use Rattle.std.proofs.Math.Path.{fun_ext}
+use Rattle.std.specs.List.{list_all}
+use Rattle.raft_base.specs.declared.pipe_log.FileId.{FileId}
+use Rattle.raft_env.specs.Directory.{Directory}
+use Rattle.raft_env.specs.declared.env.FileSystem.{Ghosts}
+use Rattle.raft_pipes.specs.Blocks.{HasBlocks}
+use Rattle.raft_pipes.specs.Written.{written_bytes}
+use Rattle.raft_pipes.specs.declared.pipe.SinglePipe.{SinglePipe}
+use Rattle.raft_records.specs.Contents.{Contents, after_batch}
+use Rattle.raft_records.specs.Item.{Batch}
+use Rattle.raft_records.specs.ItemBatch.{are_readable, is_readable_at}
+use Rattle.raft_records.specs.PlacedItem.{PlacedItem, is_placed_in_order, item_in}
+use Rattle.raft_records.specs.Places.{Blocks}
+use Rattle.raft_tables.specs.Known.{known_after, known_in}
+use Rattle.raft_tables.specs.Table.{TableView}
+use Rattle.raft_tables.specs.Tables.{Applies, Tables, contents_in, or_empty, tables_of}
+use Rattle.raft_tables.specs.declared.memtables.MemTables.{MemTables}
+use Rattle.raft_tables.proofs.KnownLemmas.{known_in-push}
+use Rattle.raft_log_engine.specs.Contents.{StandFor, recovered_contents}
+use Rattle.raft_log_engine.proofs.ContentsLemmas.{recovered-push}
+
+-- tables of no group hold what no batch leaves
+pub stand_none : (blocks : Blocks) (tables : Tables) → ((group : ℕ) → tables group ≡ None) → StandFor blocks tables []
+stand_none blocks tables none = record {
+  contents = ap (contents_in blocks) (fun_ext none);
+  known = λ group. ap is_some (none group);
+  readable = λ group. ap (λ (t : Option TableView). list_all (λ e. is_readable_at blocks e.1) (or_empty t).entries) (none group);
+}
+
+-- tables that took a batch hold it too
+pub stand_more : (blocks : Blocks) (id : FileId) (items : List PlacedItem) (old new : MemTables) (batches : List Batch) (batch : Batch) → list_all (λ i. is_placed_in_order i.content) items ≡ true → are_readable blocks items ≡ true
+    → map (item_in blocks) items ≡ batch → Applies id items old new → StandFor blocks (tables_of old) batches → StandFor blocks (tables_of new) (batches ++ batch ∷ [])
+stand_more blocks id items old new batches batch in_order readable is applies stands = record {
+  contents = applies.contents in_order blocks
+      ∙ ap (λ (m : Contents). after_batch m (map (item_in blocks) items)) stands.contents
+      ∙ ap (after_batch (recovered_contents batches)) is
+      ∙ sym (recovered-push batches batch);
+  known = λ group. applies.known in_order blocks group
+      ∙ ap (λ known. known_after group known (map (item_in blocks) items)) (stands.known group)
+      ∙ ap (known_after group (known_in batches group)) is
+      ∙ sym (known_in-push batches batch group);
+  readable = applies.places (is_readable_at blocks) readable stands.readable;
+}
+
+-- blocks that hold what stands in a file of these bytes, and of a batch that isn't written yet these
+abbrev pub blocks_over : List ℕ → List ℕ → Blocks
+blocks_over bytes given None = given
+blocks_over bytes given (Some block) = take block.len (drop block.offset bytes)
+
+pub has_blocks_over : {F H R W : Type 0} {g : Ghosts F H R W} (p : SinglePipe F H R W g) (n : Directory) (given : List ℕ) → HasBlocks p n (blocks_over (written_bytes p.writer n) given)
+has_blocks_over p n given = λ block id within. refl

@@ -1,0 +1,30 @@
+-- Entries of text.
+use Rattle.std.specs.Prelude.{◌≡◌, ◌<◌, ◌^◌, ◌+◌, ◌-◌, ℕ, List, ◌∷◌, ◌++◌, map}
+use Rattle.std.specs.List.{range_with_len}
+use Rattle.std.specs.Fmt.{decimal}
+use Rattle.raft_records.specs.Item.{Entry}
+use Rattle.raft_script.specs.declared.text_entry.TextEntry.{TextEntry}
+
+-- an index in decimal, a colon and a word
+abbrev pub text_bytes : ℕ → List ℕ → List ℕ
+text_bytes index word = decimal index ++ 58 ∷ word
+
+-- the bytes of an entry
+abbrev pub bytes_of_entry : TextEntry → List ℕ
+bytes_of_entry e = text_bytes e.index e.word.items
+
+-- the bytes are those of the entry, whose index is a u64
+abbrev pub IsTextOf : List ℕ → TextEntry → Type 0
+IsTextOf bytes e = (e.index < 2 ^ 64) × (bytes ≡ bytes_of_entry e)
+
+-- the entry as a log holds it
+abbrev pub entry_of_text : TextEntry → Entry
+entry_of_text e = (e.index, bytes_of_entry e)
+
+-- an entry's index and word
+abbrev pub indexed_word : TextEntry → ℕ × List ℕ
+indexed_word e = (e.index, e.word.items)
+
+-- the indexes from `first` to `last`, each with this word
+abbrev pub indexed_words : ℕ → ℕ → List ℕ → List (ℕ × List ℕ)
+indexed_words first last word = map (λ i. (i, word)) (range_with_len first (last + 1 - first))

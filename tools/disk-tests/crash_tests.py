@@ -1,0 +1,300 @@
+#!/usr/bin/env python3
+"""Crash tests of raftctl over a real folder.
+
+    tools/disk-tests/crash_tests.py crates/raftctl/out/raftctl [--seeds N] [--step N]
+
+Records the file calls of two loads, and builds for each call what a crash then may leave: all bytes,
+the synced ones, torn sectors, garbage where nothing was synced. In each of these folders the program
+must find every key that it had answered as synced, without a gap and with its value, twice alike.
+The same with the syncs not counted has to find bad outcomes. Then each kind of call fails in turn,
+the program is killed, and a folder is opened twice. Status 1 where any of it is wrong.
+"""
+
+import argparse
+import errno
+import os
+import random
+import re
+import shutil
+import signal
+import subprocess
+import sys
+import tempfile
+import time
+
+SECTOR = 512
+SIZE = 40
+LOADS = [["30", "--sync-each", "3"], ["60", "--sync-each", "7"]]
+COUNT = 60
+HERE = os.path.dirname(os.path.abspath(__file__))
+
+
+class File:
+    """A file's bytes, those of its last sync, and what was touched since."""
+
+    def __init__(self):
+        self.now = b""
+        self.synced = b""
+        self.lengths = [0]
+        self.touched = []
+        self.is_named = False
+
+    def write(self, at, given):
+        end = at + len(given)
+        self.now = self.now.ljust(end, b"\0")[:at] + given + self.now[end:]
+        self.change(at, end)
+
+    def truncate(self, size):
+        ends = sorted([size, len(self.now)])
+        self.now = self.now[:size].ljust(size, b"\0")
+        self.change(*ends)
+
+    def change(self, start, end):
+        self.touched.append((start, end))
+        self.lengths.append(len(self.now))
+
+    def sync(self):
+        self.synced = self.now
+        self.touched = []
+        self.lengths = [len(self.now)]
+
+    def torn(self, rng, garbage):
+        """What a crash may leave: sectors as they were or are, in what was touched; or other bytes there."""
+        size = rng.randint(min(self.lengths), max(self.lengths))
+        old = bytearray(self.synced[:size].ljust(size, b"\0"))
+        new = self.now[:size].ljust(size, b"\0")
+        for start, end in self.touched:
+            for sector in range(start // SECTOR, max(end - 1, 0) // SECTOR + 1):
+                low = max(start, sector * SECTOR)
+                high = min(end, (sector + 1) * SECTOR, size)
+                if low >= high:
+                    continue
+                choice = rng.randrange(3)
+                if choice == 1:
+                    old[low:high] = new[low:high]
+                elif choice == 2 and garbage:
+                    old[low:high] = rng.randbytes(high - low)
+        return bytes(old)
+
+
+class Disk:
+    """A folder's files and folders, after the calls that were recorded."""
+
+    def __init__(self, counts_syncs):
+        self.counts_syncs = counts_syncs
+        self.files = {}
+        self.folders = {}
+        self.answered = -1
+
+    def carry_out(self, line):
+        kind, path, at, given = line.rstrip("\n").split(" ")
+        if kind == "create":
+            self.files[path] = File()
+        elif kind == "mkdir":
+            self.folders[path] = False
+        elif kind == "write":
+            self.files[path].write(int(at), bytes.fromhex(given))
+        elif kind == "truncate":
+            self.files[path].truncate(int(at))
+        elif kind == "sync":
+            self.sync(path)
+        elif kind == "say":
+            for number in re.findall(rb"synced (\d+)", bytes.fromhex(given)):
+                self.answered = max(self.answered, int(number))
+
+    def sync(self, path):
+        if path in self.files:
+            if self.counts_syncs:
+                self.files[path].sync()
+            return
+        for name, file in self.files.items():
+            if (os.path.dirname(name) or ".") == path:
+                file.is_named = True
+        for name in self.folders:
+            if (os.path.dirname(name) or ".") == path:
+                self.folders[name] = True
+
+    def leave(self, folder, how, rng):
+        os.makedirs(folder)
+        for name, is_named in self.folders.items():
+            if name != "." and (is_named or how == "all"):
+                os.makedirs(os.path.join(folder, name), exist_ok=True)
+        for name, file in self.files.items():
+            if how == "all":
+                left = file.now
+            elif not file.is_named and (how == "synced" or rng.random() < 0.5):
+                continue
+            elif how == "synced":
+                left = file.synced
+            else:
+                left = file.torn(rng, how == "garbage")
+            with open(os.path.join(folder, name), "wb") as out:
+                out.write(left)
+
+
+class Tests:
+    def __init__(self, program, work):
+        self.program = os.path.abspath(program)
+        self.work = work
+        self.recorder = os.path.join(work, "record_calls.so")
+        source = os.path.join(HERE, "record_calls.c")
+        subprocess.run(["cc", "-shared", "-fPIC", "-O1", "-o", self.recorder, source, "-ldl"], check=True)
+
+    def run(self, folder, *words, **env):
+        if env:
+            env = {"LD_PRELOAD": self.recorder, "RECORD_FOLDER": folder, "ASAN_OPTIONS": "verify_asan_link_order=0", **env}
+        words = [self.program, folder, *map(str, words)]
+        return subprocess.run(words, capture_output=True, text=True, env={**os.environ, **env}, timeout=120)
+
+    def load(self, folder, count, *words, **env):
+        return self.run(folder, "load", count, SIZE, *words, **env)
+
+    def standing(self, folder):
+        """How many keys stand from 0 on, or what is wrong."""
+        ran = self.run(folder, "verify", COUNT, SIZE)
+        found = re.search(r"standing (\d+)", ran.stdout)
+        if ran.returncode != 0 or not found:
+            return f"status {ran.returncode}: {ran.stdout.split()} {ran.stderr.strip()}"
+        return int(found[1])
+
+    def wrong_with(self, folder, answered):
+        """What is wrong with a folder in which so many keys were answered as synced, or None."""
+        first = self.standing(folder)
+        if not isinstance(first, int):
+            return first
+        if first <= answered:
+            return f"{first} keys stand, and {answered} was synced"
+        second = self.standing(folder)
+        return None if first == second else f"{first} keys stand, and then {second}"
+
+    def record(self):
+        folder = os.path.join(self.work, "recorded")
+        record = os.path.join(self.work, "calls")
+        for words in LOADS:
+            ran = self.load(folder, *words, RECORD=record)
+            assert ran.returncode == 0, ran.stderr
+        with open(record, encoding="ascii") as lines:
+            return list(lines)
+
+    def replay(self, calls, counts_syncs, seeds, step):
+        disk = Disk(counts_syncs)
+        outcomes = bad = 0
+        hows = ["all", "synced"] + ["torn", "garbage"] * seeds
+        for place, line in enumerate(calls):
+            disk.carry_out(line)
+            if place % step:
+                continue
+            for turn, how in enumerate(hows):
+                folder = os.path.join(self.work, "left")
+                disk.leave(folder, how, random.Random(f"{place} {turn}"))
+                wrong = self.wrong_with(folder, disk.answered)
+                outcomes += 1
+                if wrong:
+                    bad += 1
+                    if counts_syncs:
+                        print(f"call {place}, {how} {turn}: {wrong}")
+                shutil.rmtree(folder)
+        return outcomes, bad
+
+    def fail_each(self):
+        """Each kind of call fails at its Nth time: nothing that was answered is lost."""
+        bad = tried = 0
+        kinds = [("fdatasync", errno.EIO), ("fsync", errno.EIO), ("pwrite", errno.EIO), ("pwrite", errno.ENOSPC)]
+        kinds += [("short", errno.ENOSPC), ("ftruncate", errno.ENOSPC), ("open", errno.EACCES), ("mkdir", errno.EROFS)]
+        for kind, code in kinds:
+            for number in (1, 2, 3, 4, 7, 12):
+                folder = os.path.join(self.work, "failed")
+                ran = self.load(folder, 30, "--sync-each", 3, FAIL=f"{kind}:{number}:{code}")
+                answered = [int(it) for it in re.findall(r"synced (\d+)", ran.stdout)]
+                is_told = ran.returncode == 0 or (ran.returncode == 1 and "raftctl: " in ran.stderr)
+                wrong = None if is_told else f"status {ran.returncode}: {ran.stderr}"
+                wrong = wrong or self.wrong_with(folder, max(answered, default=-1))
+                tried += 1
+                if wrong:
+                    bad += 1
+                    print(f"{kind} {number} {errno.errorcode[code]}: {wrong}")
+                shutil.rmtree(folder, ignore_errors=True)
+        return tried, bad
+
+    def kill_each(self):
+        """The program is killed while it loads."""
+        bad = 0
+        for turn in range(12):
+            folder = os.path.join(self.work, "killed")
+            said = os.path.join(self.work, "said")
+            with open(said, "wb") as out:
+                words = [self.program, folder, "load", str(COUNT), str(SIZE), "--sync-each", "2"]
+                loading = subprocess.Popen(words, stdout=out, stderr=subprocess.DEVNULL)
+            time.sleep(0.001 + 0.003 * turn)
+            loading.send_signal(signal.SIGKILL)
+            loading.wait()
+            with open(said, encoding="ascii") as lines:
+                answered = [int(it) for it in re.findall(r"synced (\d+)\n", lines.read())]
+            wrong = self.wrong_with(folder, max(answered, default=-1))
+            if wrong:
+                bad += 1
+                print(f"killed in turn {turn}: {wrong}")
+            shutil.rmtree(folder, ignore_errors=True)
+        return 12, bad
+
+    def refuse_each(self):
+        """What an opening has to refuse, with the words that say why."""
+        work = os.path.join(self.work, "refused")
+        os.makedirs(work)
+        place = lambda name: os.path.join(work, name)
+        with open(place("file"), "wb"):
+            pass
+        self.load(place("link"), 3)
+        os.symlink("/etc/hostname", place("link/other"))
+        self.load(place("names"), 3)
+        os.link(place("names/LOCK"), place("names/more"))
+        cases = [("file", "raftctl: "), ("file/below", "raftctl: ")]
+        cases += [("link", "neither a folder nor a file"), ("names", "neither a folder nor a file")]
+        bad = 0
+        for name, words in cases:
+            ran = self.run(place(name), "stat")
+            if ran.returncode != 1 or words not in ran.stderr:
+                bad += 1
+                print(f"{name}: status {ran.returncode}: {ran.stderr}")
+        return len(cases) + 1, bad + self.open_twice(place("twice"))
+
+    def open_twice(self, folder):
+        words = [self.program, folder, "load", "100000000", str(SIZE), "--sync-each", "1"]
+        first = subprocess.Popen(words, stdout=subprocess.PIPE, stderr=subprocess.DEVNULL)
+        first.stdout.readline()
+        ran = self.run(folder, "stat")
+        first.kill()
+        first.wait()
+        first.stdout.close()
+        if ran.returncode == 1 and "it is open already" in ran.stderr:
+            return 0
+        print(f"opened twice: status {ran.returncode}: {ran.stderr}")
+        return 1
+
+
+def main():
+    parser = argparse.ArgumentParser()
+    parser.add_argument("program")
+    parser.add_argument("--seeds", type=int, default=5, help="torn folders, and as many with garbage, for each call")
+    parser.add_argument("--step", type=int, default=1, help="tries each Nth call alone")
+    given = parser.parse_args()
+    with tempfile.TemporaryDirectory(prefix="disk-tests-") as work:
+        tests = Tests(given.program, work)
+        calls = tests.record()
+        good = True
+        for name, (tried, bad) in [
+            (f"crashes at {len(calls)} calls", tests.replay(calls, True, given.seeds, given.step)),
+            ("calls that fail", tests.fail_each()),
+            ("kills", tests.kill_each()),
+            ("openings to be refused", tests.refuse_each()),
+        ]:
+            print(f"{name}: {tried} tried, {bad} bad")
+            good = good and bad == 0
+        tried, bad = tests.replay(calls, False, 1, max(given.step, 2))
+        print(f"crashes with the syncs not counted: {tried} tried, {bad} bad, as wanted")
+        good = good and bad > 0
+    return 0 if good else 1
+
+
+if __name__ == "__main__":
+    sys.exit(main())
