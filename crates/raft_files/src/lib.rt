@@ -6,6 +6,8 @@ pub mod laws;
 mod log_file;
 mod reader;
 
-pub use format::{FileNameExt, LogFileFormat, is_zero_padded};
+pub use format::{
+    FileNameExt, LogFileFormat, build_reserved_file_name, is_zero_padded, parse_reserved_file_name,
+};
 pub use log_file::{LogFileReader, LogFileWriter};
 pub use reader::RecordReader;
