@@ -1,6 +1,6 @@
 -- What is true of files in memory, whatever calls were made.
 use Rattle.std.proofs.Common.{◌≡◌, ℕ, ◌≤◌, true, false, Bool, cond, List, [], ◌++◌, length, take, Option, Some, None, is_some, refl, sym, subst, inl, inr}
-use Rattle.std.specs.FinMap.{get-empty}
+use Rattle.std.specs.FinMap as finite
 use Rattle.std.proofs.lemmas.List.Elements.{All-cons, All-nil}
 use Rattle.raft_env.specs.Outcomes.{File, IsWriteIfFailed, OnlyWritesFailed, file_after_write, file_after_resize, synced_of, synced_file, renamed_of, overlay, pad_to}
 use Rattle.raft_env.specs.Directory.{Directory, Path, file_at, with_file, update_file, update_at, after_create, after_rename, without_file, folder_made}
@@ -17,11 +17,11 @@ Invariant n = record { consistent : AreConsistent n; only_writes : OnlyWritesFai
 -- Files.
 
 -- what they say of one file
-record Holds (file : File) : Type 0 where
+pub record Holds (file : File) : Type 0 where
   pub consistent : IsConsistent file
   pub only_writes : OnlyWritesFailed (file.changes ++ file.older)
 
-settled_holds : (bytes : List ℕ) → Holds (synced_file bytes)
+pub settled_holds : (bytes : List ℕ) → Holds (synced_file bytes)
 settled_holds bytes = record { consistent = settled_consistent bytes; only_writes = All-nil IsWriteIfFailed }
 
 synced_holds : (file : File) → Holds file → Holds (synced_of file)
@@ -44,16 +44,16 @@ resized_holds after file old consistent = record {
 
 -- Directories.
 
-abbrev Each : Directory → Type 0
+abbrev pub Each : Directory → Type 0
 Each n = (path : Path) (file : File) → file_at n path ≡ Some file → Holds file
 
-of_each : (n : Directory) → Each n → Invariant n
+pub of_each : (n : Directory) → Each n → Invariant n
 of_each n each = record {
   consistent = λ path file stands. (each path file stands).consistent;
   only_writes = λ path file stands. (each path file stands).only_writes;
 }
 
-placed_each : (path : Path) (file : File) (n : Directory) → Each n → Holds file → Each (with_file path file n)
+pub placed_each : (path : Path) (file : File) (n : Directory) → Each n → Holds file → Each (with_file path file n)
 placed_each path file n each holds q found stands = elim (placed_cases path q file found n stands) [
   | inl same ↦ subst Holds same holds
   | inr stood ↦ each q found stood
@@ -105,10 +105,11 @@ module _ (m : MemoryFileSystem) (new : Directory) where
   pub invariant-folder_made : (path : Path) → new ≡ folder_made path (memory_directory m) → Invariant new
   invariant-folder_made path is = subst Invariant (sym is) (of_each (folder_made path (memory_directory m)) each_now)
 
+-- no file stands, whatever folders do
+pub no_files_each : (is_folder : Path → Bool) → Each (record { files = finite.empty; is_folder = is_folder })
+no_files_each is_folder path file stands =
+    let none : file_at (record { files = finite.empty; is_folder = is_folder }) path ≡ None = finite.get-empty _ path in
+    absurd (cc (none, stands))
+
 pub invariant-no_files : (n : Directory) → n ≡ no_files → Invariant n
-invariant-no_files n is = subst Invariant (sym is) (of_each no_files (λ path file stands. absurd (absent path file stands)))
-  where
-    absent : (path : Path) (file : File) → file_at no_files path ≡ Some file → ⊥
-    absent path file stands =
-        let none : file_at no_files path ≡ None = get-empty _ path in
-        absurd (cc (none, stands))
+invariant-no_files n is = subst Invariant (sym is) (of_each no_files (no_files_each no_files.is_folder))

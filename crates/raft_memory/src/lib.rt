@@ -11,6 +11,7 @@ mod memory;
 mod memory_file;
 mod namespace;
 mod refusals;
+mod settled;
 
 pub use armed::FsCall;
 pub use crash::Choice;
