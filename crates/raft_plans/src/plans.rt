@@ -20,6 +20,10 @@ pub enum Plan {
     Sync,
     Get(u64, &'static [u8]),
     CompactTo(u64, u64),
+    Entry(u64, u64),
+    First(u64),
+    Last(u64),
+    Groups,
 }
 
 /// What a crash is to leave of the log.
@@ -34,6 +38,10 @@ pub enum Answer {
     Size(usize),
     Value(Option<&'static [u8]>),
     Count(u64),
+    /// The entry with this index and word.
+    Entry(u64, &'static [u8]),
+    Index(Option<u64>),
+    Groups(&'static [u64]),
     /// It fails with this code.
     Fails(u8),
 }
@@ -80,6 +88,10 @@ fn op_of(alloc: Global, plan: &Plan) -> Result<Op, AllocError> {
         Plan::Sync => Ok(Op::Sync),
         Plan::Get(group, key) => Ok(Op::Get(*group, key.to_vec(alloc)?)),
         Plan::CompactTo(group, index) => Ok(Op::CompactTo(*group, *index)),
+        Plan::Entry(group, index) => Ok(Op::Entry(*group, *index)),
+        Plan::First(group) => Ok(Op::First(*group)),
+        Plan::Last(group) => Ok(Op::Last(*group)),
+        Plan::Groups => Ok(Op::Groups),
     }
 }
 
@@ -107,6 +119,9 @@ pub fn fault_of(outcome: &Outcome) -> Option<&Fault> {
         Outcome::Done(answer) => answer.as_ref().err(),
         Outcome::Value(answer) => answer.as_ref().err(),
         Outcome::Count(answer) => answer.as_ref().err(),
+        Outcome::Entry(answer) => answer.as_ref().err(),
+        Outcome::Index(_) => None,
+        Outcome::Groups(answer) => answer.as_ref().err(),
     }
 }
 
@@ -117,6 +132,11 @@ fn is_answer(outcome: &Outcome, answer: &Answer) -> bool {
             == *wanted,
         (Outcome::Value(Ok(None)), Answer::Value(None)) => true,
         (Outcome::Count(Ok(count)), Answer::Count(wanted)) => *count == *wanted,
+        (Outcome::Entry(Ok(Some(entry))), Answer::Entry(index, word)) => {
+            entry.index == *index && entry.word.as_slice() == *word
+        }
+        (Outcome::Index(index), Answer::Index(wanted)) => *index == *wanted,
+        (Outcome::Groups(Ok(groups)), Answer::Groups(wanted)) => groups.as_slice() == *wanted,
         (_, Answer::Fails(code)) => match fault_of(outcome) {
             Some(fault) => fault.code() == *code,
             None => false,

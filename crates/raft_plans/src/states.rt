@@ -151,7 +151,7 @@ pub fn after(state: State, op: &Op) -> State {
             }
         }
         Op::CompactTo(group, index) => state = compacted(state, *group, *index),
-        Op::Sync | Op::Get(_, _) => {}
+        Op::Sync | Op::Get(_, _) | Op::Entry(_, _) | Op::First(_) | Op::Last(_) | Op::Groups => {}
     }
     state
 }
@@ -184,13 +184,16 @@ pub fn state_of(image: &Image) -> State {
     state
 }
 
-/// Whether the operation was done: a write with its record, a sync, a look-up.
+/// Whether the operation was done: a write with its record, a sync, a compaction, a read.
 pub fn is_done(outcome: &Outcome) -> bool {
     match outcome {
         Outcome::Size(answer) => answer.is_ok(),
         Outcome::Done(answer) => answer.is_ok(),
         Outcome::Value(answer) => answer.is_ok(),
         Outcome::Count(answer) => answer.is_ok(),
+        Outcome::Entry(answer) => answer.is_ok(),
+        Outcome::Index(_) => true,
+        Outcome::Groups(answer) => answer.is_ok(),
     }
 }
 
@@ -204,7 +207,7 @@ fn covers(op: &Op) -> bool {
     match op {
         Op::Write(_, sync) => *sync,
         Op::Sync => true,
-        Op::Get(_, _) | Op::CompactTo(_, _) => false,
+        _ => false,
     }
 }
 

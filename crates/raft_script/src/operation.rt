@@ -25,6 +25,14 @@ pub enum Op {
     Get(u64, Vec<u8>),
     /// The group's entries below the index go.
     CompactTo(u64, u64),
+    /// The group's entry with the index.
+    Entry(u64, u64),
+    /// The index of the group's first entry.
+    First(u64),
+    /// The index of the group's last entry.
+    Last(u64),
+    /// The groups that the engine knows.
+    Groups,
 }
 
 /// What an operation was answered: a write with the length of its record.
@@ -35,6 +43,10 @@ pub enum Outcome {
     Value(Result<Option<Vec<u8>>, Fault>),
     /// How many entries went.
     Count(Result<u64, Fault>),
+    Entry(Result<Option<TextEntry>, Fault>),
+    /// Of an engine that had failed it says nothing.
+    Index(Option<u64>),
+    Groups(Result<Vec<u64>, Fault>),
 }
 
 /// What a trial showed.
