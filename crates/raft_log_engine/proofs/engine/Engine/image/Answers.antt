@@ -9,8 +9,8 @@ use Rattle.raft_log_engine.proofs.engine.Engine.image.Goals as goal
 pub image_of-requires-clause-readable : goal.image_of-requires-clause-readable
 image_of-requires-clause-readable g c = λ lifetimes order blocks has. (c.args.self.now.holds c.if-self.false blocks has).readable
 
-pub invariant_of-self-2 : goal.invariant_of-self-2
-invariant_of-self-2 g c =
+pub invariant_of-self : goal.invariant_of-self
+invariant_of-self g c =
     let old = c.args.self.now in
     let n = g.F.FileSystem.directory c.image_of.new.file_system in
     let same = c.image_of.ensures.unchanged.0 in
