@@ -19,6 +19,7 @@ pub enum Plan {
     Write(&'static [Change], bool),
     Sync,
     Get(u64, &'static [u8]),
+    CompactTo(u64, u64),
 }
 
 /// What a crash is to leave of the log.
@@ -32,6 +33,7 @@ pub enum Left {
 pub enum Answer {
     Size(usize),
     Value(Option<&'static [u8]>),
+    Count(u64),
     /// It fails with this code.
     Fails(u8),
 }
@@ -77,6 +79,7 @@ fn op_of(alloc: Global, plan: &Plan) -> Result<Op, AllocError> {
         Plan::Write(changes, sync) => Ok(Op::Write(acts_of(alloc, changes)?, *sync)),
         Plan::Sync => Ok(Op::Sync),
         Plan::Get(group, key) => Ok(Op::Get(*group, key.to_vec(alloc)?)),
+        Plan::CompactTo(group, index) => Ok(Op::CompactTo(*group, *index)),
     }
 }
 
@@ -103,6 +106,7 @@ pub fn fault_of(outcome: &Outcome) -> Option<&Fault> {
         Outcome::Size(answer) => answer.as_ref().err(),
         Outcome::Done(answer) => answer.as_ref().err(),
         Outcome::Value(answer) => answer.as_ref().err(),
+        Outcome::Count(answer) => answer.as_ref().err(),
     }
 }
 
@@ -112,6 +116,7 @@ fn is_answer(outcome: &Outcome, answer: &Answer) -> bool {
         (Outcome::Value(Ok(Some(value))), Answer::Value(Some(wanted))) => value.as_slice()
             == *wanted,
         (Outcome::Value(Ok(None)), Answer::Value(None)) => true,
+        (Outcome::Count(Ok(count)), Answer::Count(wanted)) => *count == *wanted,
         (_, Answer::Fails(code)) => match fault_of(outcome) {
             Some(fault) => fault.code() == *code,
             None => false,

@@ -9,7 +9,7 @@ use std::test::Fail;
 /// A script, what it prints, and how it ends.
 struct Case(&'static str, &'static str, Ended);
 
-const CASES: [Case; 32] = [
+const CASES: [Case; 36] = [
     Case(
         "put 1 k v sync\nreopen\nget 1 k\nget 1 x\n",
         "ok\nok\nvalue v\nnone\n",
@@ -98,6 +98,22 @@ const CASES: [Case; 32] = [
     Case("ent 1 3 2 w\n", "", Ended::BadLine(1)),
     Case("ent 1 3 w\n", "", Ended::BadLine(1)),
     Case("ent 1 1 1 w now\n", "", Ended::BadLine(1)),
+    Case(
+        "ent 1 0 99 w\ncompact 1 100\ncompact 1 100\n",
+        "ok\ndropped 100\ndropped 0\n",
+        Ended::Done,
+    ),
+    Case(
+        "ent 1 1 3 w\ncompact 1 50\n",
+        "ok\ndropped 3\n",
+        Ended::Done,
+    ),
+    Case(
+        "ent 1 1 5 w sync\ncompact 1 4\ncrash synced\ncompact 1 3\ncompact 2 3\n",
+        "ok\ndropped 3\nok\ndropped 2\ndropped 0\n",
+        Ended::Done,
+    ),
+    Case("compact 1\n", "", Ended::BadLine(1)),
     Case(
         "put 1 k v\nent 1 1 3 w sync\nclean 1\nget 1 k\nent 1 7 7 w\nreopen\nent 1 9 9 w\n",
         "ok\nok\nok\nnone\nok\nok\nrefused 5 gap\n",

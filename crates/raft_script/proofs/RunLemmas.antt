@@ -1,6 +1,6 @@
 -- Operations under way: the batch of acts, and what the operations so far leave.
-use Rattle.std.proofs.Common.{◌≡◌, ℕ, zero, suc, ◌+◌, ◌<◌, ◌≤◌, Bool, true, false, cond, inl, inr, List, [], ◌∷◌, ◌++◌, length, length-append, length-drop, take, drop, drop-cons, get_or, Option, Some, None, refl, sym, ◌∙◌, ap, subst, append_assoc, arith}
-use Rattle.std.specs.Prelude.{◌^◌, ◌⊎◌, ◌||◌, ◌↔◌, IfErr, IfOk, IsSome, IsSomeAnd, MatchResult, Result, Ok, Err, is_some, option_map}
+use Rattle.std.proofs.Common.{◌≡◌, ℕ, zero, suc, ◌+◌, ◌<◌, ◌≤◌, Bool, true, false, cond, inl, inr, ⊎_elim, List, [], ◌∷◌, ◌++◌, length, length-append, length-drop, take, drop, drop-cons, get_or, Option, Some, None, refl, sym, ◌∙◌, ap, subst, append_assoc, arith}
+use Rattle.std.specs.Prelude.{◌^◌, ◌⊎◌, ◌||◌, ◌↔◌, if◌then◌else◌, IfErr, IfOk, IsSome, IsSomeAnd, MatchResult, Result, Ok, Err, is_some, option_map}
 use Rattle.std.proofs.lemmas.Bool.{cases_Bool}
 use Rattle.std.proofs.lemmas.List.{append-nil, nil_from_length}
 use Rattle.std.proofs.lemmas.List.Sums.{fold-append, sum_by-append}
@@ -16,15 +16,18 @@ use Rattle.raft_base.specs.Fault.{fault_code}
 use Rattle.raft_base.specs.declared.errors.Fault.{Fault}
 use Rattle.raft_base.specs.declared.errors.Fault.TheVariants as fault
 use Rattle.raft_log_engine.specs.Cause as engine
+use Rattle.raft_pipes.specs.Queue.{IsRefusalIn}
 use Rattle.raft_log_engine.specs.Durability.{HasWritten}
 use Rattle.raft_log_engine.specs.Engine.{contents_of, has_failed, refusals_of}
 use Rattle.raft_log_engine.specs.declared.engine.Engine.{Engine}
-use Rattle.raft_script.specs.Run.{accepted_batches, accepted_of, AreAnswers, AreSteady, FailsAt, IsFailing, IsFailurePlace, Refuses, StorageRefusalsRoseBy, batch_of_acts, io_count, is_refused_by_storage, IsAnswer, IsUnbuilt, IsGiven, IsWritten, IsWriteRefusal, items_of_act, with_items, written_batches}
+use Rattle.raft_log_engine.specs.Crash.{written_batch}
+use Rattle.raft_script.specs.Run.{accepted_batches, accepted_of, AreAnswers, AreSteady, FailsAt, IsFailing, IsFailurePlace, Refuses, StorageRefusalsRoseBy, batch_of_acts, io_count, is_refused_by_storage, IsAnswer, IsEngineRefusal, IsUnbuilt, IsGiven, IsWritten, IsWriteRefusal, compaction_in, items_of_act, with_items, written_batches}
+use Rattle.raft_log_engine.specs.Reads.{compact_count}
 use Rattle.raft_script.specs.declared.operation.Act.{Act}
 use Rattle.raft_script.specs.declared.operation.Op.{Op}
-use Rattle.raft_script.specs.declared.operation.Op.TheVariants.{Write, Sync, Get}
+use Rattle.raft_script.specs.declared.operation.Op.TheVariants.{Write, Sync, Get, CompactTo}
 use Rattle.raft_script.specs.declared.operation.Outcome.{Outcome}
-use Rattle.raft_script.specs.declared.operation.Outcome.TheVariants.{Size, Done, Value}
+use Rattle.raft_script.specs.declared.operation.Outcome.TheVariants.{Size, Done, Value, Count}
 
 -- items, followed by the batch of more acts, where there is one
 abbrev pub followed_by : Batch → Option Batch → Option Batch
@@ -119,6 +122,24 @@ module _ {F H R W : Type 0} {g : Ghosts F H R W} (acts : List Act) (items rest :
       by_fault fault.Range h = inr (of_built (engine.IsOutOfRange m) acts items built h.0)
       by_fault _ h = absurd h
 
+-- .. and so is a compaction
+module _ (m n : Contents) (group index : ℕ) (failed : Bool) (folder : Path) (old new : Refusals) (same : failed ≡ false → m ≡ n) where
+  engine_refusal : (e : Fault) → IsRefusalIn folder old new e → IsEngineRefusal e
+  engine_refusal (fault.Io kind path) h = tt
+  engine_refusal fault.Memory h = tt
+  engine_refusal _ h = absurd h
+
+  pub compaction_answered : (result : Result ℕ Fault) → IfOk result (λ count. count ≡ compact_count index (n.entries group)) → ((result ≡ Err fault.Failed) ↔ (failed ≡ true)) → IfErr result (λ e. failed ≡ false → IsRefusalIn folder old new e)
+      → MatchResult result (λ count. count ≡ compact_count index (m.entries group)) IsEngineRefusal
+  compaction_answered (Ok count) is fails cause = elim (cases_Bool failed) [
+    | inl gone ↦ absurd (let clash = fails.1 gone in cc)
+    | inr stands ↦ is ∙ ap (λ (c : Contents). compact_count index (c.entries group)) (sym (same stands))
+  ]
+  compaction_answered (Err e) is fails cause = elim (cases_Bool failed) [
+    | inl gone ↦ let e_is : e ≡ fault.Failed = same_err (Err e) refl (fails.1 gone) in subst IsEngineRefusal (sym e_is) tt
+    | inr stands ↦ engine_refusal e (cause stands)
+  ]
+
 -- What depends on the contents of an engine that stands alone.
 
 module _ (m n : Contents) (op : Op) (failed : Bool) (same : failed ≡ false → m ≡ n) where
@@ -129,6 +150,10 @@ module _ (m n : Contents) (op : Op) (failed : Bool) (same : failed ≡ false →
       by_op (Write acts sync) is = is
       by_op Sync is = is
       by_op (Get group key) is = is
+      by_op (CompactTo group index) is = elim (cases_Bool failed) [
+        | inl gone ↦ is ∙ ap (λ (b : Bool). if b then [] else written_batch (compaction_in m group index)) gone ∙ sym (ap (λ (b : Bool). if b then [] else written_batch (compaction_in n group index)) gone)
+        | inr stands ↦ is ∙ ap (λ (c : Contents). if failed then [] else written_batch (compaction_in c group index)) (same stands)
+      ]
 
   pub accepted_same : (outcome : Outcome) (fails : Bool) → IsFailing failed op outcome fails → accepted_of m op outcome ≡ accepted_of n op outcome
   accepted_same outcome fails failing = by_op op outcome failing
@@ -138,8 +163,17 @@ module _ (m n : Contents) (op : Op) (failed : Bool) (same : failed ≡ false →
       by_op (Write acts sync) (Size (Err e)) f = refl
       by_op (Write acts sync) (Done answer) f = refl
       by_op (Write acts sync) (Value answer) f = refl
+      by_op (Write acts sync) (Count answer) f = refl
       by_op Sync outcome f = refl
       by_op (Get group key) outcome f = refl
+      by_op (CompactTo group index) (Size answer) f = refl
+      by_op (CompactTo group index) (Done answer) f = refl
+      by_op (CompactTo group index) (Value answer) f = refl
+      by_op (CompactTo group index) (Count (Err e)) f = refl
+      by_op (CompactTo group index) (Count (Ok count)) f = elim (cases_Bool failed) [
+        | inl gone ↦ absurd (⊎_elim (λ told. let clash = told in cc) (λ other. other) (f.refused gone))
+        | inr stands ↦ ap (λ (c : Contents). written_batch (compaction_in c group index)) (same stands)
+      ]
 
 -- what a run has come to: the operations so far, their outcomes, and what the engine holds
 pub record IsRunning (before : Contents) (ops : List Op) (outcomes : List Outcome) (now : Contents) (failed : Bool) : Type 0 where
@@ -210,12 +244,19 @@ still_by : (op : Op) (outcome : Outcome) (fails : Bool) → IsFailing true op ou
 still_by (Write acts sync) (Size answer) fails is = is.still refl
 still_by (Write acts sync) (Done answer) fails is = absurd is
 still_by (Write acts sync) (Value answer) fails is = absurd is
+still_by (Write acts sync) (Count answer) fails is = absurd is
 still_by Sync (Size answer) fails is = absurd is
 still_by Sync (Done answer) fails is = is.0.still refl
 still_by Sync (Value answer) fails is = absurd is
+still_by Sync (Count answer) fails is = absurd is
 still_by (Get group key) (Size answer) fails is = absurd is
 still_by (Get group key) (Done answer) fails is = absurd is
 still_by (Get group key) (Value answer) fails is = is.0.still refl
+still_by (Get group key) (Count answer) fails is = absurd is
+still_by (CompactTo group index) (Size answer) fails is = absurd is
+still_by (CompactTo group index) (Done answer) fails is = absurd is
+still_by (CompactTo group index) (Value answer) fails is = absurd is
+still_by (CompactTo group index) (Count answer) fails is = is.still refl
 
 pub still_failing : (op : Op) (outcome : Outcome) (failed fails : Bool) → IsFailing failed op outcome fails → failed ≡ true → fails ≡ true
 still_failing op outcome failed fails is had = still_by op outcome fails (subst (λ (b : Bool). IsFailing b op outcome fails) had is)

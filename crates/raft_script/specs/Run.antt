@@ -13,13 +13,14 @@ use Rattle.raft_env.specs.Refusal.{NoFewer, Refusals, StorageRefusalsRose}
 use Rattle.raft_log_engine.specs.Cause.{IsOutOfRange}
 use Rattle.raft_log_engine.specs.Crash.{pending_of, written_batch}
 use Rattle.raft_log_engine.specs.Engine.{record_len}
+use Rattle.raft_log_engine.specs.Reads.{compact_batch, compact_count}
 use Rattle.raft_script.specs.Entry.{entry_of_text}
 use Rattle.raft_script.specs.declared.operation.Act.{Act}
 use Rattle.raft_script.specs.declared.operation.Act.TheVariants as act
 use Rattle.raft_script.specs.declared.operation.Op.{Op}
-use Rattle.raft_script.specs.declared.operation.Op.TheVariants.{Write, Sync, Get}
+use Rattle.raft_script.specs.declared.operation.Op.TheVariants.{Write, Sync, Get, CompactTo}
 use Rattle.raft_script.specs.declared.operation.Outcome.{Outcome}
-use Rattle.raft_script.specs.declared.operation.Outcome.TheVariants.{Size, Done, Value}
+use Rattle.raft_script.specs.declared.operation.Outcome.TheVariants.{Size, Done, Value, Count}
 
 -- entries as one item, and nothing for none
 abbrev pub entries_items : ℕ → List Entry → Batch
@@ -59,14 +60,22 @@ abbrev pub written_batches : Option Batch → List Batch
 written_batches None = []
 written_batches (Some batch) = written_batch batch
 
+-- what a compaction writes of a group of these contents
+abbrev pub compaction_in : Contents → ℕ → ℕ → Batch
+compaction_in m group index = compact_batch group index (m.entries group)
+
 -- what an engine that had failed or not is given to write in the operation, at these contents
 abbrev pub IsGiven : Bool → Contents → Op → List Batch → Type 0
 IsGiven failed m (Write acts sync) given = given ≡ written_batches (batch_of_acts acts.items)
+IsGiven failed m (CompactTo group index) given =
+    given ≡ (if failed then [] else written_batch (compaction_in m group index))
 IsGiven failed m _ given = given ≡ []
 
 -- the batch that the operation wrote, at these contents
 abbrev pub accepted_of : Contents → Op → Outcome → List Batch
 accepted_of m (Write acts sync) (Size (Ok len)) = written_batches (batch_of_acts acts.items)
+accepted_of m (CompactTo group index) (Count (Ok count)) =
+    written_batch (compaction_in m group index)
 accepted_of m _ _ = []
 
 -- the batches of the accepted writes, in order, from these contents on
@@ -91,6 +100,8 @@ pending_batches m (Some batch) = pending_of m batch
 -- what may have been written in part, or whole, when a crash came in the operation
 abbrev pub MayBeInFlight : Contents → Op → List Batch → Type 0
 MayBeInFlight m (Write acts sync) flight = flight ≡ pending_batches m (batch_of_acts acts.items)
+MayBeInFlight m (CompactTo group index) flight =
+    flight ≡ pending_of m (compaction_in m group index)
 MayBeInFlight m _ flight = flight ≡ []
 
 -- the operation doesn't change the engine: a get, or a write of acts without a batch
@@ -98,6 +109,7 @@ abbrev pub IsUnasked : Op → Type 0
 IsUnasked (Write acts sync) = batch_of_acts acts.items ≡ None
 IsUnasked Sync = ⊥
 IsUnasked (Get group key) = Unit {0}
+IsUnasked (CompactTo group index) = ⊥
 
 -- no batch of these acts could be built: one of them can't be done, there was no memory, or they
 -- have too many bytes of entries
@@ -105,10 +117,12 @@ abbrev pub IsUnbuilt : List Act → Fault → Type 0
 IsUnbuilt acts e = (e ≡ fault.Memory) ⊎ ((fault_code e ≡ 1) × (batch_of_acts acts ≡ None))
     ⊎ ((e ≡ fault.Range) × IsOversized acts)
 
--- an engine notes no answer to the operation: a get, or a write whose batch isn't built
+-- an engine notes no answer to the operation: a get, a write whose batch isn't built, or a compaction
+-- for which there was no memory
 abbrev pub IsUnnoted : Op → Outcome → Type 0
 IsUnnoted (Write acts sync) (Size (Err e)) = IsUnbuilt acts.items e
 IsUnnoted (Get group key) _ = Unit {0}
+IsUnnoted (CompactTo group index) (Count (Err e)) = e ≡ fault.Memory
 IsUnnoted _ _ = ⊥
 
 -- a write that was answered had a batch that the contents take, and is answered with its record's
@@ -150,6 +164,8 @@ IsAnswer m Sync (Done answer) = MatchResult answer (λ _. Unit {0}) IsEngineRefu
 IsAnswer m (Get group key) (Value answer) =
     MatchResult answer (λ value. option_map (λ v. v.items) value
     ≡ m.value group key.items) IsGetRefusal
+IsAnswer m (CompactTo group index) (Count answer) = MatchResult answer (λ count.
+    count ≡ compact_count index (m.entries group)) IsEngineRefusal
 IsAnswer m _ _ = ⊥
 
 -- each operation is answered at the contents that those before it leave
@@ -170,6 +186,7 @@ abbrev pub is_refused_by_storage : Outcome → Bool
 is_refused_by_storage (Size answer) = is_io answer
 is_refused_by_storage (Done answer) = is_io answer
 is_refused_by_storage (Value answer) = is_io answer
+is_refused_by_storage (Count answer) = is_io answer
 
 -- how many of the operations failed in storage
 abbrev pub io_count : List Outcome → ℕ
@@ -215,6 +232,8 @@ IsFailing failed Sync (Done answer) fails =
     FailsBy failed answer fails (λ _. ⊥) × (is_ok answer ≡ false → fails ≡ true)
 IsFailing failed (Get group key) (Value answer) fails =
     FailsBy failed answer fails (λ _. ⊥) × (fails ≡ failed)
+IsFailing failed (CompactTo group index) (Count answer) fails =
+    FailsBy failed answer fails (λ _. ⊥)
 IsFailing failed _ _ fails = ⊥
 
 -- each of the operations leaves the engine as it found it, failed or standing

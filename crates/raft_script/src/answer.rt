@@ -34,9 +34,11 @@ fn print_outcome<W: Write>(output: &mut W, outcome: &Outcome) -> io::Result<()> 
             output.write_all(value)?;
             output.write_all(b"\n")
         }
-        Outcome::Size(Err(fault)) | Outcome::Done(Err(fault)) | Outcome::Value(Err(fault)) => {
-            print_fault(output, fault)
-        }
+        Outcome::Count(Ok(count)) => writeln!(output, "dropped {count}"),
+        Outcome::Size(Err(fault))
+        | Outcome::Done(Err(fault))
+        | Outcome::Value(Err(fault))
+        | Outcome::Count(Err(fault)) => print_fault(output, fault),
     }
 }
 

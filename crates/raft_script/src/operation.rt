@@ -23,6 +23,8 @@ pub enum Op {
     Write(Vec<Act>, bool),
     Sync,
     Get(u64, Vec<u8>),
+    /// The group's entries below the index go.
+    CompactTo(u64, u64),
 }
 
 /// What an operation was answered: a write with the length of its record.
@@ -31,6 +33,8 @@ pub enum Outcome {
     Size(Result<usize, Fault>),
     Done(Result<(), Fault>),
     Value(Result<Option<Vec<u8>>, Fault>),
+    /// How many entries went.
+    Count(Result<u64, Fault>),
 }
 
 /// What a trial showed.

@@ -27,10 +27,10 @@ pub(crate) struct RunReport {
 /// Does the operations in order, each with its outcome. Where there is no memory for the list of outcomes, the engine
 /// is not asked.
 ///
-/// The engine notes what there was each time that it answered a write or a sync, and what that call was to write. A
-/// crash after one note and up to the next leaves, if its damage is detectable, a prefix of the batches accepted
-/// before that operation, or all of them and a prefix of its own batch, with every one that an answered sync
-/// covered before it. Once the operation is answered and the engine stands, a crash leaves a prefix of what was
+/// The engine notes what there was each time that it answered a write, a compaction or a sync, and what that call was
+/// to write. A crash after one note and up to the next leaves, if its damage is detectable, a prefix of the batches
+/// accepted before that operation, or all of them and a prefix of its own batch, with every one that an answered
+/// sync covered before it. Once the operation is answered and the engine stands, a crash leaves a prefix of what was
 /// accepted by then, with every covered write. Each answer says whether the engine failed, and a call of a failed
 /// engine adds no moment. A get, and a write whose batch can't be built, have no note of their own: moments in them,
 /// if any, count to the next call that is noted.
@@ -116,6 +116,7 @@ pub(crate) fn step<F: FileSystem>(alloc: Global, engine: &mut Engine<F>, op: &Op
         },
         Op::Sync => Outcome::Done(engine.sync()),
         Op::Get(group, key) => Outcome::Value(engine.get(*group, key)),
+        Op::CompactTo(group, index) => Outcome::Count(engine.compact_to(*group, *index)),
     }
 }
 

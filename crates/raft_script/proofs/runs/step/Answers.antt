@@ -1,10 +1,11 @@
 use Rattle.std.proofs.Common.{◌≡◌, ◌∙◌, ◌∷◌, [], List, Some, ap, inl, inr, refl, rules, sym}
 use Rattle.raft_records.specs.Item.{Batch}
 use Rattle.raft_log_engine.specs.Durability.{durability_of}
-use Rattle.raft_log_engine.specs.Engine.{answer_now, answered_of, contents_of, directory_of, durable_of, folder_of, moments_of, unsynced_of}
+use Rattle.raft_log_engine.specs.Engine.{answer_now, answered_of, contents_of, directory_of, durable_of, folder_of, has_failed, moments_of, refusals_of, unsynced_of}
 use Rattle.raft_script.specs.Run.{batch_of_acts, pending_batches, written_batches}
 use Rattle.raft_script.proofs.DurabilityLemmas.{moments_of_batch, written_progress}
-use Rattle.raft_script.proofs.RunLemmas.{write_answered}
+use Rattle.raft_script.proofs.RunAnswersLemmas.{does_compact, does_read, read_same}
+use Rattle.raft_script.proofs.RunLemmas.{compaction_answered, write_answered}
 use Rattle.raft_script.proofs.runs.step.Goals as goal
 
 pub returns-in-Ok-clause-value : goal.returns-in-Ok-clause-value
@@ -44,18 +45,11 @@ returns-in-Err-clause-progress g c =
       given = written_batches (batch_of_acts acts.items);
       is_given = refl;
       progress = inl (record { none = refl; covers_none = refl; failed = refl; durable = refl; unsynced = refl });
-      answers = inl (search rules, refl {a = c.args.engine.now});
+      answers = inl (search rules, read_same c.args.engine.now);
     })
 
 pub returns-in-Get-clause-progress : goal.returns-in-Get-clause-progress
-returns-in-Get-clause-progress g c = rw c.in-Get.is (record {
-  flight = [];
-  may_be = refl;
-  given = [];
-  is_given = refl;
-  progress = inl (record { none = refl; covers_none = refl; failed = refl; durable = refl; unsynced = refl });
-  answers = inl (tt, refl {a = c.args.engine.now});
-})
+returns-in-Get-clause-progress g c = let e = c.args.engine.now in rw c.in-Get.is (does_read e e _ _ tt (read_same e) refl refl refl refl)
 
 pub returns-in-Sync-clause-progress : goal.returns-in-Sync-clause-progress
 returns-in-Sync-clause-progress g c = rw c.in-Sync.is (record {
@@ -74,3 +68,16 @@ returns-in-Ok-clause-failed g c = rw c.in-Write.is (record {
   refused = λ failed. search rules;
   cause = λ alive fails. search rules;
 })
+
+pub returns-in-CompactTo-clause-value : goal.returns-in-CompactTo-clause-value
+returns-in-CompactTo-clause-value g c =
+    let compaction = c.compact_to.ensures in
+    let e = c.args.engine.now in
+    rw c.in-CompactTo.is (λ m same. compaction_answered m (contents_of e) c.in-CompactTo.group c.in-CompactTo.index (has_failed e) (folder_of e) (refusals_of e) (refusals_of c.compact_to.new.self) same c.compact_to.result compaction.value compaction.failed compaction.cause)
+
+pub returns-in-CompactTo-clause-progress : goal.returns-in-CompactTo-clause-progress
+returns-in-CompactTo-clause-progress g c =
+    let e = c.args.engine.now in
+    let n = c.compact_to.new.self in
+    let result = c.compact_to.result in
+    rw c.in-CompactTo.is (does_compact e n c.in-CompactTo.group c.in-CompactTo.index result c.compact_to.ensures.progress c.compact_to.ensures.any_moment c.compact_to.ensures.answered c.compact_to.ensures.unchanged)
