@@ -23,7 +23,7 @@ use Rattle.raft_log_engine.specs.Durability.{HasWritten}
 use Rattle.raft_log_engine.specs.Engine.{contents_of, has_failed, refusals_of}
 use Rattle.raft_log_engine.specs.declared.engine.Engine.{Engine}
 use Rattle.raft_log_engine.specs.Crash.{written_batch}
-use Rattle.raft_script.specs.Run.{accepted_batches, accepted_of, AreAnswers, AreSteady, FailsAt, IsFailing, IsFailurePlace, Refuses, StorageRefusalsRoseBy, batch_of_acts, io_count, is_failure, is_io, is_refused_by_storage, AreGroupsOf, IsAnswer, IsEngineRefusal, IsGetRefusal, IsSteadyBy, IsTextRefusal, IsUnbuilt, IsGiven, IsWritten, IsWriteRefusal, compaction_in, items_of_act, with_items, written_batches}
+use Rattle.raft_script.specs.Run.{accepted_batches, accepted_of, AreAnswers, AreSteady, FailsAt, IsFailing, IsFailurePlace, Refuses, StorageRefusalsRoseBy, batch_of_acts, io_count, io_in, is_failure, is_io, is_refused_by_storage, AreGroupsOf, IsAnswer, IsEngineRefusal, IsGetRefusal, IsSteadyBy, IsTextRefusal, IsUnbuilt, IsGiven, IsWritten, IsWriteRefusal, compaction_in, items_of_act, with_items, written_batches}
 use Rattle.raft_log_engine.specs.Image.{IsWithout}
 use Rattle.raft_log_engine.specs.Reads.{IsEntryAnswer, IsEntryRefusalAt, IsGroupList, compact_count, entry_of}
 use Rattle.raft_script.specs.Entry.{IsTextOf, index_of}
@@ -31,10 +31,10 @@ use Rattle.raft_script.specs.declared.text_entry.TextEntry.{TextEntry}
 use Rattle.raft_script.specs.declared.operation.Act.{Act}
 use Rattle.raft_script.specs.declared.operation.Op.{Op}
 use Rattle.raft_script.specs.declared.operation.Op.TheVariants as operation
-use Rattle.raft_script.specs.declared.operation.Op.TheVariants.{Write, Sync, Get, CompactTo, First, Last}
+use Rattle.raft_script.specs.declared.operation.Op.TheVariants.{Write, WriteGroup, Sync, Get, CompactTo, First, Last}
 use Rattle.raft_script.specs.declared.operation.Outcome.{Outcome}
 use Rattle.raft_script.specs.declared.operation.Outcome.TheVariants as reply
-use Rattle.raft_script.specs.declared.operation.Outcome.TheVariants.{Size, Done, Value, Count, Index}
+use Rattle.raft_script.specs.declared.operation.Outcome.TheVariants.{Size, Sizes, Done, Value, Count, Index}
 
 -- items, followed by the batch of more acts, where there is one
 abbrev pub followed_by : Batch → Option Batch → Option Batch
@@ -215,6 +215,7 @@ module _ (m n : Contents) (op : Op) (failed : Bool) (same : failed ≡ false →
     where
       by_op : (op : Op) → IsGiven failed m op given → IsGiven failed n op given
       by_op (Write acts sync) is = is
+      by_op (WriteGroup parts) is = is
       by_op Sync is = is
       by_op (Get group key) is = is
       by_op (operation.Entry group index) is = is
@@ -231,6 +232,7 @@ module _ (m n : Contents) (op : Op) (failed : Bool) (same : failed ≡ false →
     where
       by_op : (op : Op) (outcome : Outcome) → IsFailing failed op outcome fails → accepted_of m op outcome ≡ accepted_of n op outcome
       by_op (Write acts sync) (Size (Ok len)) f = refl
+      by_op (WriteGroup parts) (Sizes (Ok answers)) f = refl
       by_op (CompactTo group index) (Count (Ok count)) f = elim (cases_Bool failed) [
         | inl gone ↦ absurd (⊎_elim (λ told. let clash = told in cc) (λ other. other) (f.refused gone))
         | inr stands ↦ ap (λ (c : Contents). written_batch (compaction_in c group index)) (same stands)
@@ -291,6 +293,7 @@ steady_more failed (p ∷ ops) (o ∷ outcomes) op outcome are is = (are.0, stea
 -- a failed engine stays failed
 still_by : (op : Op) (outcome : Outcome) (fails : Bool) → IsFailing true op outcome fails → fails ≡ true
 still_by (Write acts sync) (Size answer) fails is = is.still refl
+still_by (WriteGroup parts) (Sizes answer) fails is = is.still refl
 still_by Sync (Done answer) fails is = is.0.still refl
 still_by (Get group key) (Value answer) fails is = is.0.still refl
 still_by (CompactTo group index) (Count answer) fails is = is.still refl
@@ -435,11 +438,15 @@ stands_so_far false = refl
 
 -- Storage's refusals.
 
+rose_in : (outcome : Outcome) (old new : Refusals) → Refuses outcome old new → StorageRefusalsRoseBy (io_in outcome) old new
+rose_in (Sizes (Ok answers)) old new refuses = refuses.1
+rose_in _ old new refuses = by_case _ refuses.1
+  where
+    by_case : (b : Bool) → (b ≡ true → StorageRefusalsRose old new) → StorageRefusalsRoseBy (cond b 1 0) old new
+    by_case true rose = rose refl
+    by_case false rose = omega (arith, refuses.0.0)
+
 -- one outcome more
 pub rose_more : (outcomes : List Outcome) (outcome : Outcome) (old mid new : Refusals) → StorageRefusalsRoseBy (io_count outcomes) old mid → Refuses outcome mid new → StorageRefusalsRoseBy (io_count (outcomes ++ outcome ∷ [])) old new
 rose_more outcomes outcome old mid new so_far refuses =
-    subst (λ (n : ℕ). StorageRefusalsRoseBy n old new) (sym (sum_by-append _ outcomes (outcome ∷ []))) (by_case (is_refused_by_storage outcome) refuses.1)
-  where
-    by_case : (b : Bool) → (b ≡ true → StorageRefusalsRose mid new) → StorageRefusalsRoseBy (io_count outcomes + (0 + cond b 1 0)) old new
-    by_case true rose = let one = rose refl in omega (arith, so_far, one)
-    by_case false rose = let counts = refuses.0 in omega (arith, so_far, counts.0)
+    subst (λ (n : ℕ). StorageRefusalsRoseBy n old new) (sym (sum_by-append io_in outcomes (outcome ∷ []))) (let more = rose_in outcome mid new refuses in omega (arith, so_far, more))

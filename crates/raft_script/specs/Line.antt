@@ -180,9 +180,10 @@ asked_by_acts (act.Entries group entries ∷ []) sync =
 asked_by_acts (act.Clean group ∷ []) sync = Some (Clean group sync)
 asked_by_acts _ sync = None
 
--- .. and that an operation does
+-- .. and that an operation does, if any
 abbrev pub asked_by_op : Op → Option Asked
 asked_by_op (op.Write acts sync) = asked_by_acts acts.items sync
+asked_by_op (op.WriteGroup parts) = None
 asked_by_op op.Sync = Some Sync
 asked_by_op (op.Get group key) = Some (Get group key.items)
 asked_by_op (op.CompactTo group index) = Some (Compact group index)

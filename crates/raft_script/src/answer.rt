@@ -32,7 +32,9 @@ pub(crate) fn print<W: Write>(output: &mut W, answer: &Answer) -> io::Result<()>
 
 fn print_outcome<W: Write>(output: &mut W, outcome: &Outcome) -> io::Result<()> {
     match outcome {
-        Outcome::Size(Ok(_)) | Outcome::Done(Ok(())) => output.write_all(b"ok\n"),
+        Outcome::Size(Ok(_)) | Outcome::Sizes(Ok(_)) | Outcome::Done(Ok(())) => {
+            output.write_all(b"ok\n")
+        }
         Outcome::Value(Ok(None)) | Outcome::Entry(Ok(None)) | Outcome::Index(None) => {
             output.write_all(b"none\n")
         }
@@ -46,6 +48,7 @@ fn print_outcome<W: Write>(output: &mut W, outcome: &Outcome) -> io::Result<()> 
         Outcome::Index(Some(index)) => writeln!(output, "index {index}"),
         Outcome::Groups(Ok(groups)) => print_groups(output, groups),
         Outcome::Size(Err(fault))
+        | Outcome::Sizes(Err(fault))
         | Outcome::Done(Err(fault))
         | Outcome::Value(Err(fault))
         | Outcome::Count(Err(fault))

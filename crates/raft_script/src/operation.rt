@@ -21,6 +21,8 @@ pub enum Act {
 pub enum Op {
     /// The acts as one batch, synced where that is asked.
     Write(Vec<Act>, bool),
+    /// Several batches at once, then a sync where one of them asks for it.
+    WriteGroup(Vec<(Vec<Act>, bool)>),
     Sync,
     Get(u64, Vec<u8>),
     /// The group's entries below the index go.
@@ -39,6 +41,8 @@ pub enum Op {
 #[derive(Debug, PartialEq, Eq, Drop)]
 pub enum Outcome {
     Size(Result<usize, Fault>),
+    /// A group with the answer of each of its batches.
+    Sizes(Result<Vec<Result<usize, Fault>>, Fault>),
     Done(Result<(), Fault>),
     Value(Result<Option<Vec<u8>>, Fault>),
     /// How many entries went.

@@ -3,12 +3,13 @@ use Rattle.std.proofs.lemmas.Grind.{common_steps}
 use Rattle.std.proofs.lemmas.List.{take_all}
 use Rattle.std.proofs.lemmas.List.Elements.{All-get_or}
 use Rattle.std.proofs.lemmas.Option.{slice_get_read}
+use Rattle.std.proofs.Math.Logic.{∥∥₁_elim, ∥∥₁_prop}
 use Rattle.raft_env.specs.Directory.{Directory, Path}
 use Rattle.raft_records.specs.Contents.{after_batches}
 use Rattle.raft_records.specs.Item.{Batch}
 use Rattle.raft_env.specs.Moments.{HoldsThroughout}
 use Rattle.raft_log_engine.specs.Crash.{LeavesAllowed}
-use Rattle.raft_script.specs.Durability.{Answers, AreAllowedInside, Progress, progress_after, progress_after_all, progress_from}
+use Rattle.raft_script.specs.Durability.{Answers, AreAllowedInside, LeavesInFlight, Progress, progress_after, progress_after_all, progress_from}
 use Rattle.raft_log_engine.specs.Durability.{Progresses, durability_of}
 use Rattle.raft_script.specs.Run.{AreAnswers, IsFailurePlace, IsUnasked, accepted_batches, accepted_of, is_covering}
 use Rattle.raft_script.specs.declared.operation.Op.{Op}
@@ -66,11 +67,13 @@ loop-op-preserved g c =
     let leaves = subst (λ (f : Path). LeavesAllowed f (durable_of new) (unsynced_of new) (directory_of new)) (step.folder ∙ kept.3) law.crash in
     let newest : (x : Directory) (earlier : List Directory) → moments_of new ≡ x ∷ earlier → LeavesAllowed (folder_of begun) (durable_of new) (unsynced_of new) x = λ x earlier moments.
     let same : directory_of new ≡ x = cc now.1 in subst (λ (y : Directory). LeavesAllowed (folder_of begun) (durable_of new) (unsynced_of new) y) same leaves in
-    let inside = λ (asks : Answers does.given flight old new). inside_call (folder_of begun) m p op outcome (snapshot_of old) (answer_now does.given new) is_given (LeavesAllowed (folder_of begun) (durable_of old) (unsynced_of old ++ flight)) (directory_of new)
-    (λ x alive allowed. inside_here m p c.args.ops.now c.loop-op.op-index c.loop-op.failed_at c.if-stood.failed_at (durability_of old) kept.4 op outcome flight (durability_of new) next (folder_of begun) x does.may_be holds alive allowed)
-    (λ alive. subst (λ (f : Path). HoldsThroughout (moments_of old) (moments_of new) (directory_of new) (LeavesAllowed f (durable_of old) (unsynced_of old ++ flight))) kept.3 (asks.moments alive)) asks.rests
+    let inside = λ (asks : Answers op does.given old new). inside_call (folder_of begun) m p op outcome (snapshot_of old) (answer_now does.given new) is_given (LeavesInFlight op old) (directory_of new)
+    (λ x alive allowed. ∥∥₁_elim allowed ∥∥₁_prop (λ (some, may_be, leaves).
+    inside_here m p c.args.ops.now c.loop-op.op-index c.loop-op.failed_at c.if-stood.failed_at (durability_of old) kept.4 op outcome some (durability_of new) next (folder_of begun) x may_be holds alive
+    (subst (λ (f : Path). LeavesAllowed f (durable_of old) (unsynced_of old ++ some) x) kept.3 leaves)))
+    asks.moments asks.rests
     (λ stands x earlier moments. leaves_standing (folder_of begun) m (progress_after m p op outcome) c.args.ops.now c.if-stood.failed_at (durability_of new) way stands x (newest x earlier moments)) step.failed in
-    let allowed = allowed_more ops outcomes op outcome begun old new kept.5 does.given flight does.answers inside in
+    let allowed = allowed_more ops outcomes op outcome begun old new kept.5 does.given does.answers inside in
     let way_more = subst (λ (q : Progress). IsUnderWay m q c.args.ops.now c.if-stood.failed_at (durability_of new)) (sym (progress_more m first ops outcomes op outcome kept.0.len)) way in
     let next_here = subst (λ (k : ℕ). IsNextPlace (has_failed old) fails k c.loop-op.failed_at c.if-stood.failed_at) (sym done) next in
     let answers = answers_more (contents_of begun) ops outcomes op outcome (has_failed begun) (has_failed old) fails c.loop-op.failed_at c.if-stood.failed_at kept.6 kept.7 step.failed next_here kept.12

@@ -1,11 +1,14 @@
-use Rattle.std.proofs.Common.{◌≡◌, ◌∙◌, ◌∷◌, [], List, Some, ap, inl, inr, refl, rules, sym}
+use Rattle.std.proofs.Common.{◌≡◌, ◌∙◌, ◌∷◌, [], List, Some, ap, inl, inr, refl, rules, subst, sym, append-nil}
 use Rattle.raft_records.specs.Contents.{Contents, first_index_of, last_index_of}
 use Rattle.raft_records.specs.Item.{Batch}
 use Rattle.raft_log_engine.specs.Durability.{Durability, durability_of}
 use Rattle.raft_log_engine.specs.Engine.{answer_now, answered_of, contents_of, directory_of, durable_of, folder_of, has_failed, is_known_in, moments_of, refusals_of, unsynced_of}
 use Rattle.raft_script.specs.Run.{batch_of_acts, pending_batches, written_batches}
+use Rattle.raft_log_engine.specs.Crash.{LeavesAllowed}
+use Rattle.raft_env.specs.Moments.{HoldsThroughout}
+use Rattle.raft_script.specs.declared.operation.Op.TheVariants.{Sync, Write, WriteGroup}
 use Rattle.raft_script.proofs.DurabilityLemmas.{moments_of_batch, written_progress}
-use Rattle.raft_script.proofs.RunAnswersLemmas.{does_compact, does_read, read_same}
+use Rattle.raft_script.proofs.RunAnswersLemmas.{does_compact, does_read, in_flight, read_same}
 use Rattle.raft_script.proofs.RunLemmas.{compaction_answered, entry_answered, entry_rose, groups_answered, steady_by, write_answered}
 use Rattle.raft_script.proofs.runs.step.Goals as goal
 
@@ -32,7 +35,7 @@ returns-in-Ok-clause-progress g c =
       progress = written_progress (contents_of e) acts items c.in-Write.sync built c.write.result (durability_of e) (durability_of n) write.progress;
       answers = inr (record {
         noted = write.answered ∙ ap (λ (given : List Batch). answer_now given n ∷ answered_of e) (ap written_batches (sym built));
-        moments = λ alive. moments_of_batch (folder_of e) (durable_of e) (contents_of e) (unsynced_of e) items (batch_of_acts acts.items) (moments_of e) (moments_of n) (directory_of n) built write.any_moment;
+        moments = λ alive. in_flight e (Write acts c.in-Write.sync) (pending_batches (contents_of e) (batch_of_acts acts.items)) (moments_of n) (directory_of n) refl (moments_of_batch (folder_of e) (durable_of e) (contents_of e) (unsynced_of e) items (batch_of_acts acts.items) (moments_of e) (moments_of n) (directory_of n) built write.any_moment);
         rests = λ failed. (write.unchanged failed).0.moments;
       });
     })
@@ -53,13 +56,16 @@ pub returns-in-Get-clause-progress : goal.returns-in-Get-clause-progress
 returns-in-Get-clause-progress g c = let e = c.args.engine.now in rw c.in-Get.is (does_read e e _ _ tt (read_same e) refl refl refl refl)
 
 pub returns-in-Sync-clause-progress : goal.returns-in-Sync-clause-progress
-returns-in-Sync-clause-progress g c = rw c.in-Sync.is (record {
+returns-in-Sync-clause-progress g c =
+    let e = c.args.engine.now in
+    let n = c.sync.new.self in
+    rw c.in-Sync.is (record {
   flight = [];
   may_be = refl;
   given = [];
   is_given = refl;
   progress = search rules;
-  answers = inr (record { noted = search rules; moments = λ alive. search rules; rests = search rules });
+  answers = inr (record { noted = search rules; moments = λ alive. in_flight e Sync [] (moments_of n) (directory_of n) refl (subst (λ (l : List Batch). HoldsThroughout (moments_of e) (moments_of n) (directory_of n) (LeavesAllowed (folder_of e) (durable_of e) l)) (sym (append-nil (unsynced_of e))) c.sync.ensures.any_moment); rests = search rules });
 })
 
 pub returns-in-Ok-clause-failed : goal.returns-in-Ok-clause-failed
