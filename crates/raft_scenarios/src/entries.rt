@@ -41,7 +41,11 @@ const FOLLOWING: [Case; 8] = [
         "ok\nok\nok\nnone\nrange none\nok\nok\nrefused 5 gap\n",
         Ended::Done,
     ),
-    Case("range 7\nput 7 k v\nrange 7\n", "range none\nok\nrange none\n", Ended::Done),
+    Case(
+        "range 7\nput 7 k v\nrange 7\n",
+        "range none\nok\nrange none\n",
+        Ended::Done,
+    ),
 ];
 
 /// How many entries stood below the index is answered; a compaction isn't synced.
@@ -51,17 +55,17 @@ const COMPACTIONS: [Case; 4] = [
         "ok\ndropped 100\ndropped 0\nrange none\n",
         Ended::Done,
     ),
-    Case("ent 1 1 3 w\ncompact 1 50\n", "ok\ndropped 3\n", Ended::Done),
+    Case(
+        "ent 1 1 3 w\ncompact 1 50\n",
+        "ok\ndropped 3\n",
+        Ended::Done,
+    ),
     Case(
         "ent 1 1 5 w sync\ncompact 1 4\nrange 1\ncrash synced\nrange 1\ncompact 1 3\ncompact 2 3\n",
         "ok\ndropped 3\nrange 4 5\nok\nrange 1 5\ndropped 2\ndropped 0\n",
         Ended::Done,
     ),
-    Case(
-        "ent 1 1 3 w\ncompact 1 2 \n",
-        "ok\n",
-        Ended::BadLine(2),
-    ),
+    Case("ent 1 1 3 w\ncompact 1 2 \n", "ok\n", Ended::BadLine(2)),
 ];
 
 /// Those into which something was put since they were last cleaned, in order.

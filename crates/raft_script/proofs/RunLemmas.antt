@@ -163,7 +163,7 @@ module _ (m n : Contents) (group index : ℕ) (failed : Bool) (folder : Path) (o
     ])
   ]
 
-  no_entry_io : (bytes : Option (List ℕ)) (kind : IoKind) (path : String) → IsEntryRefusalAt IsTextOf index_of index bytes (fault.Io kind path) → ⊥
+  no_entry_io : (bytes : Option (List ℕ)) (kind : IoKind) (path : String Global) → IsEntryRefusalAt IsTextOf index_of index bytes (fault.Io kind path) → ⊥
   no_entry_io None kind path told = told
   no_entry_io (Some bytes) kind path told = told
 
