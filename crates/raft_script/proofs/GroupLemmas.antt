@@ -99,19 +99,20 @@ refused_rose : (folder : Path) (m : Contents) (batch : Batch) (old new : Refusal
 refused_rose folder m batch old new (fault.Io kind path) h io = h.0
 refused_rose folder m batch old new _ h io = absurd (let clash = io in cc)
 
-pub batches_rose : (folder : Path) (old new : Refusals) (m : Contents) (batches : List Batch) (answers : List (Result ℕ Fault)) → AreGroupAnswers folder old new m batches answers → StorageRefusalsRoseBy (count_by is_io answers) old new
+more_rose : (io : Bool) (n : ℕ) (old mid new : Refusals) → NoFewer old mid → (io ≡ true → StorageRefusalsRose old mid) → StorageRefusalsRoseBy n mid new → StorageRefusalsRoseBy ((0 + cond io 1 0) + n) old new
+more_rose true n old mid new counts rose more = let one = rose refl in omega (arith, one, more)
+more_rose false n old mid new counts rose more = omega (arith, counts.0, more)
+
+batches_rose : (folder : Path) (old new : Refusals) (m : Contents) (batches : List Batch) (answers : List (Result ℕ Fault)) → AreGroupAnswers folder old new m batches answers → StorageRefusalsRoseBy (count_by is_io answers) old new
 batches_rose folder old new m [] [] are = omega (arith, are.0)
 batches_rose folder old new m [] (a ∷ answers) are = absurd are
 batches_rose folder old new m (b ∷ batches) [] are = absurd are
 batches_rose folder old new m (b ∷ batches) (Ok len ∷ answers) are =
-    subst (λ (n : ℕ). StorageRefusalsRoseBy n old new) (sym (sum_by-append (λ (r : Result ℕ Fault). cond (is_io r) 1 0) (Ok len ∷ []) answers)) (batches_rose folder old new (after_batch m b) batches answers are.2)
+    subst (λ (n : ℕ). StorageRefusalsRoseBy n old new) (sym (sum_by-append (λ (r : Result ℕ Fault). cond (is_io r) 1 0) (Ok len ∷ []) answers))
+    (more_rose false (count_by is_io answers) old old new (omega arith, omega arith) (λ io. absurd (let clash = io in cc)) (batches_rose folder old new (after_batch m b) batches answers are.2))
 batches_rose folder old new m (b ∷ batches) (Err e ∷ answers) are =
     subst (λ (n : ℕ). StorageRefusalsRoseBy n old new) (sym (sum_by-append (λ (r : Result ℕ Fault). cond (is_io r) 1 0) (Err e ∷ []) answers))
-    (by_case (is_io {T = ℕ} (Err e)) (refused_rose folder m b old are.0 e are.1) (batches_rose folder are.0 new m batches answers are.3))
-  where
-    by_case : (io : Bool) → (io ≡ true → StorageRefusalsRose old are.0) → StorageRefusalsRoseBy (count_by is_io answers) are.0 new → StorageRefusalsRoseBy ((0 + cond io 1 0) + count_by is_io answers) old new
-    by_case true rose more = let one = rose refl in omega (arith, one, more)
-    by_case false rose more = let counts = are.2 in omega (arith, counts.0, more)
+    (more_rose (is_io {T = ℕ} (Err e)) (count_by is_io answers) old are.0 new are.2 (refused_rose folder m b old are.0 e are.1) (batches_rose folder are.0 new m batches answers are.3))
 
 -- an engine's write of the batches is answered as the operation
 module _ {F H R W : Type 0} {g : Ghosts F H R W} (parts : Vec Part Global) (batches rest : List Batch) (flags : List Bool) (old new : Engine F H R W g) (built : batches_of_parts parts.items ≡ Some batches) (flags_are : flags ≡ map (λ (part : Part). part.1) parts.items) where
@@ -185,6 +186,9 @@ module _ {F H R W : Type 0} {g : Ghosts F H R W} (parts : Vec Part Global) (batc
   group_contents (Ok answers) ok err stands = ok.contents ∙ ap (λ (l : List Batch). after_batches (contents_of old) (accepted_in answers.items l)) (sym group_is)
   group_contents (Err e) ok err stands = (err stands).0
 
+  abbrev IsProgress : List Batch → Result (Vec (Result ℕ Fault) Global) Fault → Type 0
+  IsProgress l result = MatchResult result (λ answers. Progresses (accepted_in answers.items l) (list_any (λ (flag : Bool). flag) flags) [] (durability_of old) (durability_of new)) (λ _. FailsWithChoice l old new)
+
   -- what it has done
   pub does_group : (result : Result (Vec (Result ℕ Fault) Global) Fault)
       → MatchResult result (λ answers. Progresses (accepted_in answers.items batches) (list_any (λ (flag : Bool). flag) flags) [] (durability_of old) (durability_of new)) (λ _. FailsWithChoice batches old new)
@@ -192,9 +196,6 @@ module _ {F H R W : Type 0} {g : Ghosts F H R W} (parts : Vec Part Global) (batc
       → answered_of new ≡ answer_now (written_in batches) new ∷ answered_of old → (has_failed old ≡ true → moments_of new ≡ moments_of old) → Does (WriteGroup parts) (Sizes result) old new
   does_group result progress moments answered stays = by_result result (subst (λ (l : List Batch). IsProgress l result) (sym group_is) progress)
     where
-      abbrev IsProgress : List Batch → Result (Vec (Result ℕ Fault) Global) Fault → Type 0
-      IsProgress l result = MatchResult result (λ answers. Progresses (accepted_in answers.items l) (list_any (λ (flag : Bool). flag) flags) [] (durability_of old) (durability_of new)) (λ _. FailsWithChoice l old new)
-
       asked : list_any (λ (flag : Bool). flag) flags ≡ list_any (λ (part : Part). part.1) parts.items
       asked = ap (list_any (λ (flag : Bool). flag)) flags_are ∙ flags_any parts.items
 
