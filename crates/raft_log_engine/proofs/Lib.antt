@@ -15,3 +15,4 @@ pub mod FaultLemmas
 pub mod NumberedLemmas
 pub mod ImageLemmas
 pub mod FetchLemmas
+pub mod ScanLemmas
