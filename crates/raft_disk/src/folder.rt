@@ -4,13 +4,15 @@ ghost use Rattle.std.specs.String.{string_bytes};
 ghost use Rattle.raft_memory.specs.Memory.{memory_directory};
 
 use crate::disk::Disk;
-use crate::places::{fault_of, has_file_on_way, is_plain, join, make_folders, sync_folder};
+use crate::places::{
+    fault_of, has_file_on_way, is_full, is_plain, join, make_folders, sync_folder,
+};
 use crate::told::{Call, Told};
 use raft_base::History;
 use raft_env::{FsFault, IoKind, parent};
 use raft_memory::MemoryFileSystem;
 use std::fs::{self, File, OpenOptions};
-use std::io;
+use std::io::{self, ErrorKind};
 use std::os::unix::fs::FileExt;
 
 /// A folder that no other process has open as one: this one holds the lock of its file `LOCK`.
@@ -137,6 +139,26 @@ impl Folder {
 }
 
 impl FolderFile {
+    // Writes until all is written or the system answers that space is wanting, and answers how many
+    // bytes were written. A call of the system that fails has written none.
+    fn write_first(&self, at: u64, bytes: &[u8]) -> io::Result<usize> {
+        let mut rest = bytes;
+        for _ in 0..u64::MAX {
+            let count = bytes.len().saturating_sub(rest.len());
+            if rest.is_empty() {
+                return Ok(count);
+            }
+            match self.file.write_at(rest, at.wrapping_add(count as u64)) {
+                Ok(0) => return Err(io::Error::from(ErrorKind::WriteZero)),
+                Ok(written) => rest = rest.get(written..).unwrap_or(&[]),
+                Err(e) if is_full(&e) => return Ok(count),
+                Err(e) if e.kind() == ErrorKind::Interrupted => {}
+                Err(e) => return Err(e),
+            }
+        }
+        Err(io::Error::from(ErrorKind::Interrupted))
+    }
+
     fn cut(&self, size: u64) -> io::Result<()> {
         if self.file.metadata()?.len() <= size {
             return Ok(());
@@ -220,13 +242,14 @@ impl Disk for Folder {
         }
     }
 
-    fn write(&mut self, file: &mut FolderFile, at: usize, bytes: &[u8]) -> Result<(), FsFault> {
+    fn write(&mut self, file: &mut FolderFile, at: usize, bytes: &[u8]) -> Result<usize, FsFault> {
         self.reopen(file)?;
-        if let Err(e) = file.file.write_all_at(bytes, at as u64) {
-            return Err(fault_of(&e));
-        }
-        self.told = Told::after(&Call::Write(&self.told, file.path.as_str(), at, bytes));
-        Ok(())
+        let count = match file.write_first(at as u64, bytes) {
+            Ok(count) => count,
+            Err(e) => return Err(fault_of(&e)),
+        };
+        self.told = Told::after(&Call::Write(&self.told, file.path.as_str(), at, bytes, count));
+        Ok(count)
     }
 
     fn truncate(&mut self, file: &mut FolderFile, size: usize) -> Result<(), FsFault> {

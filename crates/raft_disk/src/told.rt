@@ -28,7 +28,7 @@ pub(crate) enum Call<'a> {
     Delete(&'a Told, &'a str),
     Rename(&'a Told, &'a str, &'a str),
     MakeFolder(&'a Told, &'a str),
-    Write(&'a Told, &'a str, usize, &'a [u8]),
+    Write(&'a Told, &'a str, usize, &'a [u8], usize),
     Truncate(&'a Told, &'a str, usize),
     Allocate(&'a Told, &'a str, usize, usize),
     Sync(&'a Told, &'a str),

@@ -1,11 +1,14 @@
 -- What is true of files in memory, whatever calls were made.
-use Rattle.std.proofs.Common.{◌≡◌, ℕ, ◌≤◌, true, false, Bool, cond, List, [], ◌++◌, length, take, Option, Some, None, is_some, refl, sym, subst, inl, inr}
+use Rattle.std.proofs.Common.{◌≡◌, ℕ, ◌≤◌, true, false, Bool, cond, List, [], ◌++◌, length, take, Option, Some, None, is_some, refl, sym, subst, ap, inl, inr, arith}
 use Rattle.std.specs.FinMap as finite
+use Rattle.std.specs.Prelude.{nat_le}
+use Rattle.std.proofs.lemmas.Bool.{leb-true}
+use Rattle.std.proofs.lemmas.List.{length-take, take_all}
 use Rattle.std.proofs.lemmas.List.Elements.{All-cons, All-nil}
-use Rattle.raft_env.specs.Outcomes.{File, IsWriteIfFailed, OnlyWritesFailed, file_after_write, file_after_resize, synced_of, synced_file, renamed_of, overlay, pad_to}
+use Rattle.raft_env.specs.Outcomes.{File, Outcome, IsPartOf, IsWriteIfFailed, OnlyWritesFailed, file_after_write, file_after_resize, synced_of, synced_file, renamed_of, overlay, pad_to}
 use Rattle.raft_env.specs.Directory.{Directory, Path, file_at, with_file, update_file, update_at, after_create, after_rename, without_file, folder_made}
 use Rattle.raft_env.specs.Consistent.{IsConsistent, AreConsistent, OnlyWritesFailedIn}
-use Rattle.raft_memory.specs.Memory.{memory_directory, no_files}
+use Rattle.raft_memory.specs.Memory.{memory_directory, no_files, after_first}
 use Rattle.raft_memory.specs.declared.memory.MemoryFileSystem.{MemoryFileSystem}
 use Rattle.raft_env.proofs.DirectoryLemmas.{writing_part}
 use Rattle.raft_env.proofs.ConsistentLemmas.{placed_cases, settled_consistent, synced_consistent, renamed_consistent, renamed_each, without_each, written_consistent, allocated_consistent, cut_consistent}
@@ -41,6 +44,14 @@ resized_holds after file old consistent = record {
   consistent = consistent;
   only_writes = All-cons IsWriteIfFailed _ (file.changes ++ file.older) (λ refused. absurd cc) old.only_writes;
 }
+
+-- what a write of the first bytes leaves: all of them, or others in its range alone
+pub first_outcome : (at : ℕ) (given : List ℕ) (count : ℕ) (now : List ℕ) → Outcome (nat_le (length given) count) (overlay now at given) (IsPartOf at (length given) now) (overlay now at (take count given))
+first_outcome at given count now = by_test (nat_le (length given) count) refl
+  where
+    by_test : (all : Bool) → nat_le (length given) count ≡ all → Outcome all (overlay now at given) (IsPartOf at (length given) now) (overlay now at (take count given))
+    by_test true is = ap (overlay now at) (take_all count given (leb-true (length given) count is))
+    by_test false is = writing_part at given (take count given) (omega (arith, length-take count given)) now
 
 -- Directories.
 
@@ -79,6 +90,10 @@ module _ (m : MemoryFileSystem) (new : Directory) where
   -- a failed write
   pub invariant-written_part : (path : Path) (at : ℕ) (given kept : List ℕ) → length kept ≤ length given → new ≡ update_file path (λ f. file_after_write at given false (overlay f.now at kept) f) (memory_directory m) → Invariant new
   invariant-written_part path at given kept part = invariant-changed path _ (λ file holds. written_holds at given _ false file holds (written_consistent at given _ false file holds.consistent (writing_part at given kept part file.now)))
+
+  -- a write of so many of its bytes
+  pub invariant-written_first : (path : Path) (at : ℕ) (given : List ℕ) (count : ℕ) → new ≡ update_file path (after_first at given count) (memory_directory m) → Invariant new
+  invariant-written_first path at given count = invariant-changed path _ (λ file holds. written_holds at given _ _ file holds (written_consistent at given _ _ file holds.consistent (first_outcome at given count file.now)))
 
   pub invariant-cut : (path : Path) (size : ℕ) → new ≡ update_file path (λ f. file_after_resize (take size f.now) f) (memory_directory m) → Invariant new
   invariant-cut path size = invariant-changed path _ (λ file holds. resized_holds _ file holds (cut_consistent size _ true file holds.consistent refl))

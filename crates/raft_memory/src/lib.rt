@@ -12,6 +12,7 @@ mod memory_file;
 mod namespace;
 mod refusals;
 mod settled;
+mod write_first;
 
 pub use armed::FsCall;
 pub use crash::Choice;
