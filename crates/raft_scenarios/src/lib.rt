@@ -7,3 +7,5 @@ mod crashes;
 mod opening;
 #[cfg(test)]
 mod program;
+#[cfg(test)]
+mod scans;
