@@ -12,18 +12,20 @@ const GROUP: u64 = 1;
 
 const LOG: &str = "0000000000000001.raftlog";
 
+/// How many bytes of the log are copied: its records, and a part of the zeros after them.
+const LOG_LEN: usize = 1024;
+
 /// Whether each put is synced.
-const PUTS: [bool; 8] = [true, false, false, true, false, true, true, false];
+const PUTS: [bool; 6] = [true, false, true, false, false, true];
 
 /// How many of the bytes that changed since the last sync a crash leaves; the others are as they were then, or this
 /// where there was none.
-const TORN: [(usize, u8); 7] = [
+const TORN: [(usize, u8); 6] = [
     (usize::MAX, 0),
     (0, 0),
     (0, 255),
     (1, 0),
-    (9, 255),
-    (21, 0),
+    (21, 255),
     (60, 0),
 ];
 
@@ -149,7 +151,10 @@ struct Wrong {
 
 fn log_bytes(rt: &HostRuntime, live: &str) -> Result<Vec<u8>, Fail> {
     match bytes_at(rt, live, LOG)? {
-        Some(bytes) => Ok(bytes),
+        Some(mut bytes) => {
+            bytes.truncate(LOG_LEN);
+            Ok(bytes)
+        }
         None => Err(Fail::new("there is no log")),
     }
 }
@@ -192,7 +197,7 @@ fn synced_keys_are_found_after_crashes(rt: HostRuntime) -> Result<(), Fail> {
     let room = room(&rt, "crashes")?;
     let live = format!(in rt.alloc(); "{}/live", room)?;
     let wrong = crash_over(rt, room.as_str(), DiskFileSystem::open(rt, live.as_str())?)?;
-    assert_eq!(rt; wrong, Wrong { counted: 0, uncounted: 6 });
+    assert_eq!(rt; wrong, Wrong { counted: 0, uncounted: 5 });
     fs::remove_dir_all(&rt, room.as_str())?;
     Ok(())
 }

@@ -48,7 +48,7 @@ impl<'a> Request<'a> {
 }
 
 impl<'a> Verb<'a> {
-    fn changes(&self) -> bool {
+    pub(crate) fn changes(&self) -> bool {
         matches!(
             self,
             Verb::Put(..)
