@@ -1,6 +1,6 @@
 -- Groups of batches: how they are built, and what an engine's write of them is as an operation.
 use Rattle.std.proofs.Common.{◌≡◌, ℕ, zero, suc, ◌+◌, ◌<◌, ◌≤◌, Bool, true, false, cond, inl, inr, List, [], ◌∷◌, ◌++◌, length, map, Option, Some, None, refl, sym, ◌∙◌, ap, subst, arith}
-use Rattle.std.specs.Prelude.{◌⊎◌, ◌||◌, OnErr, IfErr, IfOk, IsErrAnd, IsSome, IsSomeAnd, MatchResult, Result, Ok, Err, Vec, slice_index_or, unwrap_or}
+use Rattle.std.specs.Prelude.{◌⊎◌, ◌||◌, IfErr, IfOk, IsErrAnd, IsSome, IsSomeAnd, MatchResult, Result, Ok, Err, Vec, slice_index_or, unwrap_or}
 use Rattle.std.specs.List.{count_by, list_any}
 use Rattle.std.specs.declared.alloc.Global.{Global}
 use Rattle.std.proofs.lemmas.Bool.{cases_Bool}
@@ -16,12 +16,13 @@ use Rattle.raft_env.specs.Refusal.{NoFewer, Refusals, StorageRefusalsRose}
 use Rattle.raft_env.specs.declared.env.FileSystem.{Ghosts}
 use Rattle.raft_env.proofs.MomentsLemmas.{passes_weaker}
 use Rattle.raft_records.specs.Contents.{Contents, after_batch, after_batches}
+use Rattle.raft_records.specs.Batch.{BatchView}
 use Rattle.raft_records.specs.Item.{Batch}
 use Rattle.raft_log_engine.specs.Cause as engine
 use Rattle.raft_log_engine.specs.Durability.{Progresses, StaysFailed, durability_of}
 use Rattle.raft_log_engine.specs.Engine.{answer_now, answered_of, contents_of, directory_of, durable_of, folder_of, has_failed, moments_of, refusals_of, unsynced_of}
 use Rattle.raft_log_engine.specs.Group as group
-use Rattle.raft_log_engine.specs.Group.{AreGroupAnswers, FailsWithChoice, HasWrittenGroup, LeavesChoice, accepted_in, chosen_of, written_in}
+use Rattle.raft_log_engine.specs.Group.{AreGroupAnswers, FailsWithChoice, HasWrittenGroup, LeavesChoice, accepted_in, chosen_of, items_of, written_in}
 use Rattle.raft_log_engine.specs.declared.engine.Engine.{Engine}
 use Rattle.raft_script.specs.Durability.{Answers, Does}
 use Rattle.raft_script.specs.Run.{AreBatchAnswers, FailsBy, IsBatchRefusal, IsGroupRefusal, IsOversized, IsStorageOrMemory, IsUnbuilt, IsUnbuiltGroup, IsWrittenGroup, Part, Refuses, StorageRefusalsRoseBy, accepted_of, batch_of_acts, batches_of_parts, group_batches, is_failure, is_io, with_batch}
@@ -70,6 +71,22 @@ unbuilt_answered parts e (inr (k, part, within, is, inr (inl refused))) = by_cod
     by_code _ code = absurd (omega (arith, code))
 unbuilt_answered parts e (inr (k, part, within, is, inr (inr oversized))) = subst (IsGroupRefusal parts) (sym oversized.0) (k, part, within, is, oversized.1)
 
+no_failure : (parts : List Part) (e : Fault) → IsUnbuiltGroup parts e → is_failure {T = Vec (Result ℕ Fault) Global} (Err e) ≡ true → ⊥
+no_failure parts fault.Failed (inl memory) failure = let clash = memory in cc
+no_failure parts fault.Failed (inr (k, part, within, is, inl memory)) failure = let clash = memory in cc
+no_failure parts fault.Failed (inr (k, part, within, is, inr (inl refused))) failure = omega (arith, refused.0)
+no_failure parts fault.Failed (inr (k, part, within, is, inr (inr oversized))) failure = let clash = oversized.0 in cc
+no_failure parts _ unbuilt failure = let clash = failure in cc
+
+-- .. and fails no engine
+pub unbuilt_fails : (parts : List Part) (failed : Bool) (e : Fault) → IsUnbuiltGroup parts e → FailsBy {T = Vec (Result ℕ Fault) Global} failed (Err e) failed (IsUnbuiltGroup parts)
+unbuilt_fails parts failed e unbuilt = record {
+  still = λ gone. gone;
+  only_failed = λ failure. absurd (no_failure parts e unbuilt failure);
+  refused = λ gone. inr unbuilt;
+  cause = λ alive fails. absurd (let clash = sym alive ∙ fails in cc);
+}
+
 -- the flags of the parts
 pub flags_any : (parts : List Part) → list_any (λ (flag : Bool). flag) (map (λ (part : Part). part.1) parts) ≡ list_any (λ (part : Part). part.1) parts
 flags_any [] = refl
@@ -115,12 +132,15 @@ batches_rose folder old new m (b ∷ batches) (Err e ∷ answers) are =
     (more_rose (is_io {T = ℕ} (Err e)) (count_by is_io answers) old are.0 new are.2 (refused_rose folder m b old are.0 e are.1) (batches_rose folder are.0 new m batches answers are.3))
 
 -- an engine's write of the batches is answered as the operation
-module _ {F H R W : Type 0} {g : Ghosts F H R W} (parts : Vec Part Global) (batches rest : List Batch) (flags : List Bool) (old new : Engine F H R W g) (built : batches_of_parts parts.items ≡ Some batches) (flags_are : flags ≡ map (λ (part : Part). part.1) parts.items) where
+module _ {F H R W : Type 0} {g : Ghosts F H R W} (parts : Vec Part Global) (views after : List BatchView) (flags : List Bool) (old new : Engine F H R W g) (built : batches_of_parts parts.items ≡ Some (items_of views)) (flags_are : flags ≡ map (λ (part : Part). part.1) parts.items) where
+  abbrev batches : List Batch
+  batches = items_of views
+
   abbrev pub IsCause : Result (Vec (Result ℕ Fault) Global) Fault → Type 0
-  IsCause result = IfErr result (group.IsGroupRefusal (folder_of old) (length batches) (length flags) (has_failed old) (refusals_of old) (refusals_of new))
+  IsCause result = IfErr result (group.IsGroupRefusal (folder_of old) (length views) (length flags) (has_failed old) (refusals_of old) (refusals_of new))
 
   abbrev pub IsOk : Result (Vec (Result ℕ Fault) Global) Fault → Type 0
-  IsOk result = IfOk result (λ answers. HasWrittenGroup batches rest old new answers.items)
+  IsOk result = IfOk result (λ answers. HasWrittenGroup batches (items_of after) old new answers.items)
 
   group_is : group_batches parts.items ≡ batches
   group_is = ap (λ (o : Option (List Batch)). unwrap_or o []) built
@@ -134,6 +154,9 @@ module _ {F H R W : Type 0} {g : Ghosts F H R W} (parts : Vec Part Global) (batc
       by_first (Some b) None is counts = absurd cc
       by_first (Some b) (Some l) is counts = let all : b ∷ l ≡ batches = cc in sym (ap length all) ∙ ap suc (counts l refl)
 
+  same_count : length views ≡ length flags
+  same_count = sym (length-map views (λ (v : BatchView). v.items)) ∙ part_count parts.items batches built ∙ sym (length-map parts.items (λ (part : Part). part.1)) ∙ sym (ap length flags_are)
+
   pub group_answered : (m : Contents) → (has_failed old ≡ false → m ≡ contents_of old) → (result : Result (Vec (Result ℕ Fault) Global) Fault) → IsOk result → (has_failed old ≡ true → result ≡ Err fault.Failed) → IsCause result
       → MatchResult result (λ answers. IsWrittenGroup m parts.items answers.items) (IsGroupRefusal parts.items)
   group_answered m same (Ok answers) ok failed cause = elim (cases_Bool (has_failed old)) [
@@ -144,8 +167,8 @@ module _ {F H R W : Type 0} {g : Ghosts F H R W} (parts : Vec Part Global) (batc
   ]
   group_answered m same (Err e) ok failed cause = by_fault e cause
     where
-      by_fault : (e : Fault) → group.IsGroupRefusal (folder_of old) (length batches) (length flags) (has_failed old) (refusals_of old) (refusals_of new) e → IsGroupRefusal parts.items e
-      by_fault (fault.InvalidArgument text) h = absurd (h.1 (part_count parts.items batches built ∙ sym (length-map parts.items (λ (part : Part). part.1)) ∙ sym (ap length flags_are)))
+      by_fault : (e : Fault) → group.IsGroupRefusal (folder_of old) (length views) (length flags) (has_failed old) (refusals_of old) (refusals_of new) e → IsGroupRefusal parts.items e
+      by_fault (fault.InvalidArgument text) h = absurd (h.1 same_count)
       by_fault fault.Failed h = subst IsSome (sym built) refl
       by_fault (fault.Io kind path) h = subst IsSome (sym built) refl
       by_fault fault.Memory h = tt
@@ -164,8 +187,8 @@ module _ {F H R W : Type 0} {g : Ghosts F H R W} (parts : Vec Part Global) (batc
       told (Err fault.Failed) cause failure = cause
       told (Err _) cause failure = absurd (let clash = failure in cc)
 
-      by_fault : (e : Fault) → group.IsGroupRefusal (folder_of old) (length batches) (length flags) (has_failed old) (refusals_of old) (refusals_of new) e → has_failed old ≡ false → IsStorageOrMemory e
-      by_fault (fault.InvalidArgument text) h alive = absurd (h.1 (part_count parts.items batches built ∙ sym (length-map parts.items (λ (part : Part). part.1)) ∙ sym (ap length flags_are)))
+      by_fault : (e : Fault) → group.IsGroupRefusal (folder_of old) (length views) (length flags) (has_failed old) (refusals_of old) (refusals_of new) e → has_failed old ≡ false → IsStorageOrMemory e
+      by_fault (fault.InvalidArgument text) h alive = absurd (h.1 same_count)
       by_fault fault.Failed h alive = absurd (let clash = sym h ∙ alive in cc)
       by_fault (fault.Io kind path) h alive = tt
       by_fault fault.Memory h alive = tt
@@ -179,12 +202,6 @@ module _ {F H R W : Type 0} {g : Ghosts F H R W} (parts : Vec Part Global) (batc
   group_refuses (Ok answers) ok cause counts = (counts, batches_rose (folder_of old) (refusals_of old) (refusals_of new) (contents_of old) batches answers.items ok.answered)
   group_refuses (Err (fault.Io kind path)) ok cause counts = (counts, λ io. cause.2.0)
   group_refuses (Err _) ok cause counts = (counts, λ io. absurd (let clash = io in cc))
-
-  -- the contents after it
-  pub group_contents : (result : Result (Vec (Result ℕ Fault) Global) Fault) → IsOk result → OnErr result (has_failed new ≡ false → (contents_of new ≡ contents_of old) × (rest ≡ batches)) → has_failed new ≡ false
-      → contents_of new ≡ after_batches (contents_of old) (accepted_of (contents_of old) (WriteGroup parts) (Sizes result))
-  group_contents (Ok answers) ok err stands = ok.contents ∙ ap (λ (l : List Batch). after_batches (contents_of old) (accepted_in answers.items l)) (sym group_is)
-  group_contents (Err e) ok err stands = (err stands).0
 
   abbrev IsProgress : List Batch → Result (Vec (Result ℕ Fault) Global) Fault → Type 0
   IsProgress l result = MatchResult result (λ answers. Progresses (accepted_in answers.items l) (list_any (λ (flag : Bool). flag) flags) [] (durability_of old) (durability_of new)) (λ _. FailsWithChoice l old new)

@@ -1,15 +1,20 @@
-use Rattle.std.proofs.Common.{◌≡◌, ◌∙◌, ◌∷◌, [], List, Some, ap, inl, inr, refl, rules, subst, sym, append-nil}
+use Rattle.std.proofs.Common.{◌≡◌, ◌∙◌, ◌∷◌, [], List, Some, ap, map, inl, inr, refl, rules, subst, sym, append-nil}
 use Rattle.raft_records.specs.Contents.{Contents, first_index_of, last_index_of}
 use Rattle.raft_records.specs.Item.{Batch}
 use Rattle.raft_log_engine.specs.Durability.{Durability, durability_of}
 use Rattle.raft_log_engine.specs.Engine.{answer_now, answered_of, contents_of, directory_of, durable_of, folder_of, has_failed, is_known_in, moments_of, refusals_of, unsynced_of}
-use Rattle.raft_script.specs.Run.{batch_of_acts, pending_batches, written_batches}
+use Rattle.raft_script.specs.Run.{IsUnbuiltGroup, Part, batch_of_acts, batches_of_parts, group_batches, pending_batches, written_batches}
 use Rattle.raft_log_engine.specs.Crash.{LeavesAllowed}
 use Rattle.raft_env.specs.Moments.{HoldsThroughout}
-use Rattle.raft_script.specs.declared.operation.Op.TheVariants.{Sync, Write, WriteGroup}
+use Rattle.raft_script.specs.declared.operation.Op.TheVariants.{Sync, Write}
 use Rattle.raft_script.proofs.DurabilityLemmas.{moments_of_batch, written_progress}
 use Rattle.raft_script.proofs.RunAnswersLemmas.{does_compact, does_read, in_flight, read_same}
 use Rattle.raft_script.proofs.RunLemmas.{compaction_answered, entry_answered, entry_rose, groups_answered, steady_by, write_answered}
+use Rattle.raft_log_engine.specs.Group.{items_of, written_in}
+use Rattle.raft_records.specs.Batch.{BatchView}
+use Rattle.raft_script.proofs.GroupLemmas.{does_group, group_answered, group_fails, group_refuses, unbuilt_answered, unbuilt_fails}
+use Rattle.raft_script.proofs.runs.step.Given.{Over}
+use Rattle.raft_script.proofs.runs.step.Goals.{After-write_group}
 use Rattle.raft_script.proofs.runs.step.Goals as goal
 
 pub returns-in-Ok-clause-value : goal.returns-in-Ok-clause-value
@@ -138,3 +143,63 @@ returns-in-Groups-clause-failed g c =
 
 pub returns-in-Groups-clause-progress : goal.returns-in-Groups-clause-progress
 returns-in-Groups-clause-progress g c = let e = c.args.engine.now in rw c.in-Groups.is (does_read e e _ _ tt (read_same e) refl refl refl refl)
+
+-- The batches of a group.
+
+-- they are those of its parts
+group_built : (g : Over) (c : After-write_group g) → batches_of_parts c.in-WriteGroup.parts.items ≡ Some (items_of c.deref_mut.result.now)
+group_built g c =
+    ap batches_of_parts (sym c.deref-in-WriteGroup.ensures.value) ∙ c.in-Ok-build_group.ensures.value ∙ ap (λ (l : List BatchView). Some (items_of l)) (sym c.deref_mut.ensures.value)
+
+-- .. and so are the flags
+group_flags : (g : Over) (c : After-write_group g) → c.deref-in-Ok-build_group.result.now ≡ map (λ (part : Part). part.1) c.in-WriteGroup.parts.items
+group_flags g c =
+    c.deref-in-Ok-build_group.ensures.value ∙ c.in-Ok-build_group.ensures.ok ∙ ap (map (λ (part : Part). part.1)) c.deref-in-WriteGroup.ensures.value
+
+pub returns-in-Ok-build_group-clause-value : goal.returns-in-Ok-build_group-clause-value
+returns-in-Ok-build_group-clause-value g c =
+    let at = (goal.at.returns-in-Ok-build_group-clause-value g c).After-write_group in
+    let write = c.write_group.ensures in
+    rw c.in-WriteGroup.is (λ m same. group_answered c.in-WriteGroup.parts c.deref_mut.result.now c.write_group.new.batches c.deref-in-Ok-build_group.result.now c.args.engine.now c.write_group.new.self (group_built g at) (group_flags g at) m same c.write_group.result write.ok write.failed write.cause)
+
+pub returns-in-Ok-build_group-clause-failed : goal.returns-in-Ok-build_group-clause-failed
+returns-in-Ok-build_group-clause-failed g c =
+    let at = (goal.at.returns-in-Ok-build_group-clause-failed g c).After-write_group in
+    let write = c.write_group.ensures in
+    rw c.in-WriteGroup.is (group_fails c.in-WriteGroup.parts c.deref_mut.result.now c.write_group.new.batches c.deref-in-Ok-build_group.result.now c.args.engine.now c.write_group.new.self (group_built g at) (group_flags g at) c.write_group.result write.ok write.failed (λ failed. (write.unchanged failed).0.failed) write.cause)
+
+pub returns-in-Ok-build_group-clause-refused : goal.returns-in-Ok-build_group-clause-refused
+returns-in-Ok-build_group-clause-refused g c =
+    let at = (goal.at.returns-in-Ok-build_group-clause-refused g c).After-write_group in
+    let write = c.write_group.ensures in
+    group_refuses c.in-WriteGroup.parts c.deref_mut.result.now c.write_group.new.batches c.deref-in-Ok-build_group.result.now c.args.engine.now c.write_group.new.self (group_built g at) (group_flags g at) c.write_group.result write.ok write.cause write.refused
+
+pub returns-in-Ok-build_group-clause-progress : goal.returns-in-Ok-build_group-clause-progress
+returns-in-Ok-build_group-clause-progress g c =
+    let at = (goal.at.returns-in-Ok-build_group-clause-progress g c).After-write_group in
+    let write = c.write_group.ensures in
+    rw c.in-WriteGroup.is (does_group c.in-WriteGroup.parts c.deref_mut.result.now c.write_group.new.batches c.deref-in-Ok-build_group.result.now c.args.engine.now c.write_group.new.self (group_built g at) (group_flags g at) c.write_group.result write.progress write.any_moment write.answered (λ failed. (write.unchanged failed).0.moments))
+
+pub returns-in-Err-build_group-clause-value : goal.returns-in-Err-build_group-clause-value
+returns-in-Err-build_group-clause-value g c =
+    let unbuilt = subst (λ (l : List Part). IsUnbuiltGroup l c.in-Err-build_group.fault) c.deref-in-WriteGroup.ensures.value c.in-Err-build_group.ensures.cause in
+    rw c.in-WriteGroup.is (λ m same. unbuilt_answered c.in-WriteGroup.parts.items c.in-Err-build_group.fault unbuilt)
+
+pub returns-in-Err-build_group-clause-failed : goal.returns-in-Err-build_group-clause-failed
+returns-in-Err-build_group-clause-failed g c =
+    let unbuilt = subst (λ (l : List Part). IsUnbuiltGroup l c.in-Err-build_group.fault) c.deref-in-WriteGroup.ensures.value c.in-Err-build_group.ensures.cause in
+    rw c.in-WriteGroup.is (unbuilt_fails c.in-WriteGroup.parts.items (has_failed c.args.engine.now) c.in-Err-build_group.fault unbuilt)
+
+pub returns-in-Err-build_group-clause-progress : goal.returns-in-Err-build_group-clause-progress
+returns-in-Err-build_group-clause-progress g c =
+    let e = c.args.engine.now in
+    let parts = c.in-WriteGroup.parts in
+    let unbuilt = subst (λ (l : List Part). IsUnbuiltGroup l c.in-Err-build_group.fault) c.deref-in-WriteGroup.ensures.value c.in-Err-build_group.ensures.cause in
+    rw c.in-WriteGroup.is (record {
+      flight = [];
+      may_be = ∣ ([], refl) ∣₁;
+      given = written_in (group_batches parts.items);
+      is_given = refl;
+      progress = inl (record { none = refl; covers_none = refl; failed = refl; durable = refl; unsynced = refl });
+      answers = inl (unbuilt, read_same e);
+    })
