@@ -1,6 +1,6 @@
 -- The moments of operations on an engine, divided by its answers.
 use Rattle.std.proofs.Common.{◌≡◌, ◌⊎◌, ◌∙◌, ℕ, Bool, true, false, List, [], ◌∷◌, ◌++◌, append_assoc, refl, sym, subst, ap, arith, inl, inr}
-use Rattle.std.specs.Prelude.{Result, Ok, Err, if◌then◌else◌}
+use Rattle.std.specs.Prelude.{Result, Err, if◌then◌else◌}
 use Rattle.std.proofs.lemmas.Bool.{cases_Bool}
 use Rattle.raft_base.specs.declared.errors.Fault.{Fault}
 use Rattle.raft_base.specs.declared.errors.Fault.TheVariants as fault
