@@ -7,4 +7,6 @@ pub mod LogFile
 pub mod Open
 pub mod Pipe
 pub mod Queue
+pub mod Numbered
+pub mod QueueFiles
 pub mod Written
