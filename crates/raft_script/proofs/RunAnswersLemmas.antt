@@ -1,6 +1,6 @@
 -- The moments of operations on an engine, divided by its answers.
 use Rattle.std.proofs.Common.{◌≡◌, ◌⊎◌, ◌∙◌, ℕ, Bool, true, false, List, [], ◌∷◌, ◌++◌, append_assoc, refl, sym, subst, ap, arith, inl, inr}
-use Rattle.std.specs.Prelude.{Result, Ok, Err, if◌then◌else◌}
+use Rattle.std.specs.Prelude.{Result, Err, if◌then◌else◌}
 use Rattle.std.proofs.lemmas.Bool.{cases_Bool}
 use Rattle.raft_base.specs.declared.errors.Fault.{Fault}
 use Rattle.raft_base.specs.declared.errors.Fault.TheVariants as fault
@@ -9,6 +9,7 @@ use Rattle.raft_env.specs.Directory.{Directory, Path}
 use Rattle.raft_env.specs.Moments.{HoldsThroughout}
 use Rattle.raft_env.specs.declared.env.FileSystem.{Ghosts}
 use Rattle.raft_log_engine.specs.Answered.{Answered, Snapshot}
+use Rattle.raft_log_engine.specs.Contents.{recovered_contents}
 use Rattle.raft_log_engine.specs.Crash.{LeavesAllowed, LeavesAllowedFrom, pending_of, written_batch}
 use Rattle.raft_log_engine.specs.Durability.{Durability, HasOnlyRead, Progresses, StaysFailed, accepted_by, durability_of}
 use Rattle.raft_log_engine.specs.Engine.{answer_now, answered_of, contents_of, directory_of, durable_of, folder_of, has_failed, moments_of, snapshot_of, unsynced_of}
@@ -48,8 +49,8 @@ through_moments folder m p before noted (op ∷ ops) (o ∷ outcomes) now notes 
 
 -- what holds of each engine between two calls
 pub record Keeps (folder : Path) (now : Durability) (n : Directory) : Type 0 where
-  pub leaves : LeavesAllowed folder now.durable now.unsynced n
-  pub holds : now.failed ≡ false → now.contents ≡ after_batches now.durable now.unsynced
+  pub leaves : LeavesAllowed folder (recovered_contents now.base) now.unsynced n
+  pub holds : now.failed ≡ false → recovered_contents (now.base ++ now.unsynced) ≡ after_batches (recovered_contents now.base) now.unsynced
 
 -- the moments of one call: those inside it, and the newest of them once it is answered
 module _ (folder : Path) (m : Contents) (p : Progress) (op : Op) (outcome : Outcome) (before : Snapshot) (answer : Answered) (given : IsGiven before.failed (after_batches m p.batches) op answer.given) (P : Directory → Type 0) (n : Directory) where
@@ -80,7 +81,7 @@ module _ {F H R W : Type 0} {g : Ghosts F H R W} (old new : Engine F H R W g) wh
       none = none;
       covers_none = covers_none;
       failed = ap (λ (d : Durability). d.failed) read.state;
-      durable = ap (λ (d : Durability). d.durable) read.state;
+      base = ap (λ (d : Durability). d.base) read.state;
       unsynced = ap (λ (d : Durability). d.unsynced) read.state;
     });
     answers = inl (unnoted, read);
@@ -121,7 +122,7 @@ module _ {F H R W : Type 0} {g : Ghosts F H R W} (old new : Engine F H R W g) (g
 
 -- an engine that isn't asked only read
 pub read_same : {F H R W : Type 0} {g : Ghosts F H R W} (e : Engine F H R W g) → HasOnlyRead e e
-read_same e = record { files = refl; moments = refl; refusals = (omega arith, omega arith); folder = refl; state = refl; known = λ group. refl; answered = refl; begun = refl }
+read_same e = record { files = refl; moments = refl; refusals = (omega arith, omega arith); folder = refl; state = refl; answered = refl; begun = refl }
 
 -- one operation more
 module _ {F H R W : Type 0} {g : Ghosts F H R W} (ops : List Op) (outcomes : List Outcome) (op : Op) (outcome : Outcome) (e old new : Engine F H R W g) (a : AreAllowedInside ops outcomes e old) (given flight : List Batch) where

@@ -116,11 +116,11 @@ module _ {F H R W : Type 0} {g : Ghosts F H R W} (acts : List Act) (items rest :
   ]
     where
       by_fault : (e : Fault) → engine.IsWriteRefusal folder m items (has_failed new) (refusals_of old) (refusals_of new) e → IsWriteRefusal m acts e
-      by_fault (fault.Io kind path) h = subst IsSome (sym built) refl
+      by_fault (fault.Io kind path) h = of_built (engine.IsWritable m) acts items built h.0
       by_fault fault.Memory h = tt
       by_fault fault.Gap h = of_built (λ batch. batch_refusal m batch ≡ Some fault.Gap) acts items built h.0
       by_fault fault.Range h = inr (of_built (engine.IsOutOfRange m) acts items built h.0)
-      by_fault _ h = absurd h
+      by_fault _ h = absurd h.1
 
 -- .. and so is a compaction
 module _ (m n : Contents) (group index : ℕ) (failed : Bool) (folder : Path) (old new : Refusals) (same : failed ≡ false → m ≡ n) where

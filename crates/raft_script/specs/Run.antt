@@ -10,7 +10,7 @@ use Rattle.raft_base.specs.Fault.{fault_code}
 use Rattle.raft_base.specs.declared.errors.Fault.{Fault}
 use Rattle.raft_base.specs.declared.errors.Fault.TheVariants as fault
 use Rattle.raft_env.specs.Refusal.{NoFewer, Refusals, StorageRefusalsRose}
-use Rattle.raft_log_engine.specs.Cause.{IsOutOfRange}
+use Rattle.raft_log_engine.specs.Cause.{IsOutOfRange, IsWritable}
 use Rattle.raft_log_engine.specs.Crash.{pending_of, written_batch}
 use Rattle.raft_log_engine.specs.Engine.{record_len}
 use Rattle.raft_log_engine.specs.Reads.{compact_batch, compact_count}
@@ -132,10 +132,10 @@ IsWritten m acts len = (batch : Batch) × (batch_of_acts acts ≡ Some batch) ×
     × (len ≡ record_len batch)
 
 -- a write fails for an act that can't be done, too many bytes of entries, or lack of memory; its
--- batch since the contents don't take it, by storage, for its length, or by a failed engine
+-- batch since the contents don't take it, for its length, else by storage, or by a failed engine
 abbrev pub IsWriteRefusal : Contents → List Act → Fault → Type 0
 IsWriteRefusal m acts (fault.InvalidArgument _) = batch_of_acts acts ≡ None
-IsWriteRefusal m acts (fault.Io kind path) = IsSome (batch_of_acts acts)
+IsWriteRefusal m acts (fault.Io kind path) = IsSomeAnd (batch_of_acts acts) (IsWritable m)
 IsWriteRefusal m acts fault.Memory = Unit {0}
 IsWriteRefusal m acts fault.Gap =
     IsSomeAnd (batch_of_acts acts) (λ batch. batch_refusal m batch ≡ Some fault.Gap)

@@ -44,7 +44,7 @@ returns-in-Err-clause-progress g c =
       may_be = refl;
       given = written_batches (batch_of_acts acts.items);
       is_given = refl;
-      progress = inl (record { none = refl; covers_none = refl; failed = refl; durable = refl; unsynced = refl });
+      progress = inl (record { none = refl; covers_none = refl; failed = refl; base = refl; unsynced = refl });
       answers = inl (search rules, read_same c.args.engine.now);
     })
 
