@@ -392,8 +392,9 @@ impl<D: Disk, F: FileSystem> Mirror<D, F> {
         }
     }
 
-    /// Whether a change failed, so that the disk may differ from the files and no file can be
-    /// changed any more. Until then the disk carried out each change that the files had.
+    /// Whether a change failed, for another cause than a write's want of space, so that the disk may
+    /// differ from the files and no file can be changed any more. Until then the disk carried out
+    /// each change that the files had.
     pub fn has_failed(&self) -> bool
         ensures value { result ≡ has_failed self.now }
         ensures ok { result ≡ false → IsOnDisk self.now }
