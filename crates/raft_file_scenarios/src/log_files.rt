@@ -88,13 +88,6 @@ fn ends<F: FileSystem>(
     Ok((found.offset(), reset.offset()))
 }
 
-fn is_written_and_read<F: FileSystem>(fs: &mut F, alloc: Global) -> Result<bool, FsFault> {
-    let handle = fs.create("log")?;
-    let written = first_wrong(fs, alloc, &handle)?.is_none();
-    let read = is_read(fs, alloc, &handle)?;
-    Ok(written && read && ends(fs, alloc, &handle)? == (85, 61))
-}
-
 /// A record without items in file 1.
 const RECORD: &[u8] =
     b"\x00\x00\x00\x00\x00\x00\x15\x00\x00\x00\x00\x00\x00\x00\x00\x10\x00\x8c\xef\x02\xd2";
@@ -122,11 +115,18 @@ fn is_replayed<F: FileSystem>(
     Ok(format == V2 && items == Some(0) && is_at_end && is_closed)
 }
 
+fn is_written_and_read<F: FileSystem>(fs: &mut F, alloc: Global) -> Result<bool, FsFault> {
+    let handle = fs.create("log")?;
+    let written = first_wrong(fs, alloc, &handle)?.is_none();
+    let read = is_read(fs, alloc, &handle)?;
+    let reader = reader_of_record(fs, alloc)?;
+    let replayed = is_replayed(fs, alloc, reader) == Ok(true);
+    Ok(written && read && replayed && ends(fs, alloc, &handle)? == (85, 61))
+}
+
 #[test]
 fn written_bytes_are_read_back(rt: HostRuntime) -> Result<(), Fail> {
     let mut fs = MemoryFileSystem::new(rt.alloc());
     assert!(rt; is_written_and_read(&mut fs, rt.alloc())?);
-    let reader = reader_of_record(&mut fs, rt.alloc())?;
-    assert!(rt; is_replayed(&mut fs, rt.alloc(), reader)?);
     Ok(())
 }
