@@ -141,17 +141,26 @@ pub fn count_below(state: State, group: u64, index: u64) -> u64 {
     count
 }
 
-/// The state after an operation that was done.
+fn after_acts(state: State, acts: &[Act]) -> State {
+    let mut state = state;
+    for act in acts {
+        state = after_act(state, act);
+    }
+    state
+}
+
+/// The state after an operation that was done, of a group with each of its batches.
 pub fn after(state: State, op: &Op) -> State {
     let mut state = state;
     match op {
-        Op::Write(acts, _) => {
-            for act in acts {
-                state = after_act(state, act);
+        Op::Write(acts, _) => state = after_acts(state, acts),
+        Op::WriteGroup(parts) => {
+            for part in parts {
+                state = after_acts(state, &part.0);
             }
         }
         Op::CompactTo(group, index) => state = compacted(state, *group, *index),
-        Op::Sync | Op::Get(_, _) => {}
+        Op::Sync | Op::Get(_, _) | Op::Entry(_, _) | Op::First(_) | Op::Last(_) | Op::Groups => {}
     }
     state
 }
@@ -184,13 +193,17 @@ pub fn state_of(image: &Image) -> State {
     state
 }
 
-/// Whether the operation was done: a write with its record, a sync, a look-up.
+/// Whether the operation was done: a write with its record, a group, a sync, a compaction, a read.
 pub fn is_done(outcome: &Outcome) -> bool {
     match outcome {
         Outcome::Size(answer) => answer.is_ok(),
+        Outcome::Sizes(answer) => answer.is_ok(),
         Outcome::Done(answer) => answer.is_ok(),
         Outcome::Value(answer) => answer.is_ok(),
         Outcome::Count(answer) => answer.is_ok(),
+        Outcome::Entry(answer) => answer.is_ok(),
+        Outcome::Index(_) => true,
+        Outcome::Groups(answer) => answer.is_ok(),
     }
 }
 
@@ -203,8 +216,9 @@ pub fn first_refused(outcomes: &[Outcome]) -> Option<usize> {
 fn covers(op: &Op) -> bool {
     match op {
         Op::Write(_, sync) => *sync,
+        Op::WriteGroup(parts) => parts.iter().any(|part| part.1),
         Op::Sync => true,
-        Op::Get(_, _) | Op::CompactTo(_, _) => false,
+        _ => false,
     }
 }
 

@@ -16,7 +16,7 @@ use Rattle.raft_log_engine.specs.Engine.{answer_now, answered_of, contents_of, d
 use Rattle.raft_log_engine.specs.declared.engine.Engine.{Engine}
 use Rattle.raft_records.specs.Contents.{Contents, after_batches}
 use Rattle.raft_records.specs.Item.{Batch}
-use Rattle.raft_script.specs.Durability.{Answers, AreAllowedInside, Does, IsAllowedInside, LeavesInside, PassesThrough, Progress, progress_after, progress_after_all, progress_from}
+use Rattle.raft_script.specs.Durability.{Answers, AreAllowedInside, Does, IsAllowedInside, LeavesInFlight, LeavesInside, PassesThrough, Progress, progress_after, progress_after_all, progress_from}
 use Rattle.raft_script.specs.Run.{IsFailing, IsGiven, IsUnnoted, MayBeInFlight, accepted_of, compaction_in, is_covering}
 use Rattle.raft_script.specs.declared.operation.Op.{Op}
 use Rattle.raft_script.specs.declared.operation.Op.TheVariants.{CompactTo}
@@ -87,6 +87,11 @@ module _ {F H R W : Type 0} {g : Ghosts F H R W} (old new : Engine F H R W g) wh
     answers = inl (unnoted, read);
   }
 
+-- the moments of a call that has these batches in flight
+pub in_flight : {F H R W : Type 0} {g : Ghosts F H R W} (e : Engine F H R W g) (op : Op) (flight : List Batch) (after : List Directory) (n : Directory) → MayBeInFlight (contents_of e) op flight
+    → HoldsThroughout (moments_of e) after n (LeavesAllowed (folder_of e) (durable_of e) (unsynced_of e ++ flight)) → HoldsThroughout (moments_of e) after n (LeavesInFlight op e)
+in_flight e op flight after n may_be = passes_weaker _ _ (moments_of e) after n (λ x leaves. ∣ (flight, may_be, leaves) ∣₁)
+
 module _ {F H R W : Type 0} {g : Ghosts F H R W} (old new : Engine F H R W g) (group index : ℕ) (result : Result ℕ Fault) where
   -- what a compaction has done
   pub does_compact : let batch = compaction_in (contents_of old) group index in
@@ -106,13 +111,13 @@ module _ {F H R W : Type 0} {g : Ghosts F H R W} (old new : Engine F H R W g) (g
         answers = elim (cases_Bool (has_failed old)) [
           | inl failed ↦ inr (record {
             noted = answered.0 failed ∙ ap (λ (b : Bool). answer_now (if b then [] else written_batch batch) new ∷ answered_of old) (sym failed);
-            moments = λ alive. moments;
+            moments = λ alive. in_flight old (CompactTo group index) (pending_of m batch) (moments_of new) (directory_of new) refl moments;
             rests = λ failed. (stays failed).moments;
           })
           | inr alive ↦ elim (answered.1 alive) [
             | inl noted ↦ inr (record {
               noted = noted ∙ ap (λ (b : Bool). answer_now (if b then [] else written_batch batch) new ∷ answered_of old) (sym alive);
-              moments = λ alive. moments;
+              moments = λ alive. in_flight old (CompactTo group index) (pending_of m batch) (moments_of new) (directory_of new) refl moments;
               rests = λ failed. (stays failed).moments;
             })
             | inr read ↦ inl (subst (λ (r : Result ℕ Fault). IsUnnoted (CompactTo group index) (Count r)) (sym read.0) refl, read.1)
@@ -125,8 +130,8 @@ pub read_same : {F H R W : Type 0} {g : Ghosts F H R W} (e : Engine F H R W g) �
 read_same e = record { files = refl; moments = refl; refusals = (omega arith, omega arith); folder = refl; state = refl; answered = refl; begun = refl }
 
 -- one operation more
-module _ {F H R W : Type 0} {g : Ghosts F H R W} (ops : List Op) (outcomes : List Outcome) (op : Op) (outcome : Outcome) (e old new : Engine F H R W g) (a : AreAllowedInside ops outcomes e old) (given flight : List Batch) where
-  pub allowed_more : (IsUnnoted op outcome × HasOnlyRead old new) ⊎ Answers given flight old new → (Answers given flight old new → IsAllowedInside (folder_of e) (durable_of e) (progress_after_all (durable_of e) (progress_from (unsynced_of e)) ops outcomes) op outcome (snapshot_of old) (answer_now given new))
+module _ {F H R W : Type 0} {g : Ghosts F H R W} (ops : List Op) (outcomes : List Outcome) (op : Op) (outcome : Outcome) (e old new : Engine F H R W g) (a : AreAllowedInside ops outcomes e old) (given : List Batch) where
+  pub allowed_more : (IsUnnoted op outcome × HasOnlyRead old new) ⊎ Answers op given old new → (Answers op given old new → IsAllowedInside (folder_of e) (durable_of e) (progress_after_all (durable_of e) (progress_from (unsynced_of e)) ops outcomes) op outcome (snapshot_of old) (answer_now given new))
       → AreAllowedInside (ops ++ op ∷ []) (outcomes ++ outcome ∷ []) e new
   allowed_more answers inside =
       through-append (folder_of e) (durable_of e) (snapshot_of old) (snapshot_of new) (answered_of old) (answered_of new) (op ∷ []) (outcome ∷ []) (progress_from (unsynced_of e)) (snapshot_of e) (answered_of e) ops outcomes a (elim answers [
