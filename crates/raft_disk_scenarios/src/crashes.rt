@@ -183,11 +183,7 @@ fn crash_after_each<F: FileSystem>(
     Ok(Wrong { counted, uncounted })
 }
 
-fn crash_over<F: FileSystem + Drop>(
-    rt: HostRuntime,
-    room: &str,
-    files: F,
-) -> Result<Wrong, Fail> {
+fn crash_over<F: FileSystem + Drop>(rt: HostRuntime, room: &str, files: F) -> Result<Wrong, Fail> {
     let mut engine = open(rt.alloc(), files)?;
     crash_after_each(rt, room, &mut engine)
 }
@@ -197,7 +193,13 @@ fn synced_keys_are_found_after_crashes(rt: HostRuntime) -> Result<(), Fail> {
     let room = room(&rt, "crashes")?;
     let live = format!(in rt.alloc(); "{}/live", room)?;
     let wrong = crash_over(rt, room.as_str(), DiskFileSystem::open(rt, live.as_str())?)?;
-    assert_eq!(rt; wrong, Wrong { counted: 0, uncounted: 5 });
+    assert_eq!(rt;
+        wrong,
+        Wrong {
+            counted: 0,
+            uncounted: 5
+        }
+    );
     fs::remove_dir_all(&rt, room.as_str())?;
     Ok(())
 }

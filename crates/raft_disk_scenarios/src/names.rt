@@ -3,9 +3,8 @@
 use crate::room::{bytes_at, room};
 use raft_disk::DiskFileSystem;
 use raft_env::{FileSystem, FsFault, IoKind, Permission};
-use std::fs;
-use std::io;
 use std::test::Fail;
+use std::{fs, io};
 
 enum Step {
     MakeDir(&'static str),
@@ -28,7 +27,12 @@ const ROWS: [Row; 23] = [
     (Step::Write(0, b"first"), None, "a", Some(b"first")),
     (Step::Sync, None, "a", Some(b"first")),
     (Step::Rename("a", "b"), None, "b", Some(b"first")),
-    (Step::Write(0, b"lost"), Some(IoKind::NotFound), "b", Some(b"first")),
+    (
+        Step::Write(0, b"lost"),
+        Some(IoKind::NotFound),
+        "b",
+        Some(b"first"),
+    ),
     (Step::Create("a"), None, "a", Some(b"")),
     (Step::Write(0, b"second"), None, "a", Some(b"second")),
     (Step::Truncate(3), None, "b", Some(b"first")),
@@ -37,7 +41,12 @@ const ROWS: [Row; 23] = [
     (Step::Delete("a"), Some(IoKind::NotFound), "a", None),
     (Step::Rename("a", "c"), Some(IoKind::NotFound), "c", None),
     (Step::MakeDir("d"), None, "d/b", None),
-    (Step::Rename("b", "d"), Some(IoKind::Other), "b", Some(b"sec")),
+    (
+        Step::Rename("b", "d"),
+        Some(IoKind::Other),
+        "b",
+        Some(b"sec"),
+    ),
     (Step::Rename("b", "d/b"), None, "d/b", Some(b"sec")),
     (Step::Writer("d/b"), None, "b", None),
     (Step::Delete("d/b"), None, "d/b", None),
@@ -134,7 +143,9 @@ fn first_wrong<F: FileSystem + Drop>(
 }
 
 fn finds<F: FileSystem + Drop>(fs: F) -> bool {
-    FOUND.iter().all(|(path, is_there)| fs.is_file(path) == *is_there)
+    FOUND
+        .iter()
+        .all(|(path, is_there)| fs.is_file(path) == *is_there)
 }
 
 #[test]

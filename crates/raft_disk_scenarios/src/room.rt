@@ -1,9 +1,6 @@
 //! A folder for one test.
 
-use std::env;
-use std::fs;
-use std::io;
-use std::process;
+use std::{env, fs, io, process};
 
 /// Makes a folder of this name, which no other process has.
 pub(crate) fn room(rt: &HostRuntime, name: &str) -> io::Result<String> {

@@ -100,7 +100,7 @@ fn put_all<F: FileSystem>(
 fn write_bare(rt: &HostRuntime, place: &str, load: Load, bytes: u64) -> Result<u64> {
     let path = format!(in rt.alloc(); "{place}.bare")?;
     let each = load.sync_each.max(1);
-    let len = bytes / load.count.max(1) * each;
+    let len = (bytes / load.count.max(1)).saturating_mul(each);
     let block = filled(rt.alloc(), len as usize, 1)?;
     let mut file = File::create(rt, path.as_str())?;
     let start = Instant::now(rt)?;

@@ -19,13 +19,13 @@ pub(crate) fn report<R: Host>(
 ) -> Result<Instant> {
     let micros = micros_since(rt, start)?;
     let each = micros.saturating_mul(1000) / count.max(1);
-    let rate = bytes / micros;
+    let rate = bytes / micros.max(1);
     eprintln!(rt; "{name}: {count} operations, {micros} us, {each} ns each, {rate} MB/s")?;
     Ok(Instant::now(rt)?)
 }
 
 pub(crate) fn micros_since<R: Host>(rt: &R, start: Instant) -> Result<u64> {
-    Ok(u64::try_from(start.elapsed(rt)?.as_micros())?.max(1))
+    Ok(u64::try_from(start.elapsed(rt)?.as_micros())?)
 }
 
 /// Prints what so many operations on so many bytes took beside bare calls, on standard error.
