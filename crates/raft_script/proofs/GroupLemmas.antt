@@ -1,6 +1,6 @@
 -- Groups of batches: how they are built, and what an engine's write of them is as an operation.
-use Rattle.std.proofs.Common.{◌≡◌, ℕ, zero, suc, ◌+◌, ◌<◌, ◌≤◌, Bool, true, false, cond, inl, inr, List, [], ◌∷◌, ◌++◌, length, map, Option, Some, None, refl, sym, ◌∙◌, ap, subst, arith}
-use Rattle.std.specs.Prelude.{◌⊎◌, ◌||◌, IfErr, IfOk, IsErrAnd, IsSome, IsSomeAnd, MatchResult, Result, Ok, Err, Vec, slice_index_or, unwrap_or}
+use Rattle.std.proofs.Common.{◌≡◌, ℕ, zero, suc, ◌+◌, ◌<◌, Bool, true, false, cond, inl, inr, List, [], ◌∷◌, ◌++◌, length, map, Option, Some, None, refl, sym, ◌∙◌, ap, subst, arith}
+use Rattle.std.specs.Prelude.{◌||◌, IfErr, IfOk, IsErrAnd, IsSome, IsSomeAnd, MatchResult, Result, Ok, Err, Vec, slice_index_or, unwrap_or}
 use Rattle.std.specs.List.{count_by, list_any}
 use Rattle.std.specs.declared.alloc.Global.{Global}
 use Rattle.std.proofs.lemmas.Bool.{cases_Bool}
@@ -10,22 +10,22 @@ use Rattle.std.proofs.Math.Logic.{∥∥₁_map}
 use Rattle.raft_base.specs.Fault.{fault_code}
 use Rattle.raft_base.specs.declared.errors.Fault.{Fault}
 use Rattle.raft_base.specs.declared.errors.Fault.TheVariants as fault
-use Rattle.raft_env.specs.Directory.{Directory, Path}
+use Rattle.raft_env.specs.Directory.{Path}
 use Rattle.raft_env.specs.Moments.{HoldsThroughout}
 use Rattle.raft_env.specs.Refusal.{NoFewer, Refusals, StorageRefusalsRose}
 use Rattle.raft_env.specs.declared.env.FileSystem.{Ghosts}
 use Rattle.raft_env.proofs.MomentsLemmas.{passes_weaker}
-use Rattle.raft_records.specs.Contents.{Contents, after_batch, after_batches}
+use Rattle.raft_records.specs.Contents.{Contents, after_batch}
 use Rattle.raft_records.specs.Batch.{BatchView}
 use Rattle.raft_records.specs.Item.{Batch}
 use Rattle.raft_log_engine.specs.Cause as engine
-use Rattle.raft_log_engine.specs.Durability.{Progresses, StaysFailed, durability_of}
+use Rattle.raft_log_engine.specs.Durability.{Progresses, durability_of}
 use Rattle.raft_log_engine.specs.Engine.{answer_now, answered_of, contents_of, directory_of, durable_of, folder_of, has_failed, moments_of, refusals_of, unsynced_of}
 use Rattle.raft_log_engine.specs.Group as group
 use Rattle.raft_log_engine.specs.Group.{AreGroupAnswers, FailsWithChoice, HasWrittenGroup, LeavesChoice, accepted_in, chosen_of, items_of, written_in}
 use Rattle.raft_log_engine.specs.declared.engine.Engine.{Engine}
 use Rattle.raft_script.specs.Durability.{Answers, Does}
-use Rattle.raft_script.specs.Run.{AreBatchAnswers, FailsBy, IsBatchRefusal, IsGroupRefusal, IsOversized, IsStorageOrMemory, IsUnbuilt, IsUnbuiltGroup, IsWrittenGroup, Part, Refuses, StorageRefusalsRoseBy, accepted_of, batch_of_acts, batches_of_parts, group_batches, is_failure, is_io, with_batch}
+use Rattle.raft_script.specs.Run.{AreBatchAnswers, FailsBy, IsBatchRefusal, IsGroupRefusal, IsStorageOrMemory, IsUnbuiltGroup, IsWrittenGroup, Part, Refuses, StorageRefusalsRoseBy, batch_of_acts, batches_of_parts, group_batches, is_failure, is_io, with_batch}
 use Rattle.raft_script.specs.declared.operation.Op.TheVariants.{WriteGroup}
 use Rattle.raft_script.specs.declared.operation.Outcome.TheVariants.{Sizes}
 

@@ -1,4 +1,4 @@
-use Rattle.std.proofs.Common.{◌≡◌, Bool, map, take}
+use Rattle.std.proofs.Common.{◌≡◌, map, take}
 use Rattle.raft_log_engine.specs.Group.{items_of}
 use Rattle.raft_script.specs.Run.{Part}
 use Rattle.raft_script.proofs.GroupLemmas.{AreBuilt}

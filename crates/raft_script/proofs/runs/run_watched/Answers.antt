@@ -7,7 +7,6 @@ use Rattle.std.proofs.Math.Logic.{∥∥₁_elim, ∥∥₁_prop}
 use Rattle.raft_env.specs.Directory.{Directory, Path}
 use Rattle.raft_records.specs.Contents.{after_batches}
 use Rattle.raft_records.specs.Item.{Batch}
-use Rattle.raft_env.specs.Moments.{HoldsThroughout}
 use Rattle.raft_log_engine.specs.Crash.{LeavesAllowed}
 use Rattle.raft_script.specs.Durability.{Answers, AreAllowedInside, LeavesInFlight, Progress, progress_after, progress_after_all, progress_from}
 use Rattle.raft_log_engine.specs.Durability.{Progresses, durability_of}

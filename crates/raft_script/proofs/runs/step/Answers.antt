@@ -65,13 +65,13 @@ returns-in-Sync-clause-progress g c =
     let e = c.args.engine.now in
     let n = c.sync.new.self in
     rw c.in-Sync.is (record {
-  flight = [];
-  may_be = refl;
-  given = [];
-  is_given = refl;
-  progress = search rules;
-  answers = inr (record { noted = search rules; moments = λ alive. in_flight e Sync [] (moments_of n) (directory_of n) refl (subst (λ (l : List Batch). HoldsThroughout (moments_of e) (moments_of n) (directory_of n) (LeavesAllowed (folder_of e) (durable_of e) l)) (sym (append-nil (unsynced_of e))) c.sync.ensures.any_moment); rests = search rules });
-})
+      flight = [];
+      may_be = refl;
+      given = [];
+      is_given = refl;
+      progress = search rules;
+      answers = inr (record { noted = search rules; moments = λ alive. in_flight e Sync [] (moments_of n) (directory_of n) refl (subst (λ (l : List Batch). HoldsThroughout (moments_of e) (moments_of n) (directory_of n) (LeavesAllowed (folder_of e) (durable_of e) l)) (sym (append-nil (unsynced_of e))) c.sync.ensures.any_moment); rests = search rules });
+    })
 
 pub returns-in-Ok-clause-failed : goal.returns-in-Ok-clause-failed
 returns-in-Ok-clause-failed g c = rw c.in-Write.is (record {
