@@ -11,3 +11,4 @@ mod opening;
 mod program;
 #[cfg(test)]
 mod reads;
+mod scans;
