@@ -11,4 +11,5 @@ mod opening;
 mod program;
 #[cfg(test)]
 mod reads;
+#[cfg(test)]
 mod scans;
