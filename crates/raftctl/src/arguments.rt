@@ -1,189 +1,209 @@
 //! The command line.
 
 use crate::request::{Load, Request, Verb};
+use clap::{Arg, ArgAction, ArgMatches, Command, Error, value_parser};
 use std::alloc::{AllocError, Global};
 
-pub(crate) const USAGE: &str =
-    "Does one command on a log in a folder, which is made where it is missing.
-
-raftctl FOLDER put GROUP KEY VALUE [--no-sync]
-    Puts a value at a key of a group
-raftctl FOLDER get GROUP KEY
-    Prints the value at a key; with status 3 where there is none
-raftctl FOLDER del GROUP KEY [--no-sync]
-    Deletes a key of a group
-raftctl FOLDER list [GROUP]
-    Prints a line for each key: its group, itself and the bytes of its value
-raftctl FOLDER append GROUP VALUE.. [--at INDEX] [--no-sync]
-    Adds entries after the last, or from INDEX on in place of those there, and
-    prints the first and the last index of the group's new entries
-raftctl FOLDER entry GROUP INDEX
-    Prints the value of an entry; with status 3 where there is none
-raftctl FOLDER entries GROUP [FROM [TO]]
-    Prints a line for each entry: its index and its value
-raftctl FOLDER compact GROUP INDEX [--no-sync]
-    Drops the entries below INDEX, and prints how many
-raftctl FOLDER clean GROUP [--no-sync]
-    Drops all entries and keys of a group
-raftctl FOLDER groups
-    Prints the number of each group
-raftctl FOLDER stat
-    Prints what the folder holds
-raftctl FOLDER load COUNT SIZE [--sync-each N]
-    Puts keys numbered from 0 into group 1, and prints `synced I` after each
-    sync, which comes after each N keys; 0: never; 1 where it isn't given
-raftctl FOLDER verify COUNT SIZE
-    Counts the keys of `load`; with status 3 where one stands after a gap
-raftctl --help
-
-What is changed is synced, but with --no-sync. After the word -- no word is an option.";
-
-/// What a command line asks for.
-#[derive(Drop)]
-pub(crate) enum Line<'a> {
-    Request(Request<'a>),
-    Help,
-    Wrong,
+/// A command with its words, as a row of a table.
+#[derive(Clone, Copy)]
+struct Form {
+    name: &'static str,
+    about: &'static str,
+    words: &'static [Word],
 }
+
+/// A word's name, what it is, and what its help says.
+#[derive(Clone, Copy)]
+struct Word(&'static str, Kind, &'static str);
+
+#[derive(Clone, Copy)]
+enum Kind {
+    Text,
+    Texts,
+    Number,
+    /// A number that may be left out.
+    Optional,
+    /// A number after the word `--` and its name.
+    Named,
+    Flag,
+}
+
+const GROUP: Word = Word("GROUP", Kind::Number, "The number of the group");
+
+const KEY: Word = Word("KEY", Kind::Text, "The key");
+
+const NO_SYNC: Word = Word("no-sync", Kind::Flag, "Leaves the sync out");
+
+const COUNT: Word = Word("COUNT", Kind::Number, "How many keys");
+
+const SIZE: Word = Word("SIZE", Kind::Number, "The bytes of each value");
+
+const FORMS: [Form; 13] = [
+    Form {
+        name: "put",
+        about: "Puts a value at a key of a group, and syncs it",
+        words: &[GROUP, KEY, Word("VALUE", Kind::Text, "The value"), NO_SYNC],
+    },
+    Form {
+        name: "get",
+        about: "Prints the value at a key; with status 3 where there is none",
+        words: &[GROUP, KEY],
+    },
+    Form {
+        name: "del",
+        about: "Deletes a key of a group, and syncs that",
+        words: &[GROUP, KEY, NO_SYNC],
+    },
+    Form {
+        name: "list",
+        about: "Prints a line for each key: its group, itself and the bytes of its value",
+        words: &[Word("GROUP", Kind::Optional, "The keys of this group alone")],
+    },
+    Form {
+        name: "append",
+        about: "Adds entries to a group, syncs them, and prints the first and the last index of them",
+        words: &[
+            GROUP,
+            Word("VALUE", Kind::Texts, "The values of the entries"),
+            Word(
+                "at",
+                Kind::Named,
+                "The first index; entries from it on are replaced. Else the one after the last, or 1",
+            ),
+            NO_SYNC,
+        ],
+    },
+    Form {
+        name: "entry",
+        about: "Prints the value of an entry; with status 3 where there is none",
+        words: &[GROUP, Word("INDEX", Kind::Number, "The index of the entry")],
+    },
+    Form {
+        name: "entries",
+        about: "Prints a line for each entry of a group: its index and its value",
+        words: &[
+            GROUP,
+            Word(
+                "FROM",
+                Kind::Optional,
+                "The first index; else that of the group",
+            ),
+            Word(
+                "TO",
+                Kind::Optional,
+                "The last index; else that of the group",
+            ),
+        ],
+    },
+    Form {
+        name: "compact",
+        about: "Drops the entries of a group below an index, syncs that, and prints how many",
+        words: &[
+            GROUP,
+            Word("INDEX", Kind::Number, "The first index that stays"),
+            NO_SYNC,
+        ],
+    },
+    Form {
+        name: "clean",
+        about: "Drops all entries and keys of a group, and syncs that",
+        words: &[GROUP, NO_SYNC],
+    },
+    Form {
+        name: "groups",
+        about: "Prints a line for each group: its number",
+        words: &[],
+    },
+    Form {
+        name: "stat",
+        about: "Prints what the folder holds",
+        words: &[],
+    },
+    Form {
+        name: "load",
+        about: "Puts keys numbered from 0 into group 1, and prints `synced I` after each sync",
+        words: &[
+            COUNT,
+            SIZE,
+            Word(
+                "sync-each",
+                Kind::Named,
+                "Syncs after so many keys; 0: never; else after each",
+            ),
+        ],
+    },
+    Form {
+        name: "verify",
+        about: "Counts the keys of `load` from 0 on; status 3 where one stands after a gap",
+        words: &[COUNT, SIZE],
+    },
+];
 
 /// Reads the words of a command line, the program's name first.
-pub(crate) fn parse<'a>(alloc: Global, words: &'a [String]) -> Result<Line<'a>, AllocError> {
-    let mut options = Options::new();
-    let mut plain = Vec::new(alloc);
-    for word in words.iter().skip(1) {
-        if !options.take(word.as_str()) {
-            plain.push(word.as_str())?;
-        }
-    }
-    if options.help {
-        return Ok(Line::Help);
-    }
-    match read_request(alloc, &plain, options)? {
-        Some(request) => Ok(Line::Request(request)),
-        None => Ok(Line::Wrong),
+pub(crate) fn parse<'a>(alloc: Global, words: &'a [String]) -> Result<Request<'a>, Error> {
+    let matches = command(alloc)?.try_get_matches_from(words)?;
+    match read_request(alloc, &matches)? {
+        Some(request) => Ok(request),
+        None => Err(Error::from(AllocError)),
     }
 }
 
-#[derive(Clone, Copy)]
-enum Named {
-    At,
-    SyncEach,
-}
-
-#[derive(Clone, Copy)]
-struct Options {
-    help: bool,
-    no_sync: bool,
-    at: Option<u64>,
-    sync_each: Option<u64>,
-    /// The next word is the number of this one.
-    named: Option<Named>,
-    are_over: bool,
-    are_wrong: bool,
-}
-
-impl Options {
-    fn new() -> Options {
-        Options {
-            help: false,
-            no_sync: false,
-            at: None,
-            sync_each: None,
-            named: None,
-            are_over: false,
-            are_wrong: false,
-        }
-    }
-
-    // Whether the word is an option or the number of one.
-    fn take(&mut self, word: &str) -> bool {
-        if let Some(named) = self.named {
-            self.set(named, number(word));
-            return true;
-        }
-        if self.are_over || !word.starts_with('-') {
-            return false;
-        }
-        match word {
-            "--" => self.are_over = true,
-            "--help" | "-h" => self.help = true,
-            "--no-sync" => self.no_sync = true,
-            "--at" => self.named = Some(Named::At),
-            "--sync-each" => self.named = Some(Named::SyncEach),
-            _ => self.are_wrong = true,
-        }
-        true
-    }
-
-    fn set(&mut self, named: Named, number: Option<u64>) {
-        self.named = None;
-        self.are_wrong |= number.is_none();
-        match named {
-            Named::At => self.at = number,
-            Named::SyncEach => self.sync_each = number,
-        }
-    }
-
-    // Whether the command has these options.
-    fn are_of(&self, verb: &Verb<'_>) -> bool {
-        !self.are_wrong
-            && self.named.is_none()
-            && (!self.no_sync || verb.changes())
-            && (self.at.is_none() || matches!(verb, Verb::Append(..)))
-            && (self.sync_each.is_none() || matches!(verb, Verb::Load(_)))
-    }
-}
-
-fn number(word: &str) -> Option<u64> {
-    word.parse().ok()
-}
-
+// `None` only for a command line that `command` refuses.
 fn read_request<'a>(
     alloc: Global,
-    words: &[&'a str],
-    options: Options,
+    matches: &ArgMatches<'a>,
 ) -> Result<Option<Request<'a>>, AllocError> {
-    let [folder, name, rest @ ..] = words else {
+    let (Some(folder), Some((name, rest))) = (matches.get_str("FOLDER"), matches.subcommand())
+    else {
         return Ok(None);
     };
-    let verb = match *name {
-        "append" => read_append(alloc, rest, options)?,
-        "load" | "verify" => read_numbered(name, rest, options),
+    let verb = match name {
+        "append" => read_append(alloc, rest)?,
         _ => read_verb(name, rest),
     };
     match verb {
-        Some(verb) if options.are_of(&verb) => {
-            Ok(Some(Request::new(folder, verb, options.no_sync)))
-        }
-        _ => Ok(None),
+        Some(verb) => Ok(Some(Request::new(folder, verb, rest.get_flag("no-sync")))),
+        None => Ok(None),
     }
 }
 
 fn read_append<'a>(
     alloc: Global,
-    words: &[&'a str],
-    options: Options,
+    matches: &ArgMatches<'a>,
 ) -> Result<Option<Verb<'a>>, AllocError> {
-    let [group, values @ ..] = words else {
+    let (Some(group), Some(values)) = (matches.get_one("GROUP"), matches.get_strs("VALUE")) else {
         return Ok(None);
     };
-    match number(group) {
-        Some(group) if !values.is_empty() => {
-            let values = values.to_vec(alloc)?;
-            Ok(Some(Verb::Append(group, values, options.at)))
-        }
-        _ => Ok(None),
+    let values = values.to_vec(alloc)?;
+    Ok(Some(Verb::Append(group, values, matches.get_one("at"))))
+}
+
+fn read_verb<'a>(name: &str, matches: &ArgMatches<'a>) -> Option<Verb<'a>> {
+    match name {
+        "list" => return Some(Verb::List(matches.get_one("GROUP"))),
+        "groups" => return Some(Verb::Groups),
+        "stat" => return Some(Verb::Stat),
+        "load" | "verify" => return read_load(name, matches),
+        _ => {}
+    }
+    let group = matches.get_one("GROUP")?;
+    match name {
+        "put" => Some(Verb::Put(group, matches.get_str("KEY")?, matches.get_str("VALUE")?)),
+        "get" => Some(Verb::Get(group, matches.get_str("KEY")?)),
+        "del" => Some(Verb::Delete(group, matches.get_str("KEY")?)),
+        "entry" => Some(Verb::Entry(group, matches.get_one("INDEX")?)),
+        "entries" => Some(Verb::Entries(group, matches.get_one("FROM"), matches.get_one("TO"))),
+        "compact" => Some(Verb::Compact(group, matches.get_one("INDEX")?)),
+        "clean" => Some(Verb::Clean(group)),
+        _ => None,
     }
 }
 
-fn read_numbered<'a>(name: &str, words: &[&'a str], options: Options) -> Option<Verb<'a>> {
-    let [count, size] = words else {
-        return None;
-    };
+fn read_load<'a>(name: &str, matches: &ArgMatches<'a>) -> Option<Verb<'a>> {
     let load = Load {
-        count: number(count)?,
-        size: number(size)?,
-        sync_each: options.sync_each.unwrap_or(1),
+        count: matches.get_one("COUNT")?,
+        size: matches.get_one("SIZE")?,
+        sync_each: matches.get_one("sync-each").unwrap_or(1),
     };
     match name {
         "load" => Some(Verb::Load(load)),
@@ -191,31 +211,42 @@ fn read_numbered<'a>(name: &str, words: &[&'a str], options: Options) -> Option<
     }
 }
 
-fn read_verb<'a>(name: &str, words: &[&'a str]) -> Option<Verb<'a>> {
-    let [group, words @ ..] = words else {
-        return match name {
-            "list" => Some(Verb::List(None)),
-            "groups" => Some(Verb::Groups),
-            "stat" => Some(Verb::Stat),
-            _ => None,
-        };
-    };
-    let group = number(group)?;
-    match (name, words) {
-        ("put", [key, value]) => Some(Verb::Put(group, key, value)),
-        ("get", [key]) => Some(Verb::Get(group, key)),
-        ("del", [key]) => Some(Verb::Delete(group, key)),
-        ("list", []) => Some(Verb::List(Some(group))),
-        ("entry", [index]) => Some(Verb::Entry(group, number(index)?)),
-        ("entries", []) => Some(Verb::Entries(group, None, None)),
-        ("entries", [from]) => Some(Verb::Entries(group, Some(number(from)?), None)),
-        ("entries", [from, to]) => Some(Verb::Entries(
-            group,
-            Some(number(from)?),
-            Some(number(to)?),
-        )),
-        ("compact", [index]) => Some(Verb::Compact(group, number(index)?)),
-        ("clean", []) => Some(Verb::Clean(group)),
-        _ => None,
+fn command<'a>(alloc: Global) -> Result<Command<'a>, AllocError> {
+    let mut subcommands = Vec::new(alloc);
+    for form in &FORMS {
+        subcommands.push(subcommand(alloc, form)?)?;
+    }
+    let folder = Word(
+        "FOLDER",
+        Kind::Text,
+        "The folder, which is made where it is missing",
+    );
+    Command::new(alloc, "raftctl")
+        .about("Does one command on a log in a folder")
+        .subcommand_required(true)
+        .arg(argument(alloc, folder))?
+        .subcommands(subcommands)
+}
+
+fn subcommand<'a>(alloc: Global, form: &Form) -> Result<Command<'a>, AllocError> {
+    let mut arguments = Vec::new(alloc);
+    for word in form.words {
+        arguments.push(argument(alloc, *word))?;
+    }
+    Command::new(alloc, form.name)
+        .about(form.about)
+        .args(arguments)
+}
+
+fn argument<'a>(alloc: Global, word: Word) -> Arg<'a> {
+    let Word(name, kind, help) = word;
+    let argument = Arg::new(alloc, name).help(help);
+    match kind {
+        Kind::Text => argument.required(true),
+        Kind::Texts => argument.required(true).num_args(1..),
+        Kind::Number => argument.required(true).value_parser(value_parser!(u64)),
+        Kind::Optional => argument.value_parser(value_parser!(u64)),
+        Kind::Named => argument.long(name).value_parser(value_parser!(u64)),
+        Kind::Flag => argument.long(name).action(ArgAction::SetTrue),
     }
 }

@@ -10,7 +10,8 @@ mod request;
 mod stat;
 
 use anyhow::{Result, anyhow, bail};
-use arguments::{Line, USAGE, parse};
+use arguments::parse;
+use clap::Error;
 use output::Output;
 use raft_disk::DiskFileSystem;
 use raft_log_engine::{Config, Engine, Fault, FileSystem, Fresh};
@@ -23,37 +24,18 @@ use std::process::ExitCode;
 /// keys.
 const ABSENT: u8 = 3;
 
-/// The status where the command line can't be read.
-const MISUSED: u8 = 2;
-
 fn main(rt: HostRuntime) -> ExitCode {
-    match start(rt) {
-        Ok(status) => status,
-        Err(error) => {
-            let _ = eprintln!(rt; "raftctl: {error}");
-            ExitCode::FAILURE
-        }
-    }
-}
-
-fn start(rt: HostRuntime) -> Result<ExitCode> {
-    let words = words(&rt)?;
-    match parse(rt.alloc(), words.as_slice())? {
-        Line::Request(request) => {
-            if run(rt, &request)? {
-                Ok(ExitCode::SUCCESS)
-            } else {
-                Ok(ExitCode::from(ABSENT))
-            }
-        }
-        Line::Help => {
-            println!(rt; "{USAGE}")?;
-            Ok(ExitCode::SUCCESS)
-        }
-        Line::Wrong => {
-            eprintln!(rt; "raftctl: the command line cannot be read\n\n{USAGE}")?;
-            Ok(ExitCode::from(MISUSED))
-        }
+    let words = match words(&rt) {
+        Ok(words) => words,
+        Err(error) => return failed(&rt, &error),
+    };
+    match parse(rt.alloc(), words.as_slice()) {
+        Ok(request) => match run(rt, &request) {
+            Ok(true) => ExitCode::SUCCESS,
+            Ok(false) => ExitCode::from(ABSENT),
+            Err(error) => failed(&rt, &error),
+        },
+        Err(error) => misused(&rt, &error),
     }
 }
 
@@ -63,6 +45,19 @@ fn words(rt: &HostRuntime) -> Result<Vec<String>> {
         words.push(word)?;
     }
     Ok(words)
+}
+
+fn failed(rt: &HostRuntime, error: &anyhow::Error) -> ExitCode {
+    let _ = eprintln!(rt; "raftctl: {error}");
+    ExitCode::FAILURE
+}
+
+// Help is asked for in the same way, and prints with status 0.
+fn misused(rt: &HostRuntime, error: &Error) -> ExitCode {
+    match error.print(rt) {
+        Ok(()) => ExitCode::from(error.exit_code() as u8),
+        Err(_) => ExitCode::FAILURE,
+    }
 }
 
 fn run(rt: HostRuntime, request: &Request<'_>) -> Result<bool> {

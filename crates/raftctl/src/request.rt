@@ -48,7 +48,7 @@ impl<'a> Request<'a> {
 }
 
 impl<'a> Verb<'a> {
-    pub(crate) fn changes(&self) -> bool {
+    fn changes(&self) -> bool {
         matches!(
             self,
             Verb::Put(..)
