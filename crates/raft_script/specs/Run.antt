@@ -160,8 +160,8 @@ IsUnbuilt acts e = (e ≡ fault.Memory) ⊎ ((fault_code e ≡ 1) × (batch_of_a
 abbrev pub IsUnbuiltGroup : List Part → Fault → Type 0
 IsUnbuiltGroup parts e = (e ≡ fault.Memory) ⊎ Any (λ part. IsUnbuilt part.0.items e) parts
 
--- an engine notes no answer to the operation: a read, a write or a group whose batches aren't built,
--- or a compaction for which there was no memory
+-- an engine notes no answer to the operation: a read, a write or a group whose batches aren't
+-- built, or a compaction for which there was no memory
 abbrev pub IsUnnoted : Op → Outcome → Type 0
 IsUnnoted (Write acts sync) (Size (Err e)) = IsUnbuilt acts.items e
 IsUnnoted (WriteGroup parts) (Sizes (Err e)) = IsUnbuiltGroup parts.items e
@@ -192,8 +192,8 @@ IsWriteRefusal m acts fault.Range =
 IsWriteRefusal m acts fault.Failed = IsSome (batch_of_acts acts)
 IsWriteRefusal m acts _ = ⊥
 
--- a batch of a group isn't accepted: since the contents don't take it, by storage, for its length, or
--- for lack of memory
+-- a batch of a group isn't accepted: since the contents don't take it, by storage, for its length,
+-- or for lack of memory
 abbrev pub IsBatchRefusal : Contents → Batch → Fault → Type 0
 IsBatchRefusal m batch fault.Gap = batch_refusal m batch ≡ Some fault.Gap
 IsBatchRefusal m batch fault.Range = IsOutOfRange m batch

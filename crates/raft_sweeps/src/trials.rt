@@ -66,10 +66,7 @@ const GROUP: [Plan; 2] = [
     ]),
 ];
 
-const GROUP_ANSWERS: [Answer; 2] = [
-    Answer::Size(41),
-    Answer::Sizes(&[Ok(28), Err(5), Ok(28)]),
-];
+const GROUP_ANSWERS: [Answer; 2] = [Answer::Size(41), Answer::Sizes(&[Ok(28), Err(5), Ok(28)])];
 
 /// Operations, a stop, what a crash is to leave, the answers, and what is found or the code of the refusal.
 struct Case(
