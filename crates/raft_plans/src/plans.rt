@@ -19,6 +19,11 @@ pub enum Plan {
     Write(&'static [Change], bool),
     Sync,
     Get(u64, &'static [u8]),
+    CompactTo(u64, u64),
+    Entry(u64, u64),
+    First(u64),
+    Last(u64),
+    Groups,
 }
 
 /// What a crash is to leave of the log.
@@ -32,6 +37,11 @@ pub enum Left {
 pub enum Answer {
     Size(usize),
     Value(Option<&'static [u8]>),
+    Count(u64),
+    /// The entry with this index and word.
+    Entry(u64, &'static [u8]),
+    Index(Option<u64>),
+    Groups(&'static [u64]),
     /// It fails with this code.
     Fails(u8),
 }
@@ -77,6 +87,11 @@ fn op_of(alloc: Global, plan: &Plan) -> Result<Op, AllocError> {
         Plan::Write(changes, sync) => Ok(Op::Write(acts_of(alloc, changes)?, *sync)),
         Plan::Sync => Ok(Op::Sync),
         Plan::Get(group, key) => Ok(Op::Get(*group, key.to_vec(alloc)?)),
+        Plan::CompactTo(group, index) => Ok(Op::CompactTo(*group, *index)),
+        Plan::Entry(group, index) => Ok(Op::Entry(*group, *index)),
+        Plan::First(group) => Ok(Op::First(*group)),
+        Plan::Last(group) => Ok(Op::Last(*group)),
+        Plan::Groups => Ok(Op::Groups),
     }
 }
 
@@ -103,6 +118,10 @@ pub fn fault_of(outcome: &Outcome) -> Option<&Fault> {
         Outcome::Size(answer) => answer.as_ref().err(),
         Outcome::Done(answer) => answer.as_ref().err(),
         Outcome::Value(answer) => answer.as_ref().err(),
+        Outcome::Count(answer) => answer.as_ref().err(),
+        Outcome::Entry(answer) => answer.as_ref().err(),
+        Outcome::Index(_) => None,
+        Outcome::Groups(answer) => answer.as_ref().err(),
     }
 }
 
@@ -112,6 +131,12 @@ fn is_answer(outcome: &Outcome, answer: &Answer) -> bool {
         (Outcome::Value(Ok(Some(value))), Answer::Value(Some(wanted))) => value.as_slice()
             == *wanted,
         (Outcome::Value(Ok(None)), Answer::Value(None)) => true,
+        (Outcome::Count(Ok(count)), Answer::Count(wanted)) => *count == *wanted,
+        (Outcome::Entry(Ok(Some(entry))), Answer::Entry(index, word)) => {
+            entry.index == *index && entry.word.as_slice() == *word
+        }
+        (Outcome::Index(index), Answer::Index(wanted)) => *index == *wanted,
+        (Outcome::Groups(Ok(groups)), Answer::Groups(wanted)) => groups.as_slice() == *wanted,
         (_, Answer::Fails(code)) => match fault_of(outcome) {
             Some(fault) => fault.code() == *code,
             None => false,

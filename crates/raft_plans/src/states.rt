@@ -129,6 +129,18 @@ fn after_act(state: State, act: &Act) -> State {
     }
 }
 
+/// How many entries of a group have an index below this one.
+pub fn count_below(state: State, group: u64, index: u64) -> u64 {
+    let before = compacted(state, group, index).words;
+    let mut count: u64 = 0;
+    for (word, left) in state.words.iter().zip(before.iter()) {
+        if *word != *left {
+            count = count.saturating_add(1);
+        }
+    }
+    count
+}
+
 /// The state after an operation that was done.
 pub fn after(state: State, op: &Op) -> State {
     let mut state = state;
@@ -138,7 +150,8 @@ pub fn after(state: State, op: &Op) -> State {
                 state = after_act(state, act);
             }
         }
-        Op::Sync | Op::Get(_, _) => {}
+        Op::CompactTo(group, index) => state = compacted(state, *group, *index),
+        Op::Sync | Op::Get(_, _) | Op::Entry(_, _) | Op::First(_) | Op::Last(_) | Op::Groups => {}
     }
     state
 }
@@ -171,12 +184,16 @@ pub fn state_of(image: &Image) -> State {
     state
 }
 
-/// Whether the operation was done: a write with its record, a sync, a look-up.
+/// Whether the operation was done: a write with its record, a sync, a compaction, a read.
 pub fn is_done(outcome: &Outcome) -> bool {
     match outcome {
         Outcome::Size(answer) => answer.is_ok(),
         Outcome::Done(answer) => answer.is_ok(),
         Outcome::Value(answer) => answer.is_ok(),
+        Outcome::Count(answer) => answer.is_ok(),
+        Outcome::Entry(answer) => answer.is_ok(),
+        Outcome::Index(_) => true,
+        Outcome::Groups(answer) => answer.is_ok(),
     }
 }
 
@@ -190,7 +207,7 @@ fn covers(op: &Op) -> bool {
     match op {
         Op::Write(_, sync) => *sync,
         Op::Sync => true,
-        Op::Get(_, _) => false,
+        _ => false,
     }
 }
 
@@ -245,6 +262,6 @@ pub const OPERATIONS: [Plan; 13] = [
         &[Change::Entries(3, 3, 5, b"y"), Change::Put(1, b"b", &[7])],
         true,
     ),
-    Plan::Write(&[Change::Compact(3, 2)], false),
+    Plan::CompactTo(3, 2),
     Plan::Write(&[Change::Clean(2), Change::Compact(3, 4)], false),
 ];

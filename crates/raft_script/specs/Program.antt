@@ -7,7 +7,8 @@ use Rattle.raft_log_engine.specs.declared.engine.Engine.{Engine}
 use Rattle.raft_log_engine.specs.Crash.{contents_after_crash}
 use Rattle.raft_log_engine.specs.Engine.{contents_of, directory_of, has_failed}
 use Rattle.raft_records.specs.Contents.{Contents, after_batches, no_contents}
-use Rattle.raft_script.specs.Line.{Asked, Nothing, Reopen, Crash, asked_by_op}
+use Rattle.raft_script.specs.Entry.{range_of}
+use Rattle.raft_script.specs.Line.{Asked, Nothing, Range, Reopen, Crash, asked_by_op}
 use Rattle.raft_script.specs.Run.{IsAnswer, accepted_of}
 use Rattle.raft_script.specs.declared.answer.Answer.{Answer}
 use Rattle.raft_script.specs.declared.answer.Answer.TheVariants as answer
@@ -20,7 +21,7 @@ module _ {F H R W : Type 0} {g : Ghosts F H R W} where
     pub op : Op
     pub does : asked_by_op op ≡ Some asked
     pub answer : (m : Contents) → (has_failed old ≡ false → m ≡ contents_of old)
-        → IsAnswer m op outcome
+        → IsAnswer (has_failed old) m op outcome
     pub contents : has_failed new ≡ false
         → contents_of new
         ≡ after_batches (contents_of old) (accepted_of (contents_of old) op outcome)
@@ -39,6 +40,8 @@ module _ {F H R W : Type 0} {g : Ghosts F H R W} where
   abbrev pub AnswersAsked : Asked → Answer → Engine F H R W g → Engine F H R W g → Type 0
   AnswersAsked Reopen answer.Done old new = contents_of new ≡ contents_of old
   AnswersAsked (Crash choice) answer.Done old new = HoldsAfterCrash old new
+  AnswersAsked (Range group) (answer.Range range) old new =
+      (new ≡ old) × (has_failed old ≡ false → range ≡ range_of ((contents_of old).entries group))
   AnswersAsked asked (answer.Outcome outcome) old new = IsAnswered asked outcome old new
   AnswersAsked asked _ old new = ⊥
 

@@ -1,8 +1,10 @@
 -- What operations are answered, and what they leave.
-use Rattle.std.specs.Prelude.{◌≡◌, ◌⊎◌, ◌||◌, ℕ, zero, suc, ◌+◌, ◌-◌, ◌^◌, ◌≤◌, length, map, min, take, Bool, true, false, List, [], ◌∷◌, ◌++◌, Option, Some, None, is_some, option_map, Result, Ok, Err, is_ok, MatchResult, IsErrAnd, IsSome, IsSomeAnd, if◌then◌else◌}
-use Rattle.std.specs.List.{count_by}
+use Rattle.std.specs.Prelude.{◌≡◌, ◌⊎◌, ◌||◌, ℕ, zero, suc, ◌+◌, ◌-◌, ◌^◌, ◌≤◌, length, map, min, nat_eq, take, Bool, true, false, List, [], ◌∷◌, ◌++◌, Option, Some, None, is_some, option_map, Result, Ok, Err, is_ok, MatchResult, IsErrAnd, IsSome, IsSomeAnd, if◌then◌else◌}
+use Rattle.std.specs.List.{count_by, list_any}
+use Rattle.std.specs.List.Sorted.{IsStrictlySortedBy}
+use Rattle.std.specs.Ordering.{nat_cmp}
 use Rattle.raft_records.specs.Batch.{is_internal_key}
-use Rattle.raft_records.specs.Contents.{Contents, after_batches}
+use Rattle.raft_records.specs.Contents.{Contents, after_batches, first_index_of, last_index_of}
 use Rattle.raft_records.specs.Item.{Batch, Clean, Compact, Delete, Entries, Entry, Put}
 use Rattle.raft_records.specs.Layout.{entry_bytes}
 use Rattle.raft_records.specs.Validity.{IsValidBatch, batch_refusal}
@@ -13,13 +15,17 @@ use Rattle.raft_env.specs.Refusal.{NoFewer, Refusals, StorageRefusalsRose}
 use Rattle.raft_log_engine.specs.Cause.{IsOutOfRange}
 use Rattle.raft_log_engine.specs.Crash.{pending_of, written_batch}
 use Rattle.raft_log_engine.specs.Engine.{record_len}
-use Rattle.raft_script.specs.Entry.{entry_of_text}
+use Rattle.raft_log_engine.specs.Image.{IsWithout}
+use Rattle.raft_log_engine.specs.Reads.{IsEntryAnswer, IsEntryRefusalAt, compact_batch, compact_count, entry_of}
+use Rattle.raft_script.specs.Entry.{IsTextOf, entry_of_text, index_of}
 use Rattle.raft_script.specs.declared.operation.Act.{Act}
 use Rattle.raft_script.specs.declared.operation.Act.TheVariants as act
 use Rattle.raft_script.specs.declared.operation.Op.{Op}
-use Rattle.raft_script.specs.declared.operation.Op.TheVariants.{Write, Sync, Get}
+use Rattle.raft_script.specs.declared.operation.Op.TheVariants as operation
+use Rattle.raft_script.specs.declared.operation.Op.TheVariants.{Write, Sync, Get, CompactTo, First, Last}
 use Rattle.raft_script.specs.declared.operation.Outcome.{Outcome}
-use Rattle.raft_script.specs.declared.operation.Outcome.TheVariants.{Size, Done, Value}
+use Rattle.raft_script.specs.declared.operation.Outcome.TheVariants as reply
+use Rattle.raft_script.specs.declared.operation.Outcome.TheVariants.{Size, Done, Value, Count, Index}
 
 -- entries as one item, and nothing for none
 abbrev pub entries_items : ℕ → List Entry → Batch
@@ -59,14 +65,22 @@ abbrev pub written_batches : Option Batch → List Batch
 written_batches None = []
 written_batches (Some batch) = written_batch batch
 
+-- what a compaction writes of a group of these contents
+abbrev pub compaction_in : Contents → ℕ → ℕ → Batch
+compaction_in m group index = compact_batch group index (m.entries group)
+
 -- what an engine that had failed or not is given to write in the operation, at these contents
 abbrev pub IsGiven : Bool → Contents → Op → List Batch → Type 0
 IsGiven failed m (Write acts sync) given = given ≡ written_batches (batch_of_acts acts.items)
+IsGiven failed m (CompactTo group index) given =
+    given ≡ (if failed then [] else written_batch (compaction_in m group index))
 IsGiven failed m _ given = given ≡ []
 
 -- the batch that the operation wrote, at these contents
 abbrev pub accepted_of : Contents → Op → Outcome → List Batch
 accepted_of m (Write acts sync) (Size (Ok len)) = written_batches (batch_of_acts acts.items)
+accepted_of m (CompactTo group index) (Count (Ok count)) =
+    written_batch (compaction_in m group index)
 accepted_of m _ _ = []
 
 -- the batches of the accepted writes, in order, from these contents on
@@ -91,13 +105,21 @@ pending_batches m (Some batch) = pending_of m batch
 -- what may have been written in part, or whole, when a crash came in the operation
 abbrev pub MayBeInFlight : Contents → Op → List Batch → Type 0
 MayBeInFlight m (Write acts sync) flight = flight ≡ pending_batches m (batch_of_acts acts.items)
+MayBeInFlight m (CompactTo group index) flight =
+    flight ≡ pending_of m (compaction_in m group index)
 MayBeInFlight m _ flight = flight ≡ []
 
--- the operation doesn't change the engine: a get, or a write of acts without a batch
+-- the operation doesn't change the engine: a get, an index, the groups, or a write of acts without
+-- a batch
 abbrev pub IsUnasked : Op → Type 0
 IsUnasked (Write acts sync) = batch_of_acts acts.items ≡ None
 IsUnasked Sync = ⊥
 IsUnasked (Get group key) = Unit {0}
+IsUnasked (CompactTo group index) = ⊥
+IsUnasked (operation.Entry group index) = ⊥
+IsUnasked (First group) = Unit {0}
+IsUnasked (Last group) = Unit {0}
+IsUnasked operation.Groups = Unit {0}
 
 -- no batch of these acts could be built: one of them can't be done, there was no memory, or they
 -- have too many bytes of entries
@@ -105,10 +127,16 @@ abbrev pub IsUnbuilt : List Act → Fault → Type 0
 IsUnbuilt acts e = (e ≡ fault.Memory) ⊎ ((fault_code e ≡ 1) × (batch_of_acts acts ≡ None))
     ⊎ ((e ≡ fault.Range) × IsOversized acts)
 
--- an engine notes no answer to the operation: a get, or a write whose batch isn't built
+-- an engine notes no answer to the operation: a read, a write whose batch isn't built, or a
+-- compaction for which there was no memory
 abbrev pub IsUnnoted : Op → Outcome → Type 0
 IsUnnoted (Write acts sync) (Size (Err e)) = IsUnbuilt acts.items e
 IsUnnoted (Get group key) _ = Unit {0}
+IsUnnoted (CompactTo group index) (Count (Err e)) = e ≡ fault.Memory
+IsUnnoted (operation.Entry group index) _ = Unit {0}
+IsUnnoted (First group) _ = Unit {0}
+IsUnnoted (Last group) _ = Unit {0}
+IsUnnoted operation.Groups _ = Unit {0}
 IsUnnoted _ _ = ⊥
 
 -- a write that was answered had a batch that the contents take, and is answered with its record's
@@ -142,23 +170,57 @@ IsGetRefusal fault.Memory = Unit {0}
 IsGetRefusal fault.Failed = Unit {0}
 IsGetRefusal _ = ⊥
 
--- an operation is answered so, or fails so, at these contents
-abbrev pub IsAnswer : Contents → Op → Outcome → Type 0
-IsAnswer m (Write acts sync) (Size answer) =
+-- an entry isn't read as one of text, or the engine fails the call
+abbrev pub IsTextRefusal : ℕ → Option (List ℕ) → Fault → Type 0
+IsTextRefusal index bytes e = IsEntryRefusalAt IsTextOf index_of index bytes e ⊎ IsEngineRefusal e
+
+-- groups in order, each once, and all that have entries or keys
+pub record AreGroupsOf (m : Contents) (groups : List ℕ) : Type 0 where
+  pub ascending : IsStrictlySortedBy nat_cmp groups
+  pub others : (group : ℕ) → list_any (nat_eq group) groups ≡ false → IsWithout m group
+
+-- an operation is answered so, or fails so, by an engine that had failed or not, at these contents;
+-- of an engine that had failed nothing is said of indexes
+abbrev pub IsAnswer : Bool → Contents → Op → Outcome → Type 0
+IsAnswer failed m (Write acts sync) (Size answer) =
     MatchResult answer (IsWritten m acts.items) (IsWriteRefusal m acts.items)
-IsAnswer m Sync (Done answer) = MatchResult answer (λ _. Unit {0}) IsEngineRefusal
-IsAnswer m (Get group key) (Value answer) =
+IsAnswer failed m Sync (Done answer) = MatchResult answer (λ _. Unit {0}) IsEngineRefusal
+IsAnswer failed m (Get group key) (Value answer) =
     MatchResult answer (λ value. option_map (λ v. v.items) value
     ≡ m.value group key.items) IsGetRefusal
-IsAnswer m _ _ = ⊥
+IsAnswer failed m (CompactTo group index) (Count answer) = MatchResult answer (λ count.
+    count ≡ compact_count index (m.entries group)) IsEngineRefusal
+IsAnswer failed m (operation.Entry group index) (reply.Entry answer) =
+    MatchResult answer (IsEntryAnswer IsTextOf index_of index (entry_of m group index))
+    (IsTextRefusal index (entry_of m group index))
+IsAnswer failed m (First group) (Index index) =
+    failed ≡ false → index ≡ first_index_of (m.entries group)
+IsAnswer failed m (Last group) (Index index) =
+    failed ≡ false → index ≡ last_index_of (m.entries group)
+IsAnswer failed m operation.Groups (reply.Groups answer) =
+    MatchResult answer (λ groups. AreGroupsOf m groups.items) IsGetRefusal
+IsAnswer failed m _ _ = ⊥
 
--- each operation is answered at the contents that those before it leave
-abbrev pub AreAnswers : Contents → List Op → List Outcome → Type 0
-AreAnswers m [] [] = Unit {0}
-AreAnswers m (op ∷ ops) (outcome ∷ outcomes) =
-    IsAnswer m op outcome
-    × AreAnswers (after_batches m (accepted_of m op outcome)) ops outcomes
-AreAnswers m _ _ = ⊥
+-- whether an engine that had failed or not has failed after an operation, where it fails in the one
+-- at this place
+abbrev pub failed_after : Option ℕ → Bool → Bool
+failed_after (Some zero) failed = true
+failed_after failed_at failed = failed
+
+-- the place, counted from the next operation on
+abbrev pub place_after : Option ℕ → Option ℕ
+place_after (Some (suc place)) = Some place
+place_after failed_at = None
+
+-- each operation is answered at the contents that those before it leave, by an engine that had
+-- failed or not before them, and fails in the one at this place, if any
+abbrev pub AreAnswers : Bool → Option ℕ → Contents → List Op → List Outcome → Type 0
+AreAnswers failed failed_at m [] [] = Unit {0}
+AreAnswers failed failed_at m (op ∷ ops) (outcome ∷ outcomes) =
+    IsAnswer failed m op outcome
+    × AreAnswers (failed_after failed_at failed) (place_after failed_at)
+    (after_batches m (accepted_of m op outcome)) ops outcomes
+AreAnswers failed failed_at m _ _ = ⊥
 
 -- storage's refusal
 abbrev pub is_io : {T : Type 0} → Result T Fault → Bool
@@ -170,6 +232,10 @@ abbrev pub is_refused_by_storage : Outcome → Bool
 is_refused_by_storage (Size answer) = is_io answer
 is_refused_by_storage (Done answer) = is_io answer
 is_refused_by_storage (Value answer) = is_io answer
+is_refused_by_storage (Count answer) = is_io answer
+is_refused_by_storage (reply.Entry answer) = is_io answer
+is_refused_by_storage (Index index) = false
+is_refused_by_storage (reply.Groups answer) = is_io answer
 
 -- how many of the operations failed in storage
 abbrev pub io_count : List Outcome → ℕ
@@ -207,14 +273,24 @@ pub record FailsBy {T : Type 0} (failed : Bool) (answer : Result T Fault) (fails
   -- it fails by storage or for lack of memory alone
   pub cause : failed ≡ false → fails ≡ true → IsErrAnd answer IsStorageOrMemory
 
--- .. in an operation; a failed sync fails the engine, and a get doesn't
+-- .. and has failed or not as before
+abbrev pub IsSteadyBy : {T : Type 0} → Bool → Result T Fault → Bool → Type 0
+IsSteadyBy failed answer fails = FailsBy failed answer fails (λ _. ⊥) × (fails ≡ failed)
+
+-- .. in an operation; a failed sync fails the engine, and a read doesn't
 abbrev pub IsFailing : Bool → Op → Outcome → Bool → Type 0
 IsFailing failed (Write acts sync) (Size answer) fails =
     FailsBy failed answer fails (IsUnbuilt acts.items)
 IsFailing failed Sync (Done answer) fails =
     FailsBy failed answer fails (λ _. ⊥) × (is_ok answer ≡ false → fails ≡ true)
-IsFailing failed (Get group key) (Value answer) fails =
-    FailsBy failed answer fails (λ _. ⊥) × (fails ≡ failed)
+IsFailing failed (Get group key) (Value answer) fails = IsSteadyBy failed answer fails
+IsFailing failed (CompactTo group index) (Count answer) fails =
+    FailsBy failed answer fails (λ _. ⊥)
+IsFailing failed (operation.Entry group index) (reply.Entry answer) fails =
+    IsSteadyBy failed answer fails
+IsFailing failed (First group) (Index index) fails = fails ≡ failed
+IsFailing failed (Last group) (Index index) fails = fails ≡ failed
+IsFailing failed operation.Groups (reply.Groups answer) fails = IsSteadyBy failed answer fails
 IsFailing failed _ _ fails = ⊥
 
 -- each of the operations leaves the engine as it found it, failed or standing

@@ -23,6 +23,16 @@ pub enum Op {
     Write(Vec<Act>, bool),
     Sync,
     Get(u64, Vec<u8>),
+    /// The group's entries below the index go.
+    CompactTo(u64, u64),
+    /// The group's entry with the index.
+    Entry(u64, u64),
+    /// The index of the group's first entry.
+    First(u64),
+    /// The index of the group's last entry.
+    Last(u64),
+    /// The groups that the engine knows.
+    Groups,
 }
 
 /// What an operation was answered: a write with the length of its record.
@@ -31,6 +41,12 @@ pub enum Outcome {
     Size(Result<usize, Fault>),
     Done(Result<(), Fault>),
     Value(Result<Option<Vec<u8>>, Fault>),
+    /// How many entries went.
+    Count(Result<u64, Fault>),
+    Entry(Result<Option<TextEntry>, Fault>),
+    /// Of an engine that had failed it says nothing.
+    Index(Option<u64>),
+    Groups(Result<Vec<u64>, Fault>),
 }
 
 /// What a trial showed.

@@ -27,17 +27,17 @@ pub(crate) struct RunReport {
 /// Does the operations in order, each with its outcome. Where there is no memory for the list of outcomes, the engine
 /// is not asked.
 ///
-/// The engine notes what there was each time that it answered a write or a sync, and what that call was to write. A
-/// crash after one note and up to the next leaves, if its damage is detectable, a prefix of the batches accepted
-/// before that operation, or all of them and a prefix of its own batch, with every one that an answered sync
-/// covered before it. Once the operation is answered and the engine stands, a crash leaves a prefix of what was
+/// The engine notes what there was each time that it answered a write, a compaction or a sync, and what that call was
+/// to write. A crash after one note and up to the next leaves, if its damage is detectable, a prefix of the batches
+/// accepted before that operation, or all of them and a prefix of its own batch, with every one that an answered
+/// sync covered before it. Once the operation is answered and the engine stands, a crash leaves a prefix of what was
 /// accepted by then, with every covered write. Each answer says whether the engine failed, and a call of a failed
-/// engine adds no moment. A get, and a write whose batch can't be built, have no note of their own: moments in them,
-/// if any, count to the next call that is noted.
+/// engine adds no moment. Reads, a write whose batch can't be built, and a compaction for which there was no memory
+/// have no note of their own: moments in them, if any, count to the next call that is noted.
 ///
 /// After the operations the accepted batches that are covered are durable, and no more, and the others stand
-/// unsynced. At least as many calls as answer `Io` were refused by storage. Where all operations are gets and writes
-/// of acts without a batch, the engine stays as it was. The settings' folder stays, and so does the engine's note of the
+/// unsynced. At least as many calls as answer `Io` were refused by storage. Where all operations are reads, but of
+/// entries, and writes of acts without a batch, the engine stays as it was. The settings' folder stays, and so does the engine's note of the
 /// files that its opening found.
 pub fn run<F: FileSystem>(
     alloc: Global,
@@ -96,7 +96,7 @@ pub(crate) fn run_watched<F: FileSystem>(
 
 pub(crate) fn step<F: FileSystem>(alloc: Global, engine: &mut Engine<F>, op: &Op) -> Outcome
     ensures value { (m : Contents) → (has_failed engine.old ≡ false → m ≡ contents_of engine.old)
-        → IsAnswer m op.now result }
+        → IsAnswer (has_failed engine.old) m op.now result }
     ensures failed { IsFailing (has_failed engine.old) op.now result (has_failed engine.new) }
     ensures unchanged { IsUnasked op.now → engine.new ≡ engine.old }
     ensures refused { Refuses result (refusals_of engine.old) (refusals_of engine.new) }
@@ -116,6 +116,11 @@ pub(crate) fn step<F: FileSystem>(alloc: Global, engine: &mut Engine<F>, op: &Op
         },
         Op::Sync => Outcome::Done(engine.sync()),
         Op::Get(group, key) => Outcome::Value(engine.get(*group, key)),
+        Op::CompactTo(group, index) => Outcome::Count(engine.compact_to(*group, *index)),
+        Op::Entry(group, index) => Outcome::Entry(engine.get_entry::<TextEntry>(*group, *index)),
+        Op::First(group) => Outcome::Index(engine.first_index(*group)),
+        Op::Last(group) => Outcome::Index(engine.last_index(*group)),
+        Op::Groups => Outcome::Groups(engine.raft_groups()),
     }
 }
 

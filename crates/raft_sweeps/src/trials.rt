@@ -27,23 +27,33 @@ const ANSWERS: [Answer; 4] = [
     Answer::Value(Some(&[2])),
 ];
 
-/// Entries, of which some don't follow those before them.
-const ENTRIES: [Plan; 4] = [
+/// Entries, of which some don't follow those before them, and reads of them.
+const ENTRIES: [Plan; 9] = [
     Plan::Write(&[Change::Entries(3, 1, 3, b"w")], false),
     Plan::Write(
         &[Change::Put(1, b"a", &[1]), Change::Entries(3, 5, 5, b"w")],
         true,
     ),
     Plan::Write(&[Change::Entries(3, 4, 4, b"w")], true),
+    Plan::CompactTo(3, 2),
     Plan::Write(&[Change::Entries(3, 3, 3, b"x")], false),
+    Plan::Entry(3, 3),
+    Plan::First(3),
+    Plan::Last(3),
+    Plan::Groups,
 ];
 
 /// A record of three entries of three bytes is 16 + 9 + 4 + 8 + 4 bytes long, one of one entry 16 + 3 + 4 + 6 + 4.
-const ENTRY_ANSWERS: [Answer; 4] = [
+const ENTRY_ANSWERS: [Answer; 9] = [
     Answer::Size(41),
     Answer::Fails(5),
     Answer::Size(33),
+    Answer::Count(1),
     Answer::Size(33),
+    Answer::Entry(3, b"x"),
+    Answer::Index(Some(2)),
+    Answer::Index(Some(3)),
+    Answer::Groups(&[3]),
 ];
 
 /// Operations, a stop, what a crash is to leave, the answers, and what is found or the code of the refusal.
@@ -70,7 +80,7 @@ const CASES: [Case; 8] = [
         Left::All,
         &ENTRY_ANSWERS,
         Ok(State {
-            words: [0, b'w', b'w', b'x', 0, 0, 0, 0],
+            words: [0, 0, b'w', b'x', 0, 0, 0, 0],
             ..EMPTY
         }),
     ),

@@ -1,10 +1,12 @@
 use Rattle.std.proofs.Common.{◌≡◌, ◌∙◌, ◌∷◌, [], List, Some, ap, inl, inr, refl, rules, sym}
+use Rattle.raft_records.specs.Contents.{Contents, first_index_of, last_index_of}
 use Rattle.raft_records.specs.Item.{Batch}
-use Rattle.raft_log_engine.specs.Durability.{durability_of}
-use Rattle.raft_log_engine.specs.Engine.{answer_now, answered_of, contents_of, directory_of, durable_of, folder_of, moments_of, unsynced_of}
+use Rattle.raft_log_engine.specs.Durability.{Durability, durability_of}
+use Rattle.raft_log_engine.specs.Engine.{answer_now, answered_of, contents_of, directory_of, durable_of, folder_of, has_failed, is_known_in, moments_of, refusals_of, unsynced_of}
 use Rattle.raft_script.specs.Run.{batch_of_acts, pending_batches, written_batches}
 use Rattle.raft_script.proofs.DurabilityLemmas.{moments_of_batch, written_progress}
-use Rattle.raft_script.proofs.RunLemmas.{write_answered}
+use Rattle.raft_script.proofs.RunAnswersLemmas.{does_compact, does_read, read_same}
+use Rattle.raft_script.proofs.RunLemmas.{compaction_answered, entry_answered, entry_rose, groups_answered, steady_by, write_answered}
 use Rattle.raft_script.proofs.runs.step.Goals as goal
 
 pub returns-in-Ok-clause-value : goal.returns-in-Ok-clause-value
@@ -44,18 +46,11 @@ returns-in-Err-clause-progress g c =
       given = written_batches (batch_of_acts acts.items);
       is_given = refl;
       progress = inl (record { none = refl; covers_none = refl; failed = refl; durable = refl; unsynced = refl });
-      answers = inl (search rules, refl {a = c.args.engine.now});
+      answers = inl (search rules, read_same c.args.engine.now);
     })
 
 pub returns-in-Get-clause-progress : goal.returns-in-Get-clause-progress
-returns-in-Get-clause-progress g c = rw c.in-Get.is (record {
-  flight = [];
-  may_be = refl;
-  given = [];
-  is_given = refl;
-  progress = inl (record { none = refl; covers_none = refl; failed = refl; durable = refl; unsynced = refl });
-  answers = inl (tt, refl {a = c.args.engine.now});
-})
+returns-in-Get-clause-progress g c = let e = c.args.engine.now in rw c.in-Get.is (does_read e e _ _ tt (read_same e) refl refl refl refl)
 
 pub returns-in-Sync-clause-progress : goal.returns-in-Sync-clause-progress
 returns-in-Sync-clause-progress g c = rw c.in-Sync.is (record {
@@ -74,3 +69,66 @@ returns-in-Ok-clause-failed g c = rw c.in-Write.is (record {
   refused = λ failed. search rules;
   cause = λ alive fails. search rules;
 })
+
+pub returns-in-CompactTo-clause-value : goal.returns-in-CompactTo-clause-value
+returns-in-CompactTo-clause-value g c =
+    let compaction = c.compact_to.ensures in
+    let e = c.args.engine.now in
+    rw c.in-CompactTo.is (λ m same. compaction_answered m (contents_of e) c.in-CompactTo.group c.in-CompactTo.index (has_failed e) (folder_of e) (refusals_of e) (refusals_of c.compact_to.new.self) same c.compact_to.result compaction.value compaction.failed compaction.cause)
+
+pub returns-in-CompactTo-clause-progress : goal.returns-in-CompactTo-clause-progress
+returns-in-CompactTo-clause-progress g c =
+    let e = c.args.engine.now in
+    let n = c.compact_to.new.self in
+    let result = c.compact_to.result in
+    rw c.in-CompactTo.is (does_compact e n c.in-CompactTo.group c.in-CompactTo.index result c.compact_to.ensures.progress c.compact_to.ensures.any_moment c.compact_to.ensures.answered c.compact_to.ensures.unchanged)
+
+pub returns-in-Entry-clause-value : goal.returns-in-Entry-clause-value
+returns-in-Entry-clause-value g c =
+    let e = c.args.engine.now in
+    let read = c.get_entry.ensures in
+    rw c.in-Entry.is (λ m same. entry_answered m (contents_of e) c.in-Entry.group c.in-Entry.index (has_failed e) (folder_of e) (refusals_of e) (refusals_of c.get_entry.new.self) same c.get_entry.result read.value read.failed read.cause)
+
+pub returns-in-Entry-clause-failed : goal.returns-in-Entry-clause-failed
+returns-in-Entry-clause-failed g c =
+    let e = c.args.engine.now in
+    let n = c.get_entry.new.self in
+    rw c.in-Entry.is (steady_by (has_failed e) (has_failed n) c.get_entry.result c.get_entry.ensures.failed (ap (λ (d : Durability). d.failed) c.get_entry.ensures.unchanged.state))
+
+pub returns-in-Entry-clause-refused : goal.returns-in-Entry-clause-refused
+returns-in-Entry-clause-refused g c =
+    let e = c.args.engine.now in
+    let n = c.get_entry.new.self in
+    let read = c.get_entry.ensures in (
+      read.unchanged.refusals,
+      entry_rose (contents_of e) (contents_of e) c.in-Entry.group c.in-Entry.index (has_failed e) (folder_of e) (refusals_of e) (refusals_of n) (λ _. refl) c.get_entry.result read.failed read.cause,
+    )
+
+pub returns-in-Entry-clause-progress : goal.returns-in-Entry-clause-progress
+returns-in-Entry-clause-progress g c = rw c.in-Entry.is (does_read c.args.engine.now c.get_entry.new.self _ _ tt c.get_entry.ensures.unchanged refl refl refl refl)
+
+pub returns-in-First-clause-value : goal.returns-in-First-clause-value
+returns-in-First-clause-value g c = rw c.in-First.is (λ m same stands. c.first_index.ensures.value stands ∙ ap (λ (x : Contents). first_index_of (x.entries c.in-First.group)) (sym (same stands)))
+
+pub returns-in-First-clause-progress : goal.returns-in-First-clause-progress
+returns-in-First-clause-progress g c = let e = c.args.engine.now in rw c.in-First.is (does_read e e _ _ tt (read_same e) refl refl refl refl)
+
+pub returns-in-Last-clause-value : goal.returns-in-Last-clause-value
+returns-in-Last-clause-value g c = rw c.in-Last.is (λ m same stands. c.last_index.ensures.value stands ∙ ap (λ (x : Contents). last_index_of (x.entries c.in-Last.group)) (sym (same stands)))
+
+pub returns-in-Last-clause-progress : goal.returns-in-Last-clause-progress
+returns-in-Last-clause-progress g c = let e = c.args.engine.now in rw c.in-Last.is (does_read e e _ _ tt (read_same e) refl refl refl refl)
+
+pub returns-in-Groups-clause-value : goal.returns-in-Groups-clause-value
+returns-in-Groups-clause-value g c =
+    let e = c.args.engine.now in
+    let told = c.raft_groups.ensures in
+    rw c.in-Groups.is (λ m same. groups_answered m (contents_of e) (has_failed e) same (is_known_in e) c.raft_groups.result told.value told.failed told.cause)
+
+pub returns-in-Groups-clause-failed : goal.returns-in-Groups-clause-failed
+returns-in-Groups-clause-failed g c =
+    let e = c.args.engine.now in
+    rw c.in-Groups.is (steady_by (has_failed e) (has_failed e) c.raft_groups.result c.raft_groups.ensures.failed refl)
+
+pub returns-in-Groups-clause-progress : goal.returns-in-Groups-clause-progress
+returns-in-Groups-clause-progress g c = let e = c.args.engine.now in rw c.in-Groups.is (does_read e e _ _ tt (read_same e) refl refl refl refl)
