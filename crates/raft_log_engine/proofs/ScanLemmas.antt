@@ -1,13 +1,13 @@
 -- What a scan goes over, and what of it is left to hand over.
-use Rattle.std.proofs.Common.{◌≡◌, ◌∙◌, ◌<◌, ◌+◌, ◌∷◌, ◌++◌, [], List, ℕ, Bool, true, false, cond, Bor, Option, None, refl, sym, ap, subst, inl, inr, length, map, reverse, drop, get_or}
+use Rattle.std.proofs.Common.{◌≡◌, ◌⊎◌, append_assoc, ◌∙◌, ◌<◌, ◌+◌, ◌∷◌, ◌++◌, [], List, ℕ, Bool, true, false, cond, Bor, Option, None, refl, sym, ap, subst, inl, inr, length, map, reverse, drop, get_or}
 use Rattle.std.specs.List.Sorted.{IsStrictlySortedBy}
 use Rattle.std.proofs.lemmas.Fn.{called}
-use Rattle.std.proofs.lemmas.List.{drop_more, map-append, reverse-append, reverse-reverse}
+use Rattle.std.proofs.lemmas.List.{append-nil, drop_more, map-append, reverse-append, reverse-reverse}
 use Rattle.std.specs.Fn.{Called}
 use denote.Param.Members.{Mut}
 use Rattle.raft_records.specs.Contents.{Contents}
 use Rattle.raft_tables.specs.Listing.{IsListing, IsWithoutKeys, is_between, lent_pairs, value_between}
-use Rattle.raft_log_engine.specs.Scan.{AreBegun, AreHandedOver, CalledAtKey, IsScan}
+use Rattle.raft_log_engine.specs.Scan.{AreBegun, AreHandedOver, CalledAtKey, IsScan, IsScanned}
 
 reverse-map : {X Y : Type 0} (f : X → Y) (xs : List X) → reverse (map f xs) ≡ map f (reverse xs)
 reverse-map f [] = refl
@@ -47,3 +47,19 @@ module _ {F : Type 0} (called : F → List ℕ → List ℕ → Bool → F → T
 
 pub called_at_key : {F M : Type 0} (g : Mut F (Bor (List ℕ) × (M × Unit {0})) Bool) {f next : F} {key : Bor (List ℕ)} {message : M} {answer is : Bool} → Called g f (key, (message, tt)) answer next → answer ≡ is → CalledAtKey g f key.now message is next
 called_at_key g {key = key} call same = record { shown = key; shows = refl; called = called g call same }
+
+-- what each call keeps holds after all of them, or what a false answer leaves
+handed_by : {F V : Type 0} (called : F → List ℕ → V → Bool → F → Type 0) (xs ps : List (List ℕ × V)) (f last : F) → AreHandedOver called f ps last → (J : List (List ℕ × V) → F → Type 0) (K : F → Type 0) → J xs f
+    → ((xs : List (List ℕ × V)) (f : F) (key : List ℕ) (value : V) (next : F) → J xs f → called f key value true next → J (xs ++ (key, value) ∷ []) next)
+    → ((xs : List (List ℕ × V)) (f : F) (key : List ℕ) (value : V) (next : F) → J xs f → called f key value false next → K next)
+    → J (xs ++ ps) last ⊎ K last
+handed_by called xs [] f last is J K j goes stops = inl (subst (λ ys. J ys last) (sym (append-nil xs)) (subst (J xs) (sym is) j))
+handed_by called xs (p ∷ ps) f last (inl stop) J K j goes stops = inr (stops xs f p.0 p.1 last j stop)
+handed_by called xs (p ∷ ps) f last (inr more) J K j goes stops =
+    subst (λ ys. J ys last ⊎ K last) (append_assoc xs (p ∷ []) ps) (handed_by called (xs ++ p ∷ []) ps more.0 last more.2 J K (goes xs f p.0 p.1 more.0 j more.1) goes stops)
+
+pub scanned_by : {F : Type 0} {called : F → List ℕ → List ℕ → Bool → F → Type 0} {m : Contents} {group : ℕ} {start end : Option (List ℕ)} {reversed : Bool} {first last : F} (ran : IsScanned called m group start end reversed first last) (J : F → List (List ℕ × List ℕ) → F → Type 0) (K : F → F → Type 0) → J first [] first
+    → ((from : F) (xs : List (List ℕ × List ℕ)) (f : F) (key value : List ℕ) (next : F) → J from xs f → called f key value true next → J from (xs ++ (key, value) ∷ []) next)
+    → ((from : F) (xs : List (List ℕ × List ℕ)) (f : F) (key value : List ℕ) (next : F) → J from xs f → called f key value false next → K from next)
+    → J first ran.pairs last ⊎ K first last
+scanned_by {called = called} {first = first} {last = last} ran J K j goes stops = handed_by called [] ran.pairs first last ran.handed (J first) (K first) j (goes first) (stops first)

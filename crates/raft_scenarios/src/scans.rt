@@ -51,44 +51,62 @@ fn fill<F: FileSystem>(alloc: Global, engine: &mut Engine<F>) -> Result<usize, F
     engine.write(&mut batch, false)
 }
 
+/// What a callback was handed.
+struct Handed {
+    keys: &'static [&'static [u8]],
+    calls: usize,
+    last: usize,
+    same: bool,
+}
+
+impl Handed {
+    fn takes(&mut self, key: &[u8], value: &[u8]) -> bool {
+        self.same =
+            self.same && self.keys.get(self.calls) == Some(&key) && value == b"v".as_slice();
+        self.calls = self.calls.saturating_add(1);
+        self.calls < self.last
+    }
+
+    fn takes_message(&mut self, key: &[u8], entry: &TextEntry) -> bool {
+        self.same = self.same && entry.index == 7 && entry.word.as_slice() == b"w".as_slice();
+        self.takes(key, b"v")
+    }
+}
+
 fn is_handed_over<F: FileSystem>(engine: &Engine<F>, scan: &Scan) -> bool {
     let Scan(start, end, reverse, last, keys) = scan;
-    let mut calls = 0usize;
-    let mut same = true;
+    let mut handed = Handed {
+        keys: *keys,
+        calls: 0,
+        last: *last,
+        same: true,
+    };
     let answer = engine.scan_raw_messages(
         1,
         *start,
         *end,
         *reverse,
-        &mut |key: &[u8], value: &[u8]| {
-            same = same && keys.get(calls) == Some(&key) && value == b"v".as_slice();
-            calls = calls.saturating_add(1);
-            calls < *last
-        },
+        &mut |key: &[u8], value: &[u8]| handed.takes(key, value),
     );
-    answer.is_ok() && same && calls == keys.len()
+    answer.is_ok() && handed.same && handed.calls == keys.len()
 }
 
-// How many messages a group has, where each is the entry 7:w at m.
+// How many messages a group has, where the first is the entry 7:w at m.
 fn count_messages<F: FileSystem>(engine: &Engine<F>, group: u64) -> Option<usize> {
-    let mut calls = 0usize;
-    let mut same = true;
+    let mut handed = Handed {
+        keys: &[b"m"],
+        calls: 0,
+        last: 9,
+        same: true,
+    };
     let answer = engine.scan_messages::<TextEntry, _>(
         group,
         None,
         None,
         false,
-        &mut |key: &[u8], entry: TextEntry| {
-            same = same && key == b"m".as_slice() && entry.index == 7 && entry.word.as_slice() == b"w".as_slice();
-            calls = calls.saturating_add(1);
-            true
-        },
+        &mut |key: &[u8], entry: TextEntry| handed.takes_message(key, &entry),
     );
-    if answer.is_ok() && same {
-        Some(calls)
-    } else {
-        None
-    }
+    (answer.is_ok() && handed.same).then_some(handed.calls)
 }
 
 #[test]

@@ -11,6 +11,7 @@ ghost use Rattle.raft_script.specs.Entry.{range_of};
 ghost use Rattle.raft_script.specs.Program.{AnswersFrom, AnswersLine, HoldsAfterCrash, IsAnswered, IsMetBy, OpensTo};
 
 use crate::answer::{Answer, print};
+use crate::scan::pairs_of;
 use crate::line::{Call, CrashChoice, Line, parse_line};
 use crate::operation::Outcome;
 use crate::runs::step;
@@ -173,6 +174,11 @@ fn answer_asked(
             let range = range_of(&opened, *group);
             *engine = Some(opened);
             Ok(Answer::Range(range))
+        }
+        Line::Scan(group) => {
+            let pairs = pairs_of(alloc, &opened, *group);
+            *engine = Some(opened);
+            Ok(Answer::Pairs(pairs))
         }
         Line::Nothing => Ok(Answer::Nothing),
     }
