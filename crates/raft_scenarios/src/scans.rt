@@ -61,8 +61,9 @@ struct Handed {
 
 impl Handed {
     fn takes(&mut self, key: &[u8], value: &[u8]) -> bool {
-        self.same =
-            self.same && self.keys.get(self.calls) == Some(&key) && value == b"v".as_slice();
+        self.same = self.same
+            && self.keys.get(self.calls) == Some(&key)
+            && value == b"v".as_slice();
         self.calls = self.calls.saturating_add(1);
         self.calls < self.last
     }

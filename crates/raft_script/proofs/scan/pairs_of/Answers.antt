@@ -8,8 +8,8 @@ listing_as : (value_of : List ℕ → Option (List ℕ)) (pairs copies : List (L
 listing_as value_of pairs copies same = subst (IsListing value_of) (sym same)
 
 by_not : (b : Bool) → (b ≡ true → ⊥) → b ≡ false
-by_not true no = absurd (no refl)
-by_not false no = refl
+by_not true never = absurd (never refl)
+by_not false never = refl
 
 pub returns-then-copies : goal.returns-then-copies
 returns-then-copies g c =
