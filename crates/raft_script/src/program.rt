@@ -11,10 +11,10 @@ ghost use Rattle.raft_script.specs.Entry.{range_of};
 ghost use Rattle.raft_script.specs.Program.{AnswersFrom, AnswersLine, HoldsAfterCrash, IsAnswered, IsMetBy, OpensTo};
 
 use crate::answer::{Answer, print};
-use crate::scan::pairs_of;
 use crate::line::{Call, CrashChoice, Line, parse_line};
 use crate::operation::Outcome;
 use crate::runs::step;
+use crate::scan::pairs_of;
 use raft_env::FileSystem;
 use raft_log_engine::laws::crash_leaves_contents;
 use raft_log_engine::{Config, Engine, Refused};
