@@ -52,6 +52,7 @@ fn fill<F: FileSystem>(alloc: Global, engine: &mut Engine<F>) -> Result<usize, F
 }
 
 /// What a callback was handed.
+#[derive(Drop)]
 struct Handed {
     keys: &'static [&'static [u8]],
     calls: usize,
