@@ -82,7 +82,23 @@ const GROUPS: [Case; 2] = [
     ),
 ];
 
-const BAD_LINES: [Case; 11] = [
+/// A group's keys with their values, in the order of the keys' bytes, and how many.
+const PAIRS: [Case; 2] = [
+    Case(
+        "put 1 b 2\nput 1 a 1\nput 2 c 3\nscan 1\nscan 3\n",
+        "ok\nok\nok\npair a 1\npair b 2\nend 2\nend 0\n",
+        Ended::Done,
+    ),
+    Case(
+        "put 1 k v sync\nput 1 l w\ncrash synced\nscan 1\ndel 1 k\nscan 1\n",
+        "ok\nok\nok\npair k v\nend 1\nok\nend 0\n",
+        Ended::Done,
+    ),
+];
+
+const BAD_LINES: [Case; 13] = [
+    Case("scan\n", "", Ended::BadLine(1)),
+    Case("scan 1 2\n", "", Ended::BadLine(1)),
     Case("ent 1 3 2 w\n", "", Ended::BadLine(1)),
     Case("ent 1 3 w\n", "", Ended::BadLine(1)),
     Case("ent 1 1 1 w now\n", "", Ended::BadLine(1)),
@@ -111,6 +127,12 @@ fn compaction_counts_what_it_drops(rt: HostRuntime) -> Result<(), Fail> {
 #[test]
 fn groups_are_listed(rt: HostRuntime) -> Result<(), Fail> {
     are_printed(&rt, rt.alloc(), &GROUPS);
+    Ok(())
+}
+
+#[test]
+fn scan_lists_pairs_in_order(rt: HostRuntime) -> Result<(), Fail> {
+    are_printed(&rt, rt.alloc(), &PAIRS);
     Ok(())
 }
 

@@ -30,6 +30,7 @@ pub data Asked : Type 0 where
   Entry : (group : ℕ) (index : ℕ) → Asked
   Groups : Asked
   Range : (group : ℕ) → Asked
+  Scan : (group : ℕ) → Asked
   Sync : Asked
   Reopen : Asked
   Crash : (left : CrashChoice) → Asked
@@ -105,6 +106,10 @@ entry_by words = with_number (λ group. with_number (λ index. if_last (Entry gr
 abbrev pub range_by : List (List ℕ) → Option Asked
 range_by words = with_number (λ group. if_last (Range group)) words
 
+-- scan G
+abbrev pub scan_by : List (List ℕ) → Option Asked
+scan_by words = with_number (λ group. if_last (Scan group)) words
+
 -- get G K
 abbrev pub get_by : List (List ℕ) → Option Asked
 get_by (group ∷ key ∷ words) = option_and_then (λ g. if_last (Get g key) words) (number_in group)
@@ -140,6 +145,7 @@ parsed_words (verb ∷ words) =
     else if bytes_eq verb (codes "entry") then entry_by words
     else if bytes_eq verb (codes "groups") then if_last Groups words
     else if bytes_eq verb (codes "range") then range_by words
+    else if bytes_eq verb (codes "scan") then scan_by words
     else if bytes_eq verb (codes "reopen") then if_last Reopen words
     else if bytes_eq verb (codes "crash") then option_map Crash (left_by words)
     else None
@@ -168,6 +174,7 @@ abbrev pub asked_of : Line → Asked
 asked_of line.Nothing = Nothing
 asked_of (line.Call call) = asked_of_call call
 asked_of (line.Range group) = Range group
+asked_of (line.Scan group) = Scan group
 asked_of line.Reopen = Reopen
 asked_of (line.Crash left) = Crash left
 

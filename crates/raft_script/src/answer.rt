@@ -3,6 +3,7 @@
 use crate::operation::Outcome;
 use crate::text_entry::TextEntry;
 use raft_records::Fault;
+use raft_tables::KeyAndValue;
 use std::io;
 use std::io::Write;
 
@@ -15,6 +16,8 @@ pub(crate) enum Answer {
     Outcome(Outcome),
     /// The indexes of a group's first and last entries.
     Range(Option<(u64, u64)>),
+    /// A group's keys and values, in the keys' order.
+    Pairs(Result<Vec<KeyAndValue>, Fault>),
     /// The engine is gone, so that the program ends.
     Fatal(Fault),
 }
@@ -26,7 +29,8 @@ pub(crate) fn print<W: Write>(output: &mut W, answer: &Answer) -> io::Result<()>
         Answer::Outcome(outcome) => print_outcome(output, outcome),
         Answer::Range(None) => output.write_all(b"range none\n"),
         Answer::Range(Some((first, last))) => writeln!(output, "range {first} {last}"),
-        Answer::Fatal(fault) => print_fault(output, fault),
+        Answer::Pairs(Ok(pairs)) => print_pairs(output, pairs),
+        Answer::Pairs(Err(fault)) | Answer::Fatal(fault) => print_fault(output, fault),
     }
 }
 
@@ -70,6 +74,18 @@ fn print_groups<W: Write>(output: &mut W, groups: &[u64]) -> io::Result<()> {
         write!(output, " {group}")?;
     }
     output.write_all(b"\n")
+}
+
+fn print_pairs<W: Write>(output: &mut W, pairs: &[KeyAndValue]) -> io::Result<()> {
+    for (key, value) in pairs {
+        output.write_all(b"pair ")?;
+        output.write_all(key)?;
+        output.write_all(b" ")?;
+        output.write_all(value)?;
+        output.write_all(b"\n")?;
+    }
+    let count = pairs.len();
+    writeln!(output, "end {count}")
 }
 
 fn print_fault<W: Write>(output: &mut W, fault: &Fault) -> io::Result<()> {

@@ -1,7 +1,7 @@
 //! A line of the program's input.
 ghost use Rattle.std.specs.Prelude.{◌≡◌, ◌==◌, ◌≤◌, List, ℕ, length, None, Some, [], ◌∷◌, IfOk, MatchOption, option_map, option_and_then};
 ghost use Rattle.std.specs.List.{position_or_len};
-ghost use Rattle.raft_script.specs.Line.{Crash, Range, BeginsWith, HasNoWord, if_last, parsed_words, asked_in, asked_of, asked_of_call, clean_by, compact_by, delete_by, entries_by, entry_by, get_by, is_word, left_by, number_in, put_by, range_by, sync_by, torn_by, words_by, words_in};
+ghost use Rattle.raft_script.specs.Line.{Crash, Range, Scan, BeginsWith, HasNoWord, if_last, parsed_words, asked_in, asked_of, asked_of_call, clean_by, compact_by, delete_by, entries_by, entry_by, get_by, is_word, left_by, number_in, put_by, range_by, scan_by, sync_by, torn_by, words_by, words_in};
 
 use crate::operation::{Act, Op};
 use crate::text_entry::entries_between;
@@ -15,6 +15,8 @@ pub(crate) enum Line<'a> {
     Call(Call<'a>),
     /// The indexes of a group's first and last entries.
     Range(u64),
+    /// A group's keys and values.
+    Scan(u64),
     Reopen,
     Crash(CrashChoice),
 }
@@ -150,6 +152,8 @@ fn parse_asked<'a>(verb: &[u8], rest: &'a [u8]) -> Option<Line<'a>>
         Some(Line::Call(Call::Groups))
     } else if verb == b"range".as_slice() {
         Some(Line::Range(parse_range(rest)?))
+    } else if verb == b"scan".as_slice() {
+        Some(Line::Scan(parse_scan(rest)?))
     } else if verb == b"reopen".as_slice() {
         ends(rest)?;
         Some(Line::Reopen)
@@ -277,6 +281,14 @@ fn parse_entry<'a>(rest: &[u8]) -> Option<Call<'a>>
 
 fn parse_range(rest: &[u8]) -> Option<u64>
     ensures value { option_map Range result ≡ option_and_then range_by (words_in rest.now) }
+{
+    let (group, rest) = parse_number(rest)?;
+    ends(rest)?;
+    Some(group)
+}
+
+fn parse_scan(rest: &[u8]) -> Option<u64>
+    ensures value { option_map Scan result ≡ option_and_then scan_by (words_in rest.now) }
 {
     let (group, rest) = parse_number(rest)?;
     ends(rest)?;

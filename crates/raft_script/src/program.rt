@@ -14,6 +14,7 @@ use crate::answer::{Answer, print};
 use crate::line::{Call, CrashChoice, Line, parse_line};
 use crate::operation::Outcome;
 use crate::runs::step;
+use crate::scan::pairs_of;
 use raft_env::FileSystem;
 use raft_log_engine::laws::crash_leaves_contents;
 use raft_log_engine::{Config, Engine, Refused};
@@ -173,6 +174,11 @@ fn answer_asked(
             let range = range_of(&opened, *group);
             *engine = Some(opened);
             Ok(Answer::Range(range))
+        }
+        Line::Scan(group) => {
+            let pairs = pairs_of(alloc, &opened, *group);
+            *engine = Some(opened);
+            Ok(Answer::Pairs(pairs))
         }
         Line::Nothing => Ok(Answer::Nothing),
     }

@@ -19,3 +19,9 @@ range_of-range-requires-send-F c = λ κs. search (sendable, memory_send) depth 
 
 pub range_of-range-requires-sync-F : goal.range_of-range-requires-sync-F
 range_of-range-requires-sync-F c = λ κs. search (sendable, memory_sync) depth 20
+
+pub pairs_of-pairs-requires-send-F : goal.pairs_of-pairs-requires-send-F
+pairs_of-pairs-requires-send-F c = λ κs. search (sendable, memory_send) depth 20
+
+pub pairs_of-pairs-requires-sync-F : goal.pairs_of-pairs-requires-sync-F
+pairs_of-pairs-requires-sync-F c = λ κs. search (sendable, memory_sync) depth 20
