@@ -100,9 +100,9 @@ same_failure x clash = cc
 batch_refusal_of : (folder : Path) (m : Contents) (batch : Batch) (old new : Refusals) (e : Fault) → engine.IsWriteRefusal folder m batch false old new e → IsBatchRefusal m batch e
 batch_refusal_of folder m batch old new fault.Gap h = h.0
 batch_refusal_of folder m batch old new fault.Range h = h.0
-batch_refusal_of folder m batch old new (fault.Io kind path) h = tt
-batch_refusal_of folder m batch old new fault.Memory h = tt
-batch_refusal_of folder m batch old new _ h = absurd h
+batch_refusal_of folder m batch old new (fault.Io kind path) h = h.0
+batch_refusal_of folder m batch old new fault.Memory h = h.0
+batch_refusal_of folder m batch old new _ h = absurd h.1
 
 batch_answers : (folder : Path) (old new : Refusals) (m : Contents) (batches : List Batch) (answers : List (Result ℕ Fault)) → AreGroupAnswers folder old new m batches answers → AreBatchAnswers m batches answers
 batch_answers folder old new m [] [] are = tt
@@ -113,7 +113,7 @@ batch_answers folder old new m (b ∷ batches) (Err e ∷ answers) are = (batch_
 
 -- storage's count rose by as many as it refused
 refused_rose : (folder : Path) (m : Contents) (batch : Batch) (old new : Refusals) (e : Fault) → engine.IsWriteRefusal folder m batch false old new e → is_io {T = ℕ} (Err e) ≡ true → StorageRefusalsRose old new
-refused_rose folder m batch old new (fault.Io kind path) h io = h.0
+refused_rose folder m batch old new (fault.Io kind path) h io = h.1.0
 refused_rose folder m batch old new _ h io = absurd (let clash = io in cc)
 
 more_rose : (io : Bool) (n : ℕ) (old mid new : Refusals) → NoFewer old mid → (io ≡ true → StorageRefusalsRose old mid) → StorageRefusalsRoseBy n mid new → StorageRefusalsRoseBy ((0 + cond io 1 0) + n) old new

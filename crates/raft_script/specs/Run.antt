@@ -192,13 +192,13 @@ IsWriteRefusal m acts fault.Range =
 IsWriteRefusal m acts fault.Failed = IsSome (batch_of_acts acts)
 IsWriteRefusal m acts _ = ⊥
 
--- a batch of a group isn't accepted: since the contents don't take it, by storage, for its length,
--- or for lack of memory
+-- a batch of a group isn't accepted: since the contents don't take it, for its length, else by
+-- storage or for lack of memory
 abbrev pub IsBatchRefusal : Contents → Batch → Fault → Type 0
 IsBatchRefusal m batch fault.Gap = batch_refusal m batch ≡ Some fault.Gap
 IsBatchRefusal m batch fault.Range = IsOutOfRange m batch
-IsBatchRefusal m batch (fault.Io kind path) = Unit {0}
-IsBatchRefusal m batch fault.Memory = Unit {0}
+IsBatchRefusal m batch (fault.Io kind path) = IsWritable m batch
+IsBatchRefusal m batch fault.Memory = IsWritable m batch
 IsBatchRefusal m batch _ = ⊥
 
 -- each batch is answered at the contents after those that were accepted before it
@@ -307,7 +307,7 @@ is_refused_by_storage (reply.Entry answer) = is_io answer
 is_refused_by_storage (Index index) = false
 is_refused_by_storage (reply.Groups answer) = is_io answer
 
--- how many of an operation's answers are its refusals: those of a group's batches, or the one
+-- how many of an operation's answers storage refused: of a group those of its batches
 abbrev pub io_in : Outcome → ℕ
 io_in (Sizes (Ok answers)) = count_by is_io answers.items
 io_in outcome = cond (is_refused_by_storage outcome) 1 0

@@ -200,6 +200,6 @@ returns-in-Err-build_group-clause-progress g c =
       may_be = ∣ ([], refl) ∣₁;
       given = written_in (group_batches parts.items);
       is_given = refl;
-      progress = inl (record { none = refl; covers_none = refl; failed = refl; durable = refl; unsynced = refl });
+      progress = inl (record { none = refl; covers_none = refl; failed = refl; base = refl; unsynced = refl });
       answers = inl (unbuilt, read_same e);
     })
