@@ -6,7 +6,7 @@ use raft_memory::MemoryFileSystem;
 use raft_plans::settings;
 use raft_records::{Fault, LogBatch};
 use raft_script::TextEntry;
-use std::alloc::Global;
+use std::alloc::{AllocError, Global};
 use std::process::Abort;
 use std::test::Fail;
 
@@ -51,64 +51,80 @@ fn fill<F: FileSystem>(alloc: Global, engine: &mut Engine<F>) -> Result<usize, F
     engine.write(&mut batch, false)
 }
 
-/// What a callback was handed.
+/// The keys that a callback was handed, as far as there was memory, and whether each value was the right one.
 #[derive(Drop)]
 struct Handed {
-    keys: &'static [&'static [u8]],
-    calls: usize,
+    alloc: Global,
+    keys: Vec<Vec<u8>>,
     last: usize,
-    same: bool,
+    is_right: bool,
 }
 
 impl Handed {
-    fn takes(&mut self, key: &[u8], value: &[u8]) -> bool {
-        self.same = self.same
-            && self.keys.get(self.calls) == Some(&key)
-            && value == b"v".as_slice();
-        self.calls = self.calls.saturating_add(1);
-        self.calls < self.last
+    fn new(alloc: Global, last: usize) -> Handed {
+        Handed {
+            alloc,
+            keys: Vec::new(alloc),
+            last,
+            is_right: true,
+        }
     }
 
-    fn takes_message(&mut self, key: &[u8], entry: &TextEntry) -> bool {
-        self.same = self.same && entry.index == 7 && entry.word.as_slice() == b"w".as_slice();
-        self.takes(key, b"v")
+    fn takes(&mut self, key: &[u8], is_right: bool) -> bool {
+        let is_kept = keep(self.alloc, key, &mut self.keys).is_ok();
+        self.is_right = self.is_right && is_right && is_kept;
+        self.keys.len() < self.last
+    }
+
+    fn has(&self, keys: &[&[u8]]) -> bool {
+        self.is_right
+            && self.keys.len() == keys.len()
+            && self
+                .keys
+                .iter()
+                .zip(keys)
+                .all(|(held, key)| held.as_slice() == *key)
     }
 }
 
-fn is_handed_over<F: FileSystem>(engine: &Engine<F>, scan: &Scan) -> bool {
+fn keep(alloc: Global, key: &[u8], keys: &mut Vec<Vec<u8>>) -> Result<(), AllocError> {
+    keys.push(key.to_vec(alloc)?)?;
+    Ok(())
+}
+
+fn is_handed_over<F: FileSystem>(alloc: Global, engine: &Engine<F>, scan: &Scan) -> bool {
     let Scan(start, end, reverse, last, keys) = scan;
-    let mut handed = Handed {
-        keys: *keys,
-        calls: 0,
-        last: *last,
-        same: true,
-    };
+    let mut handed = Handed::new(alloc, *last);
     let answer = engine.scan_raw_messages(
         1,
         *start,
         *end,
         *reverse,
-        &mut |key: &[u8], value: &[u8]| handed.takes(key, value),
+        &mut |key: &[u8], value: &[u8]| handed.takes(key, value == b"v".as_slice()),
     );
-    answer.is_ok() && handed.same && handed.calls == keys.len()
+    answer.is_ok() && handed.has(keys)
 }
 
-// How many messages a group has, where the first is the entry 7:w at m.
-fn count_messages<F: FileSystem>(engine: &Engine<F>, group: u64) -> Option<usize> {
-    let mut handed = Handed {
-        keys: &[b"m"],
-        calls: 0,
-        last: 9,
-        same: true,
-    };
+// Whether the messages of a group are the entry 7:w at each of these keys.
+fn has_messages<F: FileSystem>(
+    alloc: Global,
+    engine: &Engine<F>,
+    group: u64,
+    keys: &[&[u8]],
+) -> bool {
+    let mut handed = Handed::new(alloc, 9);
     let answer = engine.scan_messages::<TextEntry, _>(
         group,
         None,
         None,
         false,
-        &mut |key: &[u8], entry: TextEntry| handed.takes_message(key, &entry),
+        &mut |key: &[u8], entry: TextEntry| handed.takes(key, is_right(&entry)),
     );
-    (answer.is_ok() && handed.same).then_some(handed.calls)
+    answer.is_ok() && handed.has(keys)
+}
+
+fn is_right(entry: &TextEntry) -> bool {
+    entry.index == 7 && entry.word.as_slice() == b"w".as_slice()
 }
 
 #[test]
@@ -117,10 +133,10 @@ fn scans_hand_over_what_is_between_bounds(rt: HostRuntime) -> Result<(), Fail> {
     let mut engine = open(alloc, MemoryFileSystem::new(alloc))?;
     fill(alloc, &mut engine)?;
     for (row, scan) in SCANS.iter().enumerate() {
-        assert!(rt; is_handed_over(&engine, scan), "row {row}");
+        assert!(rt; is_handed_over(alloc, &engine, scan), "row {row}");
     }
-    assert!(rt; matches!(count_messages(&engine, 2), Some(1)));
-    assert!(rt; matches!(count_messages(&engine, 9), Some(0)));
+    assert!(rt; has_messages(alloc, &engine, 2, &[b"m"]));
+    assert!(rt; has_messages(alloc, &engine, 9, &[]));
     assert!(rt; matches!(engine.get_message::<TextEntry>(2, b"n"), Err(Fault::Parse)));
     Ok(())
 }
