@@ -7,7 +7,8 @@ Records the file calls of two loads, and builds for each call what a crash then 
 the synced ones, torn sectors, garbage where nothing was synced. In each of these folders the program
 must find every key that it had answered as synced, without a gap and with its value, twice alike.
 The same with the syncs not counted has to find bad outcomes. Then each kind of call fails in turn,
-the program is killed, and a folder is opened twice. Status 1 where any of it is wrong.
+the program is killed, and a folder is opened twice. A program of these tests renames and deletes files,
+and what a crash leaves of their names is judged in the same way. Status 1 where any of it is wrong.
 """
 
 import argparse
@@ -37,7 +38,6 @@ class File:
         self.synced = b""
         self.lengths = [0]
         self.touched = []
-        self.is_named = False
 
     def write(self, at, given):
         end = at + len(given)
@@ -77,6 +77,24 @@ class File:
         return bytes(old)
 
 
+class Change:
+    """A change of names: a file that goes from one path, or comes to another, or both at once."""
+
+    def __init__(self, file, gone=None, come=None):
+        self.file = file
+        self.gone = gone
+        self.come = come
+
+    def is_in(self, folder):
+        return any(it and (os.path.dirname(it) or ".") == folder for it in (self.gone, self.come))
+
+    def carry_out(self, files):
+        if self.gone and files.get(self.gone) is self.file:
+            del files[self.gone]
+        if self.come:
+            files[self.come] = self.file
+
+
 class Disk:
     """A folder's files and folders, after the calls that were recorded."""
 
@@ -84,12 +102,18 @@ class Disk:
         self.counts_syncs = counts_syncs
         self.files = {}
         self.folders = {}
+        self.settled = {}
+        self.changes = []
         self.answered = -1
 
     def carry_out(self, line):
         kind, path, at, given = line.rstrip("\n").split(" ")
         if kind == "create":
-            self.files[path] = File()
+            self.change(Change(File(), come=path))
+        elif kind == "unlink":
+            self.change(Change(self.files[path], gone=path))
+        elif kind == "rename":
+            self.rename(path, bytes.fromhex(given).decode())
         elif kind == "mkdir":
             self.folders[path] = False
         elif kind == "write":
@@ -102,32 +126,58 @@ class Disk:
             for number in re.findall(rb"synced (\d+)", bytes.fromhex(given)):
                 self.answered = max(self.answered, int(number))
 
+    def rename(self, path, to):
+        """Between two folders the new name may stay without the old one being gone, but not the other way."""
+        file = self.files[path]
+        if os.path.dirname(path) == os.path.dirname(to):
+            self.change(Change(file, gone=path, come=to))
+        else:
+            self.change(Change(file, come=to))
+            self.change(Change(file, gone=path))
+
+    def change(self, change):
+        change.carry_out(self.files)
+        self.changes.append(change)
+
     def sync(self, path):
         if path in self.files:
             if self.counts_syncs:
                 self.files[path].sync()
             return
-        for name, file in self.files.items():
-            if (os.path.dirname(name) or ".") == path:
-                file.is_named = True
+        for change in self.changes:
+            if change.is_in(path):
+                change.carry_out(self.settled)
+        self.changes = [it for it in self.changes if not it.is_in(path)]
         for name in self.folders:
             if (os.path.dirname(name) or ".") == path:
                 self.folders[name] = True
+
+    def names_left(self, how, rng):
+        """The files by the names that a crash may leave: any of the changes since their folder's last sync."""
+        if how == "all":
+            return self.files
+        left = dict(self.settled)
+        undone = set()
+        for change in self.changes:
+            if how == "synced" or id(change.file) in undone or rng.random() < 0.5:
+                undone.add(id(change.file))
+            else:
+                change.carry_out(left)
+        return left
 
     def leave(self, folder, how, rng):
         os.makedirs(folder)
         for name, is_named in self.folders.items():
             if name != "." and (is_named or how == "all"):
                 os.makedirs(os.path.join(folder, name), exist_ok=True)
-        for name, file in self.files.items():
+        for name, file in self.names_left(how, rng).items():
             if how == "all":
                 left = file.now
-            elif not file.is_named and (how == "synced" or rng.random() < 0.5):
-                continue
             elif how == "synced":
                 left = file.synced
             else:
                 left = file.torn(rng, how == "garbage")
+            os.makedirs(os.path.dirname(os.path.join(folder, name)), exist_ok=True)
             with open(os.path.join(folder, name), "wb") as out:
                 out.write(left)
 
@@ -140,10 +190,10 @@ class Tests:
         source = os.path.join(HERE, "record_calls.c")
         subprocess.run(["cc", "-shared", "-fPIC", "-O1", "-o", self.recorder, source, "-ldl"], check=True)
 
-    def run(self, folder, *words, **env):
+    def run(self, folder, *words, program=None, **env):
         if env:
             env = {"LD_PRELOAD": self.recorder, "RECORD_FOLDER": folder, "ASAN_OPTIONS": "verify_asan_link_order=0", **env}
-        words = [self.program, folder, *map(str, words)]
+        words = [program or self.program, folder, *map(str, words)]
         return subprocess.run(words, capture_output=True, text=True, env={**os.environ, **env}, timeout=120)
 
     def load(self, folder, count, *words, **env):
@@ -176,7 +226,9 @@ class Tests:
         with open(record, encoding="ascii") as lines:
             return list(lines)
 
-    def replay(self, calls, counts_syncs, seeds, step):
+    def replay(self, calls, counts_syncs, seeds, step=1, judge=None):
+        """Tries what a crash at each call may leave. `judge` says what is wrong with a folder, or None."""
+        judge = judge or self.wrong_with
         disk = Disk(counts_syncs)
         outcomes = bad = 0
         hows = ["all", "synced"] + ["torn", "garbage"] * seeds
@@ -187,7 +239,7 @@ class Tests:
             for turn, how in enumerate(hows):
                 folder = os.path.join(self.work, "left")
                 disk.leave(folder, how, random.Random(f"{place} {turn}"))
-                wrong = self.wrong_with(folder, disk.answered)
+                wrong = judge(folder, disk.answered)
                 outcomes += 1
                 if wrong:
                     bad += 1
@@ -195,6 +247,27 @@ class Tests:
                         print(f"call {place}, {how} {turn}: {wrong}")
                 shutil.rmtree(folder)
         return outcomes, bad
+
+    def record_names(self):
+        """The calls of a program that renames and deletes files, and whether they lead to what it left."""
+        program = os.path.join(self.work, "change_names")
+        source = os.path.join(HERE, "change_names.c")
+        subprocess.run(["cc", "-O1", "-o", program, source], check=True)
+        folder = os.path.join(self.work, "renamed")
+        record = os.path.join(self.work, "names")
+        os.makedirs(folder)
+        ran = self.run(folder, program=program, RECORD=record)
+        assert ran.returncode == 0, ran.stderr
+        with open(record, encoding="ascii") as lines:
+            calls = list(lines)
+        disk = Disk(True)
+        for line in calls:
+            disk.carry_out(line)
+        left = os.path.join(self.work, "left")
+        disk.leave(left, "all", random.Random(0))
+        is_same = files_in(left) == files_in(folder)
+        shutil.rmtree(left)
+        return calls, is_same
 
     def fail_each(self):
         """Each kind of call fails at its Nth time: nothing that was answered is lost."""
@@ -272,6 +345,30 @@ class Tests:
         return 1
 
 
+def files_in(folder):
+    """The bytes at each path below a folder."""
+    found = {}
+    for at, _, names in os.walk(folder):
+        for name in names:
+            path = os.path.join(at, name)
+            with open(path, "rb") as file:
+                found[os.path.relpath(path, folder)] = file.read()
+    return found
+
+
+def wrong_names(folder, answered):
+    """What is wrong with a folder in which `change_names` has answered this change, or None."""
+    files = files_in(folder)
+    current = files.get("current", b"")[:9]
+    if answered >= 0 and current not in [b"number %d\n" % (answered + it) for it in (0, 1)]:
+        return f"{answered} is answered, and current is {current}"
+    kept = [it for it in (answered, answered + 1) if files.get(f"kept-{it}") == b"number %d\n" % it]
+    if answered >= 0 and not kept:
+        return f"{answered} is answered, and is not kept"
+    late = [it for it in files if it.startswith("kept-") and int(it[5:]) < answered]
+    return f"{late} stand, and {answered} is answered" if late else None
+
+
 def main():
     parser = argparse.ArgumentParser()
     parser.add_argument("program")
@@ -281,8 +378,11 @@ def main():
     with tempfile.TemporaryDirectory(prefix="disk-tests-") as work:
         tests = Tests(given.program, work)
         calls = tests.record()
-        good = True
+        names, good = tests.record_names()
+        if not good:
+            print("renamed and deleted files: the calls that were recorded don't lead to what was left")
         for name, (tried, bad) in [
+            (f"renamed and deleted files, crashes at {len(names)} calls", tests.replay(names, True, given.seeds, judge=wrong_names)),
             (f"crashes at {len(calls)} calls", tests.replay(calls, True, given.seeds, given.step)),
             ("calls that fail", tests.fail_each()),
             ("kills", tests.kill_each()),
@@ -290,9 +390,12 @@ def main():
         ]:
             print(f"{name}: {tried} tried, {bad} bad")
             good = good and bad == 0
-        tried, bad = tests.replay(calls, False, 1, max(given.step, 2))
-        print(f"crashes with the syncs not counted: {tried} tried, {bad} bad, as wanted")
-        good = good and bad > 0
+        for name, (tried, bad) in [
+            ("renamed and deleted files", tests.replay(names, False, 1, judge=wrong_names)),
+            ("crashes", tests.replay(calls, False, 1, max(given.step, 2))),
+        ]:
+            print(f"{name}, with the syncs not counted: {tried} tried, {bad} bad, as wanted")
+            good = good and bad > 0
     return 0 if good else 1
 
 

@@ -108,6 +108,56 @@ int open(const char *path, int flags, ...) {
     return remember(fd, path, is_new);
 }
 
+// The path of a name that may not stand yet: below the folder, or null.
+static const char *name_below(const char *path, char *full) {
+    char folder[PATH_MAX];
+    const char *slash = strrchr(path, '/');
+    size_t len = slash ? (size_t)(slash - path) : 1;
+    if (len >= sizeof folder)
+        return NULL;
+    memcpy(folder, slash ? path : ".", len);
+    folder[len] = 0;
+    if (!realpath(slash == path ? "/" : folder, full))
+        return NULL;
+    strncat(full, "/", PATH_MAX - strlen(full) - 1);
+    strncat(full, slash ? slash + 1 : path, PATH_MAX - strlen(full) - 1);
+    return below(full);
+}
+
+// What is open at the path is open at another one from now on, or has no name any more.
+static void follow(const char *path, const char *to) {
+    for (int fd = 0; fd < MAX_FILES; fd++)
+        if (paths[fd] && strcmp(paths[fd], path) == 0)
+            paths[fd] = to ? strdup(to) : NULL;
+}
+
+int unlink(const char *path) {
+    if (fails("unlink"))
+        return -1;
+    char full[PATH_MAX];
+    const char *name = name_below(path, full);
+    int status = REAL("unlink", int (*)(const char *))(path);
+    if (status == 0 && name) {
+        note("unlink", name, 0, NULL, 0);
+        follow(full, NULL);
+    }
+    return status;
+}
+
+int rename(const char *from, const char *to) {
+    if (fails("rename"))
+        return -1;
+    char old[PATH_MAX], new[PATH_MAX];
+    const char *name = name_below(from, old), *other = name_below(to, new);
+    int status = REAL("rename", int (*)(const char *, const char *))(from, to);
+    if (status == 0 && name && other && strcmp(old, new) != 0) {
+        note("rename", name, 0, (const unsigned char *)other, strlen(other));
+        follow(new, NULL);
+        follow(old, new);
+    }
+    return status;
+}
+
 int close(int fd) {
     if (fd >= 0 && fd < MAX_FILES)
         paths[fd] = NULL;

@@ -9,5 +9,5 @@ mod readable_size;
 
 pub use errors::{Fault, IoKind};
 pub use history::History;
-pub use pipe_log::{FileBlockHandle, FileId, LogFileContext, LogQueue, Version};
+pub use pipe_log::{FileBlockHandle, FileId, FileSeq, LogFileContext, LogQueue, Version};
 pub use readable_size::ReadableSize;

@@ -1,53 +1,77 @@
 //! The names of log files, their headers, and the zeros between records.
 
 use crate::changes::joined;
-use raft_files::{FileNameExt, LogFileFormat, is_zero_padded};
+use raft_files::{
+    FileNameExt, LogFileFormat, build_reserved_file_name, is_zero_padded, parse_reserved_file_name,
+};
 use raft_records::{Fault, FileId, LogQueue, Version};
 use std::alloc::Global;
 use std::test::Fail;
 
-/// A name, and the file that it is parsed to.
-const PARSED: [(&str, Option<(LogQueue, u64)>); 7] = [
-    ("0000000000000123.raftlog", Some((LogQueue::Append, 123))),
-    ("+000000000000123.raftlog", Some((LogQueue::Append, 123))),
+/// A name, the log file that it is parsed to, and the number of the reserved file.
+const PARSED: [(&str, Option<(LogQueue, u64)>, Option<u64>); 9] = [
+    (
+        "0000000000000123.raftlog",
+        Some((LogQueue::Append, 123)),
+        None,
+    ),
+    (
+        "+000000000000123.raftlog",
+        Some((LogQueue::Append, 123)),
+        None,
+    ),
     (
         "10000000000000000.raftlog",
         Some((LogQueue::Append, 1_000_000_000_000_000)),
+        None,
     ),
-    ("0000000000000123.rewrite", Some((LogQueue::Rewrite, 123))),
-    ("0000000000000123.log", None),
-    ("123.rewrite", None),
-    ("000000000000000é.raftlog", None),
+    (
+        "0000000000000123.rewrite",
+        Some((LogQueue::Rewrite, 123)),
+        None,
+    ),
+    ("0000000000000123.log", None, None),
+    ("123.rewrite", None, None),
+    ("000000000000000é.raftlog", None, None),
+    ("0000000000000007.raftlog.reserved", None, Some(7)),
+    ("7.raftlog.reserved", None, None),
 ];
 
 #[test]
 fn names_are_parsed(rt: HostRuntime) {
-    for (name, wanted) in &PARSED {
+    for (name, wanted, reserved) in &PARSED {
         let id = wanted.map(|(queue, seq)| FileId::new(queue, seq));
         assert_eq!(rt; FileId::parse_file_name(name), id, "{name}");
+        assert_eq!(rt; parse_reserved_file_name(name), *reserved, "{name}");
     }
 }
 
-/// A file's number, its name, and its path in the folder `data`.
-const BUILT: [(u64, &str, &str); 2] = [
+/// A file's number, its name, its path in the folder `data`, and its name as a reserved file.
+const BUILT: [(u64, &str, &str, &str); 2] = [
     (
-        123,
-        "0000000000000123.raftlog",
-        "data/0000000000000123.raftlog",
+        7,
+        "0000000000000007.raftlog",
+        "data/0000000000000007.raftlog",
+        "0000000000000007.raftlog.reserved",
     ),
     (
         10_000_000_000_000_000,
         "10000000000000000.raftlog",
         "data/10000000000000000.raftlog",
+        "10000000000000000.raftlog.reserved",
     ),
 ];
 
 #[test]
 fn names_are_built(rt: HostRuntime) -> Result<(), Fail> {
-    for (seq, name, path) in &BUILT {
+    for (seq, name, path, reserved) in &BUILT {
         let id = FileId::new(LogQueue::Append, *seq);
         assert_eq!(rt; id.build_file_name(rt.alloc())?.as_str(), *name);
         assert_eq!(rt; id.build_file_path(rt.alloc(), "data")?.as_str(), *path);
+        assert_eq!(rt;
+            build_reserved_file_name(rt.alloc(), *seq)?.as_str(),
+            *reserved
+        );
     }
     Ok(())
 }

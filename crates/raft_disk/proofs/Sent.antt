@@ -6,26 +6,17 @@ use denote.Param.Send.{owning_send, part_keyless}
 use denote.Param.Send.{recorded_send, recorded_sync, struct_send, struct_sync}
 use Rattle.std.proofs.Crossing as items
 use Rattle.std.specs.contracts.fs.File as file
-use Rattle.raft_memory.proofs.Sent.{memory_send}
+use Rattle.raft_memory.proofs.Sent.{memory_send, noted_field_send}
 use Rattle.raft_base.specs.contracts.history.History as history
 use Rattle.raft_disk.specs.contracts.folder.Folder as folder
 use Rattle.raft_env.specs.declared.env.FileSystem.{Ghosts as FileGhosts}
 use Rattle.raft_disk.specs.declared.disk.Disk.{Ghosts as DiskGhosts}
 use Rattle.raft_disk.specs.contracts.mirror.Mirror as mirror
 use Rattle.raft_disk.specs.contracts.refusals.DiskRefusals as refusals
-use Rattle.raft_disk.specs.contracts.told.Told as told
+use Rattle.raft_disk.specs.contracts.told.Call as call
 
-told_send : IsSend told.the_row
-told_send = search sendable depth 20
-
-told_sync : IsSync told.the_row
-told_sync = record { shared = λ d b o κ q. part_keyless told.the_row told_send q d b o }
-
-told_field_send : IsSend (told.the_field).row
-told_field_send = told_send
-
-told_field_sync : IsSync (told.the_field).row
-told_field_sync = told_sync
+call_send : IsSend call.the_row
+call_send = search (sendable, items.crosses, noted_field_send) depth 20
 
 file_send : IsSend file.the_row
 file_send = search (sendable, items.crosses) depth 20
@@ -51,7 +42,7 @@ pub folder_send : IsSend folder.the_row
 folder_send = search (
   sendable,
   items.crosses,
-  told_field_send,
+  call_send,
   file_field_send,
   history_send,
   memory_send,
@@ -61,7 +52,7 @@ pub folder_sync : IsSync folder.the_row
 folder_sync = search (
   sendable,
   items.crosses,
-  told_field_sync,
+  call_send,
   file_field_sync,
   history_sync,
   memory_send,

@@ -2,4 +2,3 @@ pub mod Calls
 pub mod Folder
 pub mod Mirror
 pub mod Counted
-pub mod Told

@@ -3,6 +3,7 @@
 
 mod disk;
 mod folder;
+mod image;
 mod mirror;
 mod opening;
 mod places;
@@ -11,5 +12,6 @@ mod told;
 
 pub use disk::Disk;
 pub use folder::{Folder, FolderFile};
+pub use image::Image;
 pub use mirror::{DiskHandle, DiskReader, DiskWriter, Mirror};
 pub use opening::{DiskFileSystem, OpenFault};

@@ -4,13 +4,15 @@ ghost use Rattle.std.specs.String.{string_bytes};
 ghost use Rattle.std.proofs.Props.{props};
 
 use crate::disk::Disk;
+use crate::image::Image;
 use crate::refusals::DiskRefusals;
 use raft_env::{FileSystem, FsFault, IoKind, Permission, parent};
 use std::alloc::Global;
 
-/// Names are on the disk before the image has them, a change of bytes is in the image and then on
-/// the disk, and a sync on the disk and then in the image. Where a change fails, the disk may differ
-/// from the image, and no file can be changed any more.
+/// Names, writes and syncs are on the disk before the image has them, another length is in the
+/// image and then on the disk. A write for which the disk has no room leaves its first bytes in
+/// both. Where another change fails, the disk may differ from the image, and no file can be changed
+/// any more.
 #[derive(Drop)]
 pub struct Mirror<D: Disk, F: FileSystem> {
     alloc: Global,
@@ -40,7 +42,7 @@ pub struct DiskWriter<D: Disk, F: FileSystem> {
     ghost same: { D.file_path file ≡ F.writer_path inner } by { Prim.hlevel props },
 }
 
-impl<D: Disk, F: FileSystem> FileSystem for Mirror<D, F> {
+impl<D: Disk, F: Image> FileSystem for Mirror<D, F> {
     ghost use Rattle.raft_env.specs.Refusal.{CountsRefusalOf, added_count};
     ghost use Rattle.raft_disk.specs.Counted.{refusals_in};
     ghost use Rattle.raft_disk.specs.Mirror.{StaysFailed, mirror_directory, mirror_moments, mirror_refusals};
@@ -209,11 +211,15 @@ impl<D: Disk, F: FileSystem> FileSystem for Mirror<D, F> {
             return Err(self.refused.count(FsFault::Io(IoKind::NotFound)));
         }
         self.failed = true;
-        self.image.write(&mut writer.inner, at, bytes)?;
-        if let Err(fault) = self.disk.write(&mut writer.file, at, bytes) {
-            return Err(self.refused.count(fault));
-        }
+        let count = match self.disk.write(&mut writer.file, at, bytes) {
+            Ok(count) => count,
+            Err(fault) => return Err(self.refused.count(fault)),
+        };
+        self.image.write_first(&mut writer.inner, at, bytes, count)?;
         self.failed = false;
+        if count < bytes.len() {
+            return Err(self.refused.count(FsFault::Io(IoKind::NoSpace)));
+        }
         Ok(())
     }
 
@@ -386,8 +392,9 @@ impl<D: Disk, F: FileSystem> Mirror<D, F> {
         }
     }
 
-    /// Whether a change failed, so that the disk may differ from the files and no file can be
-    /// changed any more. Until then the disk carried out each change that the files had.
+    /// Whether a change failed, for another cause than a write's want of space, so that the disk may
+    /// differ from the files and no file can be changed any more. Until then the disk carried out
+    /// each change that the files had.
     pub fn has_failed(&self) -> bool
         ensures value { result ≡ has_failed self.now }
         ensures ok { result ≡ false → IsOnDisk self.now }

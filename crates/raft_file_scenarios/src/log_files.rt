@@ -2,9 +2,9 @@
 ghost use Rattle.raft_files.specs.Writer.{IsWriterOf};
 
 use raft_env::{FileSystem, FsFault};
-use raft_files::{LogFileFormat, LogFileReader, LogFileWriter};
+use raft_files::{LogFileFormat, LogFileReader, LogFileWriter, LogItemBatchFileReader};
 use raft_memory::MemoryFileSystem;
-use raft_records::{FileBlockHandle, FileId, LogQueue, Version};
+use raft_records::{Fault, FileBlockHandle, FileId, LogQueue, Version};
 use std::alloc::Global;
 use std::test::Fail;
 
@@ -88,11 +88,40 @@ fn ends<F: FileSystem>(
     Ok((found.offset(), reset.offset()))
 }
 
+/// A record without items in file 1.
+const RECORD: &[u8] =
+    b"\x00\x00\x00\x00\x00\x00\x15\x00\x00\x00\x00\x00\x00\x00\x00\x10\x00\x8c\xef\x02\xd2";
+
+// A reader of a file with that record.
+fn reader_of_record<F: FileSystem>(fs: &mut F, alloc: Global) -> Result<LogFileReader<F>, FsFault> {
+    let handle = fs.create("records")?;
+    let mut writer = LogFileWriter::open(fs, alloc, &handle, V2, true)?;
+    writer.write(fs, RECORD, 0)?;
+    LogFileReader::open(fs, &handle)
+}
+
+fn is_replayed<F: FileSystem>(
+    fs: &mut F,
+    alloc: Global,
+    reader: LogFileReader<F>,
+) -> Result<bool, Fault> {
+    let mut records = LogItemBatchFileReader::new(alloc, 512);
+    let id = FileId::new(LogQueue::Append, 1);
+    let format = records.open(fs, id, "records", reader)?;
+    let items = records.next(fs)?.map(|batch| batch.into_items().len());
+    let is_at_end = records.next(fs)?.is_none() && records.valid_offset() == 90;
+    records.reset();
+    let is_closed = records.next(fs)?.is_none() && records.valid_offset() == 0;
+    Ok(format == V2 && items == Some(0) && is_at_end && is_closed)
+}
+
 fn is_written_and_read<F: FileSystem>(fs: &mut F, alloc: Global) -> Result<bool, FsFault> {
     let handle = fs.create("log")?;
     let written = first_wrong(fs, alloc, &handle)?.is_none();
     let read = is_read(fs, alloc, &handle)?;
-    Ok(written && read && ends(fs, alloc, &handle)? == (85, 61))
+    let reader = reader_of_record(fs, alloc)?;
+    let replayed = is_replayed(fs, alloc, reader) == Ok(true);
+    Ok(written && read && replayed && ends(fs, alloc, &handle)? == (85, 61))
 }
 
 #[test]

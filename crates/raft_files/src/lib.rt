@@ -1,11 +1,15 @@
 //! Log files: their names and headers, and how they are written and read.
 #![tactic(auto)]
 
+mod file_reader;
 mod format;
 pub mod laws;
 mod log_file;
 mod reader;
 
-pub use format::{FileNameExt, LogFileFormat, is_zero_padded};
+pub use file_reader::LogItemBatchFileReader;
+pub use format::{
+    FileNameExt, LogFileFormat, build_reserved_file_name, is_zero_padded, parse_reserved_file_name,
+};
 pub use log_file::{LogFileReader, LogFileWriter};
 pub use reader::RecordReader;

@@ -10,7 +10,9 @@ pub mod GroupRunLemmas
 pub mod OpeningLemmas
 pub mod PlacedLemmas
 pub mod HeldLemmas
+pub mod CacheLemmas
 pub mod FaultLemmas
 pub mod NumberedLemmas
 pub mod ImageLemmas
 pub mod FetchLemmas
+pub mod ScanLemmas

@@ -1,11 +1,13 @@
 -- Entries by their places, and what stands there.
-use Rattle.std.proofs.Common.{◌≡◌, ◌∙◌, inl, inr, ℕ, Bool, true, false, List, [], ◌∷◌, Option, Some, None, ap, sym, refl}
-use Rattle.std.proofs.lemmas.Bool.{cases_Bool}
+use Rattle.std.proofs.Common.{◌≡◌, ◌∙◌, ◌+◌, inl, inr, ℕ, Bool, true, false, List, [], ◌∷◌, Option, Some, None, ap, arith, drop, length, length-drop, sym, refl}
+use Rattle.std.proofs.lemmas.Bool.{and_parts, cases_Bool, leb-true}
+use Rattle.std.proofs.lemmas.List.{length-take-le}
 use Rattle.std.specs.List.{list_all}
-use Rattle.std.specs.Prelude.{is_some}
+use Rattle.std.specs.Prelude.{is_none, is_some, nat_le}
 use Rattle.std.specs.Map.{lookup}
 use Rattle.raft_records.specs.Contents.{first_index_of, last_index_of}
-use Rattle.raft_records.specs.Places.{Blocks, entries_in}
+use Rattle.raft_records.specs.ItemBatch.{block_refusal, is_readable_at}
+use Rattle.raft_records.specs.Places.{Blocks, bytes_in, entries_in}
 use Rattle.raft_tables.specs.Table.{StoredValue, TableView, value_at}
 use Rattle.raft_tables.specs.Tables.{Tables, contents_in, or_empty}
 use Rattle.raft_log_engine.specs.Image.{IsWithout}
@@ -34,6 +36,14 @@ found_holds {X} holds test (e ∷ es) x all found =
           ]
       | inr is ↦ let none : false ≡ true = rw is at all in absurd cc
     ]
+
+-- of a place that can be read stand as many bytes as it says
+pub length-bytes_in : (blocks : Blocks) (place : EntryPlace) → is_readable_at blocks place ≡ true → length (bytes_in blocks place) ≡ place.len
+length-bytes_in blocks place readable =
+    let block = blocks place.block in
+    let parts = and_parts (is_none (block_refusal block place.lz4)) (nat_le (place.offset + place.len) (length block)) readable in
+    let within = leb-true (place.offset + place.len) (length block) parts.1 in
+    length-take-le place.len (drop place.offset block) (omega (arith, within, length-drop place.offset block))
 
 none_of_entries : (blocks : Blocks) (es : List (ℕ × EntryPlace)) → entries_in blocks es ≡ [] → es ≡ []
 none_of_entries blocks [] none = refl

@@ -10,3 +10,4 @@ pub mod Opening
 pub mod Write
 pub mod Image
 pub mod Reads
+pub mod Scan

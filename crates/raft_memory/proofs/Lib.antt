@@ -10,3 +10,4 @@ pub mod MemoryFileLemmas
 pub mod MemoryInvariantLemmas
 pub mod MemoryLemmas
 pub mod Sent
+pub mod SettledLemmas

@@ -1,11 +1,14 @@
 -- What is true of files in memory, whatever calls were made.
-use Rattle.std.proofs.Common.{◌≡◌, ℕ, ◌≤◌, true, false, Bool, cond, List, [], ◌++◌, length, take, Option, Some, None, is_some, refl, sym, subst, inl, inr}
-use Rattle.std.specs.FinMap.{get-empty}
+use Rattle.std.proofs.Common.{◌≡◌, ℕ, ◌≤◌, true, false, Bool, cond, List, [], ◌++◌, length, take, Option, Some, None, is_some, refl, sym, subst, ap, inl, inr, arith}
+use Rattle.std.specs.FinMap as finite
+use Rattle.std.specs.Prelude.{nat_le}
+use Rattle.std.proofs.lemmas.Bool.{leb-true}
+use Rattle.std.proofs.lemmas.List.{length-take, take_all}
 use Rattle.std.proofs.lemmas.List.Elements.{All-cons, All-nil}
-use Rattle.raft_env.specs.Outcomes.{File, IsWriteIfFailed, OnlyWritesFailed, file_after_write, file_after_resize, synced_of, synced_file, renamed_of, overlay, pad_to}
+use Rattle.raft_env.specs.Outcomes.{File, Outcome, IsPartOf, IsWriteIfFailed, OnlyWritesFailed, file_after_write, file_after_resize, synced_of, synced_file, renamed_of, overlay, pad_to}
 use Rattle.raft_env.specs.Directory.{Directory, Path, file_at, with_file, update_file, update_at, after_create, after_rename, without_file, folder_made}
 use Rattle.raft_env.specs.Consistent.{IsConsistent, AreConsistent, OnlyWritesFailedIn}
-use Rattle.raft_memory.specs.Memory.{memory_directory, no_files}
+use Rattle.raft_memory.specs.Memory.{memory_directory, no_files, after_first}
 use Rattle.raft_memory.specs.declared.memory.MemoryFileSystem.{MemoryFileSystem}
 use Rattle.raft_env.proofs.DirectoryLemmas.{writing_part}
 use Rattle.raft_env.proofs.ConsistentLemmas.{placed_cases, settled_consistent, synced_consistent, renamed_consistent, renamed_each, without_each, written_consistent, allocated_consistent, cut_consistent}
@@ -17,11 +20,11 @@ Invariant n = record { consistent : AreConsistent n; only_writes : OnlyWritesFai
 -- Files.
 
 -- what they say of one file
-record Holds (file : File) : Type 0 where
+pub record Holds (file : File) : Type 0 where
   pub consistent : IsConsistent file
   pub only_writes : OnlyWritesFailed (file.changes ++ file.older)
 
-settled_holds : (bytes : List ℕ) → Holds (synced_file bytes)
+pub settled_holds : (bytes : List ℕ) → Holds (synced_file bytes)
 settled_holds bytes = record { consistent = settled_consistent bytes; only_writes = All-nil IsWriteIfFailed }
 
 synced_holds : (file : File) → Holds file → Holds (synced_of file)
@@ -42,18 +45,26 @@ resized_holds after file old consistent = record {
   only_writes = All-cons IsWriteIfFailed _ (file.changes ++ file.older) (λ refused. absurd cc) old.only_writes;
 }
 
+-- what a write of the first bytes leaves: all of them, or others in its range alone
+pub first_outcome : (at : ℕ) (given : List ℕ) (count : ℕ) (now : List ℕ) → Outcome (nat_le (length given) count) (overlay now at given) (IsPartOf at (length given) now) (overlay now at (take count given))
+first_outcome at given count now = by_test (nat_le (length given) count) refl
+  where
+    by_test : (all : Bool) → nat_le (length given) count ≡ all → Outcome all (overlay now at given) (IsPartOf at (length given) now) (overlay now at (take count given))
+    by_test true is = ap (overlay now at) (take_all count given (leb-true (length given) count is))
+    by_test false is = writing_part at given (take count given) (omega (arith, length-take count given)) now
+
 -- Directories.
 
-abbrev Each : Directory → Type 0
+abbrev pub Each : Directory → Type 0
 Each n = (path : Path) (file : File) → file_at n path ≡ Some file → Holds file
 
-of_each : (n : Directory) → Each n → Invariant n
+pub of_each : (n : Directory) → Each n → Invariant n
 of_each n each = record {
   consistent = λ path file stands. (each path file stands).consistent;
   only_writes = λ path file stands. (each path file stands).only_writes;
 }
 
-placed_each : (path : Path) (file : File) (n : Directory) → Each n → Holds file → Each (with_file path file n)
+pub placed_each : (path : Path) (file : File) (n : Directory) → Each n → Holds file → Each (with_file path file n)
 placed_each path file n each holds q found stands = elim (placed_cases path q file found n stands) [
   | inl same ↦ subst Holds same holds
   | inr stood ↦ each q found stood
@@ -80,6 +91,10 @@ module _ (m : MemoryFileSystem) (new : Directory) where
   pub invariant-written_part : (path : Path) (at : ℕ) (given kept : List ℕ) → length kept ≤ length given → new ≡ update_file path (λ f. file_after_write at given false (overlay f.now at kept) f) (memory_directory m) → Invariant new
   invariant-written_part path at given kept part = invariant-changed path _ (λ file holds. written_holds at given _ false file holds (written_consistent at given _ false file holds.consistent (writing_part at given kept part file.now)))
 
+  -- a write of so many of its bytes
+  pub invariant-written_first : (path : Path) (at : ℕ) (given : List ℕ) (count : ℕ) → new ≡ update_file path (after_first at given count) (memory_directory m) → Invariant new
+  invariant-written_first path at given count = invariant-changed path _ (λ file holds. written_holds at given _ _ file holds (written_consistent at given _ _ file holds.consistent (first_outcome at given count file.now)))
+
   pub invariant-cut : (path : Path) (size : ℕ) → new ≡ update_file path (λ f. file_after_resize (take size f.now) f) (memory_directory m) → Invariant new
   invariant-cut path size = invariant-changed path _ (λ file holds. resized_holds _ file holds (cut_consistent size _ true file holds.consistent refl))
 
@@ -105,10 +120,11 @@ module _ (m : MemoryFileSystem) (new : Directory) where
   pub invariant-folder_made : (path : Path) → new ≡ folder_made path (memory_directory m) → Invariant new
   invariant-folder_made path is = subst Invariant (sym is) (of_each (folder_made path (memory_directory m)) each_now)
 
+-- no file stands, whatever folders do
+pub no_files_each : (is_folder : Path → Bool) → Each (record { files = finite.empty; is_folder = is_folder })
+no_files_each is_folder path file stands =
+    let none : file_at (record { files = finite.empty; is_folder = is_folder }) path ≡ None = finite.get-empty _ path in
+    absurd (cc (none, stands))
+
 pub invariant-no_files : (n : Directory) → n ≡ no_files → Invariant n
-invariant-no_files n is = subst Invariant (sym is) (of_each no_files (λ path file stands. absurd (absent path file stands)))
-  where
-    absent : (path : Path) (file : File) → file_at no_files path ≡ Some file → ⊥
-    absent path file stands =
-        let none : file_at no_files path ≡ None = get-empty _ path in
-        absurd (cc (none, stands))
+invariant-no_files n is = subst Invariant (sym is) (of_each no_files (no_files_each no_files.is_folder))

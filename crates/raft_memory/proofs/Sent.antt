@@ -11,6 +11,7 @@ use Rattle.raft_memory.specs.contracts.armed.Armed as armed
 use Rattle.raft_memory.specs.contracts.namespace.Namespace as tree
 use Rattle.raft_memory.specs.contracts.memory_file.MemoryFile as file
 use Rattle.raft_memory.specs.contracts.ghost_file.GhostFile as known
+use Rattle.raft_memory.specs.contracts.noted.NotedBytes as noted
 use Rattle.raft_base.specs.contracts.history.History as history
 
 known_send : IsSend known.the_row
@@ -31,6 +32,21 @@ known_field_send = known_send
 
 known_field_sync : IsSync (known.the_field).row
 known_field_sync = known_sync
+
+noted_inside_send : IsSend noted.TheInside.the_row
+noted_inside_send = search (sendable, items.crosses, known_field_send) depth 20
+
+noted_inside_sync : IsSync noted.TheInside.the_row
+noted_inside_sync = search (sendable, items.crosses, known_field_sync) depth 20
+
+pub noted_send : IsSend noted.the_row
+noted_send = view_send noted.TheInside.the_row _ _ _ _ noted_inside_send
+
+pub noted_sync : IsSync noted.the_row
+noted_sync = view_sync noted.TheInside.the_row _ _ _ _ noted_inside_sync
+
+pub noted_field_send : IsSend (noted.the_field).row
+noted_field_send = noted_send
 
 inside_send : IsSend file.TheInside.the_row
 inside_send = search (sendable, items.crosses, known_field_send) depth 20

@@ -7,3 +7,4 @@ pub mod Memory
 pub mod Refused
 pub mod Choice
 pub mod Crashed
+pub mod Settled

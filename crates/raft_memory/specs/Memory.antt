@@ -1,7 +1,7 @@
 -- What a file system in memory shows.
 use Rattle.std.specs.Prelude.{◌≡◌, ℕ, ◌+◌, ◌^◌, ◌==◌, ◌/◌, false, nat_le, if◌then◌else◌, List, ◌∷◌, length, map, take, Option, Some}
 use Rattle.std.specs.FinMap as finite
-use Rattle.raft_env.specs.Outcomes.{file_after_write, overlay}
+use Rattle.raft_env.specs.Outcomes.{File, file_after_write, overlay}
 use Rattle.raft_env.specs.Directory.{Directory, Path, update_file}
 use Rattle.raft_env.specs.declared.env.FsFault.{FsFault}
 use Rattle.raft_env.specs.declared.env.FsFault.TheVariants.{Io}
@@ -38,6 +38,12 @@ armed_of memory = arms_of memory.armed.refusals.items
 -- which of the changing calls from now on is the first that fails
 abbrev pub stop_of : MemoryFileSystem → Option ℕ
 stop_of memory = memory.armed.stop
+
+-- a file after a write of which so many bytes were written, the first ones; it failed where these
+-- aren't all
+abbrev pub after_first : ℕ → List ℕ → ℕ → File → File
+after_first at given count file = file_after_write at given (nat_le (length given) count)
+    (overlay file.now at (take count given)) file
 
 -- with the first half of the bytes, rounded down, written to the file there by a failed call
 abbrev pub half_written : Path → ℕ → List ℕ → Directory → Directory

@@ -10,9 +10,13 @@ mod handles;
 mod memory;
 mod memory_file;
 mod namespace;
+mod noted;
 mod refusals;
+mod settled;
+mod write_first;
 
 pub use armed::FsCall;
 pub use crash::Choice;
 pub use handles::{MemoryHandle, MemoryReader, MemoryWriter};
 pub use memory::MemoryFileSystem;
+pub use noted::NotedBytes;

@@ -1,5 +1,6 @@
 pub mod Blocks
 pub mod Config
+pub mod Sanitized
 pub mod Completed
 pub mod Folder
 pub mod LogFile

@@ -17,8 +17,15 @@ pub enum Change {
 pub enum Plan {
     /// The changes as one batch, synced where that is asked.
     Write(&'static [Change], bool),
+    /// Batches that are written at once, and which of them ask for a sync.
+    WriteGroup(&'static [(&'static [Change], bool)]),
     Sync,
     Get(u64, &'static [u8]),
+    CompactTo(u64, u64),
+    Entry(u64, u64),
+    First(u64),
+    Last(u64),
+    Groups,
 }
 
 /// What a crash is to leave of the log.
@@ -31,7 +38,14 @@ pub enum Left {
 
 pub enum Answer {
     Size(usize),
+    /// Of each batch of a group the length of its record, or the code with which it fails.
+    Sizes(&'static [Result<usize, u8>]),
     Value(Option<&'static [u8]>),
+    Count(u64),
+    /// The entry with this index and word.
+    Entry(u64, &'static [u8]),
+    Index(Option<u64>),
+    Groups(&'static [u64]),
     /// It fails with this code.
     Fails(u8),
 }
@@ -72,11 +86,28 @@ fn acts_of(alloc: Global, changes: &[Change]) -> Result<Vec<Act>, AllocError> {
     Ok(acts)
 }
 
+fn parts_of(
+    alloc: Global,
+    parts: &[(&[Change], bool)],
+) -> Result<Vec<(Vec<Act>, bool)>, AllocError> {
+    let mut of = Vec::new(alloc);
+    for part in parts {
+        of.push((acts_of(alloc, part.0)?, part.1))?;
+    }
+    Ok(of)
+}
+
 fn op_of(alloc: Global, plan: &Plan) -> Result<Op, AllocError> {
     match plan {
         Plan::Write(changes, sync) => Ok(Op::Write(acts_of(alloc, changes)?, *sync)),
+        Plan::WriteGroup(parts) => Ok(Op::WriteGroup(parts_of(alloc, parts)?)),
         Plan::Sync => Ok(Op::Sync),
         Plan::Get(group, key) => Ok(Op::Get(*group, key.to_vec(alloc)?)),
+        Plan::CompactTo(group, index) => Ok(Op::CompactTo(*group, *index)),
+        Plan::Entry(group, index) => Ok(Op::Entry(*group, *index)),
+        Plan::First(group) => Ok(Op::First(*group)),
+        Plan::Last(group) => Ok(Op::Last(*group)),
+        Plan::Groups => Ok(Op::Groups),
     }
 }
 
@@ -101,17 +132,42 @@ pub fn choice_of(alloc: Global, left: &Left) -> Result<Choice, AllocError> {
 pub fn fault_of(outcome: &Outcome) -> Option<&Fault> {
     match outcome {
         Outcome::Size(answer) => answer.as_ref().err(),
+        Outcome::Sizes(answer) => answer.as_ref().err(),
         Outcome::Done(answer) => answer.as_ref().err(),
         Outcome::Value(answer) => answer.as_ref().err(),
+        Outcome::Count(answer) => answer.as_ref().err(),
+        Outcome::Entry(answer) => answer.as_ref().err(),
+        Outcome::Index(_) => None,
+        Outcome::Groups(answer) => answer.as_ref().err(),
     }
+}
+
+fn are_sizes(sizes: &[Result<usize, Fault>], wanted: &[Result<usize, u8>]) -> bool {
+    let mut equal = sizes.len() == wanted.len();
+    for (size, wanted) in sizes.iter().zip(wanted.iter()) {
+        equal = equal
+            && match (size, wanted) {
+                (Ok(size), Ok(wanted)) => *size == *wanted,
+                (Err(fault), Err(code)) => fault.code() == *code,
+                _ => false,
+            };
+    }
+    equal
 }
 
 fn is_answer(outcome: &Outcome, answer: &Answer) -> bool {
     match (outcome, answer) {
         (Outcome::Size(Ok(size)), Answer::Size(wanted)) => *size == *wanted,
+        (Outcome::Sizes(Ok(sizes)), Answer::Sizes(wanted)) => are_sizes(sizes, wanted),
         (Outcome::Value(Ok(Some(value))), Answer::Value(Some(wanted))) => value.as_slice()
             == *wanted,
         (Outcome::Value(Ok(None)), Answer::Value(None)) => true,
+        (Outcome::Count(Ok(count)), Answer::Count(wanted)) => *count == *wanted,
+        (Outcome::Entry(Ok(Some(entry))), Answer::Entry(index, word)) => {
+            entry.index == *index && entry.word.as_slice() == *word
+        }
+        (Outcome::Index(index), Answer::Index(wanted)) => *index == *wanted,
+        (Outcome::Groups(Ok(groups)), Answer::Groups(wanted)) => groups.as_slice() == *wanted,
         (_, Answer::Fails(code)) => match fault_of(outcome) {
             Some(fault) => fault.code() == *code,
             None => false,

@@ -129,16 +129,38 @@ fn after_act(state: State, act: &Act) -> State {
     }
 }
 
-/// The state after an operation that was done.
+/// How many entries of a group have an index below this one.
+pub fn count_below(state: State, group: u64, index: u64) -> u64 {
+    let before = compacted(state, group, index).words;
+    let mut count: u64 = 0;
+    for (word, left) in state.words.iter().zip(before.iter()) {
+        if *word != *left {
+            count = count.saturating_add(1);
+        }
+    }
+    count
+}
+
+fn after_acts(state: State, acts: &[Act]) -> State {
+    let mut state = state;
+    for act in acts {
+        state = after_act(state, act);
+    }
+    state
+}
+
+/// The state after an operation that was done, of a group with each of its batches.
 pub fn after(state: State, op: &Op) -> State {
     let mut state = state;
     match op {
-        Op::Write(acts, _) => {
-            for act in acts {
-                state = after_act(state, act);
+        Op::Write(acts, _) => state = after_acts(state, acts),
+        Op::WriteGroup(parts) => {
+            for part in parts {
+                state = after_acts(state, &part.0);
             }
         }
-        Op::Sync | Op::Get(_, _) => {}
+        Op::CompactTo(group, index) => state = compacted(state, *group, *index),
+        Op::Sync | Op::Get(_, _) | Op::Entry(_, _) | Op::First(_) | Op::Last(_) | Op::Groups => {}
     }
     state
 }
@@ -171,12 +193,17 @@ pub fn state_of(image: &Image) -> State {
     state
 }
 
-/// Whether the operation was done: a write with its record, a sync, a look-up.
+/// Whether the operation was done: a write with its record, a group, a sync, a compaction, a read.
 pub fn is_done(outcome: &Outcome) -> bool {
     match outcome {
         Outcome::Size(answer) => answer.is_ok(),
+        Outcome::Sizes(answer) => answer.is_ok(),
         Outcome::Done(answer) => answer.is_ok(),
         Outcome::Value(answer) => answer.is_ok(),
+        Outcome::Count(answer) => answer.is_ok(),
+        Outcome::Entry(answer) => answer.is_ok(),
+        Outcome::Index(_) => true,
+        Outcome::Groups(answer) => answer.is_ok(),
     }
 }
 
@@ -189,8 +216,9 @@ pub fn first_refused(outcomes: &[Outcome]) -> Option<usize> {
 fn covers(op: &Op) -> bool {
     match op {
         Op::Write(_, sync) => *sync,
+        Op::WriteGroup(parts) => parts.iter().any(|part| part.1),
         Op::Sync => true,
-        Op::Get(_, _) => false,
+        _ => false,
     }
 }
 
@@ -245,6 +273,6 @@ pub const OPERATIONS: [Plan; 13] = [
         &[Change::Entries(3, 3, 5, b"y"), Change::Put(1, b"b", &[7])],
         true,
     ),
-    Plan::Write(&[Change::Compact(3, 2)], false),
+    Plan::CompactTo(3, 2),
     Plan::Write(&[Change::Clean(2), Change::Compact(3, 4)], false),
 ];

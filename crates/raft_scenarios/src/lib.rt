@@ -4,6 +4,12 @@
 #[cfg(test)]
 mod crashes;
 #[cfg(test)]
+mod entries;
+#[cfg(test)]
 mod opening;
 #[cfg(test)]
 mod program;
+#[cfg(test)]
+mod reads;
+#[cfg(test)]
+mod scans;

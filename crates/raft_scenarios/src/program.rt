@@ -7,9 +7,13 @@ use std::process::Abort;
 use std::test::Fail;
 
 /// A script, what it prints, and how it ends.
-struct Case(&'static str, &'static str, Ended);
+pub(crate) struct Case(
+    pub(crate) &'static str,
+    pub(crate) &'static str,
+    pub(crate) Ended,
+);
 
-const CASES: [Case; 32] = [
+const CASES: [Case; 24] = [
     Case(
         "put 1 k v sync\nreopen\nget 1 k\nget 1 x\n",
         "ok\nok\nvalue v\nnone\n",
@@ -79,40 +83,19 @@ const CASES: [Case; 32] = [
     Case("sync\ncrash\n", "ok\n", Ended::BadLine(2)),
     Case("crash all now\n", "", Ended::BadLine(1)),
     Case("crash none\n", "", Ended::BadLine(1)),
-    // Entries follow one another.
-    Case(
-        "ent 1 1 3 w\nent 1 5 5 w\nent 1 4 4 w\n",
-        "ok\nrefused 5 gap\nok\n",
-        Ended::Done,
-    ),
-    Case(
-        "ent 1 1 3 w\nent 1 2 2 w\nent 1 4 4 w\nent 1 3 3 w\n",
-        "ok\nok\nrefused 5 gap\nok\n",
-        Ended::Done,
-    ),
-    Case(
-        "ent 1 18446744073709551615 18446744073709551615 w\nent 1 18446744073709551614 18446744073709551614 w\n",
-        "refused 6 range\nok\n",
-        Ended::Done,
-    ),
-    Case("ent 1 3 2 w\n", "", Ended::BadLine(1)),
-    Case("ent 1 3 w\n", "", Ended::BadLine(1)),
-    Case("ent 1 1 1 w now\n", "", Ended::BadLine(1)),
-    Case(
-        "put 1 k v\nent 1 1 3 w sync\nclean 1\nget 1 k\nent 1 7 7 w\nreopen\nent 1 9 9 w\n",
-        "ok\nok\nok\nnone\nok\nok\nrefused 5 gap\n",
-        Ended::Done,
-    ),
-    Case("clean 1 2\n", "", Ended::BadLine(1)),
 ];
 
-#[test]
-fn puts_and_gets(rt: HostRuntime) -> Result<(), Fail> {
-    for Case(script, wanted, ended) in &CASES {
-        let mut printed = Vec::new(rt.alloc());
-        let how = serve(rt.alloc(), script.as_bytes(), &mut printed);
+pub(crate) fn are_printed(rt: &impl Abort, alloc: Global, cases: &[Case]) {
+    for Case(script, wanted, ended) in cases {
+        let mut printed = Vec::new(alloc);
+        let how = serve(alloc, script.as_bytes(), &mut printed);
         assert_eq!(rt; how, *ended, "at {script}");
         assert_eq!(rt; printed.as_slice(), wanted.as_bytes(), "at {script}");
     }
+}
+
+#[test]
+fn puts_and_gets(rt: HostRuntime) -> Result<(), Fail> {
+    are_printed(&rt, rt.alloc(), &CASES);
     Ok(())
 }

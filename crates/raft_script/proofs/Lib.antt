@@ -1,5 +1,6 @@
 pub mod DurabilityLemmas
 pub mod EntryLemmas
+pub mod GroupLemmas
 pub mod LineLemmas
 pub mod LineReadingLemmas
 pub mod ProgramLemmas

@@ -9,7 +9,7 @@ use Rattle.std.proofs.lemmas.Bool.{le-ltb, lt-ltb}
 use Rattle.std.proofs.lemmas.Bool.Decides.{nat_tests}
 use Rattle.std.proofs.lemmas.List.{drop-drop, drop_all, drop_more, length-drop, take_all}
 use Rattle.std.proofs.lemmas.List.Splits.{slice_split_first}
-use Rattle.raft_script.specs.Line.{BeginsWith, Delete, Get, HasNoWord, Put, Reopen, if_last, parsed_words, delete_by, get_by, is_word, number_in, put_by, sync_by, torn_by, with_number, words_in}
+use Rattle.raft_script.specs.Line.{BeginsWith, Delete, Get, Groups, HasNoWord, Put, Reopen, if_last, parsed_words, delete_by, get_by, is_word, number_in, put_by, sync_by, torn_by, with_number, words_in}
 use Rattle.raft_script.specs.declared.line.CrashChoice.{CrashChoice}
 use Rattle.raft_script.specs.declared.line.CrashChoice.TheVariants.{Torn}
 
@@ -227,6 +227,9 @@ pub nothing_follows : {T : Type 0} (x : T) (found : Option (List (List ℕ))) �
 nothing_follows x None e = cc
 nothing_follows x (Some []) e = refl
 nothing_follows x (Some (word ∷ words)) e = cc
+
+pub asked_groups : (verb : List ℕ) (found : Option (List (List ℕ))) → verb ≡ codes "groups" → option_and_then (λ words. parsed_words (verb ∷ words)) found ≡ option_and_then (if_last Groups) found
+asked_groups verb found e = ap (λ v. option_and_then (λ words. parsed_words (v ∷ words)) found) e
 
 pub asked_reopen : (verb : List ℕ) (found : Option (List (List ℕ))) → verb ≡ codes "reopen" → option_and_then (λ words. parsed_words (verb ∷ words)) found ≡ option_and_then (if_last Reopen) found
 asked_reopen verb found e = ap (λ v. option_and_then (λ words. parsed_words (v ∷ words)) found) e

@@ -1,21 +1,28 @@
 -- The moments of operations on an engine, divided by its answers.
-use Rattle.std.proofs.Common.{◌≡◌, ◌⊎◌, ◌∙◌, true, false, List, [], ◌∷◌, ◌++◌, append_assoc, refl, sym, subst, ap, inl, inr}
+use Rattle.std.proofs.Common.{◌≡◌, ◌⊎◌, ◌∙◌, ℕ, Bool, true, false, List, [], ◌∷◌, ◌++◌, append_assoc, refl, sym, subst, ap, arith, inl, inr}
+use Rattle.std.specs.Prelude.{Result, Err, if◌then◌else◌}
 use Rattle.std.proofs.lemmas.Bool.{cases_Bool}
+use Rattle.raft_base.specs.declared.errors.Fault.{Fault}
+use Rattle.raft_base.specs.declared.errors.Fault.TheVariants as fault
 use Rattle.raft_env.proofs.MomentsLemmas.{passes_weaker}
 use Rattle.raft_env.specs.Directory.{Directory, Path}
 use Rattle.raft_env.specs.Moments.{HoldsThroughout}
 use Rattle.raft_env.specs.declared.env.FileSystem.{Ghosts}
 use Rattle.raft_log_engine.specs.Answered.{Answered, Snapshot}
-use Rattle.raft_log_engine.specs.Crash.{LeavesAllowed, LeavesAllowedFrom}
-use Rattle.raft_log_engine.specs.Durability.{Durability}
-use Rattle.raft_log_engine.specs.Engine.{answer_now, answered_of, durable_of, folder_of, snapshot_of, unsynced_of}
+use Rattle.raft_log_engine.specs.Contents.{recovered_contents}
+use Rattle.raft_log_engine.specs.Crash.{LeavesAllowed, LeavesAllowedFrom, pending_of, written_batch}
+use Rattle.raft_log_engine.specs.Durability.{Durability, HasOnlyRead, Progresses, StaysFailed, accepted_by, durability_of}
+use Rattle.raft_log_engine.specs.Engine.{answer_now, answered_of, contents_of, directory_of, durable_of, folder_of, has_failed, moments_of, snapshot_of, unsynced_of}
 use Rattle.raft_log_engine.specs.declared.engine.Engine.{Engine}
 use Rattle.raft_records.specs.Contents.{Contents, after_batches}
 use Rattle.raft_records.specs.Item.{Batch}
-use Rattle.raft_script.specs.Durability.{Answers, AreAllowedInside, IsAllowedInside, LeavesInside, PassesThrough, Progress, progress_after, progress_after_all, progress_from}
-use Rattle.raft_script.specs.Run.{IsFailing, IsGiven, IsUnnoted}
+use Rattle.raft_script.specs.Durability.{Answers, AreAllowedInside, Does, IsAllowedInside, LeavesInFlight, LeavesInside, PassesThrough, Progress, progress_after, progress_after_all, progress_from}
+use Rattle.raft_script.specs.Run.{IsFailing, IsGiven, IsUnnoted, MayBeInFlight, accepted_of, compaction_in, is_covering}
 use Rattle.raft_script.specs.declared.operation.Op.{Op}
+use Rattle.raft_script.specs.declared.operation.Op.TheVariants.{CompactTo}
 use Rattle.raft_script.specs.declared.operation.Outcome.{Outcome}
+use Rattle.raft_script.specs.declared.operation.Outcome.TheVariants.{Count}
+use Rattle.raft_script.proofs.DurabilityLemmas.{compaction_progress}
 
 -- operations after others
 module _ (folder : Path) (m : Contents) (mid now : Snapshot) (mid_notes notes : List Answered) (more : List Op) (more_outcomes : List Outcome) where
@@ -42,8 +49,8 @@ through_moments folder m p before noted (op ∷ ops) (o ∷ outcomes) now notes 
 
 -- what holds of each engine between two calls
 pub record Keeps (folder : Path) (now : Durability) (n : Directory) : Type 0 where
-  pub leaves : LeavesAllowed folder now.durable now.unsynced n
-  pub holds : now.failed ≡ false → now.contents ≡ after_batches now.durable now.unsynced
+  pub leaves : LeavesAllowed folder (recovered_contents now.base) now.unsynced n
+  pub holds : now.failed ≡ false → recovered_contents (now.base ++ now.unsynced) ≡ after_batches (recovered_contents now.base) now.unsynced
 
 -- the moments of one call: those inside it, and the newest of them once it is answered
 module _ (folder : Path) (m : Contents) (p : Progress) (op : Op) (outcome : Outcome) (before : Snapshot) (answer : Answered) (given : IsGiven before.failed (after_batches m p.batches) op answer.given) (P : Directory → Type 0) (n : Directory) where
@@ -56,12 +63,78 @@ module _ (folder : Path) (m : Contents) (p : Progress) (op : Op) (outcome : Outc
         record { given = given; added = all.added; is = all.is; inside = all.each; fails = fails; after = after }
   ]
 
+module _ {F H R W : Type 0} {g : Ghosts F H R W} (old new : Engine F H R W g) where
+  -- an engine that only read has no other moments, and stands or has failed as before
+  same_snapshot : HasOnlyRead old new → snapshot_of new ≡ snapshot_of old
+  same_snapshot read =
+      ap (λ (l : List Directory). let s : Snapshot = record { moments = l; failed = has_failed new } in s) read.moments
+      ∙ ap (λ (d : Durability). let s : Snapshot = record { moments = moments_of old; failed = d.failed } in s) read.state
+
+  -- what it has done
+  pub does_read : (op : Op) (outcome : Outcome) → IsUnnoted op outcome → HasOnlyRead old new → accepted_of (contents_of old) op outcome ≡ [] → is_covering op outcome ≡ false → MayBeInFlight (contents_of old) op [] → IsGiven (has_failed old) (contents_of old) op [] → Does op outcome old new
+  does_read op outcome unnoted read none covers_none flight given = record {
+    flight = [];
+    may_be = flight;
+    given = [];
+    is_given = given;
+    progress = inl (record {
+      none = none;
+      covers_none = covers_none;
+      failed = ap (λ (d : Durability). d.failed) read.state;
+      base = ap (λ (d : Durability). d.base) read.state;
+      unsynced = ap (λ (d : Durability). d.unsynced) read.state;
+    });
+    answers = inl (unnoted, read);
+  }
+
+-- the moments of a call that has these batches in flight
+pub in_flight : {F H R W : Type 0} {g : Ghosts F H R W} (e : Engine F H R W g) (op : Op) (flight : List Batch) (after : List Directory) (n : Directory) → MayBeInFlight (contents_of e) op flight
+    → HoldsThroughout (moments_of e) after n (LeavesAllowed (folder_of e) (durable_of e) (unsynced_of e ++ flight)) → HoldsThroughout (moments_of e) after n (LeavesInFlight op e)
+in_flight e op flight after n may_be = passes_weaker _ _ (moments_of e) after n (λ x leaves. ∣ (flight, may_be, leaves) ∣₁)
+
+module _ {F H R W : Type 0} {g : Ghosts F H R W} (old new : Engine F H R W g) (group index : ℕ) (result : Result ℕ Fault) where
+  -- what a compaction has done
+  pub does_compact : let batch = compaction_in (contents_of old) group index in
+      Progresses (accepted_by result (written_batch batch)) false (pending_of (contents_of old) batch) (durability_of old) (durability_of new)
+      → HoldsThroughout (moments_of old) (moments_of new) (directory_of new) (LeavesAllowed (folder_of old) (durable_of old) (unsynced_of old ++ pending_of (contents_of old) batch))
+      → (has_failed old ≡ true → answered_of new ≡ answer_now [] new ∷ answered_of old) × (has_failed old ≡ false → (answered_of new ≡ answer_now (written_batch batch) new ∷ answered_of old) ⊎ ((result ≡ Err fault.Memory) × HasOnlyRead old new))
+      → (has_failed old ≡ true → StaysFailed old new) → Does (CompactTo group index) (Count result) old new
+  does_compact progress moments answered stays =
+      let m = contents_of old in
+      let batch = compaction_in m group index in
+      record {
+        flight = pending_of m batch;
+        may_be = refl;
+        given = if has_failed old then [] else written_batch batch;
+        is_given = refl;
+        progress = compaction_progress m group index result (pending_of m batch) (durability_of old) (durability_of new) progress;
+        answers = elim (cases_Bool (has_failed old)) [
+          | inl failed ↦ inr (record {
+            noted = answered.0 failed ∙ ap (λ (b : Bool). answer_now (if b then [] else written_batch batch) new ∷ answered_of old) (sym failed);
+            moments = λ alive. in_flight old (CompactTo group index) (pending_of m batch) (moments_of new) (directory_of new) refl moments;
+            rests = λ failed. (stays failed).moments;
+          })
+          | inr alive ↦ elim (answered.1 alive) [
+            | inl noted ↦ inr (record {
+              noted = noted ∙ ap (λ (b : Bool). answer_now (if b then [] else written_batch batch) new ∷ answered_of old) (sym alive);
+              moments = λ alive. in_flight old (CompactTo group index) (pending_of m batch) (moments_of new) (directory_of new) refl moments;
+              rests = λ failed. (stays failed).moments;
+            })
+            | inr read ↦ inl (subst (λ (r : Result ℕ Fault). IsUnnoted (CompactTo group index) (Count r)) (sym read.0) refl, read.1)
+          ]
+        ];
+      }
+
+-- an engine that isn't asked only read
+pub read_same : {F H R W : Type 0} {g : Ghosts F H R W} (e : Engine F H R W g) → HasOnlyRead e e
+read_same e = record { files = refl; moments = refl; refusals = (omega arith, omega arith); folder = refl; state = refl; answered = refl; begun = refl }
+
 -- one operation more
-module _ {F H R W : Type 0} {g : Ghosts F H R W} (ops : List Op) (outcomes : List Outcome) (op : Op) (outcome : Outcome) (e old new : Engine F H R W g) (a : AreAllowedInside ops outcomes e old) (given flight : List Batch) where
-  pub allowed_more : (IsUnnoted op outcome × (new ≡ old)) ⊎ Answers given flight old new → (Answers given flight old new → IsAllowedInside (folder_of e) (durable_of e) (progress_after_all (durable_of e) (progress_from (unsynced_of e)) ops outcomes) op outcome (snapshot_of old) (answer_now given new))
+module _ {F H R W : Type 0} {g : Ghosts F H R W} (ops : List Op) (outcomes : List Outcome) (op : Op) (outcome : Outcome) (e old new : Engine F H R W g) (a : AreAllowedInside ops outcomes e old) (given : List Batch) where
+  pub allowed_more : (IsUnnoted op outcome × HasOnlyRead old new) ⊎ Answers op given old new → (Answers op given old new → IsAllowedInside (folder_of e) (durable_of e) (progress_after_all (durable_of e) (progress_from (unsynced_of e)) ops outcomes) op outcome (snapshot_of old) (answer_now given new))
       → AreAllowedInside (ops ++ op ∷ []) (outcomes ++ outcome ∷ []) e new
   allowed_more answers inside =
       through-append (folder_of e) (durable_of e) (snapshot_of old) (snapshot_of new) (answered_of old) (answered_of new) (op ∷ []) (outcome ∷ []) (progress_from (unsynced_of e)) (snapshot_of e) (answered_of e) ops outcomes a (elim answers [
-        | inl none ↦ inl (none.0, (ap snapshot_of none.1, ap answered_of none.1))
+        | inl none ↦ inl (none.0, (same_snapshot old new none.1, none.1.answered))
         | inr asked ↦ inr (answer_now given new, inside asked, (refl, asked.noted))
       ])

@@ -1,6 +1,6 @@
 -- Operations under way: the batch of acts, and what the operations so far leave.
-use Rattle.std.proofs.Common.{◌≡◌, ℕ, zero, suc, ◌+◌, ◌<◌, ◌≤◌, Bool, true, false, cond, inl, inr, List, [], ◌∷◌, ◌++◌, length, length-append, length-drop, take, drop, drop-cons, get_or, Option, Some, None, refl, sym, ◌∙◌, ap, subst, append_assoc, arith}
-use Rattle.std.specs.Prelude.{◌^◌, ◌⊎◌, ◌||◌, ◌↔◌, IfErr, IfOk, IsSome, IsSomeAnd, MatchResult, Result, Ok, Err, is_some, option_map}
+use Rattle.std.proofs.Common.{◌≡◌, ℕ, zero, suc, ◌+◌, ◌<◌, ◌≤◌, Bool, true, false, cond, inl, inr, ⊎_elim, List, [], ◌∷◌, ◌++◌, length, length-append, length-drop, take, drop, drop-cons, get_or, Option, Some, None, refl, sym, ◌∙◌, ap, subst, append_assoc, arith}
+use Rattle.std.specs.Prelude.{◌^◌, ◌⊎◌, ◌||◌, ◌↔◌, if◌then◌else◌, IfErr, IfOk, IsSome, IsSomeAnd, MatchResult, Result, Ok, Err, String, Vec, is_some, option_map}
 use Rattle.std.proofs.lemmas.Bool.{cases_Bool}
 use Rattle.std.proofs.lemmas.List.{append-nil, nil_from_length}
 use Rattle.std.proofs.lemmas.List.Sums.{fold-append, sum_by-append}
@@ -15,16 +15,26 @@ use Rattle.raft_records.specs.Validity.{IsValidBatch, batch_refusal}
 use Rattle.raft_base.specs.Fault.{fault_code}
 use Rattle.raft_base.specs.declared.errors.Fault.{Fault}
 use Rattle.raft_base.specs.declared.errors.Fault.TheVariants as fault
+use Rattle.raft_base.specs.declared.errors.IoKind.{IoKind}
+use Rattle.std.specs.declared.alloc.Global.{Global}
 use Rattle.raft_log_engine.specs.Cause as engine
+use Rattle.raft_pipes.specs.Queue.{IsRefusalIn}
 use Rattle.raft_log_engine.specs.Durability.{HasWritten}
 use Rattle.raft_log_engine.specs.Engine.{contents_of, has_failed, refusals_of}
 use Rattle.raft_log_engine.specs.declared.engine.Engine.{Engine}
-use Rattle.raft_script.specs.Run.{accepted_batches, accepted_of, AreAnswers, AreSteady, FailsAt, IsFailing, IsFailurePlace, Refuses, StorageRefusalsRoseBy, batch_of_acts, io_count, is_refused_by_storage, IsAnswer, IsUnbuilt, IsGiven, IsWritten, IsWriteRefusal, items_of_act, with_items, written_batches}
+use Rattle.raft_log_engine.specs.Crash.{written_batch}
+use Rattle.raft_script.specs.Run.{accepted_batches, accepted_of, AreAnswers, AreSteady, FailsAt, IsFailing, IsFailurePlace, Refuses, StorageRefusalsRoseBy, batch_of_acts, io_count, io_in, is_failure, is_io, AreGroupsOf, IsAnswer, IsEngineRefusal, IsGetRefusal, IsSteadyBy, IsTextRefusal, IsUnbuilt, IsGiven, IsWritten, IsWriteRefusal, compaction_in, items_of_act, with_items, written_batches}
+use Rattle.raft_log_engine.specs.Image.{IsWithout}
+use Rattle.raft_log_engine.specs.Reads.{IsEntryAnswer, IsEntryRefusalAt, IsGroupList, compact_count, entry_of}
+use Rattle.raft_script.specs.Entry.{IsTextOf, index_of}
+use Rattle.raft_script.specs.declared.text_entry.TextEntry.{TextEntry}
 use Rattle.raft_script.specs.declared.operation.Act.{Act}
 use Rattle.raft_script.specs.declared.operation.Op.{Op}
-use Rattle.raft_script.specs.declared.operation.Op.TheVariants.{Write, Sync, Get}
+use Rattle.raft_script.specs.declared.operation.Op.TheVariants as operation
+use Rattle.raft_script.specs.declared.operation.Op.TheVariants.{Write, WriteGroup, Sync, Get, CompactTo, First, Last}
 use Rattle.raft_script.specs.declared.operation.Outcome.{Outcome}
-use Rattle.raft_script.specs.declared.operation.Outcome.TheVariants.{Size, Done, Value}
+use Rattle.raft_script.specs.declared.operation.Outcome.TheVariants as reply
+use Rattle.raft_script.specs.declared.operation.Outcome.TheVariants.{Size, Sizes, Done, Value, Count, Index}
 
 -- items, followed by the batch of more acts, where there is one
 abbrev pub followed_by : Batch → Option Batch → Option Batch
@@ -113,11 +123,89 @@ module _ {F H R W : Type 0} {g : Ghosts F H R W} (acts : List Act) (items rest :
   ]
     where
       by_fault : (e : Fault) → engine.IsWriteRefusal folder m items (has_failed new) (refusals_of old) (refusals_of new) e → IsWriteRefusal m acts e
-      by_fault (fault.Io kind path) h = subst IsSome (sym built) refl
+      by_fault (fault.Io kind path) h = of_built (engine.IsWritable m) acts items built h.0
       by_fault fault.Memory h = tt
       by_fault fault.Gap h = of_built (λ batch. batch_refusal m batch ≡ Some fault.Gap) acts items built h.0
       by_fault fault.Range h = inr (of_built (engine.IsOutOfRange m) acts items built h.0)
-      by_fault _ h = absurd h
+      by_fault _ h = absurd h.1
+
+-- .. and so is a compaction
+module _ (m n : Contents) (group index : ℕ) (failed : Bool) (folder : Path) (old new : Refusals) (same : failed ≡ false → m ≡ n) where
+  engine_refusal : (e : Fault) → IsRefusalIn folder old new e → IsEngineRefusal e
+  engine_refusal (fault.Io kind path) h = tt
+  engine_refusal fault.Memory h = tt
+  engine_refusal _ h = absurd h
+
+  pub compaction_answered : (result : Result ℕ Fault) → IfOk result (λ count. count ≡ compact_count index (n.entries group)) → ((result ≡ Err fault.Failed) ↔ (failed ≡ true)) → IfErr result (λ e. failed ≡ false → IsRefusalIn folder old new e)
+      → MatchResult result (λ count. count ≡ compact_count index (m.entries group)) IsEngineRefusal
+  compaction_answered (Ok count) is fails cause = elim (cases_Bool failed) [
+    | inl gone ↦ absurd (let clash = fails.1 gone in cc)
+    | inr stands ↦ is ∙ ap (λ (c : Contents). compact_count index (c.entries group)) (sym (same stands))
+  ]
+  compaction_answered (Err e) is fails cause = elim (cases_Bool failed) [
+    | inl gone ↦ let e_is : e ≡ fault.Failed = same_err (Err e) refl (fails.1 gone) in subst IsEngineRefusal (sym e_is) tt
+    | inr stands ↦ engine_refusal e (cause stands)
+  ]
+
+  -- a read of an entry
+  pub entry_answered : (result : Result (Option TextEntry) Fault) → IfOk result (IsEntryAnswer IsTextOf index_of index (entry_of n group index)) → ((result ≡ Err fault.Failed) ↔ (failed ≡ true))
+      → IfErr result (λ e. failed ≡ false → IsEntryRefusalAt IsTextOf index_of index (entry_of n group index) e ⊎ IsRefusalIn folder old new e)
+      → MatchResult result (IsEntryAnswer IsTextOf index_of index (entry_of m group index)) (IsTextRefusal index (entry_of m group index))
+  entry_answered (Ok found) is fails cause = elim (cases_Bool failed) [
+    | inl gone ↦ absurd (let clash = fails.1 gone in cc)
+    | inr stands ↦ subst (λ (c : Contents). IsEntryAnswer IsTextOf index_of index (entry_of c group index) found) (sym (same stands)) is
+  ]
+  entry_answered (Err e) is fails cause = elim (cases_Bool failed) [
+    | inl gone ↦ let e_is : e ≡ fault.Failed = same_err (Err e) refl (fails.1 gone) in inr (subst IsEngineRefusal (sym e_is) tt)
+    | inr stands ↦ subst (λ (c : Contents). IsTextRefusal index (entry_of c group index) e) (sym (same stands)) (elim (cause stands) [
+      | inl told ↦ inl told
+      | inr refused ↦ inr (engine_refusal e refused)
+    ])
+  ]
+
+  no_entry_io : (bytes : Option (List ℕ)) (kind : IoKind) (path : String Global) → IsEntryRefusalAt IsTextOf index_of index bytes (fault.Io kind path) → ⊥
+  no_entry_io None kind path told = told
+  no_entry_io (Some bytes) kind path told = told
+
+  -- .. that storage fails is counted
+  pub entry_rose : (result : Result (Option TextEntry) Fault) → ((result ≡ Err fault.Failed) ↔ (failed ≡ true)) → IfErr result (λ e. failed ≡ false → IsEntryRefusalAt IsTextOf index_of index (entry_of n group index) e ⊎ IsRefusalIn folder old new e)
+      → is_io result ≡ true → StorageRefusalsRose old new
+  entry_rose (Ok found) fails cause io = absurd cc
+  entry_rose (Err (fault.Io kind path)) fails cause io = elim (cases_Bool failed) [
+    | inl gone ↦ absurd (let clash = fails.1 gone in cc)
+    | inr stands ↦ elim (cause stands) [
+      | inl told ↦ absurd (no_entry_io (entry_of n group index) kind path told)
+      | inr refused ↦ refused.0
+    ]
+  ]
+  entry_rose (Err _) fails cause io = absurd cc
+
+-- .. and so are the groups
+pub groups_answered : (m n : Contents) (failed : Bool) (same : failed ≡ false → m ≡ n) (is_known : ℕ → Bool) (result : Result (Vec ℕ Global) Fault) → IfOk result (λ groups. IsGroupList n is_known groups.items) → ((result ≡ Err fault.Failed) ↔ (failed ≡ true)) → IfErr result (λ e. (e ≡ fault.Failed) ⊎ (e ≡ fault.Memory))
+    → MatchResult result (λ groups. AreGroupsOf m groups.items) IsGetRefusal
+groups_answered m n failed same is_known (Ok groups) is fails cause = elim (cases_Bool failed) [
+  | inl gone ↦ absurd (let clash = fails.1 gone in cc)
+  | inr stands ↦ record { ascending = is.ascending; others = λ group none. subst (λ (c : Contents). IsWithout c group) (sym (same stands)) (is.others group (sym (is.known group) ∙ none)) }
+]
+groups_answered m n failed same is_known (Err e) is fails (inl e_is) = subst IsGetRefusal (sym e_is) tt
+groups_answered m n failed same is_known (Err e) is fails (inr e_is) = subst IsGetRefusal (sym e_is) tt
+
+failure_of : {T : Type 0} (result : Result T Fault) → is_failure result ≡ true → result ≡ Err fault.Failed
+failure_of (Ok x) told = absurd cc
+failure_of (Err fault.Failed) told = refl
+failure_of (Err _) told = absurd cc
+
+-- an engine that only reads has failed or not as before
+pub steady_by : {T : Type 0} (failed fails : Bool) (result : Result T Fault) → ((result ≡ Err fault.Failed) ↔ (failed ≡ true)) → fails ≡ failed → IsSteadyBy failed result fails
+steady_by {T} failed fails result told same = (
+  record {
+    still = λ gone. same ∙ gone;
+    only_failed = λ failure. told.0 (failure_of result failure);
+    refused = λ gone. inl (subst (λ (r : Result T Fault). is_failure r ≡ true) (sym (told.1 gone)) refl);
+    cause = λ alive fell. absurd (let clash = sym alive ∙ sym same ∙ fell in cc);
+  },
+  same,
+)
 
 -- What depends on the contents of an engine that stands alone.
 
@@ -127,39 +215,37 @@ module _ (m n : Contents) (op : Op) (failed : Bool) (same : failed ≡ false →
     where
       by_op : (op : Op) → IsGiven failed m op given → IsGiven failed n op given
       by_op (Write acts sync) is = is
+      by_op (WriteGroup parts) is = is
       by_op Sync is = is
       by_op (Get group key) is = is
+      by_op (operation.Entry group index) is = is
+      by_op (First group) is = is
+      by_op (Last group) is = is
+      by_op operation.Groups is = is
+      by_op (CompactTo group index) is = elim (cases_Bool failed) [
+        | inl gone ↦ is ∙ ap (λ (b : Bool). if b then [] else written_batch (compaction_in m group index)) gone ∙ sym (ap (λ (b : Bool). if b then [] else written_batch (compaction_in n group index)) gone)
+        | inr stands ↦ is ∙ ap (λ (c : Contents). if failed then [] else written_batch (compaction_in c group index)) (same stands)
+      ]
 
   pub accepted_same : (outcome : Outcome) (fails : Bool) → IsFailing failed op outcome fails → accepted_of m op outcome ≡ accepted_of n op outcome
   accepted_same outcome fails failing = by_op op outcome failing
     where
       by_op : (op : Op) (outcome : Outcome) → IsFailing failed op outcome fails → accepted_of m op outcome ≡ accepted_of n op outcome
       by_op (Write acts sync) (Size (Ok len)) f = refl
-      by_op (Write acts sync) (Size (Err e)) f = refl
-      by_op (Write acts sync) (Done answer) f = refl
-      by_op (Write acts sync) (Value answer) f = refl
-      by_op Sync outcome f = refl
-      by_op (Get group key) outcome f = refl
+      by_op (WriteGroup parts) (Sizes (Ok answers)) f = refl
+      by_op (CompactTo group index) (Count (Ok count)) f = elim (cases_Bool failed) [
+        | inl gone ↦ absurd (⊎_elim (λ told. let clash = told in cc) (λ other. other) (f.refused gone))
+        | inr stands ↦ ap (λ (c : Contents). written_batch (compaction_in c group index)) (same stands)
+      ]
+      by_op _ _ f = refl
 
--- what a run has come to: the operations so far, their outcomes, and what the engine holds
+-- what a run has come to: as many outcomes as operations, and what the engine holds
 pub record IsRunning (before : Contents) (ops : List Op) (outcomes : List Outcome) (now : Contents) (failed : Bool) : Type 0 where
   pub len : length outcomes ≡ length ops
-  pub answers : AreAnswers before ops outcomes
   pub contents : failed ≡ false → now ≡ after_batches before (accepted_batches before ops outcomes)
 
 pub running_begun : (m : Contents) (failed : Bool) → IsRunning m [] [] m failed
-running_begun m failed = record { len = refl; answers = tt; contents = λ _. refl }
-
-answers_more : (m : Contents) (ops : List Op) (outcomes : List Outcome) (op : Op) (outcome : Outcome) → AreAnswers m ops outcomes → IsAnswer (after_batches m (accepted_batches m ops outcomes)) op outcome
-    → AreAnswers m (ops ++ op ∷ []) (outcomes ++ outcome ∷ [])
-answers_more m [] [] op outcome answers more = (more, tt)
-answers_more m [] (o ∷ outcomes) op outcome answers more = absurd answers
-answers_more m (p ∷ ops) [] op outcome answers more = absurd answers
-answers_more m (p ∷ ops) (o ∷ outcomes) op outcome answers more =
-    let n = after_batches m (accepted_of m p o) in (
-      answers.0,
-      answers_more n ops outcomes op outcome answers.1 (subst (λ (c : Contents). IsAnswer c op outcome) (fold-append after_batch m (accepted_of m p o) (accepted_batches n ops outcomes)) more),
-    )
+running_begun m failed = record { len = refl; contents = λ _. refl }
 
 pub accepted_more : (m : Contents) (ops : List Op) (outcomes : List Outcome) (op : Op) (outcome : Outcome) → length outcomes ≡ length ops
     → accepted_batches m (ops ++ op ∷ []) (outcomes ++ outcome ∷ []) ≡ accepted_batches m ops outcomes ++ accepted_of (after_batches m (accepted_batches m ops outcomes)) op outcome
@@ -176,14 +262,13 @@ accepted_more m (p ∷ ops) (o ∷ outcomes) op outcome same =
 -- one operation more
 module _ (before : Contents) (ops : List Op) (outcomes : List Outcome) (now : Contents) (failed : Bool) (running : IsRunning before ops outcomes now failed)
     (op : Op) (outcome : Outcome) (next : Contents) (fails : Bool) where
-  pub running_more : ((m : Contents) → (failed ≡ false → m ≡ now) → IsAnswer m op outcome) → (fails ≡ false → next ≡ after_batches now (accepted_of now op outcome)) → (failed ≡ true → fails ≡ true)
+  pub running_more : (fails ≡ false → next ≡ after_batches now (accepted_of now op outcome)) → (failed ≡ true → fails ≡ true)
       → IsRunning before (ops ++ op ∷ []) (outcomes ++ outcome ∷ []) next fails
-  running_more answer contents still =
+  running_more contents still =
       let so_far = accepted_batches before ops outcomes in
       let held = after_batches before so_far in
       record {
         len = length-append outcomes (outcome ∷ []) ∙ ap (λ (n : ℕ). n + 1) running.len ∙ sym (length-append ops (op ∷ []));
-        answers = answers_more before ops outcomes op outcome running.answers (answer held (λ stands. sym (running.contents stands)));
         contents = λ stands. contents stands ∙ ap (λ (m : Contents). after_batches m (accepted_of m op outcome)) (running.contents (stood failed still stands))
             ∙ sym (fold-append after_batch before so_far (accepted_of held op outcome)) ∙ ap (after_batches before) (sym (accepted_more before ops outcomes op outcome running.len));
       }
@@ -208,14 +293,15 @@ steady_more failed (p ∷ ops) (o ∷ outcomes) op outcome are is = (are.0, stea
 -- a failed engine stays failed
 still_by : (op : Op) (outcome : Outcome) (fails : Bool) → IsFailing true op outcome fails → fails ≡ true
 still_by (Write acts sync) (Size answer) fails is = is.still refl
-still_by (Write acts sync) (Done answer) fails is = absurd is
-still_by (Write acts sync) (Value answer) fails is = absurd is
-still_by Sync (Size answer) fails is = absurd is
+still_by (WriteGroup parts) (Sizes answer) fails is = is.still refl
 still_by Sync (Done answer) fails is = is.0.still refl
-still_by Sync (Value answer) fails is = absurd is
-still_by (Get group key) (Size answer) fails is = absurd is
-still_by (Get group key) (Done answer) fails is = absurd is
 still_by (Get group key) (Value answer) fails is = is.0.still refl
+still_by (CompactTo group index) (Count answer) fails is = is.still refl
+still_by (operation.Entry group index) (reply.Entry answer) fails is = is.0.still refl
+still_by (First group) (Index index) fails is = is
+still_by (Last group) (Index index) fails is = is
+still_by operation.Groups (reply.Groups answer) fails is = is.0.still refl
+still_by _ _ fails is = absurd is
 
 pub still_failing : (op : Op) (outcome : Outcome) (failed fails : Bool) → IsFailing failed op outcome fails → failed ≡ true → fails ≡ true
 still_failing op outcome failed fails is had = still_by op outcome fails (subst (λ (b : Bool). IsFailing b op outcome fails) had is)
@@ -272,6 +358,79 @@ module _ (ops : List Op) (outcomes : List Outcome) (op : Op) (outcome : Outcome)
           subst (λ (o : Option ℕ). (true ≡ (had || is_some o)) × IsFailurePlace had (ops ++ op ∷ []) (outcomes ++ outcome ∷ []) o) (sym (next.falls refl refl))
           (ap (λ (b : Bool). b || true) (sym (stood_before had failed_at now)), place_here had failed_at now at is)
 
+-- Answers, with one more.
+
+-- of an engine that has failed or not as before
+answers_steady : (failed : Bool) (m : Contents) (ops : List Op) (outcomes : List Outcome) (op : Op) (outcome : Outcome) → AreAnswers failed None m ops outcomes → IsAnswer failed (after_batches m (accepted_batches m ops outcomes)) op outcome
+    → AreAnswers failed None m (ops ++ op ∷ []) (outcomes ++ outcome ∷ [])
+answers_steady failed m [] [] op outcome answers more = (more, tt)
+answers_steady failed m [] (o ∷ outcomes) op outcome answers more = absurd answers
+answers_steady failed m (p ∷ ops) [] op outcome answers more = absurd answers
+answers_steady failed m (p ∷ ops) (o ∷ outcomes) op outcome answers more =
+    let n = after_batches m (accepted_of m p o) in (
+      answers.0,
+      answers_steady failed n ops outcomes op outcome answers.1 (subst (λ (c : Contents). IsAnswer failed c op outcome) (fold-append after_batch m (accepted_of m p o) (accepted_batches n ops outcomes)) more),
+    )
+
+-- of one that fails in the operation
+answers_falls : (failed : Bool) (m : Contents) (ops : List Op) (outcomes : List Outcome) (op : Op) (outcome : Outcome) → AreAnswers failed None m ops outcomes → IsAnswer failed (after_batches m (accepted_batches m ops outcomes)) op outcome
+    → AreAnswers failed (Some (length ops)) m (ops ++ op ∷ []) (outcomes ++ outcome ∷ [])
+answers_falls failed m [] [] op outcome answers more = (more, tt)
+answers_falls failed m [] (o ∷ outcomes) op outcome answers more = absurd answers
+answers_falls failed m (p ∷ ops) [] op outcome answers more = absurd answers
+answers_falls failed m (p ∷ ops) (o ∷ outcomes) op outcome answers more =
+    let n = after_batches m (accepted_of m p o) in (
+      answers.0,
+      answers_falls failed n ops outcomes op outcome answers.1 (subst (λ (c : Contents). IsAnswer failed c op outcome) (fold-append after_batch m (accepted_of m p o) (accepted_batches n ops outcomes)) more),
+    )
+
+-- of one that failed in an earlier one
+answers_fallen : (place : ℕ) (failed : Bool) (m : Contents) (ops : List Op) (outcomes : List Outcome) (op : Op) (outcome : Outcome) → FailsAt place ops outcomes → AreAnswers failed (Some place) m ops outcomes → IsAnswer true (after_batches m (accepted_batches m ops outcomes)) op outcome
+    → AreAnswers failed (Some place) m (ops ++ op ∷ []) (outcomes ++ outcome ∷ [])
+answers_fallen zero failed m [] outcomes op outcome at answers more = absurd at
+answers_fallen (suc place) failed m [] outcomes op outcome at answers more = absurd at
+answers_fallen zero failed m (p ∷ ops) [] op outcome at answers more = absurd at
+answers_fallen (suc place) failed m (p ∷ ops) [] op outcome at answers more = absurd at
+answers_fallen zero failed m (p ∷ ops) (o ∷ outcomes) op outcome at answers more =
+    let n = after_batches m (accepted_of m p o) in (
+      answers.0,
+      answers_steady true n ops outcomes op outcome answers.1 (subst (λ (c : Contents). IsAnswer true c op outcome) (fold-append after_batch m (accepted_of m p o) (accepted_batches n ops outcomes)) more),
+    )
+answers_fallen (suc place) failed m (p ∷ ops) (o ∷ outcomes) op outcome at answers more =
+    let n = after_batches m (accepted_of m p o) in (
+      answers.0,
+      answers_fallen place failed n ops outcomes op outcome at.1 answers.1 (subst (λ (c : Contents). IsAnswer true c op outcome) (fold-append after_batch m (accepted_of m p o) (accepted_batches n ops outcomes)) more),
+    )
+
+module _ (m : Contents) (ops : List Op) (outcomes : List Outcome) (op : Op) (outcome : Outcome) where
+  -- the contents that the operation finds
+  abbrev found : Contents
+  found = after_batches m (accepted_batches m ops outcomes)
+
+  answers_kept : (had failed : Bool) (failed_at : Option ℕ) → failed ≡ (had || is_some failed_at) → IsFailurePlace had ops outcomes failed_at → AreAnswers had failed_at m ops outcomes → IsAnswer failed found op outcome → AreAnswers had failed_at m (ops ++ op ∷ []) (outcomes ++ outcome ∷ [])
+  answers_kept true failed None now at answers more = answers_steady true m ops outcomes op outcome answers (subst (λ (b : Bool). IsAnswer b found op outcome) now more)
+  answers_kept false failed None now at answers more = answers_steady false m ops outcomes op outcome answers (subst (λ (b : Bool). IsAnswer b found op outcome) now more)
+  answers_kept true failed (Some place) now at answers more = answers_fallen place true m ops outcomes op outcome at.1 answers (subst (λ (b : Bool). IsAnswer b found op outcome) now more)
+  answers_kept false failed (Some place) now at answers more = answers_fallen place false m ops outcomes op outcome at.1 answers (subst (λ (b : Bool). IsAnswer b found op outcome) now more)
+
+  answers_here : (had : Bool) (failed_at : Option ℕ) → false ≡ (had || is_some failed_at) → AreAnswers had failed_at m ops outcomes → IsAnswer false found op outcome → AreAnswers had (Some (length ops)) m (ops ++ op ∷ []) (outcomes ++ outcome ∷ [])
+  answers_here true failed_at now answers more = absurd cc
+  answers_here false None now answers more = answers_falls false m ops outcomes op outcome answers more
+  answers_here false (Some place) now answers more = absurd cc
+
+  pub answers_more : (had failed fails : Bool) (failed_at next_at : Option ℕ) → failed ≡ (had || is_some failed_at) → IsFailurePlace had ops outcomes failed_at → IsFailing failed op outcome fails → IsNextPlace failed fails (length ops) failed_at next_at → AreAnswers had failed_at m ops outcomes → IsAnswer failed found op outcome
+      → AreAnswers had next_at m (ops ++ op ∷ []) (outcomes ++ outcome ∷ [])
+  answers_more had failed fails failed_at next_at now at is next answers more = by_case failed fails now is next more
+    where
+      by_place : (place : Option ℕ) → next_at ≡ place → AreAnswers had place m (ops ++ op ∷ []) (outcomes ++ outcome ∷ []) → AreAnswers had next_at m (ops ++ op ∷ []) (outcomes ++ outcome ∷ [])
+      by_place place same all = subst (λ (o : Option ℕ). AreAnswers had o m (ops ++ op ∷ []) (outcomes ++ outcome ∷ [])) (sym same) all
+
+      by_case : (b c : Bool) → b ≡ (had || is_some failed_at) → IsFailing b op outcome c → IsNextPlace b c (length ops) failed_at next_at → IsAnswer b found op outcome → AreAnswers had next_at m (ops ++ op ∷ []) (outcomes ++ outcome ∷ [])
+      by_case true true now is next more = by_place failed_at (next.rests refl) (answers_kept had true failed_at now at answers more)
+      by_case false false now is next more = by_place failed_at (next.rests refl) (answers_kept had false failed_at now at answers more)
+      by_case true false now is next more = absurd (let clash = still_by op outcome false is in cc)
+      by_case false true now is next more = by_place (Some (length ops)) (next.falls refl refl) (answers_here had failed_at now answers more)
+
 -- before the first operation
 pub stands_so_far : (had : Bool) → had ≡ (had || false)
 stands_so_far true = refl
@@ -279,11 +438,15 @@ stands_so_far false = refl
 
 -- Storage's refusals.
 
+rose_in : (outcome : Outcome) (old new : Refusals) → Refuses outcome old new → StorageRefusalsRoseBy (io_in outcome) old new
+rose_in (Sizes (Ok answers)) old new refuses = refuses.1
+rose_in _ old new refuses = by_case _ refuses.1
+  where
+    by_case : (b : Bool) → (b ≡ true → StorageRefusalsRose old new) → StorageRefusalsRoseBy (cond b 1 0) old new
+    by_case true rose = rose refl
+    by_case false rose = omega (arith, refuses.0.0)
+
 -- one outcome more
 pub rose_more : (outcomes : List Outcome) (outcome : Outcome) (old mid new : Refusals) → StorageRefusalsRoseBy (io_count outcomes) old mid → Refuses outcome mid new → StorageRefusalsRoseBy (io_count (outcomes ++ outcome ∷ [])) old new
 rose_more outcomes outcome old mid new so_far refuses =
-    subst (λ (n : ℕ). StorageRefusalsRoseBy n old new) (sym (sum_by-append _ outcomes (outcome ∷ []))) (by_case (is_refused_by_storage outcome) refuses.1)
-  where
-    by_case : (b : Bool) → (b ≡ true → StorageRefusalsRose mid new) → StorageRefusalsRoseBy (io_count outcomes + (0 + cond b 1 0)) old new
-    by_case true rose = let one = rose refl in omega (arith, so_far, one)
-    by_case false rose = let counts = refuses.0 in omega (arith, so_far, counts.0)
+    subst (λ (n : ℕ). StorageRefusalsRoseBy n old new) (sym (sum_by-append io_in outcomes (outcome ∷ []))) (let more = rose_in outcome mid new refuses in omega (arith, so_far, more))

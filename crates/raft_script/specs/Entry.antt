@@ -1,7 +1,8 @@
 -- Entries of text.
-use Rattle.std.specs.Prelude.{◌≡◌, ◌<◌, ◌^◌, ◌+◌, ◌-◌, ℕ, List, ◌∷◌, ◌++◌, map}
+use Rattle.std.specs.Prelude.{◌≡◌, ◌<◌, ◌^◌, ◌+◌, ◌-◌, ℕ, List, ◌∷◌, ◌++◌, map, Option, option_and_then, option_map}
 use Rattle.std.specs.List.{range_with_len}
 use Rattle.std.specs.Fmt.{decimal}
+use Rattle.raft_records.specs.Contents.{first_index_of, last_index_of}
 use Rattle.raft_records.specs.Item.{Entry}
 use Rattle.raft_script.specs.declared.text_entry.TextEntry.{TextEntry}
 
@@ -21,9 +22,18 @@ IsTextOf bytes e = (e.index < 2 ^ 64) × (bytes ≡ bytes_of_entry e)
 abbrev pub entry_of_text : TextEntry → Entry
 entry_of_text e = (e.index, bytes_of_entry e)
 
+-- its index
+abbrev pub index_of : TextEntry → ℕ
+index_of e = e.index
+
 -- an entry's index and word
 abbrev pub indexed_word : TextEntry → ℕ × List ℕ
 indexed_word e = (e.index, e.word.items)
+
+-- the indexes of the first entry and of the last, where there are entries
+abbrev pub range_of : {X : Type 0} → List (ℕ × X) → Option (ℕ × ℕ)
+range_of entries = option_and_then (λ first. option_map (λ last. (first, last))
+    (last_index_of entries)) (first_index_of entries)
 
 -- the indexes from `first` to `last`, each with this word
 abbrev pub indexed_words : ℕ → ℕ → List ℕ → List (ℕ × List ℕ)

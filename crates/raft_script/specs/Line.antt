@@ -26,6 +26,11 @@ pub data Asked : Type 0 where
   Get : (group : ℕ) (key : List ℕ) → Asked
   Entries : (group : ℕ) (entries : List (ℕ × List ℕ)) (sync : Bool) → Asked
   Clean : (group : ℕ) (sync : Bool) → Asked
+  Compact : (group : ℕ) (index : ℕ) → Asked
+  Entry : (group : ℕ) (index : ℕ) → Asked
+  Groups : Asked
+  Range : (group : ℕ) → Asked
+  Scan : (group : ℕ) → Asked
   Sync : Asked
   Reopen : Asked
   Crash : (left : CrashChoice) → Asked
@@ -88,6 +93,23 @@ entries_by words =
 abbrev pub clean_by : List (List ℕ) → Option Asked
 clean_by words = with_number (λ group rest. option_map (Clean group) (sync_by rest)) words
 
+-- compact G I
+abbrev pub compact_by : List (List ℕ) → Option Asked
+compact_by words =
+    with_number (λ group. with_number (λ index. if_last (Compact group index))) words
+
+-- entry G I
+abbrev pub entry_by : List (List ℕ) → Option Asked
+entry_by words = with_number (λ group. with_number (λ index. if_last (Entry group index))) words
+
+-- range G
+abbrev pub range_by : List (List ℕ) → Option Asked
+range_by words = with_number (λ group. if_last (Range group)) words
+
+-- scan G
+abbrev pub scan_by : List (List ℕ) → Option Asked
+scan_by words = with_number (λ group. if_last (Scan group)) words
+
 -- get G K
 abbrev pub get_by : List (List ℕ) → Option Asked
 get_by (group ∷ key ∷ words) = option_and_then (λ g. if_last (Get g key) words) (number_in group)
@@ -119,6 +141,11 @@ parsed_words (verb ∷ words) =
     else if bytes_eq verb (codes "sync") then if_last Sync words
     else if bytes_eq verb (codes "ent") then entries_by words
     else if bytes_eq verb (codes "clean") then clean_by words
+    else if bytes_eq verb (codes "compact") then compact_by words
+    else if bytes_eq verb (codes "entry") then entry_by words
+    else if bytes_eq verb (codes "groups") then if_last Groups words
+    else if bytes_eq verb (codes "range") then range_by words
+    else if bytes_eq verb (codes "scan") then scan_by words
     else if bytes_eq verb (codes "reopen") then if_last Reopen words
     else if bytes_eq verb (codes "crash") then option_map Crash (left_by words)
     else None
@@ -137,12 +164,17 @@ asked_of_call (call.Get group key) = Get group key.now
 asked_of_call (call.Entries group first last word sync) =
     Entries group (indexed_words first last word.now) sync
 asked_of_call (call.Clean group sync) = Clean group sync
+asked_of_call (call.Compact group index) = Compact group index
+asked_of_call (call.Entry group index) = Entry group index
+asked_of_call call.Groups = Groups
 asked_of_call call.Sync = Sync
 
 -- .. and of a line
 abbrev pub asked_of : Line → Asked
 asked_of line.Nothing = Nothing
 asked_of (line.Call call) = asked_of_call call
+asked_of (line.Range group) = Range group
+asked_of (line.Scan group) = Scan group
 asked_of line.Reopen = Reopen
 asked_of (line.Crash left) = Crash left
 
@@ -155,11 +187,16 @@ asked_by_acts (act.Entries group entries ∷ []) sync =
 asked_by_acts (act.Clean group ∷ []) sync = Some (Clean group sync)
 asked_by_acts _ sync = None
 
--- .. and that an operation does
+-- .. and that an operation does, if any
 abbrev pub asked_by_op : Op → Option Asked
 asked_by_op (op.Write acts sync) = asked_by_acts acts.items sync
+asked_by_op (op.WriteGroup parts) = None
 asked_by_op op.Sync = Some Sync
 asked_by_op (op.Get group key) = Some (Get group key.items)
+asked_by_op (op.CompactTo group index) = Some (Compact group index)
+asked_by_op (op.Entry group index) = Some (Entry group index)
+asked_by_op op.Groups = Some Groups
+asked_by_op _ = None
 
 -- no word begins the text
 abbrev pub HasNoWord : List ℕ → Type 0

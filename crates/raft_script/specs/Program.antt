@@ -1,13 +1,17 @@
 -- What the program answers.
-use Rattle.std.specs.Prelude.{◌≡◌, ◌⊎◌, false, Option, Some, None, codes}
+use Rattle.std.specs.Prelude.{◌≡◌, ◌⊎◌, ℕ, true, false, List, Option, Some, None, Result, Ok, Err, Vec, codes}
+use Rattle.std.specs.declared.alloc.Global.{Global}
 use Rattle.raft_base.specs.declared.errors.Fault.{Fault}
+use Rattle.raft_base.specs.declared.errors.Fault.TheVariants as fault
 use Rattle.raft_env.specs.Directory.{CrashImage, Leaves}
 use Rattle.raft_env.specs.declared.env.FileSystem.{Ghosts}
 use Rattle.raft_log_engine.specs.declared.engine.Engine.{Engine}
 use Rattle.raft_log_engine.specs.Crash.{contents_after_crash}
 use Rattle.raft_log_engine.specs.Engine.{contents_of, directory_of, has_failed}
 use Rattle.raft_records.specs.Contents.{Contents, after_batches, no_contents}
-use Rattle.raft_script.specs.Line.{Asked, Nothing, Reopen, Crash, asked_by_op}
+use Rattle.raft_tables.specs.Listing.{IsListing, listed}
+use Rattle.raft_script.specs.Entry.{range_of}
+use Rattle.raft_script.specs.Line.{Asked, Nothing, Range, Reopen, Scan, Crash, asked_by_op}
 use Rattle.raft_script.specs.Run.{IsAnswer, accepted_of}
 use Rattle.raft_script.specs.declared.answer.Answer.{Answer}
 use Rattle.raft_script.specs.declared.answer.Answer.TheVariants as answer
@@ -20,7 +24,7 @@ module _ {F H R W : Type 0} {g : Ghosts F H R W} where
     pub op : Op
     pub does : asked_by_op op ≡ Some asked
     pub answer : (m : Contents) → (has_failed old ≡ false → m ≡ contents_of old)
-        → IsAnswer m op outcome
+        → IsAnswer (has_failed old) m op outcome
     pub contents : has_failed new ≡ false
         → contents_of new
         ≡ after_batches (contents_of old) (accepted_of (contents_of old) op outcome)
@@ -35,10 +39,21 @@ module _ {F H R W : Type 0} {g : Ghosts F H R W} where
   HoldsAfterCrash old new = (image : CrashImage) × Leaves (directory_of old) image
       × (contents_of new ≡ contents_after_crash (codes "raft") (directory_of old) image)
 
+  -- a group's keys with their values, each once and in order, or why they aren't listed
+  abbrev pub IsScanAnswer : Engine F H R W g → ℕ → Result (Vec (Vec ℕ Global × Vec ℕ Global) Global)
+      Fault → Type 0
+  IsScanAnswer e group (Ok pairs) =
+      (has_failed e ≡ false) × IsListing ((contents_of e).value group) (listed pairs.items)
+  IsScanAnswer e group (Err refusal) =
+      (refusal ≡ fault.Memory) ⊎ ((refusal ≡ fault.Failed) × (has_failed e ≡ true))
+
   -- what a line asks for is answered so by the engine that it meets, and this one is there after it
   abbrev pub AnswersAsked : Asked → Answer → Engine F H R W g → Engine F H R W g → Type 0
   AnswersAsked Reopen answer.Done old new = contents_of new ≡ contents_of old
   AnswersAsked (Crash choice) answer.Done old new = HoldsAfterCrash old new
+  AnswersAsked (Range group) (answer.Range range) old new =
+      (new ≡ old) × (has_failed old ≡ false → range ≡ range_of ((contents_of old).entries group))
+  AnswersAsked (Scan group) (answer.Pairs result) old new = (new ≡ old) × IsScanAnswer old group result
   AnswersAsked asked (answer.Outcome outcome) old new = IsAnswered asked outcome old new
   AnswersAsked asked _ old new = ⊥
 

@@ -1,8 +1,11 @@
 -- What operations are answered, and what they leave.
-use Rattle.std.specs.Prelude.{◌≡◌, ◌⊎◌, ◌||◌, ℕ, zero, suc, ◌+◌, ◌-◌, ◌^◌, ◌≤◌, length, map, min, take, Bool, true, false, List, [], ◌∷◌, ◌++◌, Option, Some, None, is_some, option_map, Result, Ok, Err, is_ok, MatchResult, IsErrAnd, IsSome, IsSomeAnd, if◌then◌else◌}
-use Rattle.std.specs.List.{count_by}
+use Rattle.std.specs.Prelude.{◌≡◌, ◌⊎◌, ◌||◌, ℕ, zero, suc, ◌+◌, ◌-◌, ◌^◌, ◌≤◌, length, map, min, nat_eq, take, Bool, true, false, List, [], ◌∷◌, ◌++◌, Option, Some, None, is_some, option_map, Result, Ok, Err, is_ok, MatchResult, IsErrAnd, IsSome, IsSomeAnd, if◌then◌else◌, Vec, cond, unwrap_or}
+use Rattle.std.specs.List.{Any, count_by, list_any, sum_by}
+use Rattle.std.specs.declared.alloc.Global.{Global}
+use Rattle.std.specs.List.Sorted.{IsStrictlySortedBy}
+use Rattle.std.specs.Ordering.{nat_cmp}
 use Rattle.raft_records.specs.Batch.{is_internal_key}
-use Rattle.raft_records.specs.Contents.{Contents, after_batches}
+use Rattle.raft_records.specs.Contents.{Contents, after_batch, after_batches, first_index_of, last_index_of}
 use Rattle.raft_records.specs.Item.{Batch, Clean, Compact, Delete, Entries, Entry, Put}
 use Rattle.raft_records.specs.Layout.{entry_bytes}
 use Rattle.raft_records.specs.Validity.{IsValidBatch, batch_refusal}
@@ -10,16 +13,21 @@ use Rattle.raft_base.specs.Fault.{fault_code}
 use Rattle.raft_base.specs.declared.errors.Fault.{Fault}
 use Rattle.raft_base.specs.declared.errors.Fault.TheVariants as fault
 use Rattle.raft_env.specs.Refusal.{NoFewer, Refusals, StorageRefusalsRose}
-use Rattle.raft_log_engine.specs.Cause.{IsOutOfRange}
+use Rattle.raft_log_engine.specs.Cause.{IsOutOfRange, IsWritable}
 use Rattle.raft_log_engine.specs.Crash.{pending_of, written_batch}
 use Rattle.raft_log_engine.specs.Engine.{record_len}
-use Rattle.raft_script.specs.Entry.{entry_of_text}
+use Rattle.raft_log_engine.specs.Group.{accepted_in, chosen_of, written_in}
+use Rattle.raft_log_engine.specs.Image.{IsWithout}
+use Rattle.raft_log_engine.specs.Reads.{IsEntryAnswer, IsEntryRefusalAt, compact_batch, compact_count, entry_of}
+use Rattle.raft_script.specs.Entry.{IsTextOf, entry_of_text, index_of}
 use Rattle.raft_script.specs.declared.operation.Act.{Act}
 use Rattle.raft_script.specs.declared.operation.Act.TheVariants as act
 use Rattle.raft_script.specs.declared.operation.Op.{Op}
-use Rattle.raft_script.specs.declared.operation.Op.TheVariants.{Write, Sync, Get}
+use Rattle.raft_script.specs.declared.operation.Op.TheVariants as operation
+use Rattle.raft_script.specs.declared.operation.Op.TheVariants.{Write, WriteGroup, Sync, Get, CompactTo, First, Last}
 use Rattle.raft_script.specs.declared.operation.Outcome.{Outcome}
-use Rattle.raft_script.specs.declared.operation.Outcome.TheVariants.{Size, Done, Value}
+use Rattle.raft_script.specs.declared.operation.Outcome.TheVariants as reply
+use Rattle.raft_script.specs.declared.operation.Outcome.TheVariants.{Size, Sizes, Done, Value, Count, Index}
 
 -- entries as one item, and nothing for none
 abbrev pub entries_items : ℕ → List Entry → Batch
@@ -59,14 +67,45 @@ abbrev pub written_batches : Option Batch → List Batch
 written_batches None = []
 written_batches (Some batch) = written_batch batch
 
+-- what a compaction writes of a group of these contents
+abbrev pub compaction_in : Contents → ℕ → ℕ → Batch
+compaction_in m group index = compact_batch group index (m.entries group)
+
+-- acts for a batch of a group, and whether it asks for a sync
+abbrev pub Part : Type 0
+Part = Vec Act Global × Bool
+
+-- a batch before others, where there is one and the others are
+abbrev pub with_batch : Option Batch → Option (List Batch) → Option (List Batch)
+with_batch None others = None
+with_batch (Some batch) None = None
+with_batch (Some batch) (Some others) = Some (batch ∷ others)
+
+-- the batches of a group's parts, where there is one of each
+abbrev pub batches_of_parts : List Part → Option (List Batch)
+batches_of_parts [] = Some []
+batches_of_parts (part ∷ parts) =
+    with_batch (batch_of_acts part.0.items) (batches_of_parts parts)
+
+-- .. and none where there isn't
+abbrev pub group_batches : List Part → List Batch
+group_batches parts = unwrap_or (batches_of_parts parts) []
+
 -- what an engine that had failed or not is given to write in the operation, at these contents
 abbrev pub IsGiven : Bool → Contents → Op → List Batch → Type 0
 IsGiven failed m (Write acts sync) given = given ≡ written_batches (batch_of_acts acts.items)
+IsGiven failed m (WriteGroup parts) given = given ≡ written_in (group_batches parts.items)
+IsGiven failed m (CompactTo group index) given =
+    given ≡ (if failed then [] else written_batch (compaction_in m group index))
 IsGiven failed m _ given = given ≡ []
 
--- the batch that the operation wrote, at these contents
+-- the batches that the operation wrote, at these contents
 abbrev pub accepted_of : Contents → Op → Outcome → List Batch
 accepted_of m (Write acts sync) (Size (Ok len)) = written_batches (batch_of_acts acts.items)
+accepted_of m (WriteGroup parts) (Sizes (Ok answers)) =
+    accepted_in answers.items (group_batches parts.items)
+accepted_of m (CompactTo group index) (Count (Ok count)) =
+    written_batch (compaction_in m group index)
 accepted_of m _ _ = []
 
 -- the batches of the accepted writes, in order, from these contents on
@@ -77,9 +116,10 @@ accepted_batches m (op ∷ ops) (outcome ∷ outcomes) =
 accepted_batches m _ _ = []
 
 -- the operation made sure of all that was accepted up to it: a sync that was answered, or a write
--- that asked for one
+-- or a group that asked for one
 abbrev pub is_covering : Op → Outcome → Bool
 is_covering (Write acts sync) (Size (Ok len)) = sync
+is_covering (WriteGroup parts) (Sizes (Ok answers)) = list_any (λ part. part.1) parts.items
 is_covering Sync (Done (Ok x)) = true
 is_covering _ _ = false
 
@@ -91,13 +131,24 @@ pending_batches m (Some batch) = pending_of m batch
 -- what may have been written in part, or whole, when a crash came in the operation
 abbrev pub MayBeInFlight : Contents → Op → List Batch → Type 0
 MayBeInFlight m (Write acts sync) flight = flight ≡ pending_batches m (batch_of_acts acts.items)
+MayBeInFlight m (WriteGroup parts) flight = ∥ ((choice : List Bool)
+    × (flight ≡ chosen_of m choice (group_batches parts.items))) ∥₁
+MayBeInFlight m (CompactTo group index) flight =
+    flight ≡ pending_of m (compaction_in m group index)
 MayBeInFlight m _ flight = flight ≡ []
 
--- the operation doesn't change the engine: a get, or a write of acts without a batch
+-- the operation doesn't change the engine: a get, an index, the groups, or a write or a group of
+-- acts without a batch
 abbrev pub IsUnasked : Op → Type 0
 IsUnasked (Write acts sync) = batch_of_acts acts.items ≡ None
+IsUnasked (WriteGroup parts) = batches_of_parts parts.items ≡ None
 IsUnasked Sync = ⊥
 IsUnasked (Get group key) = Unit {0}
+IsUnasked (CompactTo group index) = ⊥
+IsUnasked (operation.Entry group index) = ⊥
+IsUnasked (First group) = Unit {0}
+IsUnasked (Last group) = Unit {0}
+IsUnasked operation.Groups = Unit {0}
 
 -- no batch of these acts could be built: one of them can't be done, there was no memory, or they
 -- have too many bytes of entries
@@ -105,10 +156,21 @@ abbrev pub IsUnbuilt : List Act → Fault → Type 0
 IsUnbuilt acts e = (e ≡ fault.Memory) ⊎ ((fault_code e ≡ 1) × (batch_of_acts acts ≡ None))
     ⊎ ((e ≡ fault.Range) × IsOversized acts)
 
--- an engine notes no answer to the operation: a get, or a write whose batch isn't built
+-- no batches of a group could be built: there was no memory, or one of them couldn't be
+abbrev pub IsUnbuiltGroup : List Part → Fault → Type 0
+IsUnbuiltGroup parts e = (e ≡ fault.Memory) ⊎ Any (λ part. IsUnbuilt part.0.items e) parts
+
+-- an engine notes no answer to the operation: a read, a write or a group whose batches aren't
+-- built, or a compaction for which there was no memory
 abbrev pub IsUnnoted : Op → Outcome → Type 0
 IsUnnoted (Write acts sync) (Size (Err e)) = IsUnbuilt acts.items e
+IsUnnoted (WriteGroup parts) (Sizes (Err e)) = IsUnbuiltGroup parts.items e
 IsUnnoted (Get group key) _ = Unit {0}
+IsUnnoted (CompactTo group index) (Count (Err e)) = e ≡ fault.Memory
+IsUnnoted (operation.Entry group index) _ = Unit {0}
+IsUnnoted (First group) _ = Unit {0}
+IsUnnoted (Last group) _ = Unit {0}
+IsUnnoted operation.Groups _ = Unit {0}
 IsUnnoted _ _ = ⊥
 
 -- a write that was answered had a batch that the contents take, and is answered with its record's
@@ -118,10 +180,10 @@ IsWritten m acts len = (batch : Batch) × (batch_of_acts acts ≡ Some batch) ×
     × (len ≡ record_len batch)
 
 -- a write fails for an act that can't be done, too many bytes of entries, or lack of memory; its
--- batch since the contents don't take it, by storage, for its length, or by a failed engine
+-- batch since the contents don't take it, for its length, else by storage, or by a failed engine
 abbrev pub IsWriteRefusal : Contents → List Act → Fault → Type 0
 IsWriteRefusal m acts (fault.InvalidArgument _) = batch_of_acts acts ≡ None
-IsWriteRefusal m acts (fault.Io kind path) = IsSome (batch_of_acts acts)
+IsWriteRefusal m acts (fault.Io kind path) = IsSomeAnd (batch_of_acts acts) (IsWritable m)
 IsWriteRefusal m acts fault.Memory = Unit {0}
 IsWriteRefusal m acts fault.Gap =
     IsSomeAnd (batch_of_acts acts) (λ batch. batch_refusal m batch ≡ Some fault.Gap)
@@ -129,6 +191,39 @@ IsWriteRefusal m acts fault.Range =
     IsOversized acts ⊎ IsSomeAnd (batch_of_acts acts) (IsOutOfRange m)
 IsWriteRefusal m acts fault.Failed = IsSome (batch_of_acts acts)
 IsWriteRefusal m acts _ = ⊥
+
+-- a batch of a group isn't accepted: since the contents don't take it, for its length, else by
+-- storage or for lack of memory
+abbrev pub IsBatchRefusal : Contents → Batch → Fault → Type 0
+IsBatchRefusal m batch fault.Gap = batch_refusal m batch ≡ Some fault.Gap
+IsBatchRefusal m batch fault.Range = IsOutOfRange m batch
+IsBatchRefusal m batch (fault.Io kind path) = IsWritable m batch
+IsBatchRefusal m batch fault.Memory = IsWritable m batch
+IsBatchRefusal m batch _ = ⊥
+
+-- each batch is answered at the contents after those that were accepted before it
+abbrev pub AreBatchAnswers : Contents → List Batch → List (Result ℕ Fault) → Type 0
+AreBatchAnswers m [] [] = Unit {0}
+AreBatchAnswers m (batch ∷ batches) (Ok len ∷ answers) = IsValidBatch m batch
+    × (len ≡ record_len batch) × AreBatchAnswers (after_batch m batch) batches answers
+AreBatchAnswers m (batch ∷ batches) (Err e ∷ answers) =
+    IsBatchRefusal m batch e × AreBatchAnswers m batches answers
+AreBatchAnswers m _ _ = ⊥
+
+-- a group that was answered had a batch of each part
+abbrev pub IsWrittenGroup : Contents → List Part → List (Result ℕ Fault) → Type 0
+IsWrittenGroup m parts answers =
+    IsSomeAnd (batches_of_parts parts) (λ batches. AreBatchAnswers m batches answers)
+
+-- a group fails for an act that can't be done, too many bytes of entries, lack of memory, by
+-- storage, or by a failed engine
+abbrev pub IsGroupRefusal : List Part → Fault → Type 0
+IsGroupRefusal parts (fault.InvalidArgument _) = batches_of_parts parts ≡ None
+IsGroupRefusal parts (fault.Io kind path) = IsSome (batches_of_parts parts)
+IsGroupRefusal parts fault.Memory = Unit {0}
+IsGroupRefusal parts fault.Range = Any (λ part. IsOversized part.0.items) parts
+IsGroupRefusal parts fault.Failed = IsSome (batches_of_parts parts)
+IsGroupRefusal parts _ = ⊥
 
 -- an engine fails a call that has no batch: by storage, for lack of memory, or since it had failed
 abbrev pub IsEngineRefusal : Fault → Type 0
@@ -142,23 +237,59 @@ IsGetRefusal fault.Memory = Unit {0}
 IsGetRefusal fault.Failed = Unit {0}
 IsGetRefusal _ = ⊥
 
--- an operation is answered so, or fails so, at these contents
-abbrev pub IsAnswer : Contents → Op → Outcome → Type 0
-IsAnswer m (Write acts sync) (Size answer) =
+-- an entry isn't read as one of text, or the engine fails the call
+abbrev pub IsTextRefusal : ℕ → Option (List ℕ) → Fault → Type 0
+IsTextRefusal index bytes e = IsEntryRefusalAt IsTextOf index_of index bytes e ⊎ IsEngineRefusal e
+
+-- groups in order, each once, and all that have entries or keys
+pub record AreGroupsOf (m : Contents) (groups : List ℕ) : Type 0 where
+  pub ascending : IsStrictlySortedBy nat_cmp groups
+  pub others : (group : ℕ) → list_any (nat_eq group) groups ≡ false → IsWithout m group
+
+-- an operation is answered so, or fails so, by an engine that had failed or not, at these contents;
+-- of an engine that had failed nothing is said of indexes
+abbrev pub IsAnswer : Bool → Contents → Op → Outcome → Type 0
+IsAnswer failed m (Write acts sync) (Size answer) =
     MatchResult answer (IsWritten m acts.items) (IsWriteRefusal m acts.items)
-IsAnswer m Sync (Done answer) = MatchResult answer (λ _. Unit {0}) IsEngineRefusal
-IsAnswer m (Get group key) (Value answer) =
+IsAnswer failed m (WriteGroup parts) (Sizes answer) = MatchResult answer (λ answers.
+    IsWrittenGroup m parts.items answers.items) (IsGroupRefusal parts.items)
+IsAnswer failed m Sync (Done answer) = MatchResult answer (λ _. Unit {0}) IsEngineRefusal
+IsAnswer failed m (Get group key) (Value answer) =
     MatchResult answer (λ value. option_map (λ v. v.items) value
     ≡ m.value group key.items) IsGetRefusal
-IsAnswer m _ _ = ⊥
+IsAnswer failed m (CompactTo group index) (Count answer) = MatchResult answer (λ count.
+    count ≡ compact_count index (m.entries group)) IsEngineRefusal
+IsAnswer failed m (operation.Entry group index) (reply.Entry answer) =
+    MatchResult answer (IsEntryAnswer IsTextOf index_of index (entry_of m group index))
+    (IsTextRefusal index (entry_of m group index))
+IsAnswer failed m (First group) (Index index) =
+    failed ≡ false → index ≡ first_index_of (m.entries group)
+IsAnswer failed m (Last group) (Index index) =
+    failed ≡ false → index ≡ last_index_of (m.entries group)
+IsAnswer failed m operation.Groups (reply.Groups answer) =
+    MatchResult answer (λ groups. AreGroupsOf m groups.items) IsGetRefusal
+IsAnswer failed m _ _ = ⊥
 
--- each operation is answered at the contents that those before it leave
-abbrev pub AreAnswers : Contents → List Op → List Outcome → Type 0
-AreAnswers m [] [] = Unit {0}
-AreAnswers m (op ∷ ops) (outcome ∷ outcomes) =
-    IsAnswer m op outcome
-    × AreAnswers (after_batches m (accepted_of m op outcome)) ops outcomes
-AreAnswers m _ _ = ⊥
+-- whether an engine that had failed or not has failed after an operation, where it fails in the one
+-- at this place
+abbrev pub failed_after : Option ℕ → Bool → Bool
+failed_after (Some zero) failed = true
+failed_after failed_at failed = failed
+
+-- the place, counted from the next operation on
+abbrev pub place_after : Option ℕ → Option ℕ
+place_after (Some (suc place)) = Some place
+place_after failed_at = None
+
+-- each operation is answered at the contents that those before it leave, by an engine that had
+-- failed or not before them, and fails in the one at this place, if any
+abbrev pub AreAnswers : Bool → Option ℕ → Contents → List Op → List Outcome → Type 0
+AreAnswers failed failed_at m [] [] = Unit {0}
+AreAnswers failed failed_at m (op ∷ ops) (outcome ∷ outcomes) =
+    IsAnswer failed m op outcome
+    × AreAnswers (failed_after failed_at failed) (place_after failed_at)
+    (after_batches m (accepted_of m op outcome)) ops outcomes
+AreAnswers failed failed_at m _ _ = ⊥
 
 -- storage's refusal
 abbrev pub is_io : {T : Type 0} → Result T Fault → Bool
@@ -168,21 +299,34 @@ is_io _ = false
 -- .. of an operation
 abbrev pub is_refused_by_storage : Outcome → Bool
 is_refused_by_storage (Size answer) = is_io answer
+is_refused_by_storage (Sizes answer) = is_io answer
 is_refused_by_storage (Done answer) = is_io answer
 is_refused_by_storage (Value answer) = is_io answer
+is_refused_by_storage (Count answer) = is_io answer
+is_refused_by_storage (reply.Entry answer) = is_io answer
+is_refused_by_storage (Index index) = false
+is_refused_by_storage (reply.Groups answer) = is_io answer
 
--- how many of the operations failed in storage
+-- how many of an operation's answers storage refused: of a group those of its batches
+abbrev pub io_in : Outcome → ℕ
+io_in (Sizes (Ok answers)) = count_by is_io answers.items
+io_in outcome = cond (is_refused_by_storage outcome) 1 0
+
+-- .. of all of them
 abbrev pub io_count : List Outcome → ℕ
-io_count outcomes = count_by is_refused_by_storage outcomes
-
--- storage's count rose where the operation failed in it, and no count fell
-abbrev pub Refuses : Outcome → Refusals → Refusals → Type 0
-Refuses outcome old new = NoFewer old new × (is_refused_by_storage outcome ≡ true
-    → StorageRefusalsRose old new)
+io_count outcomes = sum_by io_in outcomes
 
 -- storage's count rose by so many at least, or it is full
 abbrev pub StorageRefusalsRoseBy : ℕ → Refusals → Refusals → Type 0
 StorageRefusalsRoseBy count old new = min (old.storage + count) (2 ^ 64 - 1) ≤ new.storage
+
+-- storage's count rose where the operation failed in it, by as many as the batches of a group that
+-- did, and no count fell
+abbrev pub Refuses : Outcome → Refusals → Refusals → Type 0
+Refuses (Sizes (Ok answers)) old new =
+    NoFewer old new × StorageRefusalsRoseBy (count_by is_io answers.items) old new
+Refuses outcome old new = NoFewer old new × (is_refused_by_storage outcome ≡ true
+    → StorageRefusalsRose old new)
 
 -- by storage, or for lack of memory
 abbrev pub IsStorageOrMemory : Fault → Type 0
@@ -207,14 +351,26 @@ pub record FailsBy {T : Type 0} (failed : Bool) (answer : Result T Fault) (fails
   -- it fails by storage or for lack of memory alone
   pub cause : failed ≡ false → fails ≡ true → IsErrAnd answer IsStorageOrMemory
 
--- .. in an operation; a failed sync fails the engine, and a get doesn't
+-- .. and has failed or not as before
+abbrev pub IsSteadyBy : {T : Type 0} → Bool → Result T Fault → Bool → Type 0
+IsSteadyBy failed answer fails = FailsBy failed answer fails (λ _. ⊥) × (fails ≡ failed)
+
+-- .. in an operation; a failed sync fails the engine, and a read doesn't
 abbrev pub IsFailing : Bool → Op → Outcome → Bool → Type 0
 IsFailing failed (Write acts sync) (Size answer) fails =
     FailsBy failed answer fails (IsUnbuilt acts.items)
+IsFailing failed (WriteGroup parts) (Sizes answer) fails =
+    FailsBy failed answer fails (IsUnbuiltGroup parts.items)
 IsFailing failed Sync (Done answer) fails =
     FailsBy failed answer fails (λ _. ⊥) × (is_ok answer ≡ false → fails ≡ true)
-IsFailing failed (Get group key) (Value answer) fails =
-    FailsBy failed answer fails (λ _. ⊥) × (fails ≡ failed)
+IsFailing failed (Get group key) (Value answer) fails = IsSteadyBy failed answer fails
+IsFailing failed (CompactTo group index) (Count answer) fails =
+    FailsBy failed answer fails (λ _. ⊥)
+IsFailing failed (operation.Entry group index) (reply.Entry answer) fails =
+    IsSteadyBy failed answer fails
+IsFailing failed (First group) (Index index) fails = fails ≡ failed
+IsFailing failed (Last group) (Index index) fails = fails ≡ failed
+IsFailing failed operation.Groups (reply.Groups answer) fails = IsSteadyBy failed answer fails
 IsFailing failed _ _ fails = ⊥
 
 -- each of the operations leaves the engine as it found it, failed or standing

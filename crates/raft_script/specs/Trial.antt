@@ -24,7 +24,7 @@ use Rattle.raft_script.specs.declared.operation.Trial.{Trial}
 -- the operations were answered by an engine that stood before them
 pub record AreAnswered (m : Contents) (ops : List Op) (outcomes : List Outcome)
     (failed_at : Option ℕ) : Type 0 where
-  pub answers : AreAnswers m ops outcomes
+  pub answers : AreAnswers false failed_at m ops outcomes
   pub place : IsFailurePlace false ops outcomes failed_at
 
 -- the opening failed, and no operation was done; the files keep what they kept

@@ -1,7 +1,9 @@
 //! What the program prints for a line.
 
 use crate::operation::Outcome;
+use crate::text_entry::TextEntry;
 use raft_records::Fault;
+use raft_tables::KeyAndValue;
 use std::io;
 use std::io::Write;
 
@@ -12,6 +14,10 @@ pub(crate) enum Answer {
     /// A reopening, or a crash and the opening after it.
     Done,
     Outcome(Outcome),
+    /// The indexes of a group's first and last entries.
+    Range(Option<(u64, u64)>),
+    /// A group's keys and values, in the keys' order.
+    Pairs(Result<Vec<KeyAndValue>, Fault>),
     /// The engine is gone, so that the program ends.
     Fatal(Fault),
 }
@@ -21,23 +27,65 @@ pub(crate) fn print<W: Write>(output: &mut W, answer: &Answer) -> io::Result<()>
         Answer::Nothing => Ok(()),
         Answer::Done => output.write_all(b"ok\n"),
         Answer::Outcome(outcome) => print_outcome(output, outcome),
-        Answer::Fatal(fault) => print_fault(output, fault),
+        Answer::Range(None) => output.write_all(b"range none\n"),
+        Answer::Range(Some((first, last))) => writeln!(output, "range {first} {last}"),
+        Answer::Pairs(Ok(pairs)) => print_pairs(output, pairs),
+        Answer::Pairs(Err(fault)) | Answer::Fatal(fault) => print_fault(output, fault),
     }
 }
 
 fn print_outcome<W: Write>(output: &mut W, outcome: &Outcome) -> io::Result<()> {
     match outcome {
-        Outcome::Size(Ok(_)) | Outcome::Done(Ok(())) => output.write_all(b"ok\n"),
-        Outcome::Value(Ok(None)) => output.write_all(b"none\n"),
+        Outcome::Size(Ok(_)) | Outcome::Sizes(Ok(_)) | Outcome::Done(Ok(())) => {
+            output.write_all(b"ok\n")
+        }
+        Outcome::Value(Ok(None)) | Outcome::Entry(Ok(None)) | Outcome::Index(None) => {
+            output.write_all(b"none\n")
+        }
         Outcome::Value(Ok(Some(value))) => {
             output.write_all(b"value ")?;
             output.write_all(value)?;
             output.write_all(b"\n")
         }
-        Outcome::Size(Err(fault)) | Outcome::Done(Err(fault)) | Outcome::Value(Err(fault)) => {
-            print_fault(output, fault)
-        }
+        Outcome::Count(Ok(count)) => writeln!(output, "dropped {count}"),
+        Outcome::Entry(Ok(Some(entry))) => print_entry(output, entry),
+        Outcome::Index(Some(index)) => writeln!(output, "index {index}"),
+        Outcome::Groups(Ok(groups)) => print_groups(output, groups),
+        Outcome::Size(Err(fault))
+        | Outcome::Sizes(Err(fault))
+        | Outcome::Done(Err(fault))
+        | Outcome::Value(Err(fault))
+        | Outcome::Count(Err(fault))
+        | Outcome::Entry(Err(fault))
+        | Outcome::Groups(Err(fault)) => print_fault(output, fault),
     }
+}
+
+fn print_entry<W: Write>(output: &mut W, entry: &TextEntry) -> io::Result<()> {
+    let index = entry.index;
+    write!(output, "entry {index}:")?;
+    output.write_all(&entry.word)?;
+    output.write_all(b"\n")
+}
+
+fn print_groups<W: Write>(output: &mut W, groups: &[u64]) -> io::Result<()> {
+    output.write_all(b"groups")?;
+    for group in groups {
+        write!(output, " {group}")?;
+    }
+    output.write_all(b"\n")
+}
+
+fn print_pairs<W: Write>(output: &mut W, pairs: &[KeyAndValue]) -> io::Result<()> {
+    for (key, value) in pairs {
+        output.write_all(b"pair ")?;
+        output.write_all(key)?;
+        output.write_all(b" ")?;
+        output.write_all(value)?;
+        output.write_all(b"\n")?;
+    }
+    let count = pairs.len();
+    writeln!(output, "end {count}")
 }
 
 fn print_fault<W: Write>(output: &mut W, fault: &Fault) -> io::Result<()> {

@@ -6,6 +6,7 @@ mod line;
 mod operation;
 mod program;
 mod runs;
+mod scan;
 mod text_entry;
 mod trials;
 

@@ -1,7 +1,7 @@
 //! A line of the program's input.
 ghost use Rattle.std.specs.Prelude.{◌≡◌, ◌==◌, ◌≤◌, List, ℕ, length, None, Some, [], ◌∷◌, IfOk, MatchOption, option_map, option_and_then};
 ghost use Rattle.std.specs.List.{position_or_len};
-ghost use Rattle.raft_script.specs.Line.{Crash, BeginsWith, HasNoWord, if_last, parsed_words, asked_in, asked_of, asked_of_call, clean_by, delete_by, entries_by, get_by, is_word, left_by, number_in, put_by, sync_by, torn_by, words_by, words_in};
+ghost use Rattle.raft_script.specs.Line.{Crash, Range, Scan, BeginsWith, HasNoWord, if_last, parsed_words, asked_in, asked_of, asked_of_call, clean_by, compact_by, delete_by, entries_by, entry_by, get_by, is_word, left_by, number_in, put_by, range_by, scan_by, sync_by, torn_by, words_by, words_in};
 
 use crate::operation::{Act, Op};
 use crate::text_entry::entries_between;
@@ -13,6 +13,10 @@ pub(crate) enum Line<'a> {
     /// An empty line or a comment.
     Nothing,
     Call(Call<'a>),
+    /// The indexes of a group's first and last entries.
+    Range(u64),
+    /// A group's keys and values.
+    Scan(u64),
     Reopen,
     Crash(CrashChoice),
 }
@@ -46,6 +50,15 @@ pub(crate) enum Call<'a> {
         group: u64,
         sync: bool,
     },
+    Compact {
+        group: u64,
+        index: u64,
+    },
+    Entry {
+        group: u64,
+        index: u64,
+    },
+    Groups,
     Sync,
 }
 
@@ -84,6 +97,9 @@ impl Call<'_> {
             Call::Clean { group, sync } => {
                 Ok(Op::Write(vec![in alloc; Act::Clean(*group)]?, *sync))
             }
+            Call::Compact { group, index } => Ok(Op::CompactTo(*group, *index)),
+            Call::Entry { group, index } => Ok(Op::Entry(*group, *index)),
+            Call::Groups => Ok(Op::Groups),
             Call::Sync => Ok(Op::Sync),
         }
     }
@@ -127,6 +143,17 @@ fn parse_asked<'a>(verb: &[u8], rest: &'a [u8]) -> Option<Line<'a>>
         Some(Line::Call(parse_entries(rest)?))
     } else if verb == b"clean".as_slice() {
         Some(Line::Call(parse_clean(rest)?))
+    } else if verb == b"compact".as_slice() {
+        Some(Line::Call(parse_compact(rest)?))
+    } else if verb == b"entry".as_slice() {
+        Some(Line::Call(parse_entry(rest)?))
+    } else if verb == b"groups".as_slice() {
+        ends(rest)?;
+        Some(Line::Call(Call::Groups))
+    } else if verb == b"range".as_slice() {
+        Some(Line::Range(parse_range(rest)?))
+    } else if verb == b"scan".as_slice() {
+        Some(Line::Scan(parse_scan(rest)?))
     } else if verb == b"reopen".as_slice() {
         ends(rest)?;
         Some(Line::Reopen)
@@ -231,6 +258,41 @@ fn parse_clean<'a>(rest: &[u8]) -> Option<Call<'a>>
     let (group, rest) = parse_number(rest)?;
     let sync = parse_sync(rest)?;
     Some(Call::Clean { group, sync })
+}
+
+fn parse_compact<'a>(rest: &[u8]) -> Option<Call<'a>>
+    ensures value { option_map asked_of_call result ≡ option_and_then compact_by
+        (words_in rest.now) }
+{
+    let (group, rest) = parse_number(rest)?;
+    let (index, rest) = parse_number(rest)?;
+    ends(rest)?;
+    Some(Call::Compact { group, index })
+}
+
+fn parse_entry<'a>(rest: &[u8]) -> Option<Call<'a>>
+    ensures value { option_map asked_of_call result ≡ option_and_then entry_by (words_in rest.now) }
+{
+    let (group, rest) = parse_number(rest)?;
+    let (index, rest) = parse_number(rest)?;
+    ends(rest)?;
+    Some(Call::Entry { group, index })
+}
+
+fn parse_range(rest: &[u8]) -> Option<u64>
+    ensures value { option_map Range result ≡ option_and_then range_by (words_in rest.now) }
+{
+    let (group, rest) = parse_number(rest)?;
+    ends(rest)?;
+    Some(group)
+}
+
+fn parse_scan(rest: &[u8]) -> Option<u64>
+    ensures value { option_map Scan result ≡ option_and_then scan_by (words_in rest.now) }
+{
+    let (group, rest) = parse_number(rest)?;
+    ends(rest)?;
+    Some(group)
 }
 
 // The first word, and what follows the space after it: a word is of printable characters, and one space stands

@@ -21,16 +21,36 @@ pub enum Act {
 pub enum Op {
     /// The acts as one batch, synced where that is asked.
     Write(Vec<Act>, bool),
+    /// Several batches at once, then a sync where one of them asks for it.
+    WriteGroup(Vec<(Vec<Act>, bool)>),
     Sync,
     Get(u64, Vec<u8>),
+    /// The group's entries below the index go.
+    CompactTo(u64, u64),
+    /// The group's entry with the index.
+    Entry(u64, u64),
+    /// The index of the group's first entry.
+    First(u64),
+    /// The index of the group's last entry.
+    Last(u64),
+    /// The groups that the engine knows.
+    Groups,
 }
 
 /// What an operation was answered: a write with the length of its record.
 #[derive(Debug, PartialEq, Eq, Drop)]
 pub enum Outcome {
     Size(Result<usize, Fault>),
+    /// A group with the answer of each of its batches.
+    Sizes(Result<Vec<Result<usize, Fault>>, Fault>),
     Done(Result<(), Fault>),
     Value(Result<Option<Vec<u8>>, Fault>),
+    /// How many entries went.
+    Count(Result<u64, Fault>),
+    Entry(Result<Option<TextEntry>, Fault>),
+    /// Of an engine that had failed it says nothing.
+    Index(Option<u64>),
+    Groups(Result<Vec<u64>, Fault>),
 }
 
 /// What a trial showed.

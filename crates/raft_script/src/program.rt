@@ -1,5 +1,5 @@
 //! The program `raftlog` over any reader and writer.
-ghost use Rattle.std.specs.Prelude.{◌≡◌, IfOk, IfSome, List, MatchResult, None, Option, Some, codes, ℕ};
+ghost use Rattle.std.specs.Prelude.{◌≡◌, false, IfOk, IfSome, List, MatchResult, None, Option, Some, codes, ℕ};
 ghost use Rattle.std.specs.String.{string_bytes};
 ghost use Rattle.raft_env.specs.Directory.{CrashImage, IsRestarted, Leaves};
 ghost use Rattle.raft_log_engine.specs.Contents.{contents_at};
@@ -7,12 +7,14 @@ ghost use Rattle.raft_log_engine.specs.Engine.{contents_of, has_failed};
 ghost use Rattle.raft_memory.specs.Memory.{memory_directory};
 ghost use Rattle.raft_records.specs.Contents.{no_contents};
 ghost use Rattle.raft_script.specs.Line.{EndsOn, GoesOnOrEnds, IsNextLine, IsReading, asked_of, asked_of_call};
+ghost use Rattle.raft_script.specs.Entry.{range_of};
 ghost use Rattle.raft_script.specs.Program.{AnswersFrom, AnswersLine, HoldsAfterCrash, IsAnswered, IsMetBy, OpensTo};
 
 use crate::answer::{Answer, print};
 use crate::line::{Call, CrashChoice, Line, parse_line};
 use crate::operation::Outcome;
 use crate::runs::step;
+use crate::scan::pairs_of;
 use raft_env::FileSystem;
 use raft_log_engine::laws::crash_leaves_contents;
 use raft_log_engine::{Config, Engine, Refused};
@@ -168,8 +170,28 @@ fn answer_asked(
             *engine = Some(opened);
             Ok(Answer::Outcome(outcome))
         }
+        Line::Range(group) => {
+            let range = range_of(&opened, *group);
+            *engine = Some(opened);
+            Ok(Answer::Range(range))
+        }
+        Line::Scan(group) => {
+            let pairs = pairs_of(alloc, &opened, *group);
+            *engine = Some(opened);
+            Ok(Answer::Pairs(pairs))
+        }
         Line::Nothing => Ok(Answer::Nothing),
     }
+}
+
+// The indexes of a group's first and last entries, where it has entries.
+fn range_of<F: FileSystem>(engine: &Engine<F>, group: u64) -> Option<(u64, u64)>
+    ensures value { has_failed engine.now ≡ false
+        → result ≡ range_of ((contents_of engine.now).entries group) }
+{
+    let first = engine.first_index(group)?;
+    let last = engine.last_index(group)?;
+    Some((first, last))
 }
 
 fn settings(alloc: Global) -> Result<Config, AllocError>

@@ -1,13 +1,14 @@
 //! Operations one after the other, each with its outcome.
-ghost use Rattle.std.specs.Prelude.{All, ◌≡◌, ◌⊎◌, ◌≤◌, ◌^◌, ◌++◌, false, length, Some, None, IfOk, IfErr, OnOk, OnErr};
+ghost use Rattle.std.specs.Prelude.{All, ◌≡◌, ◌⊎◌, ◌≤◌, ◌^◌, ◌++◌, false, length, map, Some, None, IfOk, IfErr, OnOk, OnErr};
 ghost use Rattle.raft_records.specs.Contents.{Contents, after_batches};
 ghost use Rattle.raft_base.specs.Fault.{fault_code};
 ghost use Rattle.raft_records.specs.Item.{Batch};
 ghost use Rattle.raft_records.specs.Layout.{entry_bytes};
 ghost use Rattle.raft_log_engine.specs.Crash.{LeavesAllowed};
+ghost use Rattle.raft_log_engine.specs.Group.{items_of};
 ghost use Rattle.raft_log_engine.specs.Engine.{begun_of, contents_of, directory_of, durable_of, folder_of, has_failed, refusals_of, unsynced_of};
 ghost use Rattle.raft_script.specs.Durability.{AreAllowedInside, Does, HaveRun, Runs};
-ghost use Rattle.raft_script.specs.Run.{IsAnswer, IsUnbuilt, IsFailing, IsUnasked, Refuses, accepted_of, batch_of_acts, items_of_act};
+ghost use Rattle.raft_script.specs.Run.{IsAnswer, IsUnbuilt, IsUnbuiltGroup, IsFailing, IsUnasked, Refuses, accepted_of, batch_of_acts, batches_of_parts, items_of_act};
 
 use crate::operation::{Act, Op, Outcome};
 use crate::text_entry::TextEntry;
@@ -27,18 +28,19 @@ pub(crate) struct RunReport {
 /// Does the operations in order, each with its outcome. Where there is no memory for the list of outcomes, the engine
 /// is not asked.
 ///
-/// The engine notes what there was each time that it answered a write or a sync, and what that call was to write. A
-/// crash after one note and up to the next leaves, if its damage is detectable, a prefix of the batches accepted
-/// before that operation, or all of them and a prefix of its own batch, with every one that an answered sync
-/// covered before it. Once the operation is answered and the engine stands, a crash leaves a prefix of what was
+/// The engine notes what there was each time that it answered a write, a compaction or a sync, and what that call was
+/// to write. A crash after one note and up to the next leaves, if its damage is detectable, a prefix of the batches
+/// accepted before that operation, or all of them and a prefix of its own batches (of a group of any choice of them,
+/// in order), with every one that an answered
+/// sync covered before it. Once the operation is answered and the engine stands, a crash leaves a prefix of what was
 /// accepted by then, with every covered write. Each answer says whether the engine failed, and a call of a failed
-/// engine adds no moment. A get, and a write whose batch can't be built, have no note of their own: moments in them,
-/// if any, count to the next call that is noted.
+/// engine adds no moment. Reads, a write whose batch can't be built, and a compaction for which there was no memory
+/// have no note of their own: moments in them, if any, count to the next call that is noted.
 ///
 /// After the operations the accepted batches that are covered are durable, and no more, and the others stand
-/// unsynced. At least as many calls as answer `Io` were refused by storage. Where all operations are gets and writes
-/// of acts without a batch, the engine stays as it was. The settings' folder stays, and so does the engine's note of the
-/// files that its opening found.
+/// unsynced. At least as many calls as answer `Io` were refused by storage. Where all operations are reads, but of
+/// entries, and writes of acts without a batch, the engine stays as it was. The settings' folder stays, and so does
+/// the engine's note of the files that its opening found.
 pub fn run<F: FileSystem>(
     alloc: Global,
     engine: &mut Engine<F>,
@@ -96,7 +98,7 @@ pub(crate) fn run_watched<F: FileSystem>(
 
 pub(crate) fn step<F: FileSystem>(alloc: Global, engine: &mut Engine<F>, op: &Op) -> Outcome
     ensures value { (m : Contents) → (has_failed engine.old ≡ false → m ≡ contents_of engine.old)
-        → IsAnswer m op.now result }
+        → IsAnswer (has_failed engine.old) m op.now result }
     ensures failed { IsFailing (has_failed engine.old) op.now result (has_failed engine.new) }
     ensures unchanged { IsUnasked op.now → engine.new ≡ engine.old }
     ensures refused { Refuses result (refusals_of engine.old) (refusals_of engine.new) }
@@ -114,9 +116,37 @@ pub(crate) fn step<F: FileSystem>(alloc: Global, engine: &mut Engine<F>, op: &Op
             // What is refused while the batch is built doesn't reach the engine.
             Err(fault) => Outcome::Size(Err(fault)),
         },
+        Op::WriteGroup(parts) => match build_group(alloc, parts) {
+            Ok((mut batches, syncs)) => Outcome::Sizes(engine.write_group(&mut batches, &syncs)),
+            Err(fault) => Outcome::Sizes(Err(fault)),
+        },
         Op::Sync => Outcome::Done(engine.sync()),
         Op::Get(group, key) => Outcome::Value(engine.get(*group, key)),
+        Op::CompactTo(group, index) => Outcome::Count(engine.compact_to(*group, *index)),
+        Op::Entry(group, index) => Outcome::Entry(engine.get_entry::<TextEntry>(*group, *index)),
+        Op::First(group) => Outcome::Index(engine.first_index(*group)),
+        Op::Last(group) => Outcome::Index(engine.last_index(*group)),
+        Op::Groups => Outcome::Groups(engine.raft_groups()),
     }
+}
+
+// The batches of a group, and which of them ask for a sync.
+fn build_group(
+    alloc: Global,
+    parts: &[(Vec<Act>, bool)],
+) -> Result<(Vec<LogBatch>, Vec<bool>), Fault>
+    ensures value { IfOk result (λ built.
+        batches_of_parts parts.now ≡ Some (items_of built.0.items)) }
+    ensures ok { IfOk result (λ built. built.1.items ≡ map (λ part. part.1) parts.now) }
+    ensures cause { IfErr result (IsUnbuiltGroup parts.now) }
+{
+    let mut batches = Vec::with_capacity(alloc, parts.len())?;
+    let mut syncs = Vec::with_capacity(alloc, parts.len())?;
+    for part in parts {
+        batches.push(build(alloc, &part.0)?)?;
+        syncs.push(part.1)?;
+    }
+    Ok((batches, syncs))
 }
 
 fn build(alloc: Global, acts: &[Act]) -> Result<LogBatch, Fault>

@@ -2,7 +2,7 @@
 ghost use Rattle.std.specs.Prelude.{◌≡◌, ◌==◌, ◌<◌, ◌≤◌, ◌^◌, ℕ, IfOk, List, length, map, MatchOption};
 ghost use Rattle.std.specs.Fmt.{decimal};
 ghost use Rattle.std.specs.List.{position_or_len};
-ghost use Rattle.raft_script.specs.Entry.{IsTextOf, bytes_of_entry, indexed_word, indexed_words, text_bytes};
+ghost use Rattle.raft_script.specs.Entry.{IsTextOf, bytes_of_entry, index_of, indexed_word, indexed_words, text_bytes};
 
 use crate::line::number_of;
 use itoa::Buffer;
@@ -40,7 +40,7 @@ impl Message for TextEntry {
 impl MessageExt for TextEntry {
     type Entry = TextEntry;
 
-    ghost index_of = { λ entry. entry.index };
+    ghost index_of = { index_of };
 
     fn index(entry: &TextEntry) -> u64 {
         entry.index

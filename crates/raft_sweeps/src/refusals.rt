@@ -4,8 +4,8 @@ use raft_env::{FileSystem, IoKind};
 use raft_log_engine::Engine;
 use raft_memory::{Choice, FsCall, MemoryFileSystem};
 use raft_plans::{
-    EMPTY, OPERATIONS, State, after, fault_of, first_refused, is_allowed, is_done, ops_of,
-    settings, state_of, value_of,
+    EMPTY, OPERATIONS, State, after, count_below, fault_of, first_refused, is_allowed, is_done,
+    ops_of, settings, state_of, value_of,
 };
 use raft_records::Fault;
 use raft_script::{Op, Outcome, run};
@@ -88,13 +88,16 @@ fn is_refusal(fault: &Fault, kind: IoKind) -> bool {
     }
 }
 
-// A look-up that is answered tells what the operations done before it leave.
+// A look-up or a compaction that is answered tells what the operations done before it leave.
 fn tells(state: State, op: &Op, outcome: &Outcome) -> bool {
     match (op, outcome) {
         (Op::Get(group, key), Outcome::Value(Ok(Some(value)))) => {
             value.first() == Some(&value_of(state, *group, key))
         }
         (Op::Get(group, key), Outcome::Value(Ok(None))) => value_of(state, *group, key) == 0,
+        (Op::CompactTo(group, index), Outcome::Count(Ok(count))) => {
+            *count == count_below(state, *group, *index)
+        }
         _ => true,
     }
 }

@@ -27,24 +27,46 @@ const ANSWERS: [Answer; 4] = [
     Answer::Value(Some(&[2])),
 ];
 
-/// Entries, of which some don't follow those before them.
-const ENTRIES: [Plan; 4] = [
+/// Entries, of which some don't follow those before them, and reads of them.
+const ENTRIES: [Plan; 9] = [
     Plan::Write(&[Change::Entries(3, 1, 3, b"w")], false),
     Plan::Write(
         &[Change::Put(1, b"a", &[1]), Change::Entries(3, 5, 5, b"w")],
         true,
     ),
     Plan::Write(&[Change::Entries(3, 4, 4, b"w")], true),
+    Plan::CompactTo(3, 2),
     Plan::Write(&[Change::Entries(3, 3, 3, b"x")], false),
+    Plan::Entry(3, 3),
+    Plan::First(3),
+    Plan::Last(3),
+    Plan::Groups,
 ];
 
 /// A record of three entries of three bytes is 16 + 9 + 4 + 8 + 4 bytes long, one of one entry 16 + 3 + 4 + 6 + 4.
-const ENTRY_ANSWERS: [Answer; 4] = [
+const ENTRY_ANSWERS: [Answer; 9] = [
     Answer::Size(41),
     Answer::Fails(5),
     Answer::Size(33),
+    Answer::Count(1),
     Answer::Size(33),
+    Answer::Entry(3, b"x"),
+    Answer::Index(Some(2)),
+    Answer::Index(Some(3)),
+    Answer::Groups(&[3]),
 ];
+
+/// Entries, then a group whose second batch doesn't follow them and whose third asks for a sync.
+const GROUP: [Plan; 2] = [
+    Plan::Write(&[Change::Entries(3, 1, 3, b"w")], false),
+    Plan::WriteGroup(&[
+        (&[Change::Put(1, b"a", &[1])], false),
+        (&[Change::Entries(3, 5, 5, b"w")], false),
+        (&[Change::Put(1, b"b", &[2])], true),
+    ]),
+];
+
+const GROUP_ANSWERS: [Answer; 2] = [Answer::Size(41), Answer::Sizes(&[Ok(28), Err(5), Ok(28)])];
 
 /// Operations, a stop, what a crash is to leave, the answers, and what is found or the code of the refusal.
 struct Case(
@@ -55,11 +77,21 @@ struct Case(
     Result<State, u8>,
 );
 
-const CASES: [Case; 8] = [
+const CASES: [Case; 9] = [
     Case(&PLANS, None, Left::All, &ANSWERS, Ok(BOTH)),
     Case(&PLANS, None, Left::Synced, &ANSWERS, Ok(FIRST)),
     Case(&PLANS, None, Left::Torn(1, 0), &ANSWERS, Ok(FIRST)),
     Case(&PLANS, None, Left::Torn(1, 255), &ANSWERS, Ok(FIRST)),
+    Case(
+        &GROUP,
+        None,
+        Left::Synced,
+        &GROUP_ANSWERS,
+        Ok(State {
+            words: [0, b'w', b'w', b'w', 0, 0, 0, 0],
+            ..BOTH
+        }),
+    ),
     // The first call that changes files is one of the opening.
     Case(&PLANS, Some(1), Left::All, &[], Ok(EMPTY)),
     // Storage may not leave these bytes.
@@ -70,7 +102,7 @@ const CASES: [Case; 8] = [
         Left::All,
         &ENTRY_ANSWERS,
         Ok(State {
-            words: [0, b'w', b'w', b'x', 0, 0, 0, 0],
+            words: [0, 0, b'w', b'x', 0, 0, 0, 0],
             ..EMPTY
         }),
     ),

@@ -78,29 +78,45 @@ pub(crate) fn append_entry_fetch<R: Host, F: FileSystem + Drop>(
     batch_len: u64,
 ) -> Result<usize> {
     let mut engine = open(rt.alloc(), files)?;
-    let batches = batches_of(rt.alloc(), load, batch_len)?;
+    append_and_read(rt, name, &mut engine, load, batch_len)
+}
+
+fn append_and_read<R: Host, F: FileSystem>(
+    rt: &R,
+    name: &str,
+    engine: &mut Engine<F>,
+    load: Load,
+    batch_len: u64,
+) -> Result<usize> {
     let count = load.count;
+    let len = append(rt, name, engine, load, batch_len)?;
+    let places = places_of(rt.alloc(), engine, count)?;
     let start = Instant::now(rt)?;
-    let len = write_all(rt.alloc(), &mut engine, batches, load.sync)?;
-    report(rt, name, start, count, len)?;
-    let places = places_of(rt.alloc(), &engine, count)?;
-    let start = Instant::now(rt)?;
-    let sum = read_each(&mut engine, &places)?;
+    let sum = read_each(engine, &places)?;
     let start = report(rt, "  entry", start, count, load.bytes())?;
-    let fetched = fetch_each(rt.alloc(), &mut engine, &places)?;
-    report(
-        rt,
-        "  fetch",
-        start,
-        fetched,
-        fetched.saturating_mul(load.size as u64),
-    )?;
+    let fetched = fetch_each(rt.alloc(), engine, &places)?;
+    let bytes = fetched.saturating_mul(load.size as u64);
+    report(rt, "  fetch", start, fetched, bytes)?;
     println!(rt;
         "{name}: {count} entries, {len} bytes of log\n  \
          entry: checksum {sum:08x}\n  \
          fetch: {fetched} entries"
     )?;
     Ok((len / count.max(1)) as usize)
+}
+
+fn append<R: Host, F: FileSystem>(
+    rt: &R,
+    name: &str,
+    engine: &mut Engine<F>,
+    load: Load,
+    batch_len: u64,
+) -> Result<u64> {
+    let batches = batches_of(rt.alloc(), load, batch_len)?;
+    let start = Instant::now(rt)?;
+    let len = write_all(rt.alloc(), engine, batches, load.sync_each > 0)?;
+    report(rt, name, start, load.count, len)?;
+    Ok(len)
 }
 
 // The batches, made before the clock starts: each group in turn gets the next entries.

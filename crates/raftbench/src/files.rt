@@ -45,7 +45,7 @@ fn append_tenth<F: FileSystem>(
     let mut end = end;
     for _ in 0..load.count / 10 {
         files.write(writer, end, block)?;
-        if load.sync {
+        if load.sync_each > 0 {
             files.sync(writer)?;
         }
         end = end.saturating_add(block.len());

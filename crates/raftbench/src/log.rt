@@ -45,7 +45,7 @@ fn put_and_get<R: Host, F: FileSystem>(
     let puts = puts_of(rt.alloc(), load)?;
     let keys = read_keys(rt.alloc(), load)?;
     let start = Instant::now(rt)?;
-    let bytes = write_all(rt.alloc(), engine, puts, load.sync)?;
+    let bytes = write_all(rt.alloc(), engine, puts, load.sync_each)?;
     let start = report(rt, name, start, load.count, bytes)?;
     let found = count_found(engine, &keys)?;
     report(rt, "  get", start, load.count, load.bytes())?;
@@ -53,14 +53,14 @@ fn put_and_get<R: Host, F: FileSystem>(
 }
 
 #[derive(Drop)]
-struct Item {
+pub(crate) struct Item {
     group: u64,
     key: Vec<u8>,
     value: Vec<u8>,
 }
 
 // Made before the clock starts.
-fn puts_of(alloc: Global, load: Load) -> Result<Vec<Item>, AllocError> {
+pub(crate) fn puts_of(alloc: Global, load: Load) -> Result<Vec<Item>, AllocError> {
     let mut value = filled(alloc, load.size, 1)?;
     let mut puts = Vec::new(alloc);
     for number in 0..load.count {
@@ -75,17 +75,23 @@ fn puts_of(alloc: Global, load: Load) -> Result<Vec<Item>, AllocError> {
     Ok(puts)
 }
 
-// Each in a batch of its own. Answers the bytes of their records.
-fn write_all<F: FileSystem>(
+/// Each in a batch of its own, and after so many a sync, or never for 0. Answers the bytes of their records.
+pub(crate) fn write_all<F: FileSystem>(
     alloc: Global,
     engine: &mut Engine<F>,
     puts: Vec<Item>,
-    sync: bool,
+    sync_each: u64,
 ) -> Result<u64, Fault> {
     let mut batch = LogBatch::new(alloc);
     let mut bytes = 0u64;
+    let mut unsynced = 0u64;
     for Item { group, key, value } in puts {
         batch.put(group, key, value)?;
+        unsynced = unsynced.saturating_add(1);
+        let sync = unsynced == sync_each;
+        if sync {
+            unsynced = 0;
+        }
         bytes = bytes.saturating_add(engine.write(&mut batch, sync)? as u64);
     }
     Ok(bytes)
@@ -141,8 +147,19 @@ fn reopen<R: Host, F: FileSystem + Drop>(
     let (files, len) = close(rt.alloc(), engine)?;
     let start = Instant::now(rt)?;
     let engine = open(rt.alloc(), files)?;
+    let last_found = report_open(rt, start, &engine, load, len)?;
+    Ok((len, last_found))
+}
+
+fn report_open<R: Host, F: FileSystem>(
+    rt: &R,
+    start: Instant,
+    engine: &Engine<F>,
+    load: Load,
+    len: usize,
+) -> Result<bool> {
     report(rt, "  reopen", start, load.count, len as u64)?;
-    Ok((len, has_last(rt.alloc(), &engine, load)?))
+    Ok(has_last(rt.alloc(), engine, load)?)
 }
 
 pub(crate) fn open<F: FileSystem + Drop>(alloc: Global, files: F) -> Result<Engine<F>, Fault> {

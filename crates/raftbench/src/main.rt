@@ -1,8 +1,9 @@
-//! Measures the engine over files in memory. Figures that are the same on each run go to standard output, times to
-//! standard error. docs/PERFORMANCE.md has the workloads and what they showed.
+//! Measures the engine over files in memory, or in a folder. Figures that are the same on each run go to standard
+//! output, times to standard error. docs/PERFORMANCE.md has the workloads and what they showed.
 #![tactic(auto)]
 
 mod blocks;
+mod disk;
 mod entries;
 mod files;
 mod log;
@@ -23,11 +24,18 @@ fn main(rt: HostRuntime) -> Result<()> {
     let Some(name) = words.next() else {
         return run_all(&rt);
     };
+    let folder = match name.as_str() {
+        "disk" => words.next(),
+        _ => None,
+    };
     let count = number_or(words.next(), SMALL_COUNT)?;
-    let size = number_or(words.next(), SMALL_SIZE)?;
-    match Workload::named(name.as_str()) {
-        Some(workload) => workload.run(&rt, count, size as usize),
-        None => bail!("usage: raftbench [WORKLOAD [COUNT [SIZE]]]"),
+    let size = number_or(words.next(), SMALL_SIZE)? as usize;
+    match (Workload::named(name.as_str()), folder) {
+        (Some(workload), _) => workload.run(&rt, count, size),
+        (None, Some(folder)) => disk::run_in(rt, folder.as_str(), count, size),
+        (None, None) => bail!(
+            "usage: raftbench [WORKLOAD [COUNT [SIZE]] | disk FOLDER [COUNT [SIZE]]]"
+        ),
     }
 }
 

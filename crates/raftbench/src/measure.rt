@@ -17,9 +17,31 @@ pub(crate) fn report<R: Host>(
     count: u64,
     bytes: u64,
 ) -> Result<Instant> {
-    let micros = u64::try_from(start.elapsed(rt)?.as_micros())?.max(1);
+    let micros = micros_since(rt, start)?;
     let each = micros.saturating_mul(1000) / count.max(1);
-    let rate = bytes / micros;
+    let rate = bytes / micros.max(1);
     eprintln!(rt; "{name}: {count} operations, {micros} us, {each} ns each, {rate} MB/s")?;
     Ok(Instant::now(rt)?)
+}
+
+pub(crate) fn micros_since<R: Host>(rt: &R, start: Instant) -> Result<u64> {
+    Ok(u64::try_from(start.elapsed(rt)?.as_micros())?)
+}
+
+/// Prints what so many operations on so many bytes took beside bare calls, on standard error.
+pub(crate) fn ratio<R: Host>(
+    rt: &R,
+    name: &str,
+    count: u64,
+    bytes: u64,
+    micros: u64,
+    bare: u64,
+) -> Result<()> {
+    let hundredths = micros.saturating_mul(100) / bare.max(1);
+    eprintln!(rt;
+        "{name}: {count} operations, {bytes} bytes, {micros} us, bare {bare} us, ratio {}.{:02}",
+        hundredths / 100,
+        hundredths % 100
+    )?;
+    Ok(())
 }

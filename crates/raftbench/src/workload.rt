@@ -22,13 +22,13 @@ pub(crate) enum Workload {
     FsSync,
 }
 
-/// How many values are written, under how many keys, of how many bytes, and whether each is synced.
+/// How many values are written, under how many keys, of how many bytes, and after how many to sync; 0: never.
 #[derive(Clone, Copy)]
 pub(crate) struct Load {
     pub count: u64,
     pub keys: u64,
     pub size: usize,
-    pub sync: bool,
+    pub sync_each: u64,
 }
 
 impl Load {
@@ -86,10 +86,10 @@ impl Workload {
                 _ => count,
             },
             size,
-            sync: matches!(
-                self,
-                Workload::PutSync | Workload::AppendSync | Workload::FsSync
-            ),
+            sync_each: match self {
+                Workload::PutSync | Workload::AppendSync | Workload::FsSync => 1,
+                _ => 0,
+            },
         };
         self.run_over(rt, MemoryFileSystem::new(rt.alloc()), load)
     }

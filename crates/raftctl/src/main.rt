@@ -2,18 +2,26 @@
 #![tactic(auto)]
 
 mod arguments;
-mod commands;
+mod entries;
+mod keys;
 mod numbered;
+mod output;
+mod request;
+mod stat;
 
-use anyhow::{Result, bail};
-use arguments::{Request, Verb, parse};
+use anyhow::{Result, anyhow, bail};
+use arguments::parse;
 use clap::Error;
+use output::Output;
 use raft_disk::DiskFileSystem;
-use raft_log_engine::FileSystem;
+use raft_log_engine::{Config, Engine, Fault, FileSystem, Fresh};
+use request::{Request, Verb};
+use std::alloc::Global;
 use std::env;
 use std::process::ExitCode;
 
-/// The status where what was asked for isn't there: no such key, or a gap among numbered keys.
+/// The status where what was asked for isn't there: no such key or entry, or a gap among numbered
+/// keys.
 const ABSENT: u8 = 3;
 
 fn main(rt: HostRuntime) -> ExitCode {
@@ -23,7 +31,8 @@ fn main(rt: HostRuntime) -> ExitCode {
     };
     match parse(rt.alloc(), words.as_slice()) {
         Ok(request) => match run(rt, &request) {
-            Ok(status) => status,
+            Ok(true) => ExitCode::SUCCESS,
+            Ok(false) => ExitCode::from(ABSENT),
             Err(error) => failed(&rt, &error),
         },
         Err(error) => misused(&rt, &error),
@@ -51,27 +60,85 @@ fn misused(rt: &HostRuntime, error: &Error) -> ExitCode {
     }
 }
 
-fn run(rt: HostRuntime, request: &Request<'_>) -> Result<ExitCode> {
-    let files = match DiskFileSystem::open(rt, request.folder) {
-        Ok(files) => files,
+fn run(rt: HostRuntime, request: &Request<'_>) -> Result<bool> {
+    match DiskFileSystem::open(rt, request.folder) {
+        Ok(files) => answer(&rt, files, request),
         Err(fault) => bail!("{fault}"),
-    };
-    answer(&rt, files, &request.verb)
+    }
 }
 
-fn answer<F: FileSystem + Drop>(rt: &HostRuntime, files: F, verb: &Verb<'_>) -> Result<ExitCode> {
-    let is_there = match verb {
-        Verb::Put(group, key, value, sync) => commands::put(rt, files, *group, key, value, *sync)?,
-        Verb::Get(group, key) => commands::get(rt, files, *group, key)?,
-        Verb::Delete(group, key, sync) => commands::delete(rt, files, *group, key, *sync)?,
-        Verb::List(group) => commands::list(rt, files, *group)?,
-        Verb::Stat => commands::stat(rt, files)?,
-        Verb::Load(count, size, sync_each) => numbered::load(rt, files, *count, *size, *sync_each)?,
-        Verb::Verify(count, size) => numbered::verify(rt, files, *count, *size)?,
-    };
-    if is_there {
-        Ok(ExitCode::SUCCESS)
-    } else {
-        Ok(ExitCode::from(ABSENT))
+/// What couldn't be done, and why.
+fn failure(what: &str, fault: &Fault) -> anyhow::Error {
+    anyhow!("{what}: {fault}")
+}
+
+// Says whether what was asked for is there.
+fn answer<F: FileSystem + Drop>(rt: &HostRuntime, files: F, request: &Request<'_>) -> Result<bool> {
+    if let Verb::Stat = request.verb {
+        return stat::stat(rt, files);
+    }
+    let mut engine = open(rt.alloc(), files)?;
+    let is_there = act(rt, &mut engine, request)?;
+    if request.sync {
+        close(engine)?;
+    }
+    Ok(is_there)
+}
+
+fn open<F: FileSystem + Drop>(alloc: Global, files: F) -> Result<Engine<F>> {
+    match Engine::open_in_order(alloc, Config::fresh(alloc), files) {
+        Ok(engine) => Ok(engine),
+        Err(refused) => Err(failure("the log cannot be opened", &refused.fault)),
+    }
+}
+
+fn close<F: FileSystem + Drop>(engine: Engine<F>) -> Result<()> {
+    match engine.close() {
+        Ok(_) => Ok(()),
+        Err(refused) => Err(failure("the log cannot be closed", &refused.fault)),
+    }
+}
+
+fn act<F: FileSystem>(
+    rt: &HostRuntime,
+    engine: &mut Engine<F>,
+    request: &Request<'_>,
+) -> Result<bool> {
+    if let Verb::Load(load) = &request.verb {
+        return numbered::load(rt, engine, *load);
+    }
+    let mut out = Output::new(rt.alloc());
+    match command(rt.alloc(), engine, request, &mut out) {
+        Ok(is_there) => {
+            out.print(rt)?;
+            Ok(is_there)
+        }
+        Err(fault) => Err(failure(request.verb.failure(), &fault)),
+    }
+}
+
+fn command<F: FileSystem>(
+    alloc: Global,
+    engine: &mut Engine<F>,
+    request: &Request<'_>,
+    out: &mut Output,
+) -> Result<bool, Fault> {
+    let sync = request.sync;
+    match &request.verb {
+        Verb::Put(group, key, value) => keys::put(alloc, engine, *group, key, value, sync),
+        Verb::Get(group, key) => keys::get(engine, *group, key, out),
+        Verb::Delete(group, key) => keys::delete(alloc, engine, *group, key, sync),
+        Verb::List(group) => keys::list(engine, *group, out),
+        Verb::Append(group, values, at) => {
+            entries::append(alloc, engine, *group, values, *at, sync, out)
+        }
+        Verb::Entry(group, index) => entries::get(engine, *group, *index, out),
+        Verb::Entries(group, from, to) => { entries::list(alloc, engine, *group, *from, *to, out) }
+        Verb::Compact(group, index) => entries::compact(engine, *group, *index, sync, out),
+        Verb::Clean(group) => entries::clean(alloc, engine, *group, sync),
+        Verb::Groups => entries::groups(engine, out),
+        Verb::Verify(load) => numbered::verify(alloc, engine, *load, out),
+        // Done before.
+        Verb::Load(_) | Verb::Stat => Ok(true),
     }
 }

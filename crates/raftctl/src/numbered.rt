@@ -1,7 +1,9 @@
 //! Keys numbered from 0, by which a disk can be tested: pull its plug while they are loaded.
 
-use crate::commands::open;
-use anyhow::{Result, bail};
+use crate::failure;
+use crate::output::{Output, Word};
+use crate::request::Load;
+use anyhow::Result;
 use raft_log_engine::{Engine, Fault, FileSystem, LogBatch};
 use std::alloc::{AllocError, Global};
 use std::time::Instant;
@@ -11,37 +13,39 @@ const GROUP: u64 = 1;
 /// After how many keys progress is printed.
 const PROGRESS: u64 = 100_000;
 
-/// Puts the keys below a number, each with a value of so many bytes, syncs after so many of them
-/// and at the end, or never for 0, and prints the last key that each sync covers.
-pub(crate) fn load<F: FileSystem + Drop>(
+/// Puts the keys, syncs after so many of them and at the end, or never for 0, and prints the last
+/// key that each sync covers.
+pub(crate) fn load<F: FileSystem>(
     rt: &HostRuntime,
-    files: F,
-    count: u64,
-    size: u64,
-    sync_each: u64,
+    engine: &mut Engine<F>,
+    load: Load,
 ) -> Result<bool> {
-    let mut engine = open(rt.alloc(), files)?;
     let start = Instant::now(rt)?;
-    for number in 0..count {
-        let nth = number.saturating_add(1);
-        let sync = sync_each > 0 && (nth % sync_each == 0 || nth == count);
-        if let Err(fault) = put(rt.alloc(), &mut engine, number, size, sync) {
-            bail!("key {number} cannot be written: {fault}");
-        }
-        if sync {
-            println!(rt; "synced {number}")?;
-        }
-        if nth % PROGRESS == 0 {
-            eprintln!(rt; "{nth} of {count}")?;
-        }
+    for number in 0..load.count {
+        put_next(rt, engine, number, load)?;
     }
-    report(rt, start, count, size)?;
-    if sync_each > 0 {
-        if let Err(refused) = engine.close() {
-            bail!("the log cannot be closed: {}", refused.fault);
-        }
-    }
+    report(rt, start, load)?;
     Ok(true)
+}
+
+fn put_next<F: FileSystem>(
+    rt: &HostRuntime,
+    engine: &mut Engine<F>,
+    number: u64,
+    load: Load,
+) -> Result<()> {
+    let nth = number.saturating_add(1);
+    let sync = load.sync_each > 0 && (nth % load.sync_each == 0 || nth == load.count);
+    if let Err(fault) = put(rt.alloc(), engine, number, load.size, sync) {
+        return Err(failure("the keys cannot be loaded", &fault));
+    }
+    if sync {
+        println!(rt; "synced {number}")?;
+    }
+    if nth % PROGRESS == 0 {
+        eprintln!(rt; "{nth} of {}", load.count)?;
+    }
+    Ok(())
 }
 
 fn put<F: FileSystem>(
@@ -61,10 +65,11 @@ fn put<F: FileSystem>(
     Ok(())
 }
 
-fn report(rt: &HostRuntime, start: Instant, count: u64, size: u64) -> Result<()> {
+fn report(rt: &HostRuntime, start: Instant, load: Load) -> Result<()> {
     let micros = u64::try_from(start.elapsed(rt)?.as_micros())?.max(1);
+    let count = load.count;
     let rate = count.saturating_mul(1_000_000) / micros;
-    let bytes = count.saturating_mul(size) / micros;
+    let bytes = count.saturating_mul(load.size) / micros;
     eprintln!(rt;
         "{count} keys in {} ms: {rate} keys/s, {bytes} MB/s",
         micros / 1000
@@ -74,28 +79,30 @@ fn report(rt: &HostRuntime, start: Instant, count: u64, size: u64) -> Result<()>
 
 /// Counts the keys that stand from 0 on, and those after the first that is missing or has another
 /// value; whether there are none of these.
-pub(crate) fn verify<F: FileSystem + Drop>(
-    rt: &HostRuntime,
-    files: F,
-    count: u64,
-    size: u64,
-) -> Result<bool> {
-    let engine = open(rt.alloc(), files)?;
+pub(crate) fn verify<F: FileSystem>(
+    alloc: Global,
+    engine: &Engine<F>,
+    load: Load,
+    out: &mut Output,
+) -> Result<bool, Fault> {
     let mut standing = 0u64;
     let mut after = 0u64;
     let mut wrong = 0u64;
-    for number in 0..count {
-        match find(rt.alloc(), &engine, number, size) {
-            Ok(Found::Right) if standing == number => standing = standing.saturating_add(1),
-            Ok(Found::Right) => after = after.saturating_add(1),
-            Ok(Found::Wrong) => wrong = wrong.saturating_add(1),
-            Ok(Found::Nothing) => {}
-            Err(fault) => bail!("key {number} cannot be read: {fault}"),
+    for number in 0..load.count {
+        match find(alloc, engine, number, load.size)? {
+            Found::Right if standing == number => standing = standing.saturating_add(1),
+            Found::Right => after = after.saturating_add(1),
+            Found::Wrong => wrong = wrong.saturating_add(1),
+            Found::Nothing => {}
         }
     }
-    println!(rt; "standing {standing}")?;
-    println!(rt; "after a gap {after}")?;
-    println!(rt; "wrong {wrong}")?;
+    for (name, count) in [
+        ("standing", standing),
+        ("after a gap", after),
+        ("wrong", wrong),
+    ] {
+        out.line(&[Word::Text(name), Word::Number(count)])?;
+    }
     Ok(after == 0 && wrong == 0)
 }
 

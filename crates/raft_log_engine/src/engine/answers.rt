@@ -6,8 +6,8 @@ use raft_base::History;
 use raft_env::FileSystem;
 use raft_records::LogBatch;
 
-/// Of each answer the moments by then, whether the engine had failed, and the batch that the call was
-/// given, if any: for clauses alone.
+/// Of each answer the moments by then, whether the engine had failed, and the batches that the call
+/// was given: for clauses alone.
 #[derive(Drop)]
 pub(crate) struct Answers<F> {
     files: History<F>,

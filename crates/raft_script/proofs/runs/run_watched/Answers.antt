@@ -3,19 +3,19 @@ use Rattle.std.proofs.lemmas.Grind.{common_steps}
 use Rattle.std.proofs.lemmas.List.{take_all}
 use Rattle.std.proofs.lemmas.List.Elements.{All-get_or}
 use Rattle.std.proofs.lemmas.Option.{slice_get_read}
+use Rattle.std.proofs.Math.Logic.{∥∥₁_elim, ∥∥₁_prop}
 use Rattle.raft_env.specs.Directory.{Directory, Path}
 use Rattle.raft_records.specs.Contents.{after_batches}
 use Rattle.raft_records.specs.Item.{Batch}
-use Rattle.raft_env.specs.Moments.{HoldsThroughout}
 use Rattle.raft_log_engine.specs.Crash.{LeavesAllowed}
-use Rattle.raft_script.specs.Durability.{Answers, AreAllowedInside, Progress, progress_after, progress_after_all, progress_from}
+use Rattle.raft_script.specs.Durability.{Answers, AreAllowedInside, LeavesInFlight, Progress, progress_after, progress_after_all, progress_from}
 use Rattle.raft_log_engine.specs.Durability.{Progresses, durability_of}
-use Rattle.raft_script.specs.Run.{IsFailurePlace, IsUnasked, accepted_of, is_covering}
+use Rattle.raft_script.specs.Run.{AreAnswers, IsFailurePlace, IsUnasked, accepted_batches, accepted_of, is_covering}
 use Rattle.raft_script.specs.declared.operation.Op.{Op}
 use Rattle.raft_log_engine.specs.Engine.{answer_now, contents_of, directory_of, durable_of, folder_of, has_failed, moments_of, refusals_of, snapshot_of, unsynced_of}
 use Rattle.raft_script.proofs.RunAnswersLemmas.{allowed_more, inside_call}
 use Rattle.raft_script.proofs.DurabilityLemmas.{IsUnderWay, durable_after, holds_all, inside_here, leaves_after, leaves_standing, progress_more, under_way_begun, under_way_more}
-use Rattle.raft_script.proofs.RunLemmas.{IsNextPlace, IsRunning, accepted_same, given_same, place_more, rose_more, running_begun, running_more, stands_so_far, still_failing, taken_more}
+use Rattle.raft_script.proofs.RunLemmas.{IsNextPlace, IsRunning, accepted_same, answers_more, given_same, place_more, rose_more, running_begun, running_more, stands_so_far, still_failing, taken_more}
 use Rattle.raft_script.proofs.runs.run_watched.Goals as goal
 use Rattle.raft_script.proofs.runs.run_watched.Goals.{then-stood+then-failed, else-stood, else-stood-via-then-stood+else-failed, else-stood-via-else-stood}
 
@@ -35,7 +35,7 @@ loop-op-preserved g c =
     let done : length ops ≡ c.loop-op.op-index = omega (arith, c.loop-op-test.true, length-take c.loop-op.op-index c.args.ops.now) in
     let taken = taken_more c.args.ops.now c.loop-op.op-index op c.loop-op-test.true c.op-item.is in
     let still = still_failing op outcome (has_failed old) fails step.failed in
-    let more = running_more (contents_of begun) ops outcomes (contents_of old) (has_failed old) kept.0 op outcome (contents_of new) fails step.value step.contents still in
+    let more = running_more (contents_of begun) ops outcomes (contents_of old) (has_failed old) kept.0 op outcome (contents_of new) fails step.contents still in
     let next : IsNextPlace (has_failed old) fails c.loop-op.op-index c.loop-op.failed_at c.if-stood.failed_at = elim c.if-stood.branch [
       | then-stood+then-failed w ↦ record {
         falls = λ alive fell. w.failed_at-is ∙ ap Some (w.len.ensures ∙ kept.1);
@@ -66,14 +66,18 @@ loop-op-preserved g c =
     let leaves = subst (λ (f : Path). LeavesAllowed f (durable_of new) (unsynced_of new) (directory_of new)) (step.folder ∙ kept.3) law.crash in
     let newest : (x : Directory) (earlier : List Directory) → moments_of new ≡ x ∷ earlier → LeavesAllowed (folder_of begun) (durable_of new) (unsynced_of new) x = λ x earlier moments.
     let same : directory_of new ≡ x = cc now.1 in subst (λ (y : Directory). LeavesAllowed (folder_of begun) (durable_of new) (unsynced_of new) y) same leaves in
-    let inside = λ (asks : Answers does.given flight old new). inside_call (folder_of begun) m p op outcome (snapshot_of old) (answer_now does.given new) is_given (LeavesAllowed (folder_of begun) (durable_of old) (unsynced_of old ++ flight)) (directory_of new)
-    (λ x alive allowed. inside_here m p c.args.ops.now c.loop-op.op-index c.loop-op.failed_at c.if-stood.failed_at (durability_of old) kept.4 op outcome flight (durability_of new) next (folder_of begun) x does.may_be holds alive allowed)
-    (λ alive. subst (λ (f : Path). HoldsThroughout (moments_of old) (moments_of new) (directory_of new) (LeavesAllowed f (durable_of old) (unsynced_of old ++ flight))) kept.3 (asks.moments alive)) asks.rests
+    let inside = λ (asks : Answers op does.given old new). inside_call (folder_of begun) m p op outcome (snapshot_of old) (answer_now does.given new) is_given (LeavesInFlight op old) (directory_of new)
+    (λ x alive allowed. ∥∥₁_elim allowed ∥∥₁_prop (λ (some, may_be, leaves).
+    inside_here m p c.args.ops.now c.loop-op.op-index c.loop-op.failed_at c.if-stood.failed_at (durability_of old) kept.4 op outcome some (durability_of new) next (folder_of begun) x may_be holds alive
+    (subst (λ (f : Path). LeavesAllowed f (durable_of old) (unsynced_of old ++ some) x) kept.3 leaves)))
+    asks.moments asks.rests
     (λ stands x earlier moments. leaves_standing (folder_of begun) m (progress_after m p op outcome) c.args.ops.now c.if-stood.failed_at (durability_of new) way stands x (newest x earlier moments)) step.failed in
-    let allowed = allowed_more ops outcomes op outcome begun old new kept.5 does.given flight does.answers inside in
+    let allowed = allowed_more ops outcomes op outcome begun old new kept.5 does.given does.answers inside in
     let way_more = subst (λ (q : Progress). IsUnderWay m q c.args.ops.now c.if-stood.failed_at (durability_of new)) (sym (progress_more m first ops outcomes op outcome kept.0.len)) way in
-    let place = place_more ops outcomes op outcome (has_failed begun) (has_failed old) fails c.loop-op.failed_at c.if-stood.failed_at kept.6 kept.7 step.failed
-    (subst (λ (k : ℕ). IsNextPlace (has_failed old) fails k c.loop-op.failed_at c.if-stood.failed_at) (sym done) next) in (
+    let next_here = subst (λ (k : ℕ). IsNextPlace (has_failed old) fails k c.loop-op.failed_at c.if-stood.failed_at) (sym done) next in
+    let answers = answers_more (contents_of begun) ops outcomes op outcome (has_failed begun) (has_failed old) fails c.loop-op.failed_at c.if-stood.failed_at kept.6 kept.7 step.failed next_here kept.12
+    (step.value (after_batches (contents_of begun) (accepted_batches (contents_of begun) ops outcomes)) (λ stands. sym (kept.0.contents stands))) in
+    let place = place_more ops outcomes op outcome (has_failed begun) (has_failed old) fails c.loop-op.failed_at c.if-stood.failed_at kept.6 kept.7 step.failed next_here in (
       rw (taken, c.in_ok-push.ensures.items) more,
       omega (arith, c.in_ok-push.ensures.len, kept.1),
       omega (arith, c.in_ok-push.ensures.capacity, kept.2),
@@ -86,6 +90,7 @@ loop-op-preserved g c =
       λ none. step.unchanged (subst IsUnasked (sym c.op-item.is) (All-get_or IsUnasked c.args.ops.now c.loop-op.op-index op c.loop-op-test.true none)) ∙ kept.9 none,
       record { leaves = law.crash; holds = law.contents },
       step.others ∙ kept.11,
+      rw (taken, c.in_ok-push.ensures.items) answers,
     )
 
 pub loop-op-init : goal.loop-op-init
@@ -105,6 +110,7 @@ loop-op-init g c =
       λ _. refl,
       record { leaves = law.crash; holds = law.contents },
       refl,
+      tt,
     )
 
 pub returns-clause-ok : goal.returns-clause-ok
@@ -120,7 +126,7 @@ returns-clause-ok g c =
     let way = subst (λ (l : List Op). IsUnderWay (durable_of old) (progress_after_all (durable_of old) first l outcomes) ops failed_at (durability_of e)) whole kept.4 in
     let running = subst (λ (l : List Op). IsRunning (contents_of old) l outcomes (contents_of e) (has_failed e)) whole kept.0 in
     record {
-      answers = running.answers;
+      answers = subst (λ (l : List Op). AreAnswers (has_failed old) failed_at (contents_of old) l outcomes) whole kept.12;
       failures = (kept.6, subst (λ (l : List Op). IsFailurePlace (has_failed old) l outcomes failed_at) whole kept.7);
       counted = kept.8;
       contents = running.contents;

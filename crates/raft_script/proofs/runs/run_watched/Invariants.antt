@@ -2,7 +2,7 @@ use Rattle.std.proofs.Common.{All, ◌≡◌, ◌||◌, ◌≤◌, is_some, leng
 use Rattle.raft_script.specs.Durability.{AreAllowedInside, progress_after_all, progress_from}
 use Rattle.raft_log_engine.specs.Durability.{durability_of}
 use Rattle.raft_log_engine.specs.Engine.{begun_of, contents_of, directory_of, durable_of, folder_of, has_failed, refusals_of, unsynced_of}
-use Rattle.raft_script.specs.Run.{IsFailurePlace, IsUnasked, StorageRefusalsRoseBy, io_count}
+use Rattle.raft_script.specs.Run.{AreAnswers, IsFailurePlace, IsUnasked, StorageRefusalsRoseBy, io_count}
 use Rattle.raft_script.proofs.RunAnswersLemmas.{Keeps}
 use Rattle.raft_script.proofs.DurabilityLemmas.{IsUnderWay}
 use Rattle.raft_script.proofs.RunLemmas.{IsRunning}
@@ -22,3 +22,4 @@ invariant-loop-op g l =
     × (All IsUnasked l.ops → l.engine ≡ l.initial.engine)
     × Keeps (folder_of l.engine) (durability_of l.engine) (directory_of l.engine)
     × (begun_of l.engine ≡ begun_of l.initial.engine)
+    × AreAnswers (has_failed l.initial.engine) l.failed_at (contents_of l.initial.engine) (take l.op-index l.ops) l.outcomes.items

@@ -1,10 +1,20 @@
-use Rattle.std.proofs.Common.{◌≡◌, ◌∙◌, ◌∷◌, [], List, Some, ap, inl, inr, refl, rules, sym}
+use Rattle.std.proofs.Common.{◌≡◌, ◌∙◌, ◌∷◌, [], List, Some, ap, map, inl, inr, refl, rules, subst, sym, append-nil}
+use Rattle.raft_records.specs.Contents.{Contents, first_index_of, last_index_of}
 use Rattle.raft_records.specs.Item.{Batch}
-use Rattle.raft_log_engine.specs.Durability.{durability_of}
-use Rattle.raft_log_engine.specs.Engine.{answer_now, answered_of, contents_of, directory_of, durable_of, folder_of, moments_of, unsynced_of}
-use Rattle.raft_script.specs.Run.{batch_of_acts, pending_batches, written_batches}
+use Rattle.raft_log_engine.specs.Durability.{Durability, durability_of}
+use Rattle.raft_log_engine.specs.Engine.{answer_now, answered_of, contents_of, directory_of, durable_of, folder_of, has_failed, is_known_in, moments_of, refusals_of, unsynced_of}
+use Rattle.raft_script.specs.Run.{IsUnbuiltGroup, Part, batch_of_acts, batches_of_parts, group_batches, pending_batches, written_batches}
+use Rattle.raft_log_engine.specs.Crash.{LeavesAllowed}
+use Rattle.raft_env.specs.Moments.{HoldsThroughout}
+use Rattle.raft_script.specs.declared.operation.Op.TheVariants.{Sync, Write}
 use Rattle.raft_script.proofs.DurabilityLemmas.{moments_of_batch, written_progress}
-use Rattle.raft_script.proofs.RunLemmas.{write_answered}
+use Rattle.raft_script.proofs.RunAnswersLemmas.{does_compact, does_read, in_flight, read_same}
+use Rattle.raft_script.proofs.RunLemmas.{compaction_answered, entry_answered, entry_rose, groups_answered, steady_by, write_answered}
+use Rattle.raft_log_engine.specs.Group.{items_of, written_in}
+use Rattle.raft_records.specs.Batch.{BatchView}
+use Rattle.raft_script.proofs.GroupLemmas.{does_group, group_answered, group_fails, group_refuses, unbuilt_answered, unbuilt_fails}
+use Rattle.raft_script.proofs.runs.step.Given.{Over}
+use Rattle.raft_script.proofs.runs.step.Goals.{After-write_group}
 use Rattle.raft_script.proofs.runs.step.Goals as goal
 
 pub returns-in-Ok-clause-value : goal.returns-in-Ok-clause-value
@@ -30,7 +40,7 @@ returns-in-Ok-clause-progress g c =
       progress = written_progress (contents_of e) acts items c.in-Write.sync built c.write.result (durability_of e) (durability_of n) write.progress;
       answers = inr (record {
         noted = write.answered ∙ ap (λ (given : List Batch). answer_now given n ∷ answered_of e) (ap written_batches (sym built));
-        moments = λ alive. moments_of_batch (folder_of e) (durable_of e) (contents_of e) (unsynced_of e) items (batch_of_acts acts.items) (moments_of e) (moments_of n) (directory_of n) built write.any_moment;
+        moments = λ alive. in_flight e (Write acts c.in-Write.sync) (pending_batches (contents_of e) (batch_of_acts acts.items)) (moments_of n) (directory_of n) refl (moments_of_batch (folder_of e) (durable_of e) (contents_of e) (unsynced_of e) items (batch_of_acts acts.items) (moments_of e) (moments_of n) (directory_of n) built write.any_moment);
         rests = λ failed. (write.unchanged failed).0.moments;
       });
     })
@@ -43,29 +53,25 @@ returns-in-Err-clause-progress g c =
       may_be = refl;
       given = written_batches (batch_of_acts acts.items);
       is_given = refl;
-      progress = inl (record { none = refl; covers_none = refl; failed = refl; durable = refl; unsynced = refl });
-      answers = inl (search rules, refl {a = c.args.engine.now});
+      progress = inl (record { none = refl; covers_none = refl; failed = refl; base = refl; unsynced = refl });
+      answers = inl (search rules, read_same c.args.engine.now);
     })
 
 pub returns-in-Get-clause-progress : goal.returns-in-Get-clause-progress
-returns-in-Get-clause-progress g c = rw c.in-Get.is (record {
-  flight = [];
-  may_be = refl;
-  given = [];
-  is_given = refl;
-  progress = inl (record { none = refl; covers_none = refl; failed = refl; durable = refl; unsynced = refl });
-  answers = inl (tt, refl {a = c.args.engine.now});
-})
+returns-in-Get-clause-progress g c = let e = c.args.engine.now in rw c.in-Get.is (does_read e e _ _ tt (read_same e) refl refl refl refl)
 
 pub returns-in-Sync-clause-progress : goal.returns-in-Sync-clause-progress
-returns-in-Sync-clause-progress g c = rw c.in-Sync.is (record {
-  flight = [];
-  may_be = refl;
-  given = [];
-  is_given = refl;
-  progress = search rules;
-  answers = inr (record { noted = search rules; moments = λ alive. search rules; rests = search rules });
-})
+returns-in-Sync-clause-progress g c =
+    let e = c.args.engine.now in
+    let n = c.sync.new.self in
+    rw c.in-Sync.is (record {
+      flight = [];
+      may_be = refl;
+      given = [];
+      is_given = refl;
+      progress = search rules;
+      answers = inr (record { noted = search rules; moments = λ alive. in_flight e Sync [] (moments_of n) (directory_of n) refl (subst (λ (l : List Batch). HoldsThroughout (moments_of e) (moments_of n) (directory_of n) (LeavesAllowed (folder_of e) (durable_of e) l)) (sym (append-nil (unsynced_of e))) c.sync.ensures.any_moment); rests = search rules });
+    })
 
 pub returns-in-Ok-clause-failed : goal.returns-in-Ok-clause-failed
 returns-in-Ok-clause-failed g c = rw c.in-Write.is (record {
@@ -74,3 +80,126 @@ returns-in-Ok-clause-failed g c = rw c.in-Write.is (record {
   refused = λ failed. search rules;
   cause = λ alive fails. search rules;
 })
+
+pub returns-in-CompactTo-clause-value : goal.returns-in-CompactTo-clause-value
+returns-in-CompactTo-clause-value g c =
+    let compaction = c.compact_to.ensures in
+    let e = c.args.engine.now in
+    rw c.in-CompactTo.is (λ m same. compaction_answered m (contents_of e) c.in-CompactTo.group c.in-CompactTo.index (has_failed e) (folder_of e) (refusals_of e) (refusals_of c.compact_to.new.self) same c.compact_to.result compaction.value compaction.failed compaction.cause)
+
+pub returns-in-CompactTo-clause-progress : goal.returns-in-CompactTo-clause-progress
+returns-in-CompactTo-clause-progress g c =
+    let e = c.args.engine.now in
+    let n = c.compact_to.new.self in
+    let result = c.compact_to.result in
+    rw c.in-CompactTo.is (does_compact e n c.in-CompactTo.group c.in-CompactTo.index result c.compact_to.ensures.progress c.compact_to.ensures.any_moment c.compact_to.ensures.answered c.compact_to.ensures.unchanged)
+
+pub returns-in-Entry-clause-value : goal.returns-in-Entry-clause-value
+returns-in-Entry-clause-value g c =
+    let e = c.args.engine.now in
+    let read = c.get_entry.ensures in
+    rw c.in-Entry.is (λ m same. entry_answered m (contents_of e) c.in-Entry.group c.in-Entry.index (has_failed e) (folder_of e) (refusals_of e) (refusals_of c.get_entry.new.self) same c.get_entry.result read.value read.failed read.cause)
+
+pub returns-in-Entry-clause-failed : goal.returns-in-Entry-clause-failed
+returns-in-Entry-clause-failed g c =
+    let e = c.args.engine.now in
+    let n = c.get_entry.new.self in
+    rw c.in-Entry.is (steady_by (has_failed e) (has_failed n) c.get_entry.result c.get_entry.ensures.failed (ap (λ (d : Durability). d.failed) c.get_entry.ensures.unchanged.state))
+
+pub returns-in-Entry-clause-refused : goal.returns-in-Entry-clause-refused
+returns-in-Entry-clause-refused g c =
+    let e = c.args.engine.now in
+    let n = c.get_entry.new.self in
+    let read = c.get_entry.ensures in (
+      read.unchanged.refusals,
+      entry_rose (contents_of e) (contents_of e) c.in-Entry.group c.in-Entry.index (has_failed e) (folder_of e) (refusals_of e) (refusals_of n) (λ _. refl) c.get_entry.result read.failed read.cause,
+    )
+
+pub returns-in-Entry-clause-progress : goal.returns-in-Entry-clause-progress
+returns-in-Entry-clause-progress g c = rw c.in-Entry.is (does_read c.args.engine.now c.get_entry.new.self _ _ tt c.get_entry.ensures.unchanged refl refl refl refl)
+
+pub returns-in-First-clause-value : goal.returns-in-First-clause-value
+returns-in-First-clause-value g c = rw c.in-First.is (λ m same stands. c.first_index.ensures.value stands ∙ ap (λ (x : Contents). first_index_of (x.entries c.in-First.group)) (sym (same stands)))
+
+pub returns-in-First-clause-progress : goal.returns-in-First-clause-progress
+returns-in-First-clause-progress g c = let e = c.args.engine.now in rw c.in-First.is (does_read e e _ _ tt (read_same e) refl refl refl refl)
+
+pub returns-in-Last-clause-value : goal.returns-in-Last-clause-value
+returns-in-Last-clause-value g c = rw c.in-Last.is (λ m same stands. c.last_index.ensures.value stands ∙ ap (λ (x : Contents). last_index_of (x.entries c.in-Last.group)) (sym (same stands)))
+
+pub returns-in-Last-clause-progress : goal.returns-in-Last-clause-progress
+returns-in-Last-clause-progress g c = let e = c.args.engine.now in rw c.in-Last.is (does_read e e _ _ tt (read_same e) refl refl refl refl)
+
+pub returns-in-Groups-clause-value : goal.returns-in-Groups-clause-value
+returns-in-Groups-clause-value g c =
+    let e = c.args.engine.now in
+    let told = c.raft_groups.ensures in
+    rw c.in-Groups.is (λ m same. groups_answered m (contents_of e) (has_failed e) same (is_known_in e) c.raft_groups.result told.value told.failed told.cause)
+
+pub returns-in-Groups-clause-failed : goal.returns-in-Groups-clause-failed
+returns-in-Groups-clause-failed g c =
+    let e = c.args.engine.now in
+    rw c.in-Groups.is (steady_by (has_failed e) (has_failed e) c.raft_groups.result c.raft_groups.ensures.failed refl)
+
+pub returns-in-Groups-clause-progress : goal.returns-in-Groups-clause-progress
+returns-in-Groups-clause-progress g c = let e = c.args.engine.now in rw c.in-Groups.is (does_read e e _ _ tt (read_same e) refl refl refl refl)
+
+-- The batches of a group.
+
+-- they are those of its parts
+group_built : (g : Over) (c : After-write_group g) → batches_of_parts c.in-WriteGroup.parts.items ≡ Some (items_of c.deref_mut.result.now)
+group_built g c =
+    ap batches_of_parts (sym c.deref-in-WriteGroup.ensures.value) ∙ c.in-Ok-build_group.ensures.value ∙ ap (λ (l : List BatchView). Some (items_of l)) (sym c.deref_mut.ensures.value)
+
+-- .. and so are the flags
+group_flags : (g : Over) (c : After-write_group g) → c.deref-in-Ok-build_group.result.now ≡ map (λ (part : Part). part.1) c.in-WriteGroup.parts.items
+group_flags g c =
+    c.deref-in-Ok-build_group.ensures.value ∙ c.in-Ok-build_group.ensures.ok ∙ ap (map (λ (part : Part). part.1)) c.deref-in-WriteGroup.ensures.value
+
+pub returns-in-Ok-build_group-clause-value : goal.returns-in-Ok-build_group-clause-value
+returns-in-Ok-build_group-clause-value g c =
+    let at = (goal.at.returns-in-Ok-build_group-clause-value g c).After-write_group in
+    let write = c.write_group.ensures in
+    rw c.in-WriteGroup.is (λ m same. group_answered c.in-WriteGroup.parts c.deref_mut.result.now c.write_group.new.batches c.deref-in-Ok-build_group.result.now c.args.engine.now c.write_group.new.self (group_built g at) (group_flags g at) m same c.write_group.result write.ok write.failed write.cause)
+
+pub returns-in-Ok-build_group-clause-failed : goal.returns-in-Ok-build_group-clause-failed
+returns-in-Ok-build_group-clause-failed g c =
+    let at = (goal.at.returns-in-Ok-build_group-clause-failed g c).After-write_group in
+    let write = c.write_group.ensures in
+    rw c.in-WriteGroup.is (group_fails c.in-WriteGroup.parts c.deref_mut.result.now c.write_group.new.batches c.deref-in-Ok-build_group.result.now c.args.engine.now c.write_group.new.self (group_built g at) (group_flags g at) c.write_group.result write.ok write.failed (λ failed. (write.unchanged failed).0.failed) write.cause)
+
+pub returns-in-Ok-build_group-clause-refused : goal.returns-in-Ok-build_group-clause-refused
+returns-in-Ok-build_group-clause-refused g c =
+    let at = (goal.at.returns-in-Ok-build_group-clause-refused g c).After-write_group in
+    let write = c.write_group.ensures in
+    group_refuses c.in-WriteGroup.parts c.deref_mut.result.now c.write_group.new.batches c.deref-in-Ok-build_group.result.now c.args.engine.now c.write_group.new.self (group_built g at) (group_flags g at) c.write_group.result write.ok write.cause write.refused
+
+pub returns-in-Ok-build_group-clause-progress : goal.returns-in-Ok-build_group-clause-progress
+returns-in-Ok-build_group-clause-progress g c =
+    let at = (goal.at.returns-in-Ok-build_group-clause-progress g c).After-write_group in
+    let write = c.write_group.ensures in
+    rw c.in-WriteGroup.is (does_group c.in-WriteGroup.parts c.deref_mut.result.now c.write_group.new.batches c.deref-in-Ok-build_group.result.now c.args.engine.now c.write_group.new.self (group_built g at) (group_flags g at) c.write_group.result write.progress write.any_moment write.answered (λ failed. (write.unchanged failed).0.moments))
+
+pub returns-in-Err-build_group-clause-value : goal.returns-in-Err-build_group-clause-value
+returns-in-Err-build_group-clause-value g c =
+    let unbuilt = subst (λ (l : List Part). IsUnbuiltGroup l c.in-Err-build_group.fault) c.deref-in-WriteGroup.ensures.value c.in-Err-build_group.ensures.cause in
+    rw c.in-WriteGroup.is (λ m same. unbuilt_answered c.in-WriteGroup.parts.items c.in-Err-build_group.fault unbuilt)
+
+pub returns-in-Err-build_group-clause-failed : goal.returns-in-Err-build_group-clause-failed
+returns-in-Err-build_group-clause-failed g c =
+    let unbuilt = subst (λ (l : List Part). IsUnbuiltGroup l c.in-Err-build_group.fault) c.deref-in-WriteGroup.ensures.value c.in-Err-build_group.ensures.cause in
+    rw c.in-WriteGroup.is (unbuilt_fails c.in-WriteGroup.parts.items (has_failed c.args.engine.now) c.in-Err-build_group.fault unbuilt)
+
+pub returns-in-Err-build_group-clause-progress : goal.returns-in-Err-build_group-clause-progress
+returns-in-Err-build_group-clause-progress g c =
+    let e = c.args.engine.now in
+    let parts = c.in-WriteGroup.parts in
+    let unbuilt = subst (λ (l : List Part). IsUnbuiltGroup l c.in-Err-build_group.fault) c.deref-in-WriteGroup.ensures.value c.in-Err-build_group.ensures.cause in
+    rw c.in-WriteGroup.is (record {
+      flight = [];
+      may_be = ∣ ([], refl) ∣₁;
+      given = written_in (group_batches parts.items);
+      is_given = refl;
+      progress = inl (record { none = refl; covers_none = refl; failed = refl; base = refl; unsynced = refl });
+      answers = inl (unbuilt, read_same e);
+    })

@@ -27,7 +27,7 @@ returns-in_ok-ran-in-Ok-clause-ok g c =
     c.in-Ok.ensures.ok.folder_is (c.in-Ok.ensures.ok.synced.0 ∙ c.in-Ok.ensures.contents) c.in-Ok.ensures.ok.synced.1 run.ok.now in
     λ _. record {
       answered = inl (record {
-        answers = subst (λ (x : Contents). AreAnswers x ops outcomes) c.in-Ok.ensures.contents run.ok.answers;
+        answers = subst (λ (b : Bool). AreAnswers b ran.failed_at m ops outcomes) c.in-Ok.ensures.ok.stands (subst (λ (x : Contents). AreAnswers (has_failed e) ran.failed_at x ops outcomes) c.in-Ok.ensures.contents run.ok.answers);
         place = subst (λ (b : Bool). IsFailurePlace b ops outcomes ran.failed_at) c.in-Ok.ensures.ok.stands run.ok.failures.1;
       });
       after = subst (λ (n : Directory). LeavesAllowedAfter ran.failed_at dir m [] ops outcomes n) (sym c.give_up.ensures.unchanged.0) after;

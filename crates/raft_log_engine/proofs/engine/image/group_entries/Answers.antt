@@ -1,4 +1,4 @@
-use Rattle.std.proofs.Common.{◌≡◌, ◌∙◌, ◌+◌, ◌++◌, ◌∷◌, [], true, List, ℕ, Vec, Global, ap, arith, rules, refl, sym, subst, append_assoc, append-nil}
+use Rattle.std.proofs.Common.{◌≡◌, ◌∙◌, ◌+◌, ◌++◌, ◌∷◌, [], List, ℕ, Vec, Global, ap, arith, refl, sym, subst, append_assoc, append-nil}
 use Rattle.std.proofs.lemmas.List.{map-append}
 use Rattle.std.proofs.lemmas.Result.{err_from_is_err_and}
 use Rattle.raft_env.specs.Directory.{Directory}
@@ -6,7 +6,7 @@ use Rattle.raft_records.specs.Item.{Entry}
 use Rattle.raft_records.specs.Places.{bytes_in, entries_in}
 use Rattle.raft_tables.specs.Table.{table_of}
 use Rattle.raft_log_engine.specs.Image.{entries_of}
-use Rattle.raft_log_engine.specs.Reads.{entries_between}
+use Rattle.raft_log_engine.specs.Reads.{IsReadableIn, entries_between}
 use Rattle.raft_pipes.specs.Blocks.{blocks_now}
 use Rattle.raft_records.specs.ItemBatch.{is_readable_at}
 use Rattle.raft_log_engine.proofs.FaultLemmas.{no_fewer_then, refusal_since}
@@ -42,17 +42,20 @@ loop-index-init g c =
     record {
       reads = (refl, refl);
       refused = (omega arith, omega arith);
-      holds = search rules;
+      holds = c.requires.holds;
       listed = rw c.new-entries.ensures.items (placed_all (blocks_now c.args.pipe.now (g.F.FileSystem.directory c.args.file_system.now)) c.in-Some.first (c.in-Some-last_index.last + 1) t.entries.first t.entries.places.items (omega (arith, ends.0)) (omega (arith, ends.1)));
     }
+
+pub read-requires-clause-readable : goal.read-requires-clause-readable
+read-requires-clause-readable g c = λ lifetimes order.
+    let readable : IsReadableIn c.args.pipe.now (g.F.FileSystem.directory c.args.file_system.now) c.in-Some-entry.place =
+    λ blocks has. found_holds (is_readable_at blocks) _ (table_of c.args.table.now).entries c.in-Some-entry.place (c.requires.readable blocks has) (sym c.in-Some-entry.ensures.value) in
+    subst (λ (n : Directory). IsReadableIn c.args.pipe.now n c.in-Some-entry.place) (sym c.loop-index.invariant.reads.0) readable
 
 pub returns-in_err-bytes-clause-cause : goal.returns-in_err-bytes-clause-cause
 returns-in_err-bytes-clause-cause g c =
     let p = err_from_is_err_and c.from_residual.result c.from_residual.ensures.1 in
-    rw (p.1) (λ readable.
-    let here = found_holds (is_readable_at (blocks_now c.args.pipe.now (g.F.FileSystem.directory c.args.file_system.now))) _ (table_of c.args.table.now).entries c.in-Some-entry.place readable (sym c.in-Some-entry.ensures.value) in
-    let now = subst (λ (n : Directory). is_readable_at (blocks_now c.args.pipe.now n) c.in-Some-entry.place ≡ true) (sym c.loop-index.invariant.reads.0) here in
-    rw (p.2) (refusal_since c.args.pipe.now.writer.path (g.F.FileSystem.refusals_of c.args.file_system.now) (g.F.FileSystem.refusals_of c.loop-index.file_system) (g.F.FileSystem.refusals_of c.read.new.file_system) c.in_err-bytes.field-0.0 c.loop-index.invariant.refused (c.in_err-bytes.ensures.cause now)))
+    rw (p.1, p.2) (refusal_since c.args.pipe.now.writer.path (g.F.FileSystem.refusals_of c.args.file_system.now) (g.F.FileSystem.refusals_of c.loop-index.file_system) (g.F.FileSystem.refusals_of c.read.new.file_system) c.in_err-bytes.field-0.0 c.loop-index.invariant.refused c.in_err-bytes.ensures.cause)
 
 pub loop-index-preserved : goal.loop-index-preserved
 loop-index-preserved g c =

@@ -1,4 +1,4 @@
-use Rattle.std.proofs.Common.{◌∙◌, Option, ap, refl, sym, subst}
+use Rattle.std.proofs.Common.{◌≡◌, ◌∙◌, true, Option, ap, refl, sym, subst}
 use Rattle.std.specs.Map.{lookup}
 use Rattle.std.specs.Str.{bytes_eq}
 use Rattle.raft_records.specs.Places.{entries_in}
@@ -6,11 +6,16 @@ use Rattle.raft_tables.specs.Listing.{IsListing, listed}
 use Rattle.raft_tables.specs.Table.{TableView, value_at}
 use Rattle.raft_tables.specs.Tables.{or_empty}
 use Rattle.raft_log_engine.specs.Image.{entries_of}
+use Rattle.raft_log_engine.specs.Reads.{are_readable_at}
 use Rattle.raft_pipes.specs.Blocks.{blocks_now}
 use Rattle.raft_log_engine.proofs.engine.image.group_image.Goals as goal
 
 pub returns-in_default-clause-value : goal.returns-in_default-clause-value
 returns-in_default-clause-value g c = c.in_default.ensures.none (blocks_now c.args.pipe.now (g.F.FileSystem.directory c.args.file_system.now))
+
+pub group_entries-requires-clause-readable : goal.group_entries-requires-clause-readable
+group_entries-requires-clause-readable g c = λ lifetimes order blocks has.
+    subst (λ (o : Option TableView). are_readable_at blocks (or_empty o).entries ≡ true) c.in-Some.ensures.value (c.requires.readable blocks has c.args.group)
 
 pub returns-clause-value : goal.returns-clause-value
 returns-clause-value g c =

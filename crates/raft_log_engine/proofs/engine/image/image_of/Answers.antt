@@ -1,11 +1,11 @@
-use Rattle.std.proofs.Common.{◌≡◌, ◌∙◌, arith, ap, get_or, refl, rules, sym, subst}
+use Rattle.std.proofs.Common.{◌≡◌, ◌∙◌, arith, ap, get_or, refl, sym, subst}
 use Rattle.std.specs.Prelude.{MatchOption}
 use Rattle.std.proofs.lemmas.Result.{err_from_is_err_and}
 use Rattle.raft_env.specs.Directory.{Directory}
-use Rattle.raft_tables.specs.Tables.{contents_in, tables_of, AreAllPlaced}
+use Rattle.raft_tables.specs.Tables.{contents_in, tables_of}
 use Rattle.raft_log_engine.specs.Image.{IsGroupImageOf, IsWithout}
+use Rattle.raft_log_engine.specs.Reads.{AreAllReadableIn}
 use Rattle.raft_pipes.specs.Blocks.{blocks_now}
-use Rattle.raft_records.specs.ItemBatch.{is_readable_at}
 use Rattle.raft_log_engine.proofs.FaultLemmas.{no_fewer_then, refusal_since}
 use Rattle.raft_log_engine.proofs.ImageLemmas.{building_begun, building_ended, building_with, building_without, holds_nothing}
 use Rattle.raft_log_engine.proofs.engine.image.image_of.Goals as goal
@@ -19,16 +19,18 @@ loop-group-init g c =
     record {
       reads = (refl, refl);
       refused = (omega arith, omega arith);
-      holds = search (rules, c.new-cache.ensures.value blocks refl);
+      holds = c.requires.holds;
       building = rw (c.new-groups.ensures.items, c.deref-group-items.ensures.value) (building_begun (contents_in blocks (tables_of tables)) c.in_ok-named.named.items named.ascending (λ group none. holds_nothing blocks tables group (sym (named.value group) ∙ none)));
     }
+
+pub group_image-requires-clause-readable : goal.group_image-requires-clause-readable
+group_image-requires-clause-readable g c = λ lifetimes order.
+    subst (λ (n : Directory). AreAllReadableIn c.args.pipe.now n (tables_of c.args.tables.now)) (sym c.loop-group.invariant.reads.0) c.requires.readable
 
 pub returns-in_err-image-clause-cause : goal.returns-in_err-image-clause-cause
 returns-in_err-image-clause-cause g c =
     let p = err_from_is_err_and c.from_residual-in_err-image.result c.from_residual-in_err-image.ensures.1 in
-    rw (p.1) (λ readable.
-    let now = subst (λ (n : Directory). AreAllPlaced (is_readable_at (blocks_now c.args.pipe.now n)) (tables_of c.args.tables.now)) (sym c.loop-group.invariant.reads.0) readable in
-    rw (p.2) (refusal_since c.args.pipe.now.writer.path (g.F.FileSystem.refusals_of c.args.file_system.now) (g.F.FileSystem.refusals_of c.loop-group.file_system) (g.F.FileSystem.refusals_of c.group_image.new.file_system) c.in_err-image.field-0.0 c.loop-group.invariant.refused (c.in_err-image.ensures.cause now)))
+    rw (p.1, p.2) (refusal_since c.args.pipe.now.writer.path (g.F.FileSystem.refusals_of c.args.file_system.now) (g.F.FileSystem.refusals_of c.loop-group.file_system) (g.F.FileSystem.refusals_of c.group_image.new.file_system) c.in_err-image.field-0.0 c.loop-group.invariant.refused c.in_err-image.ensures.cause)
 
 pub loop-group-preserved : goal.loop-group-preserved
 loop-group-preserved g c =

@@ -4,6 +4,7 @@ use Rattle.raft_pipes.specs.Pipe.{HasQueue}
 use Rattle.raft_pipes.specs.Queue.{RecoversPrefix}
 use Rattle.raft_log_engine.specs.Contents.{Holds}
 use Rattle.raft_log_engine.specs.Engine.{base_of, folder_of, unsynced_of}
+use Rattle.raft_log_engine.specs.Reads.{HoldsBlockIn}
 use Rattle.raft_log_engine.proofs.engine.faults.Engine+MemoryFileSystem.stop_at.Goals as goal
 
 -- its files are the same
@@ -14,6 +15,7 @@ invariant_of-self c =
     record {
       emptied = e.emptied;
       holds = λ alive. subst (λ n. Holds e.pipe n e.tables (base_of e ++ unsynced_of e)) (sym same) (e.holds alive);
+      cached = λ alive. subst (λ n. HoldsBlockIn e.pipe n e.cache) (sym same) (e.cached alive);
       queue = λ alive. subst (λ n. HasQueue e.pipe (folder_of e) (base_of e ++ unsynced_of e) (length (base_of e)) n) (sym same) (e.queue alive);
       completed = λ alive begun. subst (λ n. PipeHasCompletedLogIfSimple e.pipe (folder_of e) n) (sym same) (e.completed alive begun);
       left = subst (λ n. RecoversPrefix (folder_of e) (base_of e ++ unsynced_of e) (length (base_of e)) n) (sym same) e.left;

@@ -1,0 +1,123 @@
+//! Settings: which are refused, and what becomes of the others.
+
+use raft_pipes::Config;
+use raft_records::{Fault, Fresh, ReadableSize, Version};
+use std::alloc::Global;
+
+const MB: u64 = 1 << 20;
+
+/// A setting that is not the default one.
+enum Setting {
+    BlockSize(u64),
+    Threads(usize),
+    TargetFileSize(u64),
+    PurgeThreshold(u64),
+    Version1,
+    NoRecycling,
+    Prefill,
+    SpillIntoDir,
+}
+
+/// What settings come to.
+#[derive(Clone, Copy, Debug, PartialEq)]
+struct Limits {
+    block_size: u64,
+    threads: usize,
+    rewrite_threshold: u64,
+    prefill_limit: Option<u64>,
+    recycle_capacity: usize,
+    prefill_capacity: usize,
+}
+
+const DEFAULT_LIMITS: Limits = Limits {
+    block_size: 16_384,
+    threads: 4,
+    rewrite_threshold: 1_073_741_824,
+    prefill_limit: None,
+    recycle_capacity: 120,
+    prefill_capacity: 0,
+};
+
+/// What is set, and what it comes to or why it is refused.
+const SETTINGS: [(&[Setting], Result<Limits, &str>); 8] = [
+    (&[], Ok(DEFAULT_LIMITS)),
+    (
+        &[
+            Setting::BlockSize(1),
+            Setting::Threads(0),
+            Setting::TargetFileSize(5000 * MB),
+            Setting::Prefill,
+        ],
+        Ok(Limits {
+            block_size: 512,
+            threads: 1,
+            rewrite_threshold: 5000 * MB,
+            prefill_limit: Some(10_737_418_240),
+            recycle_capacity: 3,
+            prefill_capacity: 3,
+        }),
+    ),
+    (
+        &[Setting::Version1, Setting::NoRecycling],
+        Ok(Limits {
+            recycle_capacity: 0,
+            ..DEFAULT_LIMITS
+        }),
+    ),
+    (
+        &[Setting::TargetFileSize(0), Setting::Version1],
+        Err("target-file-size is 0"),
+    ),
+    (
+        &[
+            Setting::TargetFileSize(5 * MB),
+            Setting::PurgeThreshold(3 * MB),
+        ],
+        Err("purge-threshold is below target-file-size"),
+    ),
+    (
+        &[Setting::Version1],
+        Err("enable-log-recycle needs format-version 2"),
+    ),
+    (
+        &[Setting::NoRecycling, Setting::Prefill],
+        Err("prefill-for-recycle needs enable-log-recycle"),
+    ),
+    (&[Setting::SpillIntoDir], Err("spill-dir is dir")),
+];
+
+fn set(alloc: Global, config: &mut Config, setting: &Setting) {
+    match setting {
+        Setting::BlockSize(size) => config.recovery_read_block_size = ReadableSize(*size),
+        Setting::Threads(threads) => config.recovery_threads = *threads,
+        Setting::TargetFileSize(size) => config.target_file_size = ReadableSize(*size),
+        Setting::PurgeThreshold(size) => config.purge_threshold = ReadableSize(*size),
+        Setting::Version1 => config.format_version = Version::V1,
+        Setting::NoRecycling => config.enable_log_recycle = false,
+        Setting::Prefill => config.prefill_for_recycle = true,
+        Setting::SpillIntoDir => config.spill_dir = Some(String::new(alloc)),
+    }
+}
+
+fn limits_of(config: &Config) -> Limits {
+    Limits {
+        block_size: config.recovery_read_block_size.0,
+        threads: config.recovery_threads,
+        rewrite_threshold: config.rewrite_threshold().0,
+        prefill_limit: config.prefill_limit.map(|limit| limit.0),
+        recycle_capacity: config.recycle_capacity(),
+        prefill_capacity: config.prefill_capacity(),
+    }
+}
+
+#[test]
+fn settings_are_sanitized(rt: HostRuntime) {
+    for (settings, wanted) in &SETTINGS {
+        let mut config = Config::fresh(rt.alloc());
+        for setting in *settings {
+            set(rt.alloc(), &mut config, setting);
+        }
+        let answer = config.sanitize().map(|()| limits_of(&config));
+        assert_eq!(rt; answer, wanted.map_err(Fault::InvalidArgument));
+    }
+}

@@ -1,0 +1,114 @@
+//! Workloads over a folder of the operating system, each beside bare calls on one file of as many bytes.
+
+use crate::blocks::filled;
+use crate::log::{open, puts_of, write_all};
+use crate::measure::{micros_since, ratio};
+use crate::workload::Load;
+use anyhow::{Result, bail};
+use raft_disk::DiskFileSystem;
+use raft_env::FileSystem;
+use raft_log_engine::Engine;
+use std::fs::{self, File};
+use std::io::Write;
+use std::time::Instant;
+
+/// The workloads, and after how many puts each syncs; 0: never.
+const WORKLOADS: [(&str, u64); 4] = [
+    ("disk-sync-1", 1),
+    ("disk-sync-10", 10),
+    ("disk-sync-100", 100),
+    ("disk-none", 0),
+];
+
+/// How long an opening and the puts after it took, in microseconds, and the bytes of their records.
+#[derive(Clone, Copy)]
+struct Run {
+    opening: u64,
+    puts: u64,
+    bytes: u64,
+}
+
+/// Does each workload in a new folder below this one, and then opens the last of them again.
+pub(crate) fn run_in(rt: HostRuntime, folder: &str, count: u64, size: usize) -> Result<()> {
+    for (name, sync_each) in WORKLOADS {
+        let load = Load {
+            count,
+            keys: count,
+            size,
+            sync_each,
+        };
+        let place = format!(in rt.alloc(); "{folder}/{name}")?;
+        let run = run_folder(rt, place.as_str(), load)?;
+        let bare = write_bare(&rt, place.as_str(), load, run.bytes)?;
+        ratio(&rt, name, count, run.bytes, run.puts, bare)?;
+    }
+    reopen(rt, folder, count, size)
+}
+
+fn reopen(rt: HostRuntime, folder: &str, count: u64, size: usize) -> Result<()> {
+    let place = format!(in rt.alloc(); "{folder}/disk-none")?;
+    let nothing = Load {
+        count: 0,
+        keys: 0,
+        size,
+        sync_each: 0,
+    };
+    let run = run_folder(rt, place.as_str(), nothing)?;
+    let log = format!(in rt.alloc(); "{place}/bench/0000000000000001.raftlog")?;
+    let start = Instant::now(&rt)?;
+    let bytes = fs::read(&rt, log.as_str())?.len() as u64;
+    let bare = micros_since(&rt, start)?;
+    ratio(&rt, "disk-open", count, bytes, run.opening, bare)
+}
+
+fn run_folder(rt: HostRuntime, place: &str, load: Load) -> Result<Run> {
+    let start = Instant::now(&rt)?;
+    match DiskFileSystem::open(rt, place) {
+        Ok(files) => run_over(&rt, start, files, load),
+        Err(fault) => bail!("{fault}"),
+    }
+}
+
+fn run_over<F: FileSystem + Drop>(
+    rt: &HostRuntime,
+    start: Instant,
+    files: F,
+    load: Load,
+) -> Result<Run> {
+    let mut engine = open(rt.alloc(), files)?;
+    put_all(rt, start, &mut engine, load)
+}
+
+fn put_all<F: FileSystem>(
+    rt: &HostRuntime,
+    start: Instant,
+    engine: &mut Engine<F>,
+    load: Load,
+) -> Result<Run> {
+    let opening = micros_since(rt, start)?;
+    let puts = puts_of(rt.alloc(), load)?;
+    let start = Instant::now(rt)?;
+    let bytes = write_all(rt.alloc(), engine, puts, load.sync_each)?;
+    Ok(Run {
+        opening,
+        puts: micros_since(rt, start)?,
+        bytes,
+    })
+}
+
+// As many bytes at the end of a new file: a write, and a sync where there is one, for the puts that share a sync.
+fn write_bare(rt: &HostRuntime, place: &str, load: Load, bytes: u64) -> Result<u64> {
+    let path = format!(in rt.alloc(); "{place}.bare")?;
+    let each = load.sync_each.max(1);
+    let len = (bytes / load.count.max(1)).saturating_mul(each);
+    let block = filled(rt.alloc(), len as usize, 1)?;
+    let mut file = File::create(rt, path.as_str())?;
+    let start = Instant::now(rt)?;
+    for _ in 0..load.count / each {
+        file.write_all(&block)?;
+        if load.sync_each > 0 {
+            file.sync_data()?;
+        }
+    }
+    micros_since(rt, start)
+}
