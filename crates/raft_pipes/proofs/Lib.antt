@@ -2,11 +2,13 @@ pub mod BlocksLemmas
 pub mod CompletedLemmas
 pub mod FolderLemmas
 pub mod LogFileLemmas
+pub mod NumberedLemmas
 pub mod OpenLemmas
 pub mod OpenMomentsLemmas
 pub mod OpenReplayLemmas
 pub mod PipeDoubtLemmas
 pub mod PipeResultLemmas
+pub mod QueueFilesLemmas
 pub mod QueueLemmas
 pub mod QueueSoundLemmas
 pub mod WrittenLemmas

@@ -5,6 +5,7 @@ mod config;
 pub mod laws;
 mod pipe;
 mod pipe_builder;
+pub mod queue_laws;
 mod replay;
 
 pub use config::{Config, RecoveryMode};
