@@ -8,7 +8,9 @@ pub mod OpenMomentsLemmas
 pub mod OpenReplayLemmas
 pub mod PipeDoubtLemmas
 pub mod PipeResultLemmas
+pub mod PlacesLemmas
 pub mod QueueFilesLemmas
 pub mod QueueLemmas
 pub mod QueueSoundLemmas
+pub mod StepsLemmas
 pub mod WrittenLemmas
