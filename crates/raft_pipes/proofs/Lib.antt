@@ -9,8 +9,10 @@ pub mod OpenReplayLemmas
 pub mod PipeDoubtLemmas
 pub mod PipeResultLemmas
 pub mod PlacesLemmas
+pub mod QueueAppendLemmas
 pub mod QueueFilesLemmas
 pub mod QueueLemmas
+pub mod QueueRotationLemmas
 pub mod QueueSoundLemmas
 pub mod StepsLemmas
 pub mod WrittenLemmas
