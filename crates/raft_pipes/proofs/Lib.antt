@@ -14,5 +14,6 @@ pub mod QueueFilesLemmas
 pub mod QueueLemmas
 pub mod QueueRotationLemmas
 pub mod QueueSoundLemmas
+pub mod RestartLemmas
 pub mod StepsLemmas
 pub mod WrittenLemmas
