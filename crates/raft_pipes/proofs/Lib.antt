@@ -1,6 +1,8 @@
+pub mod ApartLemmas
 pub mod BlocksLemmas
 pub mod CompletedLemmas
 pub mod FolderLemmas
+pub mod ListingLemmas
 pub mod LogFileLemmas
 pub mod NumberedLemmas
 pub mod OpenLemmas

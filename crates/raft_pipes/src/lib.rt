@@ -3,6 +3,7 @@
 
 mod config;
 pub mod laws;
+pub mod listing_laws;
 mod pipe;
 mod pipe_builder;
 pub mod queue_laws;
