@@ -1,8 +1,9 @@
 -- What the program's openings answer.
-use Rattle.std.proofs.Common.{◌≡◌, ◌∙◌, true, false, List, [], ◌∷◌, Option, Some, None, Result, Ok, Err, inl, inr, ap, subst, sym}
+use Rattle.std.proofs.Common.{◌≡◌, ◌∙◌, true, List, [], ◌∷◌, Option, Some, None, Result, Ok, Err, inl, inr, ap, subst, sym}
 use Rattle.std.specs.Prelude.{◌↔◌, IfOk, IsErrAnd, MatchResult, codes}
 use Rattle.std.specs.declared.alloc.AllocError.{AllocError}
-use Rattle.std.proofs.Math.Logic.{∥∥₁_map}
+use Rattle.std.proofs.Math.Logic.{∥∥₁_elim}
+use Rattle.std.proofs.Props.{props}
 use Rattle.std.proofs.lemmas.Bool.{cases_Bool}
 use Rattle.raft_base.specs.declared.errors.Fault.TheVariants as fault
 use Rattle.raft_env.specs.Directory.{CrashImage, Directory, Leaves, Path}
@@ -60,7 +61,7 @@ module _ {F H R W : Type 0} {g : Ghosts F H R W} where
   pub reopened : (old : Engine F H R W g) (opening : Result (Engine F H R W g) (Refused F)) → IfOk opening (IsNewIn (folder_of old)) → IfOk opening (BeginsAsClosed old) → (IsErrAnd opening (λ r. r.fault ≡ fault.Failed) ↔ (has_failed old ≡ true)) → IfOk opening (IsReopened old)
   reopened old (Ok e) new begins failed = elim (cases_Bool (has_failed old)) [
     | inl gone ↦ absurd (failed.1 gone)
-    | inr stood ↦ (stood, ∥∥₁_map begins.holds.readable (λ is. (new, new.batches ∙ ap (found_batches (folder_of old)) begins.begun ∙ is)))
+    | inr stood ↦ (stood, (new, new.batches ∙ ap (found_batches (folder_of old)) begins.begun ∙ ∥∥₁_elim begins.holds.readable (hlevel props) (λ is. is)))
   ]
   reopened old (Err r) new begins failed = tt
 

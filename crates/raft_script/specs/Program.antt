@@ -49,7 +49,7 @@ module _ {F H R W : Type 0} {g : Ghosts F H R W} where
   -- an engine that stood was closed, and what it held is opened again
   abbrev pub IsReopened : Engine F H R W g → Engine F H R W g → Type 0
   IsReopened old new =
-      (has_failed old ≡ false) × ∥ IsNewWith (folder_of old) (all_batches old) new ∥₁
+      (has_failed old ≡ false) × IsNewWith (folder_of old) (all_batches old) new
 
   -- a new engine holds what a crash left of another one's files
   abbrev pub HoldsAfterCrash : Engine F H R W g → Engine F H R W g → Type 0

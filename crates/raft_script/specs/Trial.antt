@@ -36,7 +36,8 @@ pub record AreNotAsked (folder : Path) (m : Contents) (files : Directory) (outco
   pub stands : failed_at ≡ None
   pub files_keep : RecoversContents folder m [] files
 
--- operations over a folder that holds these batches, from an opening on: the files as they were left
+-- operations over a folder that holds these batches, from an opening on: the files as they were
+-- left
 pub record RunsOver (folder : Path) (batches : List Batch) (ops : List Op) (outcomes : List Outcome)
     (failed_at : Option ℕ) (files : Directory) : Type 0 where
   pub answered : AreAnswered batches ops outcomes failed_at

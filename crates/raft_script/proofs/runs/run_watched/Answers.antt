@@ -12,7 +12,7 @@ use Rattle.raft_log_engine.specs.Crash.{LeavesAllowed}
 use Rattle.raft_tables.specs.Known.{known_in}
 use Rattle.raft_script.specs.Durability.{Answers, AreAllowedInside, LeavesInFlight, Progress, progress_after, progress_after_all, progress_from}
 use Rattle.raft_log_engine.specs.Durability.{Progresses, durability_of}
-use Rattle.raft_script.specs.Run.{AreAnswers, IsFailurePlace, IsUnasked, accepted_of, batches_after_all, is_covering}
+use Rattle.raft_script.specs.Run.{AreAnswers, IsFailurePlace, IsUnasked, batches_after_all, is_covering}
 use Rattle.raft_script.specs.declared.operation.Op.{Op}
 use Rattle.raft_log_engine.specs.Engine.{all_batches, answer_now, contents_of, directory_of, durable_of, folder_of, has_failed, moments_of, refusals_of, snapshot_of, unsynced_of}
 use Rattle.raft_script.proofs.RunAnswersLemmas.{allowed_more, inside_call}
