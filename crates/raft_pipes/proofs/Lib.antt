@@ -15,5 +15,6 @@ pub mod QueueLemmas
 pub mod QueueRotationLemmas
 pub mod QueueSoundLemmas
 pub mod RestartLemmas
+pub mod RotationLemmas
 pub mod StepsLemmas
 pub mod WrittenLemmas

@@ -9,4 +9,5 @@ pub mod Open
 pub mod Pipe
 pub mod Queue
 pub mod QueueFiles
+pub mod Rotation
 pub mod Written

@@ -7,6 +7,7 @@ mod pipe;
 mod pipe_builder;
 pub mod queue_laws;
 mod replay;
+pub mod rotation;
 
 pub use config::{Config, RecoveryMode};
 pub use pipe::{AppendFault, SinglePipe};
