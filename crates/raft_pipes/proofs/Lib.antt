@@ -16,5 +16,6 @@ pub mod QueueRotationLemmas
 pub mod QueueSoundLemmas
 pub mod RestartLemmas
 pub mod RotationLemmas
+pub mod SingleLemmas
 pub mod StepsLemmas
 pub mod WrittenLemmas

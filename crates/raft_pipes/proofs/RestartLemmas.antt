@@ -14,10 +14,11 @@ use Rattle.raft_files.specs.Scan.{is_read_to_end, readable_batches}
 use Rattle.raft_files.specs.Records.{image_of_file, bytes_after_crash, batches_after_crash}
 use Rattle.raft_files.proofs.RecordsCrashLemmas.{kept_none, kept_restarted}
 use Rattle.raft_files.specs.Sealed.{IsSealed}
-use Rattle.raft_pipes.specs.Numbered.{AreApart, AreNumbered, IsPathOf, IsRun, end_of_numbers, has_file, in_queue, kept_files, path_of, paths_of}
+use Rattle.raft_pipes.specs.Numbered.{AreApart, AreNumbered, AreSingle, IsPathOf, IsRun, end_of_numbers, has_file, in_queue, kept_files, path_of, paths_of}
 use Rattle.raft_pipes.specs.QueueFiles.{AreReadToEnd, IsKeptQueue, KeepsFiles, QueueFile, batches_in, but_last, if_standing, places_of, queue_after_crash}
-use Rattle.raft_pipes.proofs.NumberedLemmas.{kept-numbered, numbered_same, run_at, run_back, run_front}
+use Rattle.raft_pipes.proofs.NumberedLemmas.{numbered_same, run_at, run_back, run_front}
 use Rattle.raft_pipes.proofs.PlacesLemmas.{found_is_path, found_stands, here_first, none_stands, paths_of-same}
+use Rattle.raft_pipes.proofs.SingleLemmas.{single_numbered}
 use Rattle.raft_pipes.proofs.QueueFilesLemmas.{left_in, no_file}
 
 -- a list is empty or has a last element
@@ -149,10 +150,9 @@ nat_le_or : (a b : ℕ) → (a ≤ b) ⊎ (b < a)
 nat_le_or a b = elim (leb_tells a b) [ inl low ↦ inl low.1 | inr high ↦ inr (omega (arith, high.1)) ]
 
 -- after a crash all that is found stays, where each kept file but the last is read to its end
-pub queue_restarted : (folder : Path) (folders : List Path) (queue : LogQueue) → AreApart (folder ∷ folders) → (first : ℕ) (files : List (ℕ × Path)) (n : Directory) → AreNumbered (paths_of (folder ∷ folders) queue n) first files → (m : Directory) (d : CrashImage) → IsRestarted n d m
+pub queue_restarted : (folder : Path) (folders : List Path) (queue : LogQueue) → AreApart (folder ∷ folders) → (n m : Directory) (d : CrashImage) → AreSingle (folder ∷ folders) queue n → IsRestarted n d m
     → AreReadToEnd (folder ∷ folders) queue n d → let found = queue_after_crash (folder ∷ folders) queue n d in IsKeptQueue (folder ∷ folders) queue found (length found) m
-queue_restarted folder folders queue are first files n numbered m d restarted read =
-    subst (λ found. IsKeptQueue all queue found (length found) m) (sym (ap (left_in queue n d) kept)) (by_end files (ends files) numbered (subst (λ fs. AllByRecursion IsRead (but_last fs)) kept read))
+queue_restarted folder folders queue are n m d single restarted read = by_end (kept_files all queue n) (ends (kept_files all queue n)) numbered.1 read
   where
     all : List Path
     all = folder ∷ folders
@@ -160,15 +160,15 @@ queue_restarted folder folders queue are first files n numbered m d restarted re
     IsRead : ℕ × Path → Type 0
     IsRead f = is_read_to_end (in_queue queue f.0) (bytes_after_crash f.1 n d) ≡ true
 
-    kept : kept_files all queue n ≡ files
-    kept = kept-numbered (paths_of all queue n) first files numbered
+    numbered : (first : ℕ) × AreNumbered (paths_of all queue n) first (kept_files all queue n)
+    numbered = single_numbered all queue n single
 
-    by_end : (files : List (ℕ × Path)) → Ends files → AreNumbered (paths_of all queue n) first files → AllByRecursion IsRead (but_last files) → let found = left_in queue n d files in IsKeptQueue all queue found (length found) m
-    by_end files end = elim end as (λ files end. AreNumbered (paths_of all queue n) first files → AllByRecursion IsRead (but_last files) → let found = left_in queue n d files in IsKeptQueue all queue found (length found) m) [
-      | nothing ↦ λ numbered read.
-          let none_stand : (k : ℕ) → k < end_of_numbers → paths_of all queue n k ≡ [] = λ k within. elim (nat_le_or first k) [
-            | inl low ↦ numbered.above k (omega (arith, low)) within
-            | inr high ↦ numbered.none refl k high
+    by_end : (files : List (ℕ × Path)) → Ends files → AreNumbered (paths_of all queue n) numbered.0 files → AllByRecursion IsRead (but_last files) → let found = left_in queue n d files in IsKeptQueue all queue found (length found) m
+    by_end files end = elim end as (λ files end. AreNumbered (paths_of all queue n) numbered.0 files → AllByRecursion IsRead (but_last files) → let found = left_in queue n d files in IsKeptQueue all queue found (length found) m) [
+      | nothing ↦ λ are_numbered read.
+          let none_stand : (k : ℕ) → k < end_of_numbers → paths_of all queue n k ≡ [] = λ k within. elim (nat_le_or numbered.0 k) [
+            | inl low ↦ are_numbered.above k (omega (arith, low)) within
+            | inr high ↦ are_numbered.none refl k high
           ] in (
             1,
             [],
@@ -178,6 +178,6 @@ queue_restarted folder folders queue are first files n numbered m d restarted re
             refl,
             omega arith,
           )
-      | behind front last ↦ λ numbered read.
-          with_last all queue n m d restarted are first front last numbered (subst (AllByRecursion IsRead) (but_last-behind front last) read)
+      | behind front last ↦ λ are_numbered read.
+          with_last all queue n m d restarted are numbered.0 front last are_numbered (subst (AllByRecursion IsRead) (but_last-behind front last) read)
     ]
