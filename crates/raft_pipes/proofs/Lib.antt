@@ -1,9 +1,11 @@
 pub mod ApartLemmas
 pub mod BlocksLemmas
 pub mod CompletedLemmas
+pub mod FileListLemmas
 pub mod FolderLemmas
 pub mod ListingLemmas
 pub mod LogFileLemmas
+pub mod NamesLemmas
 pub mod NumberedLemmas
 pub mod OpenLemmas
 pub mod OpenMomentsLemmas

@@ -2,6 +2,7 @@
 #![tactic(auto)]
 
 mod config;
+pub mod file_list;
 pub mod laws;
 pub mod listing_laws;
 mod pipe;
