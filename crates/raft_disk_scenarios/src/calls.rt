@@ -74,6 +74,10 @@ const NAMES: &[Row] = &[
 ];
 
 const NAMES_AGAIN: &[Row] = &[
+    (Step::Create("LOCK"), Some(IoKind::Other), "LOCK", Some(b"")),
+    (Step::Create("d/../f"), Some(IoKind::Other), "f", None),
+    (Step::MakeDir("d//f"), Some(IoKind::Other), "d/f", None),
+    (Step::Create("f/g"), Some(IoKind::NotFound), "f/g", None),
     (Step::Writer("a"), Some(IoKind::NotFound), "a", None),
     (Step::Writer("b"), Some(IoKind::NotFound), "b", None),
     (Step::Writer("c"), Some(IoKind::NotFound), "c", None),
@@ -247,14 +251,22 @@ fn writer_of<F: FileSystem>(fs: &mut F, path: &str) -> Result<F::Writer, FsFault
     fs.new_writer(&handle)
 }
 
+fn set_writer<F: FileSystem>(
+    fs: &mut F,
+    writer: &mut Option<F::Writer>,
+    path: &str,
+) -> Result<(), FsFault> {
+    *writer = Some(writer_of(fs, path)?);
+    Ok(())
+}
+
 fn take<F: FileSystem>(
     fs: &mut F,
     writer: &mut Option<F::Writer>,
     step: &Step,
 ) -> Result<(), FsFault> {
     if let Step::Writer(path) = step {
-        *writer = Some(writer_of(fs, path)?);
-        return Ok(());
+        return set_writer(fs, writer, path);
     }
     match writer {
         Some(writer) => change_bytes(fs, writer, step),
@@ -306,11 +318,19 @@ fn first_wrong<F: FileSystem + Drop>(
     Ok(None)
 }
 
+fn wrong_in(rt: HostRuntime, folder: &str, rows: &[Row]) -> Result<Option<usize>, Fail> {
+    let files = DiskFileSystem::open(rt, folder)?;
+    first_wrong(&rt, files, folder, rows)
+}
+
 // The first opening, and the row of it, that goes wrong.
-fn wrong_in(rt: HostRuntime, folder: &str, case: &Case) -> Result<Option<(usize, usize)>, Fail> {
+fn wrong_opening(
+    rt: HostRuntime,
+    folder: &str,
+    case: &Case,
+) -> Result<Option<(usize, usize)>, Fail> {
     for (opening, rows) in case.openings.iter().enumerate() {
-        let files = DiskFileSystem::open(rt, folder)?;
-        if let Some(row) = first_wrong(&rt, files, folder, rows)? {
+        if let Some(row) = wrong_in(rt, folder, rows)? {
             return Ok(Some((opening, row)));
         }
     }
@@ -321,7 +341,7 @@ fn wrong_in(rt: HostRuntime, folder: &str, case: &Case) -> Result<Option<(usize,
 fn calls_are_carried_out_on_the_disk(rt: HostRuntime) -> Result<(), Fail> {
     for case in &CASES {
         let folder = temp_folder(&rt, "calls")?;
-        let wrong = wrong_in(rt, folder.as_str(), case);
+        let wrong = wrong_opening(rt, folder.as_str(), case);
         let removed = fs::remove_dir_all(&rt, folder.as_str());
         assert_eq!(rt; wrong?, None, "{}", case.name);
         removed?;

@@ -2,6 +2,7 @@
 
 use crate::temp::temp_folder;
 use raft_disk::DiskFileSystem;
+use std::alloc::AllocError;
 use std::os::unix::fs::symlink;
 use std::test::Fail;
 use std::{fs, io};
@@ -71,24 +72,21 @@ const CASES: [Case; 6] = [
     },
 ];
 
+fn place_of(rt: &HostRuntime, folder: &str, name: &str) -> Result<String, AllocError> {
+    format!(in rt.alloc(); "{folder}/{name}")
+}
+
 fn make(rt: &HostRuntime, folder: &str, made: &Made) -> io::Result<()> {
     match made {
-        Made::Folder(name) => {
-            let place = format!(in rt.alloc(); "{folder}/{name}")?;
-            fs::create_dir(rt, place.as_str())
-        }
-        Made::File(name) => {
-            let place = format!(in rt.alloc(); "{folder}/{name}")?;
-            fs::write(rt, place.as_str(), b"kept")
-        }
+        Made::Folder(name) => fs::create_dir(rt, place_of(rt, folder, name)?.as_str()),
+        Made::File(name) => fs::write(rt, place_of(rt, folder, name)?.as_str(), b"kept"),
         Made::Link(name, link) => {
-            let place = format!(in rt.alloc(); "{folder}/{name}")?;
-            let link = format!(in rt.alloc(); "{folder}/{link}")?;
-            symlink(rt, place.as_str(), link.as_str())
+            let link = place_of(rt, folder, link)?;
+            symlink(rt, *name, link.as_str())
         }
         Made::Name(name, second) => {
-            let place = format!(in rt.alloc(); "{folder}/{name}")?;
-            let second = format!(in rt.alloc(); "{folder}/{second}")?;
+            let place = place_of(rt, folder, name)?;
+            let second = place_of(rt, folder, second)?;
             fs::hard_link(rt, place.as_str(), second.as_str())
         }
     }

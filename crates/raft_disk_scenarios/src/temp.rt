@@ -2,16 +2,20 @@
 
 use std::{env, fs, io, process};
 
+// An earlier process of the same number may have been killed and have left the folder.
+fn make_anew(rt: &HostRuntime, folder: &str) -> io::Result<()> {
+    if fs::exists(rt, folder)? {
+        fs::remove_dir_all(rt, folder)?;
+    }
+    fs::create_dir(rt, folder)
+}
+
 /// Makes an empty folder of this name below that for temporary files, which no other process has.
 pub(crate) fn temp_folder(rt: &HostRuntime, name: &str) -> io::Result<String> {
-    let base = env::temp_dir(rt)?;
     let id = process::id(rt.process());
+    let base = env::temp_dir(rt)?;
     let folder = format!(in rt.alloc(); "{}/raft-disk-{id}-{name}", base.as_str())?;
-    // An earlier process of this number may have been killed.
-    if fs::exists(rt, folder.as_str())? {
-        fs::remove_dir_all(rt, folder.as_str())?;
-    }
-    fs::create_dir(rt, folder.as_str())?;
+    make_anew(rt, folder.as_str())?;
     Ok(folder)
 }
 
