@@ -4,7 +4,10 @@ pub mod Sanitized
 pub mod Completed
 pub mod Folder
 pub mod LogFile
+pub mod Numbered
 pub mod Open
 pub mod Pipe
 pub mod Queue
+pub mod QueueFiles
+pub mod Rotation
 pub mod Written

@@ -5,7 +5,9 @@ mod config;
 pub mod laws;
 mod pipe;
 mod pipe_builder;
+pub mod queue_laws;
 mod replay;
+pub mod rotation;
 
 pub use config::{Config, RecoveryMode};
 pub use pipe::{AppendFault, SinglePipe};
