@@ -46,7 +46,7 @@ pub struct Config {
     /// A second folder for log files, where the first has no space.
     pub spill_dir: Option<String>,
     pub recovery_mode: RecoveryMode,
-    /// How many bytes an opening reads at least at once.
+    /// How many bytes an opening reads at once.
     pub recovery_read_block_size: ReadableSize,
     pub recovery_threads: usize,
     /// Read and ignored.

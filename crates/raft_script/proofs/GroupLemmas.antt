@@ -137,7 +137,7 @@ module _ {F H R W : Type 0} {g : Ghosts F H R W} (parts : Vec Part Global) (view
   batches = items_of views
 
   abbrev pub IsCause : Result (Vec (Result ℕ Fault) Global) Fault → Type 0
-  IsCause result = IfErr result (group.IsGroupRefusal (folder_of old) (length views) (length flags) (has_failed old) (refusals_of old) (refusals_of new))
+  IsCause result = IfErr result (group.IsGroupRefusal (folder_of old) (length views) (length flags) (has_failed old) (has_failed new) (refusals_of old) (refusals_of new))
 
   abbrev pub IsOk : Result (Vec (Result ℕ Fault) Global) Fault → Type 0
   IsOk result = IfOk result (λ answers. HasWrittenGroup batches (items_of after) old new answers.items)
@@ -167,7 +167,7 @@ module _ {F H R W : Type 0} {g : Ghosts F H R W} (parts : Vec Part Global) (view
   ]
   group_answered m same (Err e) ok failed cause = by_fault e cause
     where
-      by_fault : (e : Fault) → group.IsGroupRefusal (folder_of old) (length views) (length flags) (has_failed old) (refusals_of old) (refusals_of new) e → IsGroupRefusal parts.items e
+      by_fault : (e : Fault) → group.IsGroupRefusal (folder_of old) (length views) (length flags) (has_failed old) (has_failed new) (refusals_of old) (refusals_of new) e → IsGroupRefusal parts.items e
       by_fault (fault.InvalidArgument text) h = absurd (h.1 same_count)
       by_fault fault.Failed h = subst IsSome (sym built) refl
       by_fault (fault.Io kind path) h = subst IsSome (sym built) refl
@@ -187,7 +187,7 @@ module _ {F H R W : Type 0} {g : Ghosts F H R W} (parts : Vec Part Global) (view
       told (Err fault.Failed) cause failure = cause
       told (Err _) cause failure = absurd (let clash = failure in cc)
 
-      by_fault : (e : Fault) → group.IsGroupRefusal (folder_of old) (length views) (length flags) (has_failed old) (refusals_of old) (refusals_of new) e → has_failed old ≡ false → IsStorageOrMemory e
+      by_fault : (e : Fault) → group.IsGroupRefusal (folder_of old) (length views) (length flags) (has_failed old) (has_failed new) (refusals_of old) (refusals_of new) e → has_failed old ≡ false → IsStorageOrMemory e
       by_fault (fault.InvalidArgument text) h alive = absurd (h.1 same_count)
       by_fault fault.Failed h alive = absurd (let clash = sym h ∙ alive in cc)
       by_fault (fault.Io kind path) h alive = tt
@@ -200,7 +200,7 @@ module _ {F H R W : Type 0} {g : Ghosts F H R W} (parts : Vec Part Global) (view
 
   pub group_refuses : (result : Result (Vec (Result ℕ Fault) Global) Fault) → IsOk result → IsCause result → NoFewer (refusals_of old) (refusals_of new) → Refuses (Sizes result) (refusals_of old) (refusals_of new)
   group_refuses (Ok answers) ok cause counts = (counts, batches_rose (folder_of old) (refusals_of old) (refusals_of new) (contents_of old) batches answers.items ok.answered)
-  group_refuses (Err (fault.Io kind path)) ok cause counts = (counts, λ io. cause.2.0)
+  group_refuses (Err (fault.Io kind path)) ok cause counts = (counts, λ io. cause.3.0)
   group_refuses (Err _) ok cause counts = (counts, λ io. absurd (let clash = io in cc))
 
   abbrev IsProgress : List Batch → Result (Vec (Result ℕ Fault) Global) Fault → Type 0
