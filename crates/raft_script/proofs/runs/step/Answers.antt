@@ -22,7 +22,7 @@ returns-in-Ok-clause-value g c =
     let write = c.write.ensures in
     let acts = c.in-Write.acts in
     let built : batch_of_acts acts.items ≡ Some c.in-Ok.batch.items = ap batch_of_acts (sym c.deref.ensures.value) ∙ c.in-Ok.ensures.value in
-    rw c.in-Write.is (λ m is. write_answered acts.items c.in-Ok.batch.items c.write.new.batch.items (folder_of c.args.engine.now) m c.args.engine.now c.write.new.self built is c.write.result write.ok write.failed write.cause)
+    rw c.in-Write.is (λ m known is same_known. write_answered acts.items c.in-Ok.batch.items c.write.new.batch.items (folder_of c.args.engine.now) m c.args.engine.now c.write.new.self built is c.write.result write.ok write.failed write.cause)
 
 pub returns-in-Ok-clause-progress : goal.returns-in-Ok-clause-progress
 returns-in-Ok-clause-progress g c =
@@ -85,7 +85,7 @@ pub returns-in-CompactTo-clause-value : goal.returns-in-CompactTo-clause-value
 returns-in-CompactTo-clause-value g c =
     let compaction = c.compact_to.ensures in
     let e = c.args.engine.now in
-    rw c.in-CompactTo.is (λ m same. compaction_answered m (contents_of e) c.in-CompactTo.group c.in-CompactTo.index (has_failed e) (folder_of e) (refusals_of e) (refusals_of c.compact_to.new.self) same c.compact_to.result compaction.value compaction.failed compaction.cause)
+    rw c.in-CompactTo.is (λ m known same same_known. compaction_answered m (contents_of e) c.in-CompactTo.group c.in-CompactTo.index (has_failed e) (folder_of e) (refusals_of e) (refusals_of c.compact_to.new.self) same c.compact_to.result compaction.value compaction.failed compaction.cause)
 
 pub returns-in-CompactTo-clause-progress : goal.returns-in-CompactTo-clause-progress
 returns-in-CompactTo-clause-progress g c =
@@ -98,7 +98,7 @@ pub returns-in-Entry-clause-value : goal.returns-in-Entry-clause-value
 returns-in-Entry-clause-value g c =
     let e = c.args.engine.now in
     let read = c.get_entry.ensures in
-    rw c.in-Entry.is (λ m same. entry_answered m (contents_of e) c.in-Entry.group c.in-Entry.index (has_failed e) (folder_of e) (refusals_of e) (refusals_of c.get_entry.new.self) same c.get_entry.result read.value read.failed read.cause)
+    rw c.in-Entry.is (λ m known same same_known. entry_answered m (contents_of e) c.in-Entry.group c.in-Entry.index (has_failed e) (folder_of e) (refusals_of e) (refusals_of c.get_entry.new.self) same c.get_entry.result read.value read.failed read.cause)
 
 pub returns-in-Entry-clause-failed : goal.returns-in-Entry-clause-failed
 returns-in-Entry-clause-failed g c =
@@ -119,13 +119,13 @@ pub returns-in-Entry-clause-progress : goal.returns-in-Entry-clause-progress
 returns-in-Entry-clause-progress g c = rw c.in-Entry.is (does_read c.args.engine.now c.get_entry.new.self _ _ tt c.get_entry.ensures.unchanged refl refl refl refl)
 
 pub returns-in-First-clause-value : goal.returns-in-First-clause-value
-returns-in-First-clause-value g c = rw c.in-First.is (λ m same stands. c.first_index.ensures.value stands ∙ ap (λ (x : Contents). first_index_of (x.entries c.in-First.group)) (sym (same stands)))
+returns-in-First-clause-value g c = rw c.in-First.is (λ m known same same_known stands. c.first_index.ensures.value stands ∙ ap (λ (x : Contents). first_index_of (x.entries c.in-First.group)) (sym (same stands)))
 
 pub returns-in-First-clause-progress : goal.returns-in-First-clause-progress
 returns-in-First-clause-progress g c = let e = c.args.engine.now in rw c.in-First.is (does_read e e _ _ tt (read_same e) refl refl refl refl)
 
 pub returns-in-Last-clause-value : goal.returns-in-Last-clause-value
-returns-in-Last-clause-value g c = rw c.in-Last.is (λ m same stands. c.last_index.ensures.value stands ∙ ap (λ (x : Contents). last_index_of (x.entries c.in-Last.group)) (sym (same stands)))
+returns-in-Last-clause-value g c = rw c.in-Last.is (λ m known same same_known stands. c.last_index.ensures.value stands ∙ ap (λ (x : Contents). last_index_of (x.entries c.in-Last.group)) (sym (same stands)))
 
 pub returns-in-Last-clause-progress : goal.returns-in-Last-clause-progress
 returns-in-Last-clause-progress g c = let e = c.args.engine.now in rw c.in-Last.is (does_read e e _ _ tt (read_same e) refl refl refl refl)
@@ -134,7 +134,7 @@ pub returns-in-Groups-clause-value : goal.returns-in-Groups-clause-value
 returns-in-Groups-clause-value g c =
     let e = c.args.engine.now in
     let told = c.raft_groups.ensures in
-    rw c.in-Groups.is (λ m same. groups_answered m (contents_of e) (has_failed e) same (is_known_in e) c.raft_groups.result told.value told.failed told.cause)
+    rw c.in-Groups.is (λ m known same same_known. groups_answered m (contents_of e) known (is_known_in e) (has_failed e) same same_known c.raft_groups.result told.value told.failed told.cause)
 
 pub returns-in-Groups-clause-failed : goal.returns-in-Groups-clause-failed
 returns-in-Groups-clause-failed g c =
@@ -160,7 +160,7 @@ pub returns-in-Ok-build_group-clause-value : goal.returns-in-Ok-build_group-clau
 returns-in-Ok-build_group-clause-value g c =
     let at = (goal.at.returns-in-Ok-build_group-clause-value g c).After-write_group in
     let write = c.write_group.ensures in
-    rw c.in-WriteGroup.is (λ m same. group_answered c.in-WriteGroup.parts c.deref_mut.result.now c.write_group.new.batches c.deref-in-Ok-build_group.result.now c.args.engine.now c.write_group.new.self (group_built g at) (group_flags g at) m same c.write_group.result write.ok write.failed write.cause)
+    rw c.in-WriteGroup.is (λ m known same same_known. group_answered c.in-WriteGroup.parts c.deref_mut.result.now c.write_group.new.batches c.deref-in-Ok-build_group.result.now c.args.engine.now c.write_group.new.self (group_built g at) (group_flags g at) m same c.write_group.result write.ok write.failed write.cause)
 
 pub returns-in-Ok-build_group-clause-failed : goal.returns-in-Ok-build_group-clause-failed
 returns-in-Ok-build_group-clause-failed g c =
@@ -183,7 +183,7 @@ returns-in-Ok-build_group-clause-progress g c =
 pub returns-in-Err-build_group-clause-value : goal.returns-in-Err-build_group-clause-value
 returns-in-Err-build_group-clause-value g c =
     let unbuilt = subst (λ (l : List Part). IsUnbuiltGroup l c.in-Err-build_group.fault) c.deref-in-WriteGroup.ensures.value c.in-Err-build_group.ensures.cause in
-    rw c.in-WriteGroup.is (λ m same. unbuilt_answered c.in-WriteGroup.parts.items c.in-Err-build_group.fault unbuilt)
+    rw c.in-WriteGroup.is (λ m known same same_known. unbuilt_answered c.in-WriteGroup.parts.items c.in-Err-build_group.fault unbuilt)
 
 pub returns-in-Err-build_group-clause-failed : goal.returns-in-Err-build_group-clause-failed
 returns-in-Err-build_group-clause-failed g c =
