@@ -7,7 +7,7 @@ use Rattle.raft_records.specs.Item.{Entries, Clean, Compact, Put, Delete, group_
 use Rattle.raft_records.specs.PlacedItem.{PlacedContent, EntriesAt, Plain, PlacedItem}
 use Rattle.raft_records.specs.Validity.{are_in_order}
 use Rattle.raft_tables.specs.Counters.{count_after, rewrite_count}
-use Rattle.raft_tables.specs.Table.{TableView, rewritten_in, rewritten_values}
+use Rattle.raft_tables.specs.Table.{TableView, rewritten_in, rewritten_value}
 use Rattle.raft_tables.specs.Tables.{Tables, or_empty, table_after, tables_after_item}
 use Rattle.raft_tables.specs.declared.stats.GlobalStats.{GlobalStats}
 
@@ -18,11 +18,11 @@ placed_by id (Plain (Entries entries)) = 0
 placed_by id (Plain Clean) = 0
 placed_by id (Plain (Compact index)) = 0
 placed_by id (Plain (Put key value)) =
-    if bytes_eq key group_mark_key then 0 else rewritten_values (Some (value, id))
+    if bytes_eq key group_mark_key then 0 else rewritten_value (Some (value, id))
 placed_by id (Plain (Delete key)) = 0
 
--- how many it takes from there: of those that stood there and those that it places, all that don't
--- stand there after it
+-- how many leave it: those that stood there and those that are placed there, less those that stand
+-- there after the change
 abbrev pub left_by : FileId → PlacedContent → Option TableView → ℕ
 left_by id content t =
     rewritten_in (or_empty t) + placed_by id content
