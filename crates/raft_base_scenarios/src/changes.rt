@@ -4,6 +4,7 @@ use raft_records::{Fault, Fresh, KeyValue, LogBatch, LogItem, LogItemContent};
 use std::alloc::{AllocError, Global};
 
 /// A group, its key, and the key's new value, unless it is deleted.
+#[derive(Clone, Copy)]
 pub(crate) struct Change(pub u64, pub &'static [u8], pub Option<&'static [u8]>);
 
 pub(crate) fn key_value_of(alloc: Global, change: &Change) -> Result<KeyValue, AllocError> {
