@@ -25,11 +25,15 @@ use Rattle.raft_log_engine.specs.Group as group
 use Rattle.raft_log_engine.specs.Group.{AreGroupAnswers, FailsWithChoice, HasWrittenGroup, LeavesChoice, accepted_in, chosen_of, items_of, written_in}
 use Rattle.raft_log_engine.specs.declared.engine.Engine.{Engine}
 use Rattle.raft_script.specs.Durability.{Answers, Does}
-use Rattle.raft_script.specs.Run.{AreBatchAnswers, FailsBy, IsBatchRefusal, IsGroupRefusal, IsStorageOrMemory, IsUnbuiltGroup, IsWrittenGroup, Part, Refuses, StorageRefusalsRoseBy, batch_of_acts, batches_of_parts, group_batches, is_failure, is_io, with_batch}
+use Rattle.raft_script.specs.Run.{AreBatchAnswers, FailsBy, IsBatchRefusal, IsGroupRefusal, IsStorageOrMemory, IsUnbuiltGroup, IsWrittenGroup, Part, Refuses, StorageRefusalsRoseBy, batch_of_acts, batches_of_parts, group_batches, is_failure, is_io, of_both}
 use Rattle.raft_script.specs.declared.operation.Op.TheVariants.{WriteGroup}
 use Rattle.raft_script.specs.declared.operation.Outcome.TheVariants.{Sizes}
 
 -- Building.
+
+-- a batch before others, where there are both
+abbrev with_batch : Option Batch → Option (List Batch) → Option (List Batch)
+with_batch = of_both (λ batch others. batch ∷ others)
 
 -- these are the batches of the parts
 abbrev pub AreBuilt : List Part → List Batch → Type 0

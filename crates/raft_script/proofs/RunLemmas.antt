@@ -25,7 +25,7 @@ use Rattle.raft_log_engine.specs.declared.engine.Engine.{Engine}
 use Rattle.raft_log_engine.specs.Contents.{recovered_contents}
 use Rattle.raft_log_engine.specs.Crash.{written_batch}
 use Rattle.raft_tables.specs.Known.{known_in}
-use Rattle.raft_script.specs.Run.{accepted_of, AreAnswers, AreSteady, FailsAt, IsFailing, IsFailurePlace, Refuses, StorageRefusalsRoseBy, batch_of_acts, batches_after, batches_after_all, io_count, io_in, is_failure, is_io, IsAnswer, IsEngineRefusal, IsGetRefusal, IsSteadyBy, IsTextRefusal, IsUnbuilt, IsGiven, IsWritten, IsWriteRefusal, compaction_in, items_of_act, with_items, written_batches}
+use Rattle.raft_script.specs.Run.{accepted_of, AreAnswers, AreSteady, FailsAt, IsFailing, IsFailurePlace, Refuses, StorageRefusalsRoseBy, batch_of_acts, batches_after, batches_after_all, io_count, io_in, is_failure, is_io, IsAnswer, IsEngineRefusal, IsGetRefusal, IsSteadyBy, IsTextRefusal, IsUnbuilt, IsGiven, IsWritten, IsWriteRefusal, compaction_in, items_of_act, of_both}
 use Rattle.raft_log_engine.specs.Reads.{IsEntryAnswer, IsEntryRefusalAt, IsGroupList, compact_count, entry_of}
 use Rattle.raft_script.specs.Entry.{IsTextOf, index_of}
 use Rattle.raft_script.specs.declared.text_entry.TextEntry.{TextEntry}
@@ -36,6 +36,10 @@ use Rattle.raft_script.specs.declared.operation.Op.TheVariants.{Write, WriteGrou
 use Rattle.raft_script.specs.declared.operation.Outcome.{Outcome}
 use Rattle.raft_script.specs.declared.operation.Outcome.TheVariants as reply
 use Rattle.raft_script.specs.declared.operation.Outcome.TheVariants.{Size, Sizes, Done, Value, Count, Index}
+
+-- items before others, where there are both
+abbrev with_items : Option Batch → Option Batch → Option Batch
+with_items = of_both (λ items others. items ++ others)
 
 -- items, followed by the batch of more acts, where there is one
 abbrev pub followed_by : Batch → Option Batch → Option Batch
@@ -99,9 +103,9 @@ unbuilt_by e items n acts act within is built first (inr (inr r)) = inr (inr (r.
 pub built_ended : (items : Batch) (n : ℕ) (acts : List Act) → drop n acts ≡ [] → IsBuilt items n acts → batch_of_acts acts ≡ Some items
 built_ended items n acts none built = sym built ∙ ap (λ l. followed_by items (batch_of_acts l)) none ∙ ap Some (append-nil items)
 
-pub after-written_batches : (m : Contents) (batch : Batch) → after_batches m (written_batches (Some batch)) ≡ after_batch m batch
-after-written_batches m [] = refl
-after-written_batches m (item ∷ items) = refl
+pub after-written_batch : (m : Contents) (batch : Batch) → after_batches m (written_batch batch) ≡ after_batch m batch
+after-written_batch m [] = refl
+after-written_batch m (item ∷ items) = refl
 
 same_err : {T : Type 0} {x y : Fault} (r : Result T Fault) → r ≡ Err x → r ≡ Err y → x ≡ y
 same_err r a b = cc
