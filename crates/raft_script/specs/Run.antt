@@ -319,11 +319,6 @@ IsStorageOrMemory (fault.Io kind path) = Unit {0}
 IsStorageOrMemory fault.Memory = Unit {0}
 IsStorageOrMemory _ = ⊥
 
--- the answer of an engine that had failed
-abbrev pub is_failure : {T : Type 0} → Result T Fault → Bool
-is_failure (Err fault.Failed) = true
-is_failure _ = false
-
 -- an engine answers so and fails, or doesn't; an answer that isn't the engine's is one of the
 -- others
 pub record FailsBy {T : Type 0} (failed : Bool) (answer : Result T Fault) (fails : Bool)
@@ -331,8 +326,8 @@ pub record FailsBy {T : Type 0} (failed : Bool) (answer : Result T Fault) (fails
   -- it stays failed
   pub still : failed ≡ true → fails ≡ true
   -- a failure is told where there was one, and nowhere else
-  pub only_failed : is_failure answer ≡ true → failed ≡ true
-  pub refused : failed ≡ true → (is_failure answer ≡ true) ⊎ IsErrAnd answer Other
+  pub only_failed : answer ≡ Err fault.Failed → failed ≡ true
+  pub refused : failed ≡ true → (answer ≡ Err fault.Failed) ⊎ IsErrAnd answer Other
   -- it fails by storage or for lack of memory alone
   pub cause : failed ≡ false → fails ≡ true → IsErrAnd answer IsStorageOrMemory
 
