@@ -25,11 +25,16 @@ use Rattle.raft_log_engine.specs.Group as group
 use Rattle.raft_log_engine.specs.Group.{AreGroupAnswers, FailsWithChoice, HasWrittenGroup, LeavesChoice, accepted_in, chosen_of, items_of, written_in}
 use Rattle.raft_log_engine.specs.declared.engine.Engine.{Engine}
 use Rattle.raft_script.specs.Durability.{Answers, Does}
-use Rattle.raft_script.specs.Run.{AreBatchAnswers, FailsBy, IsBatchRefusal, IsGroupRefusal, IsStorageOrMemory, IsUnbuiltGroup, IsWrittenGroup, Part, Refuses, StorageRefusalsRoseBy, batch_of_acts, batches_of_parts, group_batches, is_failure, is_io, with_batch}
+use Rattle.raft_script.specs.Run.{AreBatchAnswers, FailsBy, IsBatchRefusal, IsGroupRefusal, IsStorageOrMemory, IsUnbuiltGroup, IsWrittenGroup, Part, Refuses, StorageRefusalsRoseBy, batch_of_acts, batches_of_parts, group_batches, is_io, of_both}
+use Rattle.raft_script.proofs.RunLemmas.{same_err}
 use Rattle.raft_script.specs.declared.operation.Op.TheVariants.{WriteGroup}
 use Rattle.raft_script.specs.declared.operation.Outcome.TheVariants.{Sizes}
 
 -- Building.
+
+-- a batch before others, where there are both
+abbrev with_batch : Option Batch → Option (List Batch) → Option (List Batch)
+with_batch = of_both (λ batch others. batch ∷ others)
 
 -- these are the batches of the parts
 abbrev pub AreBuilt : List Part → List Batch → Type 0
@@ -71,18 +76,17 @@ unbuilt_answered parts e (inr (k, part, within, is, inr (inl refused))) = by_cod
     by_code _ code = absurd (omega (arith, code))
 unbuilt_answered parts e (inr (k, part, within, is, inr (inr oversized))) = subst (IsGroupRefusal parts) (sym oversized.0) (k, part, within, is, oversized.1)
 
-no_failure : (parts : List Part) (e : Fault) → IsUnbuiltGroup parts e → is_failure {T = Vec (Result ℕ Fault) Global} (Err e) ≡ true → ⊥
-no_failure parts fault.Failed (inl memory) failure = let clash = memory in cc
-no_failure parts fault.Failed (inr (k, part, within, is, inl memory)) failure = let clash = memory in cc
-no_failure parts fault.Failed (inr (k, part, within, is, inr (inl refused))) failure = omega (arith, refused.0)
-no_failure parts fault.Failed (inr (k, part, within, is, inr (inr oversized))) failure = let clash = oversized.0 in cc
-no_failure parts _ unbuilt failure = let clash = failure in cc
+no_failure : (parts : List Part) (e : Fault) → IsUnbuiltGroup parts e → e ≡ fault.Failed → ⊥
+no_failure parts e (inl memory) is = let clash = sym memory ∙ is in cc
+no_failure parts e (inr (k, part, within, at, inl memory)) is = let clash = sym memory ∙ is in cc
+no_failure parts e (inr (k, part, within, at, inr (inl refused))) is = let clash = subst (λ (x : Fault). fault_code x ≡ 1) is refused.0 in omega (arith, clash)
+no_failure parts e (inr (k, part, within, at, inr (inr oversized))) is = let clash = sym oversized.0 ∙ is in cc
 
 -- .. and fails no engine
 pub unbuilt_fails : (parts : List Part) (failed : Bool) (e : Fault) → IsUnbuiltGroup parts e → FailsBy {T = Vec (Result ℕ Fault) Global} failed (Err e) failed (IsUnbuiltGroup parts)
 unbuilt_fails parts failed e unbuilt = record {
   still = λ gone. gone;
-  only_failed = λ failure. absurd (no_failure parts e unbuilt failure);
+  only_failed = λ failure. absurd (no_failure parts e unbuilt (same_err (Err e) refl failure));
   refused = λ gone. inr unbuilt;
   cause = λ alive fails. absurd (let clash = sym alive ∙ fails in cc);
 }
@@ -178,11 +182,11 @@ module _ {F H R W : Type 0} {g : Ghosts F H R W} (parts : Vec Part Global) (view
   group_fails result ok failed still cause = record {
     still = still;
     only_failed = told result cause;
-    refused = λ gone. inl (ap is_failure (failed gone));
+    refused = λ gone. inl (failed gone);
     cause = caused result ok cause;
   }
     where
-      told : (result : Result (Vec (Result ℕ Fault) Global) Fault) → IsCause result → is_failure result ≡ true → has_failed old ≡ true
+      told : (result : Result (Vec (Result ℕ Fault) Global) Fault) → IsCause result → result ≡ Err fault.Failed → has_failed old ≡ true
       told (Ok answers) cause failure = absurd (let clash = failure in cc)
       told (Err fault.Failed) cause failure = cause
       told (Err _) cause failure = absurd (let clash = failure in cc)

@@ -25,7 +25,7 @@ use Rattle.raft_log_engine.specs.declared.engine.Engine.{Engine}
 use Rattle.raft_log_engine.specs.Contents.{recovered_contents}
 use Rattle.raft_log_engine.specs.Crash.{written_batch}
 use Rattle.raft_tables.specs.Known.{known_in}
-use Rattle.raft_script.specs.Run.{accepted_of, AreAnswers, AreSteady, FailsAt, IsFailing, IsFailurePlace, Refuses, StorageRefusalsRoseBy, batch_of_acts, batches_after, batches_after_all, io_count, io_in, is_failure, is_io, IsAnswer, IsEngineRefusal, IsGetRefusal, IsSteadyBy, IsTextRefusal, IsUnbuilt, IsGiven, IsWritten, IsWriteRefusal, compaction_in, items_of_act, with_items, written_batches}
+use Rattle.raft_script.specs.Run.{accepted_of, AreAnswers, AreSteady, FailsAt, IsFailing, IsFailurePlace, Refuses, StorageRefusalsRoseBy, batch_of_acts, batches_after, batches_after_all, io_count, io_in, is_io, IsAnswer, IsEngineRefusal, IsGetRefusal, IsSteadyBy, IsTextRefusal, IsUnbuilt, IsGiven, IsWritten, IsWriteRefusal, compaction_in, items_of_act, of_both}
 use Rattle.raft_log_engine.specs.Reads.{IsEntryAnswer, IsEntryRefusalAt, IsGroupList, compact_count, entry_of}
 use Rattle.raft_script.specs.Entry.{IsTextOf, index_of}
 use Rattle.raft_script.specs.declared.text_entry.TextEntry.{TextEntry}
@@ -36,6 +36,10 @@ use Rattle.raft_script.specs.declared.operation.Op.TheVariants.{Write, WriteGrou
 use Rattle.raft_script.specs.declared.operation.Outcome.{Outcome}
 use Rattle.raft_script.specs.declared.operation.Outcome.TheVariants as reply
 use Rattle.raft_script.specs.declared.operation.Outcome.TheVariants.{Size, Sizes, Done, Value, Count, Index}
+
+-- items before others, where there are both
+abbrev with_items : Option Batch → Option Batch → Option Batch
+with_items = of_both (λ items others. items ++ others)
 
 -- items, followed by the batch of more acts, where there is one
 abbrev pub followed_by : Batch → Option Batch → Option Batch
@@ -99,11 +103,11 @@ unbuilt_by e items n acts act within is built first (inr (inr r)) = inr (inr (r.
 pub built_ended : (items : Batch) (n : ℕ) (acts : List Act) → drop n acts ≡ [] → IsBuilt items n acts → batch_of_acts acts ≡ Some items
 built_ended items n acts none built = sym built ∙ ap (λ l. followed_by items (batch_of_acts l)) none ∙ ap Some (append-nil items)
 
-pub after-written_batches : (m : Contents) (batch : Batch) → after_batches m (written_batches (Some batch)) ≡ after_batch m batch
-after-written_batches m [] = refl
-after-written_batches m (item ∷ items) = refl
+pub after-written_batch : (m : Contents) (batch : Batch) → after_batches m (written_batch batch) ≡ after_batch m batch
+after-written_batch m [] = refl
+after-written_batch m (item ∷ items) = refl
 
-same_err : {T : Type 0} {x y : Fault} (r : Result T Fault) → r ≡ Err x → r ≡ Err y → x ≡ y
+pub same_err : {T : Type 0} {x y : Fault} (r : Result T Fault) → r ≡ Err x → r ≡ Err y → x ≡ y
 same_err r a b = cc
 
 -- what is known of the batch of acts
@@ -191,18 +195,13 @@ groups_answered m n known is_known failed same same_known (Ok groups) is fails c
 groups_answered m n known is_known failed same same_known (Err e) is fails (inl e_is) = subst IsGetRefusal (sym e_is) tt
 groups_answered m n known is_known failed same same_known (Err e) is fails (inr e_is) = subst IsGetRefusal (sym e_is) tt
 
-failure_of : {T : Type 0} (result : Result T Fault) → is_failure result ≡ true → result ≡ Err fault.Failed
-failure_of (Ok x) told = absurd cc
-failure_of (Err fault.Failed) told = refl
-failure_of (Err _) told = absurd cc
-
 -- an engine that only reads has failed or not as before
 pub steady_by : {T : Type 0} (failed fails : Bool) (result : Result T Fault) → ((result ≡ Err fault.Failed) ↔ (failed ≡ true)) → fails ≡ failed → IsSteadyBy failed result fails
-steady_by {T} failed fails result told same = (
+steady_by failed fails result told same = (
   record {
     still = λ gone. same ∙ gone;
-    only_failed = λ failure. told.0 (failure_of result failure);
-    refused = λ gone. inl (subst (λ (r : Result T Fault). is_failure r ≡ true) (sym (told.1 gone)) refl);
+    only_failed = told.0;
+    refused = λ gone. inl (told.1 gone);
     cause = λ alive fell. absurd (let clash = sym alive ∙ sym same ∙ fell in cc);
   },
   same,

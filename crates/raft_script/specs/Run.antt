@@ -1,5 +1,5 @@
 -- What operations are answered, and what they leave.
-use Rattle.std.specs.Prelude.{◌≡◌, ◌⊎◌, ◌||◌, ℕ, zero, suc, ◌+◌, ◌-◌, ◌^◌, ◌≤◌, length, map, min, take, Bool, true, false, List, [], ◌∷◌, ◌++◌, Option, Some, None, is_some, option_map, Result, Ok, Err, is_ok, MatchResult, IsErrAnd, IsSome, IsSomeAnd, if◌then◌else◌, Vec, cond, unwrap_or}
+use Rattle.std.specs.Prelude.{◌≡◌, ◌⊎◌, ◌||◌, ℕ, zero, suc, ◌+◌, ◌-◌, ◌^◌, ◌≤◌, length, map, min, take, Bool, true, false, List, [], ◌∷◌, ◌++◌, Option, Some, None, is_some, option_and_then, option_map, Result, Ok, Err, is_ok, MatchResult, IsErrAnd, IsSome, IsSomeAnd, if◌then◌else◌, Vec, cond, unwrap_or}
 use Rattle.std.specs.List.{Any, count_by, list_any, sum_by}
 use Rattle.std.specs.declared.alloc.Global.{Global}
 use Rattle.raft_records.specs.Batch.{is_internal_key}
@@ -45,26 +45,24 @@ items_of_act (act.Clean group) = Some (record { group = group; content = Clean }
 items_of_act (act.Compact group index) =
     Some (record { group = group; content = Compact index } ∷ [])
 
--- items before others, where there are both
-abbrev pub with_items : Option Batch → Option Batch → Option Batch
-with_items None others = None
-with_items (Some items) None = None
-with_items (Some items) (Some others) = Some (items ++ others)
+-- what is made of two values, where there are both
+abbrev pub of_both : {A B C : Type 0} → (A → B → C) → Option A → Option B → Option C
+of_both f first second = option_and_then (λ a. option_map (f a) second) first
 
 -- the batch of the acts, where none is refused
 abbrev pub batch_of_acts : List Act → Option Batch
 batch_of_acts [] = Some []
-batch_of_acts (a ∷ acts) = with_items (items_of_act a) (batch_of_acts acts)
+batch_of_acts (a ∷ acts) =
+    of_both (λ items others. items ++ others) (items_of_act a) (batch_of_acts acts)
+
+-- their items, and none where one of them is refused
+abbrev pub items_of_acts : List Act → Batch
+items_of_acts acts = unwrap_or (batch_of_acts acts) []
 
 -- the first acts, so many of them, have more bytes of entries than a batch takes
 abbrev pub IsOversized : List Act → Type 0
 IsOversized acts = (count : ℕ) × (batch : Batch) × (batch_of_acts (take count acts) ≡ Some batch)
     × (2 ^ 32 ≤ length (entry_bytes batch))
-
--- what is written of it
-abbrev pub written_batches : Option Batch → List Batch
-written_batches None = []
-written_batches (Some batch) = written_batch batch
 
 -- what a compaction writes of a group of these contents
 abbrev pub compaction_in : Contents → ℕ → ℕ → Batch
@@ -74,17 +72,11 @@ compaction_in m group index = compact_batch group index (m.entries group)
 abbrev pub Part : Type 0
 Part = Vec Act Global × Bool
 
--- a batch before others, where there is one and the others are
-abbrev pub with_batch : Option Batch → Option (List Batch) → Option (List Batch)
-with_batch None others = None
-with_batch (Some batch) None = None
-with_batch (Some batch) (Some others) = Some (batch ∷ others)
-
 -- the batches of a group's parts, where there is one of each
 abbrev pub batches_of_parts : List Part → Option (List Batch)
 batches_of_parts [] = Some []
 batches_of_parts (part ∷ parts) =
-    with_batch (batch_of_acts part.0.items) (batches_of_parts parts)
+    of_both (λ batch others. batch ∷ others) (batch_of_acts part.0.items) (batches_of_parts parts)
 
 -- .. and none where there isn't
 abbrev pub group_batches : List Part → List Batch
@@ -92,7 +84,7 @@ group_batches parts = unwrap_or (batches_of_parts parts) []
 
 -- what an engine that had failed or not is given to write in the operation, at these contents
 abbrev pub IsGiven : Bool → Contents → Op → List Batch → Type 0
-IsGiven failed m (Write acts sync) given = given ≡ written_batches (batch_of_acts acts.items)
+IsGiven failed m (Write acts sync) given = given ≡ written_batch (items_of_acts acts.items)
 IsGiven failed m (WriteGroup parts) given = given ≡ written_in (group_batches parts.items)
 IsGiven failed m (CompactTo group index) given =
     given ≡ (if failed then [] else written_batch (compaction_in m group index))
@@ -100,7 +92,7 @@ IsGiven failed m _ given = given ≡ []
 
 -- the batches that the operation wrote, at these contents
 abbrev pub accepted_of : Contents → Op → Outcome → List Batch
-accepted_of m (Write acts sync) (Size (Ok len)) = written_batches (batch_of_acts acts.items)
+accepted_of m (Write acts sync) (Size (Ok len)) = written_batch (items_of_acts acts.items)
 accepted_of m (WriteGroup parts) (Sizes (Ok answers)) =
     accepted_in answers.items (group_batches parts.items)
 accepted_of m (CompactTo group index) (Count (Ok count)) =
@@ -126,14 +118,9 @@ is_covering (WriteGroup parts) (Sizes (Ok answers)) = list_any (λ part. part.1)
 is_covering Sync (Done (Ok x)) = true
 is_covering _ _ = false
 
--- what of a batch a crash may find written, where there is one
-abbrev pub pending_batches : Contents → Option Batch → List Batch
-pending_batches m None = []
-pending_batches m (Some batch) = pending_of m batch
-
 -- what may have been written in part, or whole, when a crash came in the operation
 abbrev pub MayBeInFlight : Contents → Op → List Batch → Type 0
-MayBeInFlight m (Write acts sync) flight = flight ≡ pending_batches m (batch_of_acts acts.items)
+MayBeInFlight m (Write acts sync) flight = flight ≡ pending_of m (items_of_acts acts.items)
 MayBeInFlight m (WriteGroup parts) flight = ∥ ((choice : List Bool)
     × (flight ≡ chosen_of m choice (group_batches parts.items))) ∥₁
 MayBeInFlight m (CompactTo group index) flight =
@@ -332,11 +319,6 @@ IsStorageOrMemory (fault.Io kind path) = Unit {0}
 IsStorageOrMemory fault.Memory = Unit {0}
 IsStorageOrMemory _ = ⊥
 
--- the answer of an engine that had failed
-abbrev pub is_failure : {T : Type 0} → Result T Fault → Bool
-is_failure (Err fault.Failed) = true
-is_failure _ = false
-
 -- an engine answers so and fails, or doesn't; an answer that isn't the engine's is one of the
 -- others
 pub record FailsBy {T : Type 0} (failed : Bool) (answer : Result T Fault) (fails : Bool)
@@ -344,8 +326,8 @@ pub record FailsBy {T : Type 0} (failed : Bool) (answer : Result T Fault) (fails
   -- it stays failed
   pub still : failed ≡ true → fails ≡ true
   -- a failure is told where there was one, and nowhere else
-  pub only_failed : is_failure answer ≡ true → failed ≡ true
-  pub refused : failed ≡ true → (is_failure answer ≡ true) ⊎ IsErrAnd answer Other
+  pub only_failed : answer ≡ Err fault.Failed → failed ≡ true
+  pub refused : failed ≡ true → (answer ≡ Err fault.Failed) ⊎ IsErrAnd answer Other
   -- it fails by storage or for lack of memory alone
   pub cause : failed ≡ false → fails ≡ true → IsErrAnd answer IsStorageOrMemory
 

@@ -1,10 +1,11 @@
-use Rattle.std.proofs.Common.{◌≡◌, ◌∙◌, ◌∷◌, [], List, Some, ap, map, inl, inr, refl, rules, subst, sym, append-nil}
+use Rattle.std.proofs.Common.{◌≡◌, ◌∙◌, ◌∷◌, [], List, Option, Some, ap, map, inl, inr, refl, rules, subst, sym, append-nil}
+use Rattle.std.specs.Prelude.{unwrap_or}
 use Rattle.raft_records.specs.Contents.{Contents, first_index_of, last_index_of}
 use Rattle.raft_records.specs.Item.{Batch}
 use Rattle.raft_log_engine.specs.Durability.{Durability, durability_of}
 use Rattle.raft_log_engine.specs.Engine.{answer_now, answered_of, contents_of, directory_of, durable_of, folder_of, has_failed, is_known_in, moments_of, refusals_of, unsynced_of}
-use Rattle.raft_script.specs.Run.{IsUnbuiltGroup, Part, batch_of_acts, batches_of_parts, group_batches, pending_batches, written_batches}
-use Rattle.raft_log_engine.specs.Crash.{LeavesAllowed}
+use Rattle.raft_script.specs.Run.{IsUnbuiltGroup, Part, batch_of_acts, batches_of_parts, group_batches, items_of_acts}
+use Rattle.raft_log_engine.specs.Crash.{LeavesAllowed, pending_of, written_batch}
 use Rattle.raft_env.specs.Moments.{HoldsThroughout}
 use Rattle.raft_script.specs.declared.operation.Op.TheVariants.{Sync, Write}
 use Rattle.raft_script.proofs.DurabilityLemmas.{moments_of_batch, written_progress}
@@ -33,14 +34,14 @@ returns-in-Ok-clause-progress g c =
     let n = c.write.new.self in
     let built : batch_of_acts acts.items ≡ Some items = ap batch_of_acts (sym c.deref.ensures.value) ∙ c.in-Ok.ensures.value in
     rw c.in-Write.is (record {
-      flight = pending_batches (contents_of e) (batch_of_acts acts.items);
+      flight = pending_of (contents_of e) (items_of_acts acts.items);
       may_be = refl;
-      given = written_batches (batch_of_acts acts.items);
+      given = written_batch (items_of_acts acts.items);
       is_given = refl;
       progress = written_progress (contents_of e) acts items c.in-Write.sync built c.write.result (durability_of e) (durability_of n) write.progress;
       answers = inr (record {
-        noted = write.answered ∙ ap (λ (given : List Batch). answer_now given n ∷ answered_of e) (ap written_batches (sym built));
-        moments = λ alive. in_flight e (Write acts c.in-Write.sync) (pending_batches (contents_of e) (batch_of_acts acts.items)) (moments_of n) (directory_of n) refl (moments_of_batch (folder_of e) (durable_of e) (contents_of e) (unsynced_of e) items (batch_of_acts acts.items) (moments_of e) (moments_of n) (directory_of n) built write.any_moment);
+        noted = write.answered ∙ ap (λ (given : List Batch). answer_now given n ∷ answered_of e) (ap (λ (b : Option Batch). written_batch (unwrap_or b [])) (sym built));
+        moments = λ alive. in_flight e (Write acts c.in-Write.sync) (pending_of (contents_of e) (items_of_acts acts.items)) (moments_of n) (directory_of n) refl (moments_of_batch (folder_of e) (durable_of e) (contents_of e) (unsynced_of e) items (batch_of_acts acts.items) (moments_of e) (moments_of n) (directory_of n) built write.any_moment);
         rests = λ failed. (write.unchanged failed).0.moments;
       });
     })
@@ -49,9 +50,9 @@ pub returns-in-Err-clause-progress : goal.returns-in-Err-clause-progress
 returns-in-Err-clause-progress g c =
     let acts = c.in-Write.acts in
     rw c.in-Write.is (record {
-      flight = pending_batches (contents_of c.args.engine.now) (batch_of_acts acts.items);
+      flight = pending_of (contents_of c.args.engine.now) (items_of_acts acts.items);
       may_be = refl;
-      given = written_batches (batch_of_acts acts.items);
+      given = written_batch (items_of_acts acts.items);
       is_given = refl;
       progress = inl (record { none = refl; covers_none = refl; failed = refl; base = refl; unsynced = refl });
       answers = inl (search rules, read_same c.args.engine.now);
