@@ -1,5 +1,5 @@
-//! Tests of files in a folder of the operating system. Each is one loop over a table, in a folder of its own below the
-//! system's folder for temporary files, which it removes.
+//! Tests of files in a folder of the operating system. Each makes a folder of its own below the system's folder for
+//! temporary files, and removes it.
 #![tactic(auto)]
 
 #[cfg(test)]

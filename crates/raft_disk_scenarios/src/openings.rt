@@ -161,7 +161,7 @@ fn a_folder_is_open_once(rt: HostRuntime) -> Result<(), Fail> {
     Ok(removed?)
 }
 
-// What the opening of a folder says that may not be written, or nothing where this user may do so.
+// What the opening of a read-only folder says, or nothing where this user may write to it, as root.
 fn read_only(rt: HostRuntime, folder: &str) -> Result<Option<String>, Fail> {
     let mut permissions = fs::metadata(&rt, folder)?.permissions();
     permissions.set_readonly(true);
