@@ -14,6 +14,7 @@ pub mod QueueFilesLemmas
 pub mod QueueLemmas
 pub mod QueueRotationLemmas
 pub mod QueueSoundLemmas
+pub mod QueueWriterLemmas
 pub mod RestartLemmas
 pub mod RotationLemmas
 pub mod SingleLemmas

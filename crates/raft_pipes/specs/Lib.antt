@@ -9,5 +9,6 @@ pub mod Open
 pub mod Pipe
 pub mod Queue
 pub mod QueueFiles
+pub mod QueueWriter
 pub mod Rotation
 pub mod Written

@@ -6,10 +6,12 @@ pub mod laws;
 mod pipe;
 mod pipe_builder;
 pub mod queue_laws;
+mod queue_writer;
 mod replay;
 pub mod rotation;
 
 pub use config::{Config, RecoveryMode};
 pub use pipe::{AppendFault, SinglePipe};
 pub use pipe_builder::open;
+pub use queue_writer::{QueueWriter, RotationFault};
 pub use replay::ReplayMachine;
