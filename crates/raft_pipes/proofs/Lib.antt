@@ -3,8 +3,10 @@ pub mod BlocksLemmas
 pub mod CompletedLemmas
 pub mod FileListLemmas
 pub mod FolderLemmas
+pub mod ListedLemmas
 pub mod ListingLemmas
 pub mod LogFileLemmas
+pub mod NamesInLemmas
 pub mod NamesLemmas
 pub mod NumberedLemmas
 pub mod OpenLemmas
