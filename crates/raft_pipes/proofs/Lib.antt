@@ -1,7 +1,13 @@
+pub mod ApartLemmas
 pub mod BlocksLemmas
 pub mod CompletedLemmas
+pub mod FileListLemmas
 pub mod FolderLemmas
+pub mod ListedLemmas
+pub mod ListingLemmas
 pub mod LogFileLemmas
+pub mod NamesInLemmas
+pub mod NamesLemmas
 pub mod NumberedLemmas
 pub mod OpenLemmas
 pub mod OpenMomentsLemmas

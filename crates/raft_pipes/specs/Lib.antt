@@ -2,7 +2,9 @@ pub mod Blocks
 pub mod Config
 pub mod Sanitized
 pub mod Completed
+pub mod FileList
 pub mod Folder
+pub mod Listing
 pub mod LogFile
 pub mod Numbered
 pub mod Open

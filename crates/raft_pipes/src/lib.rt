@@ -2,7 +2,9 @@
 #![tactic(auto)]
 
 mod config;
+pub mod file_list;
 pub mod laws;
+pub mod listing_laws;
 mod pipe;
 mod pipe_builder;
 pub mod queue_laws;
