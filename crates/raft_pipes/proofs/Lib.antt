@@ -1,6 +1,7 @@
 pub mod BlocksLemmas
 pub mod CompletedLemmas
 pub mod FolderLemmas
+pub mod KeepsLogLemmas
 pub mod LogFileLemmas
 pub mod NumberedLemmas
 pub mod OpenLemmas
@@ -16,6 +17,7 @@ pub mod QueueRotationLemmas
 pub mod QueueSoundLemmas
 pub mod RestartLemmas
 pub mod RotationLemmas
+pub mod SealedFileLemmas
 pub mod SingleLemmas
 pub mod StepsLemmas
 pub mod WrittenLemmas

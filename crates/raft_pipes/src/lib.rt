@@ -2,6 +2,8 @@
 #![tactic(auto)]
 
 mod config;
+mod file_list;
+mod files;
 pub mod laws;
 mod pipe;
 mod pipe_builder;
