@@ -1,5 +1,6 @@
 pub mod BlocksLemmas
 pub mod CompletedLemmas
+pub mod FilesLemmas
 pub mod FolderLemmas
 pub mod KeepsLogLemmas
 pub mod LogFileLemmas
