@@ -19,6 +19,7 @@ pub mod QueueSoundLemmas
 pub mod RestartLemmas
 pub mod RotationLemmas
 pub mod SealedFileLemmas
+pub mod SettledFilesLemmas
 pub mod SingleLemmas
 pub mod StepsLemmas
 pub mod WrittenLemmas
