@@ -1,5 +1,5 @@
 -- What the calls of an opening keep of a log file.
-use Rattle.std.proofs.Common.{◌≡◌, ℕ, List, [], sym, ◌∙◌, ap}
+use Rattle.std.proofs.Common.{◌≡◌, ℕ, []}
 use Rattle.raft_base.specs.declared.pipe_log.FileId.{FileId}
 use Rattle.raft_env.specs.Directory.{Directory, IsOneOf, IsTruncating, Path, after_create, file_at}
 use Rattle.raft_files.specs.Scan.{end_of_scan}

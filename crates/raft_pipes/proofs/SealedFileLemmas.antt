@@ -6,8 +6,7 @@ use Rattle.std.proofs.lemmas.Bool.{eqb-true}
 use Rattle.raft_records.specs.Item.{Batch}
 use Rattle.raft_base.specs.declared.pipe_log.FileId.{FileId}
 use Rattle.raft_env.specs.Outcomes.{File, cut_to, synced_file}
-use Rattle.raft_env.specs.Directory.{Directory, IsOneOf, IsTruncating, Path, after_create, file_at, with_file}
-use Rattle.raft_files.specs.Header.{header_bytes}
+use Rattle.raft_env.specs.Directory.{Directory, IsOneOf, IsTruncating, Path, after_create, with_file}
 use Rattle.raft_files.specs.Scan.{PlacedRecord, ScanResult, end_of, end_of_scan, ends_with, is_read_to_end, readable_batches, records_of, scan_after_header, scan_file}
 use Rattle.raft_files.specs.Sealed.{IsSealed, IsStillBy}
 use Rattle.raft_files.specs.Writer.{HasChanged, IsClosing, IsOpening, IsSyncing, bytes_at, bytes_of}
