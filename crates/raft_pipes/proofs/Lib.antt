@@ -5,6 +5,8 @@ pub mod FileListLemmas
 pub mod FolderLemmas
 pub mod ListedLemmas
 pub mod ListingLemmas
+pub mod FilesLemmas
+pub mod KeepsLogLemmas
 pub mod LogFileLemmas
 pub mod NamesInLemmas
 pub mod NamesLemmas
@@ -23,6 +25,8 @@ pub mod QueueSoundLemmas
 pub mod QueueWriterLemmas
 pub mod RestartLemmas
 pub mod RotationLemmas
+pub mod SealedFileLemmas
+pub mod SettledFilesLemmas
 pub mod SingleLemmas
 pub mod StepsLemmas
 pub mod WrittenLemmas

@@ -3,6 +3,7 @@
 
 mod config;
 pub mod file_list;
+mod files;
 pub mod laws;
 pub mod listing_laws;
 mod pipe;
