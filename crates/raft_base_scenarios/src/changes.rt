@@ -4,9 +4,10 @@ use raft_records::{Fault, Fresh, KeyValue, LogBatch, LogItem, LogItemContent};
 use std::alloc::{AllocError, Global};
 
 /// A group, its key, and the key's new value, unless it is deleted.
+#[derive(Clone, Copy)]
 pub(crate) struct Change(pub u64, pub &'static [u8], pub Option<&'static [u8]>);
 
-fn key_value_of(alloc: Global, change: &Change) -> Result<KeyValue, AllocError> {
+pub(crate) fn key_value_of(alloc: Global, change: &Change) -> Result<KeyValue, AllocError> {
     let key = change.1.to_vec(alloc)?;
     match change.2 {
         Some(value) => Ok(KeyValue::Put {

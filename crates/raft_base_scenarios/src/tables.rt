@@ -1,6 +1,6 @@
 //! Tables of entries, and of keys and values.
 
-use crate::changes::{Change, items_of};
+use crate::changes::{Change, items_of, key_value_of};
 use raft_records::{
     Command, EntryIndex, Fault, FileBlockHandle, FileId, LogItem, LogItemContent, LogQueue,
 };
@@ -57,7 +57,7 @@ fn apply(
     changes: &[Change],
 ) -> Result<bool, Fault> {
     let mut items = items_of(alloc, changes)?;
-    tables.apply_append_writes(&mut items, file(seq))?;
+    tables.apply_append_writes(&mut items, file(seq), &mut GlobalStats::new())?;
     Ok(items.is_empty())
 }
 
@@ -129,12 +129,10 @@ fn hold(
     value: Option<&[u8]>,
 ) -> Result<(), AllocError> {
     match value {
-        Some(value) => table.put(key.to_vec(alloc)?, value.to_vec(alloc)?, file(7)),
-        None => {
-            table.delete(key);
-            Ok(())
-        }
-    }
+        Some(value) => table.put(key.to_vec(alloc)?, value.to_vec(alloc)?, file(7))?,
+        None => table.delete(key),
+    };
+    Ok(())
 }
 
 #[test]
@@ -156,6 +154,8 @@ enum Ask {
     Put(&'static [u64]),
     Compact(u64),
     Clean,
+    /// A key, and its new value, unless it is deleted.
+    Key(&'static [u8], Option<&'static [u8]>),
 }
 
 /// The number of the file in which an item stands, the item, the indexes of the entries after it,
@@ -192,13 +192,13 @@ const STEPS: [Step; 17] = [
     Step(17, Ask::Put(&[u64::MAX - 1]), &[(u64::MAX - 1, 17)], true),
 ];
 
-fn indexes_of(alloc: Global, seq: u64, indexes: &[u64]) -> Result<Vec<EntryIndex>, AllocError> {
+fn indexes_of(alloc: Global, id: FileId, indexes: &[u64]) -> Result<Vec<EntryIndex>, AllocError> {
     let mut entries = Vec::new(alloc);
     for index in indexes {
         entries.push(EntryIndex {
             index: *index,
             entries: Some(FileBlockHandle {
-                id: file(seq),
+                id,
                 offset: 16,
                 len: 9,
             }),
@@ -210,11 +210,14 @@ fn indexes_of(alloc: Global, seq: u64, indexes: &[u64]) -> Result<Vec<EntryIndex
     Ok(entries)
 }
 
-fn item_of(alloc: Global, group: u64, seq: u64, ask: &Ask) -> Result<LogItem, AllocError> {
+fn item_of(alloc: Global, group: u64, id: FileId, ask: &Ask) -> Result<LogItem, AllocError> {
     let content = match ask {
-        Ask::Put(indexes) => LogItemContent::EntryIndexes(indexes_of(alloc, seq, indexes)?),
+        Ask::Put(indexes) => LogItemContent::EntryIndexes(indexes_of(alloc, id, indexes)?),
         Ask::Compact(index) => LogItemContent::Command(Command::Compact { index: *index }),
         Ask::Clean => LogItemContent::Command(Command::Clean),
+        Ask::Key(key, value) => {
+            LogItemContent::Kv(key_value_of(alloc, &Change(group, key, *value))?)
+        }
     };
     Ok(LogItem {
         raft_group_id: group,
@@ -242,8 +245,8 @@ fn entries_are_put_and_dropped(rt: HostRuntime) -> Result<(), Fail> {
     let mut tables = MemTables::new(rt.alloc());
     let mut items = Vec::new(rt.alloc());
     for Step(seq, ask, wanted, known) in &STEPS {
-        items.push(item_of(rt.alloc(), 1, *seq, ask)?)?;
-        tables.apply_append_writes(&mut items, file(*seq))?;
+        items.push(item_of(rt.alloc(), 1, file(*seq), ask)?)?;
+        tables.apply_append_writes(&mut items, file(*seq), &mut GlobalStats::new())?;
         assert!(rt; has_entries(&tables, wanted), "after item {seq}");
         assert_eq!(rt; file_of(&tables, 6), None, "after item {seq}");
         assert_eq!(rt; !tables.groups()?.is_empty(), *known, "after item {seq}");
@@ -317,12 +320,12 @@ fn fit_of(tables: &MemTables, items: &[LogItem]) -> Result<Fit, Fault> {
 fn items_are_checked(rt: HostRuntime) -> Result<(), Fail> {
     let mut tables = MemTables::new(rt.alloc());
     let mut items = Vec::new(rt.alloc());
-    items.push(item_of(rt.alloc(), 1, 1, &Ask::Put(&[1, 2, 3]))?)?;
-    tables.apply_append_writes(&mut items, file(1))?;
+    items.push(item_of(rt.alloc(), 1, file(1), &Ask::Put(&[1, 2, 3]))?)?;
+    tables.apply_append_writes(&mut items, file(1), &mut GlobalStats::new())?;
     for Check(asks, wanted) in &CHECKS {
         items.clear();
         for (group, ask) in *asks {
-            items.push(item_of(rt.alloc(), *group, 2, ask)?)?;
+            items.push(item_of(rt.alloc(), *group, file(2), ask)?)?;
         }
         assert_eq!(rt; fit_of(&tables, &items)?, *wanted);
     }
@@ -357,4 +360,45 @@ fn what_was_rewritten_is_counted(rt: HostRuntime) {
         assert_eq!(rt; stats.rewritten_entries(), *rewritten);
         assert_eq!(rt; stats.deleted_rewrite_entries(), *deleted);
     }
+}
+
+/// The queue of the file in which an item of group 1 stands, the item, and how many entries and
+/// values are rewritten, and how many of them deleted, after it.
+struct Counted(LogQueue, Ask, u64, u64);
+
+const COUNTED: [Counted; 19] = [
+    Counted(LogQueue::Rewrite, Ask::Put(&[1, 2, 3]), 3, 0),
+    Counted(LogQueue::Rewrite, Ask::Key(b"k", Some(b"1")), 4, 0),
+    Counted(LogQueue::Rewrite, Ask::Key(b"__\x01", Some(b"\0")), 4, 0),
+    Counted(LogQueue::Rewrite, Ask::Put(&[4, 6]), 4, 0),
+    Counted(LogQueue::Append, Ask::Put(&[3, 4]), 4, 1),
+    Counted(LogQueue::Append, Ask::Compact(2), 4, 2),
+    Counted(LogQueue::Append, Ask::Key(b"k", Some(b"2")), 4, 3),
+    Counted(LogQueue::Append, Ask::Key(b"k", None), 4, 3),
+    Counted(LogQueue::Rewrite, Ask::Key(b"k", Some(b"3")), 5, 3),
+    Counted(LogQueue::Append, Ask::Key(b"k", None), 5, 4),
+    Counted(LogQueue::Append, Ask::Key(b"k", None), 5, 4),
+    Counted(LogQueue::Rewrite, Ask::Key(b"k", Some(b"4")), 6, 4),
+    Counted(LogQueue::Rewrite, Ask::Key(b"k", Some(b"5")), 7, 5),
+    Counted(LogQueue::Append, Ask::Clean, 7, 7),
+    Counted(LogQueue::Append, Ask::Clean, 7, 7),
+    Counted(LogQueue::Append, Ask::Compact(9), 7, 7),
+    Counted(LogQueue::Rewrite, Ask::Put(&[1, 2, 3]), 10, 7),
+    Counted(LogQueue::Rewrite, Ask::Put(&[2, 3]), 12, 9),
+    Counted(LogQueue::Rewrite, Ask::Put(&[9]), 13, 12),
+];
+
+#[test]
+fn what_leaves_the_rewrite_queue_is_counted(rt: HostRuntime) -> Result<(), Fail> {
+    let mut tables = MemTables::new(rt.alloc());
+    let mut stats = GlobalStats::new();
+    let mut items = Vec::new(rt.alloc());
+    for Counted(queue, ask, rewritten, deleted) in &COUNTED {
+        let id = FileId::new(*queue, 1);
+        items.push(item_of(rt.alloc(), 1, id, ask)?)?;
+        tables.apply_append_writes(&mut items, id, &mut stats)?;
+        assert_eq!(rt; stats.rewritten_entries(), *rewritten);
+        assert_eq!(rt; stats.deleted_rewrite_entries(), *deleted);
+    }
+    Ok(())
 }

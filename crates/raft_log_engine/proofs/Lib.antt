@@ -16,3 +16,4 @@ pub mod NumberedLemmas
 pub mod ImageLemmas
 pub mod FetchLemmas
 pub mod ScanLemmas
+pub mod StandsLemmas

@@ -2,9 +2,16 @@ pub mod Blocks
 pub mod Config
 pub mod Sanitized
 pub mod Completed
+pub mod FileList
+pub mod Files
 pub mod Folder
+pub mod Listing
 pub mod LogFile
+pub mod Numbered
 pub mod Open
 pub mod Pipe
 pub mod Queue
+pub mod QueueFiles
+pub mod QueueWriter
+pub mod Rotation
 pub mod Written

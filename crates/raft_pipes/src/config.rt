@@ -14,6 +14,21 @@ pub enum RecoveryMode {
     TolerateAnyCorruption,
 }
 
+impl RecoveryMode {
+    ghost use Rattle.raft_pipes.specs.LogFile.{tolerates_corruption};
+
+    /// Whether an opening cuts off the broken bytes of a file: in the tail mode those of the last file of a queue alone.
+    pub(crate) fn tolerates_corruption(self, is_last: bool) -> bool
+        ensures value { result ≡ tolerates_corruption self is_last }
+    {
+        match self {
+            RecoveryMode::AbsoluteConsistency => false,
+            RecoveryMode::TolerateTailCorruption => is_last,
+            RecoveryMode::TolerateAnyCorruption => true,
+        }
+    }
+}
+
 /// How many bytes an opening reads at least at once.
 const MIN_RECOVERY_READ_BLOCK_SIZE: u64 = 512;
 
@@ -31,7 +46,7 @@ pub struct Config {
     /// A second folder for log files, where the first has no space.
     pub spill_dir: Option<String>,
     pub recovery_mode: RecoveryMode,
-    /// How many bytes an opening reads at least at once.
+    /// How many bytes an opening reads at once.
     pub recovery_read_block_size: ReadableSize,
     pub recovery_threads: usize,
     /// Read and ignored.

@@ -2,12 +2,19 @@
 #![tactic(auto)]
 
 mod config;
+pub mod file_list;
+mod files;
 pub mod laws;
+pub mod listing_laws;
 mod pipe;
 mod pipe_builder;
+pub mod queue_laws;
+mod queue_writer;
 mod replay;
+pub mod rotation;
 
 pub use config::{Config, RecoveryMode};
 pub use pipe::{AppendFault, SinglePipe};
 pub use pipe_builder::open;
+pub use queue_writer::{QueueWriter, RotationFault};
 pub use replay::ReplayMachine;

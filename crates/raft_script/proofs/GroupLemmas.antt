@@ -25,11 +25,16 @@ use Rattle.raft_log_engine.specs.Group as group
 use Rattle.raft_log_engine.specs.Group.{AreGroupAnswers, FailsWithChoice, HasWrittenGroup, LeavesChoice, accepted_in, chosen_of, items_of, written_in}
 use Rattle.raft_log_engine.specs.declared.engine.Engine.{Engine}
 use Rattle.raft_script.specs.Durability.{Answers, Does}
-use Rattle.raft_script.specs.Run.{AreBatchAnswers, FailsBy, IsBatchRefusal, IsGroupRefusal, IsStorageOrMemory, IsUnbuiltGroup, IsWrittenGroup, Part, Refuses, StorageRefusalsRoseBy, batch_of_acts, batches_of_parts, group_batches, is_failure, is_io, with_batch}
+use Rattle.raft_script.specs.Run.{AreBatchAnswers, FailsBy, IsBatchRefusal, IsGroupRefusal, IsStorageOrMemory, IsUnbuiltGroup, IsWrittenGroup, Part, Refuses, StorageRefusalsRoseBy, batch_of_acts, batches_of_parts, group_batches, is_io, of_both}
+use Rattle.raft_script.proofs.RunLemmas.{same_err}
 use Rattle.raft_script.specs.declared.operation.Op.TheVariants.{WriteGroup}
 use Rattle.raft_script.specs.declared.operation.Outcome.TheVariants.{Sizes}
 
 -- Building.
+
+-- a batch before others, where there are both
+abbrev with_batch : Option Batch → Option (List Batch) → Option (List Batch)
+with_batch = of_both (λ batch others. batch ∷ others)
 
 -- these are the batches of the parts
 abbrev pub AreBuilt : List Part → List Batch → Type 0
@@ -71,18 +76,17 @@ unbuilt_answered parts e (inr (k, part, within, is, inr (inl refused))) = by_cod
     by_code _ code = absurd (omega (arith, code))
 unbuilt_answered parts e (inr (k, part, within, is, inr (inr oversized))) = subst (IsGroupRefusal parts) (sym oversized.0) (k, part, within, is, oversized.1)
 
-no_failure : (parts : List Part) (e : Fault) → IsUnbuiltGroup parts e → is_failure {T = Vec (Result ℕ Fault) Global} (Err e) ≡ true → ⊥
-no_failure parts fault.Failed (inl memory) failure = let clash = memory in cc
-no_failure parts fault.Failed (inr (k, part, within, is, inl memory)) failure = let clash = memory in cc
-no_failure parts fault.Failed (inr (k, part, within, is, inr (inl refused))) failure = omega (arith, refused.0)
-no_failure parts fault.Failed (inr (k, part, within, is, inr (inr oversized))) failure = let clash = oversized.0 in cc
-no_failure parts _ unbuilt failure = let clash = failure in cc
+no_failure : (parts : List Part) (e : Fault) → IsUnbuiltGroup parts e → e ≡ fault.Failed → ⊥
+no_failure parts e (inl memory) is = let clash = sym memory ∙ is in cc
+no_failure parts e (inr (k, part, within, at, inl memory)) is = let clash = sym memory ∙ is in cc
+no_failure parts e (inr (k, part, within, at, inr (inl refused))) is = let clash = subst (λ (x : Fault). fault_code x ≡ 1) is refused.0 in omega (arith, clash)
+no_failure parts e (inr (k, part, within, at, inr (inr oversized))) is = let clash = sym oversized.0 ∙ is in cc
 
 -- .. and fails no engine
 pub unbuilt_fails : (parts : List Part) (failed : Bool) (e : Fault) → IsUnbuiltGroup parts e → FailsBy {T = Vec (Result ℕ Fault) Global} failed (Err e) failed (IsUnbuiltGroup parts)
 unbuilt_fails parts failed e unbuilt = record {
   still = λ gone. gone;
-  only_failed = λ failure. absurd (no_failure parts e unbuilt failure);
+  only_failed = λ failure. absurd (no_failure parts e unbuilt (same_err (Err e) refl failure));
   refused = λ gone. inr unbuilt;
   cause = λ alive fails. absurd (let clash = sym alive ∙ fails in cc);
 }
@@ -137,7 +141,7 @@ module _ {F H R W : Type 0} {g : Ghosts F H R W} (parts : Vec Part Global) (view
   batches = items_of views
 
   abbrev pub IsCause : Result (Vec (Result ℕ Fault) Global) Fault → Type 0
-  IsCause result = IfErr result (group.IsGroupRefusal (folder_of old) (length views) (length flags) (has_failed old) (refusals_of old) (refusals_of new))
+  IsCause result = IfErr result (group.IsGroupRefusal (folder_of old) (length views) (length flags) (has_failed old) (has_failed new) (refusals_of old) (refusals_of new))
 
   abbrev pub IsOk : Result (Vec (Result ℕ Fault) Global) Fault → Type 0
   IsOk result = IfOk result (λ answers. HasWrittenGroup batches (items_of after) old new answers.items)
@@ -167,7 +171,7 @@ module _ {F H R W : Type 0} {g : Ghosts F H R W} (parts : Vec Part Global) (view
   ]
   group_answered m same (Err e) ok failed cause = by_fault e cause
     where
-      by_fault : (e : Fault) → group.IsGroupRefusal (folder_of old) (length views) (length flags) (has_failed old) (refusals_of old) (refusals_of new) e → IsGroupRefusal parts.items e
+      by_fault : (e : Fault) → group.IsGroupRefusal (folder_of old) (length views) (length flags) (has_failed old) (has_failed new) (refusals_of old) (refusals_of new) e → IsGroupRefusal parts.items e
       by_fault (fault.InvalidArgument text) h = absurd (h.1 same_count)
       by_fault fault.Failed h = subst IsSome (sym built) refl
       by_fault (fault.Io kind path) h = subst IsSome (sym built) refl
@@ -178,16 +182,16 @@ module _ {F H R W : Type 0} {g : Ghosts F H R W} (parts : Vec Part Global) (view
   group_fails result ok failed still cause = record {
     still = still;
     only_failed = told result cause;
-    refused = λ gone. inl (ap is_failure (failed gone));
+    refused = λ gone. inl (failed gone);
     cause = caused result ok cause;
   }
     where
-      told : (result : Result (Vec (Result ℕ Fault) Global) Fault) → IsCause result → is_failure result ≡ true → has_failed old ≡ true
+      told : (result : Result (Vec (Result ℕ Fault) Global) Fault) → IsCause result → result ≡ Err fault.Failed → has_failed old ≡ true
       told (Ok answers) cause failure = absurd (let clash = failure in cc)
       told (Err fault.Failed) cause failure = cause
       told (Err _) cause failure = absurd (let clash = failure in cc)
 
-      by_fault : (e : Fault) → group.IsGroupRefusal (folder_of old) (length views) (length flags) (has_failed old) (refusals_of old) (refusals_of new) e → has_failed old ≡ false → IsStorageOrMemory e
+      by_fault : (e : Fault) → group.IsGroupRefusal (folder_of old) (length views) (length flags) (has_failed old) (has_failed new) (refusals_of old) (refusals_of new) e → has_failed old ≡ false → IsStorageOrMemory e
       by_fault (fault.InvalidArgument text) h alive = absurd (h.1 same_count)
       by_fault fault.Failed h alive = absurd (let clash = sym h ∙ alive in cc)
       by_fault (fault.Io kind path) h alive = tt
@@ -200,7 +204,7 @@ module _ {F H R W : Type 0} {g : Ghosts F H R W} (parts : Vec Part Global) (view
 
   pub group_refuses : (result : Result (Vec (Result ℕ Fault) Global) Fault) → IsOk result → IsCause result → NoFewer (refusals_of old) (refusals_of new) → Refuses (Sizes result) (refusals_of old) (refusals_of new)
   group_refuses (Ok answers) ok cause counts = (counts, batches_rose (folder_of old) (refusals_of old) (refusals_of new) (contents_of old) batches answers.items ok.answered)
-  group_refuses (Err (fault.Io kind path)) ok cause counts = (counts, λ io. cause.2.0)
+  group_refuses (Err (fault.Io kind path)) ok cause counts = (counts, λ io. cause.3.0)
   group_refuses (Err _) ok cause counts = (counts, λ io. absurd (let clash = io in cc))
 
   abbrev IsProgress : List Batch → Result (Vec (Result ℕ Fault) Global) Fault → Type 0

@@ -1,18 +1,22 @@
 -- What the program's openings answer.
-use Rattle.std.proofs.Common.{◌≡◌, ◌∙◌, Option, Some, None, Result, Ok, Err, inr, ap, subst}
-use Rattle.std.specs.Prelude.{IfOk, codes}
+use Rattle.std.proofs.Common.{◌≡◌, ◌∙◌, true, List, [], ◌∷◌, Option, Some, None, Result, Ok, Err, inl, inr, ap, subst, sym}
+use Rattle.std.specs.Prelude.{◌↔◌, IfOk, IsErrAnd, MatchResult, codes}
 use Rattle.std.specs.declared.alloc.AllocError.{AllocError}
+use Rattle.std.proofs.Math.Logic.{∥∥₁_elim}
+use Rattle.std.proofs.Props.{props}
+use Rattle.std.proofs.lemmas.Bool.{cases_Bool}
+use Rattle.raft_base.specs.declared.errors.Fault.TheVariants as fault
 use Rattle.raft_env.specs.Directory.{CrashImage, Directory, Leaves, Path}
 use Rattle.raft_env.specs.declared.env.FileSystem.{Ghosts}
-use Rattle.raft_log_engine.specs.Contents.{contents_at}
-use Rattle.raft_log_engine.specs.Crash.{contents_after_crash}
-use Rattle.raft_log_engine.specs.Engine.{contents_of, directory_of}
-use Rattle.raft_log_engine.specs.Opening.{IsNewIn}
+use Rattle.raft_log_engine.specs.Batches.{found_batches}
+use Rattle.raft_log_engine.specs.Engine.{begun_of, directory_of, folder_of, has_failed}
+use Rattle.raft_log_engine.specs.Opening.{BeginsAsClosed, IsNewIn}
 use Rattle.raft_log_engine.specs.declared.engine.Engine.{Engine}
 use Rattle.raft_log_engine.specs.declared.engine.Refused.{Refused}
-use Rattle.raft_records.specs.Contents.{Contents, no_contents}
+use Rattle.raft_pipes.specs.Folder.{readable_after_crash, readable_in}
+use Rattle.raft_records.specs.Item.{Batch}
 use Rattle.raft_script.specs.Line.{Asked}
-use Rattle.raft_script.specs.Program.{AnswersFrom, AnswersLine, HoldsAfterCrash, IsMetBy, OpensTo}
+use Rattle.raft_script.specs.Program.{AnswersFrom, AnswersLine, HoldsAfterCrash, IsMetBy, IsNewWith, IsReopened, OpensTo}
 use Rattle.raft_script.specs.declared.answer.Answer.{Answer}
 use Rattle.raft_script.specs.declared.answer.Answer.TheVariants as answer
 
@@ -27,18 +31,39 @@ module _ {F H R W : Type 0} {g : Ghosts F H R W} where
   opens_weaker P Q weaker (answer.Pairs result) new none = absurd none
   opens_weaker P Q weaker (answer.Fatal fault) new opened = tt
 
-  -- an opening of a folder that holds nothing
-  pub opens_new : (folder : Path) (m : Contents) (opening : Result (Engine F H R W g) (Refused F)) → m ≡ no_contents → IfOk opening (λ e. contents_of e ≡ m) → IfOk opening (IsNewIn folder) → IfOk opening (IsMetBy None)
-  opens_new folder m (Ok e) none contents new = (contents ∙ none, new.stands)
-  opens_new folder m (Err r) none contents new = tt
+  -- what holds of an opened engine holds of the one that is there after the opening
+  pub opens_to : (P : Engine F H R W g → Type 0) (opening : Result (Engine F H R W g) (Refused F)) (a : Answer) (new : Option (Engine F H R W g)) → MatchResult opening (λ e. (a ≡ answer.Done) × (new ≡ Some e)) (λ r. a ≡ answer.Fatal r.fault) → IfOk opening P → OpensTo a new P
+  opens_to P (Ok e) a new is holds = subst (λ (x : Answer). OpensTo x new P) (sym is.0) (subst (λ (o : Option (Engine F H R W g)). OpensTo answer.Done o P) (sym is.1) holds)
+  opens_to P (Err r) a new is holds = subst (λ (x : Answer). OpensTo x new P) (sym is) tt
+
+  -- an opening finds the batches of the folder's log
+  pub opened_with : (folder : Path) (n : Directory) (opening : Result (Engine F H R W g) (Refused F)) → IfOk opening (IsNewIn folder) → IfOk opening (λ e. begun_of e ≡ n ∷ []) → IfOk opening (IsNewWith folder (readable_in folder n))
+  opened_with folder n (Ok e) new begun = (new, new.batches ∙ ap (found_batches folder) begun)
+  opened_with folder n (Err r) new begun = tt
+
+  -- .. in this folder, of whose log these are read
+  pub opened_in : (dir folder : Path) (n : Directory) (batches : List Batch) (opening : Result (Engine F H R W g) (Refused F)) → dir ≡ folder → readable_in dir n ≡ batches → IfOk opening (IsNewWith dir (readable_in dir n)) → IfOk opening (IsNewWith folder batches)
+  opened_in dir folder n batches (Ok e) dir_is are opened = (subst (λ (p : Path). IsNewIn p e) dir_is opened.0, opened.1 ∙ are)
+  opened_in dir folder n batches (Err r) dir_is are opened = tt
 
   -- an opening of what a crash left
-  pub opens_after_crash : (old e : Engine F H R W g) (dir : Path) (n m : Directory) (image : CrashImage) → dir ≡ codes "raft" → n ≡ directory_of old → Leaves n image → contents_at dir m ≡ contents_after_crash dir n image → contents_of e ≡ contents_at dir m → HoldsAfterCrash old e
-  opens_after_crash old e dir n m image dir_is n_is leaves found is = (
+  pub opens_after_crash : (old e : Engine F H R W g) (dir : Path) (n m : Directory) (image : CrashImage) → dir ≡ codes "raft" → n ≡ directory_of old → Leaves n image → readable_in dir m ≡ readable_after_crash dir n image → IsNewWith dir (readable_in dir m) e → HoldsAfterCrash old e
+  opens_after_crash old e dir n m image dir_is n_is leaves found opened = (
     image,
     subst (λ (x : Directory). Leaves x image) n_is leaves,
-    is ∙ found ∙ ap (λ (x : Path). contents_after_crash x n image) dir_is ∙ ap (λ (x : Directory). contents_after_crash (codes "raft") x image) n_is,
+    (
+      subst (λ (p : Path). IsNewIn p e) dir_is opened.0,
+      opened.1 ∙ found ∙ ap (λ (p : Path). readable_after_crash p n image) dir_is ∙ ap (λ (x : Directory). readable_after_crash (codes "raft") x image) n_is,
+    ),
   )
+
+  -- an opening of what was closed
+  pub reopened : (old : Engine F H R W g) (opening : Result (Engine F H R W g) (Refused F)) → IfOk opening (IsNewIn (folder_of old)) → IfOk opening (BeginsAsClosed old) → (IsErrAnd opening (λ r. r.fault ≡ fault.Failed) ↔ (has_failed old ≡ true)) → IfOk opening (IsReopened old)
+  reopened old (Ok e) new begins failed = elim (cases_Bool (has_failed old)) [
+    | inl gone ↦ absurd (failed.1 gone)
+    | inr stood ↦ (stood, (new, new.batches ∙ ap (found_batches (folder_of old)) begins.begun ∙ ∥∥₁_elim begins.holds.readable (hlevel props) (λ is. is)))
+  ]
+  reopened old (Err r) new begins failed = tt
 
   -- a line is answered by the engine that it meets
   pub line_answered : (asked : Asked) (old new : Option (Engine F H R W g)) (met : Engine F H R W g) (opening : Result (Engine F H R W g) (Refused F)) (result : Result Answer AllocError) → opening ≡ Ok met → IfOk opening (IsMetBy old) → IfOk result (λ a. AnswersFrom asked a met new) → IfOk result (λ a. AnswersLine asked a old new)

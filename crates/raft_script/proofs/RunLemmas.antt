@@ -3,7 +3,7 @@ use Rattle.std.proofs.Common.{◌≡◌, ℕ, zero, suc, ◌+◌, ◌<◌, ◌�
 use Rattle.std.specs.Prelude.{◌^◌, ◌⊎◌, ◌||◌, ◌↔◌, if◌then◌else◌, IfErr, IfOk, IsSome, IsSomeAnd, MatchResult, Result, Ok, Err, String, Vec, is_some, option_map}
 use Rattle.std.proofs.lemmas.Bool.{cases_Bool}
 use Rattle.std.proofs.lemmas.List.{append-nil, nil_from_length}
-use Rattle.std.proofs.lemmas.List.Sums.{fold-append, sum_by-append}
+use Rattle.std.proofs.lemmas.List.Sums.{sum_by-append}
 use Rattle.std.proofs.Math.Seq.{take-suc}
 use Rattle.raft_env.specs.Refusal.{Refusals, StorageRefusalsRose}
 use Rattle.raft_records.specs.Contents.{Contents, after_batch, after_batches}
@@ -22,9 +22,10 @@ use Rattle.raft_pipes.specs.Queue.{IsRefusalIn}
 use Rattle.raft_log_engine.specs.Durability.{HasWritten}
 use Rattle.raft_log_engine.specs.Engine.{contents_of, has_failed, refusals_of}
 use Rattle.raft_log_engine.specs.declared.engine.Engine.{Engine}
+use Rattle.raft_log_engine.specs.Contents.{recovered_contents}
 use Rattle.raft_log_engine.specs.Crash.{written_batch}
-use Rattle.raft_script.specs.Run.{accepted_batches, accepted_of, AreAnswers, AreSteady, FailsAt, IsFailing, IsFailurePlace, Refuses, StorageRefusalsRoseBy, batch_of_acts, io_count, io_in, is_failure, is_io, AreGroupsOf, IsAnswer, IsEngineRefusal, IsGetRefusal, IsSteadyBy, IsTextRefusal, IsUnbuilt, IsGiven, IsWritten, IsWriteRefusal, compaction_in, items_of_act, with_items, written_batches}
-use Rattle.raft_log_engine.specs.Image.{IsWithout}
+use Rattle.raft_tables.specs.Known.{known_in}
+use Rattle.raft_script.specs.Run.{accepted_of, AreAnswers, AreSteady, FailsAt, IsFailing, IsFailurePlace, Refuses, StorageRefusalsRoseBy, batch_of_acts, batches_after, batches_after_all, io_count, io_in, is_io, IsAnswer, IsEngineRefusal, IsGetRefusal, IsSteadyBy, IsTextRefusal, IsUnbuilt, IsGiven, IsWritten, IsWriteRefusal, compaction_in, items_of_act, of_both}
 use Rattle.raft_log_engine.specs.Reads.{IsEntryAnswer, IsEntryRefusalAt, IsGroupList, compact_count, entry_of}
 use Rattle.raft_script.specs.Entry.{IsTextOf, index_of}
 use Rattle.raft_script.specs.declared.text_entry.TextEntry.{TextEntry}
@@ -35,6 +36,10 @@ use Rattle.raft_script.specs.declared.operation.Op.TheVariants.{Write, WriteGrou
 use Rattle.raft_script.specs.declared.operation.Outcome.{Outcome}
 use Rattle.raft_script.specs.declared.operation.Outcome.TheVariants as reply
 use Rattle.raft_script.specs.declared.operation.Outcome.TheVariants.{Size, Sizes, Done, Value, Count, Index}
+
+-- items before others, where there are both
+abbrev with_items : Option Batch → Option Batch → Option Batch
+with_items = of_both (λ items others. items ++ others)
 
 -- items, followed by the batch of more acts, where there is one
 abbrev pub followed_by : Batch → Option Batch → Option Batch
@@ -98,11 +103,11 @@ unbuilt_by e items n acts act within is built first (inr (inr r)) = inr (inr (r.
 pub built_ended : (items : Batch) (n : ℕ) (acts : List Act) → drop n acts ≡ [] → IsBuilt items n acts → batch_of_acts acts ≡ Some items
 built_ended items n acts none built = sym built ∙ ap (λ l. followed_by items (batch_of_acts l)) none ∙ ap Some (append-nil items)
 
-pub after-written_batches : (m : Contents) (batch : Batch) → after_batches m (written_batches (Some batch)) ≡ after_batch m batch
-after-written_batches m [] = refl
-after-written_batches m (item ∷ items) = refl
+pub after-written_batch : (m : Contents) (batch : Batch) → after_batches m (written_batch batch) ≡ after_batch m batch
+after-written_batch m [] = refl
+after-written_batch m (item ∷ items) = refl
 
-same_err : {T : Type 0} {x y : Fault} (r : Result T Fault) → r ≡ Err x → r ≡ Err y → x ≡ y
+pub same_err : {T : Type 0} {x y : Fault} (r : Result T Fault) → r ≡ Err x → r ≡ Err y → x ≡ y
 same_err r a b = cc
 
 -- what is known of the batch of acts
@@ -181,27 +186,22 @@ module _ (m n : Contents) (group index : ℕ) (failed : Bool) (folder : Path) (o
   entry_rose (Err _) fails cause io = absurd cc
 
 -- .. and so are the groups
-pub groups_answered : (m n : Contents) (failed : Bool) (same : failed ≡ false → m ≡ n) (is_known : ℕ → Bool) (result : Result (Vec ℕ Global) Fault) → IfOk result (λ groups. IsGroupList n is_known groups.items) → ((result ≡ Err fault.Failed) ↔ (failed ≡ true)) → IfErr result (λ e. (e ≡ fault.Failed) ⊎ (e ≡ fault.Memory))
-    → MatchResult result (λ groups. AreGroupsOf m groups.items) IsGetRefusal
-groups_answered m n failed same is_known (Ok groups) is fails cause = elim (cases_Bool failed) [
+pub groups_answered : (m n : Contents) (known is_known : ℕ → Bool) (failed : Bool) (same : failed ≡ false → m ≡ n) (same_known : failed ≡ false → known ≡ is_known) (result : Result (Vec ℕ Global) Fault) → IfOk result (λ groups. IsGroupList n is_known groups.items) → ((result ≡ Err fault.Failed) ↔ (failed ≡ true)) → IfErr result (λ e. (e ≡ fault.Failed) ⊎ (e ≡ fault.Memory))
+    → MatchResult result (λ groups. IsGroupList m known groups.items) IsGetRefusal
+groups_answered m n known is_known failed same same_known (Ok groups) is fails cause = elim (cases_Bool failed) [
   | inl gone ↦ absurd (let clash = fails.1 gone in cc)
-  | inr stands ↦ record { ascending = is.ascending; others = λ group none. subst (λ (c : Contents). IsWithout c group) (sym (same stands)) (is.others group (sym (is.known group) ∙ none)) }
+  | inr stands ↦ subst (λ (c : Contents). IsGroupList c known groups.items) (sym (same stands)) (subst (λ (k : ℕ → Bool). IsGroupList n k groups.items) (sym (same_known stands)) is)
 ]
-groups_answered m n failed same is_known (Err e) is fails (inl e_is) = subst IsGetRefusal (sym e_is) tt
-groups_answered m n failed same is_known (Err e) is fails (inr e_is) = subst IsGetRefusal (sym e_is) tt
-
-failure_of : {T : Type 0} (result : Result T Fault) → is_failure result ≡ true → result ≡ Err fault.Failed
-failure_of (Ok x) told = absurd cc
-failure_of (Err fault.Failed) told = refl
-failure_of (Err _) told = absurd cc
+groups_answered m n known is_known failed same same_known (Err e) is fails (inl e_is) = subst IsGetRefusal (sym e_is) tt
+groups_answered m n known is_known failed same same_known (Err e) is fails (inr e_is) = subst IsGetRefusal (sym e_is) tt
 
 -- an engine that only reads has failed or not as before
 pub steady_by : {T : Type 0} (failed fails : Bool) (result : Result T Fault) → ((result ≡ Err fault.Failed) ↔ (failed ≡ true)) → fails ≡ failed → IsSteadyBy failed result fails
-steady_by {T} failed fails result told same = (
+steady_by failed fails result told same = (
   record {
     still = λ gone. same ∙ gone;
-    only_failed = λ failure. told.0 (failure_of result failure);
-    refused = λ gone. inl (subst (λ (r : Result T Fault). is_failure r ≡ true) (sym (told.1 gone)) refl);
+    only_failed = told.0;
+    refused = λ gone. inl (told.1 gone);
     cause = λ alive fell. absurd (let clash = sym alive ∙ sym same ∙ fell in cc);
   },
   same,
@@ -240,38 +240,27 @@ module _ (m n : Contents) (op : Op) (failed : Bool) (same : failed ≡ false →
       by_op _ _ f = refl
 
 -- what a run has come to: as many outcomes as operations, and what the engine holds
-pub record IsRunning (before : Contents) (ops : List Op) (outcomes : List Outcome) (now : Contents) (failed : Bool) : Type 0 where
+pub record IsRunning (before : List Batch) (ops : List Op) (outcomes : List Outcome) (now : List Batch) (failed : Bool) : Type 0 where
   pub len : length outcomes ≡ length ops
-  pub contents : failed ≡ false → now ≡ after_batches before (accepted_batches before ops outcomes)
+  pub batches : failed ≡ false → now ≡ batches_after_all before ops outcomes
 
-pub running_begun : (m : Contents) (failed : Bool) → IsRunning m [] [] m failed
-running_begun m failed = record { len = refl; contents = λ _. refl }
+pub running_begun : (before : List Batch) (failed : Bool) → IsRunning before [] [] before failed
+running_begun before failed = record { len = refl; batches = λ _. refl }
 
-pub accepted_more : (m : Contents) (ops : List Op) (outcomes : List Outcome) (op : Op) (outcome : Outcome) → length outcomes ≡ length ops
-    → accepted_batches m (ops ++ op ∷ []) (outcomes ++ outcome ∷ []) ≡ accepted_batches m ops outcomes ++ accepted_of (after_batches m (accepted_batches m ops outcomes)) op outcome
-accepted_more m [] [] op outcome same = append-nil (accepted_of m op outcome)
-accepted_more m [] (o ∷ outcomes) op outcome same = absurd (omega (arith, same))
-accepted_more m (p ∷ ops) [] op outcome same = absurd (omega (arith, same))
-accepted_more m (p ∷ ops) (o ∷ outcomes) op outcome same =
-    let first = accepted_of m p o in
-    let n = after_batches m first in
-    let rest = accepted_batches n ops outcomes in
-    ap (λ (l : List Batch). first ++ l) (accepted_more n ops outcomes op outcome (omega (arith, same))) ∙ sym (append_assoc first rest (accepted_of (after_batches n rest) op outcome))
-    ∙ ap (λ (c : Contents). (first ++ rest) ++ accepted_of c op outcome) (sym (fold-append after_batch m first rest))
+batches_after_all-more : (before : List Batch) (ops : List Op) (outcomes : List Outcome) (op : Op) (outcome : Outcome) → length outcomes ≡ length ops → batches_after_all before (ops ++ op ∷ []) (outcomes ++ outcome ∷ []) ≡ batches_after (batches_after_all before ops outcomes) op outcome
+batches_after_all-more before [] [] op outcome same = refl
+batches_after_all-more before [] (o ∷ outcomes) op outcome same = absurd (omega (arith, same))
+batches_after_all-more before (p ∷ ops) [] op outcome same = absurd (omega (arith, same))
+batches_after_all-more before (p ∷ ops) (o ∷ outcomes) op outcome same = batches_after_all-more (batches_after before p o) ops outcomes op outcome (omega (arith, same))
 
 -- one operation more
-module _ (before : Contents) (ops : List Op) (outcomes : List Outcome) (now : Contents) (failed : Bool) (running : IsRunning before ops outcomes now failed)
-    (op : Op) (outcome : Outcome) (next : Contents) (fails : Bool) where
-  pub running_more : (fails ≡ false → next ≡ after_batches now (accepted_of now op outcome)) → (failed ≡ true → fails ≡ true)
-      → IsRunning before (ops ++ op ∷ []) (outcomes ++ outcome ∷ []) next fails
-  running_more contents still =
-      let so_far = accepted_batches before ops outcomes in
-      let held = after_batches before so_far in
-      record {
-        len = length-append outcomes (outcome ∷ []) ∙ ap (λ (n : ℕ). n + 1) running.len ∙ sym (length-append ops (op ∷ []));
-        contents = λ stands. contents stands ∙ ap (λ (m : Contents). after_batches m (accepted_of m op outcome)) (running.contents (stood failed still stands))
-            ∙ sym (fold-append after_batch before so_far (accepted_of held op outcome)) ∙ ap (after_batches before) (sym (accepted_more before ops outcomes op outcome running.len));
-      }
+module _ (before : List Batch) (ops : List Op) (outcomes : List Outcome) (now : List Batch) (failed : Bool) (running : IsRunning before ops outcomes now failed)
+    (op : Op) (outcome : Outcome) (next : List Batch) (fails : Bool) where
+  pub running_more : (fails ≡ false → next ≡ batches_after now op outcome) → (failed ≡ true → fails ≡ true) → IsRunning before (ops ++ op ∷ []) (outcomes ++ outcome ∷ []) next fails
+  running_more batches still = record {
+    len = length-append outcomes (outcome ∷ []) ∙ ap (λ (n : ℕ). n + 1) running.len ∙ sym (length-append ops (op ∷ []));
+    batches = λ stands. batches stands ∙ ap (λ (l : List Batch). batches_after l op outcome) (running.batches (stood failed still stands)) ∙ sym (batches_after_all-more before ops outcomes op outcome running.len);
+  }
     where
       stood : (b : Bool) → (b ≡ true → fails ≡ true) → fails ≡ false → b ≡ false
       stood true still stands = absurd (let now = still refl in cc)
@@ -360,72 +349,59 @@ module _ (ops : List Op) (outcomes : List Outcome) (op : Op) (outcome : Outcome)
 
 -- Answers, with one more.
 
+-- an operation is answered so by an engine that holds these batches
+abbrev IsAnswerAt : Bool → List Batch → Op → Outcome → Type 0
+IsAnswerAt failed batches op outcome = IsAnswer failed (recovered_contents batches) (known_in batches) op outcome
+
 -- of an engine that has failed or not as before
-answers_steady : (failed : Bool) (m : Contents) (ops : List Op) (outcomes : List Outcome) (op : Op) (outcome : Outcome) → AreAnswers failed None m ops outcomes → IsAnswer failed (after_batches m (accepted_batches m ops outcomes)) op outcome
-    → AreAnswers failed None m (ops ++ op ∷ []) (outcomes ++ outcome ∷ [])
-answers_steady failed m [] [] op outcome answers more = (more, tt)
-answers_steady failed m [] (o ∷ outcomes) op outcome answers more = absurd answers
-answers_steady failed m (p ∷ ops) [] op outcome answers more = absurd answers
-answers_steady failed m (p ∷ ops) (o ∷ outcomes) op outcome answers more =
-    let n = after_batches m (accepted_of m p o) in (
-      answers.0,
-      answers_steady failed n ops outcomes op outcome answers.1 (subst (λ (c : Contents). IsAnswer failed c op outcome) (fold-append after_batch m (accepted_of m p o) (accepted_batches n ops outcomes)) more),
-    )
+answers_steady : (failed : Bool) (batches : List Batch) (ops : List Op) (outcomes : List Outcome) (op : Op) (outcome : Outcome) → AreAnswers failed None batches ops outcomes → IsAnswerAt failed (batches_after_all batches ops outcomes) op outcome → AreAnswers failed None batches (ops ++ op ∷ []) (outcomes ++ outcome ∷ [])
+answers_steady failed batches [] [] op outcome answers more = (more, tt)
+answers_steady failed batches [] (o ∷ outcomes) op outcome answers more = absurd answers
+answers_steady failed batches (p ∷ ops) [] op outcome answers more = absurd answers
+answers_steady failed batches (p ∷ ops) (o ∷ outcomes) op outcome answers more = (answers.0, answers_steady failed (batches_after batches p o) ops outcomes op outcome answers.1 more)
 
 -- of one that fails in the operation
-answers_falls : (failed : Bool) (m : Contents) (ops : List Op) (outcomes : List Outcome) (op : Op) (outcome : Outcome) → AreAnswers failed None m ops outcomes → IsAnswer failed (after_batches m (accepted_batches m ops outcomes)) op outcome
-    → AreAnswers failed (Some (length ops)) m (ops ++ op ∷ []) (outcomes ++ outcome ∷ [])
-answers_falls failed m [] [] op outcome answers more = (more, tt)
-answers_falls failed m [] (o ∷ outcomes) op outcome answers more = absurd answers
-answers_falls failed m (p ∷ ops) [] op outcome answers more = absurd answers
-answers_falls failed m (p ∷ ops) (o ∷ outcomes) op outcome answers more =
-    let n = after_batches m (accepted_of m p o) in (
-      answers.0,
-      answers_falls failed n ops outcomes op outcome answers.1 (subst (λ (c : Contents). IsAnswer failed c op outcome) (fold-append after_batch m (accepted_of m p o) (accepted_batches n ops outcomes)) more),
-    )
+answers_falls : (failed : Bool) (batches : List Batch) (ops : List Op) (outcomes : List Outcome) (op : Op) (outcome : Outcome) → AreAnswers failed None batches ops outcomes → IsAnswerAt failed (batches_after_all batches ops outcomes) op outcome
+    → AreAnswers failed (Some (length ops)) batches (ops ++ op ∷ []) (outcomes ++ outcome ∷ [])
+answers_falls failed batches [] [] op outcome answers more = (more, tt)
+answers_falls failed batches [] (o ∷ outcomes) op outcome answers more = absurd answers
+answers_falls failed batches (p ∷ ops) [] op outcome answers more = absurd answers
+answers_falls failed batches (p ∷ ops) (o ∷ outcomes) op outcome answers more = (answers.0, answers_falls failed (batches_after batches p o) ops outcomes op outcome answers.1 more)
 
 -- of one that failed in an earlier one
-answers_fallen : (place : ℕ) (failed : Bool) (m : Contents) (ops : List Op) (outcomes : List Outcome) (op : Op) (outcome : Outcome) → FailsAt place ops outcomes → AreAnswers failed (Some place) m ops outcomes → IsAnswer true (after_batches m (accepted_batches m ops outcomes)) op outcome
-    → AreAnswers failed (Some place) m (ops ++ op ∷ []) (outcomes ++ outcome ∷ [])
-answers_fallen zero failed m [] outcomes op outcome at answers more = absurd at
-answers_fallen (suc place) failed m [] outcomes op outcome at answers more = absurd at
-answers_fallen zero failed m (p ∷ ops) [] op outcome at answers more = absurd at
-answers_fallen (suc place) failed m (p ∷ ops) [] op outcome at answers more = absurd at
-answers_fallen zero failed m (p ∷ ops) (o ∷ outcomes) op outcome at answers more =
-    let n = after_batches m (accepted_of m p o) in (
-      answers.0,
-      answers_steady true n ops outcomes op outcome answers.1 (subst (λ (c : Contents). IsAnswer true c op outcome) (fold-append after_batch m (accepted_of m p o) (accepted_batches n ops outcomes)) more),
-    )
-answers_fallen (suc place) failed m (p ∷ ops) (o ∷ outcomes) op outcome at answers more =
-    let n = after_batches m (accepted_of m p o) in (
-      answers.0,
-      answers_fallen place failed n ops outcomes op outcome at.1 answers.1 (subst (λ (c : Contents). IsAnswer true c op outcome) (fold-append after_batch m (accepted_of m p o) (accepted_batches n ops outcomes)) more),
-    )
+answers_fallen : (place : ℕ) (failed : Bool) (batches : List Batch) (ops : List Op) (outcomes : List Outcome) (op : Op) (outcome : Outcome) → FailsAt place ops outcomes → AreAnswers failed (Some place) batches ops outcomes → IsAnswerAt true (batches_after_all batches ops outcomes) op outcome
+    → AreAnswers failed (Some place) batches (ops ++ op ∷ []) (outcomes ++ outcome ∷ [])
+answers_fallen zero failed batches [] outcomes op outcome at answers more = absurd at
+answers_fallen (suc place) failed batches [] outcomes op outcome at answers more = absurd at
+answers_fallen zero failed batches (p ∷ ops) [] op outcome at answers more = absurd at
+answers_fallen (suc place) failed batches (p ∷ ops) [] op outcome at answers more = absurd at
+answers_fallen zero failed batches (p ∷ ops) (o ∷ outcomes) op outcome at answers more = (answers.0, answers_steady true (batches_after batches p o) ops outcomes op outcome answers.1 more)
+answers_fallen (suc place) failed batches (p ∷ ops) (o ∷ outcomes) op outcome at answers more = (answers.0, answers_fallen place failed (batches_after batches p o) ops outcomes op outcome at.1 answers.1 more)
 
-module _ (m : Contents) (ops : List Op) (outcomes : List Outcome) (op : Op) (outcome : Outcome) where
-  -- the contents that the operation finds
-  abbrev found : Contents
-  found = after_batches m (accepted_batches m ops outcomes)
+module _ (batches : List Batch) (ops : List Op) (outcomes : List Outcome) (op : Op) (outcome : Outcome) where
+  -- what the operation finds
+  abbrev found : List Batch
+  found = batches_after_all batches ops outcomes
 
-  answers_kept : (had failed : Bool) (failed_at : Option ℕ) → failed ≡ (had || is_some failed_at) → IsFailurePlace had ops outcomes failed_at → AreAnswers had failed_at m ops outcomes → IsAnswer failed found op outcome → AreAnswers had failed_at m (ops ++ op ∷ []) (outcomes ++ outcome ∷ [])
-  answers_kept true failed None now at answers more = answers_steady true m ops outcomes op outcome answers (subst (λ (b : Bool). IsAnswer b found op outcome) now more)
-  answers_kept false failed None now at answers more = answers_steady false m ops outcomes op outcome answers (subst (λ (b : Bool). IsAnswer b found op outcome) now more)
-  answers_kept true failed (Some place) now at answers more = answers_fallen place true m ops outcomes op outcome at.1 answers (subst (λ (b : Bool). IsAnswer b found op outcome) now more)
-  answers_kept false failed (Some place) now at answers more = answers_fallen place false m ops outcomes op outcome at.1 answers (subst (λ (b : Bool). IsAnswer b found op outcome) now more)
+  answers_kept : (had failed : Bool) (failed_at : Option ℕ) → failed ≡ (had || is_some failed_at) → IsFailurePlace had ops outcomes failed_at → AreAnswers had failed_at batches ops outcomes → IsAnswerAt failed found op outcome → AreAnswers had failed_at batches (ops ++ op ∷ []) (outcomes ++ outcome ∷ [])
+  answers_kept true failed None now at answers more = answers_steady true batches ops outcomes op outcome answers (subst (λ (b : Bool). IsAnswerAt b found op outcome) now more)
+  answers_kept false failed None now at answers more = answers_steady false batches ops outcomes op outcome answers (subst (λ (b : Bool). IsAnswerAt b found op outcome) now more)
+  answers_kept true failed (Some place) now at answers more = answers_fallen place true batches ops outcomes op outcome at.1 answers (subst (λ (b : Bool). IsAnswerAt b found op outcome) now more)
+  answers_kept false failed (Some place) now at answers more = answers_fallen place false batches ops outcomes op outcome at.1 answers (subst (λ (b : Bool). IsAnswerAt b found op outcome) now more)
 
-  answers_here : (had : Bool) (failed_at : Option ℕ) → false ≡ (had || is_some failed_at) → AreAnswers had failed_at m ops outcomes → IsAnswer false found op outcome → AreAnswers had (Some (length ops)) m (ops ++ op ∷ []) (outcomes ++ outcome ∷ [])
+  answers_here : (had : Bool) (failed_at : Option ℕ) → false ≡ (had || is_some failed_at) → AreAnswers had failed_at batches ops outcomes → IsAnswerAt false found op outcome → AreAnswers had (Some (length ops)) batches (ops ++ op ∷ []) (outcomes ++ outcome ∷ [])
   answers_here true failed_at now answers more = absurd cc
-  answers_here false None now answers more = answers_falls false m ops outcomes op outcome answers more
+  answers_here false None now answers more = answers_falls false batches ops outcomes op outcome answers more
   answers_here false (Some place) now answers more = absurd cc
 
-  pub answers_more : (had failed fails : Bool) (failed_at next_at : Option ℕ) → failed ≡ (had || is_some failed_at) → IsFailurePlace had ops outcomes failed_at → IsFailing failed op outcome fails → IsNextPlace failed fails (length ops) failed_at next_at → AreAnswers had failed_at m ops outcomes → IsAnswer failed found op outcome
-      → AreAnswers had next_at m (ops ++ op ∷ []) (outcomes ++ outcome ∷ [])
+  pub answers_more : (had failed fails : Bool) (failed_at next_at : Option ℕ) → failed ≡ (had || is_some failed_at) → IsFailurePlace had ops outcomes failed_at → IsFailing failed op outcome fails → IsNextPlace failed fails (length ops) failed_at next_at → AreAnswers had failed_at batches ops outcomes → IsAnswerAt failed found op outcome
+      → AreAnswers had next_at batches (ops ++ op ∷ []) (outcomes ++ outcome ∷ [])
   answers_more had failed fails failed_at next_at now at is next answers more = by_case failed fails now is next more
     where
-      by_place : (place : Option ℕ) → next_at ≡ place → AreAnswers had place m (ops ++ op ∷ []) (outcomes ++ outcome ∷ []) → AreAnswers had next_at m (ops ++ op ∷ []) (outcomes ++ outcome ∷ [])
-      by_place place same all = subst (λ (o : Option ℕ). AreAnswers had o m (ops ++ op ∷ []) (outcomes ++ outcome ∷ [])) (sym same) all
+      by_place : (place : Option ℕ) → next_at ≡ place → AreAnswers had place batches (ops ++ op ∷ []) (outcomes ++ outcome ∷ []) → AreAnswers had next_at batches (ops ++ op ∷ []) (outcomes ++ outcome ∷ [])
+      by_place place same all = subst (λ (o : Option ℕ). AreAnswers had o batches (ops ++ op ∷ []) (outcomes ++ outcome ∷ [])) (sym same) all
 
-      by_case : (b c : Bool) → b ≡ (had || is_some failed_at) → IsFailing b op outcome c → IsNextPlace b c (length ops) failed_at next_at → IsAnswer b found op outcome → AreAnswers had next_at m (ops ++ op ∷ []) (outcomes ++ outcome ∷ [])
+      by_case : (b c : Bool) → b ≡ (had || is_some failed_at) → IsFailing b op outcome c → IsNextPlace b c (length ops) failed_at next_at → IsAnswerAt b found op outcome → AreAnswers had next_at batches (ops ++ op ∷ []) (outcomes ++ outcome ∷ [])
       by_case true true now is next more = by_place failed_at (next.rests refl) (answers_kept had true failed_at now at answers more)
       by_case false false now is next more = by_place failed_at (next.rests refl) (answers_kept had false failed_at now at answers more)
       by_case true false now is next more = absurd (let clash = still_by op outcome false is in cc)

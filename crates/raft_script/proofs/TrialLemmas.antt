@@ -17,9 +17,9 @@ use Rattle.raft_base.specs.declared.errors.Fault.{Fault}
 use Rattle.raft_base.specs.declared.errors.Fault.TheVariants as fault
 use Rattle.raft_log_engine.specs.Image.{IsImageOf}
 use Rattle.raft_log_engine.specs.declared.engine.image.Image.{Image}
-use Rattle.raft_log_engine.specs.Contents.{contents_at}
+use Rattle.raft_log_engine.specs.Contents.{contents_at, recovered_contents}
 use Rattle.raft_pipes.specs.Completed.{ReadsCompletedRecordsIn}
-use Rattle.raft_pipes.specs.Folder.{HasNoLog, IsDetectableIn, log_path}
+use Rattle.raft_pipes.specs.Folder.{HasNoLog, IsDetectableIn, log_path, readable_in}
 use Rattle.raft_script.specs.Durability.{LeavesAllowedAfter, Progress, progress_after_all, progress_from}
 use Rattle.raft_pipes.specs.Queue.{HasDamageIn, HasLeftDamage, IsOpenableIn}
 use Rattle.raft_script.specs.Run.{IsStorageOrMemory}
@@ -48,19 +48,18 @@ refused_after folder m ops n leaves =
 pub none_done : (folder : Path) (n : Directory) → (HasNoLog folder n → ReadsCompletedRecordsIn folder n) → n ≡ no_files → ReadsCompletedRecordsIn folder n
 none_done folder n done is = done (ap (λ (x : Directory). file_at x (log_path folder)) is ∙ get-empty _ (log_path folder))
 
--- a folder without files holds nothing and keeps nothing
-pub nothing_kept : (folder : Path) (n : Directory) → (HasNoLog folder n → (HasFile n folder → ⊥) → (contents_at folder n ≡ no_contents) × RecoversContents folder no_contents [] n) → n ≡ no_files → (contents_at folder n ≡ no_contents) × RecoversContents folder no_contents [] n
-nothing_kept folder n keeps is =
+-- what is true of a folder without a log is so where there are no files
+pub true_of_none : {P : Type 0} (folder : Path) (n : Directory) → (HasNoLog folder n → (HasFile n folder → ⊥) → P) → n ≡ no_files → P
+true_of_none folder n told is =
     let absent : (path : Path) → file_at n path ≡ None = λ path. ap (λ (x : Directory). file_at x path) is ∙ get-empty _ path in
-    keeps (absent _) (λ found. let clash = subst IsSome (absent folder) found in absurd cc)
+    told (absent _) (λ found. let clash = subst IsSome (absent folder) found in absurd cc)
 
 -- what a run shows that began with no files
-pub run_shown : (dir : Path) (before n : Directory) (ops : List Op) (outcomes : List Outcome) (failed_at : Option ℕ) → (HasNoLog dir before → (HasFile before dir → ⊥) → (contents_at dir before ≡ no_contents) × RecoversContents dir no_contents [] before) → before ≡ no_files
-    → (RecoversContents dir (contents_at dir before) [] before → RunsOver dir (contents_at dir before) ops outcomes failed_at n) → RunsOver dir no_contents ops outcomes failed_at n
-run_shown dir before n ops outcomes failed_at keeps none ran =
-    let found = nothing_kept dir before keeps none in
-    let kept = subst (λ (m : Contents). RecoversContents dir m [] before) (sym found.0) found.1 in
-    subst (λ (m : Contents). RunsOver dir m ops outcomes failed_at n) found.0 (ran kept)
+pub run_shown : (dir : Path) (before n : Directory) (ops : List Op) (outcomes : List Outcome) (failed_at : Option ℕ) → readable_in dir before ≡ [] → RecoversContents dir no_contents [] before
+    → (RecoversContents dir (recovered_contents (readable_in dir before)) [] before → RunsOver dir (readable_in dir before) ops outcomes failed_at n) → RunsOver dir [] ops outcomes failed_at n
+run_shown dir before n ops outcomes failed_at none keeps ran =
+    let kept = subst (λ (l : List Batch). RecoversContents dir (recovered_contents l) [] before) (sym none) keeps in
+    subst (λ (l : List Batch). RunsOver dir l ops outcomes failed_at n) none (ran kept)
 
 same_opened : {m m' : Contents} (opened : Result Image Fault) → m ≡ m' → IfOk opened (λ image. IsImageOf image.groups.items m) → IfOk opened (λ image. IsImageOf image.groups.items m')
 same_opened (Ok image) same is = subst (IsImageOf image.groups.items) same is

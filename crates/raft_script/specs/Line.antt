@@ -61,6 +61,15 @@ abbrev pub with_number : {T : Type 0} → (ℕ → List (List ℕ) → Option T)
 with_number asked [] = None
 with_number asked (word ∷ words) = option_and_then (λ n. asked n words) (number_in word)
 
+-- a number alone
+abbrev pub number_by : List (List ℕ) → Option ℕ
+number_by words = with_number if_last words
+
+-- two numbers
+abbrev pub numbers_by : List (List ℕ) → Option (ℕ × ℕ)
+numbers_by words =
+    with_number (λ first rest. option_map (λ second. (first, second)) (number_by rest)) words
+
 -- [sync]
 abbrev pub sync_by : List (List ℕ) → Option Bool
 sync_by [] = Some false
@@ -95,20 +104,11 @@ clean_by words = with_number (λ group rest. option_map (Clean group) (sync_by r
 
 -- compact G I
 abbrev pub compact_by : List (List ℕ) → Option Asked
-compact_by words =
-    with_number (λ group. with_number (λ index. if_last (Compact group index))) words
+compact_by words = option_map (λ n. Compact n.0 n.1) (numbers_by words)
 
 -- entry G I
 abbrev pub entry_by : List (List ℕ) → Option Asked
-entry_by words = with_number (λ group. with_number (λ index. if_last (Entry group index))) words
-
--- range G
-abbrev pub range_by : List (List ℕ) → Option Asked
-range_by words = with_number (λ group. if_last (Range group)) words
-
--- scan G
-abbrev pub scan_by : List (List ℕ) → Option Asked
-scan_by words = with_number (λ group. if_last (Scan group)) words
+entry_by words = option_map (λ n. Entry n.0 n.1) (numbers_by words)
 
 -- get G K
 abbrev pub get_by : List (List ℕ) → Option Asked
@@ -144,8 +144,8 @@ parsed_words (verb ∷ words) =
     else if bytes_eq verb (codes "compact") then compact_by words
     else if bytes_eq verb (codes "entry") then entry_by words
     else if bytes_eq verb (codes "groups") then if_last Groups words
-    else if bytes_eq verb (codes "range") then range_by words
-    else if bytes_eq verb (codes "scan") then scan_by words
+    else if bytes_eq verb (codes "range") then option_map Range (number_by words)
+    else if bytes_eq verb (codes "scan") then option_map Scan (number_by words)
     else if bytes_eq verb (codes "reopen") then if_last Reopen words
     else if bytes_eq verb (codes "crash") then option_map Crash (left_by words)
     else None

@@ -1,43 +1,60 @@
 -- What the program answers.
-use Rattle.std.specs.Prelude.{◌≡◌, ◌⊎◌, ℕ, true, false, List, Option, Some, None, Result, Ok, Err, Vec, codes}
+use Rattle.std.specs.Prelude.{◌≡◌, ◌⊎◌, ℕ, true, false, List, [], Option, Some, None, Result, Ok, Err, Vec, codes}
 use Rattle.std.specs.declared.alloc.Global.{Global}
 use Rattle.raft_base.specs.declared.errors.Fault.{Fault}
 use Rattle.raft_base.specs.declared.errors.Fault.TheVariants as fault
-use Rattle.raft_env.specs.Directory.{CrashImage, Leaves}
+use Rattle.raft_env.specs.Directory.{CrashImage, Leaves, Path}
 use Rattle.raft_env.specs.declared.env.FileSystem.{Ghosts}
 use Rattle.raft_log_engine.specs.declared.engine.Engine.{Engine}
-use Rattle.raft_log_engine.specs.Crash.{contents_after_crash}
-use Rattle.raft_log_engine.specs.Engine.{contents_of, directory_of, has_failed}
-use Rattle.raft_records.specs.Contents.{Contents, after_batches, no_contents}
+use Rattle.raft_log_engine.specs.Engine.{all_batches, begun_of, contents_of, directory_of, folder_of, has_failed, refusals_of}
+use Rattle.raft_log_engine.specs.Opening.{IsNewIn}
+use Rattle.raft_pipes.specs.Folder.{readable_after_crash}
+use Rattle.raft_records.specs.Contents.{after_batches}
+use Rattle.raft_records.specs.Item.{Batch}
 use Rattle.raft_tables.specs.Listing.{IsListing, listed}
 use Rattle.raft_script.specs.Entry.{range_of}
 use Rattle.raft_script.specs.Line.{Asked, Nothing, Range, Reopen, Scan, Crash, asked_by_op}
-use Rattle.raft_script.specs.Run.{IsAnswer, accepted_of}
+use Rattle.raft_script.specs.Durability.{Does, IsAnswerOf}
+use Rattle.raft_script.specs.Run.{IsFailing, IsUnasked, Refuses, accepted_of}
 use Rattle.raft_script.specs.declared.answer.Answer.{Answer}
 use Rattle.raft_script.specs.declared.answer.Answer.TheVariants as answer
 use Rattle.raft_script.specs.declared.operation.Op.{Op}
 use Rattle.raft_script.specs.declared.operation.Outcome.{Outcome}
 
 module _ {F H R W : Type 0} {g : Ghosts F H R W} where
-  -- the operation that does what is asked is answered so by the engine
+  -- the operation that does what is asked is done, and answered so by the engine
   pub record IsAnswered (asked : Asked) (outcome : Outcome) (old new : Engine F H R W g) : Type 0 where
     pub op : Op
     pub does : asked_by_op op ≡ Some asked
-    pub answer : (m : Contents) → (has_failed old ≡ false → m ≡ contents_of old)
-        → IsAnswer (has_failed old) m op outcome
+    pub answer : IsAnswerOf op outcome old
+    pub fails : IsFailing (has_failed old) op outcome (has_failed new)
+    pub unchanged : IsUnasked op → new ≡ old
+    pub refused : Refuses outcome (refusals_of old) (refusals_of new)
     pub contents : has_failed new ≡ false
         → contents_of new
         ≡ after_batches (contents_of old) (accepted_of (contents_of old) op outcome)
+    pub done : Does op outcome old new
+    pub folder : folder_of new ≡ folder_of old
+    pub begun : begun_of new ≡ begun_of old
+
+  -- an engine that was just opened in this folder, and found these batches there
+  abbrev pub IsNewWith : Path → List Batch → Engine F H R W g → Type 0
+  IsNewWith folder batches e = IsNewIn folder e × (all_batches e ≡ batches)
 
   -- the engine that a line meets: the one before it, or one that is opened for it and holds nothing
   abbrev pub IsMetBy : Option (Engine F H R W g) → Engine F H R W g → Type 0
-  IsMetBy None e = (contents_of e ≡ no_contents) × (has_failed e ≡ false)
+  IsMetBy None e = IsNewWith (codes "raft") [] e
   IsMetBy (Some before) e = e ≡ before
 
-  -- an engine holds what a crash left of another one's files
+  -- an engine that stood was closed, and what it held is opened again
+  abbrev pub IsReopened : Engine F H R W g → Engine F H R W g → Type 0
+  IsReopened old new =
+      (has_failed old ≡ false) × IsNewWith (folder_of old) (all_batches old) new
+
+  -- a new engine holds what a crash left of another one's files
   abbrev pub HoldsAfterCrash : Engine F H R W g → Engine F H R W g → Type 0
   HoldsAfterCrash old new = (image : CrashImage) × Leaves (directory_of old) image
-      × (contents_of new ≡ contents_after_crash (codes "raft") (directory_of old) image)
+      × IsNewWith (codes "raft") (readable_after_crash (codes "raft") (directory_of old) image) new
 
   -- a group's keys with their values, each once and in order, or why they aren't listed
   abbrev pub IsScanAnswer : Engine F H R W g → ℕ → Result (Vec (Vec ℕ Global × Vec ℕ Global) Global)
@@ -49,7 +66,7 @@ module _ {F H R W : Type 0} {g : Ghosts F H R W} where
 
   -- what a line asks for is answered so by the engine that it meets, and this one is there after it
   abbrev pub AnswersAsked : Asked → Answer → Engine F H R W g → Engine F H R W g → Type 0
-  AnswersAsked Reopen answer.Done old new = contents_of new ≡ contents_of old
+  AnswersAsked Reopen answer.Done old new = IsReopened old new
   AnswersAsked (Crash choice) answer.Done old new = HoldsAfterCrash old new
   AnswersAsked (Range group) (answer.Range range) old new =
       (new ≡ old) × (has_failed old ≡ false → range ≡ range_of ((contents_of old).entries group))

@@ -1,24 +1,23 @@
 -- What operations are answered, and what they leave.
-use Rattle.std.specs.Prelude.{◌≡◌, ◌⊎◌, ◌||◌, ℕ, zero, suc, ◌+◌, ◌-◌, ◌^◌, ◌≤◌, length, map, min, nat_eq, take, Bool, true, false, List, [], ◌∷◌, ◌++◌, Option, Some, None, is_some, option_map, Result, Ok, Err, is_ok, MatchResult, IsErrAnd, IsSome, IsSomeAnd, if◌then◌else◌, Vec, cond, unwrap_or}
+use Rattle.std.specs.Prelude.{◌≡◌, ◌⊎◌, ◌||◌, ℕ, zero, suc, ◌+◌, ◌-◌, ◌^◌, ◌≤◌, length, map, min, take, Bool, true, false, List, [], ◌∷◌, ◌++◌, Option, Some, None, is_some, option_and_then, option_map, Result, Ok, Err, is_ok, MatchResult, IsErrAnd, IsSome, IsSomeAnd, if◌then◌else◌, Vec, cond, unwrap_or}
 use Rattle.std.specs.List.{Any, count_by, list_any, sum_by}
 use Rattle.std.specs.declared.alloc.Global.{Global}
-use Rattle.std.specs.List.Sorted.{IsStrictlySortedBy}
-use Rattle.std.specs.Ordering.{nat_cmp}
 use Rattle.raft_records.specs.Batch.{is_internal_key}
-use Rattle.raft_records.specs.Contents.{Contents, after_batch, after_batches, first_index_of, last_index_of}
+use Rattle.raft_records.specs.Contents.{Contents, after_batch, first_index_of, last_index_of}
 use Rattle.raft_records.specs.Item.{Batch, Clean, Compact, Delete, Entries, Entry, Put}
 use Rattle.raft_records.specs.Layout.{entry_bytes}
 use Rattle.raft_records.specs.Validity.{IsValidBatch, batch_refusal}
 use Rattle.raft_base.specs.Fault.{fault_code}
 use Rattle.raft_base.specs.declared.errors.Fault.{Fault}
 use Rattle.raft_base.specs.declared.errors.Fault.TheVariants as fault
+use Rattle.raft_tables.specs.Known.{known_in}
 use Rattle.raft_env.specs.Refusal.{NoFewer, Refusals, StorageRefusalsRose}
 use Rattle.raft_log_engine.specs.Cause.{IsOutOfRange, IsWritable}
+use Rattle.raft_log_engine.specs.Contents.{recovered_contents}
 use Rattle.raft_log_engine.specs.Crash.{pending_of, written_batch}
 use Rattle.raft_log_engine.specs.Engine.{record_len}
 use Rattle.raft_log_engine.specs.Group.{accepted_in, chosen_of, written_in}
-use Rattle.raft_log_engine.specs.Image.{IsWithout}
-use Rattle.raft_log_engine.specs.Reads.{IsEntryAnswer, IsEntryRefusalAt, compact_batch, compact_count, entry_of}
+use Rattle.raft_log_engine.specs.Reads.{IsEntryAnswer, IsEntryRefusalAt, IsGroupList, compact_batch, compact_count, entry_of}
 use Rattle.raft_script.specs.Entry.{IsTextOf, entry_of_text, index_of}
 use Rattle.raft_script.specs.declared.operation.Act.{Act}
 use Rattle.raft_script.specs.declared.operation.Act.TheVariants as act
@@ -46,26 +45,24 @@ items_of_act (act.Clean group) = Some (record { group = group; content = Clean }
 items_of_act (act.Compact group index) =
     Some (record { group = group; content = Compact index } ∷ [])
 
--- items before others, where there are both
-abbrev pub with_items : Option Batch → Option Batch → Option Batch
-with_items None others = None
-with_items (Some items) None = None
-with_items (Some items) (Some others) = Some (items ++ others)
+-- what is made of two values, where there are both
+abbrev pub of_both : {A B C : Type 0} → (A → B → C) → Option A → Option B → Option C
+of_both f first second = option_and_then (λ a. option_map (f a) second) first
 
 -- the batch of the acts, where none is refused
 abbrev pub batch_of_acts : List Act → Option Batch
 batch_of_acts [] = Some []
-batch_of_acts (a ∷ acts) = with_items (items_of_act a) (batch_of_acts acts)
+batch_of_acts (a ∷ acts) =
+    of_both (λ items others. items ++ others) (items_of_act a) (batch_of_acts acts)
+
+-- their items, and none where one of them is refused
+abbrev pub items_of_acts : List Act → Batch
+items_of_acts acts = unwrap_or (batch_of_acts acts) []
 
 -- the first acts, so many of them, have more bytes of entries than a batch takes
 abbrev pub IsOversized : List Act → Type 0
 IsOversized acts = (count : ℕ) × (batch : Batch) × (batch_of_acts (take count acts) ≡ Some batch)
     × (2 ^ 32 ≤ length (entry_bytes batch))
-
--- what is written of it
-abbrev pub written_batches : Option Batch → List Batch
-written_batches None = []
-written_batches (Some batch) = written_batch batch
 
 -- what a compaction writes of a group of these contents
 abbrev pub compaction_in : Contents → ℕ → ℕ → Batch
@@ -75,17 +72,11 @@ compaction_in m group index = compact_batch group index (m.entries group)
 abbrev pub Part : Type 0
 Part = Vec Act Global × Bool
 
--- a batch before others, where there is one and the others are
-abbrev pub with_batch : Option Batch → Option (List Batch) → Option (List Batch)
-with_batch None others = None
-with_batch (Some batch) None = None
-with_batch (Some batch) (Some others) = Some (batch ∷ others)
-
 -- the batches of a group's parts, where there is one of each
 abbrev pub batches_of_parts : List Part → Option (List Batch)
 batches_of_parts [] = Some []
 batches_of_parts (part ∷ parts) =
-    with_batch (batch_of_acts part.0.items) (batches_of_parts parts)
+    of_both (λ batch others. batch ∷ others) (batch_of_acts part.0.items) (batches_of_parts parts)
 
 -- .. and none where there isn't
 abbrev pub group_batches : List Part → List Batch
@@ -93,7 +84,7 @@ group_batches parts = unwrap_or (batches_of_parts parts) []
 
 -- what an engine that had failed or not is given to write in the operation, at these contents
 abbrev pub IsGiven : Bool → Contents → Op → List Batch → Type 0
-IsGiven failed m (Write acts sync) given = given ≡ written_batches (batch_of_acts acts.items)
+IsGiven failed m (Write acts sync) given = given ≡ written_batch (items_of_acts acts.items)
 IsGiven failed m (WriteGroup parts) given = given ≡ written_in (group_batches parts.items)
 IsGiven failed m (CompactTo group index) given =
     given ≡ (if failed then [] else written_batch (compaction_in m group index))
@@ -101,19 +92,23 @@ IsGiven failed m _ given = given ≡ []
 
 -- the batches that the operation wrote, at these contents
 abbrev pub accepted_of : Contents → Op → Outcome → List Batch
-accepted_of m (Write acts sync) (Size (Ok len)) = written_batches (batch_of_acts acts.items)
+accepted_of m (Write acts sync) (Size (Ok len)) = written_batch (items_of_acts acts.items)
 accepted_of m (WriteGroup parts) (Sizes (Ok answers)) =
     accepted_in answers.items (group_batches parts.items)
 accepted_of m (CompactTo group index) (Count (Ok count)) =
     written_batch (compaction_in m group index)
 accepted_of m _ _ = []
 
--- the batches of the accepted writes, in order, from these contents on
-abbrev pub accepted_batches : Contents → List Op → List Outcome → List Batch
-accepted_batches m (op ∷ ops) (outcome ∷ outcomes) =
-    let accepted = accepted_of m op outcome in
-    accepted ++ accepted_batches (after_batches m accepted) ops outcomes
-accepted_batches m _ _ = []
+-- what an engine that held these batches holds after the operation
+abbrev pub batches_after : List Batch → Op → Outcome → List Batch
+batches_after batches op outcome =
+    batches ++ accepted_of (recovered_contents batches) op outcome
+
+-- .. and after all of these
+abbrev pub batches_after_all : List Batch → List Op → List Outcome → List Batch
+batches_after_all batches (op ∷ ops) (outcome ∷ outcomes) =
+    batches_after_all (batches_after batches op outcome) ops outcomes
+batches_after_all batches _ _ = batches
 
 -- the operation made sure of all that was accepted up to it: a sync that was answered, or a write
 -- or a group that asked for one
@@ -123,14 +118,9 @@ is_covering (WriteGroup parts) (Sizes (Ok answers)) = list_any (λ part. part.1)
 is_covering Sync (Done (Ok x)) = true
 is_covering _ _ = false
 
--- what of a batch a crash may find written, where there is one
-abbrev pub pending_batches : Contents → Option Batch → List Batch
-pending_batches m None = []
-pending_batches m (Some batch) = pending_of m batch
-
 -- what may have been written in part, or whole, when a crash came in the operation
 abbrev pub MayBeInFlight : Contents → Op → List Batch → Type 0
-MayBeInFlight m (Write acts sync) flight = flight ≡ pending_batches m (batch_of_acts acts.items)
+MayBeInFlight m (Write acts sync) flight = flight ≡ pending_of m (items_of_acts acts.items)
 MayBeInFlight m (WriteGroup parts) flight = ∥ ((choice : List Bool)
     × (flight ≡ chosen_of m choice (group_batches parts.items))) ∥₁
 MayBeInFlight m (CompactTo group index) flight =
@@ -241,34 +231,29 @@ IsGetRefusal _ = ⊥
 abbrev pub IsTextRefusal : ℕ → Option (List ℕ) → Fault → Type 0
 IsTextRefusal index bytes e = IsEntryRefusalAt IsTextOf index_of index bytes e ⊎ IsEngineRefusal e
 
--- groups in order, each once, and all that have entries or keys
-pub record AreGroupsOf (m : Contents) (groups : List ℕ) : Type 0 where
-  pub ascending : IsStrictlySortedBy nat_cmp groups
-  pub others : (group : ℕ) → list_any (nat_eq group) groups ≡ false → IsWithout m group
-
--- an operation is answered so, or fails so, by an engine that had failed or not, at these contents;
--- of an engine that had failed nothing is said of indexes
-abbrev pub IsAnswer : Bool → Contents → Op → Outcome → Type 0
-IsAnswer failed m (Write acts sync) (Size answer) =
+-- an operation is answered so, or fails so, by an engine that had failed or not, at these contents
+-- and where these groups are known; of an engine that had failed nothing is said of indexes
+abbrev pub IsAnswer : Bool → Contents → (ℕ → Bool) → Op → Outcome → Type 0
+IsAnswer failed m known (Write acts sync) (Size answer) =
     MatchResult answer (IsWritten m acts.items) (IsWriteRefusal m acts.items)
-IsAnswer failed m (WriteGroup parts) (Sizes answer) = MatchResult answer (λ answers.
+IsAnswer failed m known (WriteGroup parts) (Sizes answer) = MatchResult answer (λ answers.
     IsWrittenGroup m parts.items answers.items) (IsGroupRefusal parts.items)
-IsAnswer failed m Sync (Done answer) = MatchResult answer (λ _. Unit {0}) IsEngineRefusal
-IsAnswer failed m (Get group key) (Value answer) =
+IsAnswer failed m known Sync (Done answer) = MatchResult answer (λ _. Unit {0}) IsEngineRefusal
+IsAnswer failed m known (Get group key) (Value answer) =
     MatchResult answer (λ value. option_map (λ v. v.items) value
     ≡ m.value group key.items) IsGetRefusal
-IsAnswer failed m (CompactTo group index) (Count answer) = MatchResult answer (λ count.
+IsAnswer failed m known (CompactTo group index) (Count answer) = MatchResult answer (λ count.
     count ≡ compact_count index (m.entries group)) IsEngineRefusal
-IsAnswer failed m (operation.Entry group index) (reply.Entry answer) =
+IsAnswer failed m known (operation.Entry group index) (reply.Entry answer) =
     MatchResult answer (IsEntryAnswer IsTextOf index_of index (entry_of m group index))
     (IsTextRefusal index (entry_of m group index))
-IsAnswer failed m (First group) (Index index) =
+IsAnswer failed m known (First group) (Index index) =
     failed ≡ false → index ≡ first_index_of (m.entries group)
-IsAnswer failed m (Last group) (Index index) =
+IsAnswer failed m known (Last group) (Index index) =
     failed ≡ false → index ≡ last_index_of (m.entries group)
-IsAnswer failed m operation.Groups (reply.Groups answer) =
-    MatchResult answer (λ groups. AreGroupsOf m groups.items) IsGetRefusal
-IsAnswer failed m _ _ = ⊥
+IsAnswer failed m known operation.Groups (reply.Groups answer) =
+    MatchResult answer (λ groups. IsGroupList m known groups.items) IsGetRefusal
+IsAnswer failed m known _ _ = ⊥
 
 -- whether an engine that had failed or not has failed after an operation, where it fails in the one
 -- at this place
@@ -281,15 +266,15 @@ abbrev pub place_after : Option ℕ → Option ℕ
 place_after (Some (suc place)) = Some place
 place_after failed_at = None
 
--- each operation is answered at the contents that those before it leave, by an engine that had
--- failed or not before them, and fails in the one at this place, if any
-abbrev pub AreAnswers : Bool → Option ℕ → Contents → List Op → List Outcome → Type 0
-AreAnswers failed failed_at m [] [] = Unit {0}
-AreAnswers failed failed_at m (op ∷ ops) (outcome ∷ outcomes) =
-    IsAnswer failed m op outcome
+-- each operation is answered by an engine that holds these batches and those that the operations
+-- before it wrote, that had failed or not, and that fails in the one at this place, if any
+abbrev pub AreAnswers : Bool → Option ℕ → List Batch → List Op → List Outcome → Type 0
+AreAnswers failed failed_at batches [] [] = Unit {0}
+AreAnswers failed failed_at batches (op ∷ ops) (outcome ∷ outcomes) =
+    IsAnswer failed (recovered_contents batches) (known_in batches) op outcome
     × AreAnswers (failed_after failed_at failed) (place_after failed_at)
-    (after_batches m (accepted_of m op outcome)) ops outcomes
-AreAnswers failed failed_at m _ _ = ⊥
+    (batches_after batches op outcome) ops outcomes
+AreAnswers failed failed_at batches _ _ = ⊥
 
 -- storage's refusal
 abbrev pub is_io : {T : Type 0} → Result T Fault → Bool
@@ -334,11 +319,6 @@ IsStorageOrMemory (fault.Io kind path) = Unit {0}
 IsStorageOrMemory fault.Memory = Unit {0}
 IsStorageOrMemory _ = ⊥
 
--- the answer of an engine that had failed
-abbrev pub is_failure : {T : Type 0} → Result T Fault → Bool
-is_failure (Err fault.Failed) = true
-is_failure _ = false
-
 -- an engine answers so and fails, or doesn't; an answer that isn't the engine's is one of the
 -- others
 pub record FailsBy {T : Type 0} (failed : Bool) (answer : Result T Fault) (fails : Bool)
@@ -346,8 +326,8 @@ pub record FailsBy {T : Type 0} (failed : Bool) (answer : Result T Fault) (fails
   -- it stays failed
   pub still : failed ≡ true → fails ≡ true
   -- a failure is told where there was one, and nowhere else
-  pub only_failed : is_failure answer ≡ true → failed ≡ true
-  pub refused : failed ≡ true → (is_failure answer ≡ true) ⊎ IsErrAnd answer Other
+  pub only_failed : answer ≡ Err fault.Failed → failed ≡ true
+  pub refused : failed ≡ true → (answer ≡ Err fault.Failed) ⊎ IsErrAnd answer Other
   -- it fails by storage or for lack of memory alone
   pub cause : failed ≡ false → fails ≡ true → IsErrAnd answer IsStorageOrMemory
 

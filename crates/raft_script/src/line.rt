@@ -1,7 +1,7 @@
 //! A line of the program's input.
 ghost use Rattle.std.specs.Prelude.{◌≡◌, ◌==◌, ◌≤◌, List, ℕ, length, None, Some, [], ◌∷◌, IfOk, MatchOption, option_map, option_and_then};
 ghost use Rattle.std.specs.List.{position_or_len};
-ghost use Rattle.raft_script.specs.Line.{Crash, Range, Scan, BeginsWith, HasNoWord, if_last, parsed_words, asked_in, asked_of, asked_of_call, clean_by, compact_by, delete_by, entries_by, entry_by, get_by, is_word, left_by, number_in, put_by, range_by, scan_by, sync_by, torn_by, words_by, words_in};
+ghost use Rattle.raft_script.specs.Line.{Crash, BeginsWith, HasNoWord, if_last, parsed_words, asked_in, asked_of, asked_of_call, clean_by, compact_by, delete_by, entries_by, entry_by, get_by, is_word, left_by, number_by, number_in, numbers_by, put_by, sync_by, torn_by, words_by, words_in};
 
 use crate::operation::{Act, Op};
 use crate::text_entry::entries_between;
@@ -151,9 +151,9 @@ fn parse_asked<'a>(verb: &[u8], rest: &'a [u8]) -> Option<Line<'a>>
         ends(rest)?;
         Some(Line::Call(Call::Groups))
     } else if verb == b"range".as_slice() {
-        Some(Line::Range(parse_range(rest)?))
+        Some(Line::Range(parse_last_number(rest)?))
     } else if verb == b"scan".as_slice() {
-        Some(Line::Scan(parse_scan(rest)?))
+        Some(Line::Scan(parse_last_number(rest)?))
     } else if verb == b"reopen".as_slice() {
         ends(rest)?;
         Some(Line::Reopen)
@@ -264,35 +264,33 @@ fn parse_compact<'a>(rest: &[u8]) -> Option<Call<'a>>
     ensures value { option_map asked_of_call result ≡ option_and_then compact_by
         (words_in rest.now) }
 {
-    let (group, rest) = parse_number(rest)?;
-    let (index, rest) = parse_number(rest)?;
-    ends(rest)?;
+    let (group, index) = parse_two_numbers(rest)?;
     Some(Call::Compact { group, index })
 }
 
 fn parse_entry<'a>(rest: &[u8]) -> Option<Call<'a>>
     ensures value { option_map asked_of_call result ≡ option_and_then entry_by (words_in rest.now) }
 {
-    let (group, rest) = parse_number(rest)?;
-    let (index, rest) = parse_number(rest)?;
-    ends(rest)?;
+    let (group, index) = parse_two_numbers(rest)?;
     Some(Call::Entry { group, index })
 }
 
-fn parse_range(rest: &[u8]) -> Option<u64>
-    ensures value { option_map Range result ≡ option_and_then range_by (words_in rest.now) }
+// Two numbers, after which the line ends.
+fn parse_two_numbers(rest: &[u8]) -> Option<(u64, u64)>
+    ensures value { result ≡ option_and_then numbers_by (words_in rest.now) }
 {
-    let (group, rest) = parse_number(rest)?;
-    ends(rest)?;
-    Some(group)
+    let (first, rest) = parse_number(rest)?;
+    let second = parse_last_number(rest)?;
+    Some((first, second))
 }
 
-fn parse_scan(rest: &[u8]) -> Option<u64>
-    ensures value { option_map Scan result ≡ option_and_then scan_by (words_in rest.now) }
+// A number, after which the line ends.
+fn parse_last_number(rest: &[u8]) -> Option<u64>
+    ensures value { result ≡ option_and_then number_by (words_in rest.now) }
 {
-    let (group, rest) = parse_number(rest)?;
+    let (number, rest) = parse_number(rest)?;
     ends(rest)?;
-    Some(group)
+    Some(number)
 }
 
 // The first word, and what follows the space after it: a word is of printable characters, and one space stands

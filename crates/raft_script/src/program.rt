@@ -2,13 +2,12 @@
 ghost use Rattle.std.specs.Prelude.{◌≡◌, false, IfOk, IfSome, List, MatchResult, None, Option, Some, codes, ℕ};
 ghost use Rattle.std.specs.String.{string_bytes};
 ghost use Rattle.raft_env.specs.Directory.{CrashImage, IsRestarted, Leaves};
-ghost use Rattle.raft_log_engine.specs.Contents.{contents_at};
 ghost use Rattle.raft_log_engine.specs.Engine.{contents_of, has_failed};
 ghost use Rattle.raft_memory.specs.Memory.{memory_directory};
-ghost use Rattle.raft_records.specs.Contents.{no_contents};
+ghost use Rattle.raft_pipes.specs.Folder.{readable_in};
 ghost use Rattle.raft_script.specs.Line.{EndsOn, GoesOnOrEnds, IsNextLine, IsReading, asked_of, asked_of_call};
 ghost use Rattle.raft_script.specs.Entry.{range_of};
-ghost use Rattle.raft_script.specs.Program.{AnswersFrom, AnswersLine, HoldsAfterCrash, IsAnswered, IsMetBy, OpensTo};
+ghost use Rattle.raft_script.specs.Program.{AnswersFrom, AnswersLine, HoldsAfterCrash, IsAnswered, IsMetBy, IsNewWith, IsReopened, OpensTo};
 
 use crate::answer::{Answer, print};
 use crate::line::{Call, CrashChoice, Line, parse_line};
@@ -16,9 +15,9 @@ use crate::operation::Outcome;
 use crate::runs::step;
 use crate::scan::pairs_of;
 use raft_env::FileSystem;
-use raft_log_engine::laws::crash_leaves_contents;
 use raft_log_engine::{Config, Engine, Refused};
 use raft_memory::{Choice, MemoryFileSystem};
+use raft_pipes::laws::crash_leaves_a_prefix;
 use raft_records::{Fault, Fresh, ReadableSize};
 use std::alloc::{AllocError, Global};
 use std::io;
@@ -207,7 +206,7 @@ fn settings(alloc: Global) -> Result<Config, AllocError>
 fn open(alloc: Global) -> Result<Opening, AllocError>
     ensures value { IfOk result (λ opening. IfOk opening (IsMetBy None)) }
 {
-    crash_leaves_contents();
+    crash_leaves_a_prefix();
     let config = settings(alloc)?;
     Ok(Engine::open_in_order(alloc, config, MemoryFileSystem::new(alloc)))
 }
@@ -221,7 +220,7 @@ fn crash(
 ) -> Result<Answer, AllocError>
     ensures value { IfOk result (λ answer. OpensTo answer engine.new (HoldsAfterCrash opened)) }
 {
-    crash_leaves_contents();
+    crash_leaves_a_prefix();
     let config = settings(alloc)?;
     match crashed(alloc, opened.give_up(), left) {
         Ok(files) => Ok(open_again(alloc, engine, config, files)),
@@ -235,14 +234,14 @@ fn open_again<F: FileSystem + Drop>(
     config: Config,
     files: F,
 ) -> Answer
-    ensures value { OpensTo result engine.new (λ e. contents_of e
-        ≡ contents_at (string_bytes config.dir) (F.directory files)) }
+    ensures value { OpensTo result engine.new (IsNewWith (string_bytes config.dir)
+        (readable_in (string_bytes config.dir) (F.directory files))) }
 {
     answer_opening(engine, Engine::open_in_order(alloc, config, files))
 }
 
 fn reopen<F: FileSystem + Drop>(engine: &mut Option<Engine<F>>, opened: Engine<F>) -> Answer
-    ensures value { OpensTo result engine.new (λ e. contents_of e ≡ contents_of opened) }
+    ensures value { OpensTo result engine.new (IsReopened opened) }
 {
     answer_opening(engine, opened.reopen())
 }

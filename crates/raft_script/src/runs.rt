@@ -1,14 +1,14 @@
 //! Operations one after the other, each with its outcome.
 ghost use Rattle.std.specs.Prelude.{All, ◌≡◌, ◌⊎◌, ◌≤◌, ◌^◌, ◌++◌, false, length, map, Some, None, IfOk, IfErr, OnOk, OnErr};
-ghost use Rattle.raft_records.specs.Contents.{Contents, after_batches};
+ghost use Rattle.raft_records.specs.Contents.{after_batches};
 ghost use Rattle.raft_base.specs.Fault.{fault_code};
 ghost use Rattle.raft_records.specs.Item.{Batch};
 ghost use Rattle.raft_records.specs.Layout.{entry_bytes};
 ghost use Rattle.raft_log_engine.specs.Crash.{LeavesAllowed};
 ghost use Rattle.raft_log_engine.specs.Group.{items_of};
 ghost use Rattle.raft_log_engine.specs.Engine.{begun_of, contents_of, directory_of, durable_of, folder_of, has_failed, refusals_of, unsynced_of};
-ghost use Rattle.raft_script.specs.Durability.{AreAllowedInside, Does, HaveRun, Runs};
-ghost use Rattle.raft_script.specs.Run.{IsAnswer, IsUnbuilt, IsUnbuiltGroup, IsFailing, IsUnasked, Refuses, accepted_of, batch_of_acts, batches_of_parts, items_of_act};
+ghost use Rattle.raft_script.specs.Durability.{AreAllowedInside, Does, HaveRun, IsAnswerOf, Runs};
+ghost use Rattle.raft_script.specs.Run.{IsUnbuilt, IsUnbuiltGroup, IsFailing, IsUnasked, Refuses, accepted_of, batch_of_acts, batches_of_parts, items_of_act};
 
 use crate::operation::{Act, Op, Outcome};
 use crate::text_entry::TextEntry;
@@ -31,11 +31,11 @@ pub(crate) struct RunReport {
 /// The engine notes what there was each time that it answered a write, a compaction or a sync, and what that call was
 /// to write. A crash after one note and up to the next leaves, if its damage is detectable, a prefix of the batches
 /// accepted before that operation, or all of them and a prefix of its own batches (of a group of any choice of them,
-/// in order), with every one that an answered
-/// sync covered before it. Once the operation is answered and the engine stands, a crash leaves a prefix of what was
-/// accepted by then, with every covered write. Each answer says whether the engine failed, and a call of a failed
-/// engine adds no moment. Reads, a write whose batch can't be built, and a compaction for which there was no memory
-/// have no note of their own: moments in them, if any, count to the next call that is noted.
+/// in order), with every one that an answered sync covered before it. Once the operation is answered and the engine
+/// stands, a crash leaves a prefix of what was accepted by then, with every covered write. Each answer says whether
+/// the engine failed, and a call of a failed engine adds no moment. Reads, a write or a group whose batches can't be
+/// built, and a compaction for which there was no memory have no note of their own: moments in them, if any, count to
+/// the next call that is noted.
 ///
 /// After the operations the accepted batches that are covered are durable, and no more, and the others stand
 /// unsynced. At least as many calls as answer `Io` were refused by storage. Where all operations are reads, but of
@@ -97,8 +97,7 @@ pub(crate) fn run_watched<F: FileSystem>(
 }
 
 pub(crate) fn step<F: FileSystem>(alloc: Global, engine: &mut Engine<F>, op: &Op) -> Outcome
-    ensures value { (m : Contents) → (has_failed engine.old ≡ false → m ≡ contents_of engine.old)
-        → IsAnswer (has_failed engine.old) m op.now result }
+    ensures value { IsAnswerOf op.now result engine.old }
     ensures failed { IsFailing (has_failed engine.old) op.now result (has_failed engine.new) }
     ensures unchanged { IsUnasked op.now → engine.new ≡ engine.old }
     ensures refused { Refuses result (refusals_of engine.old) (refusals_of engine.new) }

@@ -9,3 +9,5 @@ pub mod SpanLemmas
 pub mod ValidityLemmas
 pub mod PlacesLemmas
 pub mod AppliedLemmas
+pub mod CountingLemmas
+pub mod StatsLemmas

@@ -3,6 +3,7 @@ pub mod Table
 pub mod Known
 pub mod Tables
 pub mod Counters
+pub mod Counting
 pub mod Listing
 pub mod Span
 pub mod Validity

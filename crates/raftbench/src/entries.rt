@@ -68,8 +68,8 @@ struct Place {
     index: u64,
 }
 
-/// Appends so many entries a batch, reads of entries in no order, and fetches, over one engine. Answers the bytes of
-/// log for each entry.
+/// Appends so many entries a batch, reads of entries in no order and in order, and fetches, over one engine. Answers
+/// the bytes of log for each entry.
 pub(crate) fn append_entry_fetch<R: Host, F: FileSystem + Drop>(
     rt: &R,
     name: &str,
@@ -91,15 +91,19 @@ fn append_and_read<R: Host, F: FileSystem>(
     let count = load.count;
     let len = append(rt, name, engine, load, batch_len)?;
     let places = places_of(rt.alloc(), engine, count)?;
+    let in_order = places_in_order(rt.alloc(), engine)?;
     let start = Instant::now(rt)?;
     let sum = read_each(engine, &places)?;
     let start = report(rt, "  entry", start, count, load.bytes())?;
+    let sum_in_order = read_each(engine, &in_order)?;
+    let start = report(rt, "  entry-in-order", start, count, load.bytes())?;
     let fetched = fetch_each(rt.alloc(), engine, &places)?;
     let bytes = fetched.saturating_mul(load.size as u64);
     report(rt, "  fetch", start, fetched, bytes)?;
     println!(rt;
         "{name}: {count} entries, {len} bytes of log\n  \
          entry: checksum {sum:08x}\n  \
+         entry-in-order: checksum {sum_in_order:08x}\n  \
          fetch: {fetched} entries"
     )?;
     Ok((len / count.max(1)) as usize)
@@ -176,6 +180,21 @@ fn places_of<F: FileSystem>(
         let last = engine.last_index(group).unwrap_or(0);
         let index = (state >> 32) % last.max(1) + 1;
         places.push(Place { group, index })?;
+    }
+    Ok(places)
+}
+
+// Places of all entries, group by group, each group's in order.
+fn places_in_order<F: FileSystem>(
+    alloc: Global,
+    engine: &Engine<F>,
+) -> Result<Vec<Place>, AllocError> {
+    let mut places = Vec::new(alloc);
+    for group in 0..GROUPS {
+        for before in 0..engine.last_index(group).unwrap_or(0) {
+            let index = before.saturating_add(1);
+            places.push(Place { group, index })?;
+        }
     }
     Ok(places)
 }

@@ -7,14 +7,16 @@ use Rattle.std.proofs.Math.Logic.{∥∥₁_elim, ∥∥₁_prop}
 use Rattle.raft_env.specs.Directory.{Directory, Path}
 use Rattle.raft_records.specs.Contents.{after_batches}
 use Rattle.raft_records.specs.Item.{Batch}
+use Rattle.raft_log_engine.specs.Contents.{recovered_contents}
 use Rattle.raft_log_engine.specs.Crash.{LeavesAllowed}
+use Rattle.raft_tables.specs.Known.{known_in}
 use Rattle.raft_script.specs.Durability.{Answers, AreAllowedInside, LeavesInFlight, Progress, progress_after, progress_after_all, progress_from}
 use Rattle.raft_log_engine.specs.Durability.{Progresses, durability_of}
-use Rattle.raft_script.specs.Run.{AreAnswers, IsFailurePlace, IsUnasked, accepted_batches, accepted_of, is_covering}
+use Rattle.raft_script.specs.Run.{AreAnswers, IsFailurePlace, IsUnasked, batches_after_all, is_covering}
 use Rattle.raft_script.specs.declared.operation.Op.{Op}
-use Rattle.raft_log_engine.specs.Engine.{answer_now, contents_of, directory_of, durable_of, folder_of, has_failed, moments_of, refusals_of, snapshot_of, unsynced_of}
+use Rattle.raft_log_engine.specs.Engine.{all_batches, answer_now, contents_of, directory_of, durable_of, folder_of, has_failed, moments_of, refusals_of, snapshot_of, unsynced_of}
 use Rattle.raft_script.proofs.RunAnswersLemmas.{allowed_more, inside_call}
-use Rattle.raft_script.proofs.DurabilityLemmas.{IsUnderWay, durable_after, holds_all, inside_here, leaves_after, leaves_standing, progress_more, under_way_begun, under_way_more}
+use Rattle.raft_script.proofs.DurabilityLemmas.{IsUnderWay, batches_more, durable_after, holds_all, inside_here, leaves_after, leaves_standing, progress_more, under_way_begun, under_way_more}
 use Rattle.raft_script.proofs.RunLemmas.{IsNextPlace, IsRunning, accepted_same, answers_more, given_same, place_more, rose_more, running_begun, running_more, stands_so_far, still_failing, taken_more}
 use Rattle.raft_script.proofs.runs.run_watched.Goals as goal
 use Rattle.raft_script.proofs.runs.run_watched.Goals.{then-stood+then-failed, else-stood, else-stood-via-then-stood+else-failed, else-stood-via-else-stood}
@@ -35,7 +37,7 @@ loop-op-preserved g c =
     let done : length ops ≡ c.loop-op.op-index = omega (arith, c.loop-op-test.true, length-take c.loop-op.op-index c.args.ops.now) in
     let taken = taken_more c.args.ops.now c.loop-op.op-index op c.loop-op-test.true c.op-item.is in
     let still = still_failing op outcome (has_failed old) fails step.failed in
-    let more = running_more (contents_of begun) ops outcomes (contents_of old) (has_failed old) kept.0 op outcome (contents_of new) fails step.contents still in
+    let more = running_more (all_batches begun) ops outcomes (all_batches old) (has_failed old) kept.0 op outcome (all_batches new) fails (batches_more _ _ step.progress.flight (durability_of old) (durability_of new) step.progress.progress) still in
     let next : IsNextPlace (has_failed old) fails c.loop-op.op-index c.loop-op.failed_at c.if-stood.failed_at = elim c.if-stood.branch [
       | then-stood+then-failed w ↦ record {
         falls = λ alive fell. w.failed_at-is ∙ ap Some (w.len.ensures ∙ kept.1);
@@ -59,9 +61,8 @@ loop-op-preserved g c =
     let held : has_failed old ≡ false → contents_of old ≡ after_batches m p.batches = holds_all m p c.args.ops.now c.loop-op.op-index c.loop-op.failed_at c.if-stood.failed_at (durability_of old) kept.4 op outcome flight (durability_of new) next holds in
     let wrote = accepted_same (contents_of old) (after_batches m p.batches) op (has_failed old) held outcome fails step.failed in
     let progress = subst (λ (l : List Batch). Progresses l (is_covering op outcome) flight (durability_of old) (durability_of new)) wrote does.progress in
-    let contents : fails ≡ false → contents_of new ≡ after_batches (contents_of old) (accepted_of (after_batches m p.batches) op outcome) = λ stands. step.contents stands ∙ ap (after_batches (contents_of old)) wrote in
     let is_given = given_same (contents_of old) (after_batches m p.batches) op (has_failed old) held does.given does.is_given in
-    let way = under_way_more m p c.args.ops.now c.loop-op.op-index c.loop-op.failed_at c.if-stood.failed_at (durability_of old) kept.4 op outcome flight (durability_of new) next here does.may_be progress holds contents still in
+    let way = under_way_more m p c.args.ops.now c.loop-op.op-index c.loop-op.failed_at c.if-stood.failed_at (durability_of old) kept.4 op outcome flight (durability_of new) next here does.may_be progress holds still in
     let now = (g.met.F.FileSystem g.world.𝓛 g.world.𝓜 g.world.𝓡 ((λ s allowed. allowed), (λ patient. patient), (λ solo. solo), (λ cuts. cuts))).now_counts new.file_system in
     let leaves = subst (λ (f : Path). LeavesAllowed f (durable_of new) (unsynced_of new) (directory_of new)) (step.folder ∙ kept.3) law.crash in
     let newest : (x : Directory) (earlier : List Directory) → moments_of new ≡ x ∷ earlier → LeavesAllowed (folder_of begun) (durable_of new) (unsynced_of new) x = λ x earlier moments.
@@ -75,8 +76,9 @@ loop-op-preserved g c =
     let allowed = allowed_more ops outcomes op outcome begun old new kept.5 does.given does.answers inside in
     let way_more = subst (λ (q : Progress). IsUnderWay m q c.args.ops.now c.if-stood.failed_at (durability_of new)) (sym (progress_more m first ops outcomes op outcome kept.0.len)) way in
     let next_here = subst (λ (k : ℕ). IsNextPlace (has_failed old) fails k c.loop-op.failed_at c.if-stood.failed_at) (sym done) next in
-    let answers = answers_more (contents_of begun) ops outcomes op outcome (has_failed begun) (has_failed old) fails c.loop-op.failed_at c.if-stood.failed_at kept.6 kept.7 step.failed next_here kept.12
-    (step.value (after_batches (contents_of begun) (accepted_batches (contents_of begun) ops outcomes)) (λ stands. sym (kept.0.contents stands))) in
+    let found = batches_after_all (all_batches begun) ops outcomes in
+    let answers = answers_more (all_batches begun) ops outcomes op outcome (has_failed begun) (has_failed old) fails c.loop-op.failed_at c.if-stood.failed_at kept.6 kept.7 step.failed next_here kept.12
+    (step.value (recovered_contents found) (known_in found) (λ stands. ap recovered_contents (sym (kept.0.batches stands))) (λ stands. ap known_in (sym (kept.0.batches stands)))) in
     let place = place_more ops outcomes op outcome (has_failed begun) (has_failed old) fails c.loop-op.failed_at c.if-stood.failed_at kept.6 kept.7 step.failed next_here in (
       rw (taken, c.in_ok-push.ensures.items) more,
       omega (arith, c.in_ok-push.ensures.len, kept.1),
@@ -98,7 +100,7 @@ loop-op-init g c =
     let e = c.args.engine.now in
     let law = c.an_engine_recovers_what_it_keeps.ensures in
     rw c.in_ok-outcomes.ensures.items (
-      running_begun (contents_of e) (has_failed e),
+      running_begun (all_batches e) (has_failed e),
       c.in_ok-outcomes.ensures.len,
       omega (arith, c.in_ok-outcomes.ensures.capacity),
       refl,
@@ -124,12 +126,12 @@ returns-clause-ok g c =
     let kept = c.loop-op.invariant in
     let whole : take c.loop-op.op-index ops ≡ ops = take_all c.loop-op.op-index ops (omega (arith, c.loop-op-test.false)) in
     let way = subst (λ (l : List Op). IsUnderWay (durable_of old) (progress_after_all (durable_of old) first l outcomes) ops failed_at (durability_of e)) whole kept.4 in
-    let running = subst (λ (l : List Op). IsRunning (contents_of old) l outcomes (contents_of e) (has_failed e)) whole kept.0 in
+    let running = subst (λ (l : List Op). IsRunning (all_batches old) l outcomes (all_batches e) (has_failed e)) whole kept.0 in
     record {
-      answers = subst (λ (l : List Op). AreAnswers (has_failed old) failed_at (contents_of old) l outcomes) whole kept.12;
+      answers = subst (λ (l : List Op). AreAnswers (has_failed old) failed_at (all_batches old) l outcomes) whole kept.12;
       failures = (kept.6, subst (λ (l : List Op). IsFailurePlace (has_failed old) l outcomes failed_at) whole kept.7);
       counted = kept.8;
-      contents = running.contents;
+      batches = running.batches;
       now = leaves_after (durable_of old) (unsynced_of old) ops outcomes failed_at (durability_of e) way (folder_of old) (directory_of e) (subst (λ (f : Path). LeavesAllowed f (durable_of e) (unsynced_of e) (directory_of e)) kept.3 kept.10.leaves);
       progress = durable_after (durable_of old) (unsynced_of old) ops outcomes failed_at (durability_of e) way;
     }

@@ -1,7 +1,7 @@
 use Rattle.std.proofs.Common.{All, ◌≡◌, ◌||◌, ◌≤◌, is_some, length, take, vec_len, vec_capacity}
 use Rattle.raft_script.specs.Durability.{AreAllowedInside, progress_after_all, progress_from}
 use Rattle.raft_log_engine.specs.Durability.{durability_of}
-use Rattle.raft_log_engine.specs.Engine.{begun_of, contents_of, directory_of, durable_of, folder_of, has_failed, refusals_of, unsynced_of}
+use Rattle.raft_log_engine.specs.Engine.{all_batches, begun_of, directory_of, durable_of, folder_of, has_failed, refusals_of, unsynced_of}
 use Rattle.raft_script.specs.Run.{AreAnswers, IsFailurePlace, IsUnasked, StorageRefusalsRoseBy, io_count}
 use Rattle.raft_script.proofs.RunAnswersLemmas.{Keeps}
 use Rattle.raft_script.proofs.DurabilityLemmas.{IsUnderWay}
@@ -10,7 +10,7 @@ use Rattle.raft_script.proofs.runs.run_watched.Given as goal
 
 abbrev pub invariant-loop-op : goal.invariant-loop-op
 invariant-loop-op g l =
-    IsRunning (contents_of l.initial.engine) (take l.op-index l.ops) l.outcomes.items (contents_of l.engine) (has_failed l.engine)
+    IsRunning (all_batches l.initial.engine) (take l.op-index l.ops) l.outcomes.items (all_batches l.engine) (has_failed l.engine)
     × (vec_len l.outcomes ≡ l.op-index)
     × (length l.ops ≤ vec_capacity l.outcomes)
     × (folder_of l.engine ≡ folder_of l.initial.engine)
@@ -22,4 +22,4 @@ invariant-loop-op g l =
     × (All IsUnasked l.ops → l.engine ≡ l.initial.engine)
     × Keeps (folder_of l.engine) (durability_of l.engine) (directory_of l.engine)
     × (begun_of l.engine ≡ begun_of l.initial.engine)
-    × AreAnswers (has_failed l.initial.engine) l.failed_at (contents_of l.initial.engine) (take l.op-index l.ops) l.outcomes.items
+    × AreAnswers (has_failed l.initial.engine) l.failed_at (all_batches l.initial.engine) (take l.op-index l.ops) l.outcomes.items

@@ -1,10 +1,11 @@
-use Rattle.std.proofs.Common.{◌≡◌, ◌∙◌, ◌∷◌, [], List, Some, ap, map, inl, inr, refl, rules, subst, sym, append-nil}
+use Rattle.std.proofs.Common.{◌≡◌, ◌∙◌, ◌∷◌, [], List, Option, Some, ap, map, inl, inr, refl, rules, subst, sym, append-nil}
+use Rattle.std.specs.Prelude.{unwrap_or}
 use Rattle.raft_records.specs.Contents.{Contents, first_index_of, last_index_of}
 use Rattle.raft_records.specs.Item.{Batch}
 use Rattle.raft_log_engine.specs.Durability.{Durability, durability_of}
 use Rattle.raft_log_engine.specs.Engine.{answer_now, answered_of, contents_of, directory_of, durable_of, folder_of, has_failed, is_known_in, moments_of, refusals_of, unsynced_of}
-use Rattle.raft_script.specs.Run.{IsUnbuiltGroup, Part, batch_of_acts, batches_of_parts, group_batches, pending_batches, written_batches}
-use Rattle.raft_log_engine.specs.Crash.{LeavesAllowed}
+use Rattle.raft_script.specs.Run.{IsUnbuiltGroup, Part, batch_of_acts, batches_of_parts, group_batches, items_of_acts}
+use Rattle.raft_log_engine.specs.Crash.{LeavesAllowed, pending_of, written_batch}
 use Rattle.raft_env.specs.Moments.{HoldsThroughout}
 use Rattle.raft_script.specs.declared.operation.Op.TheVariants.{Sync, Write}
 use Rattle.raft_script.proofs.DurabilityLemmas.{moments_of_batch, written_progress}
@@ -22,7 +23,7 @@ returns-in-Ok-clause-value g c =
     let write = c.write.ensures in
     let acts = c.in-Write.acts in
     let built : batch_of_acts acts.items ≡ Some c.in-Ok.batch.items = ap batch_of_acts (sym c.deref.ensures.value) ∙ c.in-Ok.ensures.value in
-    rw c.in-Write.is (λ m is. write_answered acts.items c.in-Ok.batch.items c.write.new.batch.items (folder_of c.args.engine.now) m c.args.engine.now c.write.new.self built is c.write.result write.ok write.failed write.cause)
+    rw c.in-Write.is (λ m known is same_known. write_answered acts.items c.in-Ok.batch.items c.write.new.batch.items (folder_of c.args.engine.now) m c.args.engine.now c.write.new.self built is c.write.result write.ok write.failed write.cause)
 
 pub returns-in-Ok-clause-progress : goal.returns-in-Ok-clause-progress
 returns-in-Ok-clause-progress g c =
@@ -33,14 +34,14 @@ returns-in-Ok-clause-progress g c =
     let n = c.write.new.self in
     let built : batch_of_acts acts.items ≡ Some items = ap batch_of_acts (sym c.deref.ensures.value) ∙ c.in-Ok.ensures.value in
     rw c.in-Write.is (record {
-      flight = pending_batches (contents_of e) (batch_of_acts acts.items);
+      flight = pending_of (contents_of e) (items_of_acts acts.items);
       may_be = refl;
-      given = written_batches (batch_of_acts acts.items);
+      given = written_batch (items_of_acts acts.items);
       is_given = refl;
       progress = written_progress (contents_of e) acts items c.in-Write.sync built c.write.result (durability_of e) (durability_of n) write.progress;
       answers = inr (record {
-        noted = write.answered ∙ ap (λ (given : List Batch). answer_now given n ∷ answered_of e) (ap written_batches (sym built));
-        moments = λ alive. in_flight e (Write acts c.in-Write.sync) (pending_batches (contents_of e) (batch_of_acts acts.items)) (moments_of n) (directory_of n) refl (moments_of_batch (folder_of e) (durable_of e) (contents_of e) (unsynced_of e) items (batch_of_acts acts.items) (moments_of e) (moments_of n) (directory_of n) built write.any_moment);
+        noted = write.answered ∙ ap (λ (given : List Batch). answer_now given n ∷ answered_of e) (ap (λ (b : Option Batch). written_batch (unwrap_or b [])) (sym built));
+        moments = λ alive. in_flight e (Write acts c.in-Write.sync) (pending_of (contents_of e) (items_of_acts acts.items)) (moments_of n) (directory_of n) refl (moments_of_batch (folder_of e) (durable_of e) (contents_of e) (unsynced_of e) items (batch_of_acts acts.items) (moments_of e) (moments_of n) (directory_of n) built write.any_moment);
         rests = λ failed. (write.unchanged failed).0.moments;
       });
     })
@@ -49,9 +50,9 @@ pub returns-in-Err-clause-progress : goal.returns-in-Err-clause-progress
 returns-in-Err-clause-progress g c =
     let acts = c.in-Write.acts in
     rw c.in-Write.is (record {
-      flight = pending_batches (contents_of c.args.engine.now) (batch_of_acts acts.items);
+      flight = pending_of (contents_of c.args.engine.now) (items_of_acts acts.items);
       may_be = refl;
-      given = written_batches (batch_of_acts acts.items);
+      given = written_batch (items_of_acts acts.items);
       is_given = refl;
       progress = inl (record { none = refl; covers_none = refl; failed = refl; base = refl; unsynced = refl });
       answers = inl (search rules, read_same c.args.engine.now);
@@ -85,7 +86,7 @@ pub returns-in-CompactTo-clause-value : goal.returns-in-CompactTo-clause-value
 returns-in-CompactTo-clause-value g c =
     let compaction = c.compact_to.ensures in
     let e = c.args.engine.now in
-    rw c.in-CompactTo.is (λ m same. compaction_answered m (contents_of e) c.in-CompactTo.group c.in-CompactTo.index (has_failed e) (folder_of e) (refusals_of e) (refusals_of c.compact_to.new.self) same c.compact_to.result compaction.value compaction.failed compaction.cause)
+    rw c.in-CompactTo.is (λ m known same same_known. compaction_answered m (contents_of e) c.in-CompactTo.group c.in-CompactTo.index (has_failed e) (folder_of e) (refusals_of e) (refusals_of c.compact_to.new.self) same c.compact_to.result compaction.value compaction.failed compaction.cause)
 
 pub returns-in-CompactTo-clause-progress : goal.returns-in-CompactTo-clause-progress
 returns-in-CompactTo-clause-progress g c =
@@ -98,7 +99,7 @@ pub returns-in-Entry-clause-value : goal.returns-in-Entry-clause-value
 returns-in-Entry-clause-value g c =
     let e = c.args.engine.now in
     let read = c.get_entry.ensures in
-    rw c.in-Entry.is (λ m same. entry_answered m (contents_of e) c.in-Entry.group c.in-Entry.index (has_failed e) (folder_of e) (refusals_of e) (refusals_of c.get_entry.new.self) same c.get_entry.result read.value read.failed read.cause)
+    rw c.in-Entry.is (λ m known same same_known. entry_answered m (contents_of e) c.in-Entry.group c.in-Entry.index (has_failed e) (folder_of e) (refusals_of e) (refusals_of c.get_entry.new.self) same c.get_entry.result read.value read.failed read.cause)
 
 pub returns-in-Entry-clause-failed : goal.returns-in-Entry-clause-failed
 returns-in-Entry-clause-failed g c =
@@ -119,13 +120,13 @@ pub returns-in-Entry-clause-progress : goal.returns-in-Entry-clause-progress
 returns-in-Entry-clause-progress g c = rw c.in-Entry.is (does_read c.args.engine.now c.get_entry.new.self _ _ tt c.get_entry.ensures.unchanged refl refl refl refl)
 
 pub returns-in-First-clause-value : goal.returns-in-First-clause-value
-returns-in-First-clause-value g c = rw c.in-First.is (λ m same stands. c.first_index.ensures.value stands ∙ ap (λ (x : Contents). first_index_of (x.entries c.in-First.group)) (sym (same stands)))
+returns-in-First-clause-value g c = rw c.in-First.is (λ m known same same_known stands. c.first_index.ensures.value stands ∙ ap (λ (x : Contents). first_index_of (x.entries c.in-First.group)) (sym (same stands)))
 
 pub returns-in-First-clause-progress : goal.returns-in-First-clause-progress
 returns-in-First-clause-progress g c = let e = c.args.engine.now in rw c.in-First.is (does_read e e _ _ tt (read_same e) refl refl refl refl)
 
 pub returns-in-Last-clause-value : goal.returns-in-Last-clause-value
-returns-in-Last-clause-value g c = rw c.in-Last.is (λ m same stands. c.last_index.ensures.value stands ∙ ap (λ (x : Contents). last_index_of (x.entries c.in-Last.group)) (sym (same stands)))
+returns-in-Last-clause-value g c = rw c.in-Last.is (λ m known same same_known stands. c.last_index.ensures.value stands ∙ ap (λ (x : Contents). last_index_of (x.entries c.in-Last.group)) (sym (same stands)))
 
 pub returns-in-Last-clause-progress : goal.returns-in-Last-clause-progress
 returns-in-Last-clause-progress g c = let e = c.args.engine.now in rw c.in-Last.is (does_read e e _ _ tt (read_same e) refl refl refl refl)
@@ -134,7 +135,7 @@ pub returns-in-Groups-clause-value : goal.returns-in-Groups-clause-value
 returns-in-Groups-clause-value g c =
     let e = c.args.engine.now in
     let told = c.raft_groups.ensures in
-    rw c.in-Groups.is (λ m same. groups_answered m (contents_of e) (has_failed e) same (is_known_in e) c.raft_groups.result told.value told.failed told.cause)
+    rw c.in-Groups.is (λ m known same same_known. groups_answered m (contents_of e) known (is_known_in e) (has_failed e) same same_known c.raft_groups.result told.value told.failed told.cause)
 
 pub returns-in-Groups-clause-failed : goal.returns-in-Groups-clause-failed
 returns-in-Groups-clause-failed g c =
@@ -160,7 +161,7 @@ pub returns-in-Ok-build_group-clause-value : goal.returns-in-Ok-build_group-clau
 returns-in-Ok-build_group-clause-value g c =
     let at = (goal.at.returns-in-Ok-build_group-clause-value g c).After-write_group in
     let write = c.write_group.ensures in
-    rw c.in-WriteGroup.is (λ m same. group_answered c.in-WriteGroup.parts c.deref_mut.result.now c.write_group.new.batches c.deref-in-Ok-build_group.result.now c.args.engine.now c.write_group.new.self (group_built g at) (group_flags g at) m same c.write_group.result write.ok write.failed write.cause)
+    rw c.in-WriteGroup.is (λ m known same same_known. group_answered c.in-WriteGroup.parts c.deref_mut.result.now c.write_group.new.batches c.deref-in-Ok-build_group.result.now c.args.engine.now c.write_group.new.self (group_built g at) (group_flags g at) m same c.write_group.result write.ok write.failed write.cause)
 
 pub returns-in-Ok-build_group-clause-failed : goal.returns-in-Ok-build_group-clause-failed
 returns-in-Ok-build_group-clause-failed g c =
@@ -183,7 +184,7 @@ returns-in-Ok-build_group-clause-progress g c =
 pub returns-in-Err-build_group-clause-value : goal.returns-in-Err-build_group-clause-value
 returns-in-Err-build_group-clause-value g c =
     let unbuilt = subst (λ (l : List Part). IsUnbuiltGroup l c.in-Err-build_group.fault) c.deref-in-WriteGroup.ensures.value c.in-Err-build_group.ensures.cause in
-    rw c.in-WriteGroup.is (λ m same. unbuilt_answered c.in-WriteGroup.parts.items c.in-Err-build_group.fault unbuilt)
+    rw c.in-WriteGroup.is (λ m known same same_known. unbuilt_answered c.in-WriteGroup.parts.items c.in-Err-build_group.fault unbuilt)
 
 pub returns-in-Err-build_group-clause-failed : goal.returns-in-Err-build_group-clause-failed
 returns-in-Err-build_group-clause-failed g c =

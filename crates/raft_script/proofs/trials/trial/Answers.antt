@@ -8,7 +8,7 @@ use Rattle.raft_memory.specs.Choice.{left_by}
 use Rattle.raft_log_engine.specs.Crash.{IsSound}
 use Rattle.raft_pipes.specs.Folder.{IsDetectableIn, log_path}
 use Rattle.raft_pipes.specs.declared.config.Config.{Config}
-use Rattle.raft_script.proofs.TrialLemmas.{choices_refused, image_restarted, opened_log, none_done, opened_outside, run_shown}
+use Rattle.raft_script.proofs.TrialLemmas.{choices_refused, image_restarted, opened_log, none_done, opened_outside, run_shown, true_of_none}
 use Rattle.raft_script.proofs.trials.trial.Goals as goal
 
 pub run_over-requires-send-F : goal.run_over-requires-send-F
@@ -32,7 +32,7 @@ returns-clause-value c =
     let none = c.new_files.ensures.files in
     let ran = c.in_ok-ran.ran in
     let leaves = c.in_ok-left.ensures.value in
-    let shown = run_shown dir before files c.args.ops.now ran.outcomes.items ran.failed_at (c.crash_leaves_contents.ensures.none dir before) none c.in_ok-ran.ensures.ok in
+    let shown = run_shown dir before files c.args.ops.now ran.outcomes.items ran.failed_at (true_of_none dir before (c.crash_leaves_a_prefix.ensures.none dir before) none).0 (true_of_none dir before (c.crash_leaves_contents.ensures.none dir before) none).1 c.in_ok-ran.ensures.ok in
     let m = memory_directory c.in_ok-left.left in
     let restarted = c.in_ok-left.ensures.ok in
     let sound : IsDetectableIn dir files left → IsSound dir files left = λ detectable. (shown.after.2 left leaves detectable).1 in
@@ -55,7 +55,10 @@ pub returns-in_err-left-clause-cause : goal.returns-in_err-left-clause-cause
 returns-in_err-left-clause-cause c =
     let files = memory_directory c.in_ok-ran.files in
     let ran = c.in_ok-ran.ran in
-    let shown = run_shown (string_bytes c.args.config.dir) (memory_directory c.new_files.result) files c.args.ops.now ran.outcomes.items ran.failed_at (c.crash_leaves_contents.ensures.none (string_bytes c.args.config.dir) (memory_directory c.new_files.result)) c.new_files.ensures.files c.in_ok-ran.ensures.ok in
+    let dir = string_bytes c.args.config.dir in
+    let before = memory_directory c.new_files.result in
+    let none = c.new_files.ensures.files in
+    let shown = run_shown dir before files c.args.ops.now ran.outcomes.items ran.failed_at (true_of_none dir before (c.crash_leaves_a_prefix.ensures.none dir before) none).0 (true_of_none dir before (c.crash_leaves_contents.ensures.none dir before) none).1 c.in_ok-ran.ensures.ok in
     let p = err_from_is_err_and c.from_residual-in_err-left.result c.from_residual-in_err-left.ensures.1 in
     rw (p.1, p.2) (choices_refused files c.args.choices.now c.in_err-left.field-0.0 c.in_err-left.ensures.consistent c.in_err-left.ensures.refused
     (λ not_left. record {

@@ -1,0 +1,55 @@
+-- What the calls of an opening keep of a log file.
+use Rattle.std.proofs.Common.{◌≡◌, ℕ, []}
+use Rattle.raft_base.specs.declared.pipe_log.FileId.{FileId}
+use Rattle.raft_env.specs.Directory.{Directory, IsOneOf, IsTruncating, Path, after_create, file_at}
+use Rattle.raft_files.specs.Scan.{end_of_scan}
+use Rattle.raft_files.specs.Writer.{HasChanged, IsOpening, IsSyncing, bytes_at}
+use Rattle.raft_files.specs.declared.format.LogFileFormat.{LogFileFormat}
+use Rattle.raft_files.proofs.RecordsCrashLemmas.{kept_beside, kept_created, kept_opening, kept_syncing, kept_truncating}
+use Rattle.raft_files.proofs.SealedLemmas.{sealed_beside}
+use Rattle.raft_premise.proofs.CompletedOpeningLemmas.{keeps_completed_created, keeps_completed_opening, keeps_completed_same, keeps_completed_syncing, keeps_completed_truncating}
+use Rattle.raft_pipes.specs.Open.{KeepsLog}
+use Rattle.raft_pipes.proofs.SealedFileLemmas.{sealed_created, sealed_opening, sealed_syncing, sealed_truncating}
+
+module _ (path : Path) (id : FileId) where
+  pub keeps_then : (a b n : Directory) → KeepsLog path id a b → KeepsLog path id b n → KeepsLog path id a n
+  keeps_then a b n first second = record {
+    recovers = λ batches synced kept. second.recovers batches synced (first.recovers batches synced kept);
+    sealed = λ batches kept. second.sealed batches (first.sealed batches kept);
+    completed = λ past. let later = second.completed past in let earlier = first.completed later.0 in (earlier.0, λ completed. later.1 (earlier.1 completed));
+  }
+
+  pub keeps_beside : (a n : Directory) → file_at n path ≡ file_at a path → KeepsLog path id a n
+  keeps_beside a n same = record {
+    recovers = λ batches synced. kept_beside path id batches synced a n same;
+    sealed = λ batches kept. sealed_beside path id batches a kept n same;
+    completed = keeps_completed_same path id a n same;
+  }
+
+  pub keeps_created : (a n : Directory) → IsOneOf a (after_create path a) n → KeepsLog path id a n
+  keeps_created a n made = record {
+    recovers = λ batches synced. kept_created path id batches synced a n made;
+    sealed = λ batches kept. sealed_created path id batches a n kept made;
+    completed = keeps_completed_created path id a n made;
+  }
+
+  pub keeps_syncing : (a n : Directory) → HasChanged path IsSyncing a n → KeepsLog path id a n
+  keeps_syncing a n change = record {
+    recovers = λ batches synced. kept_syncing path id batches synced a n change;
+    sealed = λ batches kept. sealed_syncing path id batches a n kept change;
+    completed = keeps_completed_syncing path id a n change;
+  }
+
+  pub keeps_truncating : (a n : Directory) (size : ℕ) → size ≡ end_of_scan id (bytes_at path a) → IsTruncating path size a n → KeepsLog path id a n
+  keeps_truncating a n size end change = record {
+    recovers = λ batches synced. kept_truncating path id batches synced a n size end change;
+    sealed = λ batches kept. sealed_truncating path id batches a n kept size end change;
+    completed = keeps_completed_truncating path id a n size end change;
+  }
+
+  pub keeps_opening : (a n : Directory) (format : LogFileFormat) → bytes_at path a ≡ [] → IsOpening path format a n → KeepsLog path id a n
+  keeps_opening a n format empty change = record {
+    recovers = λ batches synced. kept_opening path id batches synced a n format empty change;
+    sealed = λ batches kept. sealed_opening path id batches a n kept format empty change;
+    completed = keeps_completed_opening path id format a n empty change;
+  }
