@@ -15,6 +15,7 @@ pub mod OpenLemmas
 pub mod OpenMomentsLemmas
 pub mod OpenReplayLemmas
 pub mod PipeDoubtLemmas
+pub mod PipeQueueLemmas
 pub mod PipeResultLemmas
 pub mod PlacesLemmas
 pub mod QueueAppendLemmas
