@@ -3,6 +3,7 @@ pub mod BlocksLemmas
 pub mod CompletedLemmas
 pub mod FileListLemmas
 pub mod FolderLemmas
+pub mod FolderQueueLemmas
 pub mod ListedLemmas
 pub mod ListingLemmas
 pub mod FilesLemmas
