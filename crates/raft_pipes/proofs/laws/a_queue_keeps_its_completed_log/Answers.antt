@@ -1,7 +1,7 @@
 use Rattle.std.proofs.Common.{◌≡◌, ℕ, [], ◌∷◌, Some, ap, sym, ◌∙◌}
 use Rattle.raft_base.specs.declared.pipe_log.LogQueue.TheVariants.{Append}
 use Rattle.raft_base.specs.declared.pipe_log.Version.TheVariants.{V1}
-use Rattle.raft_env.specs.Directory.{CrashImage, Directory, IsRestarted, Path}
+use Rattle.raft_env.specs.Directory.{Directory, Path}
 use Rattle.raft_premise.proofs.CompletedLemmas.{completed_restarted}
 use Rattle.raft_premise.proofs.CompletedOpeningLemmas.{completed_reading_restarted}
 use Rattle.raft_pipes.specs.Folder.{HasNoLog}
