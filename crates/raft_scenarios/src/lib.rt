@@ -6,6 +6,8 @@ mod crashes;
 #[cfg(test)]
 mod entries;
 #[cfg(test)]
+mod folders;
+#[cfg(test)]
 mod opening;
 #[cfg(test)]
 mod program;
@@ -13,3 +15,5 @@ mod program;
 mod reads;
 #[cfg(test)]
 mod scans;
+#[cfg(test)]
+mod stored;
