@@ -374,12 +374,7 @@ const THREE: &[Stored] = &[LOG_1, LOG_2, LOG_3];
 const MAX_READS: u64 = 100;
 
 // With the nth read of an opening failing: whether there were so many.
-fn refuse_read(
-    rt: &impl Abort,
-    alloc: Global,
-    mode: RecoveryMode,
-    nth: u64,
-) -> Result<bool, Fail> {
+fn refuse_read(rt: &impl Abort, alloc: Global, mode: RecoveryMode, nth: u64) -> Result<bool, Fail> {
     let mut files = MemoryFileSystem::new(alloc);
     store_all(alloc, &mut files, THREE)?;
     files.refuse(FsCall::Read, nth, IoKind::Other)?;

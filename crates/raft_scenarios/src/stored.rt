@@ -24,11 +24,7 @@ pub(crate) fn joined(alloc: Global, parts: &[&[u8]]) -> Result<Vec<u8>, AllocErr
     Ok(bytes)
 }
 
-pub(crate) fn store<F: FileSystem>(
-    files: &mut F,
-    path: &str,
-    bytes: &[u8],
-) -> Result<(), FsFault> {
+pub(crate) fn store<F: FileSystem>(files: &mut F, path: &str, bytes: &[u8]) -> Result<(), FsFault> {
     let handle = files.create(path)?;
     let mut writer = files.new_writer(&handle)?;
     files.write(&mut writer, 0, bytes)
