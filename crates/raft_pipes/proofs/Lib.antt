@@ -18,14 +18,15 @@ pub mod OpenMomentsLemmas
 pub mod OpenReplayLemmas
 pub mod OpenedQueueLemmas
 pub mod PipeDoubtLemmas
+pub mod PipeNamesLemmas
 pub mod PipeResultLemmas
+pub mod PipeRotationLemmas
 pub mod PlacesLemmas
 pub mod QueueAppendLemmas
 pub mod QueueFilesLemmas
 pub mod QueueLemmas
 pub mod QueueRotationLemmas
 pub mod QueueSoundLemmas
-pub mod QueueWriterLemmas
 pub mod RestartLemmas
 pub mod RotationLemmas
 pub mod SealedFileLemmas
