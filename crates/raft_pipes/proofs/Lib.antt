@@ -19,6 +19,7 @@ pub mod OpenReplayLemmas
 pub mod OpenedQueueLemmas
 pub mod PipeDoubtLemmas
 pub mod PipeNamesLemmas
+pub mod PipeQueueLemmas
 pub mod PipeResultLemmas
 pub mod PipeRotationLemmas
 pub mod PlacesLemmas
