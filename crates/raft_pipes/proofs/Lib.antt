@@ -7,6 +7,7 @@ pub mod ListedLemmas
 pub mod ListingLemmas
 pub mod FilesLemmas
 pub mod KeepsLogLemmas
+pub mod KeepsQueueLemmas
 pub mod LogFileLemmas
 pub mod NamesInLemmas
 pub mod NamesLemmas
@@ -14,6 +15,7 @@ pub mod NumberedLemmas
 pub mod OpenLemmas
 pub mod OpenMomentsLemmas
 pub mod OpenReplayLemmas
+pub mod OpenedQueueLemmas
 pub mod PipeDoubtLemmas
 pub mod PipeResultLemmas
 pub mod PlacesLemmas
