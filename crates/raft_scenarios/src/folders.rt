@@ -1,11 +1,12 @@
 //! What an opening makes of a folder of several log files.
 
-use crate::stored::{HEADER_1, HEADER_2, HEADER_MOVED, Stored, is_stored, joined, store};
-use raft_env::{FileSystem, IoKind};
+use crate::stored::{
+    HEADER_1, HEADER_2, HEADER_MOVED, Stored, are_stored, found, settings_in, store_all,
+};
+use raft_env::FileSystem;
 use raft_log_engine::{Engine, RecoveryMode};
-use raft_memory::{FsCall, MemoryFileSystem};
-use raft_plans::{EMPTY, State, settings, state_of};
-use raft_records::Fault;
+use raft_memory::MemoryFileSystem;
+use raft_plans::{EMPTY, State, state_of};
 use std::alloc::Global;
 use std::process::Abort;
 use std::test::Fail;
@@ -15,13 +16,13 @@ const HEADER_ALIGNED: &[u8] =
     b"RAFT-LOG-FILE-HEADER-9986AB3E47F320B394C8E84916EB0ED5\0\0\0\0\0\0\0\x02\0\0\0\0\0\0\0\x10";
 
 // The records below were made by Python's struct and zlib: one put each, for the file of that number in version 2.
-const PUT_1: &[u8] =
+pub(crate) const PUT_1: &[u8] =
     b"\x00\x00\x00\x00\x00\x00\x1c\x00\x00\x00\x00\x00\x00\x00\x00\x10\x01\x01\x03\x01\x01\x61\x01\x01\xf9\x48\xbe\x2b";
 
-const PUT_2: &[u8] =
+pub(crate) const PUT_2: &[u8] =
     b"\x00\x00\x00\x00\x00\x00\x1c\x00\x00\x00\x00\x00\x00\x00\x00\x10\x01\x01\x03\x01\x01\x62\x01\x02\x19\xa7\xf1\xb0";
 
-const PUT_3: &[u8] =
+pub(crate) const PUT_3: &[u8] =
     b"\x00\x00\x00\x00\x00\x00\x1c\x00\x00\x00\x00\x00\x00\x00\x00\x10\x01\x02\x03\x01\x01\x63\x01\x03\x24\xe7\xdc\xf7";
 
 const PUT_4: &[u8] =
@@ -31,11 +32,11 @@ const PUT_5: &[u8] =
     b"\x00\x00\x00\x00\x00\x00\x1c\x00\x00\x00\x00\x00\x00\x00\x00\x10\x01\x01\x03\x01\x01\x61\x01\x05\xe4\x8c\xd3\x2c";
 
 /// The put of file 2, but for a bit of its value.
-const BROKEN_2: &[u8] =
+pub(crate) const BROKEN_2: &[u8] =
     b"\x00\x00\x00\x00\x00\x00\x1c\x00\x00\x00\x00\x00\x00\x00\x00\x10\x01\x01\x03\x01\x01\x62\x01\x03\x19\xa7\xf1\xb0";
 
 /// The same of file 3.
-const BROKEN_3: &[u8] =
+pub(crate) const BROKEN_3: &[u8] =
     b"\x00\x00\x00\x00\x00\x00\x1c\x00\x00\x00\x00\x00\x00\x00\x00\x10\x01\x02\x03\x01\x01\x63\x01\x02\x24\xe7\xdc\xf7";
 
 /// Two entries in file 2, of whose block a bit is broken.
@@ -47,11 +48,11 @@ const LZ4_3: &[u8] =
     b"\x00\x00\x00\x00\x00\x00\x23\x01\x00\x00\x00\x00\x00\x00\x00\x17\x78\x79\x7a\x67\xba\x8e\xeb\x01\x02\x03\x01\x01\x63\x01\x03\x24\xe7\xdc\xf7";
 
 /// Files 1, 2 and 3, one put each.
-const LOG_1: Stored = ("raft/0000000000000001.raftlog", &[HEADER_2, PUT_1]);
+pub(crate) const LOG_1: Stored = ("raft/0000000000000001.raftlog", &[HEADER_2, PUT_1]);
 
-const LOG_2: Stored = ("raft/0000000000000002.raftlog", &[HEADER_2, PUT_2]);
+pub(crate) const LOG_2: Stored = ("raft/0000000000000002.raftlog", &[HEADER_2, PUT_2]);
 
-const LOG_3: Stored = ("raft/0000000000000003.raftlog", &[HEADER_2, PUT_3]);
+pub(crate) const LOG_3: Stored = ("raft/0000000000000003.raftlog", &[HEADER_2, PUT_3]);
 
 const LOG_4: Stored = ("raft/0000000000000004.raftlog", &[HEADER_2, PUT_4]);
 
@@ -66,14 +67,14 @@ const BEGUN_2: Stored = ("raft/0000000000000002.raftlog", &[HEADER_1]);
 
 const BEGUN_3: Stored = ("raft/0000000000000003.raftlog", &[HEADER_1]);
 
-const ALL: State = State {
+pub(crate) const ALL: State = State {
     a: 1,
     b: 2,
     c: 3,
     ..EMPTY
 };
 
-const WITHOUT_2: State = State { b: 0, ..ALL };
+pub(crate) const WITHOUT_2: State = State { b: 0, ..ALL };
 
 const WITHOUT_3: State = State { c: 0, ..ALL };
 
@@ -266,47 +267,6 @@ const NAMES: [Case; 1] = [Case {
     any: Ok((ALL, &[])),
 }];
 
-// The bytes of a file are those of the row that changes it, or those that it had.
-fn wanted_of(alloc: Global, file: &Stored, changed: &[Stored]) -> Result<Vec<u8>, Fail> {
-    let (path, mut parts) = *file;
-    for (other, after) in changed {
-        if *other == path {
-            parts = *after;
-        }
-    }
-    Ok(joined(alloc, parts)?)
-}
-
-fn are_stored<F: FileSystem>(
-    alloc: Global,
-    files: &mut F,
-    stored: &[Stored],
-    changed: &[Stored],
-) -> Result<bool, Fail> {
-    let mut equal = true;
-    for file in stored {
-        let wanted = wanted_of(alloc, file, changed)?;
-        equal = is_stored(alloc, files, file.0, &wanted)? && equal;
-    }
-    Ok(equal)
-}
-
-fn store_all<F: FileSystem>(alloc: Global, files: &mut F, stored: &[Stored]) -> Result<(), Fail> {
-    files.make_dir("raft/more")?;
-    for (path, parts) in stored {
-        store(files, path, &joined(alloc, parts)?)?;
-    }
-    Ok(())
-}
-
-// What the next opening holds, in the tail mode.
-fn found<F: FileSystem + Drop>(alloc: Global, files: F) -> Result<State, Fail> {
-    match Engine::open_in_order(alloc, settings(alloc)?, files) {
-        Ok(mut engine) => Ok(state_of(&engine.image()?)),
-        Err(refused) => Err(refused.fault.into()),
-    }
-}
-
 // Whether an opening comes to what is wanted, and the next one to the same.
 fn holds<F: FileSystem + Drop>(
     alloc: Global,
@@ -317,15 +277,17 @@ fn holds<F: FileSystem + Drop>(
 ) -> Result<bool, Fail> {
     store_all(alloc, &mut files, stored)?;
     let count = files.list("raft")?.len();
-    let mut config = settings(alloc)?;
-    config.recovery_mode = mode;
-    match (Engine::open_in_order(alloc, config, files), wanted) {
+    match (
+        Engine::open_in_order(alloc, settings_in(alloc, mode)?, files),
+        wanted,
+    ) {
         (Ok(mut engine), Ok((state, changed))) => {
             let is_found = state_of(&engine.image()?) == *state;
             let mut files = engine.give_up();
             let is_left = are_stored(alloc, &mut files, stored, changed)?
                 && files.list("raft")?.len() == count;
-            Ok(is_found && is_left && found(alloc, files)? == *state)
+            let tail = RecoveryMode::TolerateTailCorruption;
+            Ok(is_found && is_left && found(alloc, files, tail)? == *state)
         }
         (Err(refused), Err(code)) => {
             let mut files = refused.file_system;
@@ -367,52 +329,4 @@ fn scan_keeps_contiguous_tail(rt: HostRuntime) -> Result<(), Fail> {
 #[test]
 fn long_and_reserved_names(rt: HostRuntime) -> Result<(), Fail> {
     are_opened(&rt, rt.alloc(), &NAMES)
-}
-
-const THREE: &[Stored] = &[LOG_1, LOG_2, LOG_3];
-
-const MAX_READS: u64 = 100;
-
-// With the nth read of an opening failing: whether there were so many.
-fn refuse_read(rt: &impl Abort, alloc: Global, mode: RecoveryMode, nth: u64) -> Result<bool, Fail> {
-    let mut files = MemoryFileSystem::new(alloc);
-    store_all(alloc, &mut files, THREE)?;
-    files.refuse(FsCall::Read, nth, IoKind::Other)?;
-    let mut config = settings(alloc)?;
-    config.recovery_mode = mode;
-    match Engine::open_in_order(alloc, config, files) {
-        Ok(_engine) => Ok(false),
-        Err(refused) => {
-            assert!(rt; is_io(&refused.fault), "{:?} at {nth}", refused.fault);
-            let mut files = refused.file_system;
-            assert!(rt; are_stored(alloc, &mut files, THREE, &[])?, "at {nth}");
-            assert_eq!(rt; found(alloc, files)?, ALL, "at {nth}");
-            Ok(true)
-        }
-    }
-}
-
-fn is_io(fault: &Fault) -> bool {
-    match fault {
-        Fault::Io(kind, _) => *kind == IoKind::Other,
-        _ => false,
-    }
-}
-
-#[test]
-fn refused_read_cuts_nothing(rt: HostRuntime) -> Result<(), Fail> {
-    let alloc = rt.alloc();
-    for mode in [
-        RecoveryMode::AbsoluteConsistency,
-        RecoveryMode::TolerateTailCorruption,
-        RecoveryMode::TolerateAnyCorruption,
-    ] {
-        let mut nth = 1;
-        while nth < MAX_READS && refuse_read(&rt, alloc, mode, nth)? {
-            nth += 1;
-        }
-        // Each of the three files is read.
-        assert!(rt; 3 < nth && nth < MAX_READS, "{nth} {mode:?}");
-    }
-    Ok(())
 }

@@ -14,6 +14,8 @@ mod program;
 #[cfg(test)]
 mod reads;
 #[cfg(test)]
+mod restarts;
+#[cfg(test)]
 mod scans;
 #[cfg(test)]
 mod stored;
