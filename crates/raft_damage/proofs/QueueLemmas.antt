@@ -29,7 +29,7 @@ module _ (p : PipeState) (folder : Path) (batches : List Batch) (synced : ℕ) (
   queue_whole completed past consistent choices whole = ∥∥₁_elim queue.files ∥∥₁_prop (λ writes.
       let last = last_kept-queue writes in
       ∥∥₁_map (completed (past (last_seq p, p.writer.path) last)) (λ d f is.
-          let left = left_by choices n in
-          let there : IsDetectable p.writer.path (last_file p) n left = log_whole p.writer.path (last_file p) d.format d.batches d.synced p.writer.written n d.log consistent choices whole in
-          subst (λ (g : ℕ × Path). IsDetectable g.1 (in_queue Append g.0) n left) (same_some (sym last ∙ is))
-          (subst (λ k. IsDetectable p.writer.path (in_queue k (last_seq p)) n left) queue.queue_is there)))
+      let left = left_by choices n in
+      let there : IsDetectable p.writer.path (last_file p) n left = log_whole p.writer.path (last_file p) d.format d.batches d.synced p.writer.written n d.log consistent choices whole in
+      subst (λ (g : ℕ × Path). IsDetectable g.1 (in_queue Append g.0) n left) (same_some (sym last ∙ is))
+      (subst (λ k. IsDetectable p.writer.path (in_queue k (last_seq p)) n left) queue.queue_is there)))

@@ -70,7 +70,7 @@ pub fn premise_can_be_met()
 {}
 
 /// The damage of a crash that leaves each file with all its bytes now or those of its last sync is
-/// detectable of a queue of whose log only writes failed, and no failed call brought a
+/// detectable of a queue of whose last file only writes failed, and no failed call brought a
 /// record (`detectable`). `raft_pipes::open` gives such a queue, and the pipe's calls
 /// keep it.
 pub fn damage_of_a_queue_is_detectable()
