@@ -2,11 +2,12 @@ pub mod ApartLemmas
 pub mod BlocksLemmas
 pub mod CompletedLemmas
 pub mod FileListLemmas
+pub mod FilesLemmas
 pub mod FolderLemmas
+pub mod KeepsLogLemmas
+pub mod KeepsQueueLemmas
 pub mod ListedLemmas
 pub mod ListingLemmas
-pub mod FilesLemmas
-pub mod KeepsLogLemmas
 pub mod LogFileLemmas
 pub mod NamesInLemmas
 pub mod NamesLemmas
@@ -14,7 +15,9 @@ pub mod NumberedLemmas
 pub mod OpenLemmas
 pub mod OpenMomentsLemmas
 pub mod OpenReplayLemmas
+pub mod OpenedQueueLemmas
 pub mod PipeDoubtLemmas
+pub mod PipeNamesLemmas
 pub mod PipeQueueLemmas
 pub mod PipeResultLemmas
 pub mod PlacesLemmas
