@@ -19,7 +19,7 @@ use Rattle.raft_log_engine.specs.Image.{IsImageOf}
 use Rattle.raft_log_engine.specs.declared.engine.image.Image.{Image}
 use Rattle.raft_log_engine.specs.Contents.{contents_at, recovered_contents}
 use Rattle.raft_pipes.specs.Completed.{ReadsCompletedRecordsIn}
-use Rattle.raft_pipes.specs.Folder.{HasNoLog, IsDetectableIn, log_path, readable_in}
+use Rattle.raft_pipes.specs.Folder.{HasNoLog, IsDetectableIn, readable_in}
 use Rattle.raft_script.specs.Durability.{LeavesAllowedAfter, Progress, progress_after_all, progress_from}
 use Rattle.raft_pipes.specs.Queue.{HasDamageIn, HasLeftDamage, IsOpenableIn}
 use Rattle.raft_script.specs.Run.{IsStorageOrMemory}
@@ -44,15 +44,18 @@ pub refused_after : (folder : Path) (m : Contents) (ops : List Op) (n : Director
 refused_after folder m ops n leaves =
     ([], refl, subst (λ (p : Progress). LeavesAllowedFrom p.covered folder m (p.batches ++ []) n) (sym (no_progress m (progress_from []) ops)) leaves)
 
+no_log : (folder : Path) (n : Directory) → n ≡ no_files → HasNoLog folder n
+no_log folder n is = λ q named. ap (λ (x : Directory). file_at x q) is ∙ get-empty _ q
+
 -- of a folder without files no failed call brought a record
 pub none_done : (folder : Path) (n : Directory) → (HasNoLog folder n → ReadsCompletedRecordsIn folder n) → n ≡ no_files → ReadsCompletedRecordsIn folder n
-none_done folder n done is = done (ap (λ (x : Directory). file_at x (log_path folder)) is ∙ get-empty _ (log_path folder))
+none_done folder n done is = done (no_log folder n is)
 
 -- what is true of a folder without a log is so where there are no files
 pub true_of_none : {P : Type 0} (folder : Path) (n : Directory) → (HasNoLog folder n → (HasFile n folder → ⊥) → P) → n ≡ no_files → P
 true_of_none folder n told is =
     let absent : (path : Path) → file_at n path ≡ None = λ path. ap (λ (x : Directory). file_at x path) is ∙ get-empty _ path in
-    told (absent _) (λ found. let clash = subst IsSome (absent folder) found in absurd cc)
+    told (no_log folder n is) (λ found. let clash = subst IsSome (absent folder) found in absurd cc)
 
 -- what a run shows that began with no files
 pub run_shown : (dir : Path) (before n : Directory) (ops : List Op) (outcomes : List Outcome) (failed_at : Option ℕ) → readable_in dir before ≡ [] → RecoversContents dir no_contents [] before
