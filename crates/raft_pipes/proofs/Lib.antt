@@ -2,11 +2,11 @@ pub mod ApartLemmas
 pub mod BlocksLemmas
 pub mod CompletedLemmas
 pub mod FileListLemmas
+pub mod FilesLemmas
 pub mod FolderLemmas
 pub mod FolderQueueLemmas
 pub mod ListedLemmas
 pub mod ListingLemmas
-pub mod FilesLemmas
 pub mod KeepsLogLemmas
 pub mod KeepsQueueLemmas
 pub mod LogFileLemmas
