@@ -5,10 +5,10 @@ pub mod FileListLemmas
 pub mod FilesLemmas
 pub mod FolderLemmas
 pub mod FolderQueueLemmas
-pub mod ListedLemmas
-pub mod ListingLemmas
 pub mod KeepsLogLemmas
 pub mod KeepsQueueLemmas
+pub mod ListedLemmas
+pub mod ListingLemmas
 pub mod LogFileLemmas
 pub mod NamesInLemmas
 pub mod NamesLemmas
@@ -32,6 +32,7 @@ pub mod RestartLemmas
 pub mod RotationLemmas
 pub mod SealedFileLemmas
 pub mod SettledFilesLemmas
+pub mod SettledQueueLemmas
 pub mod SingleLemmas
 pub mod StepsLemmas
 pub mod WrittenLemmas
