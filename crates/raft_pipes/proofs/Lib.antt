@@ -33,5 +33,6 @@ pub mod RotationLemmas
 pub mod SealedFileLemmas
 pub mod SettledFilesLemmas
 pub mod SingleLemmas
+pub mod SpanLemmas
 pub mod StepsLemmas
 pub mod WrittenLemmas
