@@ -34,5 +34,6 @@ pub mod SealedFileLemmas
 pub mod SettledFilesLemmas
 pub mod SettledQueueLemmas
 pub mod SingleLemmas
+pub mod SpanLemmas
 pub mod StepsLemmas
 pub mod WrittenLemmas
