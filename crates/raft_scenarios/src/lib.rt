@@ -12,6 +12,8 @@ mod opening;
 #[cfg(test)]
 mod program;
 #[cfg(test)]
+mod queues;
+#[cfg(test)]
 mod reads;
 #[cfg(test)]
 mod restarts;

@@ -12,8 +12,9 @@ use std::test::Fail;
 const MAX_CALLS: u64 = 100;
 
 /// So many calls at least change files: four of the opening (the folder, the file, its header and a sync), eleven
-/// writes of records, and four syncs.
-const MIN_CHANGES: u64 = 19;
+/// writes of records, four syncs, and four for each of three next files (a sync of the last one, the file, its header
+/// and a sync).
+const MIN_CHANGES: u64 = 31;
 
 // The trial found what may be found. After the stop each change fails, so that the engine fails at the first.
 fn holds(rt: &impl Abort, ops: &[Op], trial: &Trial) {
