@@ -59,7 +59,10 @@ fn refused_read_cuts_nothing(rt: HostRuntime) -> Result<(), Fail> {
             }
         }
         // Each of the three files is read.
-        assert!(rt; 3 <= met && met + 1 < MAX_CALLS, "{met} {mode:?}");
+        assert!(rt;
+            3 <= met && met.saturating_add(1) < MAX_CALLS,
+            "{met} {mode:?}"
+        );
     }
     Ok(())
 }
@@ -160,7 +163,7 @@ fn an_opening_may_stop_anywhere(rt: HostRuntime) -> Result<(), Fail> {
         // Each file is cut and synced, and one gets a header.
         assert!(rt; stop_each(&rt, rt.alloc(), left)? >= 7);
         for call in CALLS {
-            assert!(rt; refuse_each(&rt, rt.alloc(), call, left)? + 1 < MAX_CALLS);
+            assert!(rt; refuse_each(&rt, rt.alloc(), call, left)?.saturating_add(1) < MAX_CALLS);
         }
     }
     Ok(())
