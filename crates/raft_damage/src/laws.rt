@@ -12,9 +12,10 @@ ghost use Rattle.raft_env.specs.Outcomes.{File, is_touched};
 ghost use Rattle.raft_files.specs.Records.{HoldsRecords};
 ghost use Rattle.raft_premise.specs.Completed.{EndsInZeros, HasCompletedLog, HasCompletedRecords};
 ghost use Rattle.raft_damage.specs.DetectableDamage.{EachAddsOnlyItsRecord, IsBrokenFrom, IsReadAsBefore, IsTornAfter};
-ghost use Rattle.raft_files.specs.Writer.{WriterState};
-ghost use Rattle.raft_pipes.specs.Completed.{QueueHasCompletedLog};
+ghost use Rattle.raft_pipes.specs.Completed.{HasSimplePastIn, PipeHasCompletedLogIfSimple};
 ghost use Rattle.raft_pipes.specs.Folder.{IsDetectableIn};
+ghost use Rattle.raft_pipes.specs.Pipe.{HasQueue};
+ghost use Rattle.raft_pipes.specs.PipeState.{PipeState};
 ghost use Rattle.raft_memory.specs.declared.crash.Choice.{Choice};
 ghost use Rattle.raft_memory.specs.declared.crash.Choice.TheVariants as choice;
 ghost use Rattle.raft_files.specs.declared.format.LogFileFormat.{LogFileFormat};
@@ -69,12 +70,13 @@ pub fn premise_can_be_met()
 {}
 
 /// The damage of a crash that leaves each file with all its bytes now or those of its last sync is
-/// detectable of a queue of whose log only writes failed, and no failed call brought a
+/// detectable of a queue of whose last file only writes failed, and no failed call brought a
 /// record (`detectable`). `raft_pipes::open` gives such a queue, and the pipe's calls
 /// keep it.
 pub fn damage_of_a_queue_is_detectable()
-    ensures detectable { (w : WriterState) (version : Version) (folder : Path) (n : Directory)
-        → QueueHasCompletedLog w version folder n → AreConsistent n
+    ensures detectable { (p : PipeState) (folder : Path) (batches : List Batch) (synced : ℕ)
+        (n : Directory) → HasQueue p folder batches synced n → PipeHasCompletedLogIfSimple p n
+        → HasSimplePastIn folder n → AreConsistent n
         → (choices : List Choice) → AreWhole choices
         → ∥ IsDetectableIn folder n (left_by choices n) ∥₁ }
 {}

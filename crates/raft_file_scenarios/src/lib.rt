@@ -1,5 +1,5 @@
-//! Tests of files in memory and of log files over them, and a call of each law below the engine. Each is one loop over a
-//! table of cases.
+//! Tests of files in memory, of log files and queues over them, and a call of each law below the engine. Each is one loop
+//! over a table of cases.
 #![tactic(auto)]
 
 #[cfg(test)]
@@ -8,3 +8,5 @@ mod laws;
 mod log_files;
 #[cfg(test)]
 mod memory_files;
+#[cfg(test)]
+mod queues;

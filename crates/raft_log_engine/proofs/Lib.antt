@@ -17,3 +17,4 @@ pub mod ImageLemmas
 pub mod FetchLemmas
 pub mod ScanLemmas
 pub mod StandsLemmas
+pub mod RoomLemmas

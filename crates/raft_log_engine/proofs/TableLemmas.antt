@@ -1,13 +1,11 @@
 -- What tables hold, where blocks hold the bytes of their entries.
-use Rattle.std.proofs.Common.{◌≡◌, ℕ, true, List, [], ◌∷◌, ◌++◌, map, take, drop, Option, Some, None, is_some, refl, ap, sym, ◌∙◌}
+use Rattle.std.proofs.Common.{◌≡◌, ℕ, true, List, [], ◌∷◌, ◌++◌, map, Option, Some, None, is_some, ap, sym, ◌∙◌}
 use Rattle.std.proofs.Math.Path.{fun_ext}
 use Rattle.std.specs.List.{list_all}
 use Rattle.raft_base.specs.declared.pipe_log.FileId.{FileId}
 use Rattle.raft_env.specs.Directory.{Directory}
-use Rattle.raft_env.specs.declared.env.FileSystem.{Ghosts}
-use Rattle.raft_pipes.specs.Blocks.{HasBlocks}
-use Rattle.raft_pipes.specs.Written.{written_bytes}
-use Rattle.raft_pipes.specs.declared.pipe.SinglePipe.{SinglePipe}
+use Rattle.raft_pipes.specs.Blocks.{HasBlocks, blocks_now}
+use Rattle.raft_pipes.specs.PipeState.{PipeState}
 use Rattle.raft_records.specs.Contents.{Contents, after_batch}
 use Rattle.raft_records.specs.Item.{Batch}
 use Rattle.raft_records.specs.ItemBatch.{are_readable, is_readable_at}
@@ -20,6 +18,7 @@ use Rattle.raft_tables.specs.declared.memtables.MemTables.{MemTables}
 use Rattle.raft_tables.proofs.KnownLemmas.{known_in-push}
 use Rattle.raft_log_engine.specs.Contents.{StandFor, recovered_contents}
 use Rattle.raft_log_engine.proofs.ContentsLemmas.{recovered-push}
+use Rattle.raft_pipes.proofs.BlocksLemmas.{has_blocks_now}
 
 -- tables of no group hold what no batch leaves
 pub stand_none : (blocks : Blocks) (tables : Tables) → ((group : ℕ) → tables group ≡ None) → StandFor blocks tables []
@@ -44,10 +43,10 @@ stand_more blocks id items old new batches batch in_order readable is applies st
   readable = applies.places (is_readable_at blocks) readable stands.readable;
 }
 
--- blocks that hold what stands in a file of these bytes, and of a batch that isn't written yet these
-abbrev pub blocks_over : List ℕ → List ℕ → Blocks
-blocks_over bytes given None = given
-blocks_over bytes given (Some block) = take block.len (drop block.offset bytes)
+-- what stands in the blocks of a pipe now, and of a batch that isn't written yet these bytes
+abbrev pub blocks_over : PipeState → Directory → List ℕ → Blocks
+blocks_over p n given None = given
+blocks_over p n given (Some block) = blocks_now p n (Some block)
 
-pub has_blocks_over : {F H R W : Type 0} {g : Ghosts F H R W} (p : SinglePipe F H R W g) (n : Directory) (given : List ℕ) → HasBlocks p n (blocks_over (written_bytes p.writer n) given)
-has_blocks_over p n given = λ block id within. refl
+pub has_blocks_over : (p : PipeState) (n : Directory) (given : List ℕ) → HasBlocks p n (blocks_over p n given)
+has_blocks_over p n given = has_blocks_now p n

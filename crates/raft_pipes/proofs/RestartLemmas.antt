@@ -16,6 +16,7 @@ use Rattle.raft_files.proofs.RecordsCrashLemmas.{kept_none, kept_restarted}
 use Rattle.raft_files.specs.Sealed.{IsSealed}
 use Rattle.raft_pipes.specs.Numbered.{AreApart, AreNumbered, AreSingle, IsPathOf, IsRun, end_of_numbers, has_file, in_queue, kept_files, path_of, paths_of}
 use Rattle.raft_pipes.specs.QueueFiles.{AreReadToEnd, IsKeptQueue, KeepsFiles, QueueFile, batches_in, but_last, if_standing, places_of, queue_after_crash}
+use Rattle.raft_pipes.proofs.FolderQueueLemmas.{restarted_stands}
 use Rattle.raft_pipes.proofs.NumberedLemmas.{numbered_same, run_at, run_back, run_front}
 use Rattle.raft_pipes.proofs.PlacesLemmas.{found_is_path, found_stands, here_first, none_stands, paths_of-same}
 use Rattle.raft_pipes.proofs.SingleLemmas.{single_numbered}
@@ -50,13 +51,6 @@ module _ (queue : LogQueue) (n : Directory) (d : CrashImage) where
   batches_in-files_of (f ∷ files) = ap (λ bs. batches_after_crash f.1 (in_queue queue f.0) n d ++ bs) (batches_in-files_of files)
 
 module _ (folders : List Path) (queue : LogQueue) (n m : Directory) (d : CrashImage) (restarted : IsRestarted n d m) where
-  names_stay : (q : Path) → has_file m q ≡ has_file n q
-  names_stay q = ap is_some (restarted.each q) ∙ still (file_at n q)
-    where
-      still : (found : Option File) → is_some (option_map (λ _. synced_file (d q)) found) ≡ is_some found
-      still None = refl
-      still (Some file) = refl
-
   -- a file that is left and read to its end is sealed
   sealed_left : (path : Path) (id : FileId) → has_file n path ≡ true → is_read_to_end id (bytes_after_crash path n d) ≡ true → IsSealed path id (batches_after_crash path id n d) m
   sealed_left path id stands read = by_file (file_at n path) refl stands read
@@ -94,8 +88,8 @@ module _ (folders : List Path) (queue : LogQueue) (n m : Directory) (d : CrashIm
     record {
       files = record {
         apart = are;
-        numbered = subst (λ b. AreNumbered (paths_of folders queue m) first (places_of (files_of queue n d front) ++ if_standing b last.0 last.1)) (sym (names_stay last.1 ∙ stands))
-            (subst (λ fs. AreNumbered (paths_of folders queue m) first (fs ++ last ∷ [])) (sym (places_of-files_of queue n d front)) (numbered_same (paths_of folders queue n) (paths_of folders queue m) first (front ++ last ∷ []) (λ k within. paths_of-same folders queue n m names_stay k) numbered));
+        numbered = subst (λ b. AreNumbered (paths_of folders queue m) first (places_of (files_of queue n d front) ++ if_standing b last.0 last.1)) (sym (restarted_stands n m d restarted last.1 ∙ stands))
+            (subst (λ fs. AreNumbered (paths_of folders queue m) first (fs ++ last ∷ [])) (sym (places_of-files_of queue n d front)) (numbered_same (paths_of folders queue n) (paths_of folders queue m) first (front ++ last ∷ []) (λ k within. paths_of-same folders queue n m (restarted_stands n m d restarted) k) numbered));
         next = at ∙ ap (λ k. first + k) (sym long);
         fits = omega (arith, at, numbered.fits, length-append front (last ∷ []));
         path_is = found_is_path folders queue n last.0 last.1 [] here;
@@ -142,7 +136,7 @@ keeps_none folders queue are first path n fits is_path none =
       end = kept_none path (in_queue queue first) [] n (no_file n path gone);
     }
 
-one_fits : 1 < end_of_numbers
+pub one_fits : 1 < end_of_numbers
 unfolding end_of_numbers
 one_fits = omega arith
 
@@ -174,7 +168,7 @@ queue_restarted folder folders queue are n m d single restarted read = by_end (k
             [],
             record { seq = 1; path = path_of folder (in_queue queue 1); batches = [] },
             0,
-            keeps_none all queue are 1 (path_of folder (in_queue queue 1)) m one_fits (folder, here_first folder folders, refl) (λ k within. paths_of-same all queue n m (names_stay all queue n m d restarted) k ∙ none_stand k within),
+            keeps_none all queue are 1 (path_of folder (in_queue queue 1)) m one_fits (folder, here_first folder folders, refl) (λ k within. paths_of-same all queue n m (restarted_stands n m d restarted) k ∙ none_stand k within),
             refl,
             omega arith,
           )

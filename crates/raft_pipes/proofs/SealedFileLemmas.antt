@@ -18,7 +18,7 @@ use Rattle.raft_files.proofs.RecordsTruncationLemmas.{reading-cut}
 use Rattle.raft_files.proofs.ScanLemmas.{header_alone_is_read}
 use Rattle.raft_files.proofs.SealedLemmas.{sealed_closing}
 use Rattle.raft_pipes.specs.LogFile.{bytes_kept, format_in}
-use Rattle.raft_pipes.specs.Queue.{IsDurable}
+use Rattle.raft_pipes.specs.Files.{IsDurable}
 use Rattle.raft_pipes.proofs.OpenLemmas.{no_header_in_nothing, nothing_readable}
 use Rattle.raft_base.specs.declared.pipe_log.Version.TheVariants.{V1}
 

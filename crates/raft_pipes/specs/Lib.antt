@@ -12,6 +12,6 @@ pub mod Open
 pub mod Pipe
 pub mod Queue
 pub mod QueueFiles
-pub mod QueueWriter
+pub mod PipeState
 pub mod Rotation
 pub mod Written

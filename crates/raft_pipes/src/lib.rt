@@ -9,12 +9,10 @@ pub mod listing_laws;
 mod pipe;
 mod pipe_builder;
 pub mod queue_laws;
-mod queue_writer;
 mod replay;
 pub mod rotation;
 
 pub use config::{Config, RecoveryMode};
-pub use pipe::{AppendFault, SinglePipe};
+pub use pipe::{AppendFault, RotationFault, SinglePipe};
 pub use pipe_builder::open;
-pub use queue_writer::{QueueWriter, RotationFault};
 pub use replay::ReplayMachine;

@@ -4,8 +4,8 @@
 mod plans;
 mod states;
 
-pub use plans::{Answer, Change, Left, Plan, are_answers, choice_of, fault_of, ops_of};
+pub use plans::{Answer, Change, Left, Plan, are_answers, choice_of, choices_of, fault_of, ops_of};
 pub use states::{
-    EMPTY, OPERATIONS, State, after, count_below, first_refused, is_allowed, is_done, settings,
-    state_of, value_of,
+    EMPTY, MAX_FILES, OPERATIONS, State, after, count_below, first_refused, is_allowed, is_done,
+    settings, state_of, value_of,
 };

@@ -28,7 +28,8 @@ pub enum Plan {
     Groups,
 }
 
-/// What a crash is to leave of the log.
+/// What a crash is to leave of a log file.
+#[derive(Drop)]
 pub enum Left {
     All,
     Synced,
@@ -126,6 +127,15 @@ pub fn choice_of(alloc: Global, left: &Left) -> Result<Choice, AllocError> {
         Left::Torn(kept, fill) => Ok(Choice::Torn(*kept, *fill)),
         Left::Bytes(bytes) => Ok(Choice::Bytes(bytes.to_vec(alloc)?)),
     }
+}
+
+/// The same for each of so many files.
+pub fn choices_of(alloc: Global, left: &Left, files: usize) -> Result<Vec<Choice>, AllocError> {
+    let mut choices = Vec::new(alloc);
+    for _ in 0..files {
+        choices.push(choice_of(alloc, left)?)?;
+    }
+    Ok(choices)
 }
 
 /// The fault that an operation failed with.

@@ -244,6 +244,10 @@ pub fn is_allowed(
     }
 }
 
+/// No more log files than this come of the operations.
+pub const MAX_FILES: usize = 4;
+
+/// A log file is full once it has 1 KB.
 pub fn settings(alloc: Global) -> Result<Config, AllocError> {
     let mut config = Config::fresh(alloc);
     config.dir.push_str("raft")?;
@@ -251,8 +255,9 @@ pub fn settings(alloc: Global) -> Result<Config, AllocError> {
     Ok(config)
 }
 
-/// Operations on the four keys and the entries.
-pub const OPERATIONS: [Plan; 13] = [
+/// Operations on the four keys and the entries. With these settings they fill three files, and what is read of an entry
+/// last stands in one before.
+pub const OPERATIONS: [Plan; 15] = [
     Plan::Write(&[Change::Put(1, b"a", &[1])], true),
     Plan::Write(
         &[Change::Put(1, b"b", &[2; 40]), Change::Put(2, b"c", &[3])],
@@ -269,10 +274,15 @@ pub const OPERATIONS: [Plan; 13] = [
     Plan::Write(&[Change::Delete(2, b"c")], true),
     Plan::Write(&[Change::Put(2, b"c", &[6; 9])], false),
     Plan::Write(&[Change::Entries(3, 1, 4, b"x")], false),
+    Plan::Write(&[Change::Put(2, b"d", &[8; 900])], false),
     Plan::Write(
-        &[Change::Entries(3, 3, 5, b"y"), Change::Put(1, b"b", &[7])],
+        &[
+            Change::Entries(3, 3, 5, b"y"),
+            Change::Put(1, b"b", &[7; 900]),
+        ],
         true,
     ),
     Plan::CompactTo(3, 2),
+    Plan::Entry(3, 2),
     Plan::Write(&[Change::Clean(2), Change::Compact(3, 4)], false),
 ];

@@ -6,10 +6,18 @@ mod crashes;
 #[cfg(test)]
 mod entries;
 #[cfg(test)]
+mod folders;
+#[cfg(test)]
 mod opening;
 #[cfg(test)]
 mod program;
 #[cfg(test)]
+mod queues;
+#[cfg(test)]
 mod reads;
 #[cfg(test)]
+mod restarts;
+#[cfg(test)]
 mod scans;
+#[cfg(test)]
+mod stored;

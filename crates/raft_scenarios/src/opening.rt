@@ -1,27 +1,19 @@
 //! What an opening makes of a log file that can't be read to its end.
 
-use raft_env::{FileSystem, FsFault, Permission};
+use crate::stored::{HEADER_1, HEADER_2, HEADER_MOVED, is_stored, joined, store};
+use raft_env::FileSystem;
 use raft_log_engine::{Engine, RecoveryMode};
 use raft_memory::MemoryFileSystem;
 use raft_plans::settings;
 use raft_records::Fault;
-use std::alloc::{AllocError, Global};
+use std::alloc::Global;
 use std::test::Fail;
 
 const LOG: &str = "raft/0000000000000001.raftlog";
 
-const HEADER_1: &[u8] = b"RAFT-LOG-FILE-HEADER-9986AB3E47F320B394C8E84916EB0ED5\0\0\0\0\0\0\0\x01";
-
-const HEADER_2: &[u8] =
-    b"RAFT-LOG-FILE-HEADER-9986AB3E47F320B394C8E84916EB0ED5\0\0\0\0\0\0\0\x02\0\0\0\0\0\0\0\0";
-
 /// The header of version 2 without its last byte.
 const HEADER_CUT: &[u8] =
     b"RAFT-LOG-FILE-HEADER-9986AB3E47F320B394C8E84916EB0ED5\0\0\0\0\0\0\0\x02\0\0\0\0\0\0\0";
-
-/// The header of version 2 without its first byte.
-const HEADER_MOVED: &[u8] =
-    b"AFT-LOG-FILE-HEADER-9986AB3E47F320B394C8E84916EB0ED5\0\0\0\0\0\0\0\x02\0\0\0\0\0\0\0\0";
 
 // The records below were made by Python's struct and zlib, for file 1 in version 2.
 const PUT: &[u8] =
@@ -156,31 +148,6 @@ const CASES: [Case; 16] = [
     },
 ];
 
-fn joined(alloc: Global, parts: &[&[u8]]) -> Result<Vec<u8>, AllocError> {
-    let mut bytes = Vec::new(alloc);
-    for part in parts {
-        bytes.extend_from_slice(part)?;
-    }
-    Ok(bytes)
-}
-
-fn store<F: FileSystem>(files: &mut F, bytes: &[u8]) -> Result<(), FsFault> {
-    files.make_dir("raft")?;
-    let handle = files.create(LOG)?;
-    let mut writer = files.new_writer(&handle)?;
-    files.write(&mut writer, 0, bytes)
-}
-
-fn is_stored<F: FileSystem>(alloc: Global, files: &mut F, wanted: &[u8]) -> Result<bool, FsFault> {
-    let handle = files.open(LOG, Permission::ReadOnly)?;
-    let size = files.file_size(&handle)?;
-    let mut reader = files.new_reader(&handle)?;
-    let mut bytes = vec![in alloc; 0; wanted.len()]?;
-    let read = files.read(&mut reader, 0, &mut bytes);
-    files.end_reader(reader);
-    Ok(read? == size && bytes.as_slice() == wanted)
-}
-
 // The log is opened, asked for the put, and closed: whether the put is found where more than a header is kept.
 fn closed<F: FileSystem + Drop>(engine: Engine<F>, kept: &[u8]) -> Result<(bool, F), Fault> {
     let found = engine.get(1, b"k")?.is_some() == (kept.len() > HEADER_2.len());
@@ -190,18 +157,19 @@ fn closed<F: FileSystem + Drop>(engine: Engine<F>, kept: &[u8]) -> Result<(bool,
 
 fn holds<F: FileSystem + Drop>(alloc: Global, mut files: F, case: &Case) -> Result<bool, Fail> {
     let bytes = joined(alloc, case.log)?;
-    store(&mut files, &bytes)?;
+    files.make_dir("raft")?;
+    store(&mut files, LOG, &bytes)?;
     let mut config = settings(alloc)?;
     config.recovery_mode = case.mode;
     match (Engine::open_in_order(alloc, config, files), case.kept) {
         (Ok(engine), Ok(parts)) => {
             let kept = joined(alloc, parts)?;
             let (found, mut files) = closed(engine, &kept)?;
-            Ok(found && is_stored(alloc, &mut files, &kept)?)
+            Ok(found && is_stored(alloc, &mut files, LOG, &kept)?)
         }
         (Err(refused), Err(code)) => {
             let mut files = refused.file_system;
-            Ok(refused.fault.code() == code && is_stored(alloc, &mut files, &bytes)?)
+            Ok(refused.fault.code() == code && is_stored(alloc, &mut files, LOG, &bytes)?)
         }
         _ => Ok(false),
     }

@@ -28,6 +28,7 @@ module _ {F H R W : Type 0} {g : Ghosts F H R W} where
   opens_weaker P Q weaker answer.Done None none = absurd none
   opens_weaker P Q weaker (answer.Outcome outcome) new none = absurd none
   opens_weaker P Q weaker (answer.Range range) new none = absurd none
+  opens_weaker P Q weaker (answer.Span span) new none = absurd none
   opens_weaker P Q weaker (answer.Pairs result) new none = absurd none
   opens_weaker P Q weaker (answer.Fatal fault) new opened = tt
 

@@ -18,14 +18,15 @@ use Rattle.raft_base.specs.declared.errors.Fault.TheVariants as fault
 use Rattle.raft_base.specs.declared.errors.IoKind.{IoKind}
 use Rattle.std.specs.declared.alloc.Global.{Global}
 use Rattle.raft_log_engine.specs.Cause as engine
+use Rattle.raft_pipes.specs.PipeState.{PipeState}
 use Rattle.raft_pipes.specs.Queue.{IsRefusalIn}
 use Rattle.raft_log_engine.specs.Durability.{HasWritten}
-use Rattle.raft_log_engine.specs.Engine.{contents_of, has_failed, refusals_of}
+use Rattle.raft_log_engine.specs.Engine.{contents_of, has_failed, queue_of, refusals_of}
 use Rattle.raft_log_engine.specs.declared.engine.Engine.{Engine}
 use Rattle.raft_log_engine.specs.Contents.{recovered_contents}
 use Rattle.raft_log_engine.specs.Crash.{written_batch}
 use Rattle.raft_tables.specs.Known.{known_in}
-use Rattle.raft_script.specs.Run.{accepted_of, AreAnswers, AreSteady, FailsAt, IsFailing, IsFailurePlace, Refuses, StorageRefusalsRoseBy, batch_of_acts, batches_after, batches_after_all, io_count, io_in, is_io, IsAnswer, IsEngineRefusal, IsGetRefusal, IsSteadyBy, IsTextRefusal, IsUnbuilt, IsGiven, IsWritten, IsWriteRefusal, compaction_in, items_of_act, of_both}
+use Rattle.raft_script.specs.Run.{accepted_of, AreAnswers, AreSteady, FailsAt, IsFailing, IsFailurePlace, Refuses, StorageRefusalsRoseBy, batch_of_acts, batches_after, batches_after_all, io_count, io_in, is_io, IsAnswer, IsCompactRefusal, IsEngineRefusal, IsGetRefusal, IsOutOfNumbers, IsSteadyBy, IsTextRefusal, IsUnbuilt, IsGiven, IsWritten, IsWriteRefusal, compaction_in, items_of_act, of_both}
 use Rattle.raft_log_engine.specs.Reads.{IsEntryAnswer, IsEntryRefusalAt, IsGroupList, compact_count, entry_of}
 use Rattle.raft_script.specs.Entry.{IsTextOf, index_of}
 use Rattle.raft_script.specs.declared.text_entry.TextEntry.{TextEntry}
@@ -116,7 +117,7 @@ of_built P acts items built h = subst (λ (o : Option Batch). IsSomeAnd o P) (sy
 
 -- an engine's write of such a batch is answered as the operation
 module _ {F H R W : Type 0} {g : Ghosts F H R W} (acts : List Act) (items rest : Batch) (folder : Path) (m : Contents) (old new : Engine F H R W g) (built : batch_of_acts acts ≡ Some items) (same : has_failed old ≡ false → m ≡ contents_of old) where
-  pub write_answered : (result : Result ℕ Fault) → IfOk result (HasWritten items rest old new) → ((result ≡ Err fault.Failed) ↔ (has_failed old ≡ true)) → IfErr result (λ e. has_failed old ≡ false → engine.IsWriteRefusal folder (contents_of old) items (has_failed new) (refusals_of old) (refusals_of new) e) →
+  pub write_answered : (result : Result ℕ Fault) → IfOk result (HasWritten items rest old new) → ((result ≡ Err fault.Failed) ↔ (has_failed old ≡ true)) → IfErr result (λ e. has_failed old ≡ false → engine.IsWriteRefusal folder (queue_of new) (contents_of old) items (has_failed new) (refusals_of old) (refusals_of new) e) →
       MatchResult result (IsWritten m acts) (IsWriteRefusal m acts)
   write_answered (Ok len) written failed cause = elim (cases_Bool (has_failed old)) [
     | inl gone ↦ absurd (let clash = failed.1 gone in cc)
@@ -124,14 +125,17 @@ module _ {F H R W : Type 0} {g : Ghosts F H R W} (acts : List Act) (items rest :
   ]
   write_answered (Err e) written failed cause = elim (cases_Bool (has_failed old)) [
     | inl gone ↦ let is : e ≡ fault.Failed = same_err (Err e) refl (failed.1 gone) in subst (IsWriteRefusal m acts) (sym is) (subst IsSome (sym built) refl)
-    | inr stands ↦ by_fault e (subst (λ (c : Contents). engine.IsWriteRefusal folder c items (has_failed new) (refusals_of old) (refusals_of new) e) (sym (same stands)) (cause stands))
+    | inr stands ↦ by_fault e (subst (λ (c : Contents). engine.IsWriteRefusal folder (queue_of new) c items (has_failed new) (refusals_of old) (refusals_of new) e) (sym (same stands)) (cause stands))
   ]
     where
-      by_fault : (e : Fault) → engine.IsWriteRefusal folder m items (has_failed new) (refusals_of old) (refusals_of new) e → IsWriteRefusal m acts e
+      by_fault : (e : Fault) → engine.IsWriteRefusal folder (queue_of new) m items (has_failed new) (refusals_of old) (refusals_of new) e → IsWriteRefusal m acts e
       by_fault (fault.Io kind path) h = of_built (engine.IsWritable m) acts items built h.0
       by_fault fault.Memory h = tt
       by_fault fault.Gap h = of_built (λ batch. batch_refusal m batch ≡ Some fault.Gap) acts items built h.0
-      by_fault fault.Range h = inr (of_built (engine.IsOutOfRange m) acts items built h.0)
+      by_fault fault.Range h = inr (of_built (IsOutOfNumbers m) acts items built (elim h.0 [
+        | inl out ↦ inl out
+        | inr last ↦ inr last.0
+      ]))
       by_fault _ h = absurd h.1
 
 -- .. and so is a compaction
@@ -141,15 +145,21 @@ module _ (m n : Contents) (group index : ℕ) (failed : Bool) (folder : Path) (o
   engine_refusal fault.Memory h = tt
   engine_refusal _ h = absurd h
 
-  pub compaction_answered : (result : Result ℕ Fault) → IfOk result (λ count. count ≡ compact_count index (n.entries group)) → ((result ≡ Err fault.Failed) ↔ (failed ≡ true)) → IfErr result (λ e. failed ≡ false → IsRefusalIn folder old new e)
-      → MatchResult result (λ count. count ≡ compact_count index (m.entries group)) IsEngineRefusal
-  compaction_answered (Ok count) is fails cause = elim (cases_Bool failed) [
-    | inl gone ↦ absurd (let clash = fails.1 gone in cc)
+  append_refusal : (p : PipeState) (fails : Bool) (e : Fault) → engine.IsAppendRefusal folder p fails old new e → IsCompactRefusal e
+  append_refusal p fails (fault.Io kind path) h = tt
+  append_refusal p fails fault.Memory h = tt
+  append_refusal p fails fault.Range h = tt
+  append_refusal p fails _ h = absurd h
+
+  pub compaction_answered : (p : PipeState) (fails : Bool) (result : Result ℕ Fault) → IfOk result (λ count. count ≡ compact_count index (n.entries group)) → ((result ≡ Err fault.Failed) ↔ (failed ≡ true)) → IfErr result (λ e. failed ≡ false → engine.IsAppendRefusal folder p fails old new e)
+      → MatchResult result (λ count. count ≡ compact_count index (m.entries group)) IsCompactRefusal
+  compaction_answered p fails (Ok count) is told cause = elim (cases_Bool failed) [
+    | inl gone ↦ absurd (let clash = told.1 gone in cc)
     | inr stands ↦ is ∙ ap (λ (c : Contents). compact_count index (c.entries group)) (sym (same stands))
   ]
-  compaction_answered (Err e) is fails cause = elim (cases_Bool failed) [
-    | inl gone ↦ let e_is : e ≡ fault.Failed = same_err (Err e) refl (fails.1 gone) in subst IsEngineRefusal (sym e_is) tt
-    | inr stands ↦ engine_refusal e (cause stands)
+  compaction_answered p fails (Err e) is told cause = elim (cases_Bool failed) [
+    | inl gone ↦ let e_is : e ≡ fault.Failed = same_err (Err e) refl (told.1 gone) in subst IsCompactRefusal (sym e_is) tt
+    | inr stands ↦ append_refusal p fails e (cause stands)
   ]
 
   -- a read of an entry

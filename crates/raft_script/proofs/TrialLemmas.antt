@@ -1,6 +1,6 @@
 -- What a trial's crash leaves, and what its opening finds.
 use Rattle.std.proofs.Common.{◌≡◌, ◌⊎◌, ⊎_elim, inl, inr, ℕ, List, [], ◌∷◌, ◌++◌, Option, Some, None, refl, sym, ap, subst, ◌∙◌}
-use Rattle.std.specs.Prelude.{IsSome, IfOk, IfErr, Result, Ok, Err, is_some, option_map}
+use Rattle.std.specs.Prelude.{Bool, IsSome, IfOk, IfErr, Result, Ok, Err, is_some, option_map}
 use Rattle.std.specs.FinMap.{get-empty}
 use Rattle.raft_records.specs.Contents.{Contents, no_contents}
 use Rattle.raft_records.specs.Item.{Batch}
@@ -19,9 +19,17 @@ use Rattle.raft_log_engine.specs.Image.{IsImageOf}
 use Rattle.raft_log_engine.specs.declared.engine.image.Image.{Image}
 use Rattle.raft_log_engine.specs.Contents.{contents_at, recovered_contents}
 use Rattle.raft_pipes.specs.Completed.{ReadsCompletedRecordsIn}
-use Rattle.raft_pipes.specs.Folder.{HasNoLog, IsDetectableIn, log_path, readable_in}
+use Rattle.raft_base.specs.declared.pipe_log.FileId.{FileId}
+use Rattle.raft_base.specs.declared.pipe_log.LogQueue.{LogQueue}
+use Rattle.raft_base.specs.declared.pipe_log.LogQueue.TheVariants.{Append}
+use Rattle.raft_env.specs.Refusal.{Refusals}
+use Rattle.raft_files.specs.Writer.{bytes_at}
+use Rattle.raft_pipes.specs.Files.{EachFile, HasDamageAmong, IsOpenableFile, is_last}
+use Rattle.raft_pipes.specs.Folder.{HasNoLog, IsDetectableIn, log_files, readable_in}
+use Rattle.raft_pipes.specs.LogFile.{IsDamage, IsOpenableLog, tolerates_corruption}
+use Rattle.raft_pipes.specs.Numbered.{in_queue}
 use Rattle.raft_script.specs.Durability.{LeavesAllowedAfter, Progress, progress_after_all, progress_from}
-use Rattle.raft_pipes.specs.Queue.{HasDamageIn, HasLeftDamage, IsOpenableIn}
+use Rattle.raft_pipes.specs.Queue.{HasDamageIn, HasLeftDamage, IsOpenRefusal, IsOpenableIn}
 use Rattle.raft_script.specs.Run.{IsStorageOrMemory}
 use Rattle.raft_script.specs.Trial.{IsLeftRefusal, IsLogRefusal, RunsOver}
 use Rattle.raft_pipes.specs.declared.config.RecoveryMode.{RecoveryMode}
@@ -44,15 +52,18 @@ pub refused_after : (folder : Path) (m : Contents) (ops : List Op) (n : Director
 refused_after folder m ops n leaves =
     ([], refl, subst (λ (p : Progress). LeavesAllowedFrom p.covered folder m (p.batches ++ []) n) (sym (no_progress m (progress_from []) ops)) leaves)
 
+no_log : (folder : Path) (n : Directory) → n ≡ no_files → HasNoLog folder n
+no_log folder n is = λ q named. ap (λ (x : Directory). file_at x q) is ∙ get-empty _ q
+
 -- of a folder without files no failed call brought a record
 pub none_done : (folder : Path) (n : Directory) → (HasNoLog folder n → ReadsCompletedRecordsIn folder n) → n ≡ no_files → ReadsCompletedRecordsIn folder n
-none_done folder n done is = done (ap (λ (x : Directory). file_at x (log_path folder)) is ∙ get-empty _ (log_path folder))
+none_done folder n done is = done (no_log folder n is)
 
 -- what is true of a folder without a log is so where there are no files
 pub true_of_none : {P : Type 0} (folder : Path) (n : Directory) → (HasNoLog folder n → (HasFile n folder → ⊥) → P) → n ≡ no_files → P
 true_of_none folder n told is =
     let absent : (path : Path) → file_at n path ≡ None = λ path. ap (λ (x : Directory). file_at x path) is ∙ get-empty _ path in
-    told (absent _) (λ found. let clash = subst IsSome (absent folder) found in absurd cc)
+    told (no_log folder n is) (λ found. let clash = subst IsSome (absent folder) found in absurd cc)
 
 -- what a run shows that began with no files
 pub run_shown : (dir : Path) (before n : Directory) (ops : List Op) (outcomes : List Outcome) (failed_at : Option ℕ) → readable_in dir before ≡ [] → RecoversContents dir no_contents [] before
@@ -74,6 +85,29 @@ image_restarted dir folder n m d opened same found is = same_opened opened (ap (
 if_err : {T G : Type 0} (P Q : G → Type 0) (result : Result T G) → ((e : G) → P e → Q e) → IfErr result P → IfErr result Q
 if_err P Q (Ok x) f holds = tt
 if_err P Q (Err e) f holds = f e holds
+
+-- a log that can be opened isn't damaged
+openable_undamaged : (id : FileId) (is_tolerant : Bool) (bytes : List ℕ) (e : Fault) → IsOpenableLog id is_tolerant bytes → IsDamage id is_tolerant bytes e → ⊥
+openable_undamaged id is_tolerant bytes fault.Corruption openable damage = damage.1 openable
+openable_undamaged id is_tolerant bytes fault.Range openable damage = let clash = sym openable.places ∙ damage in absurd cc
+openable_undamaged id is_tolerant bytes fault.Lz4 openable damage = openable.unmarked damage.read damage.is_read damage.marked
+openable_undamaged id is_tolerant bytes _ openable damage = absurd damage
+
+-- .. nor are files of which each can be
+undamaged : (mode : RecoveryMode) (queue : LogQueue) (bytes : Path → List ℕ) (files : List (ℕ × Path)) (e : Fault) → EachFile (IsOpenableFile mode queue bytes) files → HasDamageAmong mode queue bytes files e → ⊥
+undamaged mode queue bytes [] e openable damage = absurd damage
+undamaged mode queue bytes (f ∷ files) e openable (inl damage) = openable_undamaged (in_queue queue f.0) (tolerates_corruption mode (is_last files)) (bytes f.1) e openable.0 damage
+undamaged mode queue bytes (f ∷ files) e openable (inr damage) = undamaged mode queue bytes files e openable.1 damage.1
+
+-- where the log can be opened, and no file stands in the folder's place, an opening fails by storage or for lack of memory
+pub refused_outside : (mode : RecoveryMode) (folder : Path) (n : Directory) (old new : Refusals) (e : Fault) → IsOpenRefusal mode folder n old new e → IsOpenableIn mode folder n → (HasFile n folder → ⊥) → IsStorageOrMemory e
+refused_outside mode folder n old new (fault.InvalidArgument text) refused openable none = absurd (none refused)
+refused_outside mode folder n old new fault.Corruption refused openable none = absurd (undamaged mode Append (λ path. bytes_at path n) (log_files folder n) fault.Corruption openable refused)
+refused_outside mode folder n old new fault.Range refused openable none = absurd (undamaged mode Append (λ path. bytes_at path n) (log_files folder n) fault.Range openable refused)
+refused_outside mode folder n old new fault.Lz4 refused openable none = absurd (undamaged mode Append (λ path. bytes_at path n) (log_files folder n) fault.Lz4 openable refused)
+refused_outside mode folder n old new (fault.Io kind text) refused openable none = tt
+refused_outside mode folder n old new fault.Memory refused openable none = tt
+refused_outside mode folder n old new _ refused openable none = absurd refused
 
 -- a file that stands after a crash stood before it
 restarted_stood : (path : Path) (n m : Directory) (d : CrashImage) → IsRestarted n d m → HasFile m path → HasFile n path

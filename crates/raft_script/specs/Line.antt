@@ -31,6 +31,7 @@ pub data Asked : Type 0 where
   Groups : Asked
   Range : (group : ℕ) → Asked
   Scan : (group : ℕ) → Asked
+  Span : Asked
   Sync : Asked
   Reopen : Asked
   Crash : (left : CrashChoice) → Asked
@@ -115,6 +116,11 @@ abbrev pub get_by : List (List ℕ) → Option Asked
 get_by (group ∷ key ∷ words) = option_and_then (λ g. if_last (Get g key) words) (number_in group)
 get_by _ = None
 
+-- span append
+abbrev pub span_by : List (List ℕ) → Option Asked
+span_by [] = None
+span_by (word ∷ words) = if bytes_eq word (codes "append") then if_last Span words else None
+
 -- torn KEPT FILL, where FILL is a byte
 abbrev pub torn_by : List (List ℕ) → Option CrashChoice
 torn_by (kept ∷ fill ∷ words) =
@@ -146,6 +152,7 @@ parsed_words (verb ∷ words) =
     else if bytes_eq verb (codes "groups") then if_last Groups words
     else if bytes_eq verb (codes "range") then option_map Range (number_by words)
     else if bytes_eq verb (codes "scan") then option_map Scan (number_by words)
+    else if bytes_eq verb (codes "span") then span_by words
     else if bytes_eq verb (codes "reopen") then if_last Reopen words
     else if bytes_eq verb (codes "crash") then option_map Crash (left_by words)
     else None
@@ -175,6 +182,7 @@ asked_of line.Nothing = Nothing
 asked_of (line.Call call) = asked_of_call call
 asked_of (line.Range group) = Range group
 asked_of (line.Scan group) = Scan group
+asked_of line.Span = Span
 asked_of line.Reopen = Reopen
 asked_of (line.Crash left) = Crash left
 

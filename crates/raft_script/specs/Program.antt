@@ -8,12 +8,12 @@ use Rattle.raft_env.specs.declared.env.FileSystem.{Ghosts}
 use Rattle.raft_log_engine.specs.declared.engine.Engine.{Engine}
 use Rattle.raft_log_engine.specs.Engine.{all_batches, begun_of, contents_of, directory_of, folder_of, has_failed, refusals_of}
 use Rattle.raft_log_engine.specs.Opening.{IsNewIn}
-use Rattle.raft_pipes.specs.Folder.{readable_after_crash}
+use Rattle.raft_pipes.specs.Folder.{IsSpanOf, readable_after_crash}
 use Rattle.raft_records.specs.Contents.{after_batches}
 use Rattle.raft_records.specs.Item.{Batch}
 use Rattle.raft_tables.specs.Listing.{IsListing, listed}
 use Rattle.raft_script.specs.Entry.{range_of}
-use Rattle.raft_script.specs.Line.{Asked, Nothing, Range, Reopen, Scan, Crash, asked_by_op}
+use Rattle.raft_script.specs.Line.{Asked, Nothing, Range, Reopen, Scan, Span, Crash, asked_by_op}
 use Rattle.raft_script.specs.Durability.{Does, IsAnswerOf}
 use Rattle.raft_script.specs.Run.{IsFailing, IsUnasked, Refuses, accepted_of}
 use Rattle.raft_script.specs.declared.answer.Answer.{Answer}
@@ -71,6 +71,8 @@ module _ {F H R W : Type 0} {g : Ghosts F H R W} where
   AnswersAsked (Range group) (answer.Range range) old new =
       (new ≡ old) × (has_failed old ≡ false → range ≡ range_of ((contents_of old).entries group))
   AnswersAsked (Scan group) (answer.Pairs result) old new = (new ≡ old) × IsScanAnswer old group result
+  AnswersAsked Span (answer.Span span) old new =
+      (new ≡ old) × (has_failed old ≡ false → IsSpanOf (folder_of old) (directory_of old) span)
   AnswersAsked asked (answer.Outcome outcome) old new = IsAnswered asked outcome old new
   AnswersAsked asked _ old new = ⊥
 

@@ -169,8 +169,13 @@ abbrev pub IsWritten : Contents → List Act → ℕ → Type 0
 IsWritten m acts len = (batch : Batch) × (batch_of_acts acts ≡ Some batch) × IsValidBatch m batch
     × (len ≡ record_len batch)
 
+-- the batch is out of range; or it could be written, and no number is left for a next log file
+abbrev pub IsOutOfNumbers : Contents → Batch → Type 0
+IsOutOfNumbers m batch = IsOutOfRange m batch ⊎ IsWritable m batch
+
 -- a write fails for an act that can't be done, too many bytes of entries, or lack of memory; its
--- batch since the contents don't take it, for its length, else by storage, or by a failed engine
+-- batch since the contents don't take it, for its length, for lack of a number, else by storage, or
+-- by a failed engine
 abbrev pub IsWriteRefusal : Contents → List Act → Fault → Type 0
 IsWriteRefusal m acts (fault.InvalidArgument _) = batch_of_acts acts ≡ None
 IsWriteRefusal m acts (fault.Io kind path) = IsSomeAnd (batch_of_acts acts) (IsWritable m)
@@ -178,15 +183,15 @@ IsWriteRefusal m acts fault.Memory = Unit {0}
 IsWriteRefusal m acts fault.Gap =
     IsSomeAnd (batch_of_acts acts) (λ batch. batch_refusal m batch ≡ Some fault.Gap)
 IsWriteRefusal m acts fault.Range =
-    IsOversized acts ⊎ IsSomeAnd (batch_of_acts acts) (IsOutOfRange m)
+    IsOversized acts ⊎ IsSomeAnd (batch_of_acts acts) (IsOutOfNumbers m)
 IsWriteRefusal m acts fault.Failed = IsSome (batch_of_acts acts)
 IsWriteRefusal m acts _ = ⊥
 
--- a batch of a group isn't accepted: since the contents don't take it, for its length, else by
--- storage or for lack of memory
+-- a batch of a group isn't accepted: since the contents don't take it, for its length, for lack of
+-- a number, else by storage or for lack of memory
 abbrev pub IsBatchRefusal : Contents → Batch → Fault → Type 0
 IsBatchRefusal m batch fault.Gap = batch_refusal m batch ≡ Some fault.Gap
-IsBatchRefusal m batch fault.Range = IsOutOfRange m batch
+IsBatchRefusal m batch fault.Range = IsOutOfNumbers m batch
 IsBatchRefusal m batch (fault.Io kind path) = IsWritable m batch
 IsBatchRefusal m batch fault.Memory = IsWritable m batch
 IsBatchRefusal m batch _ = ⊥
@@ -222,6 +227,11 @@ IsEngineRefusal fault.Memory = Unit {0}
 IsEngineRefusal fault.Failed = Unit {0}
 IsEngineRefusal _ = ⊥
 
+-- .. a compaction also since no number is left for a next log file
+abbrev pub IsCompactRefusal : Fault → Type 0
+IsCompactRefusal fault.Range = Unit {0}
+IsCompactRefusal e = IsEngineRefusal e
+
 abbrev pub IsGetRefusal : Fault → Type 0
 IsGetRefusal fault.Memory = Unit {0}
 IsGetRefusal fault.Failed = Unit {0}
@@ -243,7 +253,7 @@ IsAnswer failed m known (Get group key) (Value answer) =
     MatchResult answer (λ value. option_map (λ v. v.items) value
     ≡ m.value group key.items) IsGetRefusal
 IsAnswer failed m known (CompactTo group index) (Count answer) = MatchResult answer (λ count.
-    count ≡ compact_count index (m.entries group)) IsEngineRefusal
+    count ≡ compact_count index (m.entries group)) IsCompactRefusal
 IsAnswer failed m known (operation.Entry group index) (reply.Entry answer) =
     MatchResult answer (IsEntryAnswer IsTextOf index_of index (entry_of m group index))
     (IsTextRefusal index (entry_of m group index))

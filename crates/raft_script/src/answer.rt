@@ -16,6 +16,8 @@ pub(crate) enum Answer {
     Outcome(Outcome),
     /// The indexes of a group's first and last entries.
     Range(Option<(u64, u64)>),
+    /// The numbers of the first and of the last log file.
+    Span((u64, u64)),
     /// A group's keys and values, in the keys' order.
     Pairs(Result<Vec<KeyAndValue>, Fault>),
     /// The engine is gone, so that the program ends.
@@ -29,6 +31,7 @@ pub(crate) fn print<W: Write>(output: &mut W, answer: &Answer) -> io::Result<()>
         Answer::Outcome(outcome) => print_outcome(output, outcome),
         Answer::Range(None) => output.write_all(b"range none\n"),
         Answer::Range(Some((first, last))) => writeln!(output, "range {first} {last}"),
+        Answer::Span((first, last)) => writeln!(output, "span {first} {last}"),
         Answer::Pairs(Ok(pairs)) => print_pairs(output, pairs),
         Answer::Pairs(Err(fault)) | Answer::Fatal(fault) => print_fault(output, fault),
     }

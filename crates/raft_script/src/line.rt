@@ -1,7 +1,7 @@
 //! A line of the program's input.
 ghost use Rattle.std.specs.Prelude.{◌≡◌, ◌==◌, ◌≤◌, List, ℕ, length, None, Some, [], ◌∷◌, IfOk, MatchOption, option_map, option_and_then};
 ghost use Rattle.std.specs.List.{position_or_len};
-ghost use Rattle.raft_script.specs.Line.{Crash, BeginsWith, HasNoWord, if_last, parsed_words, asked_in, asked_of, asked_of_call, clean_by, compact_by, delete_by, entries_by, entry_by, get_by, is_word, left_by, number_by, number_in, numbers_by, put_by, sync_by, torn_by, words_by, words_in};
+ghost use Rattle.raft_script.specs.Line.{Crash, BeginsWith, HasNoWord, if_last, parsed_words, asked_in, asked_of, asked_of_call, clean_by, compact_by, delete_by, entries_by, entry_by, get_by, is_word, left_by, number_by, number_in, numbers_by, put_by, span_by, sync_by, torn_by, words_by, words_in};
 
 use crate::operation::{Act, Op};
 use crate::text_entry::entries_between;
@@ -17,6 +17,8 @@ pub(crate) enum Line<'a> {
     Range(u64),
     /// A group's keys and values.
     Scan(u64),
+    /// The numbers of the first and of the last log file.
+    Span,
     Reopen,
     Crash(CrashChoice),
 }
@@ -154,6 +156,8 @@ fn parse_asked<'a>(verb: &[u8], rest: &'a [u8]) -> Option<Line<'a>>
         Some(Line::Range(parse_last_number(rest)?))
     } else if verb == b"scan".as_slice() {
         Some(Line::Scan(parse_last_number(rest)?))
+    } else if verb == b"span".as_slice() {
+        parse_span(rest)
     } else if verb == b"reopen".as_slice() {
         ends(rest)?;
         Some(Line::Reopen)
@@ -161,6 +165,16 @@ fn parse_asked<'a>(verb: &[u8], rest: &'a [u8]) -> Option<Line<'a>>
         Some(Line::Crash(parse_left(rest)?))
     } else {
         None
+    }
+}
+
+// The queue whose files are asked for: there is one.
+fn parse_span<'a>(rest: &[u8]) -> Option<Line<'a>>
+    ensures value { option_map asked_of result ≡ option_and_then span_by (words_in rest.now) }
+{
+    match split_word(rest)? {
+        (b"append", []) => Some(Line::Span),
+        _ => None,
     }
 }
 

@@ -179,6 +179,11 @@ fn answer_asked(
             *engine = Some(opened);
             Ok(Answer::Pairs(pairs))
         }
+        Line::Span => {
+            let span = opened.file_span();
+            *engine = Some(opened);
+            Ok(Answer::Span(span))
+        }
         Line::Nothing => Ok(Answer::Nothing),
     }
 }

@@ -2,10 +2,10 @@
 
 use raft_env::{FileSystem, IoKind};
 use raft_log_engine::Engine;
-use raft_memory::{Choice, FsCall, MemoryFileSystem};
+use raft_memory::{FsCall, MemoryFileSystem};
 use raft_plans::{
-    EMPTY, OPERATIONS, State, after, count_below, fault_of, first_refused, is_allowed, is_done,
-    ops_of, settings, state_of, value_of,
+    EMPTY, Left, MAX_FILES, OPERATIONS, State, after, choices_of, count_below, fault_of,
+    first_refused, is_allowed, is_done, ops_of, settings, state_of, value_of,
 };
 use raft_records::Fault;
 use raft_script::{Op, Outcome, run};
@@ -98,6 +98,9 @@ fn tells(state: State, op: &Op, outcome: &Outcome) -> bool {
         (Op::CompactTo(group, index), Outcome::Count(Ok(count))) => {
             *count == count_below(state, *group, *index)
         }
+        (Op::Entry(3, index), Outcome::Entry(Ok(Some(entry)))) => {
+            state.words.get(*index as usize) == entry.word.first()
+        }
         _ => true,
     }
 }
@@ -166,8 +169,9 @@ fn refuse_one(
         shown.refused && call != FsCall::Allocate,
         "{call:?} {nth}"
     );
-    for choice in [Choice::All, Choice::Synced] {
-        let found = found_in(alloc, shown.files.crash(&[choice])?)?;
+    for left in [Left::All, Left::Synced, Left::Torn(7, 255)] {
+        let choices = choices_of(alloc, &left, MAX_FILES)?;
+        let found = found_in(alloc, shown.files.crash(&choices)?)?;
         assert!(rt;
             is_allowed(ops, &shown.outcomes, shown.failed_at, found),
             "{found:?} after {call:?} {nth}"

@@ -1,7 +1,9 @@
 //! Operations that are stopped at each call that changes files, and then crashed in many ways.
 
-use raft_memory::Choice;
-use raft_plans::{OPERATIONS, first_refused, is_allowed, is_done, ops_of, settings, state_of};
+use raft_plans::{
+    Left, MAX_FILES, OPERATIONS, choices_of, first_refused, is_allowed, is_done, ops_of, settings,
+    state_of,
+};
 use raft_script::{Op, Trial, trial};
 use std::alloc::Global;
 use std::process::Abort;
@@ -9,9 +11,10 @@ use std::test::Fail;
 
 const MAX_CALLS: u64 = 100;
 
-/// So many calls at least change files: four of the opening (the folder, the file, its header and a sync), ten writes
-/// of records, and four syncs.
-const MIN_CHANGES: u64 = 18;
+/// So many calls at least change files: four of the opening (the folder, the file, its header and a sync), eleven
+/// writes of records, four syncs, and four for each of three next files (a sync of the last one, the file, its header
+/// and a sync).
+const MIN_CHANGES: u64 = 31;
 
 // The trial found what may be found. After the stop each change fails, so that the engine fails at the first.
 fn holds(rt: &impl Abort, ops: &[Op], trial: &Trial) {
@@ -40,9 +43,10 @@ fn crash_at(
     alloc: Global,
     ops: &[Op],
     stop: u64,
-    choice: Choice,
+    left: &Left,
 ) -> Result<bool, Fail> {
-    let shown = trial(alloc, settings(alloc)?, ops, Some(stop), &[choice])?;
+    let choices = choices_of(alloc, left, MAX_FILES)?;
+    let shown = trial(alloc, settings(alloc)?, ops, Some(stop), &choices)?;
     holds(rt, ops, &shown);
     Ok(!stops_nothing(ops, &shown))
 }
@@ -52,11 +56,11 @@ fn every_stop_and_crash_finds_what_may_be_found(rt: HostRuntime) -> Result<(), F
     let alloc = rt.alloc();
     let ops = ops_of(alloc, &OPERATIONS)?;
     for stop in 1..MAX_CALLS {
-        let stopped = crash_at(&rt, alloc, &ops, stop, Choice::All)?;
-        crash_at(&rt, alloc, &ops, stop, Choice::Synced)?;
+        let stopped = crash_at(&rt, alloc, &ops, stop, &Left::All)?;
+        crash_at(&rt, alloc, &ops, stop, &Left::Synced)?;
         for kept in 0..65 {
-            crash_at(&rt, alloc, &ops, stop, Choice::Torn(kept, 0))?;
-            crash_at(&rt, alloc, &ops, stop, Choice::Torn(kept, 255))?;
+            crash_at(&rt, alloc, &ops, stop, &Left::Torn(kept, 0))?;
+            crash_at(&rt, alloc, &ops, stop, &Left::Torn(kept, 255))?;
         }
         if !stopped {
             assert!(rt; stop > MIN_CHANGES);

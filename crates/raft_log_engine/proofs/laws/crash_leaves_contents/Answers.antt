@@ -28,7 +28,7 @@ returns-clause-folder c = contents_folder
 -- the files as they are, without a crash, stand for what a crash could leave
 pub returns-clause-as_they_are : goal.returns-clause-as_they_are
 returns-clause-as_they_are c = λ folder m batches n keeps detectable.
-    let found = contents_found folder m batches n keeps (as_it_is n) detectable in
+    let found = contents_found folder m batches n keeps (as_it_is n) (c.crash_leaves_a_prefix.ensures.as_it_is n) detectable in
     (subst (λ bs. IsAllowedFrom 0 m batches (recovered_contents bs)) (c.crash_leaves_a_prefix.ensures.now folder n) found.0, c.crash_leaves_a_prefix.ensures.opens_now folder n found.1)
 
 -- a folder without a log keeps nothing

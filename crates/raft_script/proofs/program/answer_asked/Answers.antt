@@ -25,3 +25,9 @@ pairs_of-pairs-requires-send-F c = λ κs. search (sendable, memory_send) depth 
 
 pub pairs_of-pairs-requires-sync-F : goal.pairs_of-pairs-requires-sync-F
 pairs_of-pairs-requires-sync-F c = λ κs. search (sendable, memory_sync) depth 20
+
+pub file_span-span-requires-send-F : goal.file_span-span-requires-send-F
+file_span-span-requires-send-F c = λ κs. search (sendable, memory_send) depth 20
+
+pub file_span-span-requires-sync-F : goal.file_span-span-requires-sync-F
+file_span-span-requires-sync-F c = λ κs. search (sendable, memory_sync) depth 20

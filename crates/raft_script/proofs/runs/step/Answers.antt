@@ -3,7 +3,7 @@ use Rattle.std.specs.Prelude.{unwrap_or}
 use Rattle.raft_records.specs.Contents.{Contents, first_index_of, last_index_of}
 use Rattle.raft_records.specs.Item.{Batch}
 use Rattle.raft_log_engine.specs.Durability.{Durability, durability_of}
-use Rattle.raft_log_engine.specs.Engine.{answer_now, answered_of, contents_of, directory_of, durable_of, folder_of, has_failed, is_known_in, moments_of, refusals_of, unsynced_of}
+use Rattle.raft_log_engine.specs.Engine.{answer_now, answered_of, contents_of, directory_of, durable_of, folder_of, has_failed, is_known_in, moments_of, queue_of, refusals_of, unsynced_of}
 use Rattle.raft_script.specs.Run.{IsUnbuiltGroup, Part, batch_of_acts, batches_of_parts, group_batches, items_of_acts}
 use Rattle.raft_log_engine.specs.Crash.{LeavesAllowed, pending_of, written_batch}
 use Rattle.raft_env.specs.Moments.{HoldsThroughout}
@@ -86,7 +86,7 @@ pub returns-in-CompactTo-clause-value : goal.returns-in-CompactTo-clause-value
 returns-in-CompactTo-clause-value g c =
     let compaction = c.compact_to.ensures in
     let e = c.args.engine.now in
-    rw c.in-CompactTo.is (λ m known same same_known. compaction_answered m (contents_of e) c.in-CompactTo.group c.in-CompactTo.index (has_failed e) (folder_of e) (refusals_of e) (refusals_of c.compact_to.new.self) same c.compact_to.result compaction.value compaction.failed compaction.cause)
+    rw c.in-CompactTo.is (λ m known same same_known. compaction_answered m (contents_of e) c.in-CompactTo.group c.in-CompactTo.index (has_failed e) (folder_of e) (refusals_of e) (refusals_of c.compact_to.new.self) same (queue_of c.compact_to.new.self) (has_failed c.compact_to.new.self) c.compact_to.result compaction.value compaction.failed compaction.cause)
 
 pub returns-in-CompactTo-clause-progress : goal.returns-in-CompactTo-clause-progress
 returns-in-CompactTo-clause-progress g c =

@@ -6,7 +6,7 @@ use Rattle.std.specs.String.{string_bytes}
 use Rattle.raft_memory.specs.Memory.{memory_directory}
 use Rattle.raft_memory.specs.Choice.{left_by}
 use Rattle.raft_log_engine.specs.Crash.{IsSound}
-use Rattle.raft_pipes.specs.Folder.{IsDetectableIn, log_path}
+use Rattle.raft_pipes.specs.Folder.{IsDetectableIn}
 use Rattle.raft_pipes.specs.declared.config.Config.{Config}
 use Rattle.raft_script.proofs.TrialLemmas.{choices_refused, image_restarted, opened_log, none_done, opened_outside, run_shown, true_of_none}
 use Rattle.raft_script.proofs.trials.trial.Goals as goal
@@ -41,7 +41,7 @@ returns-clause-value c =
       runs = record { first = c.new_files.result; stop_is = search rules; none = none; added = c.in_ok-ran.ensures.any_moment.0; later = c.in_ok-ran.ensures.any_moment.1; ran = shown };
       left = leaves;
       detectable = λ none some whole. c.in_ok-ran.ensures.crash (none_done dir before (λ absent. (c.a_queue_keeps_its_completed_log.ensures.none dir before absent).0) c.new_files.ensures.files) none some
-          (λ file stands. record { only_writes = c.in_ok-left.ensures.only_writes (log_path dir) file stands })
+          (λ f last file stands. record { only_writes = c.in_ok-left.ensures.only_writes f.1 file stands })
           c.in_ok-left.ensures.consistent c.args.choices.now whole;
       found = image_restarted (string_bytes c.in_ok-again.again.dir) dir files (memory_directory c.in_ok-left.left) left c.open_image.result c.in_ok-again.ensures.value.dir (c.crash_leaves_contents.ensures.found dir files m left restarted) c.open_image.ensures.value;
       refused = opened_outside c.args.config.recovery_mode c.in_ok-again.again.recovery_mode dir (string_bytes c.in_ok-again.again.dir) files (memory_directory c.in_ok-left.left) left c.open_image.result (ap (λ (x : Config). x.recovery_mode) c.in_ok-again.ensures.value.others)

@@ -6,6 +6,9 @@ use Rattle.raft_log_engine.proofs.FaultLemmas.{failed_iff, refusal_not_failed}
 use Rattle.raft_log_engine.proofs.HeldLemmas.{completed_still, holds_still, left_still, pipe_refusal, queue_still, stands_for}
 use Rattle.raft_log_engine.proofs.engine.Engine.image.Goals as goal
 
+pub image_of-requires-clause-holds : goal.image_of-requires-clause-holds
+image_of-requires-clause-holds g c = λ lifetimes order. c.args.self.now.cached c.if-self.false
+
 pub image_of-requires-clause-readable : goal.image_of-requires-clause-readable
 image_of-requires-clause-readable g c = λ lifetimes order blocks has. (c.args.self.now.holds c.if-self.false blocks has).readable
 
@@ -30,7 +33,7 @@ returns-in-Ok-clause-value g c =
 pub returns-in-Err-clause-failed : goal.returns-in-Err-clause-failed
 returns-in-Err-clause-failed g c =
     let old = c.args.self.now in
-    failed_iff c.in-Err.fault (has_failed old) c.if-self.false (refusal_not_failed old.pipe.writer.path (refusals_of old) (g.F.FileSystem.refusals_of c.image_of.new.file_system) c.in-Err.fault c.in-Err.ensures.cause)
+    failed_iff c.in-Err.fault (has_failed old) c.if-self.false (refusal_not_failed old.pipe.folder (refusals_of old) (g.F.FileSystem.refusals_of c.image_of.new.file_system) c.in-Err.fault c.in-Err.ensures.cause)
 
 pub returns-in-Err-clause-cause : goal.returns-in-Err-clause-cause
 returns-in-Err-clause-cause g c = λ alive.

@@ -55,7 +55,7 @@ read-requires-clause-readable g c = λ lifetimes order.
 pub returns-in_err-bytes-clause-cause : goal.returns-in_err-bytes-clause-cause
 returns-in_err-bytes-clause-cause g c =
     let p = err_from_is_err_and c.from_residual.result c.from_residual.ensures.1 in
-    rw (p.1, p.2) (refusal_since c.args.pipe.now.writer.path (g.F.FileSystem.refusals_of c.args.file_system.now) (g.F.FileSystem.refusals_of c.loop-index.file_system) (g.F.FileSystem.refusals_of c.read.new.file_system) c.in_err-bytes.field-0.0 c.loop-index.invariant.refused c.in_err-bytes.ensures.cause)
+    rw (p.1, p.2) (refusal_since c.args.pipe.now.folder (g.F.FileSystem.refusals_of c.args.file_system.now) (g.F.FileSystem.refusals_of c.loop-index.file_system) (g.F.FileSystem.refusals_of c.read.new.file_system) c.in_err-bytes.field-0.0 c.loop-index.invariant.refused c.in_err-bytes.ensures.cause)
 
 pub loop-index-preserved : goal.loop-index-preserved
 loop-index-preserved g c =

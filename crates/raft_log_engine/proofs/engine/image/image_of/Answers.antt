@@ -30,7 +30,7 @@ group_image-requires-clause-readable g c = λ lifetimes order.
 pub returns-in_err-image-clause-cause : goal.returns-in_err-image-clause-cause
 returns-in_err-image-clause-cause g c =
     let p = err_from_is_err_and c.from_residual-in_err-image.result c.from_residual-in_err-image.ensures.1 in
-    rw (p.1, p.2) (refusal_since c.args.pipe.now.writer.path (g.F.FileSystem.refusals_of c.args.file_system.now) (g.F.FileSystem.refusals_of c.loop-group.file_system) (g.F.FileSystem.refusals_of c.group_image.new.file_system) c.in_err-image.field-0.0 c.loop-group.invariant.refused c.in_err-image.ensures.cause)
+    rw (p.1, p.2) (refusal_since c.args.pipe.now.folder (g.F.FileSystem.refusals_of c.args.file_system.now) (g.F.FileSystem.refusals_of c.loop-group.file_system) (g.F.FileSystem.refusals_of c.group_image.new.file_system) c.in_err-image.field-0.0 c.loop-group.invariant.refused c.in_err-image.ensures.cause)
 
 pub loop-group-preserved : goal.loop-group-preserved
 loop-group-preserved g c =
