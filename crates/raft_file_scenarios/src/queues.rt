@@ -1,5 +1,5 @@
 //! A queue of log files: where what is appended stands, what is read of it, and how it goes on to next files.
-ghost use Rattle.std.specs.Prelude.{OnOk};
+ghost use Rattle.std.specs.Prelude.{◌≡◌, OnOk};
 ghost use Rattle.raft_pipes.specs.Pipe.{IsPipeOf};
 
 use raft_env::{FileSystem, FsFault, Permission};
@@ -120,7 +120,9 @@ fn read<F: FileSystem>(
     fs: &mut F,
     pipe: &SinglePipe<F>,
     block: FileBlockHandle,
-) -> Result<Option<usize>, Fault> {
+) -> Result<Option<usize>, Fault>
+    ensures unchanged { F.directory fs.new ≡ F.directory fs.old }
+{
     let mut bytes = Vec::new(alloc);
     pipe.read_block_to(fs, Some(block), &mut bytes)?;
     if bytes.iter().all(|byte| *byte == 7) {
