@@ -3,6 +3,7 @@ pub mod Config
 pub mod Sanitized
 pub mod Completed
 pub mod FileList
+pub mod Dual
 pub mod Files
 pub mod Folder
 pub mod Listing

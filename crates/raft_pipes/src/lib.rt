@@ -2,6 +2,7 @@
 #![tactic(auto)]
 
 mod config;
+mod dual_pipes;
 pub mod file_list;
 mod files;
 pub mod laws;
@@ -13,6 +14,7 @@ mod replay;
 pub mod rotation;
 
 pub use config::{Config, RecoveryMode};
+pub use dual_pipes::DualPipes;
 pub use pipe::{AppendFault, RotationFault, SinglePipe};
 pub use pipe_builder::open;
 pub use replay::ReplayMachine;
