@@ -32,6 +32,7 @@ pub mod QueueRotationLemmas
 pub mod QueueSoundLemmas
 pub mod RestartLemmas
 pub mod RotationLemmas
+pub mod SameFilesLemmas
 pub mod SealedFileLemmas
 pub mod SettledFilesLemmas
 pub mod SettledQueueLemmas
