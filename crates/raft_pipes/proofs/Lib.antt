@@ -2,6 +2,7 @@ pub mod ApartLemmas
 pub mod BesideLemmas
 pub mod BlocksLemmas
 pub mod CompletedLemmas
+pub mod DualEndsLemmas
 pub mod DualLemmas
 pub mod FileListLemmas
 pub mod FilesLemmas
