@@ -4,6 +4,7 @@ pub mod BlocksLemmas
 pub mod CompletedLemmas
 pub mod DualEndsLemmas
 pub mod DualLemmas
+pub mod DualOpeningLemmas
 pub mod FileListLemmas
 pub mod FilesLemmas
 pub mod FolderLemmas
