@@ -1,4 +1,5 @@
 pub mod Blocks
+pub mod Builder
 pub mod Config
 pub mod Sanitized
 pub mod Completed

@@ -2,9 +2,11 @@
 #![tactic(auto)]
 
 mod config;
+mod dual_builder;
 mod dual_pipes;
 pub mod file_list;
 mod files;
+mod found_queue;
 pub mod laws;
 pub mod listing_laws;
 mod pipe;
@@ -14,6 +16,7 @@ mod replay;
 pub mod rotation;
 
 pub use config::{Config, RecoveryMode};
+pub use dual_builder::DualPipesBuilder;
 pub use dual_pipes::DualPipes;
 pub use pipe::{AppendFault, RotationFault, SinglePipe};
 pub use pipe_builder::open;
