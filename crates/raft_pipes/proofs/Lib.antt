@@ -1,6 +1,7 @@
 pub mod ApartLemmas
 pub mod BesideLemmas
 pub mod BlocksLemmas
+pub mod BuilderLemmas
 pub mod CompletedLemmas
 pub mod DualEndsLemmas
 pub mod DualLemmas
