@@ -18,6 +18,7 @@ pub mod rotation;
 pub use config::{Config, RecoveryMode};
 pub use dual_builder::DualPipesBuilder;
 pub use dual_pipes::DualPipes;
+pub use found_queue::Cut;
 pub use pipe::{AppendFault, RotationFault, SinglePipe};
 pub use pipe_builder::open;
 pub use replay::ReplayMachine;
