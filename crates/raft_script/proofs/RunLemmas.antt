@@ -130,6 +130,7 @@ module _ {F H R W : Type 0} {g : Ghosts F H R W} (acts : List Act) (items rest :
     where
       by_fault : (e : Fault) → engine.IsWriteRefusal folder (queue_of new) m items (has_failed new) (refusals_of old) (refusals_of new) e → IsWriteRefusal m acts e
       by_fault (fault.Io kind path) h = of_built (engine.IsWritable m) acts items built h.0
+      by_fault fault.TryAgain h = of_built (engine.IsWritable m) acts items built h.0
       by_fault fault.Memory h = tt
       by_fault fault.Gap h = of_built (λ batch. batch_refusal m batch ≡ Some fault.Gap) acts items built h.0
       by_fault fault.Range h = inr (of_built (IsOutOfNumbers m) acts items built (elim h.0 [
@@ -147,6 +148,7 @@ module _ (m n : Contents) (group index : ℕ) (failed : Bool) (folder : Path) (o
 
   append_refusal : (p : PipeState) (fails : Bool) (e : Fault) → engine.IsAppendRefusal folder p fails old new e → IsCompactRefusal e
   append_refusal p fails (fault.Io kind path) h = tt
+  append_refusal p fails fault.TryAgain h = tt
   append_refusal p fails fault.Memory h = tt
   append_refusal p fails fault.Range h = tt
   append_refusal p fails _ h = absurd h
@@ -182,6 +184,10 @@ module _ (m n : Contents) (group index : ℕ) (failed : Bool) (folder : Path) (o
   no_entry_io None kind path told = told
   no_entry_io (Some bytes) kind path told = told
 
+  no_entry_again : (bytes : Option (List ℕ)) → IsEntryRefusalAt IsTextOf index_of index bytes fault.TryAgain → ⊥
+  no_entry_again None told = told
+  no_entry_again (Some bytes) told = told
+
   -- .. that storage fails is counted
   pub entry_rose : (result : Result (Option TextEntry) Fault) → ((result ≡ Err fault.Failed) ↔ (failed ≡ true)) → IfErr result (λ e. failed ≡ false → IsEntryRefusalAt IsTextOf index_of index (entry_of n group index) e ⊎ IsRefusalIn folder old new e)
       → is_io result ≡ true → StorageRefusalsRose old new
@@ -191,6 +197,13 @@ module _ (m n : Contents) (group index : ℕ) (failed : Bool) (folder : Path) (o
     | inr stands ↦ elim (cause stands) [
       | inl told ↦ absurd (no_entry_io (entry_of n group index) kind path told)
       | inr refused ↦ refused.0
+    ]
+  ]
+  entry_rose (Err fault.TryAgain) fails cause io = elim (cases_Bool failed) [
+    | inl gone ↦ absurd (let clash = fails.1 gone in cc)
+    | inr stands ↦ elim (cause stands) [
+      | inl told ↦ absurd (no_entry_again (entry_of n group index) told)
+      | inr refused ↦ absurd refused
     ]
   ]
   entry_rose (Err _) fails cause io = absurd cc
