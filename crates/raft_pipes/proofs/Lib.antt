@@ -1,4 +1,5 @@
 pub mod ApartLemmas
+pub mod BesideLemmas
 pub mod BlocksLemmas
 pub mod CompletedLemmas
 pub mod FileListLemmas

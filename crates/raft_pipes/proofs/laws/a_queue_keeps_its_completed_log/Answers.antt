@@ -12,7 +12,7 @@ use Rattle.raft_pipes.proofs.laws.a_queue_keeps_its_completed_log.Goals as goal
 
 -- where no log stands there is no last one
 no_last : (folder : Path) (n : Directory) → HasNoLog folder n → (f : ℕ × Path) → last_kept (folder ∷ []) Append n ≡ Some f → ⊥
-no_last folder n none f last = let clash = sym (ap last_of (log_files-no_log folder n none)) ∙ last in cc
+no_last folder n none f last = let clash = sym (ap last_of (log_files-no_log Append folder n none)) ∙ last in cc
 
 pub returns-clause-restarted : goal.returns-clause-restarted
 returns-clause-restarted c = λ folder n m d restarted. (
