@@ -13,3 +13,4 @@ pub mod CountingLemmas
 pub mod StatsLemmas
 pub mod LeavingLemmas
 pub mod RecoveringLemmas
+pub mod JoiningLemmas
