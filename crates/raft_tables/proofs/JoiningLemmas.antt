@@ -7,7 +7,7 @@ use Rattle.std.proofs.lemmas.List.Sums.{sum_by-cons}
 use Rattle.std.proofs.lemmas.Map.Entries.{sum_by-insert_entry, sum_by-set_value}
 use Rattle.std.specs.BTreeMap as tree
 use Rattle.std.specs.List.{sum_by}
-use Rattle.std.specs.Map.{lookup, set_value, values_of}
+use Rattle.std.specs.Map.{set_value, values_of}
 use Rattle.std.specs.Option.{option_map, option_or}
 use Rattle.std.specs.Ordering.{nat_cmp}
 use Rattle.raft_base.specs.declared.pipe_log.LogQueue.TheVariants.{Rewrite}
@@ -16,10 +16,10 @@ use Rattle.raft_records.specs.declared.entry_index.EntryPlace.{EntryPlace}
 use Rattle.raft_tables.specs.Counters.{count_after}
 use Rattle.raft_tables.specs.Recovering.{IsJoined, IsTableJoined, rewritten_total}
 use Rattle.raft_tables.specs.Table.{StoredValue, TableView, rewritten_in, table_of}
-use Rattle.raft_tables.specs.Tables.{Tables, or_empty, tables_of, with_table}
+use Rattle.raft_tables.specs.Tables.{Tables, or_empty, with_table}
 use Rattle.raft_tables.specs.declared.memtable.MemTable.{MemTable}
 use Rattle.raft_tables.specs.declared.memtables.MemTables.{MemTables}
-use Rattle.raft_tables.proofs.TablesLemmas.{Groups, table_changed}
+use Rattle.raft_tables.proofs.TablesLemmas.{Groups}
 
 eq_from_test : (a b : ℕ) → (a == b) ≡ true → a ≡ b
 eq_from_test a b same = grind (arith, common_steps)
