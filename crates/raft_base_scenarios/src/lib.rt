@@ -10,6 +10,8 @@ mod names;
 #[cfg(test)]
 mod numbers;
 #[cfg(test)]
+mod openings;
+#[cfg(test)]
 mod reading;
 #[cfg(test)]
 mod settings;

@@ -149,7 +149,7 @@ fn a_table_keeps_each_key_once(rt: HostRuntime) -> Result<(), Fail> {
 }
 
 /// What is asked of the entries of a group.
-enum Ask {
+pub(crate) enum Ask {
     /// Entries with these indexes.
     Put(&'static [u64]),
     Compact(u64),
@@ -210,7 +210,12 @@ fn indexes_of(alloc: Global, id: FileId, indexes: &[u64]) -> Result<Vec<EntryInd
     Ok(entries)
 }
 
-fn item_of(alloc: Global, group: u64, id: FileId, ask: &Ask) -> Result<LogItem, AllocError> {
+pub(crate) fn item_of(
+    alloc: Global,
+    group: u64,
+    id: FileId,
+    ask: &Ask,
+) -> Result<LogItem, AllocError> {
     let content = match ask {
         Ask::Put(indexes) => LogItemContent::EntryIndexes(indexes_of(alloc, id, indexes)?),
         Ask::Compact(index) => LogItemContent::Command(Command::Compact { index: *index }),

@@ -18,3 +18,4 @@ pub mod FetchLemmas
 pub mod ScanLemmas
 pub mod StandsLemmas
 pub mod RoomLemmas
+pub mod AttemptLemmas

@@ -1,4 +1,5 @@
 pub mod Answered
+pub mod Attempt
 pub mod Batches
 pub mod Contents
 pub mod Crash

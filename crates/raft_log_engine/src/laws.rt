@@ -8,7 +8,7 @@ ghost use Rattle.raft_log_engine.specs.Crash.{IsAllowedFrom, IsSound, RecoversCo
 ghost use Rattle.raft_files.specs.Records.{as_it_is};
 ghost use Rattle.raft_log_engine.specs.Contents.{contents_at};
 ghost use Rattle.raft_log_engine.specs.Opening.{FoundCompletedRecords};
-ghost use Rattle.raft_log_engine.specs.Engine.{contents_of, directory_of, durable_of, folder_of, has_failed, moments_of, unsynced_of};
+ghost use Rattle.raft_log_engine.specs.Engine.{contents_of, directory_of, durable_of, folder_of, has_failed, moments_of, queue_of, settings_of, unsynced_of};
 ghost use Rattle.raft_env.specs.Consistent.{AreConsistent};
 ghost use Rattle.raft_memory.specs.Choice.{AreWhole, left_by};
 ghost use Rattle.raft_memory.specs.declared.crash.Choice.{Choice};
@@ -77,3 +77,9 @@ pub fn the_damage_of_an_engine_is_detectable<F: FileSystem>(engine: &Engine<F>)
 {
     raft_damage::laws::damage_of_a_queue_is_detectable();
 }
+
+/// A next log file that the queue of an engine that hasn't failed goes on to has the settings' version.
+pub fn new_files_have_the_settings_version<F: FileSystem>(engine: &Engine<F>)
+    ensures version { has_failed engine.now ≡ false → (queue_of engine.now).format_version
+        ≡ (settings_of engine.now).format_version }
+{}

@@ -18,8 +18,12 @@ enum Step {
     Get(&'static [u8], Result<Option<&'static [u8]>, u8>),
     /// The nth call of the sort fails.
     Refuse(FsCall, u64),
+    /// .. since there is no space.
+    RefuseForSpace(FsCall, u64),
     Stop(u64),
     Failed(bool),
+    /// The numbers of the first and the last log file.
+    Span(u64, u64),
 }
 
 /// How the files are taken from the engine.
@@ -56,7 +60,7 @@ const TWO: &[Step] = &[
 /// A value that fills the room, so that no zeros stand after it.
 const LONG: &[Step] = &[Step::Put(b"a", &[1; 1024]), Step::Write(false, Ok(1052))];
 
-const CASES: [Case; 9] = [
+const CASES: [Case; 12] = [
     Case {
         name: "an unsynced write may go",
         steps: TWO,
@@ -135,12 +139,57 @@ const CASES: [Case; 9] = [
             Step::Write(true, Err(3)),
             Step::Failed(false),
             Step::Get(b"a", Ok(None)),
+            Step::Span(1, 1),
             Step::Write(true, Ok(28)),
             Step::Get(b"a", Ok(Some(&[1]))),
         ],
         end: End::Reopen,
         left: Some(Left::Synced),
         found: FIRST,
+    },
+    Case {
+        name: "a write without space goes to the next file",
+        steps: &[
+            Step::RefuseForSpace(FsCall::Write, 1),
+            Step::Put(b"a", &[1]),
+            Step::Write(true, Ok(28)),
+            Step::Span(1, 2),
+            Step::Get(b"a", Ok(Some(&[1]))),
+        ],
+        end: End::Reopen,
+        left: Some(Left::Synced),
+        found: FIRST,
+    },
+    // The second write is the header of file 2.
+    Case {
+        name: "two attempts without space are answered as such",
+        steps: &[
+            Step::RefuseForSpace(FsCall::Write, 1),
+            Step::RefuseForSpace(FsCall::Write, 3),
+            Step::Put(b"a", &[1]),
+            Step::Write(true, Err(4)),
+            Step::Failed(false),
+            Step::Span(1, 3),
+            Step::Get(b"a", Ok(None)),
+            Step::Write(true, Ok(28)),
+            Step::Get(b"a", Ok(Some(&[1]))),
+        ],
+        end: End::Reopen,
+        left: Some(Left::Synced),
+        found: FIRST,
+    },
+    Case {
+        name: "no space for the next file fails the engine",
+        steps: &[
+            Step::RefuseForSpace(FsCall::Write, 1),
+            Step::RefuseForSpace(FsCall::Write, 2),
+            Step::Put(b"a", &[1]),
+            Step::Write(true, Err(3)),
+            Step::Failed(true),
+        ],
+        end: End::GiveUp,
+        left: Some(Left::Synced),
+        found: EMPTY,
     },
 ];
 
@@ -189,6 +238,7 @@ fn is_answered<F: FileSystem>(engine: &mut Engine<F>, batch: &mut LogBatch, step
         Step::Sync(wanted) => syncs(engine, wanted),
         Step::Get(key, wanted) => gets(engine, key, wanted),
         Step::Failed(wanted) => engine.failed() == *wanted,
+        Step::Span(first, last) => engine.file_span() == (*first, *last),
         _ => false,
     }
 }
@@ -206,6 +256,7 @@ fn holds(
             Ok(true)
         }
         Step::Refuse(call, nth) => Ok(engine.refuse(*call, *nth, IoKind::Other).is_ok()),
+        Step::RefuseForSpace(call, nth) => Ok(engine.refuse(*call, *nth, IoKind::NoSpace).is_ok()),
         Step::Stop(nth) => {
             engine.stop_at(*nth);
             Ok(true)

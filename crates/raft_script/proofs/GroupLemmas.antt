@@ -109,6 +109,7 @@ batch_refusal_of folder p m batch old new fault.Range h = elim h.0 [
   | inr last ↦ inr last.0
 ]
 batch_refusal_of folder p m batch old new (fault.Io kind path) h = h.0
+batch_refusal_of folder p m batch old new fault.TryAgain h = h.0
 batch_refusal_of folder p m batch old new fault.Memory h = h.0
 batch_refusal_of folder p m batch old new _ h = absurd h.1
 
@@ -122,6 +123,7 @@ batch_answers folder p old new m (b ∷ batches) (Err e ∷ answers) are = (batc
 -- storage's count rose by as many as it refused
 refused_rose : (folder : Path) (p : PipeState) (m : Contents) (batch : Batch) (old new : Refusals) (e : Fault) → engine.IsWriteRefusal folder p m batch false old new e → is_io {T = ℕ} (Err e) ≡ true → StorageRefusalsRose old new
 refused_rose folder p m batch old new (fault.Io kind path) h io = h.1.0
+refused_rose folder p m batch old new fault.TryAgain h io = let twice = h.1 in omega (arith, twice)
 refused_rose folder p m batch old new _ h io = absurd (let clash = io in cc)
 
 more_rose : (io : Bool) (n : ℕ) (old mid new : Refusals) → NoFewer old mid → (io ≡ true → StorageRefusalsRose old mid) → StorageRefusalsRoseBy n mid new → StorageRefusalsRoseBy ((0 + cond io 1 0) + n) old new
@@ -209,6 +211,7 @@ module _ {F H R W : Type 0} {g : Ghosts F H R W} (parts : Vec Part Global) (view
   pub group_refuses : (result : Result (Vec (Result ℕ Fault) Global) Fault) → IsOk result → IsCause result → NoFewer (refusals_of old) (refusals_of new) → Refuses (Sizes result) (refusals_of old) (refusals_of new)
   group_refuses (Ok answers) ok cause counts = (counts, batches_rose (folder_of old) (queue_of new) (refusals_of old) (refusals_of new) (contents_of old) batches answers.items ok.answered)
   group_refuses (Err (fault.Io kind path)) ok cause counts = (counts, λ io. cause.3.0)
+  group_refuses (Err fault.TryAgain) ok cause counts = absurd cause.2
   group_refuses (Err _) ok cause counts = (counts, λ io. absurd (let clash = io in cc))
 
   abbrev IsProgress : List Batch → Result (Vec (Result ℕ Fault) Global) Fault → Type 0

@@ -127,7 +127,7 @@ module _ {F H R W : Type 0} {g : Ghosts F H R W} (old new : Engine F H R W g) (g
 
 -- an engine that isn't asked only read
 pub read_same : {F H R W : Type 0} {g : Ghosts F H R W} (e : Engine F H R W g) → HasOnlyRead e e
-read_same e = record { files = refl; moments = refl; refusals = (omega arith, omega arith); folder = refl; state = refl; answered = refl; begun = refl }
+read_same e = record { files = refl; moments = refl; refusals = (omega arith, omega arith); folder = refl; state = refl; answered = refl; begun = refl; settings = refl; queue = refl }
 
 -- one operation more
 module _ {F H R W : Type 0} {g : Ghosts F H R W} (ops : List Op) (outcomes : List Outcome) (op : Op) (outcome : Outcome) (e old new : Engine F H R W g) (a : AreAllowedInside ops outcomes e old) (given : List Batch) where

@@ -1,6 +1,6 @@
 -- Operations under way: the batch of acts, and what the operations so far leave.
 use Rattle.std.proofs.Common.{◌≡◌, ℕ, zero, suc, ◌+◌, ◌<◌, ◌≤◌, Bool, true, false, cond, inl, inr, ⊎_elim, List, [], ◌∷◌, ◌++◌, length, length-append, length-drop, take, drop, drop-cons, get_or, Option, Some, None, refl, sym, ◌∙◌, ap, subst, append_assoc, arith}
-use Rattle.std.specs.Prelude.{◌^◌, ◌⊎◌, ◌||◌, ◌↔◌, if◌then◌else◌, IfErr, IfOk, IsSome, IsSomeAnd, MatchResult, Result, Ok, Err, String, Vec, is_some, option_map}
+use Rattle.std.specs.Prelude.{◌^◌, ◌⊎◌, ◌||◌, ◌↔◌, if◌then◌else◌, IfErr, IfOk, IsErrAnd, IsSome, IsSomeAnd, MatchResult, Result, Ok, Err, String, Vec, is_some, option_map}
 use Rattle.std.proofs.lemmas.Bool.{cases_Bool}
 use Rattle.std.proofs.lemmas.List.{append-nil, nil_from_length}
 use Rattle.std.proofs.lemmas.List.Sums.{sum_by-append}
@@ -26,7 +26,7 @@ use Rattle.raft_log_engine.specs.declared.engine.Engine.{Engine}
 use Rattle.raft_log_engine.specs.Contents.{recovered_contents}
 use Rattle.raft_log_engine.specs.Crash.{written_batch}
 use Rattle.raft_tables.specs.Known.{known_in}
-use Rattle.raft_script.specs.Run.{accepted_of, AreAnswers, AreSteady, FailsAt, IsFailing, IsFailurePlace, Refuses, StorageRefusalsRoseBy, batch_of_acts, batches_after, batches_after_all, io_count, io_in, is_io, IsAnswer, IsCompactRefusal, IsEngineRefusal, IsGetRefusal, IsOutOfNumbers, IsSteadyBy, IsTextRefusal, IsUnbuilt, IsGiven, IsWritten, IsWriteRefusal, compaction_in, items_of_act, of_both}
+use Rattle.raft_script.specs.Run.{accepted_of, AreAnswers, AreSteady, FailsAt, FailsBy, IsFailing, IsFailurePlace, Refuses, StorageRefusalsRoseBy, batch_of_acts, batches_after, batches_after_all, io_count, io_in, is_io, IsAnswer, IsCompactRefusal, IsEngineRefusal, IsGetRefusal, IsOutOfNumbers, IsSteadyBy, IsStorageOrMemory, IsTextRefusal, IsUnbuilt, IsGiven, IsWritten, IsWriteRefusal, compaction_in, items_of_act, of_both}
 use Rattle.raft_log_engine.specs.Reads.{IsEntryAnswer, IsEntryRefusalAt, IsGroupList, compact_count, entry_of}
 use Rattle.raft_script.specs.Entry.{IsTextOf, index_of}
 use Rattle.raft_script.specs.declared.text_entry.TextEntry.{TextEntry}
@@ -130,6 +130,7 @@ module _ {F H R W : Type 0} {g : Ghosts F H R W} (acts : List Act) (items rest :
     where
       by_fault : (e : Fault) → engine.IsWriteRefusal folder (queue_of new) m items (has_failed new) (refusals_of old) (refusals_of new) e → IsWriteRefusal m acts e
       by_fault (fault.Io kind path) h = of_built (engine.IsWritable m) acts items built h.0
+      by_fault fault.TryAgain h = of_built (engine.IsWritable m) acts items built h.0
       by_fault fault.Memory h = tt
       by_fault fault.Gap h = of_built (λ batch. batch_refusal m batch ≡ Some fault.Gap) acts items built h.0
       by_fault fault.Range h = inr (of_built (IsOutOfNumbers m) acts items built (elim h.0 [
@@ -147,6 +148,7 @@ module _ (m n : Contents) (group index : ℕ) (failed : Bool) (folder : Path) (o
 
   append_refusal : (p : PipeState) (fails : Bool) (e : Fault) → engine.IsAppendRefusal folder p fails old new e → IsCompactRefusal e
   append_refusal p fails (fault.Io kind path) h = tt
+  append_refusal p fails fault.TryAgain h = tt
   append_refusal p fails fault.Memory h = tt
   append_refusal p fails fault.Range h = tt
   append_refusal p fails _ h = absurd h
@@ -182,6 +184,10 @@ module _ (m n : Contents) (group index : ℕ) (failed : Bool) (folder : Path) (o
   no_entry_io None kind path told = told
   no_entry_io (Some bytes) kind path told = told
 
+  no_entry_again : (bytes : Option (List ℕ)) → IsEntryRefusalAt IsTextOf index_of index bytes fault.TryAgain → ⊥
+  no_entry_again None told = told
+  no_entry_again (Some bytes) told = told
+
   -- .. that storage fails is counted
   pub entry_rose : (result : Result (Option TextEntry) Fault) → ((result ≡ Err fault.Failed) ↔ (failed ≡ true)) → IfErr result (λ e. failed ≡ false → IsEntryRefusalAt IsTextOf index_of index (entry_of n group index) e ⊎ IsRefusalIn folder old new e)
       → is_io result ≡ true → StorageRefusalsRose old new
@@ -193,7 +199,35 @@ module _ (m n : Contents) (group index : ℕ) (failed : Bool) (folder : Path) (o
       | inr refused ↦ refused.0
     ]
   ]
+  entry_rose (Err fault.TryAgain) fails cause io = elim (cases_Bool failed) [
+    | inl gone ↦ absurd (let clash = fails.1 gone in cc)
+    | inr stands ↦ elim (cause stands) [
+      | inl told ↦ absurd (no_entry_again (entry_of n group index) told)
+      | inr refused ↦ absurd refused
+    ]
+  ]
   entry_rose (Err _) fails cause io = absurd cc
+
+-- a compaction fails an engine by storage or for lack of memory alone
+pub compaction_fails : (P R : Type 0) (Q : Fault → Type 0) (failed fails : Bool) (folder : Path) (p : PipeState) (old new : Refusals) (result : Result ℕ Fault) → MatchResult result (λ _. (fails ≡ false) × P × R) Q → ((result ≡ Err fault.Failed) ↔ (failed ≡ true)) → (failed ≡ true → fails ≡ true)
+    → IfErr result (λ e. failed ≡ false → engine.IsAppendRefusal folder p fails old new e) → FailsBy failed result fails (λ _. ⊥)
+compaction_fails P R Q failed fails folder p old new result ok told still cause = record {
+  still = still;
+  only_failed = told.0;
+  refused = λ gone. inl (told.1 gone);
+  cause = caused result ok cause;
+}
+  where
+    by_fault : (e : Fault) → engine.IsAppendRefusal folder p fails old new e → fails ≡ true → IsStorageOrMemory e
+    by_fault (fault.Io kind path) h dies = tt
+    by_fault fault.Memory h dies = tt
+    by_fault fault.Range h dies = absurd (let clash = sym dies ∙ h.1 in cc)
+    by_fault fault.TryAgain h dies = absurd (let clash = sym dies ∙ h.1 in cc)
+    by_fault _ h dies = absurd h
+
+    caused : (result : Result ℕ Fault) → MatchResult result (λ _. (fails ≡ false) × P × R) Q → IfErr result (λ e. failed ≡ false → engine.IsAppendRefusal folder p fails old new e) → failed ≡ false → fails ≡ true → IsErrAnd result IsStorageOrMemory
+    caused (Ok count) ok cause alive dies = absurd (let clash = sym dies ∙ ok.0 in cc)
+    caused (Err e) ok cause alive dies = by_fault e (cause alive) dies
 
 -- .. and so are the groups
 pub groups_answered : (m n : Contents) (known is_known : ℕ → Bool) (failed : Bool) (same : failed ≡ false → m ≡ n) (same_known : failed ≡ false → known ≡ is_known) (result : Result (Vec ℕ Global) Fault) → IfOk result (λ groups. IsGroupList n is_known groups.items) → ((result ≡ Err fault.Failed) ↔ (failed ≡ true)) → IfErr result (λ e. (e ≡ fault.Failed) ⊎ (e ≡ fault.Memory))

@@ -174,11 +174,12 @@ abbrev pub IsOutOfNumbers : Contents → Batch → Type 0
 IsOutOfNumbers m batch = IsOutOfRange m batch ⊎ IsWritable m batch
 
 -- a write fails for an act that can't be done, too many bytes of entries, or lack of memory; its
--- batch since the contents don't take it, for its length, for lack of a number, else by storage, or
--- by a failed engine
+-- batch since the contents don't take it, for its length, for lack of a number, else by storage or
+-- for want of space, or by a failed engine
 abbrev pub IsWriteRefusal : Contents → List Act → Fault → Type 0
 IsWriteRefusal m acts (fault.InvalidArgument _) = batch_of_acts acts ≡ None
 IsWriteRefusal m acts (fault.Io kind path) = IsSomeAnd (batch_of_acts acts) (IsWritable m)
+IsWriteRefusal m acts fault.TryAgain = IsSomeAnd (batch_of_acts acts) (IsWritable m)
 IsWriteRefusal m acts fault.Memory = Unit {0}
 IsWriteRefusal m acts fault.Gap =
     IsSomeAnd (batch_of_acts acts) (λ batch. batch_refusal m batch ≡ Some fault.Gap)
@@ -193,6 +194,7 @@ abbrev pub IsBatchRefusal : Contents → Batch → Fault → Type 0
 IsBatchRefusal m batch fault.Gap = batch_refusal m batch ≡ Some fault.Gap
 IsBatchRefusal m batch fault.Range = IsOutOfNumbers m batch
 IsBatchRefusal m batch (fault.Io kind path) = IsWritable m batch
+IsBatchRefusal m batch fault.TryAgain = IsWritable m batch
 IsBatchRefusal m batch fault.Memory = IsWritable m batch
 IsBatchRefusal m batch _ = ⊥
 
@@ -227,9 +229,10 @@ IsEngineRefusal fault.Memory = Unit {0}
 IsEngineRefusal fault.Failed = Unit {0}
 IsEngineRefusal _ = ⊥
 
--- .. a compaction also since no number is left for a next log file
+-- .. a compaction also since no number is left for a next log file, or for want of space
 abbrev pub IsCompactRefusal : Fault → Type 0
 IsCompactRefusal fault.Range = Unit {0}
+IsCompactRefusal fault.TryAgain = Unit {0}
 IsCompactRefusal e = IsEngineRefusal e
 
 abbrev pub IsGetRefusal : Fault → Type 0
@@ -286,9 +289,10 @@ AreAnswers failed failed_at batches (op ∷ ops) (outcome ∷ outcomes) =
     (batches_after batches op outcome) ops outcomes
 AreAnswers failed failed_at batches _ _ = ⊥
 
--- storage's refusal
+-- storage's refusal, also where there is no space
 abbrev pub is_io : {T : Type 0} → Result T Fault → Bool
 is_io (Err (fault.Io kind path)) = true
+is_io (Err fault.TryAgain) = true
 is_io _ = false
 
 -- .. of an operation

@@ -144,6 +144,16 @@ fn answered(rt: &impl Abort, alloc: Global, ops: &[Op]) -> Result<Vec<Outcome>, 
     Ok(shown.outcomes)
 }
 
+// Whether no operation fails by the failing call: room that can't be made ahead is done without, and a record that
+// finds no space goes to the next file, but a header that finds none fails.
+fn is_done_without(call: FsCall, kind: IoKind, refused: bool) -> bool {
+    match (call, kind) {
+        (FsCall::Allocate, _) => true,
+        (FsCall::Write, IoKind::NoSpace) => !refused,
+        _ => false,
+    }
+}
+
 // With the nth call of a sort failing: whether there were so many.
 fn refuse_one(
     rt: &impl Abort,
@@ -163,10 +173,9 @@ fn refuse_one(
         assert!(rt; is_refusal(fault, kind), "{fault:?}");
         refused = true;
     }
-    // Room that can't be made ahead is done without.
     assert_eq!(rt;
         refused,
-        shown.refused && call != FsCall::Allocate,
+        shown.refused && !is_done_without(call, kind, refused),
         "{call:?} {nth}"
     );
     for left in [Left::All, Left::Synced, Left::Torn(7, 255)] {

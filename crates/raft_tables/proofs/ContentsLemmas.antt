@@ -18,7 +18,7 @@ eq_from_test : (a b : ℕ) → (a == b) ≡ true → a ≡ b
 eq_from_test a b same = grind (arith, common_steps)
 
 -- the contents with this in one group
-abbrev with_group : ℕ → List Entry → (List ℕ → Option (List ℕ)) → Contents → Contents
+abbrev pub with_group : ℕ → List Entry → (List ℕ → Option (List ℕ)) → Contents → Contents
 with_group group entries values m = record {
   entries = λ g. cond (g == group) entries (m.entries g);
   value = λ g k. cond (g == group) (values k) (m.value g k);
@@ -37,7 +37,7 @@ cond-of f true x y = refl
 cond-of f false x y = refl
 
 -- the contents with another table of a group
-contents-with_table : (blocks : Blocks) (group : ℕ) (v : Option TableView) (t : Tables) → contents_in blocks (with_table group v t) ≡ with_group group (entries_in blocks (or_empty v).entries) (value_at (or_empty v)) (contents_in blocks t)
+pub contents-with_table : (blocks : Blocks) (group : ℕ) (v : Option TableView) (t : Tables) → contents_in blocks (with_table group v t) ≡ with_group group (entries_in blocks (or_empty v).entries) (value_at (or_empty v)) (contents_in blocks t)
 contents-with_table blocks group v t = λ i. record {
   entries = λ g. cond-of (λ (o : Option TableView). entries_in blocks (or_empty o).entries) (g == group) v (t g) i;
   value = λ g k. cond-of (λ (o : Option TableView). value_at (or_empty o) k) (g == group) v (t g) i;
@@ -65,7 +65,7 @@ or_empty-compact : (index : ℕ) (o : Option TableView) → or_empty (option_map
 or_empty-compact index None = refl
 or_empty-compact index (Some v) = refl
 
-value-delete : (key : List ℕ) (o : Option TableView) (k : List ℕ) → value_at (or_empty (option_map (with_key key None) o)) k ≡ cond (bytes_eq k key) None (value_at (or_empty o) k)
+pub value-delete : (key : List ℕ) (o : Option TableView) (k : List ℕ) → value_at (or_empty (option_map (with_key key None) o)) k ≡ cond (bytes_eq k key) None (value_at (or_empty o) k)
 value-delete key None k = nothing (bytes_eq k key)
   where
     nothing : (b : Bool) → ◌≡◌ {A = Option (List ℕ)} None (cond b None None)
@@ -73,7 +73,7 @@ value-delete key None k = nothing (bytes_eq k key)
     nothing false = refl
 value-delete key (Some v) k = value-with_key v key None k
 
-entries-delete : (key : List ℕ) (o : Option TableView) → (or_empty (option_map (with_key key None) o)).entries ≡ (or_empty o).entries
+pub entries-delete : (key : List ℕ) (o : Option TableView) → (or_empty (option_map (with_key key None) o)).entries ≡ (or_empty o).entries
 entries-delete key None = refl
 entries-delete key (Some v) = refl
 

@@ -21,7 +21,7 @@ is_some-cond : {A : Type 0} (b : Bool) (x : A) (o : Option A) → is_some (cond 
 is_some-cond true x o = refl
 is_some-cond false x o = refl
 
-known_after_change : (id : FileId) (blocks : Blocks) (c : PlacedContent) (t : Option TableView) → is_placed_in_order c ≡ true → is_some (table_after id c t) ≡ known_after_content (is_some t) (content_in blocks c)
+pub known_after_change : (id : FileId) (blocks : Blocks) (c : PlacedContent) (t : Option TableView) → is_placed_in_order c ≡ true → is_some (table_after id c t) ≡ known_after_content (is_some t) (content_in blocks c)
 known_after_change id blocks (EntriesAt []) t in_order = refl
 known_after_change id blocks (EntriesAt (e ∷ es)) t in_order = rw in_order refl
 known_after_change id blocks (Plain (Entries entries)) t in_order = absurd cc

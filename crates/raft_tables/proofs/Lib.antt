@@ -11,3 +11,6 @@ pub mod PlacesLemmas
 pub mod AppliedLemmas
 pub mod CountingLemmas
 pub mod StatsLemmas
+pub mod LeavingLemmas
+pub mod RecoveringLemmas
+pub mod JoiningLemmas

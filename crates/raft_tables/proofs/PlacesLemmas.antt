@@ -15,11 +15,11 @@ use Rattle.raft_tables.specs.Table.{TableView, with_entries_at, with_key}
 use Rattle.raft_tables.specs.Tables.{AreAllPlaced, Tables, or_empty, table_after, tables_after, tables_after_item}
 
 -- each entry stands at such a place
-abbrev stand_at : (EntryPlace → Bool) → List (ℕ × EntryPlace) → Bool
+abbrev pub stand_at : (EntryPlace → Bool) → List (ℕ × EntryPlace) → Bool
 stand_at holds es = list_all (λ e. holds e.1) es
 
 -- of those that are left when some go
-stand_at-filter : (holds : EntryPlace → Bool) (kept : ℕ → Bool) (es : List (ℕ × EntryPlace)) → stand_at holds es ≡ true → stand_at holds (filter (λ e. kept e.0) es) ≡ true
+pub stand_at-filter : (holds : EntryPlace → Bool) (kept : ℕ → Bool) (es : List (ℕ × EntryPlace)) → stand_at holds es ≡ true → stand_at holds (filter (λ e. kept e.0) es) ≡ true
 stand_at-filter holds kept [] all = refl
 stand_at-filter holds kept (e ∷ es) all =
     let parts = and_parts (holds e.1) (stand_at holds es) all in
@@ -32,7 +32,7 @@ stand_at-filter holds kept (e ∷ es) all =
 stand_at-append : (holds : EntryPlace → Bool) (es fs : List (ℕ × EntryPlace)) → stand_at holds es ≡ true → stand_at holds fs ≡ true → stand_at holds (es ++ fs) ≡ true
 stand_at-append holds es fs first second = list_all-append (λ (e : ℕ × EntryPlace). holds e.1) es fs ∙ rw (first, second) refl
 
-stand_at-with_entries : (holds : EntryPlace → Bool) (old new : List (ℕ × EntryPlace)) → stand_at holds old ≡ true → stand_at holds new ≡ true → stand_at holds (with_entries old new) ≡ true
+pub stand_at-with_entries : (holds : EntryPlace → Bool) (old new : List (ℕ × EntryPlace)) → stand_at holds old ≡ true → stand_at holds new ≡ true → stand_at holds (with_entries old new) ≡ true
 stand_at-with_entries holds old [] before after = before
 stand_at-with_entries holds old (e ∷ es) before after = at (is_next_to old e.0)
   where

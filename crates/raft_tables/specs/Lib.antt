@@ -7,3 +7,5 @@ pub mod Counting
 pub mod Listing
 pub mod Span
 pub mod Validity
+pub mod Leaving
+pub mod Recovering

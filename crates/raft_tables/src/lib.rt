@@ -2,8 +2,11 @@
 #![tactic(auto)]
 
 pub mod entries;
+mod joining;
+mod leaving;
 pub mod memtable;
 pub mod memtables;
+pub mod recovering;
 mod span;
 pub mod stats;
 mod validity;
@@ -11,4 +14,5 @@ mod validity;
 pub use entries::EntryTable;
 pub use memtable::{KeyAndValue, MemTable};
 pub use memtables::MemTables;
+pub use recovering::MemTableRecoverContext;
 pub use stats::GlobalStats;

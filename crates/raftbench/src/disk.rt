@@ -3,7 +3,7 @@
 use crate::blocks::filled;
 use crate::log::{open, puts_of, write_all};
 use crate::measure::{micros_since, ratio};
-use crate::workload::Load;
+use crate::workload::{Load, ONE_FILE};
 use anyhow::{Result, bail};
 use raft_disk::DiskFileSystem;
 use raft_env::FileSystem;
@@ -36,6 +36,7 @@ pub(crate) fn run_in(rt: HostRuntime, folder: &str, count: u64, size: usize) -> 
             keys: count,
             size,
             sync_each,
+            file_size: ONE_FILE,
         };
         let place = format!(in rt.alloc(); "{folder}/{name}")?;
         let run = run_folder(rt, place.as_str(), load)?;
@@ -52,6 +53,7 @@ fn reopen(rt: HostRuntime, folder: &str, count: u64, size: usize) -> Result<()> 
         keys: 0,
         size,
         sync_each: 0,
+        file_size: ONE_FILE,
     };
     let run = run_folder(rt, place.as_str(), nothing)?;
     let log = format!(in rt.alloc(); "{place}/bench/0000000000000001.raftlog")?;
@@ -75,7 +77,7 @@ fn run_over<F: FileSystem + Drop>(
     files: F,
     load: Load,
 ) -> Result<Run> {
-    let mut engine = open(rt.alloc(), files)?;
+    let mut engine = open(rt.alloc(), files, load.file_size)?;
     put_all(rt, start, &mut engine, load)
 }
 

@@ -77,7 +77,7 @@ pub(crate) fn append_entry_fetch<R: Host, F: FileSystem + Drop>(
     load: Load,
     batch_len: u64,
 ) -> Result<usize> {
-    let mut engine = open(rt.alloc(), files)?;
+    let mut engine = open(rt.alloc(), files, load.file_size)?;
     append_and_read(rt, name, &mut engine, load, batch_len)
 }
 

@@ -6,7 +6,7 @@ use crate::workload::Load;
 use anyhow::Result;
 use raft_env::{FileSystem, FsFault, Permission};
 use raft_log_engine::{Config, Engine};
-use raft_records::{Fault, Fresh, LogBatch};
+use raft_records::{Fault, Fresh, LogBatch, ReadableSize};
 use std::alloc::{AllocError, Global};
 use std::time::Instant;
 
@@ -23,7 +23,7 @@ pub(crate) fn put_get_reopen<R: Host, F: FileSystem + Drop>(
     files: F,
     load: Load,
 ) -> Result<usize> {
-    let mut engine = open(rt.alloc(), files)?;
+    let mut engine = open(rt.alloc(), files, load.file_size)?;
     let (found, sum) = put_and_get(rt, name, &mut engine, load)?;
     let (len, last_found) = reopen(rt, engine, load)?;
     let count = load.count;
@@ -146,7 +146,7 @@ fn reopen<R: Host, F: FileSystem + Drop>(
 ) -> Result<(usize, bool)> {
     let (files, len) = close(rt.alloc(), engine)?;
     let start = Instant::now(rt)?;
-    let engine = open(rt.alloc(), files)?;
+    let engine = open(rt.alloc(), files, load.file_size)?;
     let last_found = report_open(rt, start, &engine, load, len)?;
     Ok((len, last_found))
 }
@@ -162,9 +162,14 @@ fn report_open<R: Host, F: FileSystem>(
     Ok(has_last(rt.alloc(), engine, load)?)
 }
 
-pub(crate) fn open<F: FileSystem + Drop>(alloc: Global, files: F) -> Result<Engine<F>, Fault> {
+pub(crate) fn open<F: FileSystem + Drop>(
+    alloc: Global,
+    files: F,
+    file_size: u64,
+) -> Result<Engine<F>, Fault> {
     let mut config = Config::fresh(alloc);
     config.dir.push_str(FOLDER)?;
+    config.target_file_size = ReadableSize(file_size);
     match Engine::open_in_order(alloc, config, files) {
         Ok(engine) => Ok(engine),
         Err(refused) => Err(refused.fault),

@@ -18,17 +18,20 @@ pub(crate) enum Workload {
     Append,
     AppendSync,
     AppendBatch,
+    AppendFiles,
     FsAppend,
     FsSync,
 }
 
-/// How many values are written, under how many keys, of how many bytes, and after how many to sync; 0: never.
+/// How many values are written, under how many keys, of how many bytes, after how many to sync (0: never), and the
+/// size at which a log file is full.
 #[derive(Clone, Copy)]
 pub(crate) struct Load {
     pub count: u64,
     pub keys: u64,
     pub size: usize,
     pub sync_each: u64,
+    pub file_size: u64,
 }
 
 impl Load {
@@ -46,8 +49,14 @@ const BLOCK_SIZE: usize = 65536;
 /// The bytes of entries in a batch of the workload `append-batch`.
 const BATCH_SIZE: u64 = 1 << 20;
 
+/// No log comes to this size, so that it stays one file.
+pub(crate) const ONE_FILE: u64 = 1 << 40;
+
+/// The size of a log file in the workload `append-files`.
+const SMALL_FILE: u64 = 2 << 20;
+
 impl Workload {
-    pub(crate) const ALL: [Workload; 9] = [
+    pub(crate) const ALL: [Workload; 10] = [
         Workload::Crc,
         Workload::Put,
         Workload::PutSync,
@@ -55,6 +64,7 @@ impl Workload {
         Workload::Append,
         Workload::AppendSync,
         Workload::AppendBatch,
+        Workload::AppendFiles,
         Workload::FsAppend,
         Workload::FsSync,
     ];
@@ -72,6 +82,7 @@ impl Workload {
             Workload::Append => "append",
             Workload::AppendSync => "append-sync",
             Workload::AppendBatch => "append-batch",
+            Workload::AppendFiles => "append-files",
             Workload::FsAppend => "fs-append",
             Workload::FsSync => "fs-sync",
         }
@@ -89,6 +100,10 @@ impl Workload {
             sync_each: match self {
                 Workload::PutSync | Workload::AppendSync | Workload::FsSync => 1,
                 _ => 0,
+            },
+            file_size: match self {
+                Workload::AppendFiles => SMALL_FILE,
+                _ => ONE_FILE,
             },
         };
         self.run_over(rt, MemoryFileSystem::new(rt.alloc()), load)
@@ -119,7 +134,10 @@ impl Workload {
                 append(rt, self.name(), &mut files, load)?;
                 report_ceilings(rt, count, load.size)?;
             }
-            Workload::Append | Workload::AppendSync | Workload::AppendBatch => {
+            Workload::Append
+            | Workload::AppendSync
+            | Workload::AppendBatch
+            | Workload::AppendFiles => {
                 let batch_len = self.batch_len(load.size).min(count / GROUPS);
                 let entry_len = append_entry_fetch(rt, self.name(), files, load, batch_len)?;
                 report_ceilings(rt, count, entry_len)?;

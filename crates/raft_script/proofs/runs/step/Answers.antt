@@ -10,7 +10,7 @@ use Rattle.raft_env.specs.Moments.{HoldsThroughout}
 use Rattle.raft_script.specs.declared.operation.Op.TheVariants.{Sync, Write}
 use Rattle.raft_script.proofs.DurabilityLemmas.{moments_of_batch, written_progress}
 use Rattle.raft_script.proofs.RunAnswersLemmas.{does_compact, does_read, in_flight, read_same}
-use Rattle.raft_script.proofs.RunLemmas.{compaction_answered, entry_answered, entry_rose, groups_answered, steady_by, write_answered}
+use Rattle.raft_script.proofs.RunLemmas.{compaction_answered, compaction_fails, entry_answered, entry_rose, groups_answered, steady_by, write_answered}
 use Rattle.raft_log_engine.specs.Group.{items_of, written_in}
 use Rattle.raft_records.specs.Batch.{BatchView}
 use Rattle.raft_script.proofs.GroupLemmas.{does_group, group_answered, group_fails, group_refuses, unbuilt_answered, unbuilt_fails}
@@ -87,6 +87,13 @@ returns-in-CompactTo-clause-value g c =
     let compaction = c.compact_to.ensures in
     let e = c.args.engine.now in
     rw c.in-CompactTo.is (λ m known same same_known. compaction_answered m (contents_of e) c.in-CompactTo.group c.in-CompactTo.index (has_failed e) (folder_of e) (refusals_of e) (refusals_of c.compact_to.new.self) same (queue_of c.compact_to.new.self) (has_failed c.compact_to.new.self) c.compact_to.result compaction.value compaction.failed compaction.cause)
+
+pub returns-in-CompactTo-clause-failed : goal.returns-in-CompactTo-clause-failed
+returns-in-CompactTo-clause-failed g c =
+    let compaction = c.compact_to.ensures in
+    let e = c.args.engine.now in
+    let n = c.compact_to.new.self in
+    rw c.in-CompactTo.is (compaction_fails _ _ _ (has_failed e) (has_failed n) (folder_of e) (queue_of n) (refusals_of e) (refusals_of n) c.compact_to.result compaction.contents compaction.failed (λ gone. (compaction.unchanged gone).failed) compaction.cause)
 
 pub returns-in-CompactTo-clause-progress : goal.returns-in-CompactTo-clause-progress
 returns-in-CompactTo-clause-progress g c =

@@ -23,6 +23,7 @@ invariant_of-self g c =
       cached = λ alive. c.image_of.ensures.holds;
       queue = queue_still old n same;
       completed = completed_still old n same;
+      format = old.format;
       left = left_still old n same;
     }
 

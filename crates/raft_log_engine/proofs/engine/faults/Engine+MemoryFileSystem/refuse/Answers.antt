@@ -18,5 +18,6 @@ invariant_of-self c =
       cached = λ alive. subst (λ n. HoldsBlockIn e.pipe n e.cache) (sym same) (e.cached alive);
       queue = λ alive. subst (λ n. HasQueue e.pipe (folder_of e) (base_of e ++ unsynced_of e) (length (base_of e)) n) (sym same) (e.queue alive);
       completed = λ alive begun. subst (λ n. PipeHasCompletedLogIfSimple e.pipe n) (sym same) (e.completed alive begun);
+      format = e.format;
       left = subst (λ n. RecoversPrefix (folder_of e) (base_of e ++ unsynced_of e) (length (base_of e)) n) (sym same) e.left;
     }
