@@ -10,3 +10,5 @@ mod log_files;
 mod memory_files;
 #[cfg(test)]
 mod queues;
+#[cfg(test)]
+mod two_queues;
