@@ -3,6 +3,8 @@
 #![tactic(auto)]
 
 #[cfg(test)]
+mod crashed_queues;
+#[cfg(test)]
 mod laws;
 #[cfg(test)]
 mod log_files;
