@@ -1,14 +1,11 @@
 //! What an opening makes of a folder of several log files.
 
-use crate::stored::{
-    HEADER_1, HEADER_2, HEADER_MOVED, Stored, are_stored, found, settings_in, store_all,
-};
-use raft_env::FileSystem;
-use raft_log_engine::{Engine, RecoveryMode};
-use raft_memory::MemoryFileSystem;
-use raft_plans::{EMPTY, State, state_of};
+use crate::held::{Faulty, Held};
+use crate::rows::{Rows, Wrong, each_holds};
+use crate::stored::{HEADER_1, HEADER_2, HEADER_MOVED, Stored, are_stored, settings_in, store_all};
+use raft_log_engine::RecoveryMode;
+use raft_plans::{EMPTY, State};
 use std::alloc::Global;
-use std::process::Abort;
 use std::test::Fail;
 
 /// A header of version 2 with alignment 16.
@@ -78,113 +75,136 @@ pub(crate) const WITHOUT_2: State = State { b: 0, ..ALL };
 
 const WITHOUT_3: State = State { c: 0, ..ALL };
 
-/// What an opening holds and the files that it changes, or the code with which it fails.
-type Opened = Result<(State, &'static [Stored]), u8>;
+pub(crate) const ABSOLUTE: RecoveryMode = RecoveryMode::AbsoluteConsistency;
 
-struct Case {
-    name: &'static str,
-    files: &'static [Stored],
-    absolute: Opened,
-    tail: Opened,
-    any: Opened,
+pub(crate) const TAIL: RecoveryMode = RecoveryMode::TolerateTailCorruption;
+
+pub(crate) const ANY: RecoveryMode = RecoveryMode::TolerateAnyCorruption;
+
+/// In a mode an opening holds a state and changes these files, or it fails with a code and changes none.
+pub(crate) enum Opening {
+    Holds(RecoveryMode, State, &'static [Stored]),
+    Fails(RecoveryMode, u8),
 }
 
-const BROKEN: [Case; 9] = [
-    Case {
+/// Files, and what openings of them come to.
+pub(crate) struct Folder {
+    pub(crate) name: &'static str,
+    pub(crate) files: &'static [Stored],
+    pub(crate) openings: &'static [Opening],
+}
+
+static BROKEN: [Folder; 11] = [
+    Folder {
         name: "whole files",
         files: &[LOG_1, LOG_2, LOG_3],
-        absolute: Ok((ALL, &[])),
-        tail: Ok((ALL, &[])),
-        any: Ok((ALL, &[])),
+        openings: &[
+            Opening::Holds(ABSOLUTE, ALL, &[]),
+            Opening::Holds(TAIL, ALL, &[]),
+            Opening::Holds(ANY, ALL, &[]),
+        ],
     },
-    Case {
+    Folder {
         name: "a broken record of file 2",
         files: &[
             LOG_1,
             ("raft/0000000000000002.raftlog", &[HEADER_2, BROKEN_2]),
             LOG_3,
         ],
-        absolute: Err(2),
-        tail: Err(2),
-        any: Ok((WITHOUT_2, &[CUT_2])),
+        openings: &[
+            Opening::Fails(ABSOLUTE, 2),
+            Opening::Fails(TAIL, 2),
+            Opening::Holds(ANY, WITHOUT_2, &[CUT_2]),
+        ],
     },
-    Case {
+    Folder {
         name: "broken entries of file 2",
         files: &[
             LOG_1,
             ("raft/0000000000000002.raftlog", &[HEADER_2, ENTRIES_2]),
             LOG_3,
         ],
-        absolute: Err(2),
-        tail: Err(2),
-        any: Ok((WITHOUT_2, &[CUT_2])),
+        openings: &[
+            Opening::Fails(ABSOLUTE, 2),
+            Opening::Fails(TAIL, 2),
+            Opening::Holds(ANY, WITHOUT_2, &[CUT_2]),
+        ],
     },
-    Case {
+    Folder {
         name: "a broken record of file 3",
         files: &[
             LOG_1,
             LOG_2,
             ("raft/0000000000000003.raftlog", &[HEADER_2, BROKEN_3]),
         ],
-        absolute: Err(2),
-        tail: Ok((WITHOUT_3, &[CUT_3])),
-        any: Ok((WITHOUT_3, &[CUT_3])),
+        openings: &[
+            Opening::Fails(ABSOLUTE, 2),
+            Opening::Holds(TAIL, WITHOUT_3, &[CUT_3]),
+            Opening::Holds(ANY, WITHOUT_3, &[CUT_3]),
+        ],
     },
-    Case {
+    Folder {
         name: "a broken header of file 2",
         files: &[
             LOG_1,
             ("raft/0000000000000002.raftlog", &[HEADER_MOVED, PUT_2]),
             LOG_3,
         ],
-        absolute: Err(2),
-        tail: Err(2),
-        any: Ok((WITHOUT_2, &[BEGUN_2])),
+        openings: &[
+            Opening::Fails(ABSOLUTE, 2),
+            Opening::Fails(TAIL, 2),
+            Opening::Holds(ANY, WITHOUT_2, &[BEGUN_2]),
+        ],
     },
-    Case {
+    Folder {
         name: "a broken header of file 3",
         files: &[
             LOG_1,
             LOG_2,
             ("raft/0000000000000003.raftlog", &[HEADER_MOVED, PUT_3]),
         ],
-        absolute: Err(2),
-        tail: Ok((WITHOUT_3, &[BEGUN_3])),
-        any: Ok((WITHOUT_3, &[BEGUN_3])),
+        openings: &[
+            Opening::Fails(ABSOLUTE, 2),
+            Opening::Holds(TAIL, WITHOUT_3, &[BEGUN_3]),
+            Opening::Holds(ANY, WITHOUT_3, &[BEGUN_3]),
+        ],
     },
-    Case {
+    Folder {
         name: "file 3 without a byte",
         files: &[LOG_1, LOG_2, ("raft/0000000000000003.raftlog", &[])],
-        absolute: Err(2),
-        tail: Ok((WITHOUT_3, &[BEGUN_3])),
-        any: Ok((WITHOUT_3, &[BEGUN_3])),
+        openings: &[
+            Opening::Fails(ABSOLUTE, 2),
+            Opening::Holds(TAIL, WITHOUT_3, &[BEGUN_3]),
+            Opening::Holds(ANY, WITHOUT_3, &[BEGUN_3]),
+        ],
     },
-    Case {
+    Folder {
         name: "the bytes of file 2 in file 3",
         files: &[
             LOG_1,
             LOG_2,
             ("raft/0000000000000003.raftlog", &[HEADER_2, PUT_2]),
         ],
-        absolute: Err(2),
-        tail: Ok((WITHOUT_3, &[CUT_3])),
-        any: Ok((WITHOUT_3, &[CUT_3])),
+        openings: &[
+            Opening::Fails(ABSOLUTE, 2),
+            Opening::Holds(TAIL, WITHOUT_3, &[CUT_3]),
+            Opening::Holds(ANY, WITHOUT_3, &[CUT_3]),
+        ],
     },
-    Case {
+    Folder {
         name: "a compressed block in file 3",
         files: &[
             LOG_1,
             LOG_2,
             ("raft/0000000000000003.raftlog", &[HEADER_2, LZ4_3]),
         ],
-        absolute: Err(13),
-        tail: Err(13),
-        any: Err(13),
+        openings: &[
+            Opening::Fails(ABSOLUTE, 13),
+            Opening::Fails(TAIL, 13),
+            Opening::Fails(ANY, 13),
+        ],
     },
-];
-
-const ALIGNED: [Case; 2] = [
-    Case {
+    Folder {
         name: "zeros up to an aligned place in file 3",
         files: &[
             LOG_1,
@@ -194,11 +214,13 @@ const ALIGNED: [Case; 2] = [
                 &[HEADER_ALIGNED, &[0; 11], PUT_3],
             ),
         ],
-        absolute: Ok((ALL, &[])),
-        tail: Ok((ALL, &[])),
-        any: Ok((ALL, &[])),
+        openings: &[
+            Opening::Holds(ABSOLUTE, ALL, &[]),
+            Opening::Holds(TAIL, ALL, &[]),
+            Opening::Holds(ANY, ALL, &[]),
+        ],
     },
-    Case {
+    Folder {
         name: "an eight before an aligned place in file 3",
         files: &[
             LOG_1,
@@ -208,15 +230,19 @@ const ALIGNED: [Case; 2] = [
                 &[HEADER_ALIGNED, &[0; 10], &[8], PUT_3],
             ),
         ],
-        absolute: Err(2),
-        tail: Ok((
-            WITHOUT_3,
-            &[("raft/0000000000000003.raftlog", &[HEADER_ALIGNED])],
-        )),
-        any: Ok((
-            WITHOUT_3,
-            &[("raft/0000000000000003.raftlog", &[HEADER_ALIGNED])],
-        )),
+        openings: &[
+            Opening::Fails(ABSOLUTE, 2),
+            Opening::Holds(
+                TAIL,
+                WITHOUT_3,
+                &[("raft/0000000000000003.raftlog", &[HEADER_ALIGNED])],
+            ),
+            Opening::Holds(
+                ANY,
+                WITHOUT_3,
+                &[("raft/0000000000000003.raftlog", &[HEADER_ALIGNED])],
+            ),
+        ],
     },
 ];
 
@@ -226,29 +252,33 @@ const FOURTH_AND_FIFTH: State = State {
     ..EMPTY
 };
 
-const HOLES: [Case; 2] = [
-    Case {
+static HOLES: [Folder; 2] = [
+    Folder {
         name: "file 3 is missing",
         files: &[LOG_1, LOG_2, LOG_4, LOG_5],
-        absolute: Ok((FOURTH_AND_FIFTH, &[])),
-        tail: Ok((FOURTH_AND_FIFTH, &[])),
-        any: Ok((FOURTH_AND_FIFTH, &[])),
+        openings: &[
+            Opening::Holds(ABSOLUTE, FOURTH_AND_FIFTH, &[]),
+            Opening::Holds(TAIL, FOURTH_AND_FIFTH, &[]),
+            Opening::Holds(ANY, FOURTH_AND_FIFTH, &[]),
+        ],
     },
-    Case {
+    Folder {
         name: "broken files before a missing one",
         files: &[
             ("raft/0000000000000001.raftlog", &[HEADER_2, BROKEN_2]),
             ("raft/0000000000000002.raftlog", &[HEADER_MOVED]),
             LOG_4,
         ],
-        absolute: Ok((State { d: 4, ..EMPTY }, &[])),
-        tail: Ok((State { d: 4, ..EMPTY }, &[])),
-        any: Ok((State { d: 4, ..EMPTY }, &[])),
+        openings: &[
+            Opening::Holds(ABSOLUTE, State { d: 4, ..EMPTY }, &[]),
+            Opening::Holds(TAIL, State { d: 4, ..EMPTY }, &[]),
+            Opening::Holds(ANY, State { d: 4, ..EMPTY }, &[]),
+        ],
     },
 ];
 
 /// Names that no log file of the Append queue has.
-const NAMES: [Case; 1] = [Case {
+static NAMES: [Folder; 1] = [Folder {
     name: "other names",
     files: &[
         LOG_1,
@@ -262,71 +292,102 @@ const NAMES: [Case; 1] = [Case {
         ("raft/more/0000000000000004.raftlog", &[HEADER_2, PUT_4]),
         ("0000000000000004.raftlog", &[HEADER_2, PUT_4]),
     ],
-    absolute: Ok((ALL, &[])),
-    tail: Ok((ALL, &[])),
-    any: Ok((ALL, &[])),
+    openings: &[
+        Opening::Holds(ABSOLUTE, ALL, &[]),
+        Opening::Holds(TAIL, ALL, &[]),
+        Opening::Holds(ANY, ALL, &[]),
+    ],
 }];
 
-// Whether an opening comes to what is wanted, and the next one to the same.
-fn holds<F: FileSystem + Drop>(
+// Whether an opening finds this, and a key k where something else is there.
+fn finds<F: Faulty>(
     alloc: Global,
-    mut files: F,
-    stored: &[Stored],
+    held: &mut Held<F>,
     mode: RecoveryMode,
-    wanted: &Opened,
+    state: State,
 ) -> Result<bool, Fail> {
-    store_all(alloc, &mut files, stored)?;
-    let count = files.list("raft")?.len();
-    match (
-        Engine::open_in_order(alloc, settings_in(alloc, mode)?, files),
-        wanted,
-    ) {
-        (Ok(mut engine), Ok((state, changed))) => {
-            let is_found = state_of(&engine.image()?) == *state;
-            let mut files = engine.give_up();
-            let is_left = are_stored(alloc, &mut files, stored, changed)?
-                && files.list("raft")?.len() == count;
-            let tail = RecoveryMode::TolerateTailCorruption;
-            Ok(is_found && is_left && found(alloc, files, tail)? == *state)
+    held.open(alloc, settings_in(alloc, mode)?);
+    Ok(held.has(state)? && held.has_key(b"k")? == state.other)
+}
+
+// Whether an opening comes to what is wanted.
+fn is_opened<F: Faulty>(
+    alloc: Global,
+    held: &mut Held<F>,
+    opening: &Opening,
+) -> Result<bool, Fail> {
+    match opening {
+        Opening::Holds(mode, state, _) => finds(alloc, held, *mode, *state),
+        Opening::Fails(mode, code) => {
+            held.open(alloc, settings_in(alloc, *mode)?);
+            Ok(held.code() == Some(*code))
         }
-        (Err(refused), Err(code)) => {
-            let mut files = refused.file_system;
-            Ok(refused.fault.code() == *code && are_stored(alloc, &mut files, stored, &[])?)
-        }
-        _ => Ok(false),
     }
 }
 
-fn are_opened(rt: &impl Abort, alloc: Global, cases: &[Case]) -> Result<(), Fail> {
-    for case in cases {
-        for (mode, wanted) in [
-            (RecoveryMode::AbsoluteConsistency, &case.absolute),
-            (RecoveryMode::TolerateTailCorruption, &case.tail),
-            (RecoveryMode::TolerateAnyCorruption, &case.any),
-        ] {
-            let files = MemoryFileSystem::new(alloc);
-            assert!(rt;
-                holds(alloc, files, case.files, mode, wanted)?,
-                "{} {mode:?}",
-                case.name
-            );
+// Whether the next opening holds the same.
+fn is_kept<F: Faulty>(alloc: Global, held: &mut Held<F>, opening: &Opening) -> Result<bool, Fail> {
+    match opening {
+        Opening::Holds(_, state, _) => finds(alloc, held, TAIL, *state),
+        Opening::Fails(..) => Ok(true),
+    }
+}
+
+// Whether an opening and the next one come to what is wanted. Between them the engine is closed, or gives the files up.
+fn holds<F: Faulty>(
+    alloc: Global,
+    held: &mut Held<F>,
+    files: &[Stored],
+    opening: &Opening,
+    closes: bool,
+) -> Result<bool, Fail> {
+    held.renew(alloc);
+    let count = store_all(alloc, held.files()?, files)?;
+    let is_opened = is_opened(alloc, held, opening)?;
+    if closes && held.fault().is_none() {
+        held.close();
+    }
+    held.give_up();
+    let changed = match opening {
+        Opening::Holds(_, _, changed) => *changed,
+        Opening::Fails(..) => &[],
+    };
+    let is_left = are_stored(alloc, held.files()?, files, changed, count)?;
+    Ok(is_opened && is_left && is_kept(alloc, held, opening)?)
+}
+
+/// The first folder, and the opening of it, that comes to something else.
+pub(crate) fn wrong_opening<F: Faulty>(
+    alloc: Global,
+    held: &mut Held<F>,
+    folders: &'static [Folder],
+    closes: bool,
+) -> Result<Wrong, Fail> {
+    for Folder {
+        name,
+        files,
+        openings,
+    } in folders {
+        for (place, opening) in openings.iter().enumerate() {
+            if !holds(alloc, held, files, opening, closes)? {
+                return Ok(Some((*name, place)));
+            }
         }
     }
-    Ok(())
+    Ok(None)
 }
 
 #[test]
 fn each_mode_cuts_its_files(rt: HostRuntime) -> Result<(), Fail> {
-    are_opened(&rt, rt.alloc(), &BROKEN)?;
-    are_opened(&rt, rt.alloc(), &ALIGNED)
+    each_holds(&rt, Rows::Openings(&BROKEN, false))
 }
 
 #[test]
 fn scan_keeps_contiguous_tail(rt: HostRuntime) -> Result<(), Fail> {
-    are_opened(&rt, rt.alloc(), &HOLES)
+    each_holds(&rt, Rows::Openings(&HOLES, false))
 }
 
 #[test]
 fn long_and_reserved_names(rt: HostRuntime) -> Result<(), Fail> {
-    are_opened(&rt, rt.alloc(), &NAMES)
+    each_holds(&rt, Rows::Openings(&NAMES, false))
 }

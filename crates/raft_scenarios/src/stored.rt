@@ -1,8 +1,8 @@
 //! Files of a log's folder as their bytes, part by part.
 
 use raft_env::{FileSystem, FsFault, Permission};
-use raft_log_engine::{Config, Engine, RecoveryMode};
-use raft_plans::{State, settings, state_of};
+use raft_log_engine::{Config, RecoveryMode};
+use raft_plans::settings;
 use std::alloc::{AllocError, Global};
 use std::test::Fail;
 
@@ -19,7 +19,7 @@ pub(crate) const HEADER_MOVED: &[u8] =
 /// A file's path, and its bytes part by part.
 pub(crate) type Stored = (&'static str, &'static [&'static [u8]]);
 
-pub(crate) fn joined(alloc: Global, parts: &[&[u8]]) -> Result<Vec<u8>, AllocError> {
+fn joined(alloc: Global, parts: &[&[u8]]) -> Result<Vec<u8>, AllocError> {
     let mut bytes = Vec::new(alloc);
     for part in parts {
         bytes.extend_from_slice(part)?;
@@ -27,13 +27,13 @@ pub(crate) fn joined(alloc: Global, parts: &[&[u8]]) -> Result<Vec<u8>, AllocErr
     Ok(bytes)
 }
 
-pub(crate) fn store<F: FileSystem>(files: &mut F, path: &str, bytes: &[u8]) -> Result<(), FsFault> {
+fn store<F: FileSystem>(files: &mut F, path: &str, bytes: &[u8]) -> Result<(), FsFault> {
     let handle = files.create(path)?;
     let mut writer = files.new_writer(&handle)?;
     files.write(&mut writer, 0, bytes)
 }
 
-pub(crate) fn is_stored<F: FileSystem>(
+fn is_stored<F: FileSystem>(
     alloc: Global,
     files: &mut F,
     path: &str,
@@ -59,14 +59,15 @@ fn wanted_of(alloc: Global, file: &Stored, changed: &[Stored]) -> Result<Vec<u8>
     Ok(joined(alloc, parts)?)
 }
 
-/// Whether the files have these bytes, but for those that are changed.
+/// Whether the files have these bytes, but for those that are changed, and are so many in the log's folder.
 pub(crate) fn are_stored<F: FileSystem>(
     alloc: Global,
     files: &mut F,
     stored: &[Stored],
     changed: &[Stored],
+    count: usize,
 ) -> Result<bool, Fail> {
-    let mut equal = true;
+    let mut equal = files.list("raft")?.len() == count;
     for file in stored {
         let wanted = wanted_of(alloc, file, changed)?;
         equal = is_stored(alloc, files, file.0, &wanted)? && equal;
@@ -74,33 +75,21 @@ pub(crate) fn are_stored<F: FileSystem>(
     Ok(equal)
 }
 
-/// Makes the folder, one in it, and these files.
+/// Makes the folder, one in it, and these files. Answers how many the log's folder has.
 pub(crate) fn store_all<F: FileSystem>(
     alloc: Global,
     files: &mut F,
     stored: &[Stored],
-) -> Result<(), Fail> {
+) -> Result<usize, Fail> {
     files.make_dir("raft/more")?;
     for (path, parts) in stored {
         store(files, path, &joined(alloc, parts)?)?;
     }
-    Ok(())
+    Ok(files.list("raft")?.len())
 }
 
 pub(crate) fn settings_in(alloc: Global, mode: RecoveryMode) -> Result<Config, AllocError> {
     let mut config = settings(alloc)?;
     config.recovery_mode = mode;
     Ok(config)
-}
-
-/// What an opening holds.
-pub(crate) fn found<F: FileSystem + Drop>(
-    alloc: Global,
-    files: F,
-    mode: RecoveryMode,
-) -> Result<State, Fail> {
-    match Engine::open_in_order(alloc, settings_in(alloc, mode)?, files) {
-        Ok(mut engine) => Ok(state_of(&engine.image()?)),
-        Err(refused) => Err(refused.fault.into()),
-    }
 }
