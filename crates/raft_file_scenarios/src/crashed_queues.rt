@@ -26,7 +26,7 @@ enum Left {
 }
 
 enum Step {
-    /// Appends a batch that puts this key, and syncs the queue where that is asked.
+    /// Appends a batch that puts this key, 27 bytes, and syncs the queue where that is asked.
     Put(LogQueue, u8, bool),
     Sync(LogQueue),
     /// Goes on to the queue's next file.
@@ -124,7 +124,7 @@ const CASES: [Case; 7] = [
             Step::Put(Rewrite, b'c', true),
             Step::Put(Rewrite, b'd', false),
         ],
-        left: Left::Torn(27, 0xff),
+        left: Left::Torn(26, 0xff),
         append: &[(1, b'a')],
         rewrite: &[(1, b'c')],
     },
