@@ -153,10 +153,13 @@ fn holds(alloc: Global, batch: &mut LogBatch, step: &Step) -> Result<bool, Fault
 }
 
 // The place of the first step that comes to something else.
-fn first_wrong(alloc: Global, script: &Script) -> Result<Option<usize>, Fault> {
-    let mut batch = LogBatch::new(alloc);
+fn first_wrong(
+    alloc: Global,
+    batch: &mut LogBatch,
+    script: &Script,
+) -> Result<Option<usize>, Fault> {
     for (place, wanted) in script.steps.iter().enumerate() {
-        if !holds(alloc, &mut batch, wanted)? {
+        if !holds(alloc, batch, wanted)? {
             return Ok(Some(place));
         }
     }
@@ -166,7 +169,9 @@ fn first_wrong(alloc: Global, script: &Script) -> Result<Option<usize>, Fault> {
 #[test]
 fn batches_are_encoded_and_moved(rt: HostRuntime) -> Result<(), Fail> {
     for script in &SCRIPTS {
-        assert_eq!(rt; first_wrong(rt.alloc(), script)?, None, "{}", script.name);
+        let mut batch = LogBatch::new(rt.alloc());
+        let wrong = first_wrong(rt.alloc(), &mut batch, script)?;
+        assert_eq!(rt; wrong, None, "{}", script.name);
     }
     Ok(())
 }

@@ -41,8 +41,10 @@ const PARSED: [(&str, Option<(LogQueue, u64)>, Option<u64>); 9] = [
 fn names_are_parsed(rt: HostRuntime) {
     for (name, wanted, reserved) in &PARSED {
         let id = wanted.map(|(queue, seq)| FileId::new(queue, seq));
-        assert_eq!(rt; FileId::parse_file_name(name), id, "{name}");
-        assert_eq!(rt; parse_reserved_file_name(name), *reserved, "{name}");
+        assert!(rt;
+            FileId::parse_file_name(name) == id && parse_reserved_file_name(name) == *reserved,
+            "{name}"
+        );
     }
 }
 
@@ -62,16 +64,20 @@ const BUILT: [(u64, &str, &str, &str); 2] = [
     ),
 ];
 
+fn is_built(alloc: Global, row: &(u64, &str, &str, &str)) -> Result<bool, Fault> {
+    let (seq, name, path, reserved) = row;
+    let id = FileId::new(LogQueue::Append, *seq);
+    Ok(
+        id.build_file_name(alloc)?.as_str() == *name
+            && id.build_file_path(alloc, "data")?.as_str() == *path
+            && build_reserved_file_name(alloc, *seq)?.as_str() == *reserved,
+    )
+}
+
 #[test]
 fn names_are_built(rt: HostRuntime) -> Result<(), Fail> {
-    for (seq, name, path, reserved) in &BUILT {
-        let id = FileId::new(LogQueue::Append, *seq);
-        assert_eq!(rt; id.build_file_name(rt.alloc())?.as_str(), *name);
-        assert_eq!(rt; id.build_file_path(rt.alloc(), "data")?.as_str(), *path);
-        assert_eq!(rt;
-            build_reserved_file_name(rt.alloc(), *seq)?.as_str(),
-            *reserved
-        );
+    for row in &BUILT {
+        assert!(rt; is_built(rt.alloc(), row)?, "{}", row.1);
     }
     Ok(())
 }
@@ -116,9 +122,11 @@ fn headers_are_written_and_read(rt: HostRuntime) -> Result<(), Fail> {
         let format = LogFileFormat::new(*version, *alignment);
         assert!(rt; is_header_of(rt.alloc(), format, *numbers)?, "{format:?}");
     }
-    assert_eq!(rt; LogFileFormat::encoded_len(Version::V1), 61);
-    assert_eq!(rt; LogFileFormat::encoded_len(Version::V2), 69);
-    assert_eq!(rt; LogFileFormat::max_encoded_len(), 69);
+    assert!(rt;
+        LogFileFormat::encoded_len(Version::V1) == 61
+            && LogFileFormat::encoded_len(Version::V2) == 69
+            && LogFileFormat::max_encoded_len() == 69
+    );
     Ok(())
 }
 

@@ -262,18 +262,26 @@ fn holds(
 }
 
 // The place of the first step that comes to something else.
-fn first_wrong(alloc: Global, case: &Case) -> Result<Option<usize>, Fault> {
-    let bytes = bytes_of(alloc, case)?;
-    let mut reader = RecordReader::new(&bytes, FileId::new(LogQueue::Append, case.seq))?;
+fn wrong_step(
+    alloc: Global,
+    reader: &mut RecordReader<'_>,
+    case: &Case,
+) -> Result<Option<usize>, Fault> {
     if reader.format() != LogFileFormat::new(Version::V2, case.alignment) {
         return Err(Fault::Corruption);
     }
     for (place, wanted) in case.steps.iter().enumerate() {
-        if !holds(alloc, case.seq, &mut reader, wanted)? {
+        if !holds(alloc, case.seq, reader, wanted)? {
             return Ok(Some(place));
         }
     }
     Ok(None)
+}
+
+fn first_wrong(alloc: Global, case: &Case) -> Result<Option<usize>, Fault> {
+    let bytes = bytes_of(alloc, case)?;
+    let mut reader = RecordReader::new(&bytes, FileId::new(LogQueue::Append, case.seq))?;
+    wrong_step(alloc, &mut reader, case)
 }
 
 #[test]

@@ -61,23 +61,28 @@ fn apply(
     Ok(items.is_empty())
 }
 
+// Whether the value and its place are found.
+fn is_found(tables: &MemTables, found: &Found) -> bool {
+    let Found(group, key, wanted) = found;
+    match (
+        tables.get(*group, key),
+        tables.place_of(*group, key),
+        wanted,
+    ) {
+        (Some(value), Some(place), Some((wanted, seq))) => value == *wanted && place == file(*seq),
+        (None, None, None) => true,
+        _ => false,
+    }
+}
+
 #[test]
 fn items_apply_in_order(rt: HostRuntime) -> Result<(), Fail> {
     let mut tables = MemTables::new(rt.alloc());
     for (seq, changes) in &APPLIED {
         assert!(rt; apply(rt.alloc(), &mut tables, *seq, changes)?);
     }
-    for Found(group, key, wanted) in &FOUND {
-        assert_eq!(rt;
-            tables.get(*group, key),
-            wanted.map(|found| found.0),
-            "{key:?}"
-        );
-        assert_eq!(rt;
-            tables.place_of(*group, key),
-            wanted.map(|found| file(found.1)),
-            "{key:?}"
-        );
+    for found in &FOUND {
+        assert!(rt; is_found(&tables, found), "{:?}", found.1);
     }
     Ok(())
 }
@@ -135,15 +140,24 @@ fn hold(
     Ok(())
 }
 
+// Whether this is all that the table holds.
+fn is_held(table: &MemTable, key: &[u8], value: Option<&[u8]>) -> bool {
+    match (table.get(key), table.place(key), value) {
+        (Some(held), Some(place), Some(value)) => {
+            held == value && place == file(7) && !table.is_empty()
+        }
+        (None, None, None) => table.is_empty(),
+        _ => false,
+    }
+}
+
 #[test]
 fn a_table_keeps_each_key_once(rt: HostRuntime) -> Result<(), Fail> {
     let mut table = MemTable::new(rt.alloc());
-    assert!(rt; table.is_empty());
+    assert!(rt; is_held(&table, &[1], None));
     for value in &HELD {
         hold(rt.alloc(), &mut table, &[1], *value)?;
-        assert_eq!(rt; table.get(&[1]), *value);
-        assert_eq!(rt; table.place(&[1]), value.map(|_| file(7)));
-        assert_eq!(rt; table.is_empty(), value.is_none());
+        assert!(rt; is_held(&table, &[1], *value), "{value:?}");
     }
     Ok(())
 }
@@ -245,16 +259,36 @@ fn has_entries(tables: &MemTables, wanted: &[(u64, u64)]) -> bool {
             .all(|entry| file_of(tables, entry.0) == Some(entry.1))
 }
 
+// Applies an item of group 1.
+fn apply_one(
+    alloc: Global,
+    tables: &mut MemTables,
+    id: FileId,
+    ask: &Ask,
+    stats: &mut GlobalStats,
+) -> Result<(), Fault> {
+    let mut items = Vec::new(alloc);
+    items.push(item_of(alloc, 1, id, ask)?)?;
+    tables.apply_append_writes(&mut items, id, stats)
+}
+
+// Whether the item leaves what the step says, and no entry 6.
+fn leaves(alloc: Global, tables: &mut MemTables, step: &Step) -> Result<bool, Fault> {
+    let Step(seq, ask, wanted, known) = step;
+    apply_one(alloc, tables, file(*seq), ask, &mut GlobalStats::new())?;
+    let is_known = !tables.groups()?.is_empty();
+    Ok(has_entries(tables, wanted) && file_of(tables, 6).is_none() && is_known == *known)
+}
+
 #[test]
 fn entries_are_put_and_dropped(rt: HostRuntime) -> Result<(), Fail> {
     let mut tables = MemTables::new(rt.alloc());
-    let mut items = Vec::new(rt.alloc());
-    for Step(seq, ask, wanted, known) in &STEPS {
-        items.push(item_of(rt.alloc(), 1, file(*seq), ask)?)?;
-        tables.apply_append_writes(&mut items, file(*seq), &mut GlobalStats::new())?;
-        assert!(rt; has_entries(&tables, wanted), "after item {seq}");
-        assert_eq!(rt; file_of(&tables, 6), None, "after item {seq}");
-        assert_eq!(rt; !tables.groups()?.is_empty(), *known, "after item {seq}");
+    for step in &STEPS {
+        assert!(rt;
+            leaves(rt.alloc(), &mut tables, step)?,
+            "after item {}",
+            step.0
+        );
     }
     Ok(())
 }
@@ -321,18 +355,28 @@ fn fit_of(tables: &MemTables, items: &[LogItem]) -> Result<Fit, Fault> {
     }
 }
 
+// Whether the items fit as the row says.
+fn fits(alloc: Global, tables: &MemTables, check: &Check) -> Result<bool, Fault> {
+    let mut items = Vec::new(alloc);
+    for (group, ask) in check.0 {
+        items.push(item_of(alloc, *group, file(2), ask)?)?;
+    }
+    Ok(fit_of(tables, &items)? == check.1)
+}
+
 #[test]
 fn items_are_checked(rt: HostRuntime) -> Result<(), Fail> {
     let mut tables = MemTables::new(rt.alloc());
-    let mut items = Vec::new(rt.alloc());
-    items.push(item_of(rt.alloc(), 1, file(1), &Ask::Put(&[1, 2, 3]))?)?;
-    tables.apply_append_writes(&mut items, file(1), &mut GlobalStats::new())?;
-    for Check(asks, wanted) in &CHECKS {
-        items.clear();
-        for (group, ask) in *asks {
-            items.push(item_of(rt.alloc(), *group, file(2), ask)?)?;
-        }
-        assert_eq!(rt; fit_of(&tables, &items)?, *wanted);
+    let asked = &Ask::Put(&[1, 2, 3]);
+    apply_one(
+        rt.alloc(),
+        &mut tables,
+        file(1),
+        asked,
+        &mut GlobalStats::new(),
+    )?;
+    for (place, check) in CHECKS.iter().enumerate() {
+        assert!(rt; fits(rt.alloc(), &tables, check)?, "row {place}");
     }
     Ok(())
 }
@@ -353,17 +397,24 @@ const COUNTS: [(Count, u64, u64); 6] = [
     (Count::Reset, 3, 0),
 ];
 
+fn counts(stats: &GlobalStats) -> (u64, u64) {
+    (stats.rewritten_entries(), stats.deleted_rewrite_entries())
+}
+
+fn change(stats: &mut GlobalStats, change: &Count) {
+    match change {
+        Count::Add(queue, n) => stats.add(*queue, *n),
+        Count::Delete(queue, n) => stats.delete(*queue, *n),
+        Count::Reset => stats.reset_rewrite_counters(),
+    }
+}
+
 #[test]
 fn what_was_rewritten_is_counted(rt: HostRuntime) {
     let mut stats = GlobalStats::new();
-    for (count, rewritten, deleted) in &COUNTS {
-        match count {
-            Count::Add(queue, n) => stats.add(*queue, *n),
-            Count::Delete(queue, n) => stats.delete(*queue, *n),
-            Count::Reset => stats.reset_rewrite_counters(),
-        }
-        assert_eq!(rt; stats.rewritten_entries(), *rewritten);
-        assert_eq!(rt; stats.deleted_rewrite_entries(), *deleted);
+    for (changed, rewritten, deleted) in &COUNTS {
+        change(&mut stats, changed);
+        assert_eq!(rt; counts(&stats), (*rewritten, *deleted));
     }
 }
 
@@ -397,13 +448,15 @@ const COUNTED: [Counted; 19] = [
 fn what_leaves_the_rewrite_queue_is_counted(rt: HostRuntime) -> Result<(), Fail> {
     let mut tables = MemTables::new(rt.alloc());
     let mut stats = GlobalStats::new();
-    let mut items = Vec::new(rt.alloc());
     for Counted(queue, ask, rewritten, deleted) in &COUNTED {
-        let id = FileId::new(*queue, 1);
-        items.push(item_of(rt.alloc(), 1, id, ask)?)?;
-        tables.apply_append_writes(&mut items, id, &mut stats)?;
-        assert_eq!(rt; stats.rewritten_entries(), *rewritten);
-        assert_eq!(rt; stats.deleted_rewrite_entries(), *deleted);
+        apply_one(
+            rt.alloc(),
+            &mut tables,
+            FileId::new(*queue, 1),
+            ask,
+            &mut stats,
+        )?;
+        assert_eq!(rt; counts(&stats), (*rewritten, *deleted));
     }
     Ok(())
 }
