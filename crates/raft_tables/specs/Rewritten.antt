@@ -112,14 +112,15 @@ state_after None place = if bytes_eq place first_place then Some Begun else None
 state_after (Some Begun) place = if bytes_eq place last_place then Some Complete else Some Begun
 state_after (Some Complete) place = Some Complete
 
--- .. after a batch, of which these are the place bytes, if it is one of the group
+-- .. after a batch: its place bytes where it is one of the group, and else none
 abbrev pub state_after_place : Option GroupState → Option (List ℕ) → Option GroupState
 state_after_place state None = state
 state_after_place state (Some place) = state_after state place
 
 -- .. after batches
 abbrev pub state_in : ℕ → Option GroupState → List PlacedBatch → Option GroupState
-state_in id state batches = fold (λ s b. state_after_place s (place_by id (placed_mark b))) state batches
+state_in id state batches =
+    fold (λ s b. state_after_place s (place_by id (placed_mark b))) state batches
 
 -- the first batch of the group was seen, and the last one after it
 abbrev pub is_seen_whole : Option GroupState → Bool
