@@ -26,7 +26,7 @@ enum Left {
 }
 
 enum Step {
-    /// Appends a batch that puts this key, and syncs the queue where that is asked.
+    /// Appends a batch that puts this key, 27 bytes, and syncs the queue where that is asked.
     Put(LogQueue, u8, bool),
     Sync(LogQueue),
     /// Goes on to the queue's next file.
@@ -124,7 +124,7 @@ const CASES: [Case; 7] = [
             Step::Put(Rewrite, b'c', true),
             Step::Put(Rewrite, b'd', false),
         ],
-        left: Left::Torn(27, 0xff),
+        left: Left::Torn(26, 0xff),
         append: &[(1, b'a')],
         rewrite: &[(1, b'c')],
     },
@@ -140,7 +140,10 @@ enum Stage {
 }
 
 /// The two queues that each opening finds.
-const ONE_EACH: [Step; 2] = [Step::Put(Append, b'a', true), Step::Put(Rewrite, b'b', true)];
+const ONE_EACH: [Step; 2] = [
+    Step::Put(Append, b'a', true),
+    Step::Put(Rewrite, b'b', true),
+];
 
 /// An opening of two queues, each of one file: the call that storage refuses, the stages, and the code with which the
 /// opening isn't finished.
@@ -332,8 +335,12 @@ fn take<F: FileSystem>(
 
 // The files once the steps were taken, of which no pipe was closed.
 fn written<F: FileSystem + Drop>(alloc: Global, fs: F, steps: &[Step]) -> Result<F, Fault> {
-    let mut append = Keys { found: Vec::new(alloc) };
-    let mut rewrite = Keys { found: Vec::new(alloc) };
+    let mut append = Keys {
+        found: Vec::new(alloc),
+    };
+    let mut rewrite = Keys {
+        found: Vec::new(alloc),
+    };
     let (mut pipes, mut fs) = opened(alloc, fs, &mut append, &mut rewrite)?;
     for step in steps {
         take(alloc, &mut fs, &mut pipes, step)?;
@@ -348,8 +355,12 @@ fn reads<F: FileSystem + Drop>(
     in_append: &[(u64, u8)],
     in_rewrite: &[(u64, u8)],
 ) -> Result<Option<F>, Fault> {
-    let mut append = Keys { found: Vec::new(alloc) };
-    let mut rewrite = Keys { found: Vec::new(alloc) };
+    let mut append = Keys {
+        found: Vec::new(alloc),
+    };
+    let mut rewrite = Keys {
+        found: Vec::new(alloc),
+    };
     let (_pipes, fs) = opened(alloc, fs, &mut append, &mut rewrite)?;
     let are_same = append.found.as_slice() == in_append && rewrite.found.as_slice() == in_rewrite;
     Ok(are_same.then_some(fs))
@@ -368,7 +379,9 @@ fn holds<F: FileSystem>(
     builder: &mut DualPipesBuilder<F>,
     stage: &Stage,
 ) -> Result<bool, Fault> {
-    let mut machine = Keys { found: Vec::new(alloc) };
+    let mut machine = Keys {
+        found: Vec::new(alloc),
+    };
     match stage {
         Stage::Scan => {
             builder.scan()?;
@@ -405,11 +418,7 @@ fn staged<F: FileSystem + Drop>(
     Ok((are_right && answer == finished).then_some(fs))
 }
 
-fn crashed(
-    alloc: Global,
-    fs: &MemoryFileSystem,
-    left: &Left,
-) -> Result<MemoryFileSystem, Fault> {
+fn crashed(alloc: Global, fs: &MemoryFileSystem, left: &Left) -> Result<MemoryFileSystem, Fault> {
     let mut choices = Vec::new(alloc);
     for _ in 0..FILES {
         choices.push(match left {
