@@ -48,9 +48,9 @@ through_moments folder m p before noted (op ∷ ops) (o ∷ outcomes) now notes 
     (rest.0 ++ passed.1.added, rest.1 ∙ ap (λ (l : List Directory). rest.0 ++ l) passed.1.is ∙ sym (append_assoc rest.0 passed.1.added before.moments))
 
 -- what holds of each engine between two calls
-pub record Keeps (folder : Path) (now : Durability) (n : Directory) : Type 0 where
-  pub leaves : LeavesAllowed folder (recovered_contents now.base) now.unsynced n
-  pub holds : now.failed ≡ false → recovered_contents (now.base ++ now.unsynced) ≡ after_batches (recovered_contents now.base) now.unsynced
+pub record Keeps (folder : Path) (found : Contents) (now : Durability) (n : Directory) : Type 0 where
+  pub leaves : LeavesAllowed folder (after_batches found now.base) now.unsynced n
+  pub holds : now.failed ≡ false → after_batches found (now.base ++ now.unsynced) ≡ after_batches (after_batches found now.base) now.unsynced
 
 -- the moments of one call: those inside it, and the newest of them once it is answered
 module _ (folder : Path) (m : Contents) (p : Progress) (op : Op) (outcome : Outcome) (before : Snapshot) (answer : Answered) (given : IsGiven before.failed (after_batches m p.batches) op answer.given) (P : Directory → Type 0) (n : Directory) where

@@ -239,8 +239,8 @@ fn open_again<F: FileSystem + Drop>(
     config: Config,
     files: F,
 ) -> Answer
-    ensures value { OpensTo result engine.new (IsNewWith (string_bytes config.dir)
-        (readable_in (string_bytes config.dir) (F.directory files))) }
+    ensures value { let dir = string_bytes config.dir in OpensTo result engine.new (IsNewWith dir
+        (contents_at dir (F.directory files)) (known_at dir (F.directory files))) }
 {
     answer_opening(engine, Engine::open_in_order(alloc, config, files))
 }

@@ -76,9 +76,10 @@ fn run_over<F: FileSystem + Drop>(
     ops: &[Op],
 ) -> Result<(RunReport, F), Fault>
     ensures ok { IfOk result (λ r. let dir = string_bytes config.dir in
-        let found = readable_in dir (F.directory files) in
-        RecoversContents dir (recovered_contents found) [] (F.directory files)
-        → RunsOver dir found ops.now r.0.outcomes.items r.0.failed_at (F.directory r.1)) }
+        let found = contents_at dir (F.directory files) in
+        RecoversContents dir found [] (F.directory files)
+        → RunsOver dir found (known_at dir (F.directory files)) ops.now r.0.outcomes.items
+        r.0.failed_at (F.directory r.1)) }
     ensures crash { IfOk result (λ r.
         ReadsCompletedRecordsIn (string_bytes config.dir) (F.directory files) → r.0.failed_at ≡ None
         → (r.0.outcomes.items ≡ [] → ⊥)
