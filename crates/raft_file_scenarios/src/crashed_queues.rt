@@ -43,7 +43,7 @@ struct Case {
     rewrite: &'static [(u64, u8)],
 }
 
-const CASES: [Case; 7] = [
+static CASES: [Case; 7] = [
     Case {
         name: "nothing was written",
         steps: &[],
@@ -154,7 +154,7 @@ struct Opening {
     finished: Option<u8>,
 }
 
-const OPENINGS: [Opening; 9] = [
+static OPENINGS: [Opening; 9] = [
     Opening {
         name: "nothing is read",
         refused: None,

@@ -58,7 +58,7 @@ struct Script {
     steps: &'static [Step],
 }
 
-const SCRIPTS: [Script; 6] = [
+static SCRIPTS: [Script; 6] = [
     Script {
         name: "written, read, cut and listed",
         steps: &[

@@ -35,7 +35,7 @@ struct Case {
     files: &'static [(&'static str, usize)],
 }
 
-const CASES: [Case; 2] = [
+static CASES: [Case; 2] = [
     Case {
         name: "three files",
         found: None,

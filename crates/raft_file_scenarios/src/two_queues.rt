@@ -45,7 +45,7 @@ const APPEND_2: (&str, &[&[u8]]) = ("data/0000000000000002.raftlog", &[HEADER, P
 
 const REWRITE_1: (&str, &[&[u8]]) = ("data/0000000000000001.rewrite", &[HEADER, PUT_1, PUT_2]);
 
-const CASES: [Case; 5] = [
+static CASES: [Case; 5] = [
     Case {
         name: "no files",
         stored: &[],

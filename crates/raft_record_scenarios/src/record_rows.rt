@@ -65,7 +65,7 @@ pub(crate) const FILE_2_AND_2_32: LogFileContext = LogFileContext {
     version: Version::V2,
 };
 
-pub(crate) const DECODED: [DecodedRecord; 41] = [
+pub(crate) static DECODED: [DecodedRecord; 41] = [
     DecodedRecord {
         name: "no items",
         file: UNSIGNED,

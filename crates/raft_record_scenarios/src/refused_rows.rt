@@ -14,7 +14,7 @@ pub(crate) struct RefusedRecord {
     pub replayed: Option<u8>,
 }
 
-pub(crate) const REFUSED: [RefusedRecord; 66] = [
+pub(crate) static REFUSED: [RefusedRecord; 66] = [
     RefusedRecord {
         name: "a put that is not signed",
         file: FILE_1,

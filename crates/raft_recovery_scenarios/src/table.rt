@@ -85,7 +85,7 @@ const END_7: Batch = &[mark!(7, 2), entries_item!(4)];
 
 const BEGIN_8: Batch = &[mark!(8, 0), entries_item!(3)];
 
-const MARKS: [Row; 8] = [
+static MARKS: [Row; 8] = [
     Row(
         "a delete without its mark",
         Queues(&[put![1]], &[DELETE], &[], None),
@@ -128,7 +128,7 @@ const MARKS: [Row; 8] = [
     ),
 ];
 
-const REWRITING: [Row; 7] = [
+static REWRITING: [Row; 7] = [
     Row(
         "rewriting that starts late",
         Queues(&[entries![3, 4]], &[entries![5, 6]], &[3, 4, 5, 6], None),
@@ -181,7 +181,7 @@ const REWRITING: [Row; 7] = [
     ),
 ];
 
-const DROPS: [Row; 7] = [
+static DROPS: [Row; 7] = [
     Row(
         "a dropped front with a key",
         Queues(&[], &[put![1]], &[], Some(1)),
@@ -219,7 +219,7 @@ const DROPS: [Row; 7] = [
     ),
 ];
 
-const SYNCS: [Row; 8] = [
+static SYNCS: [Row; 8] = [
     Row(
         "a compaction mark before Append's sync",
         Queues(
