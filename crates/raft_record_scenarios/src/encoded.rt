@@ -2,7 +2,7 @@
 
 ghost use Rattle.std.specs.Prelude.{◌≡◌, [], ◌∷◌};
 
-use crate::record_rows::{DECODED, DecodedRecord, WantedItem};
+use crate::record_rows::{DecodedRecord, WantedItem, decoded};
 use crate::records::items_of;
 use raft_records::{Command, EntryIndex, Fault, FileBlockHandle, LogBatch, Message, MessageExt};
 use std::alloc::{AllocError, Global};
@@ -105,7 +105,7 @@ fn comes_to(alloc: Global, record: &DecodedRecord) -> Result<bool, Fault> {
 
 #[test]
 fn decoded_records_are_encoded(rt: HostRuntime) -> Result<(), Fail> {
-    for record in &DECODED {
+    for record in decoded() {
         assert!(rt; comes_to(rt.alloc(), record)?, "{}", record.name);
     }
     Ok(())

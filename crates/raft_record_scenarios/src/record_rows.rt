@@ -65,7 +65,12 @@ pub(crate) const FILE_2_AND_2_32: LogFileContext = LogFileContext {
     version: Version::V2,
 };
 
-pub(crate) static DECODED: [DecodedRecord; 41] = [
+/// The table, in the smallest function, since each that names it is checked with all of it.
+pub(crate) fn decoded() -> &'static [DecodedRecord] {
+    &DECODED
+}
+
+static DECODED: [DecodedRecord; 41] = [
     DecodedRecord {
         name: "no items",
         file: UNSIGNED,

@@ -1,7 +1,7 @@
 //! Records as bytes: what is read and replayed of them.
 
-use crate::record_rows::{DECODED, DecodedRecord, UNSIGNED, WantedItem};
-use crate::refused_rows::{REFUSED, RefusedRecord};
+use crate::record_rows::{DecodedRecord, UNSIGNED, WantedItem, decoded};
+use crate::refused_rows::{RefusedRecord, refused};
 use raft_records::{
     Command, EntryIndex, Fault, FileBlockHandle, KeyValue, LogFileContext, LogItem, LogItemBatch,
     LogItemContent, RecordHeader, decode_entries_block, decode_header, decode_record,
@@ -127,7 +127,7 @@ fn is_decoded(alloc: Global, record: &DecodedRecord) -> Result<bool, AllocError>
 
 #[test]
 fn records_are_decoded(rt: HostRuntime) -> Result<(), Fail> {
-    for record in &DECODED {
+    for record in decoded() {
         assert!(rt; is_decoded(rt.alloc(), record)?, "{}", record.name);
     }
     Ok(())
@@ -152,7 +152,7 @@ fn is_refused_twice(alloc: Global, record: &RefusedRecord) -> bool {
 
 #[test]
 fn broken_records_are_refused(rt: HostRuntime) {
-    for record in &REFUSED {
+    for record in refused() {
         assert!(rt; is_refused_twice(rt.alloc(), record), "{}", record.name);
     }
 }

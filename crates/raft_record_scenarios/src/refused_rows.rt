@@ -14,7 +14,12 @@ pub(crate) struct RefusedRecord {
     pub replayed: Option<u8>,
 }
 
-pub(crate) static REFUSED: [RefusedRecord; 66] = [
+/// The table, in the smallest function, since each that names it is checked with all of it.
+pub(crate) fn refused() -> &'static [RefusedRecord] {
+    &REFUSED
+}
+
+static REFUSED: [RefusedRecord; 66] = [
     RefusedRecord {
         name: "a put that is not signed",
         file: FILE_1,
