@@ -65,12 +65,13 @@ pub(crate) const FILE_2_AND_2_32: LogFileContext = LogFileContext {
     version: Version::V2,
 };
 
-/// The table, in the smallest function, since each that names it is checked with all of it.
-pub(crate) fn decoded() -> &'static [DecodedRecord] {
-    &DECODED
+/// The rows in several tables, each named here alone: a function is checked with all of each table
+/// that it names, and that grows with the square of the table.
+pub(crate) fn decoded() -> [&'static [DecodedRecord]; 4] {
+    [&EACH_KIND, &SEVERAL_ENTRIES, &COMMANDS_AND_KEYS, &NUMBERS]
 }
 
-static DECODED: [DecodedRecord; 41] = [
+static EACH_KIND: [DecodedRecord; 10] = [
     DecodedRecord {
         name: "no items",
         file: UNSIGNED,
@@ -161,6 +162,9 @@ static DECODED: [DecodedRecord; 41] = [
         block: (16, 0, false),
         items: &[Entries(1, &[])],
     },
+];
+
+static SEVERAL_ENTRIES: [DecodedRecord; 11] = [
     DecodedRecord {
         name: "two entries of one group, signed",
         file: FILE_1,
@@ -270,6 +274,9 @@ static DECODED: [DecodedRecord; 41] = [
             Entries(7, &[(2, 1, 2)]),
         ],
     },
+];
+
+static COMMANDS_AND_KEYS: [DecodedRecord; 11] = [
     DecodedRecord {
         name: "a compaction to 300",
         file: FILE_1,
@@ -388,6 +395,9 @@ static DECODED: [DecodedRecord; 41] = [
             Entries(2, &[(7, 2, 3)]),
         ],
     },
+];
+
+static NUMBERS: [DecodedRecord; 9] = [
     DecodedRecord {
         name: "an entry with the index 2^64 - 2",
         file: FILE_1,

@@ -127,8 +127,10 @@ fn is_decoded(alloc: Global, record: &DecodedRecord) -> Result<bool, AllocError>
 
 #[test]
 fn records_are_decoded(rt: HostRuntime) -> Result<(), Fail> {
-    for record in decoded() {
-        assert!(rt; is_decoded(rt.alloc(), record)?, "{}", record.name);
+    for table in &decoded() {
+        for record in *table {
+            assert!(rt; is_decoded(rt.alloc(), record)?, "{}", record.name);
+        }
     }
     Ok(())
 }
@@ -152,8 +154,10 @@ fn is_refused_twice(alloc: Global, record: &RefusedRecord) -> bool {
 
 #[test]
 fn broken_records_are_refused(rt: HostRuntime) {
-    for record in refused() {
-        assert!(rt; is_refused_twice(rt.alloc(), record), "{}", record.name);
+    for table in &refused() {
+        for record in *table {
+            assert!(rt; is_refused_twice(rt.alloc(), record), "{}", record.name);
+        }
     }
 }
 
