@@ -179,7 +179,7 @@ const OPEN: &[Row] = &[
     (Step::Create("b"), None, "b", Some(b"")),
 ];
 
-const CASES: [Case; 10] = [
+static CASES: [Case; 10] = [
     Case {
         name: "names",
         openings: [NAMES, NAMES_AGAIN, NAMES_WRITTEN],

@@ -33,7 +33,7 @@ const LONG: &str = "\
 
 const NOT_PLAIN: &str = "neither a folder nor a file of one name";
 
-const CASES: [Case; 6] = [
+static CASES: [Case; 6] = [
     Case {
         made: &[Made::File("f")],
         opened: "/f",

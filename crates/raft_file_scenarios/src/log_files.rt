@@ -21,7 +21,7 @@ enum Step {
     Close,
 }
 
-const STEPS: [(Step, usize, usize); 6] = [
+static STEPS: [(Step, usize, usize); 6] = [
     (Step::Write(b"first", 100), 74, 100),
     (Step::Write(b"second", 100), 80, 100),
     (Step::Sync, 80, 100),
