@@ -2,7 +2,7 @@
 
 use crate::held::{Faulty, Held};
 use crate::rows::{Rows, Wrong, each_holds};
-use crate::stored::{HEADER_1, HEADER_2, HEADER_MOVED, Stored, are_stored, settings_in, store_all};
+use crate::stored::{HEADER_1, HEADER_2, HEADER_MOVED, Stored};
 use raft_log_engine::RecoveryMode;
 use raft_plans::{EMPTY, State};
 use std::alloc::Global;
@@ -300,53 +300,46 @@ static NAMES: [Folder; 1] = [Folder {
     ],
 }];
 
-// Whether an opening finds this, and a key k where something else is there.
-fn finds<F: Faulty>(
-    alloc: Global,
-    held: &mut Held<F>,
-    mode: RecoveryMode,
-    state: State,
-) -> Result<bool, Fail> {
-    held.open(alloc, settings_in(alloc, mode)?);
-    Ok(held.has(state)? && held.has_key(b"k")? == state.other)
-}
-
-// Whether an opening comes to what is wanted.
+// Whether an opening comes to what is wanted; a key k is there where the state has something else.
 fn comes_to<F: Faulty>(
     alloc: Global,
     held: &mut Held<F>,
     mode: RecoveryMode,
     wanted: &Result<State, u8>,
-) -> Result<bool, Fail> {
+) -> bool {
+    let is_tried = held.open(alloc, mode);
     match wanted {
-        Ok(state) => finds(alloc, held, mode, *state),
-        Err(code) => {
-            held.open(alloc, settings_in(alloc, mode)?);
-            Ok(held.code() == Some(*code))
-        }
+        Ok(state) => is_tried && held.has(*state) && held.has_key(b"k", state.other),
+        Err(code) => is_tried && held.code() == Some(*code),
     }
 }
 
-// Whether an opening comes to what is wanted, and, where it holds a state, the next one to the same. Between them the
-// engine is closed, or gives the files up.
+// After an opening the engine is closed where that is asked, or gives the files up.
+fn put_back<F: Faulty>(held: &mut Held<F>, closes: bool) {
+    if closes && held.code().is_none() {
+        held.close();
+    }
+    held.give_up();
+}
+
+// Whether an opening comes to what is wanted, and, where it holds a state, the next one to the same.
 fn holds<F: Faulty>(
     alloc: Global,
     held: &mut Held<F>,
     files: &[Stored],
     opening: &Opening,
     closes: bool,
-) -> Result<bool, Fail> {
+) -> bool {
     let Opening(mode, wanted, changed) = opening;
     held.renew(alloc);
-    let count = store_all(alloc, held.files()?, files)?;
-    let is_opened = comes_to(alloc, held, *mode, wanted)?;
-    if closes && wanted.is_ok() {
-        held.close();
-    }
-    held.give_up();
-    let is_left = are_stored(alloc, held.files()?, files, changed, count)?;
-    let is_kept = wanted.is_err() || comes_to(alloc, held, TAIL, wanted)?;
-    Ok(is_opened && is_left && is_kept)
+    let Some(count) = held.store(alloc, files) else {
+        return false;
+    };
+    let is_opened = comes_to(alloc, held, *mode, wanted);
+    put_back(held, closes);
+    is_opened
+        && held.stores(alloc, files, changed, count)
+        && (wanted.is_err() || comes_to(alloc, held, TAIL, wanted))
 }
 
 /// The first folder, and the opening of it, that comes to something else.
@@ -355,19 +348,19 @@ pub(crate) fn wrong_opening<F: Faulty>(
     held: &mut Held<F>,
     folders: &'static [Folder],
     closes: bool,
-) -> Result<Wrong, Fail> {
+) -> Wrong {
     for Folder {
         name,
         files,
         openings,
     } in folders {
         for (place, opening) in openings.iter().enumerate() {
-            if !holds(alloc, held, files, opening, closes)? {
-                return Ok(Some((*name, place)));
+            if !holds(alloc, held, files, opening, closes) {
+                return Some((*name, place));
             }
         }
     }
-    Ok(None)
+    None
 }
 
 #[test]
