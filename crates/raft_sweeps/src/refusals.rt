@@ -121,17 +121,19 @@ struct Told {
 // An operation is answered as the ones done before it tell. One alone fails by the files, and those after it by a
 // failed engine, if at all.
 fn is_told(told: &mut Told, op: &Op, outcome: &Outcome, kind: IoKind) -> bool {
-    let is_right = match fault_of(outcome) {
-        Some(Fault::Failed) => told.refused,
-        Some(fault) => is_refusal(fault, kind) && !told.refused,
-        None => true,
-    };
-    let is_right = is_right && tells(told.state, op, outcome);
+    let is_right = tells(told.state, op, outcome);
+    let was_refused = told.refused;
     match fault_of(outcome) {
-        Some(_) => told.refused = true,
-        None => told.state = after(told.state, op),
+        None => {
+            told.state = after(told.state, op);
+            is_right
+        }
+        Some(Fault::Failed) => is_right && was_refused,
+        Some(fault) => {
+            told.refused = true;
+            is_right && is_refusal(fault, kind) && !was_refused
+        }
     }
-    is_right
 }
 
 // Whether one of the operations fails, or nothing where one is answered in another way.
@@ -180,7 +182,7 @@ struct Failing {
 }
 
 // Whether the opening or an operation fails, or nothing where one is answered in another way.
-fn is_refused<F>(ops: &[Op], shown: &Shown<F>, kind: IoKind) -> Option<bool> {
+fn is_refused(ops: &[Op], shown: &Shown<MemoryFileSystem>, kind: IoKind) -> Option<bool> {
     let refused = is_one_refused(ops, &shown.outcomes, kind)?;
     match &shown.opening {
         Some(fault) if is_refusal(fault, kind) => Some(true),
@@ -190,10 +192,10 @@ fn is_refused<F>(ops: &[Op], shown: &Shown<F>, kind: IoKind) -> Option<bool> {
 }
 
 // Whether all is answered as is wanted, where the failing call was met or wasn't.
-fn are_answers<F>(
+fn are_answers(
     ops: &[Op],
     wanted: &[Outcome],
-    shown: &Shown<F>,
+    shown: &Shown<MemoryFileSystem>,
     failing: Failing,
     is_met: bool,
 ) -> bool {
