@@ -2,6 +2,8 @@
 #![tactic(auto)]
 
 #[cfg(test)]
+mod asks;
+#[cfg(test)]
 mod batches;
 #[cfg(test)]
 mod changes;
@@ -13,6 +15,8 @@ mod numbers;
 mod openings;
 #[cfg(test)]
 mod reading;
+#[cfg(test)]
+mod rows;
 #[cfg(test)]
 mod settings;
 #[cfg(test)]
