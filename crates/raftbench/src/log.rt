@@ -15,56 +15,22 @@ const FOLDER: &str = "bench";
 
 const LOG_PATH: &str = "bench/0000000000000001.raftlog";
 
-/// What one engine found, and its log.
-#[derive(Clone, Copy)]
-struct Figures {
-    found: u64,
-    sum: u32,
-    len: usize,
-    last_found: bool,
-}
-
 /// Puts, reads of keys in no order, and a close and an opening, over one engine. Answers the length of a record.
 pub(crate) fn put_get_reopen<R: Host, F: FileSystem + Drop>(
     rt: &R,
     files: F,
     load: Load,
 ) -> Result<usize> {
-    let engine = open(rt.alloc(), files, load.file_size)?;
-    let figures = figures_of(rt, engine, load)?;
-    print(rt, figures, load)?;
-    Ok(figures.len / (load.count as usize).max(1))
-}
-
-fn print<R: Host>(rt: &R, figures: Figures, load: Load) -> Result<()> {
-    let Figures {
-        found,
-        sum,
-        len,
-        last_found,
-    } = figures;
+    let mut engine = open(rt.alloc(), files, load.file_size)?;
+    let (found, sum) = put_and_get(rt, &mut engine, load)?;
+    let (len, last_found) = reopen(rt, engine, load)?;
     let Load { name, count, .. } = load;
     println!(rt;
         "{name}: {count} operations, {len} bytes of log\n  \
          get: {count} operations, {found} found, checksum {sum:08x}\n  \
          reopen: {count} records, {len} bytes of log, last found: {last_found}"
     )?;
-    Ok(())
-}
-
-fn figures_of<R: Host, F: FileSystem + Drop>(
-    rt: &R,
-    mut engine: Engine<F>,
-    load: Load,
-) -> Result<Figures> {
-    let (found, sum) = put_and_get(rt, &mut engine, load)?;
-    let (len, last_found) = reopen(rt, engine, load)?;
-    Ok(Figures {
-        found,
-        sum,
-        len,
-        last_found,
-    })
+    Ok(len / (count as usize).max(1))
 }
 
 // How many keys are found, and the checksum of their values, which no clock times.

@@ -134,29 +134,16 @@ pub(crate) fn write_all<F: FileSystem>(
     let mut bytes = 0u64;
     let mut unsynced = 0u64;
     for written in batches {
-        add(&mut batch, written)?;
+        match written {
+            Written::Put(group, key, value) => batch.put(group, key, value)?,
+            Written::Entries(group, entries) => batch.add_entries::<Entries>(group, &entries)?,
+        }
         unsynced = unsynced.saturating_add(1);
         let sync = unsynced == sync_each;
         if sync {
             unsynced = 0;
         }
-        bytes = bytes.saturating_add(write(engine, &mut batch, sync)? as u64);
+        bytes = bytes.saturating_add(engine.write(&mut batch, sync)? as u64);
     }
     Ok(bytes)
-}
-
-fn add(batch: &mut LogBatch, written: Written) -> Result<(), Fault> {
-    match written {
-        Written::Put(group, key, value) => batch.put(group, key, value),
-        Written::Entries(group, entries) => batch.add_entries::<Entries>(group, &entries),
-    }
-}
-
-// In a function of its own, since what is said of a write counts for each way out after it.
-fn write<F: FileSystem>(
-    engine: &mut Engine<F>,
-    batch: &mut LogBatch,
-    sync: bool,
-) -> Result<usize, Fault> {
-    engine.write(batch, sync)
 }

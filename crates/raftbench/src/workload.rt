@@ -82,44 +82,24 @@ impl Workload {
     }
 
     pub(crate) fn run<R: Host>(&self, rt: &R, amount: Amount) -> Result<()> {
-        run_over(
-            rt,
-            self.1,
-            MemoryFileSystem::new(rt.alloc()),
-            self.load(amount),
-        )
-    }
-
-    fn load(&self, amount: Amount) -> Load {
         let Workload(name, kind, sync_each, file_size) = self;
-        Load {
+        let Amount { count, size } = amount;
+        let load = Load {
             name: *name,
-            count: amount.count,
-            keys: kind.keys(amount),
-            size: amount.size,
-            batch_len: kind.batch_len(amount),
+            count,
+            keys: match kind {
+                Kind::Puts(keys) => count.min(*keys),
+                _ => count,
+            },
+            size,
+            batch_len: match kind {
+                Kind::Entries(bytes) => (*bytes / (size as u64).max(1)).min(count / GROUPS).max(1),
+                _ => 1,
+            },
             sync_each: *sync_each,
             file_size: *file_size,
-        }
-    }
-}
-
-impl Kind {
-    fn keys(self, amount: Amount) -> u64 {
-        match self {
-            Kind::Puts(keys) => amount.count.min(keys),
-            _ => amount.count,
-        }
-    }
-
-    fn batch_len(self, amount: Amount) -> u64 {
-        match self {
-            Kind::Entries(bytes) => {
-                let len = bytes / (amount.size as u64).max(1);
-                len.min(amount.count / GROUPS).max(1)
-            }
-            _ => 1,
-        }
+        };
+        run_over(rt, *kind, MemoryFileSystem::new(rt.alloc()), load)
     }
 }
 

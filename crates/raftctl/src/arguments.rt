@@ -38,7 +38,7 @@ const COUNT: Word = Word("COUNT", Kind::Number, "How many keys");
 
 const SIZE: Word = Word("SIZE", Kind::Number, "The bytes of each value");
 
-static OF_KEYS: [Form; 4] = [
+const FORMS: [Form; 13] = [
     Form {
         name: "put",
         about: "Puts a value at a key of a group, and syncs it",
@@ -59,9 +59,6 @@ static OF_KEYS: [Form; 4] = [
         about: "Prints a line for each key: its group, itself and the bytes of its value",
         words: &[Word("GROUP", Kind::Optional, "The keys of this group alone")],
     },
-];
-
-static OF_ENTRIES: [Form; 4] = [
     Form {
         name: "append",
         about: "Adds entries to a group, syncs them, and prints the first and the last index of them",
@@ -107,9 +104,6 @@ static OF_ENTRIES: [Form; 4] = [
             NO_SYNC,
         ],
     },
-];
-
-static OF_GROUPS: [Form; 5] = [
     Form {
         name: "clean",
         about: "Drops all entries and keys of a group, and syncs that",
@@ -144,12 +138,6 @@ static OF_GROUPS: [Form; 5] = [
         words: &[COUNT, SIZE],
     },
 ];
-
-// In this order help lists them. A function is checked with all of each table that it names, and that grows with the
-// square of the table.
-fn forms() -> [&'static [Form]; 3] {
-    [&OF_KEYS, &OF_ENTRIES, &OF_GROUPS]
-}
 
 /// Reads the words of a command line, the program's name first.
 pub(crate) fn parse<'a>(alloc: Global, words: &'a [String]) -> Result<Request<'a>, Error> {
@@ -223,18 +211,11 @@ fn read_load<'a>(name: &str, matches: &ArgMatches<'a>) -> Option<Verb<'a>> {
     }
 }
 
-fn subcommands<'a>(alloc: Global) -> Result<Vec<Command<'a>>, AllocError> {
-    let mut subcommands = Vec::new(alloc);
-    for forms in &forms() {
-        for form in *forms {
-            subcommands.push(subcommand(alloc, form)?)?;
-        }
-    }
-    Ok(subcommands)
-}
-
 fn command<'a>(alloc: Global) -> Result<Command<'a>, AllocError> {
-    let subcommands = subcommands(alloc)?;
+    let mut subcommands = Vec::new(alloc);
+    for form in &FORMS {
+        subcommands.push(subcommand(alloc, form)?)?;
+    }
     let folder = Word(
         "FOLDER",
         Kind::Text,
@@ -247,16 +228,11 @@ fn command<'a>(alloc: Global) -> Result<Command<'a>, AllocError> {
         .subcommands(subcommands)
 }
 
-fn arguments<'a>(alloc: Global, form: &Form) -> Result<Vec<Arg<'a>>, AllocError> {
+fn subcommand<'a>(alloc: Global, form: &Form) -> Result<Command<'a>, AllocError> {
     let mut arguments = Vec::new(alloc);
     for word in form.words {
         arguments.push(argument(alloc, *word))?;
     }
-    Ok(arguments)
-}
-
-fn subcommand<'a>(alloc: Global, form: &Form) -> Result<Command<'a>, AllocError> {
-    let arguments = arguments(alloc, form)?;
     Command::new(alloc, form.name)
         .about(form.about)
         .args(arguments)

@@ -1,7 +1,6 @@
 //! Commands on the entries of a group, and on groups.
 ghost use Rattle.std.specs.Prelude.{◌≡◌};
 
-use crate::keys::write;
 use crate::output::{Output, Word};
 use raft_codec::number::{push_u64, take_u64};
 use raft_log_engine::{Engine, Fault, FileSystem, LogBatch};
@@ -70,25 +69,17 @@ pub(crate) fn append<F: FileSystem>(
     sync: bool,
     out: &mut Output,
 ) -> Result<bool, Fault> {
-    let first = at.unwrap_or(next_index(engine, group));
-    write(engine, batch_of(alloc, group, first, values)?, sync)?;
-    let last = engine.last_index(group).unwrap_or(first);
-    out.line(&[Word::Number(first), Word::Number(last)])?;
-    Ok(true)
-}
-
-fn next_index<F: FileSystem>(engine: &Engine<F>, group: u64) -> u64 {
-    match engine.last_index(group) {
-        Some(last) => last.saturating_add(1),
-        None => 1,
-    }
-}
-
-fn batch_of(alloc: Global, group: u64, first: u64, values: &[&str]) -> Result<LogBatch, Fault> {
+    let next = engine
+        .last_index(group)
+        .map_or(1, |last| last.saturating_add(1));
+    let first = at.unwrap_or(next);
     let entries = entries_from(alloc, first, values)?;
     let mut batch = LogBatch::new(alloc);
     batch.add_entries::<Entry>(group, &entries)?;
-    Ok(batch)
+    engine.write(&mut batch, sync)?;
+    let last = engine.last_index(group).unwrap_or(first);
+    out.line(&[Word::Number(first), Word::Number(last)])?;
+    Ok(true)
 }
 
 fn entries_from(alloc: Global, first: u64, values: &[&str]) -> Result<Vec<Entry>, Fault> {
@@ -124,17 +115,12 @@ pub(crate) fn list<F: FileSystem>(
     out: &mut Output,
 ) -> Result<bool, Fault> {
     let begin = from.or(engine.first_index(group)).unwrap_or(0);
-    let end = match to.or(engine.last_index(group)) {
-        Some(last) => last.saturating_add(1),
-        None => begin,
-    };
+    let end = to
+        .or(engine.last_index(group))
+        .map_or(begin, |last| last.saturating_add(1));
     let mut entries = Vec::new(alloc);
     engine.fetch_entries_to::<Entry>(group, begin, end, None, &mut entries)?;
-    list_all(&entries, out)
-}
-
-fn list_all(entries: &[Entry], out: &mut Output) -> Result<bool, Fault> {
-    for entry in entries {
+    for entry in &entries {
         out.line(&[Word::Number(entry.index), Word::Bytes(entry.value())])?;
     }
     Ok(true)
@@ -148,22 +134,12 @@ pub(crate) fn compact<F: FileSystem>(
     sync: bool,
     out: &mut Output,
 ) -> Result<bool, Fault> {
-    let count = compacted(engine, group, index, sync)?;
-    out.line(&[Word::Number(count)])?;
-    Ok(true)
-}
-
-fn compacted<F: FileSystem>(
-    engine: &mut Engine<F>,
-    group: u64,
-    index: u64,
-    sync: bool,
-) -> Result<u64, Fault> {
     let count = engine.compact_to(group, index)?;
     if sync {
         engine.sync()?;
     }
-    Ok(count)
+    out.line(&[Word::Number(count)])?;
+    Ok(true)
 }
 
 pub(crate) fn clean<F: FileSystem>(
@@ -174,7 +150,8 @@ pub(crate) fn clean<F: FileSystem>(
 ) -> Result<bool, Fault> {
     let mut batch = LogBatch::new(alloc);
     batch.add_command(group, Command::Clean)?;
-    write(engine, batch, sync)
+    engine.write(&mut batch, sync)?;
+    Ok(true)
 }
 
 pub(crate) fn groups<F: FileSystem>(engine: &Engine<F>, out: &mut Output) -> Result<bool, Fault> {

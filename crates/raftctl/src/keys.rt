@@ -4,18 +4,6 @@ use crate::output::{Output, Word};
 use raft_log_engine::{Engine, Fault, FileSystem, LogBatch};
 use std::alloc::Global;
 
-/// Writes a batch, in a function of its own, since what is said of a write counts for each way out after it.
-pub(crate) fn write<F: FileSystem>(
-    engine: &mut Engine<F>,
-    mut batch: LogBatch,
-    sync: bool,
-) -> Result<bool, Fault> {
-    match engine.write(&mut batch, sync) {
-        Ok(_) => Ok(true),
-        Err(fault) => Err(fault),
-    }
-}
-
 pub(crate) fn put<F: FileSystem>(
     alloc: Global,
     engine: &mut Engine<F>,
@@ -24,14 +12,12 @@ pub(crate) fn put<F: FileSystem>(
     value: &str,
     sync: bool,
 ) -> Result<bool, Fault> {
-    write(engine, put_of(alloc, group, key, value)?, sync)
-}
-
-fn put_of(alloc: Global, group: u64, key: &str, value: &str) -> Result<LogBatch, Fault> {
-    let mut batch = LogBatch::new(alloc);
     let key = key.as_bytes().to_vec(alloc)?;
-    batch.put(group, key, value.as_bytes().to_vec(alloc)?)?;
-    Ok(batch)
+    let value = value.as_bytes().to_vec(alloc)?;
+    let mut batch = LogBatch::new(alloc);
+    batch.put(group, key, value)?;
+    engine.write(&mut batch, sync)?;
+    Ok(true)
 }
 
 pub(crate) fn delete<F: FileSystem>(
@@ -41,9 +27,11 @@ pub(crate) fn delete<F: FileSystem>(
     key: &str,
     sync: bool,
 ) -> Result<bool, Fault> {
+    let key = key.as_bytes().to_vec(alloc)?;
     let mut batch = LogBatch::new(alloc);
-    batch.delete(group, key.as_bytes().to_vec(alloc)?)?;
-    write(engine, batch, sync)
+    batch.delete(group, key)?;
+    engine.write(&mut batch, sync)?;
+    Ok(true)
 }
 
 /// Adds the value at the key, and says whether there is one.

@@ -1,7 +1,6 @@
 //! Keys numbered from 0, by which a disk can be tested: pull its plug while they are loaded.
 
 use crate::failure;
-use crate::keys::write;
 use crate::output::{Output, Word};
 use crate::request::Load;
 use anyhow::Result;
@@ -55,15 +54,15 @@ fn put<F: FileSystem>(
     number: u64,
     size: u64,
     sync: bool,
-) -> Result<bool, Fault> {
-    write(engine, batch_of(alloc, number, size)?, sync)
-}
-
-fn batch_of(alloc: Global, number: u64, size: u64) -> Result<LogBatch, Fault> {
+) -> Result<(), Fault> {
     let mut batch = LogBatch::new(alloc);
-    let key = key_of(alloc, number)?;
-    batch.put(GROUP, key, value_of(alloc, number, size)?)?;
-    Ok(batch)
+    batch.put(
+        GROUP,
+        key_of(alloc, number)?,
+        value_of(alloc, number, size)?,
+    )?;
+    engine.write(&mut batch, sync)?;
+    Ok(())
 }
 
 fn report(rt: &HostRuntime, start: Instant, load: Load) -> Result<()> {
@@ -86,50 +85,27 @@ pub(crate) fn verify<F: FileSystem>(
     load: Load,
     out: &mut Output,
 ) -> Result<bool, Fault> {
-    let counts = counted(alloc, engine, load)?;
-    counts.print(out)?;
-    Ok(counts.after == 0 && counts.wrong == 0)
-}
-
-#[derive(Clone, Copy)]
-struct Counts {
-    standing: u64,
-    after: u64,
-    wrong: u64,
-}
-
-impl Counts {
-    fn add(&mut self, number: u64, found: Found) {
-        match found {
-            Found::Right if self.standing == number => {
-                self.standing = self.standing.saturating_add(1);
-            }
-            Found::Right => self.after = self.after.saturating_add(1),
-            Found::Wrong => self.wrong = self.wrong.saturating_add(1),
+    let mut standing = 0u64;
+    let mut after = 0u64;
+    let mut wrong = 0u64;
+    for number in 0..load.count {
+        match find(alloc, engine, number, load.size)? {
+            Found::Right if standing == number => standing = standing.saturating_add(1),
+            Found::Right => after = after.saturating_add(1),
+            Found::Wrong => wrong = wrong.saturating_add(1),
             Found::Nothing => {}
         }
     }
-
-    fn print(self, out: &mut Output) -> Result<(), AllocError> {
-        out.line(&[Word::Text("standing"), Word::Number(self.standing)])?;
-        out.line(&[Word::Text("after a gap"), Word::Number(self.after)])?;
-        out.line(&[Word::Text("wrong"), Word::Number(self.wrong)])
+    for (name, count) in [
+        ("standing", standing),
+        ("after a gap", after),
+        ("wrong", wrong),
+    ] {
+        out.line(&[Word::Text(name), Word::Number(count)])?;
     }
+    Ok(after == 0 && wrong == 0)
 }
 
-fn counted<F: FileSystem>(alloc: Global, engine: &Engine<F>, load: Load) -> Result<Counts, Fault> {
-    let mut counts = Counts {
-        standing: 0,
-        after: 0,
-        wrong: 0,
-    };
-    for number in 0..load.count {
-        counts.add(number, find(alloc, engine, number, load.size)?);
-    }
-    Ok(counts)
-}
-
-#[derive(Clone, Copy)]
 enum Found {
     Nothing,
     Right,
@@ -142,17 +118,14 @@ fn find<F: FileSystem>(
     number: u64,
     size: u64,
 ) -> Result<Found, Fault> {
-    match engine.get(GROUP, &key_of(alloc, number)?)? {
-        Some(value) => Ok(compared(&value, &value_of(alloc, number, size)?)),
-        None => Ok(Found::Nothing),
-    }
-}
-
-fn compared(value: &[u8], wanted: &[u8]) -> Found {
+    let Some(value) = engine.get(GROUP, &key_of(alloc, number)?)? else {
+        return Ok(Found::Nothing);
+    };
+    let wanted = value_of(alloc, number, size)?;
     if value == wanted {
-        Found::Right
+        Ok(Found::Right)
     } else {
-        Found::Wrong
+        Ok(Found::Wrong)
     }
 }
 

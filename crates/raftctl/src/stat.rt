@@ -4,36 +4,20 @@ use crate::output::{Output, Word};
 use crate::{failure, open};
 use anyhow::{Result, bail};
 use raft_log_engine::{Engine, Fault, FileSystem, FsFault, GroupImage, Image, Permission};
-use std::alloc::Global;
 
 /// Prints how much the folder holds, and how many bytes the opening cut from its files.
-pub(crate) fn stat<F: FileSystem + Drop>(rt: &HostRuntime, files: F) -> Result<bool> {
-    let mut out = Output::new(rt.alloc());
-    add_all(rt.alloc(), files, &mut out)?;
-    out.print(rt)?;
-    Ok(true)
-}
-
-fn add_all<F: FileSystem + Drop>(alloc: Global, mut files: F, out: &mut Output) -> Result<()> {
+pub(crate) fn stat<F: FileSystem + Drop>(rt: &HostRuntime, mut files: F) -> Result<bool> {
     let found = measured(&mut files)?;
-    let (image, left) = opened(alloc, files)?;
-    Ok(add_image(&image, found, left, out)?)
-}
-
-// What the log holds, and its files after the opening.
-fn opened<F: FileSystem + Drop>(alloc: Global, files: F) -> Result<(Image, Sizes)> {
-    let mut engine = open(alloc, files)?;
+    let mut engine = open(rt.alloc(), files)?;
     let image = image_of(&mut engine)?;
     let left = measured(&mut engine.give_up())?;
-    Ok((image, left))
-}
-
-fn add_image(image: &Image, found: Sizes, left: Sizes, out: &mut Output) -> Result<(), Fault> {
-    add_totals(image, found, left, out)?;
+    let mut out = Output::new(rt.alloc());
+    add_totals(&image, found, left, &mut out)?;
     for held in &image.groups {
-        add_group(held, out)?;
+        add_group(held, &mut out)?;
     }
-    Ok(())
+    out.print(rt)?;
+    Ok(true)
 }
 
 fn image_of<F: FileSystem>(engine: &mut Engine<F>) -> Result<Image> {
