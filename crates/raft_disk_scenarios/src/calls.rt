@@ -32,12 +32,13 @@ enum Step {
 type Row = (Step, Option<IoKind>, &'static str, Option<&'static [u8]>);
 
 /// The rows of each of a folder's openings, one after the other.
+#[derive(Clone, Copy)]
 struct Case {
     name: &'static str,
     openings: [&'static [Row]; 3],
 }
 
-const NAMES: &[Row] = &[
+static NAMES: [Row; 23] = [
     (Step::Create("a"), None, "a", Some(b"")),
     (Step::Writer("a"), None, "a", Some(b"")),
     (Step::Write(0, b"first"), None, "a", Some(b"first")),
@@ -73,7 +74,7 @@ const NAMES: &[Row] = &[
     (Step::Create("e"), None, "e", Some(b"")),
 ];
 
-const NAMES_AGAIN: &[Row] = &[
+static NAMES_AGAIN: [Row; 11] = [
     (Step::Create("LOCK"), Some(IoKind::Other), "LOCK", Some(b"")),
     (Step::Create("d/../f"), Some(IoKind::Other), "f", None),
     (Step::MakeDir("d//f"), Some(IoKind::Other), "d/f", None),
@@ -87,13 +88,13 @@ const NAMES_AGAIN: &[Row] = &[
     (Step::MakeDir("d"), None, "e", Some(b"kept")),
 ];
 
-const NAMES_WRITTEN: &[Row] = &[
+static NAMES_WRITTEN: [Row; 2] = [
     (Step::Writer("e"), None, "e", Some(b"kept")),
     (Step::Allocate(2, 4), None, "e", Some(b"kept\0\0")),
 ];
 
 /// What stands before a call that the system refuses.
-const BEFORE: &[Row] = &[
+static BEFORE: [Row; 4] = [
     (Step::Create("a"), None, "a", Some(b"")),
     (Step::Writer("a"), None, "a", Some(b"")),
     (Step::Write(0, b"kept"), None, "a", Some(b"kept")),
@@ -101,28 +102,28 @@ const BEFORE: &[Row] = &[
 ];
 
 /// Where the file is left, an opening goes on from it.
-const KEPT: &[Row] = &[
+static KEPT: [Row; 2] = [
     (Step::Writer("a"), None, "a", Some(b"kept")),
     (Step::Create("later"), None, "later", Some(b"")),
 ];
 
 /// Where another program deleted the file, an opening goes on without it.
-const LOST: &[Row] = &[
+static LOST: [Row; 2] = [
     (Step::Writer("a"), Some(IoKind::NotFound), "a", None),
     (Step::Create("later"), None, "later", Some(b"")),
 ];
 
-const CREATE: &[Row] = &[
+static CREATE: [Row; 2] = [
     (Step::Create(LONG), Some(IoKind::Other), "a", Some(b"kept")),
     (Step::Create("later"), Some(IoKind::Other), "later", None),
 ];
 
-const MAKE_DIR: &[Row] = &[
+static MAKE_DIR: [Row; 2] = [
     (Step::MakeDir(LONG), Some(IoKind::Other), "a", Some(b"kept")),
     (Step::Create("later"), Some(IoKind::Other), "later", None),
 ];
 
-const RENAME: &[Row] = &[
+static RENAME: [Row; 2] = [
     (
         Step::Rename("a", LONG),
         Some(IoKind::Other),
@@ -132,7 +133,7 @@ const RENAME: &[Row] = &[
     (Step::Create("later"), Some(IoKind::Other), "later", None),
 ];
 
-const DELETE: &[Row] = &[
+static DELETE: [Row; 5] = [
     (Step::Writer("a"), None, "a", Some(b"kept")),
     (Step::Delete("z"), None, "z", None),
     (Step::Lose("a"), None, "a", None),
@@ -140,7 +141,7 @@ const DELETE: &[Row] = &[
     (Step::Create("later"), Some(IoKind::Other), "later", None),
 ];
 
-const WRITE: &[Row] = &[
+static WRITE: [Row; 5] = [
     (Step::Writer("a"), None, "a", Some(b"kept")),
     (Step::Delete("z"), None, "z", None),
     (Step::Lose("a"), None, "a", None),
@@ -148,7 +149,7 @@ const WRITE: &[Row] = &[
     (Step::Create("later"), Some(IoKind::Other), "later", None),
 ];
 
-const TRUNCATE: &[Row] = &[
+static TRUNCATE: [Row; 5] = [
     (Step::Writer("a"), None, "a", Some(b"kept")),
     (Step::Delete("z"), None, "z", None),
     (Step::Lose("a"), None, "a", None),
@@ -156,7 +157,7 @@ const TRUNCATE: &[Row] = &[
     (Step::Create("later"), Some(IoKind::Other), "later", None),
 ];
 
-const ALLOCATE: &[Row] = &[
+static ALLOCATE: [Row; 5] = [
     (Step::Writer("a"), None, "a", Some(b"kept")),
     (Step::Delete("z"), None, "z", None),
     (Step::Lose("a"), None, "a", None),
@@ -164,7 +165,7 @@ const ALLOCATE: &[Row] = &[
     (Step::Create("later"), Some(IoKind::Other), "later", None),
 ];
 
-const SYNC: &[Row] = &[
+static SYNC: [Row; 5] = [
     (Step::Writer("a"), None, "a", Some(b"kept")),
     (Step::Delete("z"), None, "z", None),
     (Step::Lose("a"), None, "a", None),
@@ -173,54 +174,58 @@ const SYNC: &[Row] = &[
 ];
 
 /// A file that can't be opened leaves what stands as it is.
-const OPEN: &[Row] = &[
+static OPEN: [Row; 3] = [
     (Step::Lose("a"), None, "a", None),
     (Step::Writer("a"), Some(IoKind::NotFound), "a", None),
     (Step::Create("b"), None, "b", Some(b"")),
 ];
 
-static CASES: [Case; 10] = [
-    Case {
-        name: "names",
-        openings: [NAMES, NAMES_AGAIN, NAMES_WRITTEN],
-    },
-    Case {
-        name: "create",
-        openings: [BEFORE, CREATE, KEPT],
-    },
-    Case {
-        name: "make_dir",
-        openings: [BEFORE, MAKE_DIR, KEPT],
-    },
-    Case {
-        name: "rename",
-        openings: [BEFORE, RENAME, KEPT],
-    },
-    Case {
-        name: "delete",
-        openings: [BEFORE, DELETE, LOST],
-    },
-    Case {
-        name: "open",
-        openings: [BEFORE, OPEN, LOST],
-    },
-    Case {
-        name: "write",
-        openings: [BEFORE, WRITE, LOST],
-    },
-    Case {
-        name: "truncate",
-        openings: [BEFORE, TRUNCATE, LOST],
-    },
-    Case {
-        name: "allocate",
-        openings: [BEFORE, ALLOCATE, LOST],
-    },
-    Case {
-        name: "sync",
-        openings: [BEFORE, SYNC, LOST],
-    },
-];
+/// A function is checked with all of each table that it names, and that grows with the square of the table: each opening
+/// has a table of its own.
+fn cases() -> [Case; 10] {
+    [
+        Case {
+            name: "names",
+            openings: [&NAMES, &NAMES_AGAIN, &NAMES_WRITTEN],
+        },
+        Case {
+            name: "create",
+            openings: [&BEFORE, &CREATE, &KEPT],
+        },
+        Case {
+            name: "make_dir",
+            openings: [&BEFORE, &MAKE_DIR, &KEPT],
+        },
+        Case {
+            name: "rename",
+            openings: [&BEFORE, &RENAME, &KEPT],
+        },
+        Case {
+            name: "delete",
+            openings: [&BEFORE, &DELETE, &LOST],
+        },
+        Case {
+            name: "open",
+            openings: [&BEFORE, &OPEN, &LOST],
+        },
+        Case {
+            name: "write",
+            openings: [&BEFORE, &WRITE, &LOST],
+        },
+        Case {
+            name: "truncate",
+            openings: [&BEFORE, &TRUNCATE, &LOST],
+        },
+        Case {
+            name: "allocate",
+            openings: [&BEFORE, &ALLOCATE, &LOST],
+        },
+        Case {
+            name: "sync",
+            openings: [&BEFORE, &SYNC, &LOST],
+        },
+    ]
+}
 
 fn change_names<F: FileSystem>(fs: &mut F, step: &Step) -> Result<(), FsFault> {
     match step {
@@ -296,31 +301,60 @@ fn lose(rt: &HostRuntime, folder: &str, step: &Step) -> io::Result<()> {
     Ok(())
 }
 
-// The first row whose answer or whose file on the disk is another.
-fn first_wrong<F: FileSystem + Drop>(
+fn answered<F: FileSystem>(
+    fs: &mut F,
+    writer: &mut Option<F::Writer>,
+    step: &Step,
+) -> Result<Option<IoKind>, Fail> {
+    match take(fs, writer, step) {
+        Ok(()) => Ok(None),
+        Err(FsFault::Io(kind)) => Ok(Some(kind)),
+        Err(FsFault::Memory) => Err(Fail::new("memory")),
+    }
+}
+
+// Whether the answer and the file on the disk are as the row says.
+fn holds<F: FileSystem>(
     rt: &HostRuntime,
-    mut fs: F,
+    fs: &mut F,
+    writer: &mut Option<F::Writer>,
+    folder: &str,
+    row: &Row,
+) -> Result<bool, Fail> {
+    let (step, fault, path, bytes) = row;
+    lose(rt, folder, step)?;
+    let answer = answered(fs, writer, step)?;
+    Ok(answer == *fault && stands(rt, folder, path, *bytes)?)
+}
+
+fn first_wrong<F: FileSystem>(
+    rt: &HostRuntime,
+    fs: &mut F,
+    writer: &mut Option<F::Writer>,
     folder: &str,
     rows: &[Row],
 ) -> Result<Option<usize>, Fail> {
-    let mut writer = None;
-    for (place, (step, fault, path, bytes)) in rows.iter().enumerate() {
-        lose(rt, folder, step)?;
-        let answer = match take(&mut fs, &mut writer, step) {
-            Ok(()) => None,
-            Err(FsFault::Io(kind)) => Some(kind),
-            Err(FsFault::Memory) => return Err(Fail::new("memory")),
-        };
-        if answer != *fault || !stands(rt, folder, path, *bytes)? {
+    for (place, row) in rows.iter().enumerate() {
+        if !holds(rt, fs, writer, folder, row)? {
             return Ok(Some(place));
         }
     }
     Ok(None)
 }
 
+// The first row whose answer or whose file on the disk is another.
+fn wrong_over<F: FileSystem + Drop>(
+    rt: &HostRuntime,
+    mut fs: F,
+    folder: &str,
+    rows: &[Row],
+) -> Result<Option<usize>, Fail> {
+    let mut writer = None;
+    first_wrong(rt, &mut fs, &mut writer, folder, rows)
+}
+
 fn wrong_in(rt: HostRuntime, folder: &str, rows: &[Row]) -> Result<Option<usize>, Fail> {
-    let files = DiskFileSystem::open(rt, folder)?;
-    first_wrong(&rt, files, folder, rows)
+    wrong_over(&rt, DiskFileSystem::open(rt, folder)?, folder, rows)
 }
 
 // The first opening, and the row of it, that goes wrong.
@@ -337,14 +371,19 @@ fn wrong_opening(
     Ok(None)
 }
 
+fn wrong_anew(rt: HostRuntime, case: &Case) -> Result<Option<(usize, usize)>, Fail> {
+    let folder = temp_folder(&rt, "calls")?;
+    let wrong = wrong_opening(rt, folder.as_str(), case);
+    let removed = fs::remove_dir_all(&rt, folder.as_str());
+    let wrong = wrong?;
+    removed?;
+    Ok(wrong)
+}
+
 #[test]
 fn calls_are_carried_out_on_the_disk(rt: HostRuntime) -> Result<(), Fail> {
-    for case in &CASES {
-        let folder = temp_folder(&rt, "calls")?;
-        let wrong = wrong_opening(rt, folder.as_str(), case);
-        let removed = fs::remove_dir_all(&rt, folder.as_str());
-        assert_eq!(rt; wrong?, None, "{}", case.name);
-        removed?;
+    for case in &cases() {
+        assert_eq!(rt; wrong_anew(rt, case)?, None, "{}", case.name);
     }
     Ok(())
 }

@@ -261,33 +261,42 @@ fn lists<F: FileSystem>(fs: &mut F, dir: &str, wanted: &[&str]) -> Result<bool, 
     Ok(names.len() == wanted.len() && are_equal)
 }
 
+fn change_bytes<F: FileSystem>(
+    fs: &mut F,
+    writer: &mut F::Writer,
+    call: &Call,
+) -> Result<(), FsFault> {
+    match call {
+        Call::Write(_, at, bytes) => fs.write(writer, *at, bytes),
+        Call::Truncate(_, size) => fs.truncate(writer, *size),
+        Call::Allocate(_, at, size) => fs.allocate(writer, *at, *size),
+        Call::Sync(_) => fs.sync(writer),
+        _ => Ok(()),
+    }
+}
+
+fn change_file<F: FileSystem>(fs: &mut F, path: &str, call: &Call) -> Result<(), FsFault> {
+    let mut writer = writer_of(fs, path, Permission::ReadWrite)?;
+    change_bytes(fs, &mut writer, call)
+}
+
+fn reuse<F: FileSystem>(fs: &mut F, from: &str, to: &str) -> Result<(), FsFault> {
+    let handle = fs.reuse_and_open(from, to)?;
+    fs.new_writer(&handle).map(|_| ())
+}
+
 fn change<F: FileSystem>(fs: &mut F, call: &Call) -> Result<(), FsFault> {
     match call {
         Call::MakeDir(path) => fs.make_dir(path),
         Call::Create(path) => fs.create(path).map(|_| ()),
         Call::Writer(path, permission) => writer_of(fs, path, *permission).map(|_| ()),
-        Call::Write(path, at, bytes) => {
-            let mut writer = writer_of(fs, path, Permission::ReadWrite)?;
-            fs.write(&mut writer, *at, bytes)
-        }
-        Call::Truncate(path, size) => {
-            let mut writer = writer_of(fs, path, Permission::ReadWrite)?;
-            fs.truncate(&mut writer, *size)
-        }
-        Call::Allocate(path, at, size) => {
-            let mut writer = writer_of(fs, path, Permission::ReadWrite)?;
-            fs.allocate(&mut writer, *at, *size)
-        }
-        Call::Sync(path) => {
-            let mut writer = writer_of(fs, path, Permission::ReadWrite)?;
-            fs.sync(&mut writer)
-        }
+        Call::Write(path, _, _)
+        | Call::Truncate(path, _)
+        | Call::Allocate(path, _, _)
+        | Call::Sync(path) => change_file(fs, path, call),
         Call::Delete(path) => fs.delete(path),
         Call::Rename(from, to) => fs.rename(from, to),
-        Call::Reuse(from, to) => {
-            let handle = fs.reuse_and_open(from, to)?;
-            fs.new_writer(&handle).map(|_| ())
-        }
+        Call::Reuse(from, to) => reuse(fs, from, to),
         _ => Ok(()),
     }
 }
@@ -374,9 +383,19 @@ fn files_are_as_the_scripts_say(rt: HostRuntime) -> Result<(), Fail> {
     Ok(())
 }
 
+fn has_kind_and_path(alloc: Global) -> bool {
+    match FsFault::Io(IoKind::NotFound).with_path(alloc, "log") {
+        Fault::Io(IoKind::NotFound, path) => path.as_str() == "log",
+        _ => false,
+    }
+}
+
+fn has_no_path(alloc: Global) -> bool {
+    matches!(FsFault::Memory.with_path(alloc, "log"), Fault::Memory)
+}
+
 #[test]
 fn a_fault_has_the_kind_and_the_path(rt: HostRuntime) {
-    let fault = FsFault::Io(IoKind::NotFound).with_path(rt.alloc(), "log");
-    assert!(rt; matches!(&fault, Fault::Io(IoKind::NotFound, path) if path.as_str() == "log"));
-    assert!(rt; matches!(&FsFault::Memory.with_path(rt.alloc(), "log"), Fault::Memory));
+    assert!(rt; has_kind_and_path(rt.alloc()));
+    assert!(rt; has_no_path(rt.alloc()));
 }

@@ -38,7 +38,7 @@ const COUNT: Word = Word("COUNT", Kind::Number, "How many keys");
 
 const SIZE: Word = Word("SIZE", Kind::Number, "The bytes of each value");
 
-static FORMS: [Form; 13] = [
+const FORMS: [Form; 13] = [
     Form {
         name: "put",
         about: "Puts a value at a key of a group, and syncs it",
