@@ -32,13 +32,12 @@ enum Step {
 type Row = (Step, Option<IoKind>, &'static str, Option<&'static [u8]>);
 
 /// The rows of each of a folder's openings, one after the other.
-#[derive(Clone, Copy)]
 struct Case {
     name: &'static str,
     openings: [&'static [Row]; 3],
 }
 
-static NAMES: [Row; 23] = [
+const NAMES: &[Row] = &[
     (Step::Create("a"), None, "a", Some(b"")),
     (Step::Writer("a"), None, "a", Some(b"")),
     (Step::Write(0, b"first"), None, "a", Some(b"first")),
@@ -74,7 +73,7 @@ static NAMES: [Row; 23] = [
     (Step::Create("e"), None, "e", Some(b"")),
 ];
 
-static NAMES_AGAIN: [Row; 11] = [
+const NAMES_AGAIN: &[Row] = &[
     (Step::Create("LOCK"), Some(IoKind::Other), "LOCK", Some(b"")),
     (Step::Create("d/../f"), Some(IoKind::Other), "f", None),
     (Step::MakeDir("d//f"), Some(IoKind::Other), "d/f", None),
@@ -88,13 +87,13 @@ static NAMES_AGAIN: [Row; 11] = [
     (Step::MakeDir("d"), None, "e", Some(b"kept")),
 ];
 
-static NAMES_WRITTEN: [Row; 2] = [
+const NAMES_WRITTEN: &[Row] = &[
     (Step::Writer("e"), None, "e", Some(b"kept")),
     (Step::Allocate(2, 4), None, "e", Some(b"kept\0\0")),
 ];
 
 /// What stands before a call that the system refuses.
-static BEFORE: [Row; 4] = [
+const BEFORE: &[Row] = &[
     (Step::Create("a"), None, "a", Some(b"")),
     (Step::Writer("a"), None, "a", Some(b"")),
     (Step::Write(0, b"kept"), None, "a", Some(b"kept")),
@@ -102,28 +101,28 @@ static BEFORE: [Row; 4] = [
 ];
 
 /// Where the file is left, an opening goes on from it.
-static KEPT: [Row; 2] = [
+const KEPT: &[Row] = &[
     (Step::Writer("a"), None, "a", Some(b"kept")),
     (Step::Create("later"), None, "later", Some(b"")),
 ];
 
 /// Where another program deleted the file, an opening goes on without it.
-static LOST: [Row; 2] = [
+const LOST: &[Row] = &[
     (Step::Writer("a"), Some(IoKind::NotFound), "a", None),
     (Step::Create("later"), None, "later", Some(b"")),
 ];
 
-static CREATE: [Row; 2] = [
+const CREATE: &[Row] = &[
     (Step::Create(LONG), Some(IoKind::Other), "a", Some(b"kept")),
     (Step::Create("later"), Some(IoKind::Other), "later", None),
 ];
 
-static MAKE_DIR: [Row; 2] = [
+const MAKE_DIR: &[Row] = &[
     (Step::MakeDir(LONG), Some(IoKind::Other), "a", Some(b"kept")),
     (Step::Create("later"), Some(IoKind::Other), "later", None),
 ];
 
-static RENAME: [Row; 2] = [
+const RENAME: &[Row] = &[
     (
         Step::Rename("a", LONG),
         Some(IoKind::Other),
@@ -133,7 +132,7 @@ static RENAME: [Row; 2] = [
     (Step::Create("later"), Some(IoKind::Other), "later", None),
 ];
 
-static DELETE: [Row; 5] = [
+const DELETE: &[Row] = &[
     (Step::Writer("a"), None, "a", Some(b"kept")),
     (Step::Delete("z"), None, "z", None),
     (Step::Lose("a"), None, "a", None),
@@ -141,7 +140,7 @@ static DELETE: [Row; 5] = [
     (Step::Create("later"), Some(IoKind::Other), "later", None),
 ];
 
-static WRITE: [Row; 5] = [
+const WRITE: &[Row] = &[
     (Step::Writer("a"), None, "a", Some(b"kept")),
     (Step::Delete("z"), None, "z", None),
     (Step::Lose("a"), None, "a", None),
@@ -149,7 +148,7 @@ static WRITE: [Row; 5] = [
     (Step::Create("later"), Some(IoKind::Other), "later", None),
 ];
 
-static TRUNCATE: [Row; 5] = [
+const TRUNCATE: &[Row] = &[
     (Step::Writer("a"), None, "a", Some(b"kept")),
     (Step::Delete("z"), None, "z", None),
     (Step::Lose("a"), None, "a", None),
@@ -157,7 +156,7 @@ static TRUNCATE: [Row; 5] = [
     (Step::Create("later"), Some(IoKind::Other), "later", None),
 ];
 
-static ALLOCATE: [Row; 5] = [
+const ALLOCATE: &[Row] = &[
     (Step::Writer("a"), None, "a", Some(b"kept")),
     (Step::Delete("z"), None, "z", None),
     (Step::Lose("a"), None, "a", None),
@@ -165,7 +164,7 @@ static ALLOCATE: [Row; 5] = [
     (Step::Create("later"), Some(IoKind::Other), "later", None),
 ];
 
-static SYNC: [Row; 5] = [
+const SYNC: &[Row] = &[
     (Step::Writer("a"), None, "a", Some(b"kept")),
     (Step::Delete("z"), None, "z", None),
     (Step::Lose("a"), None, "a", None),
@@ -174,58 +173,54 @@ static SYNC: [Row; 5] = [
 ];
 
 /// A file that can't be opened leaves what stands as it is.
-static OPEN: [Row; 3] = [
+const OPEN: &[Row] = &[
     (Step::Lose("a"), None, "a", None),
     (Step::Writer("a"), Some(IoKind::NotFound), "a", None),
     (Step::Create("b"), None, "b", Some(b"")),
 ];
 
-/// A function is checked with all of each table that it names, and that grows with the square of the table: each opening
-/// has a table of its own.
-fn cases() -> [Case; 10] {
-    [
-        Case {
-            name: "names",
-            openings: [&NAMES, &NAMES_AGAIN, &NAMES_WRITTEN],
-        },
-        Case {
-            name: "create",
-            openings: [&BEFORE, &CREATE, &KEPT],
-        },
-        Case {
-            name: "make_dir",
-            openings: [&BEFORE, &MAKE_DIR, &KEPT],
-        },
-        Case {
-            name: "rename",
-            openings: [&BEFORE, &RENAME, &KEPT],
-        },
-        Case {
-            name: "delete",
-            openings: [&BEFORE, &DELETE, &LOST],
-        },
-        Case {
-            name: "open",
-            openings: [&BEFORE, &OPEN, &LOST],
-        },
-        Case {
-            name: "write",
-            openings: [&BEFORE, &WRITE, &LOST],
-        },
-        Case {
-            name: "truncate",
-            openings: [&BEFORE, &TRUNCATE, &LOST],
-        },
-        Case {
-            name: "allocate",
-            openings: [&BEFORE, &ALLOCATE, &LOST],
-        },
-        Case {
-            name: "sync",
-            openings: [&BEFORE, &SYNC, &LOST],
-        },
-    ]
-}
+const CASES: [Case; 10] = [
+    Case {
+        name: "names",
+        openings: [NAMES, NAMES_AGAIN, NAMES_WRITTEN],
+    },
+    Case {
+        name: "create",
+        openings: [BEFORE, CREATE, KEPT],
+    },
+    Case {
+        name: "make_dir",
+        openings: [BEFORE, MAKE_DIR, KEPT],
+    },
+    Case {
+        name: "rename",
+        openings: [BEFORE, RENAME, KEPT],
+    },
+    Case {
+        name: "delete",
+        openings: [BEFORE, DELETE, LOST],
+    },
+    Case {
+        name: "open",
+        openings: [BEFORE, OPEN, LOST],
+    },
+    Case {
+        name: "write",
+        openings: [BEFORE, WRITE, LOST],
+    },
+    Case {
+        name: "truncate",
+        openings: [BEFORE, TRUNCATE, LOST],
+    },
+    Case {
+        name: "allocate",
+        openings: [BEFORE, ALLOCATE, LOST],
+    },
+    Case {
+        name: "sync",
+        openings: [BEFORE, SYNC, LOST],
+    },
+];
 
 fn change_names<F: FileSystem>(fs: &mut F, step: &Step) -> Result<(), FsFault> {
     match step {
@@ -301,60 +296,31 @@ fn lose(rt: &HostRuntime, folder: &str, step: &Step) -> io::Result<()> {
     Ok(())
 }
 
-fn answered<F: FileSystem>(
-    fs: &mut F,
-    writer: &mut Option<F::Writer>,
-    step: &Step,
-) -> Result<Option<IoKind>, Fail> {
-    match take(fs, writer, step) {
-        Ok(()) => Ok(None),
-        Err(FsFault::Io(kind)) => Ok(Some(kind)),
-        Err(FsFault::Memory) => Err(Fail::new("memory")),
-    }
-}
-
-// Whether the answer and the file on the disk are as the row says.
-fn holds<F: FileSystem>(
-    rt: &HostRuntime,
-    fs: &mut F,
-    writer: &mut Option<F::Writer>,
-    folder: &str,
-    row: &Row,
-) -> Result<bool, Fail> {
-    let (step, fault, path, bytes) = row;
-    lose(rt, folder, step)?;
-    let answer = answered(fs, writer, step)?;
-    Ok(answer == *fault && stands(rt, folder, path, *bytes)?)
-}
-
-fn first_wrong<F: FileSystem>(
-    rt: &HostRuntime,
-    fs: &mut F,
-    writer: &mut Option<F::Writer>,
-    folder: &str,
-    rows: &[Row],
-) -> Result<Option<usize>, Fail> {
-    for (place, row) in rows.iter().enumerate() {
-        if !holds(rt, fs, writer, folder, row)? {
-            return Ok(Some(place));
-        }
-    }
-    Ok(None)
-}
-
 // The first row whose answer or whose file on the disk is another.
-fn wrong_over<F: FileSystem + Drop>(
+fn first_wrong<F: FileSystem + Drop>(
     rt: &HostRuntime,
     mut fs: F,
     folder: &str,
     rows: &[Row],
 ) -> Result<Option<usize>, Fail> {
     let mut writer = None;
-    first_wrong(rt, &mut fs, &mut writer, folder, rows)
+    for (place, (step, fault, path, bytes)) in rows.iter().enumerate() {
+        lose(rt, folder, step)?;
+        let answer = match take(&mut fs, &mut writer, step) {
+            Ok(()) => None,
+            Err(FsFault::Io(kind)) => Some(kind),
+            Err(FsFault::Memory) => return Err(Fail::new("memory")),
+        };
+        if answer != *fault || !stands(rt, folder, path, *bytes)? {
+            return Ok(Some(place));
+        }
+    }
+    Ok(None)
 }
 
 fn wrong_in(rt: HostRuntime, folder: &str, rows: &[Row]) -> Result<Option<usize>, Fail> {
-    wrong_over(&rt, DiskFileSystem::open(rt, folder)?, folder, rows)
+    let files = DiskFileSystem::open(rt, folder)?;
+    first_wrong(&rt, files, folder, rows)
 }
 
 // The first opening, and the row of it, that goes wrong.
@@ -371,19 +337,14 @@ fn wrong_opening(
     Ok(None)
 }
 
-fn wrong_anew(rt: HostRuntime, case: &Case) -> Result<Option<(usize, usize)>, Fail> {
-    let folder = temp_folder(&rt, "calls")?;
-    let wrong = wrong_opening(rt, folder.as_str(), case);
-    let removed = fs::remove_dir_all(&rt, folder.as_str());
-    let wrong = wrong?;
-    removed?;
-    Ok(wrong)
-}
-
 #[test]
 fn calls_are_carried_out_on_the_disk(rt: HostRuntime) -> Result<(), Fail> {
-    for case in &cases() {
-        assert_eq!(rt; wrong_anew(rt, case)?, None, "{}", case.name);
+    for case in &CASES {
+        let folder = temp_folder(&rt, "calls")?;
+        let wrong = wrong_opening(rt, folder.as_str(), case);
+        let removed = fs::remove_dir_all(&rt, folder.as_str());
+        assert_eq!(rt; wrong?, None, "{}", case.name);
+        removed?;
     }
     Ok(())
 }

@@ -5,8 +5,8 @@ use crate::temp::{bytes_at, temp_folder};
 use raft_disk::DiskFileSystem;
 use raft_log_engine::{Config, Engine, Fault, FileSystem, Fresh, LogBatch};
 use std::alloc::{AllocError, Global};
+use std::fs;
 use std::test::Fail;
-use std::{fs, io};
 
 const GROUP: u64 = 1;
 
@@ -16,11 +16,11 @@ const LOG: &str = "0000000000000001.raftlog";
 const LOG_LEN: usize = 1024;
 
 /// Whether each put is synced.
-static PUTS: [bool; 6] = [true, false, true, false, false, true];
+const PUTS: [bool; 6] = [true, false, true, false, false, true];
 
 /// How many of the bytes that changed since the last sync a crash leaves; the others are as they were then, or this
 /// where there was none.
-static LEFT: [(usize, u8); 6] = [
+const TORN: [(usize, u8); 6] = [
     (usize::MAX, 0),
     (0, 0),
     (0, 255),
@@ -47,19 +47,18 @@ fn key_of(alloc: Global, number: u64) -> Result<Vec<u8>, AllocError> {
     format!(in alloc; "key {number}").map(String::into_bytes)
 }
 
-fn batch_of(alloc: Global, number: u64) -> Result<LogBatch, Fault> {
-    let mut batch = LogBatch::new(alloc);
-    batch.put(GROUP, key_of(alloc, number)?, key_of(alloc, number)?)?;
-    Ok(batch)
-}
-
 fn put<F: FileSystem>(
     alloc: Global,
     engine: &mut Engine<F>,
     number: u64,
     sync: bool,
-) -> Result<usize, Fault> {
-    engine.write(&mut batch_of(alloc, number)?, sync)
+) -> Result<(), Fault> {
+    let key = key_of(alloc, number)?;
+    let value = key_of(alloc, number)?;
+    let mut batch = LogBatch::new(alloc);
+    batch.put(GROUP, key, value)?;
+    engine.write(&mut batch, sync)?;
+    Ok(())
 }
 
 fn has<F: FileSystem>(alloc: Global, engine: &Engine<F>, number: u64) -> Result<bool, Fault> {
@@ -113,26 +112,16 @@ fn standing_at(rt: HostRuntime, folder: &str) -> Result<Option<u64>, Fail> {
     Ok(standing_in(rt.alloc(), DiskFileSystem::open(rt, folder)?)?)
 }
 
-fn make_log(rt: &HostRuntime, left: &str, bytes: &[u8]) -> io::Result<()> {
-    let log = format!(in rt.alloc(); "{left}/{LOG}")?;
-    fs::create_dir(rt, left)?;
-    fs::write(rt, log.as_str(), bytes)
-}
-
-// What an engine finds in a folder, where a second one finds the same.
-fn found_twice(rt: HostRuntime, left: &str) -> Result<Option<u64>, Fail> {
-    let first = standing_at(rt, left)?;
-    let second = standing_at(rt, left)?;
-    Ok(if first == second { first } else { None })
-}
-
-// What is found in a new folder with this log.
+// What an engine finds in a folder with this log, where a second one finds the same.
 fn found(rt: HostRuntime, folder: &str, bytes: &[u8]) -> Result<Option<u64>, Fail> {
     let left = format!(in rt.alloc(); "{folder}/left")?;
-    make_log(&rt, left.as_str(), bytes)?;
-    let found = found_twice(rt, left.as_str())?;
+    let log = format!(in rt.alloc(); "{left}/{LOG}")?;
+    fs::create_dir(&rt, left.as_str())?;
+    fs::write(&rt, log.as_str(), bytes)?;
+    let first = standing_at(rt, left.as_str())?;
+    let second = standing_at(rt, left.as_str())?;
     fs::remove_dir_all(&rt, left.as_str())?;
-    Ok(found)
+    Ok(if first == second { first } else { None })
 }
 
 // Tries each of the crashes, and answers how many were wrong.
@@ -144,8 +133,8 @@ fn wrong_crashes(
     reached: Reached,
 ) -> Result<u64, Fail> {
     let mut wrong = 0;
-    for (kept, fill) in &LEFT {
-        let bytes = torn(rt.alloc(), synced, now, *kept, *fill)?;
+    for (kept, fill) in TORN {
+        let bytes = torn(rt.alloc(), synced, now, kept, fill)?;
         let is_right = match found(rt, folder, &bytes)? {
             Some(standing) => reached.synced <= standing && standing <= reached.put,
             None => false,
@@ -174,97 +163,55 @@ fn log_bytes(rt: &HostRuntime, live: &str) -> Result<Vec<u8>, Fail> {
     }
 }
 
-/// The log's bytes when it was last synced, how far it is written, and how many crashes were wrong.
-#[derive(Drop)]
-struct Crashed {
-    synced: Vec<u8>,
-    reached: Reached,
-    wrong: u64,
-}
-
-// Crashes after another put.
-fn crash(
-    rt: HostRuntime,
-    folder: &str,
-    live: &str,
-    crashed: &mut Crashed,
-    sync: bool,
-) -> Result<(), Fail> {
-    crashed.reached.put = crashed.reached.put.saturating_add(1);
-    let now = log_bytes(&rt, live)?;
-    if sync {
-        crashed.reached.synced = crashed.reached.put;
-        crashed.synced = now.to_vec(rt.alloc())?;
-    }
-    let wrong = wrong_crashes(rt, folder, &crashed.synced, &now, crashed.reached)?;
-    crashed.wrong = crashed.wrong.saturating_add(wrong);
-    Ok(())
-}
-
-fn put_each<F: FileSystem>(
-    rt: HostRuntime,
-    folder: &str,
-    live: &str,
-    engine: &mut Engine<F>,
-    crashed: &mut Crashed,
-) -> Result<(), Fail> {
-    for sync in &PUTS {
-        put(rt.alloc(), engine, crashed.reached.put, *sync)?;
-        crash(rt, folder, live, crashed, *sync)?;
-    }
-    Ok(())
-}
-
 fn crash_after_each<F: FileSystem>(
     rt: HostRuntime,
     folder: &str,
-    live: &str,
     engine: &mut Engine<F>,
 ) -> Result<Wrong, Fail> {
-    let mut crashed = Crashed {
-        synced: log_bytes(&rt, live)?,
-        reached: Reached { put: 0, synced: 0 },
-        wrong: 0,
-    };
-    put_each(rt, folder, live, engine, &mut crashed)?;
-    let uncounted = wrong_crashes(rt, folder, &[], &log_bytes(&rt, live)?, crashed.reached)?;
-    Ok(Wrong {
-        counted: crashed.wrong,
-        uncounted,
-    })
+    let live = format!(in rt.alloc(); "{folder}/live")?;
+    let mut synced = log_bytes(&rt, live.as_str())?;
+    let mut reached = Reached { put: 0, synced: 0 };
+    let mut counted = 0u64;
+    for sync in PUTS {
+        put(rt.alloc(), engine, reached.put, sync)?;
+        reached.put = reached.put.saturating_add(1);
+        let now = log_bytes(&rt, live.as_str())?;
+        if sync {
+            reached.synced = reached.put;
+            synced = now.to_vec(rt.alloc())?;
+        }
+        let wrong = wrong_crashes(rt, folder, &synced, &now, reached)?;
+        counted = counted.saturating_add(wrong);
+    }
+    let uncounted = wrong_crashes(rt, folder, &[], &log_bytes(&rt, live.as_str())?, reached)?;
+    Ok(Wrong { counted, uncounted })
 }
 
 fn crash_over<F: FileSystem + Drop>(
     rt: HostRuntime,
     folder: &str,
-    live: &str,
     files: F,
 ) -> Result<Wrong, Fail> {
     let mut engine = open(rt.alloc(), files)?;
-    crash_after_each(rt, folder, live, &mut engine)
+    crash_after_each(rt, folder, &mut engine)
 }
 
 fn crashes_in(rt: HostRuntime, folder: &str) -> Result<Wrong, Fail> {
     let live = format!(in rt.alloc(); "{folder}/live")?;
-    let files = DiskFileSystem::open(rt, live.as_str())?;
-    crash_over(rt, folder, live.as_str(), files)
-}
-
-fn crashes(rt: HostRuntime) -> Result<Wrong, Fail> {
-    let folder = temp_folder(&rt, "crashes")?;
-    let wrong = crashes_in(rt, folder.as_str());
-    let removed = fs::remove_dir_all(&rt, folder.as_str());
-    let wrong = wrong?;
-    removed?;
-    Ok(wrong)
+    crash_over(rt, folder, DiskFileSystem::open(rt, live.as_str())?)
 }
 
 #[test]
 fn synced_keys_are_found_after_crashes(rt: HostRuntime) -> Result<(), Fail> {
-    let wanted = Wrong {
-        counted: 0,
-        uncounted: 5,
-    };
-    assert_eq!(rt; crashes(rt)?, wanted);
-    Ok(())
+    let folder = temp_folder(&rt, "crashes")?;
+    let wrong = crashes_in(rt, folder.as_str());
+    let removed = fs::remove_dir_all(&rt, folder.as_str());
+    assert_eq!(rt;
+        wrong?,
+        Wrong {
+            counted: 0,
+            uncounted: 5
+        }
+    );
+    Ok(removed?)
 }

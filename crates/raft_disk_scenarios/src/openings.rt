@@ -3,7 +3,6 @@
 use crate::temp::temp_folder;
 use raft_disk::DiskFileSystem;
 use std::alloc::AllocError;
-use std::fs::DirEntry;
 use std::os::unix::fs::symlink;
 use std::test::Fail;
 use std::{fs, io};
@@ -34,7 +33,7 @@ const LONG: &str = "\
 
 const NOT_PLAIN: &str = "neither a folder nor a file of one name";
 
-static ROWS: [Case; 6] = [
+const CASES: [Case; 6] = [
     Case {
         made: &[Made::File("f")],
         opened: "/f",
@@ -93,25 +92,17 @@ fn make(rt: &HostRuntime, folder: &str, made: &Made) -> io::Result<()> {
     }
 }
 
-// The name of what stands there, and the text of a file, but for a lock's file.
-fn line_of(rt: &HostRuntime, entry: &DirEntry<HostRuntime>) -> io::Result<Option<String>> {
-    let name = entry.file_name();
-    if !entry.metadata()?.is_file() {
-        return Ok(Some(format!(in rt.alloc(); "{name}")?));
-    }
-    if name == "LOCK" {
-        return Ok(None);
-    }
-    let text = fs::read_to_string(rt, entry.path())?;
-    Ok(Some(format!(in rt.alloc(); "{name}: {text}")?))
-}
-
-// A line for each name in a folder.
-fn standing(rt: &HostRuntime, folder: &str) -> io::Result<Vec<String>> {
+// The names in a folder, and the texts of the files, but for a lock's file.
+fn standing(rt: &HostRuntime, folder: &str) -> Result<Vec<String>, Fail> {
     let mut lines = Vec::new(rt.alloc());
     for entry in fs::read_dir(rt, folder)? {
-        if let Some(line) = line_of(rt, &entry?)? {
-            lines.push(line)?;
+        let entry = entry?;
+        let name = entry.file_name();
+        if !entry.metadata()?.is_file() {
+            lines.push(format!(in rt.alloc(); "{name}")?)?;
+        } else if name != "LOCK" {
+            let text = fs::read_to_string(rt, entry.path())?;
+            lines.push(format!(in rt.alloc(); "{name}: {text}")?)?;
         }
     }
     lines.sort()?;
@@ -126,45 +117,26 @@ fn fault_of(rt: HostRuntime, place: &str) -> Result<String, Fail> {
     }
 }
 
-// Whether the opening fails with this text.
-fn is_told(rt: HostRuntime, folder: &str, case: &Case) -> Result<bool, Fail> {
+// Whether the opening fails with this text, and leaves what stood there.
+fn fails_so(rt: HostRuntime, folder: &str, case: &Case) -> Result<bool, Fail> {
+    for made in case.made {
+        make(&rt, folder, made)?;
+    }
+    let before = standing(&rt, folder)?;
     let opened = format!(in rt.alloc(); "{folder}{}", case.opened)?;
     let wanted = format!(in rt.alloc(); "{folder}{}: {}", case.named, case.text)?;
     let fault = fault_of(rt, opened.as_str())?;
-    Ok(fault.starts_with(wanted.as_str()))
-}
-
-fn make_all(rt: &HostRuntime, folder: &str, case: &Case) -> io::Result<()> {
-    for made in case.made {
-        make(rt, folder, made)?;
-    }
-    Ok(())
-}
-
-// Whether the opening fails so, and leaves what stood there.
-fn fails_so(rt: HostRuntime, folder: &str, case: &Case) -> Result<bool, Fail> {
-    make_all(&rt, folder, case)?;
-    let before = standing(&rt, folder)?;
-    Ok(is_told(rt, folder, case)? && standing(&rt, folder)? == before)
-}
-
-fn fails_anew(rt: HostRuntime, case: &Case) -> Result<bool, Fail> {
-    let folder = temp_folder(&rt, "openings")?;
-    let fails = fails_so(rt, folder.as_str(), case);
-    let removed = fs::remove_dir_all(&rt, folder.as_str());
-    let fails = fails?;
-    removed?;
-    Ok(fails)
-}
-
-fn cases() -> &'static [Case] {
-    &ROWS
+    Ok(fault.starts_with(wanted.as_str()) && standing(&rt, folder)? == before)
 }
 
 #[test]
 fn openings_fail_without_a_change(rt: HostRuntime) -> Result<(), Fail> {
-    for (place, case) in cases().iter().enumerate() {
-        assert!(rt; fails_anew(rt, case)?, "{place}");
+    for (place, case) in CASES.iter().enumerate() {
+        let folder = temp_folder(&rt, "openings")?;
+        let fails = fails_so(rt, folder.as_str(), case);
+        let removed = fs::remove_dir_all(&rt, folder.as_str());
+        assert!(rt; fails?, "{place}");
+        removed?;
     }
     Ok(())
 }
@@ -177,59 +149,36 @@ fn opened_again(rt: HostRuntime, folder: &str) -> Result<(String, String), Fail>
     Ok((second, fault_of(rt, folder)?))
 }
 
-fn are_told(rt: &HostRuntime, folder: &str, said: &(String, String)) -> Result<bool, AllocError> {
-    let wanted = format!(in rt.alloc(); "{folder}: it is open already")?;
-    Ok(said.0 == wanted && said.1.as_str() == "")
-}
-
-fn is_open_once(rt: HostRuntime) -> Result<bool, Fail> {
+#[test]
+fn a_folder_is_open_once(rt: HostRuntime) -> Result<(), Fail> {
     let folder = temp_folder(&rt, "once")?;
     let said = opened_again(rt, folder.as_str());
     let removed = fs::remove_dir_all(&rt, folder.as_str());
-    let said = said?;
-    removed?;
-    Ok(are_told(&rt, folder.as_str(), &said)?)
+    let (second, third) = said?;
+    let wanted = format!(in rt.alloc(); "{folder}: it is open already")?;
+    assert_eq!(rt; second, wanted);
+    assert_eq!(rt; third.as_str(), "");
+    Ok(removed?)
 }
 
-#[test]
-fn a_folder_is_open_once(rt: HostRuntime) -> Result<(), Fail> {
-    assert!(rt; is_open_once(rt)?);
-    Ok(())
-}
-
-fn set_read_only(rt: &HostRuntime, folder: &str) -> io::Result<()> {
-    let mut permissions = fs::metadata(rt, folder)?.permissions();
+// What the opening of a read-only folder says, or nothing where this user may write to it, as root.
+fn read_only(rt: HostRuntime, folder: &str) -> Result<Option<String>, Fail> {
+    let mut permissions = fs::metadata(&rt, folder)?.permissions();
     permissions.set_readonly(true);
-    fs::set_permissions(rt, folder, permissions)
-}
-
-// Whether this user may write to a read-only folder all the same, as root.
-fn may_write(rt: &HostRuntime, folder: &str) -> Result<bool, AllocError> {
-    let tried = place_of(rt, folder, "tried")?;
-    Ok(fs::write(rt, tried.as_str(), b"").is_ok())
-}
-
-// Whether the opening of a read-only folder is refused; nothing is shown where this user may write to it.
-fn is_refused(rt: HostRuntime, folder: &str) -> Result<bool, Fail> {
-    set_read_only(&rt, folder)?;
-    if may_write(&rt, folder)? {
-        return Ok(true);
+    fs::set_permissions(&rt, folder, permissions)?;
+    let tried = format!(in rt.alloc(); "{folder}/tried")?;
+    if fs::write(&rt, tried.as_str(), b"").is_ok() {
+        return Ok(None);
     }
-    let wanted = format!(in rt.alloc(); "{folder}: Permission denied")?;
-    Ok(fault_of(rt, folder)?.starts_with(wanted.as_str()))
-}
-
-fn is_refused_anew(rt: HostRuntime) -> Result<bool, Fail> {
-    let folder = temp_folder(&rt, "read-only")?;
-    let refused = is_refused(rt, folder.as_str());
-    let removed = fs::remove_dir_all(&rt, folder.as_str());
-    let refused = refused?;
-    removed?;
-    Ok(refused)
+    Ok(Some(fault_of(rt, folder)?))
 }
 
 #[test]
 fn a_folder_has_to_be_writable(rt: HostRuntime) -> Result<(), Fail> {
-    assert!(rt; is_refused_anew(rt)?);
-    Ok(())
+    let folder = temp_folder(&rt, "read-only")?;
+    let wanted = format!(in rt.alloc(); "{folder}: Permission denied")?;
+    let said = read_only(rt, folder.as_str());
+    let removed = fs::remove_dir_all(&rt, folder.as_str());
+    assert!(rt; said?.is_none_or(|fault| fault.starts_with(wanted.as_str())));
+    Ok(removed?)
 }
