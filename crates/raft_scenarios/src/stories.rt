@@ -120,8 +120,8 @@ fn is_answered<F: FileSystem>(
         Step::Span(first, last) => engine.file_span() == (*first, *last),
         Step::Path(path) => engine.path() == *path,
         Step::Fetch(fetch) => fetches(alloc, engine, fetch),
-        Step::Scan(scan) => is_handed_over(engine, scan),
-        Step::Messages(group, keys) => has_messages(engine, *group, keys),
+        Step::Scan(scan) => is_handed_over(alloc, engine, scan),
+        Step::Messages(group, keys) => has_messages(alloc, engine, *group, keys),
         Step::NoMessage(group, key) => has_no_message(engine, *group, key),
         _ => false,
     }

@@ -4,9 +4,9 @@ use raft_plans::{
     Left, MAX_FILES, OPERATIONS, choices_of, first_refused, is_allowed, is_done, ops_of, settings,
     state_of,
 };
-use raft_records::Fault;
-use raft_script::{Op, Outcome, Trial, trial};
+use raft_script::{Op, Trial, trial};
 use std::alloc::Global;
+use std::process::Abort;
 use std::test::Fail;
 
 const MAX_CALLS: u64 = 100;
@@ -16,76 +16,57 @@ const MAX_CALLS: u64 = 100;
 /// and a sync).
 const MIN_CHANGES: u64 = 31;
 
-/// Whether all operations were done.
-pub(crate) fn are_done(ops: &[Op], outcomes: &[Outcome]) -> bool {
-    outcomes.len() == ops.len() && first_refused(outcomes).is_none()
-}
-
 // The trial found what may be found. After the stop each change fails, so that the engine fails at the first.
-fn holds(ops: &[Op], trial: &Trial) -> bool {
+fn holds(rt: &impl Abort, ops: &[Op], trial: &Trial) {
+    assert_eq!(rt; trial.failed_at, first_refused(&trial.outcomes));
     match &trial.opened {
         Ok(image) => {
-            trial.failed_at == first_refused(&trial.outcomes)
-                && is_allowed(ops, &trial.outcomes, trial.failed_at, state_of(image))
+            let found = state_of(image);
+            assert!(rt;
+                is_allowed(ops, &trial.outcomes, trial.failed_at, found),
+                "{found:?} after {trial:?}"
+            );
         }
-        Err(_) => false,
+        Err(fault) => {
+            assert!(rt; false, "{fault:?} after {trial:?}");
+        }
     }
 }
 
-// Whether the trial is stopped, or nothing where something is wrong.
-fn is_stopped(ops: &[Op], trial: &Trial) -> Option<bool> {
-    if holds(ops, trial) {
-        Some(!are_done(ops, &trial.outcomes))
-    } else {
-        None
-    }
+fn stops_nothing(ops: &[Op], trial: &Trial) -> bool {
+    trial.outcomes.len() == ops.len() && trial.outcomes.iter().all(is_done)
 }
 
-// One way for a crash to leave the files, at a stop: whether the stop came, or nothing where something is wrong.
-fn crash_at(alloc: Global, ops: &[Op], stop: u64, left: &Left) -> Result<Option<bool>, Fault> {
+// One way for a crash to leave the files, at a stop: whether the stop came.
+fn crash_at(
+    rt: &impl Abort,
+    alloc: Global,
+    ops: &[Op],
+    stop: u64,
+    left: &Left,
+) -> Result<bool, Fail> {
     let choices = choices_of(alloc, left, MAX_FILES)?;
     let shown = trial(alloc, settings(alloc)?, ops, Some(stop), &choices)?;
-    Ok(is_stopped(ops, &shown))
-}
-
-// Whether crashes that tear what was written leave what may be found.
-fn crash_torn(alloc: Global, ops: &[Op], stop: u64, filled: u8) -> Result<bool, Fault> {
-    for kept in 0..65 {
-        if crash_at(alloc, ops, stop, &Left::Torn(kept, filled))?.is_none() {
-            return Ok(false);
-        }
-    }
-    Ok(true)
-}
-
-// Each way for a crash to leave the files, at a stop: whether the stop came, or nothing where something is wrong.
-fn crash_each(alloc: Global, ops: &[Op], stop: u64) -> Result<Option<bool>, Fault> {
-    let is_right = crash_at(alloc, ops, stop, &Left::Synced)?.is_some()
-        && crash_torn(alloc, ops, stop, 0)?
-        && crash_torn(alloc, ops, stop, 255)?;
-    if is_right {
-        crash_at(alloc, ops, stop, &Left::All)
-    } else {
-        Ok(None)
-    }
-}
-
-// The first stop that doesn't come, or at which something is wrong, and whether that is so.
-fn last_stop(alloc: Global, ops: &[Op]) -> Result<(u64, bool), Fault> {
-    for stop in 1..MAX_CALLS {
-        match crash_each(alloc, ops, stop)? {
-            Some(true) => {}
-            Some(false) => return Ok((stop, false)),
-            None => return Ok((stop, true)),
-        }
-    }
-    Ok((MAX_CALLS, true))
+    holds(rt, ops, &shown);
+    Ok(!stops_nothing(ops, &shown))
 }
 
 #[test]
 fn every_stop_and_crash_finds_what_may_be_found(rt: HostRuntime) -> Result<(), Fail> {
-    let ops = ops_of(rt.alloc(), &OPERATIONS)?;
-    let (stop, is_wrong) = last_stop(rt.alloc(), &ops)?;
-    assert!(rt; !is_wrong && stop > MIN_CHANGES, "stop {stop}");
+    let alloc = rt.alloc();
+    let ops = ops_of(alloc, &OPERATIONS)?;
+    for stop in 1..MAX_CALLS {
+        let stopped = crash_at(&rt, alloc, &ops, stop, &Left::All)?;
+        crash_at(&rt, alloc, &ops, stop, &Left::Synced)?;
+        for kept in 0..65 {
+            crash_at(&rt, alloc, &ops, stop, &Left::Torn(kept, 0))?;
+            crash_at(&rt, alloc, &ops, stop, &Left::Torn(kept, 255))?;
+        }
+        if !stopped {
+            assert!(rt; stop > MIN_CHANGES);
+            return Ok(());
+        }
+    }
+    assert!(rt; false);
     Ok(())
 }

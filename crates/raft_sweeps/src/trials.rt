@@ -6,7 +6,6 @@ use raft_plans::{
 use raft_records::Fault;
 use raft_script::{Trial, trial};
 use std::alloc::Global;
-use std::test::Fail;
 
 const FIRST: State = State { a: 1, ..EMPTY };
 
@@ -78,7 +77,7 @@ struct Case(
     Result<State, u8>,
 );
 
-static CASES: [Case; 9] = [
+const CASES: [Case; 9] = [
     Case(&PLANS, None, Left::All, &ANSWERS, Ok(BOTH)),
     Case(&PLANS, None, Left::Synced, &ANSWERS, Ok(FIRST)),
     Case(&PLANS, None, Left::Torn(1, 0), &ANSWERS, Ok(FIRST)),
@@ -126,29 +125,31 @@ fn finds(shown: &Trial, wanted: State) -> bool {
     }
 }
 
-fn is_shown(tried: &Result<Trial, Fault>, case: &Case) -> bool {
-    match (tried, &case.4) {
-        (Ok(shown), Ok(wanted)) => {
-            are_answers(&shown.outcomes, case.3)
-                && shown.failed_at.is_none()
-                && finds(shown, *wanted)
-        }
-        (Err(fault), Err(code)) => fault.code() == *code,
-        _ => false,
-    }
-}
-
 fn holds(alloc: Global, case: &Case) -> Result<bool, Fault> {
-    let ops = ops_of(alloc, case.0)?;
-    let choice = choice_of(alloc, &case.2)?;
-    let tried = trial(alloc, settings(alloc)?, &ops, case.1, &[choice]);
-    Ok(is_shown(&tried, case))
+    let Case(plans, stop, left, answers, found) = case;
+    let ops = ops_of(alloc, plans)?;
+    let choice = choice_of(alloc, left)?;
+    let tried = trial(alloc, settings(alloc)?, &ops, *stop, &[choice]);
+    match (&tried, found) {
+        (Ok(shown), Ok(wanted)) => Ok(
+            are_answers(&shown.outcomes, answers)
+                && shown.failed_at.is_none()
+                && finds(shown, *wanted),
+        ),
+        (Err(fault), Err(code)) => Ok(fault.code() == *code),
+        _ => Ok(false),
+    }
 }
 
 #[test]
-fn trial_really_crashes(rt: HostRuntime) -> Result<(), Fail> {
-    for (place, case) in CASES.iter().enumerate() {
-        assert!(rt; holds(rt.alloc(), case)?, "row {place}");
+fn trial_really_crashes(rt: HostRuntime) {
+    for case in &CASES {
+        assert_eq!(rt;
+            holds(rt.alloc(), case),
+            Ok(true),
+            "{:?} {:?}",
+            case.1,
+            case.4
+        );
     }
-    Ok(())
 }
