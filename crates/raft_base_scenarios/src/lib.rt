@@ -8,6 +8,8 @@ mod batches;
 #[cfg(test)]
 mod changes;
 #[cfg(test)]
+mod counts;
+#[cfg(test)]
 mod names;
 #[cfg(test)]
 mod numbers;
