@@ -3,9 +3,10 @@
 ghost use Rattle.std.specs.Prelude.{IfOk, OnOk};
 ghost use Rattle.raft_pipes.specs.Dual.{StandSideBySide};
 
+use crate::crashed_rows::{Case, Left, ONE_EACH, Opening, Stage, Step, cases, openings};
 use LogQueue::{Append, Rewrite};
 use raft_env::{FileSystem, IoKind};
-use raft_memory::{Choice, FsCall, MemoryFileSystem};
+use raft_memory::{Choice, MemoryFileSystem};
 use raft_pipes::{AppendFault, Config, DualPipes, DualPipesBuilder, ReplayMachine, RotationFault};
 use raft_records::{Fault, FileId, Fresh, KeyValue, LogBatch, LogItem, LogItemContent, LogQueue};
 use std::alloc::{AllocError, Global};
@@ -16,229 +17,6 @@ const TARGET: usize = 1024;
 
 /// No case has more files.
 const FILES: usize = 5;
-
-/// What a crash leaves of each file.
-enum Left {
-    Now,
-    Synced,
-    /// Of the places touched since the last sync only so many, the first ones; the others hold the byte.
-    Torn(usize, u8),
-}
-
-enum Step {
-    /// Appends a batch that puts this key, 27 bytes, and syncs the queue where that is asked.
-    Put(LogQueue, u8, bool),
-    Sync(LogQueue),
-    /// Goes on to the queue's next file.
-    Rotate(LogQueue),
-}
-
-/// What is written from no files on, what a crash leaves of the files, and what is then read of the Append queue and of
-/// the Rewrite queue: the file's number and the key of each batch.
-struct Case {
-    name: &'static str,
-    steps: &'static [Step],
-    left: Left,
-    append: &'static [(u64, u8)],
-    rewrite: &'static [(u64, u8)],
-}
-
-const CASES: [Case; 7] = [
-    Case {
-        name: "nothing was written",
-        steps: &[],
-        left: Left::Synced,
-        append: &[],
-        rewrite: &[],
-    },
-    Case {
-        name: "both queues are synced",
-        steps: &[
-            Step::Put(Append, b'a', false),
-            Step::Put(Rewrite, b'b', true),
-            Step::Put(Append, b'c', true),
-        ],
-        left: Left::Synced,
-        append: &[(1, b'a'), (1, b'c')],
-        rewrite: &[(1, b'b')],
-    },
-    Case {
-        name: "a sync of one queue leaves the other's batches unsynced",
-        steps: &[
-            Step::Put(Rewrite, b'a', true),
-            Step::Put(Rewrite, b'b', false),
-            Step::Put(Append, b'c', false),
-            Step::Sync(Append),
-            Step::Put(Append, b'd', false),
-        ],
-        left: Left::Synced,
-        append: &[(1, b'c')],
-        rewrite: &[(1, b'a')],
-    },
-    Case {
-        name: "all of both queues is left",
-        steps: &[
-            Step::Put(Rewrite, b'a', false),
-            Step::Put(Append, b'b', false),
-            Step::Rotate(Rewrite),
-            Step::Put(Rewrite, b'c', false),
-        ],
-        left: Left::Now,
-        append: &[(1, b'b')],
-        rewrite: &[(1, b'a'), (2, b'c')],
-    },
-    Case {
-        name: "a rotation of one queue leaves the other's batches unsynced",
-        steps: &[
-            Step::Put(Append, b'a', false),
-            Step::Put(Rewrite, b'b', false),
-            Step::Rotate(Append),
-            Step::Put(Append, b'c', false),
-        ],
-        left: Left::Synced,
-        append: &[(1, b'a')],
-        rewrite: &[],
-    },
-    Case {
-        name: "both queues are rotated",
-        steps: &[
-            Step::Put(Append, b'a', false),
-            Step::Put(Rewrite, b'b', false),
-            Step::Rotate(Append),
-            Step::Rotate(Rewrite),
-            Step::Put(Rewrite, b'c', false),
-            Step::Rotate(Rewrite),
-            Step::Put(Append, b'd', true),
-            Step::Put(Rewrite, b'e', true),
-            Step::Put(Append, b'f', false),
-        ],
-        left: Left::Synced,
-        append: &[(1, b'a'), (2, b'd')],
-        rewrite: &[(1, b'b'), (2, b'c'), (3, b'e')],
-    },
-    Case {
-        name: "torn records of both queues",
-        steps: &[
-            Step::Put(Append, b'a', true),
-            Step::Put(Append, b'b', false),
-            Step::Put(Rewrite, b'c', true),
-            Step::Put(Rewrite, b'd', false),
-        ],
-        left: Left::Torn(26, 0xff),
-        append: &[(1, b'a')],
-        rewrite: &[(1, b'c')],
-    },
-];
-
-enum Stage {
-    Scan,
-    /// The scan fails with this code.
-    ScanRefused(u8),
-    Read(LogQueue),
-    /// Reading the queue fails with this code.
-    ReadRefused(LogQueue, u8),
-}
-
-/// The two queues that each opening finds.
-const ONE_EACH: [Step; 2] = [
-    Step::Put(Append, b'a', true),
-    Step::Put(Rewrite, b'b', true),
-];
-
-/// An opening of two queues, each of one file: the call that storage refuses, the stages, and the code with which the
-/// opening isn't finished.
-struct Opening {
-    name: &'static str,
-    refused: Option<(FsCall, u64)>,
-    stages: &'static [Stage],
-    finished: Option<u8>,
-}
-
-const OPENINGS: [Opening; 9] = [
-    Opening {
-        name: "nothing is read",
-        refused: None,
-        stages: &[Stage::Scan],
-        finished: Some(15),
-    },
-    Opening {
-        name: "the Append queue is unread",
-        refused: None,
-        stages: &[Stage::Scan, Stage::Read(Rewrite)],
-        finished: Some(15),
-    },
-    Opening {
-        name: "the Rewrite queue is unread",
-        refused: None,
-        stages: &[Stage::Scan, Stage::Read(Append)],
-        finished: Some(15),
-    },
-    Opening {
-        name: "a second scan begins anew",
-        refused: None,
-        stages: &[
-            Stage::Scan,
-            Stage::Read(Append),
-            Stage::Read(Rewrite),
-            Stage::Scan,
-        ],
-        finished: Some(15),
-    },
-    Opening {
-        name: "a second scan fails",
-        refused: Some((FsCall::List, 3)),
-        stages: &[
-            Stage::Scan,
-            Stage::Read(Append),
-            Stage::Read(Rewrite),
-            Stage::ScanRefused(3),
-            Stage::ReadRefused(Append, 15),
-        ],
-        finished: Some(15),
-    },
-    Opening {
-        name: "the second half of a scan fails",
-        refused: Some((FsCall::List, 2)),
-        stages: &[
-            Stage::ScanRefused(3),
-            Stage::ReadRefused(Append, 15),
-            Stage::ReadRefused(Rewrite, 15),
-        ],
-        finished: Some(15),
-    },
-    Opening {
-        name: "a scan after one that failed",
-        refused: Some((FsCall::List, 1)),
-        stages: &[
-            Stage::ScanRefused(3),
-            Stage::Scan,
-            Stage::Read(Rewrite),
-            Stage::Read(Append),
-        ],
-        finished: None,
-    },
-    Opening {
-        name: "a queue can't be read",
-        refused: Some((FsCall::NewReader, 2)),
-        stages: &[
-            Stage::Scan,
-            Stage::Read(Append),
-            Stage::ReadRefused(Rewrite, 3),
-        ],
-        finished: Some(15),
-    },
-    Opening {
-        name: "a queue is read again",
-        refused: Some((FsCall::NewReader, 1)),
-        stages: &[
-            Stage::Scan,
-            Stage::ReadRefused(Append, 3),
-            Stage::Read(Rewrite),
-            Stage::Read(Append),
-        ],
-        finished: None,
-    },
-];
 
 /// Takes the keys that batches put, each with the number of its file.
 #[derive(Drop)]
@@ -274,6 +52,16 @@ fn begun<F: FileSystem + Drop>(alloc: Global, fs: F) -> Result<DualPipesBuilder<
     }
 }
 
+fn recover<F: FileSystem>(
+    builder: &mut DualPipesBuilder<F>,
+    append: &mut Keys,
+    rewrite: &mut Keys,
+) -> Result<(), Fault> {
+    builder.scan()?;
+    builder.recover_queue(Append, append)?;
+    builder.recover_queue(Rewrite, rewrite)
+}
+
 // Opens both queues; what is read of each goes to its machine.
 fn opened<F: FileSystem + Drop>(
     alloc: Global,
@@ -284,9 +72,7 @@ fn opened<F: FileSystem + Drop>(
     ensures stands { IfOk result (λ done. StandSideBySide done.0 (F.directory done.1)) }
 {
     let mut builder = begun(alloc, fs)?;
-    builder.scan()?;
-    builder.recover_queue(Append, append)?;
-    builder.recover_queue(Rewrite, rewrite)?;
+    recover(&mut builder, append, rewrite)?;
     match builder.finish() {
         Ok((pipes, fs)) => Ok((pipes, fs)),
         Err((fault, _fs)) => Err(fault),
@@ -333,6 +119,20 @@ fn take<F: FileSystem>(
     }
 }
 
+fn take_each<F: FileSystem>(
+    alloc: Global,
+    fs: &mut F,
+    pipes: &mut DualPipes<F>,
+    steps: &[Step],
+) -> Result<(), Fault>
+    requires { StandSideBySide pipes.old (F.directory fs.old) }
+{
+    for step in steps {
+        take(alloc, fs, pipes, step)?;
+    }
+    Ok(())
+}
+
 // The files once the steps were taken, of which no pipe was closed.
 fn written<F: FileSystem + Drop>(alloc: Global, fs: F, steps: &[Step]) -> Result<F, Fault> {
     let mut append = Keys {
@@ -342,9 +142,7 @@ fn written<F: FileSystem + Drop>(alloc: Global, fs: F, steps: &[Step]) -> Result
         found: Vec::new(alloc),
     };
     let (mut pipes, mut fs) = opened(alloc, fs, &mut append, &mut rewrite)?;
-    for step in steps {
-        take(alloc, &mut fs, &mut pipes, step)?;
-    }
+    take_each(alloc, &mut fs, &mut pipes, steps)?;
     Ok(fs)
 }
 
@@ -373,29 +171,58 @@ fn is_refused(answer: Result<(), Fault>, code: u8) -> bool {
     }
 }
 
+// Whether one batch, with one key, is read of the queue, or reading it fails with the code.
+fn reads_one<F: FileSystem>(
+    alloc: Global,
+    builder: &mut DualPipesBuilder<F>,
+    queue: LogQueue,
+    code: Option<u8>,
+) -> Result<bool, Fault> {
+    let mut machine = Keys {
+        found: Vec::new(alloc),
+    };
+    let answer = builder.recover_queue(queue, &mut machine);
+    if let Some(code) = code {
+        return Ok(is_refused(answer, code));
+    }
+    answer?;
+    Ok(machine.found.len() == 1)
+}
+
 // Whether the stage comes to what it says.
 fn holds<F: FileSystem>(
     alloc: Global,
     builder: &mut DualPipesBuilder<F>,
     stage: &Stage,
 ) -> Result<bool, Fault> {
-    let mut machine = Keys {
-        found: Vec::new(alloc),
-    };
     match stage {
         Stage::Scan => {
             builder.scan()?;
             Ok(true)
         }
         Stage::ScanRefused(code) => Ok(is_refused(builder.scan(), *code)),
-        Stage::Read(queue) => {
-            builder.recover_queue(*queue, &mut machine)?;
-            Ok(machine.found.len() == 1)
-        }
-        Stage::ReadRefused(queue, code) => {
-            let answer = builder.recover_queue(*queue, &mut machine);
-            Ok(is_refused(answer, *code))
-        }
+        Stage::Read(queue) => reads_one(alloc, builder, *queue, None),
+        Stage::ReadRefused(queue, code) => reads_one(alloc, builder, *queue, Some(*code)),
+    }
+}
+
+fn all_hold<F: FileSystem>(
+    alloc: Global,
+    builder: &mut DualPipesBuilder<F>,
+    stages: &[Stage],
+) -> Result<bool, Fault> {
+    let mut are_right = true;
+    for stage in stages {
+        are_right = holds(alloc, builder, stage)? && are_right;
+    }
+    Ok(are_right)
+}
+
+// The files after the opening, and the code with which it isn't finished.
+fn finished<F: FileSystem + Drop>(builder: DualPipesBuilder<F>) -> (Option<u8>, F) {
+    match builder.finish() {
+        Ok((_pipes, fs)) => (None, fs),
+        Err((fault, fs)) => (Some(fault.code()), fs),
     }
 }
 
@@ -403,19 +230,16 @@ fn holds<F: FileSystem>(
 fn staged<F: FileSystem + Drop>(
     alloc: Global,
     fs: F,
-    stages: &[Stage],
-    finished: Option<u8>,
+    opening: &Opening,
 ) -> Result<Option<F>, Fault> {
     let mut builder = begun(alloc, fs)?;
-    let mut are_right = true;
-    for stage in stages {
-        are_right = holds(alloc, &mut builder, stage)? && are_right;
+    let are_right = all_hold(alloc, &mut builder, opening.stages)?;
+    let (code, fs) = finished(builder);
+    if are_right && code == opening.finished {
+        Ok(Some(fs))
+    } else {
+        Ok(None)
     }
-    let (answer, fs) = match builder.finish() {
-        Ok((_pipes, fs)) => (None, fs),
-        Err((fault, fs)) => (Some(fault.code()), fs),
-    };
-    Ok((are_right && answer == finished).then_some(fs))
 }
 
 fn crashed(alloc: Global, fs: &MemoryFileSystem, left: &Left) -> Result<MemoryFileSystem, Fault> {
@@ -447,7 +271,7 @@ fn ends_as_said(alloc: Global, opening: &Opening) -> Result<bool, Fail> {
     if let Some((call, nth)) = opening.refused {
         fs.refuse(call, nth, IoKind::NoSpace)?;
     }
-    let Some(left) = staged(alloc, fs, opening.stages, opening.finished)? else {
+    let Some(left) = staged(alloc, fs, opening)? else {
         return Ok(false);
     };
     Ok(reads(alloc, left, &[(1, b'a')], &[(1, b'b')])?.is_some())
@@ -455,15 +279,17 @@ fn ends_as_said(alloc: Global, opening: &Opening) -> Result<bool, Fail> {
 
 #[test]
 fn crashed_queues_are_read_in_stages(rt: HostRuntime) -> Result<(), Fail> {
-    for case in &CASES {
-        assert!(rt; is_as_said(rt.alloc(), case)?, "{}", case.name);
+    for cases in &cases() {
+        for case in *cases {
+            assert!(rt; is_as_said(rt.alloc(), case)?, "{}", case.name);
+        }
     }
     Ok(())
 }
 
 #[test]
 fn an_opening_ends_once_all_is_read(rt: HostRuntime) -> Result<(), Fail> {
-    for opening in &OPENINGS {
+    for opening in openings() {
         assert!(rt; ends_as_said(rt.alloc(), opening)?, "{}", opening.name);
     }
     Ok(())

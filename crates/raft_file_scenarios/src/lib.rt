@@ -5,6 +5,8 @@
 #[cfg(test)]
 mod crashed_queues;
 #[cfg(test)]
+mod crashed_rows;
+#[cfg(test)]
 mod laws;
 #[cfg(test)]
 mod log_files;

@@ -2,7 +2,7 @@
 
 use raft_env::{FileSystem, FsFault, Permission};
 use raft_memory::MemoryFileSystem;
-use raft_pipes::{Config, Cut, DualPipesBuilder, ReplayMachine};
+use raft_pipes::{Config, Cut, DualPipes, DualPipesBuilder, ReplayMachine};
 use raft_records::{Fault, FileId, Fresh, LogItem, LogQueue};
 use std::alloc::{AllocError, Global};
 use std::test::Fail;
@@ -45,7 +45,7 @@ const APPEND_2: (&str, &[&[u8]]) = ("data/0000000000000002.raftlog", &[HEADER, P
 
 const REWRITE_1: (&str, &[&[u8]]) = ("data/0000000000000001.rewrite", &[HEADER, PUT_1, PUT_2]);
 
-const CASES: [Case; 5] = [
+static REFUSED: [Case; 3] = [
     Case {
         name: "no files",
         stored: &[],
@@ -73,6 +73,9 @@ const CASES: [Case; 5] = [
         finished: Err(15),
         files: &[("data", 28)],
     },
+];
+
+static THREE_FILES: [Case; 2] = [
     Case {
         name: "one queue is unread",
         stored: &[APPEND_1, APPEND_2, REWRITE_1],
@@ -108,6 +111,11 @@ const CASES: [Case; 5] = [
         ],
     },
 ];
+
+// A function is checked with all of each table that it names, and that grows with the square of the table.
+fn cases() -> [&'static [Case]; 2] {
+    [&REFUSED, &THREE_FILES]
+}
 
 /// Counts batches.
 #[derive(Drop)]
@@ -190,30 +198,30 @@ fn are_taken<F: FileSystem>(
     Ok(are_right)
 }
 
-// The files, if the opening ends as it is wanted.
-fn finished<F: FileSystem + Drop>(
-    builder: DualPipesBuilder<F>,
-    wanted: &Result<(u64, u64), u8>,
-) -> Result<F, Fault> {
-    match (builder.finish(), wanted) {
-        (Ok((pipes, files)), Ok((append, rewrite))) => {
-            if pipes.file_span(LogQueue::Append) == (1, *append)
-                && pipes.file_span(LogQueue::Rewrite) == (1, *rewrite)
-            {
-                Ok(files)
-            } else {
-                Err(Fault::TryAgain)
-            }
+/// The first file and the last one of each queue, or the code with which the opening isn't finished.
+type Ended = Result<((u64, u64), (u64, u64)), u8>;
+
+fn finished<F: FileSystem + Drop>(builder: DualPipesBuilder<F>) -> (Ended, F) {
+    match builder.finish() {
+        Ok((pipes, files)) => (Ok(spans_of(&pipes)), files),
+        Err((fault, files)) => (Err(fault.code()), files),
+    }
+}
+
+fn spans_of<F: FileSystem>(pipes: &DualPipes<F>) -> ((u64, u64), (u64, u64)) {
+    (
+        pipes.file_span(LogQueue::Append),
+        pipes.file_span(LogQueue::Rewrite),
+    )
+}
+
+fn is_end(ended: Ended, wanted: &Result<(u64, u64), u8>) -> bool {
+    match (ended, wanted) {
+        (Ok((append, rewrite)), Ok((last_append, last_rewrite))) => {
+            append == (1, *last_append) && rewrite == (1, *last_rewrite)
         }
-        (Err((fault, files)), Err(code)) => {
-            if fault.code() == *code {
-                Ok(files)
-            } else {
-                Err(fault)
-            }
-        }
-        (Ok(_done), Err(_code)) => Err(Fault::TryAgain),
-        (Err((fault, _files)), Ok(_spans)) => Err(fault),
+        (Err(code), Err(wanted)) => code == *wanted,
+        _ => false,
     }
 }
 
@@ -227,26 +235,47 @@ fn have_lengths<F: FileSystem>(fs: &mut F, files: &[(&str, usize)]) -> Result<bo
     Ok(equal)
 }
 
-fn is_as_said<F: FileSystem + Drop>(alloc: Global, mut fs: F, case: &Case) -> Result<bool, Fail> {
+fn store_all<F: FileSystem>(fs: &mut F, case: &Case) -> Result<(), FsFault> {
     for (path, parts) in case.stored {
-        store(&mut fs, path, parts)?;
+        store(fs, path, parts)?;
     }
-    let mut builder = match DualPipesBuilder::new(alloc, &settings(alloc)?, fs) {
-        Ok(builder) => builder,
-        Err((fault, _files)) => return Err(Fail::from(fault)),
-    };
-    if !are_taken(&mut builder, case.steps)? {
-        return Ok(false);
+    Ok(())
+}
+
+fn begun<F: FileSystem + Drop>(alloc: Global, fs: F) -> Result<DualPipesBuilder<F>, Fault> {
+    match DualPipesBuilder::new(alloc, &settings(alloc)?, fs) {
+        Ok(builder) => Ok(builder),
+        Err((fault, _files)) => Err(fault),
     }
-    let mut files = finished(builder, &case.finished)?;
-    Ok(have_lengths(&mut files, case.files)?)
+}
+
+// The files after the opening, if its steps and its end come to what they say.
+fn opened<F: FileSystem + Drop>(alloc: Global, fs: F, case: &Case) -> Result<Option<F>, Fault> {
+    let mut builder = begun(alloc, fs)?;
+    let are_right = are_taken(&mut builder, case.steps)?;
+    let (ended, files) = finished(builder);
+    if are_right && is_end(ended, &case.finished) {
+        Ok(Some(files))
+    } else {
+        Ok(None)
+    }
+}
+
+fn is_as_said<F: FileSystem + Drop>(alloc: Global, mut fs: F, case: &Case) -> Result<bool, Fail> {
+    store_all(&mut fs, case)?;
+    match opened(alloc, fs, case)? {
+        Some(mut files) => Ok(have_lengths(&mut files, case.files)?),
+        None => Ok(false),
+    }
 }
 
 #[test]
 fn both_queues_are_opened_in_stages(rt: HostRuntime) -> Result<(), Fail> {
-    for case in &CASES {
-        let files = MemoryFileSystem::new(rt.alloc());
-        assert!(rt; is_as_said(rt.alloc(), files, case)?, "{}", case.name);
+    for cases in &cases() {
+        for case in *cases {
+            let files = MemoryFileSystem::new(rt.alloc());
+            assert!(rt; is_as_said(rt.alloc(), files, case)?, "{}", case.name);
+        }
     }
     Ok(())
 }

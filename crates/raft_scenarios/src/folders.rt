@@ -2,7 +2,7 @@
 
 use crate::held::{Faulty, Held};
 use crate::rows::{Rows, Wrong, each_holds};
-use crate::stored::{HEADER_1, HEADER_2, HEADER_MOVED, Stored, are_stored, settings_in, store_all};
+use crate::stored::{HEADER_1, HEADER_2, HEADER_MOVED, Stored};
 use raft_log_engine::RecoveryMode;
 use raft_plans::{EMPTY, State};
 use std::alloc::Global;
@@ -81,11 +81,12 @@ pub(crate) const TAIL: RecoveryMode = RecoveryMode::TolerateTailCorruption;
 
 pub(crate) const ANY: RecoveryMode = RecoveryMode::TolerateAnyCorruption;
 
-/// In a mode an opening holds a state and changes these files, or it fails with a code and changes none.
-pub(crate) enum Opening {
-    Holds(RecoveryMode, State, &'static [Stored]),
-    Fails(RecoveryMode, u8),
-}
+/// In a mode an opening holds a state, or it fails with a code, and it changes these files.
+pub(crate) struct Opening(
+    pub(crate) RecoveryMode,
+    pub(crate) Result<State, u8>,
+    pub(crate) &'static [Stored],
+);
 
 /// Files, and what openings of them come to.
 pub(crate) struct Folder {
@@ -99,9 +100,9 @@ static BROKEN: [Folder; 11] = [
         name: "whole files",
         files: &[LOG_1, LOG_2, LOG_3],
         openings: &[
-            Opening::Holds(ABSOLUTE, ALL, &[]),
-            Opening::Holds(TAIL, ALL, &[]),
-            Opening::Holds(ANY, ALL, &[]),
+            Opening(ABSOLUTE, Ok(ALL), &[]),
+            Opening(TAIL, Ok(ALL), &[]),
+            Opening(ANY, Ok(ALL), &[]),
         ],
     },
     Folder {
@@ -112,9 +113,9 @@ static BROKEN: [Folder; 11] = [
             LOG_3,
         ],
         openings: &[
-            Opening::Fails(ABSOLUTE, 2),
-            Opening::Fails(TAIL, 2),
-            Opening::Holds(ANY, WITHOUT_2, &[CUT_2]),
+            Opening(ABSOLUTE, Err(2), &[]),
+            Opening(TAIL, Err(2), &[]),
+            Opening(ANY, Ok(WITHOUT_2), &[CUT_2]),
         ],
     },
     Folder {
@@ -125,9 +126,9 @@ static BROKEN: [Folder; 11] = [
             LOG_3,
         ],
         openings: &[
-            Opening::Fails(ABSOLUTE, 2),
-            Opening::Fails(TAIL, 2),
-            Opening::Holds(ANY, WITHOUT_2, &[CUT_2]),
+            Opening(ABSOLUTE, Err(2), &[]),
+            Opening(TAIL, Err(2), &[]),
+            Opening(ANY, Ok(WITHOUT_2), &[CUT_2]),
         ],
     },
     Folder {
@@ -138,9 +139,9 @@ static BROKEN: [Folder; 11] = [
             ("raft/0000000000000003.raftlog", &[HEADER_2, BROKEN_3]),
         ],
         openings: &[
-            Opening::Fails(ABSOLUTE, 2),
-            Opening::Holds(TAIL, WITHOUT_3, &[CUT_3]),
-            Opening::Holds(ANY, WITHOUT_3, &[CUT_3]),
+            Opening(ABSOLUTE, Err(2), &[]),
+            Opening(TAIL, Ok(WITHOUT_3), &[CUT_3]),
+            Opening(ANY, Ok(WITHOUT_3), &[CUT_3]),
         ],
     },
     Folder {
@@ -151,9 +152,9 @@ static BROKEN: [Folder; 11] = [
             LOG_3,
         ],
         openings: &[
-            Opening::Fails(ABSOLUTE, 2),
-            Opening::Fails(TAIL, 2),
-            Opening::Holds(ANY, WITHOUT_2, &[BEGUN_2]),
+            Opening(ABSOLUTE, Err(2), &[]),
+            Opening(TAIL, Err(2), &[]),
+            Opening(ANY, Ok(WITHOUT_2), &[BEGUN_2]),
         ],
     },
     Folder {
@@ -164,18 +165,18 @@ static BROKEN: [Folder; 11] = [
             ("raft/0000000000000003.raftlog", &[HEADER_MOVED, PUT_3]),
         ],
         openings: &[
-            Opening::Fails(ABSOLUTE, 2),
-            Opening::Holds(TAIL, WITHOUT_3, &[BEGUN_3]),
-            Opening::Holds(ANY, WITHOUT_3, &[BEGUN_3]),
+            Opening(ABSOLUTE, Err(2), &[]),
+            Opening(TAIL, Ok(WITHOUT_3), &[BEGUN_3]),
+            Opening(ANY, Ok(WITHOUT_3), &[BEGUN_3]),
         ],
     },
     Folder {
         name: "file 3 without a byte",
         files: &[LOG_1, LOG_2, ("raft/0000000000000003.raftlog", &[])],
         openings: &[
-            Opening::Fails(ABSOLUTE, 2),
-            Opening::Holds(TAIL, WITHOUT_3, &[BEGUN_3]),
-            Opening::Holds(ANY, WITHOUT_3, &[BEGUN_3]),
+            Opening(ABSOLUTE, Err(2), &[]),
+            Opening(TAIL, Ok(WITHOUT_3), &[BEGUN_3]),
+            Opening(ANY, Ok(WITHOUT_3), &[BEGUN_3]),
         ],
     },
     Folder {
@@ -186,9 +187,9 @@ static BROKEN: [Folder; 11] = [
             ("raft/0000000000000003.raftlog", &[HEADER_2, PUT_2]),
         ],
         openings: &[
-            Opening::Fails(ABSOLUTE, 2),
-            Opening::Holds(TAIL, WITHOUT_3, &[CUT_3]),
-            Opening::Holds(ANY, WITHOUT_3, &[CUT_3]),
+            Opening(ABSOLUTE, Err(2), &[]),
+            Opening(TAIL, Ok(WITHOUT_3), &[CUT_3]),
+            Opening(ANY, Ok(WITHOUT_3), &[CUT_3]),
         ],
     },
     Folder {
@@ -199,9 +200,9 @@ static BROKEN: [Folder; 11] = [
             ("raft/0000000000000003.raftlog", &[HEADER_2, LZ4_3]),
         ],
         openings: &[
-            Opening::Fails(ABSOLUTE, 13),
-            Opening::Fails(TAIL, 13),
-            Opening::Fails(ANY, 13),
+            Opening(ABSOLUTE, Err(13), &[]),
+            Opening(TAIL, Err(13), &[]),
+            Opening(ANY, Err(13), &[]),
         ],
     },
     Folder {
@@ -215,9 +216,9 @@ static BROKEN: [Folder; 11] = [
             ),
         ],
         openings: &[
-            Opening::Holds(ABSOLUTE, ALL, &[]),
-            Opening::Holds(TAIL, ALL, &[]),
-            Opening::Holds(ANY, ALL, &[]),
+            Opening(ABSOLUTE, Ok(ALL), &[]),
+            Opening(TAIL, Ok(ALL), &[]),
+            Opening(ANY, Ok(ALL), &[]),
         ],
     },
     Folder {
@@ -231,15 +232,15 @@ static BROKEN: [Folder; 11] = [
             ),
         ],
         openings: &[
-            Opening::Fails(ABSOLUTE, 2),
-            Opening::Holds(
+            Opening(ABSOLUTE, Err(2), &[]),
+            Opening(
                 TAIL,
-                WITHOUT_3,
+                Ok(WITHOUT_3),
                 &[("raft/0000000000000003.raftlog", &[HEADER_ALIGNED])],
             ),
-            Opening::Holds(
+            Opening(
                 ANY,
-                WITHOUT_3,
+                Ok(WITHOUT_3),
                 &[("raft/0000000000000003.raftlog", &[HEADER_ALIGNED])],
             ),
         ],
@@ -257,9 +258,9 @@ static HOLES: [Folder; 2] = [
         name: "file 3 is missing",
         files: &[LOG_1, LOG_2, LOG_4, LOG_5],
         openings: &[
-            Opening::Holds(ABSOLUTE, FOURTH_AND_FIFTH, &[]),
-            Opening::Holds(TAIL, FOURTH_AND_FIFTH, &[]),
-            Opening::Holds(ANY, FOURTH_AND_FIFTH, &[]),
+            Opening(ABSOLUTE, Ok(FOURTH_AND_FIFTH), &[]),
+            Opening(TAIL, Ok(FOURTH_AND_FIFTH), &[]),
+            Opening(ANY, Ok(FOURTH_AND_FIFTH), &[]),
         ],
     },
     Folder {
@@ -270,9 +271,9 @@ static HOLES: [Folder; 2] = [
             LOG_4,
         ],
         openings: &[
-            Opening::Holds(ABSOLUTE, State { d: 4, ..EMPTY }, &[]),
-            Opening::Holds(TAIL, State { d: 4, ..EMPTY }, &[]),
-            Opening::Holds(ANY, State { d: 4, ..EMPTY }, &[]),
+            Opening(ABSOLUTE, Ok(State { d: 4, ..EMPTY }), &[]),
+            Opening(TAIL, Ok(State { d: 4, ..EMPTY }), &[]),
+            Opening(ANY, Ok(State { d: 4, ..EMPTY }), &[]),
         ],
     },
 ];
@@ -293,67 +294,52 @@ static NAMES: [Folder; 1] = [Folder {
         ("0000000000000004.raftlog", &[HEADER_2, PUT_4]),
     ],
     openings: &[
-        Opening::Holds(ABSOLUTE, ALL, &[]),
-        Opening::Holds(TAIL, ALL, &[]),
-        Opening::Holds(ANY, ALL, &[]),
+        Opening(ABSOLUTE, Ok(ALL), &[]),
+        Opening(TAIL, Ok(ALL), &[]),
+        Opening(ANY, Ok(ALL), &[]),
     ],
 }];
 
-// Whether an opening finds this, and a key k where something else is there.
-fn finds<F: Faulty>(
+// Whether an opening comes to what is wanted; a key k is there where the state has something else.
+fn comes_to<F: Faulty>(
     alloc: Global,
     held: &mut Held<F>,
     mode: RecoveryMode,
-    state: State,
-) -> Result<bool, Fail> {
-    held.open(alloc, settings_in(alloc, mode)?);
-    Ok(held.has(state)? && held.has_key(b"k")? == state.other)
-}
-
-// Whether an opening comes to what is wanted.
-fn is_opened<F: Faulty>(
-    alloc: Global,
-    held: &mut Held<F>,
-    opening: &Opening,
-) -> Result<bool, Fail> {
-    match opening {
-        Opening::Holds(mode, state, _) => finds(alloc, held, *mode, *state),
-        Opening::Fails(mode, code) => {
-            held.open(alloc, settings_in(alloc, *mode)?);
-            Ok(held.code() == Some(*code))
-        }
+    wanted: &Result<State, u8>,
+) -> bool {
+    let is_tried = held.open(alloc, mode);
+    match wanted {
+        Ok(state) => is_tried && held.has(*state) && held.has_key(b"k", state.other),
+        Err(code) => is_tried && held.code() == Some(*code),
     }
 }
 
-// Whether the next opening holds the same.
-fn is_kept<F: Faulty>(alloc: Global, held: &mut Held<F>, opening: &Opening) -> Result<bool, Fail> {
-    match opening {
-        Opening::Holds(_, state, _) => finds(alloc, held, TAIL, *state),
-        Opening::Fails(..) => Ok(true),
+// After an opening the engine is closed where that is asked, or gives the files up.
+fn put_back<F: Faulty>(held: &mut Held<F>, closes: bool) {
+    if closes && held.code().is_none() {
+        held.close();
     }
+    held.give_up();
 }
 
-// Whether an opening and the next one come to what is wanted. Between them the engine is closed, or gives the files up.
+// Whether an opening comes to what is wanted, and, where it holds a state, the next one to the same.
 fn holds<F: Faulty>(
     alloc: Global,
     held: &mut Held<F>,
     files: &[Stored],
     opening: &Opening,
     closes: bool,
-) -> Result<bool, Fail> {
+) -> bool {
+    let Opening(mode, wanted, changed) = opening;
     held.renew(alloc);
-    let count = store_all(alloc, held.files()?, files)?;
-    let is_opened = is_opened(alloc, held, opening)?;
-    if closes && held.fault().is_none() {
-        held.close();
-    }
-    held.give_up();
-    let changed = match opening {
-        Opening::Holds(_, _, changed) => *changed,
-        Opening::Fails(..) => &[],
+    let Some(count) = held.store(alloc, files) else {
+        return false;
     };
-    let is_left = are_stored(alloc, held.files()?, files, changed, count)?;
-    Ok(is_opened && is_left && is_kept(alloc, held, opening)?)
+    let is_opened = comes_to(alloc, held, *mode, wanted);
+    put_back(held, closes);
+    is_opened
+        && held.stores(alloc, files, changed, count)
+        && (wanted.is_err() || comes_to(alloc, held, TAIL, wanted))
 }
 
 /// The first folder, and the opening of it, that comes to something else.
@@ -362,19 +348,19 @@ pub(crate) fn wrong_opening<F: Faulty>(
     held: &mut Held<F>,
     folders: &'static [Folder],
     closes: bool,
-) -> Result<Wrong, Fail> {
+) -> Wrong {
     for Folder {
         name,
         files,
         openings,
     } in folders {
         for (place, opening) in openings.iter().enumerate() {
-            if !holds(alloc, held, files, opening, closes)? {
-                return Ok(Some((*name, place)));
+            if !holds(alloc, held, files, opening, closes) {
+                return Some((*name, place));
             }
         }
     }
-    Ok(None)
+    None
 }
 
 #[test]

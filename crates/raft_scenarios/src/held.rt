@@ -1,13 +1,13 @@
 //! Files in memory, or an engine over them.
 
+use crate::stored::{Stored, are_stored, settings_in, store_all};
 use raft_env::{FileSystem, IoKind};
-use raft_log_engine::{Config, Engine, Refused};
+use raft_log_engine::{Config, Engine, RecoveryMode, Refused};
 use raft_memory::{FsCall, MemoryFileSystem};
 use raft_plans::{Left, MAX_FILES, State, choices_of, state_of};
 use raft_records::Fault;
 use std::alloc::Global;
 use std::mem;
-use std::test::Fail;
 
 /// Which call fails: the nth of a sort, in this way, or the nth that changes files, and each after it.
 #[derive(Clone, Copy)]
@@ -68,6 +68,20 @@ pub(crate) enum Held<F: FileSystem> {
     Nothing,
 }
 
+fn is_image<F: FileSystem>(engine: &mut Engine<F>, state: State) -> bool {
+    match engine.image() {
+        Ok(image) => state_of(&image) == state,
+        Err(_) => false,
+    }
+}
+
+fn is_at<F: FileSystem>(engine: &Engine<F>, key: &[u8], is_there: bool) -> bool {
+    match engine.get(1, key) {
+        Ok(value) => value.is_some() == is_there,
+        Err(_) => false,
+    }
+}
+
 impl<F: Faulty> Held<F> {
     /// Begins anew.
     pub(crate) fn renew(&mut self, alloc: Global) {
@@ -83,12 +97,12 @@ impl<F: Faulty> Held<F> {
         }
     }
 
-    /// The files, which no engine has.
-    pub(crate) fn files(&mut self) -> Result<&mut F, Fail> {
+    /// The files, unless an engine has them.
+    pub(crate) fn files(&mut self) -> Option<&mut F> {
         match self {
-            Held::Files(files) => Ok(files),
-            Held::Refused(refused) => Ok(&mut refused.file_system),
-            _ => Err(Fail::new("no files")),
+            Held::Files(files) => Some(files),
+            Held::Refused(refused) => Some(&mut refused.file_system),
+            _ => None,
         }
     }
 
@@ -98,13 +112,23 @@ impl<F: Faulty> Held<F> {
         }
     }
 
-    /// Opens the files, which an engine gives up first.
-    pub(crate) fn open(&mut self, alloc: Global, config: Config) {
+    fn open_with(&mut self, alloc: Global, config: Config) {
         if let Some(files) = self.take() {
             *self = match Engine::open_in_order(alloc, config, files) {
                 Ok(engine) => Held::Engine(engine),
                 Err(refused) => Held::Refused(refused),
             };
+        }
+    }
+
+    /// Opens the files, which an engine gives up first: whether there was memory for the settings.
+    pub(crate) fn open(&mut self, alloc: Global, mode: RecoveryMode) -> bool {
+        match settings_in(alloc, mode) {
+            Ok(config) => {
+                self.open_with(alloc, config);
+                true
+            }
+            Err(_) => false,
         }
     }
 
@@ -134,34 +158,65 @@ impl<F: Faulty> Held<F> {
         }
     }
 
+    /// The number of that fault, or none where nothing failed.
     pub(crate) fn code(&self) -> Option<u8> {
-        self.fault().map(Fault::code)
+        match self {
+            Held::Refused(refused) => Some(refused.fault.code()),
+            _ => None,
+        }
     }
 
     /// Whether an engine holds this.
-    pub(crate) fn has(&mut self, state: State) -> Result<bool, Fail> {
+    pub(crate) fn has(&mut self, state: State) -> bool {
         match self {
-            Held::Engine(engine) => Ok(state_of(&engine.image()?) == state),
-            _ => Ok(false),
+            Held::Engine(engine) => is_image(engine, state),
+            _ => false,
         }
     }
 
-    /// Whether an engine holds a value at this key of group 1.
-    pub(crate) fn has_key(&self, key: &[u8]) -> Result<bool, Fail> {
+    /// Whether an engine holds a value at this key of group 1, or holds none.
+    pub(crate) fn has_key(&self, key: &[u8], is_there: bool) -> bool {
         match self {
-            Held::Engine(engine) => Ok(engine.get(1, key)?.is_some()),
-            _ => Ok(false),
+            Held::Engine(engine) => is_at(engine, key, is_there),
+            _ => false,
         }
     }
 
-    pub(crate) fn crash(&mut self, alloc: Global, left: &Left) -> Result<(), Fail> {
-        Ok(self.files()?.crash_to(alloc, left)?)
+    pub(crate) fn crash(&mut self, alloc: Global, left: &Left) -> bool {
+        match self.files() {
+            Some(files) => files.crash_to(alloc, left).is_ok(),
+            None => false,
+        }
     }
 
-    pub(crate) fn fail(&mut self, failing: Failing) -> Result<(), Fail> {
+    pub(crate) fn fail(&mut self, failing: Failing) -> bool {
         match self {
-            Held::Engine(engine) => Ok(F::fail_under(engine, failing)?),
-            _ => Ok(self.files()?.fail(failing)?),
+            Held::Engine(engine) => F::fail_under(engine, failing).is_ok(),
+            Held::Files(files) => files.fail(failing).is_ok(),
+            Held::Refused(refused) => refused.file_system.fail(failing).is_ok(),
+            Held::Nothing => false,
+        }
+    }
+
+    /// Makes files. Answers how many the log's folder has.
+    pub(crate) fn store(&mut self, alloc: Global, stored: &[Stored]) -> Option<usize> {
+        match store_all(alloc, self.files()?, stored) {
+            Ok(count) => Some(count),
+            Err(_) => None,
+        }
+    }
+
+    /// Whether the files have these bytes, but for those that are changed, and are so many in the log's folder.
+    pub(crate) fn stores(
+        &mut self,
+        alloc: Global,
+        stored: &[Stored],
+        changed: &[Stored],
+        count: usize,
+    ) -> bool {
+        match self.files() {
+            Some(files) => matches!(are_stored(alloc, files, stored, changed, count), Ok(true)),
+            None => false,
         }
     }
 }

@@ -49,82 +49,82 @@ static CASES: [Folder; 16] = [
     Folder {
         name: "a cut record behind the records",
         files: &[(LOG, &[HEADER_2, PUT, PUT_CUT])],
-        openings: &[Opening::Holds(TAIL, WITH_PUT, &[(LOG, WHOLE)])],
+        openings: &[Opening(TAIL, Ok(WITH_PUT), &[(LOG, WHOLE)])],
     },
     Folder {
         name: "a record without its first byte behind the records",
         files: &[(LOG, &[HEADER_2, PUT, PUT_MOVED])],
-        openings: &[Opening::Holds(TAIL, WITH_PUT, &[(LOG, WHOLE)])],
+        openings: &[Opening(TAIL, Ok(WITH_PUT), &[(LOG, WHOLE)])],
     },
     Folder {
         name: "zeros behind the records",
         files: &[(LOG, &[HEADER_2, PUT, &[0; 40]])],
-        openings: &[Opening::Holds(TAIL, WITH_PUT, &[(LOG, WHOLE)])],
+        openings: &[Opening(TAIL, Ok(WITH_PUT), &[(LOG, WHOLE)])],
     },
     Folder {
         name: "a byte behind the records",
         files: &[(LOG, &[HEADER_2, PUT, b"x"])],
-        openings: &[Opening::Holds(TAIL, WITH_PUT, &[(LOG, WHOLE)])],
+        openings: &[Opening(TAIL, Ok(WITH_PUT), &[(LOG, WHOLE)])],
     },
     Folder {
         name: "broken entries behind the records",
         files: &[(LOG, &[HEADER_2, PUT, BROKEN_ENTRIES])],
-        openings: &[Opening::Holds(TAIL, WITH_PUT, &[(LOG, WHOLE)])],
+        openings: &[Opening(TAIL, Ok(WITH_PUT), &[(LOG, WHOLE)])],
     },
     Folder {
         name: "no bytes",
         files: &[(LOG, &[])],
-        openings: &[Opening::Holds(ANY, EMPTY, &[(LOG, &[HEADER_1])])],
+        openings: &[Opening(ANY, Ok(EMPTY), &[(LOG, &[HEADER_1])])],
     },
     Folder {
         name: "a cut header",
         files: &[(LOG, &[HEADER_CUT])],
-        openings: &[Opening::Holds(ANY, EMPTY, &[(LOG, &[HEADER_1])])],
+        openings: &[Opening(ANY, Ok(EMPTY), &[(LOG, &[HEADER_1])])],
     },
     Folder {
         name: "a header without its first byte",
         files: &[(LOG, &[HEADER_MOVED, PUT])],
-        openings: &[Opening::Holds(ANY, EMPTY, &[(LOG, &[HEADER_1])])],
+        openings: &[Opening(ANY, Ok(EMPTY), &[(LOG, &[HEADER_1])])],
     },
     Folder {
         name: "zeros in place of a header",
         files: &[(LOG, &[&[0; 200]])],
-        openings: &[Opening::Holds(ANY, EMPTY, &[(LOG, &[HEADER_1])])],
+        openings: &[Opening(ANY, Ok(EMPTY), &[(LOG, &[HEADER_1])])],
     },
     Folder {
         name: "a cut record, absolute",
         files: &[(LOG, &[HEADER_2, PUT, PUT_CUT])],
-        openings: &[Opening::Fails(ABSOLUTE, 2)],
+        openings: &[Opening(ABSOLUTE, Err(2), &[])],
     },
     Folder {
         name: "zeros, absolute",
         files: &[(LOG, &[HEADER_2, PUT, &[0; 40]])],
-        openings: &[Opening::Fails(ABSOLUTE, 2)],
+        openings: &[Opening(ABSOLUTE, Err(2), &[])],
     },
     Folder {
         name: "a cut header, absolute",
         files: &[(LOG, &[HEADER_CUT])],
-        openings: &[Opening::Fails(ABSOLUTE, 2)],
+        openings: &[Opening(ABSOLUTE, Err(2), &[])],
     },
     Folder {
         name: "no bytes, absolute",
         files: &[(LOG, &[])],
-        openings: &[Opening::Fails(ABSOLUTE, 2)],
+        openings: &[Opening(ABSOLUTE, Err(2), &[])],
     },
     Folder {
         name: "a whole log, absolute",
         files: &[(LOG, WHOLE)],
-        openings: &[Opening::Holds(ABSOLUTE, WITH_PUT, &[(LOG, WHOLE)])],
+        openings: &[Opening(ABSOLUTE, Ok(WITH_PUT), &[(LOG, WHOLE)])],
     },
     Folder {
         name: "entries",
         files: &[(LOG, &[HEADER_2, PUT, ENTRIES])],
-        openings: &[Opening::Holds(TAIL, WITH_PUT, &[])],
+        openings: &[Opening(TAIL, Ok(WITH_PUT), &[])],
     },
     Folder {
         name: "a compressed block",
         files: &[(LOG, &[HEADER_2, PUT, LZ4])],
-        openings: &[Opening::Fails(TAIL, 13)],
+        openings: &[Opening(TAIL, Err(13), &[])],
     },
 ];
 

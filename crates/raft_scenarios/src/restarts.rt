@@ -5,7 +5,7 @@ use crate::folders::{
 };
 use crate::held::{Failing, Faulty, Held};
 use crate::rows::{Rows, Wrong, each_holds};
-use crate::stored::{HEADER_2, HEADER_MOVED, Stored, are_stored, settings_in, store_all};
+use crate::stored::{HEADER_2, HEADER_MOVED, Stored};
 use raft_env::IoKind;
 use raft_log_engine::RecoveryMode;
 use raft_memory::FsCall;
@@ -75,28 +75,49 @@ fn is_refusal(fault: &Fault) -> bool {
     }
 }
 
+// Whether the files that an opening refused are as they were, and the next opening finds all.
+fn is_untouched<F: Faulty>(
+    alloc: Global,
+    held: &mut Held<F>,
+    mode: RecoveryMode,
+    count: usize,
+) -> bool {
+    held.stores(alloc, THREE, &[], count) && held.open(alloc, mode) && held.has(ALL)
+}
+
 // An opening of whole files that a call fails changes nothing: whether it failed, or nothing where that is wrong.
 fn cuts_nothing<F: Faulty>(
     alloc: Global,
     held: &mut Held<F>,
     mode: RecoveryMode,
     failing: Failing,
-) -> Result<Option<bool>, Fail> {
-    let count = store_all(alloc, held.files()?, THREE)?;
-    held.fail(failing)?;
-    held.open(alloc, settings_in(alloc, mode)?);
-    let Some(fault) = held.fault() else {
-        return Ok(Some(false));
+) -> Option<bool> {
+    let count = held.store(alloc, THREE)?;
+    if !held.fail(failing) || !held.open(alloc, mode) {
+        return None;
+    }
+    let is_right = match held.fault() {
+        Some(fault) => is_refusal(fault),
+        None => return Some(false),
     };
-    let is_refused = is_refusal(fault);
-    let is_left = are_stored(alloc, held.files()?, THREE, &[], count)?;
-    held.open(alloc, settings_in(alloc, mode)?);
-    let is_found = held.has(ALL)?;
-    Ok(if is_refused && is_left && is_found {
+    if is_right && is_untouched(alloc, held, mode, count) {
         Some(true)
     } else {
         None
-    })
+    }
+}
+
+// Whether a call was refused since the files were made.
+fn is_met<F: Faulty>(held: &mut Held<F>) -> bool {
+    match held.files() {
+        Some(files) => files.refusals() > 0,
+        None => false,
+    }
+}
+
+// Whether broken files are made, and a crash leaves them as they are.
+fn breaks<F: Faulty>(alloc: Global, held: &mut Held<F>) -> bool {
+    held.store(alloc, BROKEN).is_some() && held.crash(alloc, &Left::All)
 }
 
 // After a crash of broken files, an opening with failing calls and another crash the rest is found: whether a call
@@ -107,20 +128,37 @@ fn finds_rest<F: Faulty>(
     mode: RecoveryMode,
     failing: Failing,
     left: &Left,
-) -> Result<Option<bool>, Fail> {
-    store_all(alloc, held.files()?, BROKEN)?;
-    held.crash(alloc, &Left::All)?;
-    held.fail(failing)?;
-    held.open(alloc, settings_in(alloc, mode)?);
+) -> Option<bool> {
+    if !breaks(alloc, held) || !held.fail(failing) || !held.open(alloc, mode) {
+        return None;
+    }
     held.give_up();
-    let is_refused = held.files()?.refusals() > 0;
-    held.crash(alloc, left)?;
-    held.open(alloc, settings_in(alloc, mode)?);
-    Ok(if held.has(WITHOUT_2)? {
+    let is_refused = is_met(held);
+    if held.crash(alloc, left) && held.open(alloc, mode) && held.has(WITHOUT_2) {
         Some(is_refused)
     } else {
         None
-    })
+    }
+}
+
+// Whether the nth call failed, or nothing where something is wrong.
+fn failed<F: Faulty>(
+    alloc: Global,
+    held: &mut Held<F>,
+    calls: &Calls,
+    nth: u64,
+    left: &Option<Left>,
+) -> Option<bool> {
+    let Calls(_, call, mode, _) = calls;
+    let failing = match call {
+        Some(call) => Failing::Nth(*call, nth, IoKind::Other),
+        None => Failing::From(nth),
+    };
+    held.renew(alloc);
+    match left {
+        Some(left) => finds_rest(alloc, held, *mode, failing, left),
+        None => cuts_nothing(alloc, held, *mode, failing),
+    }
 }
 
 // The last call that failed, or nothing where something is wrong.
@@ -129,26 +167,14 @@ fn last_failed<F: Faulty>(
     held: &mut Held<F>,
     calls: &Calls,
     left: &Option<Left>,
-) -> Result<Option<u64>, Fail> {
-    let Calls(_, call, mode, _) = calls;
+) -> Option<u64> {
     let mut last = 0;
     for nth in 1..MAX_CALLS {
-        let failing = match call {
-            Some(call) => Failing::Nth(*call, nth, IoKind::Other),
-            None => Failing::From(nth),
-        };
-        held.renew(alloc);
-        let failed = match left {
-            Some(left) => finds_rest(alloc, held, *mode, failing, left)?,
-            None => cuts_nothing(alloc, held, *mode, failing)?,
-        };
-        match failed {
-            Some(true) => last = nth,
-            Some(false) => {}
-            None => return Ok(None),
+        if failed(alloc, held, calls, nth, left)? {
+            last = nth;
         }
     }
-    Ok(Some(last))
+    Some(last)
 }
 
 /// The first calls, and the place of what a crash leaves, at which something is wrong, or that are fewer or more.
@@ -157,16 +183,16 @@ pub(crate) fn wrong_call<F: Faulty>(
     held: &mut Held<F>,
     calls: &'static [Calls],
     lefts: &'static [Option<Left>],
-) -> Result<Wrong, Fail> {
+) -> Wrong {
     for (place, left) in lefts.iter().enumerate() {
         for calls in calls {
-            match last_failed(alloc, held, calls, left)? {
+            match last_failed(alloc, held, calls, left) {
                 Some(last) if calls.3 <= last && last.saturating_add(1) < MAX_CALLS => {}
-                _ => return Ok(Some((calls.0, place))),
+                _ => return Some((calls.0, place)),
             }
         }
     }
-    Ok(None)
+    None
 }
 
 #[test]

@@ -23,10 +23,10 @@ pub(crate) enum Rows {
 /// The first row that comes to something else, and where in it.
 pub(crate) type Wrong = Option<(&'static str, usize)>;
 
-fn first_wrong<F: Faulty>(alloc: Global, files: F, rows: Rows) -> Result<Wrong, Fail> {
+fn first_wrong<F: Faulty>(alloc: Global, files: F, rows: Rows) -> Wrong {
     let mut held = Held::Files(files);
     match rows {
-        Rows::Scripts(scripts) => Ok(wrong_script(alloc, scripts)),
+        Rows::Scripts(scripts) => wrong_script(alloc, scripts),
         Rows::Stories(stories) => wrong_story(alloc, &mut held, stories),
         Rows::Openings(folders, closes) => wrong_opening(alloc, &mut held, folders, closes),
         Rows::Failures(calls, lefts) => wrong_call(alloc, &mut held, calls, lefts),
@@ -36,6 +36,6 @@ fn first_wrong<F: Faulty>(alloc: Global, files: F, rows: Rows) -> Result<Wrong, 
 /// Fails where a row comes to something else.
 pub(crate) fn each_holds<R: Abort + AllocGlobal>(rt: &R, rows: Rows) -> Result<(), Fail> {
     let files = MemoryFileSystem::new(rt.alloc());
-    assert_eq!(rt; first_wrong(rt.alloc(), files, rows)?, None);
+    assert_eq!(rt; first_wrong(rt.alloc(), files, rows), None);
     Ok(())
 }

@@ -1,16 +1,16 @@
 //! Stories as rows of tables: steps on an engine over files in memory, each with what it comes to.
 
+use crate::folders::TAIL;
 use crate::held::{Failing, Faulty, Held};
 use crate::reads::{Fetch, fetches};
 use crate::rows::Wrong;
 use crate::scans::{Scan, has_messages, is_handed_over};
 use raft_env::FileSystem;
 use raft_log_engine::Engine;
-use raft_plans::{Answer, Left, Plan, State, are_answers, first_refused, ops_of, settings};
+use raft_plans::{Answer, Left, Plan, State, are_answers, first_refused, ops_of};
 use raft_records::{Fault, LogBatch};
 use raft_script::{TextEntry, run};
 use std::alloc::Global;
-use std::test::Fail;
 
 pub(crate) enum Step {
     /// Opens the files, which an engine gives up first.
@@ -59,15 +59,13 @@ fn put(
     group: u64,
     key: &[u8],
     value: &[u8],
-) -> Result<bool, Fail> {
-    batch.put(group, key.to_vec(alloc)?, value.to_vec(alloc)?)?;
-    Ok(true)
+) -> Result<(), Fault> {
+    batch.put(group, key.to_vec(alloc)?, value.to_vec(alloc)?)
 }
 
-fn put_message(alloc: Global, batch: &mut LogBatch, group: u64, key: &[u8]) -> Result<bool, Fail> {
+fn put_message(alloc: Global, batch: &mut LogBatch, group: u64, key: &[u8]) -> Result<(), Fault> {
     let word = b"w".to_vec(alloc)?;
-    batch.put_message(group, key.to_vec(alloc)?, &TextEntry { index: 7, word })?;
-    Ok(true)
+    batch.put_message(group, key.to_vec(alloc)?, &TextEntry { index: 7, word })
 }
 
 // Whether the call is answered so. A batch that was written is empty.
@@ -84,17 +82,19 @@ fn writes<F: FileSystem>(
     }
 }
 
+// Whether operations are answered so; with no answers, whether each is done.
 fn runs<F: FileSystem>(
     alloc: Global,
     engine: &mut Engine<F>,
     plans: &[Plan],
     answers: &[Answer],
-) -> Result<bool, Fail> {
-    let outcomes = run(alloc, engine, &ops_of(alloc, plans)?)?;
-    Ok(match answers {
-        [] => first_refused(&outcomes).is_none(),
-        _ => are_answers(&outcomes, answers),
-    })
+) -> Result<bool, Fault> {
+    let ops = ops_of(alloc, plans)?;
+    let outcomes = run(alloc, engine, &ops)?;
+    match answers {
+        [] => Ok(first_refused(&outcomes).is_none()),
+        _ => Ok(are_answers(&outcomes, answers)),
+    }
 }
 
 fn has_no_message<F: FileSystem>(engine: &Engine<F>, group: u64, key: &[u8]) -> bool {
@@ -110,63 +110,72 @@ fn is_answered<F: FileSystem>(
     engine: &mut Engine<F>,
     batch: &mut LogBatch,
     step: &Step,
-) -> Result<bool, Fail> {
+) -> bool {
     match step {
-        Step::Put(group, key, value) => put(alloc, batch, *group, key, value),
-        Step::PutMessage(group, key) => put_message(alloc, batch, *group, key),
-        Step::Write(sync, wanted) => Ok(writes(engine, batch, *sync, wanted)),
-        Step::Run(plans, answers) => runs(alloc, engine, plans, answers),
-        Step::Failed(wanted) => Ok(engine.failed() == *wanted),
-        Step::Span(first, last) => Ok(engine.file_span() == (*first, *last)),
-        Step::Path(path) => Ok(engine.path() == *path),
-        Step::Fetch(fetch) => Ok(fetches(alloc, engine, fetch)),
-        Step::Scan(scan) => Ok(is_handed_over(alloc, engine, scan)),
-        Step::Messages(group, keys) => Ok(has_messages(alloc, engine, *group, keys)),
-        Step::NoMessage(group, key) => Ok(has_no_message(engine, *group, key)),
-        _ => Ok(false),
+        Step::Put(group, key, value) => put(alloc, batch, *group, key, value).is_ok(),
+        Step::PutMessage(group, key) => put_message(alloc, batch, *group, key).is_ok(),
+        Step::Write(sync, wanted) => writes(engine, batch, *sync, wanted),
+        Step::Run(plans, answers) => matches!(runs(alloc, engine, plans, answers), Ok(true)),
+        Step::Failed(wanted) => engine.failed() == *wanted,
+        Step::Span(first, last) => engine.file_span() == (*first, *last),
+        Step::Path(path) => engine.path() == *path,
+        Step::Fetch(fetch) => fetches(alloc, engine, fetch),
+        Step::Scan(scan) => is_handed_over(alloc, engine, scan),
+        Step::Messages(group, keys) => has_messages(alloc, engine, *group, keys),
+        Step::NoMessage(group, key) => has_no_message(engine, *group, key),
+        _ => false,
     }
 }
 
-fn opens<F: Faulty>(alloc: Global, held: &mut Held<F>) -> Result<bool, Fail> {
-    held.open(alloc, settings(alloc)?);
-    Ok(held.fault().is_none())
+fn opens<F: Faulty>(alloc: Global, held: &mut Held<F>) -> bool {
+    held.open(alloc, TAIL) && held.code().is_none()
 }
 
-fn is_last<F: Faulty>(held: &mut Held<F>, path: &str, count: usize) -> Result<bool, Fail> {
-    let files = held.files()?;
-    Ok(files.is_file(path) && files.list("raft")?.len() == count)
+fn is_last<F: Faulty>(held: &mut Held<F>, path: &str, count: usize) -> bool {
+    match held.files() {
+        Some(files) => files.is_file(path) && has_files(files, count),
+        None => false,
+    }
+}
+
+fn has_files<F: FileSystem>(files: &mut F, count: usize) -> bool {
+    match files.list("raft") {
+        Ok(names) => names.len() == count,
+        Err(_) => false,
+    }
+}
+
+fn closes<F: Faulty>(held: &mut Held<F>, code: Option<u8>) -> bool {
+    held.close();
+    held.code() == code
+}
+
+fn reopens<F: Faulty>(held: &mut Held<F>) -> bool {
+    held.reopen();
+    held.code().is_none()
+}
+
+fn gives_up<F: Faulty>(held: &mut Held<F>) -> bool {
+    held.give_up();
+    true
 }
 
 // Whether the step comes to what it says.
-fn holds<F: Faulty>(
-    alloc: Global,
-    held: &mut Held<F>,
-    batch: &mut LogBatch,
-    step: &Step,
-) -> Result<bool, Fail> {
+fn holds<F: Faulty>(alloc: Global, held: &mut Held<F>, batch: &mut LogBatch, step: &Step) -> bool {
     match step {
-        Step::Open => return opens(alloc, held),
-        Step::Close(code) => {
-            held.close();
-            return Ok(held.code() == *code);
-        }
-        Step::Reopen => {
-            held.reopen();
-            return Ok(held.code().is_none());
-        }
-        Step::GiveUp => held.give_up(),
-        Step::Crash(left) => held.crash(alloc, left)?,
-        Step::Fail(failing) => held.fail(*failing)?,
-        Step::LastFile(path, count) => return is_last(held, path, *count),
-        Step::Found(state) => return Ok(opens(alloc, held)? && held.has(*state)?),
-        _ => {
-            return match held {
-                Held::Engine(engine) => is_answered(alloc, engine, batch, step),
-                _ => Ok(false),
-            };
-        }
+        Step::Open => opens(alloc, held),
+        Step::Close(code) => closes(held, *code),
+        Step::Reopen => reopens(held),
+        Step::GiveUp => gives_up(held),
+        Step::Crash(left) => held.crash(alloc, left),
+        Step::Fail(failing) => held.fail(*failing),
+        Step::LastFile(path, count) => is_last(held, path, *count),
+        Step::Found(state) => opens(alloc, held) && held.has(*state),
+        _ => match held {
+            Held::Engine(engine) => is_answered(alloc, engine, batch, step),
+            _ => false,
+        },
     }
-    Ok(true)
 }
 
 // The place of the first step that comes to something else.
@@ -175,7 +184,7 @@ fn first_wrong<F: Faulty>(
     held: &mut Held<F>,
     batch: &mut LogBatch,
     story: &Story,
-) -> Result<Option<usize>, Fail> {
+) -> Option<usize> {
     let mut place = 0usize;
     let mut last_run = &Step::Open;
     for part in story.parts {
@@ -187,20 +196,16 @@ fn first_wrong<F: Faulty>(
             if let Step::Run(..) = step {
                 last_run = step;
             }
-            if !holds(alloc, held, batch, step)? {
-                return Ok(Some(place));
+            if !holds(alloc, held, batch, step) {
+                return Some(place);
             }
             place = place.saturating_add(1);
         }
     }
-    Ok(None)
+    None
 }
 
-fn played<F: Faulty>(
-    alloc: Global,
-    held: &mut Held<F>,
-    story: &Story,
-) -> Result<Option<usize>, Fail> {
+fn played<F: Faulty>(alloc: Global, held: &mut Held<F>, story: &Story) -> Option<usize> {
     let mut batch = LogBatch::new(alloc);
     held.renew(alloc);
     first_wrong(alloc, held, &mut batch, story)
@@ -211,11 +216,11 @@ pub(crate) fn wrong_story<F: Faulty>(
     alloc: Global,
     held: &mut Held<F>,
     stories: &'static [Story],
-) -> Result<Wrong, Fail> {
+) -> Wrong {
     for story in stories {
-        if let Some(place) = played(alloc, held, story)? {
-            return Ok(Some((story.name, place)));
+        if let Some(place) = played(alloc, held, story) {
+            return Some((story.name, place));
         }
     }
-    Ok(None)
+    None
 }
