@@ -1,4 +1,5 @@
 pub mod CompactLemmas
+pub mod ConsecutiveLemmas
 pub mod ContentsLemmas
 pub mod TableLemmas
 pub mod ValidityLemmas
