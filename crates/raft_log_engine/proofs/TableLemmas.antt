@@ -4,7 +4,7 @@ use Rattle.std.proofs.Math.Path.{fun_ext}
 use Rattle.std.specs.List.{list_all}
 use Rattle.raft_base.specs.declared.pipe_log.FileId.{FileId}
 use Rattle.raft_env.specs.Directory.{Directory}
-use Rattle.raft_pipes.specs.Blocks.{HasBlocks, blocks_now}
+use Rattle.raft_pipes.specs.Blocks.{HasBlocks, both_blocks_now}
 use Rattle.raft_pipes.specs.PipeState.{PipeState}
 use Rattle.raft_records.specs.Contents.{Contents, after_batch, no_contents}
 use Rattle.raft_records.specs.Item.{Batch}
@@ -52,7 +52,7 @@ stand_pushed blocks tables batches batch stands = record {
 -- what stands in the blocks of a pipe now, and of a batch that isn't written yet these bytes
 abbrev pub blocks_over : PipeState → Directory → List ℕ → Blocks
 blocks_over p n given None = given
-blocks_over p n given (Some block) = blocks_now p n (Some block)
+blocks_over p n given (Some block) = both_blocks_now p n (Some block)
 
 pub has_blocks_over : (p : PipeState) (n : Directory) (given : List ℕ) → HasBlocks p n (blocks_over p n given)
 has_blocks_over p n given = has_blocks_now p n

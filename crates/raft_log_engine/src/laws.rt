@@ -72,8 +72,8 @@ pub fn an_engine_recovers_what_it_keeps<F: FileSystem>(engine: &Engine<F>)
 pub fn the_damage_of_an_engine_is_detectable<F: FileSystem>(engine: &Engine<F>)
     ensures crash { let folder = folder_of engine.now in let n = directory_of engine.now in
         has_failed engine.now ≡ false → FoundCompletedRecords engine.now
-        → HasSimplePastIn folder n → AreConsistent n → (choices : List Choice) → AreWhole choices
-        → ∥ IsDetectableIn folder n (left_by choices n) ∥₁ }
+        → HaveSimplePastIn folder n → AreConsistent n → (choices : List Choice) → AreWhole choices
+        → (queue : LogQueue) → ∥ IsDetectableQueue (folder ∷ []) queue n (left_by choices n) ∥₁ }
 {
     raft_damage::laws::damage_of_a_queue_is_detectable();
 }

@@ -14,10 +14,11 @@ invariant_of-self c =
     let same = c.stop_at.ensures.unchanged in
     record {
       emptied = e.emptied;
-      holds = λ alive. subst (λ n. Holds e.pipe n e.tables (contents_of e) (is_known_in e)) (sym same) (e.holds alive);
-      cached = λ alive. subst (λ n. HoldsBlockIn e.pipe n e.cache) (sym same) (e.cached alive);
-      queue = λ alive. subst (λ n. HasQueue e.pipe (folder_of e) (log_of e) (length (logged_of e)) n) (sym same) (e.queue alive);
-      completed = λ alive begun. subst (λ n. PipeHasCompletedLogIfSimple e.pipe n) (sym same) (e.completed alive begun);
+      holds = λ alive. subst (λ n. Holds e.pipes n e.tables (contents_of e) (is_known_in e)) (sym same) (e.holds alive);
+      cached = λ alive. subst (λ n. HoldsBlockIn e.pipes n e.cache) (sym same) (e.cached alive);
+      valid = e.valid;
+      queues = queues_still e _ same;
+      completed = completed_still e _ same;
       format = e.format;
-      left = subst (λ n. RecoversPrefix (folder_of e) (log_of e) (length (logged_of e)) n) (sym same) e.left;
+      left = left_still e _ same;
     }
