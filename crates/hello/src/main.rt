@@ -16,12 +16,22 @@ fn main(rt: HostRuntime) -> Result<(), anyhow::Error> {
 
 fn put_both<F: FileSystem + Drop>(alloc: Global, files: F) -> Result<F, Fault> {
     let mut engine = Engine::open_in_order(alloc, Config::fresh(alloc), files)?;
-    let mut batch = LogBatch::new(alloc);
-    batch.put(1, b"a".to_vec(alloc)?, b"first".to_vec(alloc)?)?;
-    engine.write(&mut batch, true)?;
-    batch.put(1, b"b".to_vec(alloc)?, b"second".to_vec(alloc)?)?;
-    engine.write(&mut batch, false)?;
+    put(alloc, &mut engine, b"a", b"first", true)?;
+    put(alloc, &mut engine, b"b", b"second", false)?;
     Ok(engine.give_up())
+}
+
+fn put<F: FileSystem>(
+    alloc: Global,
+    engine: &mut Engine<F>,
+    key: &[u8],
+    value: &[u8],
+    sync: bool,
+) -> Result<(), Fault> {
+    let mut batch = LogBatch::new(alloc);
+    batch.put(1, key.to_vec(alloc)?, value.to_vec(alloc)?)?;
+    engine.write(&mut batch, sync)?;
+    Ok(())
 }
 
 fn find_both<F: FileSystem + Drop>(alloc: Global, files: F) -> Result<(bool, bool), Fault> {

@@ -1,7 +1,9 @@
 //! Batches, and the records that are encoded for them: laid out by hand, with checksums by Python's zlib.
 
-use crate::changes::{Change, add, batch_of, items_of, joined};
-use raft_records::{Fault, FileBlockHandle, FileId, LogBatch, LogFileContext, LogQueue, Version};
+use crate::changes::{Change, add, are_items, is_joined};
+use raft_records::{
+    Fault, FileBlockHandle, FileId, Fresh, LogBatch, LogFileContext, LogQueue, Version,
+};
 use std::alloc::Global;
 use std::test::Fail;
 
@@ -26,7 +28,7 @@ struct Script {
     steps: &'static [Step],
 }
 
-const PUT: [Change; 1] = [Change(1, b"k", Some(b"v"))];
+const PUT: &[Change] = &[Change(1, b"k", Some(b"v"))];
 
 /// The header of a record of 28 bytes, and the body of one put.
 const PUT_FRONT: &[u8] = &[
@@ -43,7 +45,7 @@ const LONG_FRONT: &[u8] = &[
 
 const LONG_END: &[u8] = &[0xac, 2, 3, 2, 3, b'k', b'e', b'y', 0xab, 0x20, 0x1e, 0x28];
 
-const SCRIPTS: [Script; 4] = [
+static SCRIPTS: [Script; 4] = [
     Script {
         name: "no items",
         steps: &[Step::Populate(&[&[
@@ -77,48 +79,56 @@ const SCRIPTS: [Script; 4] = [
         steps: &[
             Step::RefusePut(b"__x"),
             Step::Drain(&[]),
-            Step::Merge(&PUT),
+            Step::Merge(PUT),
             Step::Populate(&[PUT_FRONT, PUT_SUM]),
             Step::Copy,
             Step::Sign(Version::V1, 1, &[PUT_FRONT, PUT_SUM]),
-            Step::Drain(&PUT),
+            Step::Drain(PUT),
         ],
     },
 ];
 
 fn refuses_put(alloc: Global, batch: &mut LogBatch, key: &[u8]) -> Result<bool, Fault> {
-    let refused = batch.put(1, key.to_vec(alloc)?, Vec::new(alloc));
-    Ok(refused.map_err(|fault| fault.code()) == Err(1))
+    match batch.put(1, key.to_vec(alloc)?, Vec::new(alloc)) {
+        Ok(()) => Ok(false),
+        Err(fault) => Ok(fault.code() == 1),
+    }
+}
+
+fn add_all(alloc: Global, batch: &mut LogBatch, changes: &[Change]) -> Result<(), Fault> {
+    for change in changes {
+        add(alloc, batch, change)?;
+    }
+    Ok(())
 }
 
 fn merges(alloc: Global, batch: &mut LogBatch, changes: &[Change]) -> Result<bool, Fault> {
-    let mut other = batch_of(alloc, changes)?;
+    let mut other = LogBatch::fresh(alloc);
+    add_all(alloc, &mut other, changes)?;
     batch.merge(&mut other)?;
     Ok(other.is_empty() && !batch.is_empty())
 }
 
-fn populates(alloc: Global, batch: &mut LogBatch, record: &[&[u8]]) -> Result<bool, Fault> {
-    let wanted = joined(alloc, record)?;
-    let len = batch.finish_populate()?;
-    Ok(len == wanted.len() && batch.encoded_bytes() == wanted.as_slice())
+fn has_record(batch: &LogBatch, len: usize, record: &[&[u8]]) -> bool {
+    let bytes = batch.encoded_bytes();
+    bytes.len() == len && is_joined(bytes, record)
 }
 
-fn signs(
-    alloc: Global,
-    batch: &mut LogBatch,
-    file: LogFileContext,
-    record: &[&[u8]],
-) -> Result<bool, Fault> {
-    let wanted = joined(alloc, record)?;
+fn populates(batch: &mut LogBatch, record: &[&[u8]]) -> Result<bool, Fault> {
+    let len = batch.finish_populate()?;
+    Ok(has_record(batch, len, record))
+}
+
+fn signs(batch: &mut LogBatch, file: LogFileContext, record: &[&[u8]]) -> Result<bool, Fault> {
     let len = batch.finish_populate()?;
     batch.prepare_write(&file);
-    let signed = len == wanted.len() && batch.encoded_bytes() == wanted.as_slice();
+    let is_signed = has_record(batch, len, record);
     batch.finish_write(FileBlockHandle {
         id: file.id,
         offset: 69,
         len,
     });
-    Ok(signed)
+    Ok(is_signed)
 }
 
 fn copies(batch: &mut LogBatch) -> Result<bool, Fault> {
@@ -127,10 +137,10 @@ fn copies(batch: &mut LogBatch) -> Result<bool, Fault> {
     Ok(copy.encoded_bytes() == batch.encoded_bytes())
 }
 
-fn drains(alloc: Global, batch: &mut LogBatch, changes: &[Change]) -> Result<bool, Fault> {
+fn drains(alloc: Global, batch: &mut LogBatch, changes: &[Change]) -> bool {
     let mut items = Vec::new(alloc);
     batch.drain(&mut items);
-    Ok(batch.is_empty() && items == items_of(alloc, changes)?)
+    batch.is_empty() && are_items(&items, changes)
 }
 
 // Whether the step comes to what the script says.
@@ -142,31 +152,35 @@ fn holds(alloc: Global, batch: &mut LogBatch, step: &Step) -> Result<bool, Fault
         }
         Step::RefusePut(key) => refuses_put(alloc, batch, key),
         Step::Merge(changes) => merges(alloc, batch, changes),
-        Step::Populate(record) => populates(alloc, batch, record),
+        Step::Populate(record) => populates(batch, record),
         Step::Sign(version, seq, record) => {
             let id = FileId::new(LogQueue::Append, *seq);
-            signs(alloc, batch, LogFileContext::new(id, *version), record)
+            signs(batch, LogFileContext::new(id, *version), record)
         }
         Step::Copy => copies(batch),
-        Step::Drain(changes) => drains(alloc, batch, changes),
+        Step::Drain(changes) => Ok(drains(alloc, batch, changes)),
     }
 }
 
-// The place of the first step that comes to something else.
-fn first_wrong(alloc: Global, script: &Script) -> Result<Option<usize>, Fault> {
-    let mut batch = LogBatch::new(alloc);
-    for (place, wanted) in script.steps.iter().enumerate() {
-        if !holds(alloc, &mut batch, wanted)? {
-            return Ok(Some(place));
+fn all_hold(alloc: Global, batch: &mut LogBatch, steps: &[Step]) -> Result<bool, Fault> {
+    for step in steps {
+        if !holds(alloc, batch, step)? {
+            return Ok(false);
         }
     }
-    Ok(None)
+    Ok(true)
+}
+
+// Whether each step comes to what the script says.
+fn is_played(alloc: Global, script: &Script) -> Result<bool, Fault> {
+    let mut batch = LogBatch::new(alloc);
+    all_hold(alloc, &mut batch, script.steps)
 }
 
 #[test]
 fn batches_are_encoded_and_moved(rt: HostRuntime) -> Result<(), Fail> {
     for script in &SCRIPTS {
-        assert_eq!(rt; first_wrong(rt.alloc(), script)?, None, "{}", script.name);
+        assert!(rt; is_played(rt.alloc(), script)?, "{}", script.name);
     }
     Ok(())
 }

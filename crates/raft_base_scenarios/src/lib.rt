@@ -2,9 +2,13 @@
 #![tactic(auto)]
 
 #[cfg(test)]
+mod asks;
+#[cfg(test)]
 mod batches;
 #[cfg(test)]
 mod changes;
+#[cfg(test)]
+mod counts;
 #[cfg(test)]
 mod names;
 #[cfg(test)]
@@ -13,6 +17,8 @@ mod numbers;
 mod openings;
 #[cfg(test)]
 mod reading;
+#[cfg(test)]
+mod rows;
 #[cfg(test)]
 mod settings;
 #[cfg(test)]

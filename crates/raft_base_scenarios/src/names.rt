@@ -1,6 +1,7 @@
 //! The names of log files, their headers, and the zeros between records.
 
-use crate::changes::joined;
+use crate::changes::is_joined;
+use crate::rows::{Row, each_holds};
 use raft_files::{
     FileNameExt, LogFileFormat, build_reserved_file_name, is_zero_padded, parse_reserved_file_name,
 };
@@ -9,52 +10,72 @@ use std::alloc::Global;
 use std::test::Fail;
 
 /// A name, the log file that it is parsed to, and the number of the reserved file.
-const PARSED: [(&str, Option<(LogQueue, u64)>, Option<u64>); 9] = [
-    (
+struct Parsed(&'static str, Option<(LogQueue, u64)>, Option<u64>);
+
+static PARSED: [Parsed; 9] = [
+    Parsed(
         "0000000000000123.raftlog",
         Some((LogQueue::Append, 123)),
         None,
     ),
-    (
+    Parsed(
         "+000000000000123.raftlog",
         Some((LogQueue::Append, 123)),
         None,
     ),
-    (
+    Parsed(
         "10000000000000000.raftlog",
         Some((LogQueue::Append, 1_000_000_000_000_000)),
         None,
     ),
-    (
+    Parsed(
         "0000000000000123.rewrite",
         Some((LogQueue::Rewrite, 123)),
         None,
     ),
-    ("0000000000000123.log", None, None),
-    ("123.rewrite", None, None),
-    ("000000000000000é.raftlog", None, None),
-    ("0000000000000007.raftlog.reserved", None, Some(7)),
-    ("7.raftlog.reserved", None, None),
+    Parsed("0000000000000123.log", None, None),
+    Parsed("123.rewrite", None, None),
+    Parsed("000000000000000é.raftlog", None, None),
+    Parsed("0000000000000007.raftlog.reserved", None, Some(7)),
+    Parsed("7.raftlog.reserved", None, None),
 ];
 
-#[test]
-fn names_are_parsed(rt: HostRuntime) {
-    for (name, wanted, reserved) in &PARSED {
-        let id = wanted.map(|(queue, seq)| FileId::new(queue, seq));
-        assert_eq!(rt; FileId::parse_file_name(name), id, "{name}");
-        assert_eq!(rt; parse_reserved_file_name(name), *reserved, "{name}");
+fn is_file(id: Option<FileId>, wanted: &Option<(LogQueue, u64)>) -> bool {
+    match (id, wanted) {
+        (Some(id), Some((queue, seq))) => id == FileId::new(*queue, *seq),
+        (None, None) => true,
+        _ => false,
     }
 }
 
+impl Row for Parsed {
+    type State = ();
+
+    fn holds(&self, _: Global, _: &mut ()) -> Result<bool, Fault> {
+        let Parsed(name, wanted, reserved) = self;
+        Ok(
+            is_file(FileId::parse_file_name(name), wanted)
+                && parse_reserved_file_name(name) == *reserved,
+        )
+    }
+}
+
+#[test]
+fn names_are_parsed(rt: HostRuntime) -> Result<(), Fail> {
+    each_holds(&rt, &mut (), &PARSED)
+}
+
 /// A file's number, its name, its path in the folder `data`, and its name as a reserved file.
-const BUILT: [(u64, &str, &str, &str); 2] = [
-    (
+struct Built(u64, &'static str, &'static str, &'static str);
+
+static BUILT: [Built; 2] = [
+    Built(
         7,
         "0000000000000007.raftlog",
         "data/0000000000000007.raftlog",
         "0000000000000007.raftlog.reserved",
     ),
-    (
+    Built(
         10_000_000_000_000_000,
         "10000000000000000.raftlog",
         "data/10000000000000000.raftlog",
@@ -62,98 +83,131 @@ const BUILT: [(u64, &str, &str, &str); 2] = [
     ),
 ];
 
+fn is_text(text: Result<String, Fault>, wanted: &str) -> Result<bool, Fault> {
+    Ok(text?.as_str() == wanted)
+}
+
+impl Row for Built {
+    type State = ();
+
+    fn holds(&self, alloc: Global, _: &mut ()) -> Result<bool, Fault> {
+        let Built(seq, name, path, reserved) = self;
+        let id = FileId::new(LogQueue::Append, *seq);
+        Ok(
+            is_text(id.build_file_name(alloc), name)?
+                && is_text(id.build_file_path(alloc, "data"), path)?
+                && is_text(build_reserved_file_name(alloc, *seq), reserved)?,
+        )
+    }
+}
+
 #[test]
 fn names_are_built(rt: HostRuntime) -> Result<(), Fail> {
-    for (seq, name, path, reserved) in &BUILT {
-        let id = FileId::new(LogQueue::Append, *seq);
-        assert_eq!(rt; id.build_file_name(rt.alloc())?.as_str(), *name);
-        assert_eq!(rt; id.build_file_path(rt.alloc(), "data")?.as_str(), *path);
-        assert_eq!(rt;
-            build_reserved_file_name(rt.alloc(), *seq)?.as_str(),
-            *reserved
-        );
-    }
-    Ok(())
+    each_holds(&rt, &mut (), &BUILT)
 }
 
 const MAGIC: &[u8] = b"RAFT-LOG-FILE-HEADER-9986AB3E47F320B394C8E84916EB0ED5";
 
-/// A format, and what stands after the fixed bytes of its header, if it has one.
-const HEADERS: [(Version, u64, Option<&[u8]>); 3] = [
-    (
+/// A version and an alignment, how long a header of the version is, and what stands after its fixed bytes, if the two
+/// have a header.
+struct Header(Version, u64, usize, Option<&'static [u8]>);
+
+static HEADERS: [Header; 3] = [
+    Header(
         Version::V2,
         4096,
+        69,
         Some(&[0, 0, 0, 0, 0, 0, 0, 2, 0, 0, 0, 0, 0, 0, 16, 0]),
     ),
-    (Version::V1, 0, Some(&[0, 0, 0, 0, 0, 0, 0, 1])),
-    (Version::V1, 4096, None),
+    Header(Version::V1, 0, 61, Some(&[0, 0, 0, 0, 0, 0, 0, 1])),
+    Header(Version::V1, 4096, 61, None),
 ];
 
-// The header is these bytes, which are read as the format.
-fn has_header(alloc: Global, format: LogFileFormat, numbers: &[u8]) -> Result<bool, Fault> {
-    let wanted = joined(alloc, &[MAGIC, numbers])?;
-    let mut bytes = Vec::new(alloc);
-    format.encode(&mut bytes)?;
-    let mut rest = bytes.as_slice();
-    let read = LogFileFormat::decode(&mut rest)?;
-    Ok(bytes == wanted && read == format && rest.is_empty())
+// Whether these bytes are all read as the format.
+fn is_read(bytes: &[u8], format: LogFileFormat) -> Result<bool, Fault> {
+    let mut rest = bytes;
+    Ok(LogFileFormat::decode(&mut rest)? == format && rest.is_empty())
 }
 
-fn is_header_of(
-    alloc: Global,
-    format: LogFileFormat,
-    numbers: Option<&[u8]>,
-) -> Result<bool, Fault> {
-    match numbers {
-        Some(numbers) => has_header(alloc, format, numbers),
-        None => Ok(format.encode(&mut Vec::new(alloc)).is_err()),
+// Whether the header is these bytes, which are read as the format.
+fn has_header(alloc: Global, format: LogFileFormat, numbers: &[u8]) -> Result<bool, Fault> {
+    let mut bytes = Vec::new(alloc);
+    format.encode(&mut bytes)?;
+    Ok(is_joined(&bytes, &[MAGIC, numbers]) && is_read(&bytes, format)?)
+}
+
+impl Row for Header {
+    type State = ();
+
+    fn holds(&self, alloc: Global, _: &mut ()) -> Result<bool, Fault> {
+        let Header(version, alignment, len, numbers) = self;
+        if LogFileFormat::encoded_len(*version) != *len || LogFileFormat::max_encoded_len() != 69 {
+            return Ok(false);
+        }
+        let format = LogFileFormat::new(*version, *alignment);
+        match numbers {
+            Some(numbers) => has_header(alloc, format, numbers),
+            None => Ok(format.encode(&mut Vec::new(alloc)).is_err()),
+        }
     }
 }
 
 #[test]
 fn headers_are_written_and_read(rt: HostRuntime) -> Result<(), Fail> {
-    for (version, alignment, numbers) in &HEADERS {
-        let format = LogFileFormat::new(*version, *alignment);
-        assert!(rt; is_header_of(rt.alloc(), format, *numbers)?, "{format:?}");
-    }
-    assert_eq!(rt; LogFileFormat::encoded_len(Version::V1), 61);
-    assert_eq!(rt; LogFileFormat::encoded_len(Version::V2), 69);
-    assert_eq!(rt; LogFileFormat::max_encoded_len(), 69);
-    Ok(())
+    each_holds(&rt, &mut (), &HEADERS)
 }
 
 /// Bytes that begin with no header.
-const NO_HEADERS: [&[u8]; 3] = [
-    b"",
-    b"RAFT-LOG-FILE-HEADER-9986AB3E47F320B394C8E84916EB0ED5\0\0\0\0\0\0\0\x04\0\0\0\0\0\0\x10\0",
-    b"RAFT-LOG-FILE-HEADER-9986AB3E47F320B394C8E84916EB0ED5\0\0\0\0\0\0\0\x02\0\0\0\0\0\0\x10",
+struct NoHeader(&'static [u8]);
+
+static NO_HEADERS: [NoHeader; 3] = [
+    NoHeader(b""),
+    NoHeader(
+        b"RAFT-LOG-FILE-HEADER-9986AB3E47F320B394C8E84916EB0ED5\0\0\0\0\0\0\0\x04\0\0\0\0\0\0\x10\0",
+    ),
+    NoHeader(
+        b"RAFT-LOG-FILE-HEADER-9986AB3E47F320B394C8E84916EB0ED5\0\0\0\0\0\0\0\x02\0\0\0\0\0\0\x10",
+    ),
 ];
 
-#[test]
-fn other_headers_are_refused(rt: HostRuntime) {
-    for bytes in &NO_HEADERS {
-        let mut rest = *bytes;
-        assert_eq!(rt;
-            LogFileFormat::decode(&mut rest),
-            Err(Fault::Corruption),
-            "{bytes:?}"
-        );
-        assert_eq!(rt; rest.len(), bytes.len());
+impl Row for NoHeader {
+    type State = ();
+
+    // They are refused as corrupt, and nothing is read of them.
+    fn holds(&self, _: Global, _: &mut ()) -> Result<bool, Fault> {
+        let mut rest = self.0;
+        match LogFileFormat::decode(&mut rest) {
+            Err(Fault::Corruption) => Ok(rest.len() == self.0.len()),
+            _ => Ok(false),
+        }
     }
 }
 
+#[test]
+fn other_headers_are_refused(rt: HostRuntime) -> Result<(), Fail> {
+    each_holds(&rt, &mut (), &NO_HEADERS)
+}
+
 /// Bytes between records, and whether they pass for padding.
-const PADDINGS: [(&[u8], bool); 5] = [
-    (&[0; 110], true),
-    (&[0; 5], true),
-    (&[0, 0, 0, 3], false),
-    (&[], true),
-    (&[0, 7, 0], true),
+struct Padding(&'static [u8], bool);
+
+static PADDINGS: [Padding; 5] = [
+    Padding(&[0; 110], true),
+    Padding(&[0; 5], true),
+    Padding(&[0, 0, 0, 3], false),
+    Padding(&[], true),
+    Padding(&[0, 7, 0], true),
 ];
 
-#[test]
-fn padding_is_zero_at_both_ends(rt: HostRuntime) {
-    for (bytes, is_padded) in &PADDINGS {
-        assert_eq!(rt; is_zero_padded(bytes), *is_padded, "{bytes:?}");
+impl Row for Padding {
+    type State = ();
+
+    fn holds(&self, _: Global, _: &mut ()) -> Result<bool, Fault> {
+        Ok(is_zero_padded(self.0) == self.1)
     }
+}
+
+#[test]
+fn padding_is_zero_at_both_ends(rt: HostRuntime) -> Result<(), Fail> {
+    each_holds(&rt, &mut (), &PADDINGS)
 }

@@ -1,8 +1,10 @@
 //! Numbers and checksums as bytes.
 
+use crate::rows::{Row, each_holds};
 use raft_codec::checksum::crc32;
 use raft_codec::number::{push_u32, push_u64, push_var, take_u32, take_u64, take_var, var_len};
-use std::alloc::Global;
+use raft_records::Fault;
+use std::alloc::{AllocError, Global};
 use std::test::Fail;
 
 enum Form {
@@ -14,7 +16,7 @@ enum Form {
 /// A form, a number, and its bytes in that form.
 struct Number(Form, u64, &'static [u8]);
 
-const NUMBERS: [Number; 8] = [
+static NUMBERS: [Number; 8] = [
     Number(
         Form::Eight,
         0x0102_0304_0506_0708,
@@ -38,17 +40,19 @@ const NUMBERS: [Number; 8] = [
 ];
 
 /// Bytes that begin with no number of the form.
-const REFUSED: [(Form, &[u8]); 7] = [
-    (Form::Eight, &[0; 7]),
-    (Form::Four, &[0; 3]),
-    (Form::Varying, &[]),
-    (Form::Varying, &[0x80]),
-    (Form::Varying, &[0x80, 0]),
-    (
+struct NoNumber(Form, &'static [u8]);
+
+static REFUSED: [NoNumber; 7] = [
+    NoNumber(Form::Eight, &[0; 7]),
+    NoNumber(Form::Four, &[0; 3]),
+    NoNumber(Form::Varying, &[]),
+    NoNumber(Form::Varying, &[0x80]),
+    NoNumber(Form::Varying, &[0x80, 0]),
+    NoNumber(
         Form::Varying,
         &[0xFF, 0xFF, 0xFF, 0xFF, 0xFF, 0xFF, 0xFF, 0xFF, 0xFF, 2],
     ),
-    (
+    NoNumber(
         Form::Varying,
         &[
             0x80, 0x80, 0x80, 0x80, 0x80, 0x80, 0x80, 0x80, 0x80, 0x80, 1,
@@ -59,13 +63,13 @@ const REFUSED: [(Form, &[u8]); 7] = [
 /// A byte that stands after a number.
 const BEHIND: &[u8] = &[0xEE];
 
-fn push(form: &Form, bytes: &mut Vec<u8>, number: u64) -> Result<(), Fail> {
+// In place of a number for which the form has no room 0 is written.
+fn push(form: &Form, bytes: &mut Vec<u8>, number: u64) -> Result<(), AllocError> {
     match form {
-        Form::Eight => push_u64(bytes, number)?,
-        Form::Four => push_u32(bytes, u32::try_from(number)?)?,
-        Form::Varying => push_var(bytes, number)?,
+        Form::Eight => push_u64(bytes, number),
+        Form::Four => push_u32(bytes, u32::try_from(number).unwrap_or(0)),
+        Form::Varying => push_var(bytes, number),
     }
-    Ok(())
 }
 
 fn take<'a>(form: &Form, bytes: &'a [u8]) -> Option<(u64, &'a [u8])> {
@@ -87,58 +91,80 @@ fn len_of(form: &Form, number: u64) -> usize {
     }
 }
 
-// The bytes are written, and the number is read from them.
-fn has_bytes(alloc: Global, row: &Number) -> Result<bool, Fail> {
-    let Number(form, number, wanted) = row;
-    let mut bytes = Vec::new(alloc);
-    push(form, &mut bytes, *number)?;
-    let written = bytes.as_slice() == *wanted && bytes.len() == len_of(form, *number);
-    bytes.extend_from_slice(BEHIND)?;
-    Ok(written && take(form, &bytes) == Some((*number, BEHIND)))
+// Whether the number is read, and this byte is left.
+fn is_taken(form: &Form, bytes: &[u8], number: u64) -> bool {
+    match take(form, bytes) {
+        Some((taken, rest)) => taken == number && rest == BEHIND,
+        None => false,
+    }
+}
+
+impl Row for Number {
+    type State = ();
+
+    // The bytes are written, and the number is read from them.
+    fn holds(&self, alloc: Global, _: &mut ()) -> Result<bool, Fault> {
+        let Number(form, number, wanted) = self;
+        let mut bytes = Vec::new(alloc);
+        push(form, &mut bytes, *number)?;
+        let is_written = bytes.as_slice() == *wanted && bytes.len() == len_of(form, *number);
+        bytes.extend_from_slice(BEHIND)?;
+        Ok(is_written && is_taken(form, &bytes, *number))
+    }
 }
 
 #[test]
 fn numbers_have_their_bytes(rt: HostRuntime) -> Result<(), Fail> {
-    for row in &NUMBERS {
-        assert!(rt; has_bytes(rt.alloc(), row)?, "{}", row.1);
+    each_holds(&rt, &mut (), &NUMBERS)
+}
+
+impl Row for NoNumber {
+    type State = ();
+
+    fn holds(&self, _: Global, _: &mut ()) -> Result<bool, Fault> {
+        Ok(take(&self.0, self.1).is_none())
+    }
+}
+
+#[test]
+fn other_bytes_are_no_number(rt: HostRuntime) -> Result<(), Fail> {
+    each_holds(&rt, &mut (), &REFUSED)
+}
+
+/// Bytes, how many of `(7 * i + 3) % 256` stand behind them, and the checksum of all by zlib.
+struct Checksum(&'static [u8], u32, u32);
+
+static CHECKSUMS: [Checksum; 10] = [
+    Checksum(b"123456789", 0, 0xCBF4_3926),
+    Checksum(b"", 0, 0),
+    Checksum(b"", 1, 0x4B0B_BE37),
+    Checksum(b"", 15, 0x7C61_9EDC),
+    Checksum(b"", 16, 0x191F_3D9F),
+    Checksum(b"", 17, 0x7BA7_5EE3),
+    Checksum(b"", 31, 0xD07F_9B5B),
+    Checksum(b"", 32, 0xA10E_8695),
+    Checksum(b"", 33, 0x6BC5_3502),
+    Checksum(b"", 1000, 0x17BC_2A46),
+];
+
+fn push_counted(bytes: &mut Vec<u8>, len: u32) -> Result<(), AllocError> {
+    for i in 0..len {
+        bytes.push(((7 * u64::from(i) + 3) % 256) as u8)?;
     }
     Ok(())
 }
 
-#[test]
-fn other_bytes_are_no_number(rt: HostRuntime) {
-    for (form, bytes) in &REFUSED {
-        assert!(rt; take(form, bytes).is_none(), "{bytes:?}");
-    }
-}
+impl Row for Checksum {
+    type State = ();
 
-/// How many bytes of `(7 * i + 3) % 256`, and their checksum by zlib.
-const CHECKSUMS: [(u32, u32); 9] = [
-    (0, 0),
-    (1, 0x4B0B_BE37),
-    (15, 0x7C61_9EDC),
-    (16, 0x191F_3D9F),
-    (17, 0x7BA7_5EE3),
-    (31, 0xD07F_9B5B),
-    (32, 0xA10E_8695),
-    (33, 0x6BC5_3502),
-    (1000, 0x17BC_2A46),
-];
-
-fn counted_bytes(alloc: Global, len: u32) -> Result<Vec<u8>, Fail> {
-    let mut bytes = Vec::new(alloc);
-    for i in 0..len {
-        bytes.push(((7 * u64::from(i) + 3) % 256) as u8)?;
+    fn holds(&self, alloc: Global, _: &mut ()) -> Result<bool, Fault> {
+        let mut bytes = self.0.to_vec(alloc)?;
+        push_counted(&mut bytes, self.1)?;
+        Ok(crc32(&bytes) == self.2)
     }
-    Ok(bytes)
 }
 
 #[test]
 fn checksums_agree_with_zlib(rt: HostRuntime) -> Result<(), Fail> {
-    assert_eq!(rt; crc32(b"123456789"), 0xCBF4_3926);
-    for (len, checksum) in &CHECKSUMS {
-        let bytes = counted_bytes(rt.alloc(), *len)?;
-        assert_eq!(rt; crc32(&bytes), *checksum, "of {len} bytes");
-    }
-    Ok(())
+    each_holds(&rt, &mut (), &CHECKSUMS)
 }

@@ -1,6 +1,6 @@
 //! Records of a log file, read one after the other. They were made by Python's struct and binascii, for file 5.
 
-use crate::changes::{Change, items_of};
+use crate::changes::{Change, are_items};
 use raft_files::{LogFileFormat, RecordReader};
 use raft_records::{
     Command, EntryIndex, Fault, FileBlockHandle, FileId, LogItem, LogItemBatch, LogItemContent,
@@ -66,7 +66,7 @@ struct Case {
     steps: &'static [Step],
 }
 
-const CASES: [Case; 10] = [
+static CASES: [Case; 10] = [
     Case {
         name: "up to the end",
         seq: 5,
@@ -176,14 +176,13 @@ const CASES: [Case; 10] = [
     },
 ];
 
-fn bytes_of(alloc: Global, case: &Case) -> Result<Vec<u8>, Fault> {
-    let mut bytes = Vec::new(alloc);
-    LogFileFormat::new(Version::V2, case.alignment).encode(&mut bytes)?;
+fn lay_out(case: &Case, bytes: &mut Vec<u8>) -> Result<(), Fault> {
+    LogFileFormat::new(Version::V2, case.alignment).encode(bytes)?;
     bytes.resize(128, 0)?;
     for record in &case.records {
         bytes.extend_from_slice(record)?;
     }
-    Ok(bytes)
+    Ok(())
 }
 
 fn entry(seq: u64, offset: u64, index: u64, entry_offset: u32, entry_len: u32) -> EntryIndex {
@@ -200,88 +199,80 @@ fn entry(seq: u64, offset: u64, index: u64, entry_offset: u32, entry_len: u32) -
     }
 }
 
-// A list of this item of group 7.
-fn one_item(alloc: Global, content: LogItemContent) -> Result<Vec<LogItem>, Fault> {
-    let mut items = Vec::new(alloc);
-    items.push(LogItem {
-        raft_group_id: 7,
-        content,
-    })?;
-    Ok(items)
+// Whether the item is the two entries of a block at this offset.
+fn are_entries(content: &LogItemContent, seq: u64, offset: u64) -> bool {
+    match content {
+        LogItemContent::EntryIndexes(entries) => {
+            let wanted = [entry(seq, offset, 1, 0, 2), entry(seq, offset, 2, 2, 1)];
+            entries.as_slice() == wanted.as_slice()
+        }
+        _ => false,
+    }
 }
 
-// The items that are wanted, and none where no record is.
-fn wanted_items(alloc: Global, seq: u64, found: &Found) -> Result<Option<Vec<LogItem>>, Fault> {
-    match found {
-        Found::Changes(changes) => Ok(Some(items_of(alloc, changes)?)),
-        Found::Clean => {
-            let items = one_item(alloc, LogItemContent::Command(Command::Clean))?;
-            Ok(Some(items))
+// Whether these are the items that are wanted. An item that is no change is of group 7.
+fn has_items(items: &[LogItem], seq: u64, wanted: &Found) -> bool {
+    match (wanted, items) {
+        (Found::Changes(changes), _) => are_items(items, changes),
+        (Found::Clean, [item]) => {
+            item.raft_group_id == 7
+                && matches!(&item.content, LogItemContent::Command(Command::Clean))
         }
-        Found::Entries(offset) => {
-            let mut entries = Vec::new(alloc);
-            entries.push(entry(seq, *offset, 1, 0, 2))?;
-            entries.push(entry(seq, *offset, 2, 2, 1))?;
-            let items = one_item(alloc, LogItemContent::EntryIndexes(entries))?;
-            Ok(Some(items))
+        (Found::Entries(offset), [item]) => {
+            item.raft_group_id == 7 && are_entries(&item.content, seq, *offset)
         }
-        _ => Ok(None),
+        _ => false,
     }
 }
 
 // Whether an answer is what is wanted.
-fn is_found(
-    alloc: Global,
-    seq: u64,
-    answer: Result<Option<LogItemBatch>, Fault>,
-    wanted: &Found,
-) -> Result<bool, Fault> {
-    match (answer, wanted) {
-        (Ok(None), Found::End) => Ok(true),
-        (Err(fault), Found::Refused(code)) => Ok(fault.code() == *code),
-        (Ok(Some(batch)), _) => match wanted_items(alloc, seq, wanted)? {
-            Some(items) => Ok(batch.items() == items.as_slice()),
-            None => Ok(false),
-        },
-        _ => Ok(false),
+fn is_found(seq: u64, answer: Result<Option<LogItemBatch>, Fault>, wanted: &Found) -> bool {
+    match (&answer, wanted) {
+        (Ok(None), Found::End) => true,
+        (Err(fault), Found::Refused(code)) => fault.code() == *code,
+        (Ok(Some(batch)), _) => has_items(batch.items(), seq, wanted),
+        _ => false,
     }
 }
 
 // Whether the step comes to what the case says.
-fn holds(
-    alloc: Global,
-    seq: u64,
-    reader: &mut RecordReader<'_>,
-    step: &Step,
-) -> Result<bool, Fault> {
-    let (answer, wanted, end) = match step {
-        Step::Replay(wanted, end) => (reader.next(alloc), wanted, *end),
-        Step::Read(wanted, end) => (reader.next_readable(alloc), wanted, *end),
-    };
-    Ok(is_found(alloc, seq, answer, wanted)? && reader.valid_offset() == end)
-}
-
-// The place of the first step that comes to something else.
-fn first_wrong(alloc: Global, case: &Case) -> Result<Option<usize>, Fault> {
-    let bytes = bytes_of(alloc, case)?;
-    let mut reader = RecordReader::new(&bytes, FileId::new(LogQueue::Append, case.seq))?;
-    if reader.format() != LogFileFormat::new(Version::V2, case.alignment) {
-        return Err(Fault::Corruption);
-    }
-    for (place, wanted) in case.steps.iter().enumerate() {
-        if !holds(alloc, case.seq, &mut reader, wanted)? {
-            return Ok(Some(place));
+fn holds(alloc: Global, seq: u64, reader: &mut RecordReader<'_>, step: &Step) -> bool {
+    match step {
+        Step::Replay(wanted, end) => {
+            is_found(seq, reader.next(alloc), wanted) && reader.valid_offset() == *end
+        }
+        Step::Read(wanted, end) => {
+            is_found(seq, reader.next_readable(alloc), wanted) && reader.valid_offset() == *end
         }
     }
-    Ok(None)
+}
+
+fn all_hold(alloc: Global, reader: &mut RecordReader<'_>, case: &Case) -> bool {
+    for step in case.steps {
+        if !holds(alloc, case.seq, reader, step) {
+            return false;
+        }
+    }
+    reader.format() == LogFileFormat::new(Version::V2, case.alignment)
+}
+
+// Whether each step comes to what the case says.
+fn is_read(alloc: Global, case: &Case) -> Result<bool, Fault> {
+    let mut bytes = Vec::new(alloc);
+    lay_out(case, &mut bytes)?;
+    let mut reader = RecordReader::new(&bytes, FileId::new(LogQueue::Append, case.seq))?;
+    Ok(all_hold(alloc, &mut reader, case))
+}
+
+fn has_header(bytes: &[u8]) -> bool {
+    RecordReader::new(bytes, FileId::new(LogQueue::Append, 5)).is_ok()
 }
 
 #[test]
 fn records_are_read_or_refused(rt: HostRuntime) -> Result<(), Fail> {
     for case in &CASES {
-        assert_eq!(rt; first_wrong(rt.alloc(), case)?, None, "{}", case.name);
+        assert!(rt; is_read(rt.alloc(), case)?, "{}", case.name);
     }
-    let no_header = RecordReader::new(PUT, FileId::new(LogQueue::Append, 5));
-    assert!(rt; no_header.is_err());
+    assert!(rt; !has_header(PUT));
     Ok(())
 }

@@ -1,8 +1,10 @@
 //! Settings: which are refused, and what becomes of the others.
 
+use crate::rows::{Row, each_holds};
 use raft_pipes::Config;
 use raft_records::{Fault, Fresh, ReadableSize, Version};
 use std::alloc::Global;
+use std::test::Fail;
 
 const MB: u64 = 1 << 20;
 
@@ -19,7 +21,7 @@ enum Setting {
 }
 
 /// What settings come to.
-#[derive(Clone, Copy, Debug, PartialEq)]
+#[derive(Clone, Copy, PartialEq)]
 struct Limits {
     block_size: u64,
     threads: usize,
@@ -39,9 +41,11 @@ const DEFAULT_LIMITS: Limits = Limits {
 };
 
 /// What is set, and what it comes to or why it is refused.
-const SETTINGS: [(&[Setting], Result<Limits, &str>); 8] = [
-    (&[], Ok(DEFAULT_LIMITS)),
-    (
+struct Settings(&'static [Setting], Result<Limits, &'static str>);
+
+static SETTINGS: [Settings; 8] = [
+    Settings(&[], Ok(DEFAULT_LIMITS)),
+    Settings(
         &[
             Setting::BlockSize(1),
             Setting::Threads(0),
@@ -57,33 +61,33 @@ const SETTINGS: [(&[Setting], Result<Limits, &str>); 8] = [
             prefill_capacity: 3,
         }),
     ),
-    (
+    Settings(
         &[Setting::Version1, Setting::NoRecycling],
         Ok(Limits {
             recycle_capacity: 0,
             ..DEFAULT_LIMITS
         }),
     ),
-    (
+    Settings(
         &[Setting::TargetFileSize(0), Setting::Version1],
         Err("target-file-size is 0"),
     ),
-    (
+    Settings(
         &[
             Setting::TargetFileSize(5 * MB),
             Setting::PurgeThreshold(3 * MB),
         ],
         Err("purge-threshold is below target-file-size"),
     ),
-    (
+    Settings(
         &[Setting::Version1],
         Err("enable-log-recycle needs format-version 2"),
     ),
-    (
+    Settings(
         &[Setting::NoRecycling, Setting::Prefill],
         Err("prefill-for-recycle needs enable-log-recycle"),
     ),
-    (&[Setting::SpillIntoDir], Err("spill-dir is dir")),
+    Settings(&[Setting::SpillIntoDir], Err("spill-dir is dir")),
 ];
 
 fn set(alloc: Global, config: &mut Config, setting: &Setting) {
@@ -110,14 +114,28 @@ fn limits_of(config: &Config) -> Limits {
     }
 }
 
-#[test]
-fn settings_are_sanitized(rt: HostRuntime) {
-    for (settings, wanted) in &SETTINGS {
-        let mut config = Config::fresh(rt.alloc());
-        for setting in *settings {
-            set(rt.alloc(), &mut config, setting);
-        }
-        let answer = config.sanitize().map(|()| limits_of(&config));
-        assert_eq!(rt; answer, wanted.map_err(Fault::InvalidArgument));
+// Whether the settings come to this, or are refused for this reason.
+fn is_sanitized(config: &mut Config, wanted: &Result<Limits, &'static str>) -> bool {
+    match (config.sanitize(), wanted) {
+        (Ok(()), Ok(limits)) => limits_of(config) == *limits,
+        (Err(Fault::InvalidArgument(reason)), Err(wanted)) => reason == *wanted,
+        _ => false,
     }
+}
+
+impl Row for Settings {
+    type State = ();
+
+    fn holds(&self, alloc: Global, _: &mut ()) -> Result<bool, Fault> {
+        let mut config = Config::fresh(alloc);
+        for setting in self.0 {
+            set(alloc, &mut config, setting);
+        }
+        Ok(is_sanitized(&mut config, &self.1))
+    }
+}
+
+#[test]
+fn settings_are_sanitized(rt: HostRuntime) -> Result<(), Fail> {
+    each_holds(&rt, &mut (), &SETTINGS)
 }

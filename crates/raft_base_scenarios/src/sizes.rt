@@ -1,80 +1,133 @@
 //! Sizes as texts, the order of files, and their signatures.
 
-use raft_records::{FileId, LogFileContext, LogQueue, ReadableSize, Version};
+use crate::rows::{Row, each_holds};
+use raft_records::{Fault, FileId, LogFileContext, LogQueue, ReadableSize, Version};
+use std::alloc::Global;
+use std::test::Fail;
 
-/// A text, and the size that it stands for.
-const SIZES: [(&str, Option<u64>); 15] = [
-    ("7", Some(7)),
-    ("12B", Some(12)),
-    ("3KB", Some(3072)),
-    ("5MB", Some(5_242_880)),
-    ("2GB", Some(2_147_483_648)),
-    ("18446744073709551615", Some(u64::MAX)),
-    ("0.6", None),
-    ("KB", None),
-    ("", None),
-    ("-1", None),
-    ("+1", None),
-    ("5 MB", None),
-    ("5mb", None),
-    ("18446744073709551616", None),
-    ("17179869184GB", None),
+/// A text, and the size that it stands for; else it is refused as an invalid argument.
+struct Size(&'static str, Option<u64>);
+
+static SIZES: [Size; 15] = [
+    Size("7", Some(7)),
+    Size("12B", Some(12)),
+    Size("3KB", Some(3072)),
+    Size("5MB", Some(5_242_880)),
+    Size("2GB", Some(2_147_483_648)),
+    Size("18446744073709551615", Some(u64::MAX)),
+    Size("0.6", None),
+    Size("KB", None),
+    Size("", None),
+    Size("-1", None),
+    Size("+1", None),
+    Size("5 MB", None),
+    Size("5mb", None),
+    Size("18446744073709551616", None),
+    Size("17179869184GB", None),
 ];
 
-#[test]
-fn sizes_are_read(rt: HostRuntime) {
-    for (text, wanted) in &SIZES {
-        let size = ReadableSize::parse(text);
-        assert_eq!(rt;
-            size.map(|size| size.0).map_err(|fault| fault.code()),
-            wanted.ok_or(1),
-            "{text}"
-        );
+impl Row for Size {
+    type State = ();
+
+    fn holds(&self, _: Global, _: &mut ()) -> Result<bool, Fault> {
+        match (ReadableSize::parse(self.0), &self.1) {
+            (Ok(size), Some(wanted)) => Ok(size.0 == *wanted),
+            (Err(fault), None) => Ok(fault.code() == 1),
+            _ => Ok(false),
+        }
     }
 }
 
 #[test]
-fn sizes_are_made(rt: HostRuntime) {
-    assert_eq!(rt; ReadableSize::kb(3), ReadableSize(3072));
-    assert_eq!(rt; ReadableSize::mb(5), ReadableSize(5_242_880));
-    assert_eq!(rt; ReadableSize::gb(2), ReadableSize(2_147_483_648));
-    assert_eq!(rt; ReadableSize::gb(u64::MAX), ReadableSize(u64::MAX));
+fn sizes_are_read(rt: HostRuntime) -> Result<(), Fail> {
+    each_holds(&rt, &mut (), &SIZES)
 }
 
-/// Files, each before the next.
-const FILES: [(LogQueue, u64); 4] = [
-    (LogQueue::Rewrite, 8),
-    (LogQueue::Rewrite, 9),
-    (LogQueue::Append, 1),
-    (LogQueue::Append, 2),
+enum Unit {
+    Kb,
+    Mb,
+    Gb,
+}
+
+/// So many of a unit, and the size that is made.
+struct Made(u64, Unit, u64);
+
+static MADE: [Made; 4] = [
+    Made(3, Unit::Kb, 3072),
+    Made(5, Unit::Mb, 5_242_880),
+    Made(2, Unit::Gb, 2_147_483_648),
+    Made(u64::MAX, Unit::Gb, u64::MAX),
 ];
 
+impl Row for Made {
+    type State = ();
+
+    fn holds(&self, _: Global, _: &mut ()) -> Result<bool, Fault> {
+        let Made(count, unit, wanted) = self;
+        let made = match unit {
+            Unit::Kb => ReadableSize::kb(*count),
+            Unit::Mb => ReadableSize::mb(*count),
+            Unit::Gb => ReadableSize::gb(*count),
+        };
+        Ok(made.0 == *wanted)
+    }
+}
+
 #[test]
-fn rewrite_files_come_first(rt: HostRuntime) {
+fn sizes_are_made(rt: HostRuntime) -> Result<(), Fail> {
+    each_holds(&rt, &mut (), &MADE)
+}
+
+/// A file, which comes after those of the rows before.
+struct Later(LogQueue, u64);
+
+static FILES: [Later; 4] = [
+    Later(LogQueue::Rewrite, 8),
+    Later(LogQueue::Rewrite, 9),
+    Later(LogQueue::Append, 1),
+    Later(LogQueue::Append, 2),
+];
+
+impl Row for Later {
+    type State = FileId;
+
+    fn holds(&self, _: Global, before: &mut FileId) -> Result<bool, Fault> {
+        let id = FileId::new(self.0, self.1);
+        let is_later = *before < id;
+        *before = id;
+        Ok(is_later)
+    }
+}
+
+#[test]
+fn rewrite_files_come_first(rt: HostRuntime) -> Result<(), Fail> {
     let mut before = FileId::new(LogQueue::Rewrite, 0);
-    for (queue, seq) in &FILES {
-        let id = FileId::new(*queue, *seq);
-        assert!(rt; before < id, "{id:?}");
-        before = id;
-    }
+    each_holds(&rt, &mut before, &FILES)
 }
 
 /// A version, a file's number, and what its records are signed with.
-const SIGNATURES: [(Version, u64, Option<u32>); 3] = [
-    (Version::V1, 0x1_0000_0002, None),
-    (Version::V2, 0x1_0000_0002, Some(2)),
-    (Version::V2, 1, Some(1)),
+struct Signature(Version, u64, Option<u32>);
+
+static SIGNATURES: [Signature; 3] = [
+    Signature(Version::V1, 0x1_0000_0002, None),
+    Signature(Version::V2, 0x1_0000_0002, Some(2)),
+    Signature(Version::V2, 1, Some(1)),
 ];
 
-#[test]
-fn records_are_signed_in_version_2(rt: HostRuntime) {
-    for (version, seq, signature) in &SIGNATURES {
+impl Row for Signature {
+    type State = ();
+
+    fn holds(&self, _: Global, _: &mut ()) -> Result<bool, Fault> {
+        let Signature(version, seq, signature) = self;
         let context = LogFileContext::new(FileId::new(LogQueue::Append, *seq), *version);
-        assert_eq!(rt; context.get_signature(), *signature, "{context:?}");
-        assert_eq!(rt;
-            version.has_log_signing(),
-            signature.is_some(),
-            "{context:?}"
-        );
+        Ok(
+            context.get_signature() == *signature
+                && version.has_log_signing() == signature.is_some(),
+        )
     }
+}
+
+#[test]
+fn records_are_signed_in_version_2(rt: HostRuntime) -> Result<(), Fail> {
+    each_holds(&rt, &mut (), &SIGNATURES)
 }

@@ -3,6 +3,10 @@
 #![tactic(auto)]
 
 #[cfg(test)]
+mod crashed_queues;
+#[cfg(test)]
+mod crashed_rows;
+#[cfg(test)]
 mod laws;
 #[cfg(test)]
 mod log_files;
@@ -10,3 +14,5 @@ mod log_files;
 mod memory_files;
 #[cfg(test)]
 mod queues;
+#[cfg(test)]
+mod two_queues;

@@ -21,7 +21,7 @@ enum Step {
     Close,
 }
 
-const STEPS: [(Step, usize, usize); 6] = [
+static STEPS: [(Step, usize, usize); 6] = [
     (Step::Write(b"first", 100), 74, 100),
     (Step::Write(b"second", 100), 80, 100),
     (Step::Sync, 80, 100),
@@ -62,19 +62,41 @@ fn first_wrong<F: FileSystem>(
     Ok(None)
 }
 
-fn is_read<F: FileSystem>(fs: &mut F, alloc: Global, handle: &F::Handle) -> Result<bool, FsFault> {
-    let mut reader = LogFileReader::open(fs, handle)?;
-    let found = reader.file_size() == 85 && reader.parse_format(fs)? == Some(V2);
+fn is_block<F: FileSystem>(
+    fs: &mut F,
+    alloc: Global,
+    reader: &mut LogFileReader<F>,
+) -> Result<bool, FsFault> {
     let place = FileBlockHandle {
         id: FileId::new(LogQueue::Append, 1),
         offset: 74,
         len: 20,
     };
     let block = reader.read(fs, alloc, place)?;
+    Ok(block.as_slice() == b"secondthird".as_slice())
+}
+
+fn is_end<F: FileSystem>(fs: &mut F, reader: &mut LogFileReader<F>) -> Result<bool, FsFault> {
     let mut bytes = [0; 3];
     let count = reader.read_to(fs, 83, &mut bytes)?;
+    Ok(count == 2 && bytes == *b"rd\0")
+}
+
+fn are_found<F: FileSystem>(
+    fs: &mut F,
+    alloc: Global,
+    reader: &mut LogFileReader<F>,
+) -> Result<bool, FsFault> {
+    let found = reader.file_size() == 85 && reader.parse_format(fs)? == Some(V2);
+    let block = is_block(fs, alloc, reader)?;
+    Ok(found && block && is_end(fs, reader)?)
+}
+
+fn is_read<F: FileSystem>(fs: &mut F, alloc: Global, handle: &F::Handle) -> Result<bool, FsFault> {
+    let mut reader = LogFileReader::open(fs, handle)?;
+    let found = are_found(fs, alloc, &mut reader);
     reader.end(fs);
-    Ok(found && block.as_slice() == b"secondthird".as_slice() && count == 2 && bytes == *b"rd\0")
+    found
 }
 
 // Where the file ends for a writer that finds it, and for one that writes a header of version 1 over it.
@@ -100,28 +122,62 @@ fn reader_of_record<F: FileSystem>(fs: &mut F, alloc: Global) -> Result<LogFileR
     LogFileReader::open(fs, &handle)
 }
 
-fn is_replayed<F: FileSystem>(
+// How many items the next batch has.
+fn next_len<F: FileSystem>(
     fs: &mut F,
-    alloc: Global,
+    records: &mut LogItemBatchFileReader<F>,
+) -> Result<Option<usize>, Fault> {
+    match records.next(fs)? {
+        Some(batch) => Ok(Some(batch.into_items().len())),
+        None => Ok(None),
+    }
+}
+
+fn ends_at<F: FileSystem>(
+    fs: &mut F,
+    records: &mut LogItemBatchFileReader<F>,
+    offset: usize,
+) -> Result<bool, Fault> {
+    Ok(next_len(fs, records)?.is_none() && records.valid_offset() == offset)
+}
+
+fn are_replayed<F: FileSystem>(
+    fs: &mut F,
+    records: &mut LogItemBatchFileReader<F>,
     reader: LogFileReader<F>,
 ) -> Result<bool, Fault> {
-    let mut records = LogItemBatchFileReader::new(alloc, 512);
     let id = FileId::new(LogQueue::Append, 1);
     let format = records.open(fs, id, "records", reader)?;
-    let items = records.next(fs)?.map(|batch| batch.into_items().len());
-    let is_at_end = records.next(fs)?.is_none() && records.valid_offset() == 90;
+    let items = next_len(fs, records)?;
+    let is_at_end = ends_at(fs, records, 90)?;
     records.reset();
-    let is_closed = records.next(fs)?.is_none() && records.valid_offset() == 0;
+    let is_closed = ends_at(fs, records, 0)?;
     Ok(format == V2 && items == Some(0) && is_at_end && is_closed)
+}
+
+fn is_replayed<F: FileSystem>(fs: &mut F, alloc: Global) -> Result<bool, FsFault> {
+    let reader = reader_of_record(fs, alloc)?;
+    let mut records = LogItemBatchFileReader::new(alloc, 512);
+    match are_replayed(fs, &mut records, reader) {
+        Ok(replayed) => Ok(replayed),
+        Err(_) => Ok(false),
+    }
+}
+
+fn is_written<F: FileSystem>(
+    fs: &mut F,
+    alloc: Global,
+    handle: &F::Handle,
+) -> Result<bool, FsFault> {
+    let written = first_wrong(fs, alloc, handle)?.is_none();
+    Ok(written && is_read(fs, alloc, handle)?)
 }
 
 fn is_written_and_read<F: FileSystem>(fs: &mut F, alloc: Global) -> Result<bool, FsFault> {
     let handle = fs.create("log")?;
-    let written = first_wrong(fs, alloc, &handle)?.is_none();
-    let read = is_read(fs, alloc, &handle)?;
-    let reader = reader_of_record(fs, alloc)?;
-    let replayed = is_replayed(fs, alloc, reader) == Ok(true);
-    Ok(written && read && replayed && ends(fs, alloc, &handle)? == (85, 61))
+    let written = is_written(fs, alloc, &handle)?;
+    let replayed = is_replayed(fs, alloc)?;
+    Ok(written && replayed && ends(fs, alloc, &handle)? == (85, 61))
 }
 
 #[test]

@@ -58,152 +58,168 @@ struct Script {
     steps: &'static [Step],
 }
 
-const SCRIPTS: [Script; 6] = [
-    Script {
-        name: "written, read, cut and listed",
-        steps: &[
-            Step::Does(Call::MakeDir("log/old")),
-            Step::Does(Call::Create("log/b")),
-            Step::Does(Call::Write("log/b", 0, b"first")),
-            Step::Does(Call::Sync("log/b")),
-            Step::Does(Call::Create("log/a")),
-            Step::Does(Call::Create("log/old/c")),
-            Step::Does(Call::Write("log/b", 7, b"third")),
-            Step::Does(Call::Allocate("log/b", 12, 2)),
-            Step::Does(Call::Read("log/b", 14, b"first\0\0third\0\0??")),
-            Step::Does(Call::Truncate("log/b", 3)),
-            Step::Does(Call::Size("log/b", 3)),
-            Step::Does(Call::List("log", &["a", "b"])),
-            Step::IsFolder("log", true),
-            Step::IsFolder("", true),
-            Step::IsFolder("log/b", false),
-            Step::IsFile("log/b", true),
-            Step::IsFile("log", false),
-            Step::Refused(0),
-        ],
-    },
-    Script {
-        name: "refusals are counted",
-        steps: &[
-            Step::Does(Call::Create("a")),
-            Step::Refuses(Call::Create("b/a"), IoKind::NotFound),
-            Step::Refuses(Call::Create(""), IoKind::Other),
-            Step::Refuses(Call::MakeDir("a/b"), IoKind::Other),
-            Step::Refuses(Call::List("b", &[]), IoKind::NotFound),
-            Step::Refuses(Call::Writer("b", Permission::ReadWrite), IoKind::NotFound),
-            Step::Refuses(Call::Writer("a", Permission::ReadOnly), IoKind::Other),
-            Step::Refuses(Call::Write("a", usize::MAX, b"x"), IoKind::NoSpace),
-            Step::Refused(7),
-        ],
-    },
-    Script {
-        name: "armed calls are refused",
-        steps: &[
-            Step::Does(Call::Create("a")),
-            Step::ArmNone(FsCall::Sync),
-            Step::Arm(FsCall::Create, 1),
-            Step::Refuses(Call::Create("b"), IoKind::NoSpace),
-            Step::Arm(FsCall::Open, 1),
-            Step::Refuses(Call::Writer("a", Permission::ReadWrite), IoKind::NoSpace),
-            Step::Arm(FsCall::NewReader, 1),
-            Step::Refuses(Call::Read("a", 0, b""), IoKind::NoSpace),
-            Step::Arm(FsCall::NewWriter, 1),
-            Step::Refuses(Call::Writer("a", Permission::ReadWrite), IoKind::NoSpace),
-            Step::Arm(FsCall::Write, 1),
-            Step::Arm(FsCall::Write, 3),
-            Step::Refuses(Call::Write("a", 0, b"abcde"), IoKind::NoSpace),
-            Step::Arm(FsCall::Truncate, 1),
-            Step::Refuses(Call::Truncate("a", 0), IoKind::NoSpace),
-            Step::Arm(FsCall::Allocate, 1),
-            Step::Refuses(Call::Allocate("a", 0, 9), IoKind::NoSpace),
-            Step::Arm(FsCall::Sync, 1),
-            Step::Refuses(Call::Sync("a"), IoKind::NoSpace),
-            Step::Arm(FsCall::Delete, 1),
-            Step::Refuses(Call::Delete("a"), IoKind::NoSpace),
-            Step::Arm(FsCall::Rename, 1),
-            Step::Refuses(Call::Rename("a", "b"), IoKind::NoSpace),
-            Step::Arm(FsCall::FileSize, 1),
-            Step::Refuses(Call::Size("a", 2), IoKind::NoSpace),
-            Step::Arm(FsCall::MakeDir, 1),
-            Step::Refuses(Call::MakeDir("d"), IoKind::NoSpace),
-            Step::Arm(FsCall::List, 1),
-            Step::Refuses(Call::List("", &[]), IoKind::NoSpace),
-            Step::Arm(FsCall::Read, 1),
-            Step::Refuses(Call::Read("a", 0, b"?"), IoKind::NoSpace),
-            Step::Refused(14),
-            // The failed write has written the first half of its bytes.
-            Step::Does(Call::Read("a", 2, b"ab?")),
-            Step::Does(Call::Write("a", 2, b"cd")),
-            Step::Refuses(Call::Write("a", 4, b"ef"), IoKind::NoSpace),
-            Step::Stop(2),
-            Step::Does(Call::Write("a", 0, b"x")),
-            Step::Refuses(Call::Sync("a"), IoKind::Other),
-            Step::Refuses(Call::Create("b"), IoKind::Other),
-            Step::Does(Call::Read("a", 5, b"xbcde?")),
-            Step::Refused(17),
-        ],
-    },
-    Script {
-        name: "deleted, renamed and reused",
-        steps: &[
-            Step::Does(Call::MakeDir("log")),
-            Step::Does(Call::Create("log/a")),
-            Step::Does(Call::Write("log/a", 0, b"first")),
-            Step::Does(Call::Sync("log/a")),
-            Step::Does(Call::Write("log/a", 3, b"m!")),
-            Step::Does(Call::Create("log/b")),
-            Step::Does(Call::Rename("log/a", "log/c")),
-            Step::Does(Call::List("log", &["b", "c"])),
-            Step::Does(Call::Read("log/c", 5, b"firm!?")),
-            Step::Does(Call::Rename("log/c", "log/b")),
-            Step::Does(Call::Rename("log/b", "log/b")),
-            Step::Does(Call::List("log", &["b"])),
-            Step::Does(Call::Reuse("log/b", "a")),
-            Step::Does(Call::List("log", &[])),
-            Step::Leaves(Left::Synced, 5, b"first?"),
-            Step::Leaves(Left::All, 5, b"firm!?"),
-            Step::Refuses(Call::Rename("b", "c"), IoKind::NotFound),
-            Step::Refuses(Call::Rename("a", "old/c"), IoKind::NotFound),
-            Step::Refuses(Call::Rename("a", "log"), IoKind::Other),
-            Step::Refuses(Call::Reuse("b", "c"), IoKind::NotFound),
-            Step::Refuses(Call::Delete("b"), IoKind::NotFound),
-            Step::Does(Call::Delete("a")),
-            Step::IsFile("a", false),
-            Step::Refused(5),
-        ],
-    },
-    Script {
-        name: "a crash leaves what was chosen",
-        steps: &[
-            Step::Does(Call::Create("a")),
-            Step::Does(Call::Write("a", 0, b"abcd")),
-            Step::Does(Call::Sync("a")),
-            Step::Does(Call::Write("a", 2, b"xyz")),
-            Step::Leaves(Left::All, 5, b"abxyz?"),
-            Step::Leaves(Left::Synced, 4, b"abcd??"),
-            Step::Leaves(Left::Unsaid, 4, b"abcd??"),
-            Step::Leaves(Left::Torn(1, b'!'), 5, b"abx!!?"),
-            Step::Leaves(Left::Bytes(b"abQR"), 4, b"abQR??"),
-            Step::LeavesNot(Left::Bytes(b"zbcd")),
-        ],
-    },
-    Script {
-        name: "what was written over comes back",
-        steps: &[
-            Step::Does(Call::Create("a")),
-            Step::Does(Call::Write("a", 0, b"abcdef")),
-            Step::Does(Call::Sync("a")),
-            Step::Does(Call::Write("a", 3, b"12")),
-            Step::Does(Call::Truncate("a", 2)),
-            Step::Does(Call::Write("a", 1, b"34567890")),
-            Step::Does(Call::Write("a", 4, b"x")),
-            Step::Leaves(Left::Synced, 6, b"abcdef?"),
-            Step::Does(Call::Sync("a")),
-            Step::Does(Call::Truncate("a", 4)),
-            Step::Leaves(Left::Synced, 9, b"a345x7890?"),
-        ],
-    },
-];
+static WRITTEN: Script = Script {
+    name: "written, read, cut and listed",
+    steps: &[
+        Step::Does(Call::MakeDir("log/old")),
+        Step::Does(Call::Create("log/b")),
+        Step::Does(Call::Write("log/b", 0, b"first")),
+        Step::Does(Call::Sync("log/b")),
+        Step::Does(Call::Create("log/a")),
+        Step::Does(Call::Create("log/old/c")),
+        Step::Does(Call::Write("log/b", 7, b"third")),
+        Step::Does(Call::Allocate("log/b", 12, 2)),
+        Step::Does(Call::Read("log/b", 14, b"first\0\0third\0\0??")),
+        Step::Does(Call::Truncate("log/b", 3)),
+        Step::Does(Call::Size("log/b", 3)),
+        Step::Does(Call::List("log", &["a", "b"])),
+        Step::IsFolder("log", true),
+        Step::IsFolder("", true),
+        Step::IsFolder("log/b", false),
+        Step::IsFile("log/b", true),
+        Step::IsFile("log", false),
+        Step::Refused(0),
+    ],
+};
+
+static COUNTED: Script = Script {
+    name: "refusals are counted",
+    steps: &[
+        Step::Does(Call::Create("a")),
+        Step::Refuses(Call::Create("b/a"), IoKind::NotFound),
+        Step::Refuses(Call::Create(""), IoKind::Other),
+        Step::Refuses(Call::MakeDir("a/b"), IoKind::Other),
+        Step::Refuses(Call::List("b", &[]), IoKind::NotFound),
+        Step::Refuses(Call::Writer("b", Permission::ReadWrite), IoKind::NotFound),
+        Step::Refuses(Call::Writer("a", Permission::ReadOnly), IoKind::Other),
+        Step::Refuses(Call::Write("a", usize::MAX, b"x"), IoKind::NoSpace),
+        Step::Refused(7),
+    ],
+};
+
+static ARMED: Script = Script {
+    name: "armed calls are refused",
+    steps: &[
+        Step::Does(Call::Create("a")),
+        Step::ArmNone(FsCall::Sync),
+        Step::Arm(FsCall::Create, 1),
+        Step::Refuses(Call::Create("b"), IoKind::NoSpace),
+        Step::Arm(FsCall::Open, 1),
+        Step::Refuses(Call::Writer("a", Permission::ReadWrite), IoKind::NoSpace),
+        Step::Arm(FsCall::NewReader, 1),
+        Step::Refuses(Call::Read("a", 0, b""), IoKind::NoSpace),
+        Step::Arm(FsCall::NewWriter, 1),
+        Step::Refuses(Call::Writer("a", Permission::ReadWrite), IoKind::NoSpace),
+        Step::Arm(FsCall::Write, 1),
+        Step::Arm(FsCall::Write, 3),
+        Step::Refuses(Call::Write("a", 0, b"abcde"), IoKind::NoSpace),
+        Step::Arm(FsCall::Truncate, 1),
+        Step::Refuses(Call::Truncate("a", 0), IoKind::NoSpace),
+        Step::Arm(FsCall::Allocate, 1),
+        Step::Refuses(Call::Allocate("a", 0, 9), IoKind::NoSpace),
+        Step::Arm(FsCall::Sync, 1),
+        Step::Refuses(Call::Sync("a"), IoKind::NoSpace),
+        Step::Arm(FsCall::Delete, 1),
+        Step::Refuses(Call::Delete("a"), IoKind::NoSpace),
+        Step::Arm(FsCall::Rename, 1),
+        Step::Refuses(Call::Rename("a", "b"), IoKind::NoSpace),
+        Step::Arm(FsCall::FileSize, 1),
+        Step::Refuses(Call::Size("a", 2), IoKind::NoSpace),
+        Step::Arm(FsCall::MakeDir, 1),
+        Step::Refuses(Call::MakeDir("d"), IoKind::NoSpace),
+        Step::Arm(FsCall::List, 1),
+        Step::Refuses(Call::List("", &[]), IoKind::NoSpace),
+        Step::Arm(FsCall::Read, 1),
+        Step::Refuses(Call::Read("a", 0, b"?"), IoKind::NoSpace),
+        Step::Refused(14),
+        // The failed write has written the first half of its bytes.
+        Step::Does(Call::Read("a", 2, b"ab?")),
+        Step::Does(Call::Write("a", 2, b"cd")),
+        Step::Refuses(Call::Write("a", 4, b"ef"), IoKind::NoSpace),
+        Step::Stop(2),
+        Step::Does(Call::Write("a", 0, b"x")),
+        Step::Refuses(Call::Sync("a"), IoKind::Other),
+        Step::Refuses(Call::Create("b"), IoKind::Other),
+        Step::Does(Call::Read("a", 5, b"xbcde?")),
+        Step::Refused(17),
+    ],
+};
+
+static RENAMED: Script = Script {
+    name: "deleted, renamed and reused",
+    steps: &[
+        Step::Does(Call::MakeDir("log")),
+        Step::Does(Call::Create("log/a")),
+        Step::Does(Call::Write("log/a", 0, b"first")),
+        Step::Does(Call::Sync("log/a")),
+        Step::Does(Call::Write("log/a", 3, b"m!")),
+        Step::Does(Call::Create("log/b")),
+        Step::Does(Call::Rename("log/a", "log/c")),
+        Step::Does(Call::List("log", &["b", "c"])),
+        Step::Does(Call::Read("log/c", 5, b"firm!?")),
+        Step::Does(Call::Rename("log/c", "log/b")),
+        Step::Does(Call::Rename("log/b", "log/b")),
+        Step::Does(Call::List("log", &["b"])),
+        Step::Does(Call::Reuse("log/b", "a")),
+        Step::Does(Call::List("log", &[])),
+        Step::Leaves(Left::Synced, 5, b"first?"),
+        Step::Leaves(Left::All, 5, b"firm!?"),
+        Step::Refuses(Call::Rename("b", "c"), IoKind::NotFound),
+        Step::Refuses(Call::Rename("a", "old/c"), IoKind::NotFound),
+        Step::Refuses(Call::Rename("a", "log"), IoKind::Other),
+        Step::Refuses(Call::Reuse("b", "c"), IoKind::NotFound),
+        Step::Refuses(Call::Delete("b"), IoKind::NotFound),
+        Step::Does(Call::Delete("a")),
+        Step::IsFile("a", false),
+        Step::Refused(5),
+    ],
+};
+
+static CRASHED: Script = Script {
+    name: "a crash leaves what was chosen",
+    steps: &[
+        Step::Does(Call::Create("a")),
+        Step::Does(Call::Write("a", 0, b"abcd")),
+        Step::Does(Call::Sync("a")),
+        Step::Does(Call::Write("a", 2, b"xyz")),
+        Step::Leaves(Left::All, 5, b"abxyz?"),
+        Step::Leaves(Left::Synced, 4, b"abcd??"),
+        Step::Leaves(Left::Unsaid, 4, b"abcd??"),
+        Step::Leaves(Left::Torn(1, b'!'), 5, b"abx!!?"),
+        Step::Leaves(Left::Bytes(b"abQR"), 4, b"abQR??"),
+        Step::LeavesNot(Left::Bytes(b"zbcd")),
+    ],
+};
+
+static WRITTEN_OVER: Script = Script {
+    name: "what was written over comes back",
+    steps: &[
+        Step::Does(Call::Create("a")),
+        Step::Does(Call::Write("a", 0, b"abcdef")),
+        Step::Does(Call::Sync("a")),
+        Step::Does(Call::Write("a", 3, b"12")),
+        Step::Does(Call::Truncate("a", 2)),
+        Step::Does(Call::Write("a", 1, b"34567890")),
+        Step::Does(Call::Write("a", 4, b"x")),
+        Step::Leaves(Left::Synced, 6, b"abcdef?"),
+        Step::Does(Call::Sync("a")),
+        Step::Does(Call::Truncate("a", 4)),
+        Step::Leaves(Left::Synced, 9, b"a345x7890?"),
+    ],
+};
+
+/// Each script is a table of its own, since a function is checked with all of each table that it names, and that grows
+/// with the square of the table.
+fn scripts() -> [&'static Script; 6] {
+    [
+        &WRITTEN,
+        &COUNTED,
+        &ARMED,
+        &RENAMED,
+        &CRASHED,
+        &WRITTEN_OVER,
+    ]
+}
 
 fn writer_of<F: FileSystem>(
     fs: &mut F,
@@ -245,33 +261,42 @@ fn lists<F: FileSystem>(fs: &mut F, dir: &str, wanted: &[&str]) -> Result<bool, 
     Ok(names.len() == wanted.len() && are_equal)
 }
 
+fn change_bytes<F: FileSystem>(
+    fs: &mut F,
+    writer: &mut F::Writer,
+    call: &Call,
+) -> Result<(), FsFault> {
+    match call {
+        Call::Write(_, at, bytes) => fs.write(writer, *at, bytes),
+        Call::Truncate(_, size) => fs.truncate(writer, *size),
+        Call::Allocate(_, at, size) => fs.allocate(writer, *at, *size),
+        Call::Sync(_) => fs.sync(writer),
+        _ => Ok(()),
+    }
+}
+
+fn change_file<F: FileSystem>(fs: &mut F, path: &str, call: &Call) -> Result<(), FsFault> {
+    let mut writer = writer_of(fs, path, Permission::ReadWrite)?;
+    change_bytes(fs, &mut writer, call)
+}
+
+fn reuse<F: FileSystem>(fs: &mut F, from: &str, to: &str) -> Result<(), FsFault> {
+    let handle = fs.reuse_and_open(from, to)?;
+    fs.new_writer(&handle).map(|_| ())
+}
+
 fn change<F: FileSystem>(fs: &mut F, call: &Call) -> Result<(), FsFault> {
     match call {
         Call::MakeDir(path) => fs.make_dir(path),
         Call::Create(path) => fs.create(path).map(|_| ()),
         Call::Writer(path, permission) => writer_of(fs, path, *permission).map(|_| ()),
-        Call::Write(path, at, bytes) => {
-            let mut writer = writer_of(fs, path, Permission::ReadWrite)?;
-            fs.write(&mut writer, *at, bytes)
-        }
-        Call::Truncate(path, size) => {
-            let mut writer = writer_of(fs, path, Permission::ReadWrite)?;
-            fs.truncate(&mut writer, *size)
-        }
-        Call::Allocate(path, at, size) => {
-            let mut writer = writer_of(fs, path, Permission::ReadWrite)?;
-            fs.allocate(&mut writer, *at, *size)
-        }
-        Call::Sync(path) => {
-            let mut writer = writer_of(fs, path, Permission::ReadWrite)?;
-            fs.sync(&mut writer)
-        }
+        Call::Write(path, _, _)
+        | Call::Truncate(path, _)
+        | Call::Allocate(path, _, _)
+        | Call::Sync(path) => change_file(fs, path, call),
         Call::Delete(path) => fs.delete(path),
         Call::Rename(from, to) => fs.rename(from, to),
-        Call::Reuse(from, to) => {
-            let handle = fs.reuse_and_open(from, to)?;
-            fs.new_writer(&handle).map(|_| ())
-        }
+        Call::Reuse(from, to) => reuse(fs, from, to),
         _ => Ok(()),
     }
 }
@@ -352,15 +377,25 @@ fn first_wrong(alloc: Global, script: &Script) -> Result<Option<usize>, Fail> {
 
 #[test]
 fn files_are_as_the_scripts_say(rt: HostRuntime) -> Result<(), Fail> {
-    for script in &SCRIPTS {
+    for script in &scripts() {
         assert_eq!(rt; first_wrong(rt.alloc(), script)?, None, "{}", script.name);
     }
     Ok(())
 }
 
+fn has_kind_and_path(alloc: Global) -> bool {
+    match FsFault::Io(IoKind::NotFound).with_path(alloc, "log") {
+        Fault::Io(IoKind::NotFound, path) => path.as_str() == "log",
+        _ => false,
+    }
+}
+
+fn has_no_path(alloc: Global) -> bool {
+    matches!(FsFault::Memory.with_path(alloc, "log"), Fault::Memory)
+}
+
 #[test]
 fn a_fault_has_the_kind_and_the_path(rt: HostRuntime) {
-    let fault = FsFault::Io(IoKind::NotFound).with_path(rt.alloc(), "log");
-    assert!(rt; matches!(&fault, Fault::Io(IoKind::NotFound, path) if path.as_str() == "log"));
-    assert!(rt; matches!(&FsFault::Memory.with_path(rt.alloc(), "log"), Fault::Memory));
+    assert!(rt; has_kind_and_path(rt.alloc()));
+    assert!(rt; has_no_path(rt.alloc()));
 }

@@ -35,7 +35,7 @@ struct Case {
     files: &'static [(&'static str, usize)],
 }
 
-const CASES: [Case; 2] = [
+static ROWS: [Case; 2] = [
     Case {
         name: "three files",
         found: None,
@@ -71,6 +71,10 @@ const CASES: [Case; 2] = [
         files: &[("data/9999999999999999.raftlog", 1093)],
     },
 ];
+
+fn cases() -> &'static [Case] {
+    &ROWS
+}
 
 /// Takes batches and keeps none.
 #[derive(Drop)]
@@ -226,7 +230,7 @@ fn is_as_said<F: FileSystem>(alloc: Global, fs: &mut F, case: &Case) -> Result<b
 
 #[test]
 fn one_queue(rt: HostRuntime) -> Result<(), Fail> {
-    for case in &CASES {
+    for case in cases() {
         let mut fs = MemoryFileSystem::new(rt.alloc());
         assert!(rt; is_as_said(rt.alloc(), &mut fs, case)?, "{}", case.name);
     }

@@ -5,6 +5,7 @@ pub mod ValidityLemmas
 pub mod CrashLemmas
 pub mod EngineLemmas
 pub mod DurabilityLemmas
+pub mod AdvanceLemmas
 pub mod GroupLemmas
 pub mod GroupRunLemmas
 pub mod OpeningLemmas

@@ -7,6 +7,7 @@ pub mod Cause
 pub mod Engine
 pub mod Group
 pub mod Durability
+pub mod Advance
 pub mod Opening
 pub mod Write
 pub mod Image

@@ -4,7 +4,7 @@ use Rattle.std.proofs.Common.{◌≡◌, ℕ, ◌+◌, ◌-◌, ◌<◌, ◌≤�
 use Rattle.std.specs.Prelude.{replicate}
 use Rattle.std.specs.Option.{option_or}
 use Rattle.std.proofs.lemmas.Bool.Decides.{nat_tests}
-use Rattle.std.proofs.lemmas.List.{length-drop, length-take, length-take-le, take_all, get_or-drop, get_or-take, drop-drop, drop_more, take_more}
+use Rattle.std.proofs.lemmas.List.{length-drop, length-take, length-take-le, take_all, get_or-drop, get_or-take, get_or_past, drop-drop, drop_more, take_more}
 use Rattle.std.proofs.lemmas.Grind.{same_number_lists}
 use Rattle.std.proofs.Math.ListN.{get_or-append}
 use Rattle.raft_env.specs.Outcomes.{is_within, overlay, pad_to}
@@ -115,3 +115,26 @@ module _ (places : List (ℕ × ℕ)) (saved : List ℕ) (k end : ℕ) (p : ℕ 
           let below : i < p.0 + p.1 = grind (arith, nat_tests) in
           ap (λ (l : List ℕ). get_or l (i - p.0) 0) given_is ∙ get_or-take p.1 (drop (end - p.1) saved) (i - p.0) 0 (omega arith)
       one false e given_is before behind = before ∙ ap (λ (l : List ℕ). unwrap_or (before_image_in (drop (k + 1) places) l i) (get_or old i 0)) (sym behind)
+
+-- a part that is put behind the bytes that were saved leaves these
+pub part_keeps : (put resized given : List ℕ) (start i : ℕ) → i < start
+    → get_or put i 0 ≡ cond (is_within start (length given) i) (get_or given (i - start) 0) (get_or resized i 0) → get_or put i 0 ≡ get_or resized i 0
+part_keeps put resized given start i before is =
+    let apart : is_within start (length given) i ≡ false = grind (arith, nat_tests) in
+    is ∙ ap (λ (b : Bool). cond b (get_or given (i - start) 0) (get_or resized i 0)) apart
+
+-- .. and has the bytes from a place on, with zeros past their end
+pub part_put : (put resized given bytes : List ℕ) (start from i n : ℕ) → n ≡ start + i → given ≡ drop from bytes → get_or resized n 0 ≡ 0
+    → get_or put n 0 ≡ cond (is_within start (length given) n) (get_or given (n - start) 0) (get_or resized n 0) → get_or put n 0 ≡ get_or bytes (from + i) 0
+part_put put resized given bytes start from i n at given_is zero is = is ∙ one (is_within start (length given) n) refl
+  where
+    len : length given ≡ length bytes - from
+    len = ap length given_is ∙ length-drop from bytes
+
+    one : (b : Bool) → is_within start (length given) n ≡ b → cond b (get_or given (n - start) 0) (get_or resized n 0) ≡ get_or bytes (from + i) 0
+    one true e =
+        let there : n - start ≡ i = omega (arith, at) in
+        ap (λ (l : List ℕ). get_or l (n - start) 0) given_is ∙ ap (λ (k : ℕ). get_or (drop from bytes) k 0) there ∙ get_or-drop from bytes i 0
+    one false e =
+        let past : length bytes ≤ from + i = grind (arith, nat_tests, len, at) in
+        zero ∙ sym (get_or_past bytes (from + i) 0 past)

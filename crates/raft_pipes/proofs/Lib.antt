@@ -1,7 +1,12 @@
 pub mod ApartLemmas
 pub mod BesideLemmas
 pub mod BlocksLemmas
+pub mod BuilderLemmas
 pub mod CompletedLemmas
+pub mod CutLemmas
+pub mod DualEndsLemmas
+pub mod DualLemmas
+pub mod DualOpeningLemmas
 pub mod FileListLemmas
 pub mod FilesLemmas
 pub mod FolderLemmas
@@ -31,6 +36,7 @@ pub mod QueueRotationLemmas
 pub mod QueueSoundLemmas
 pub mod RestartLemmas
 pub mod RotationLemmas
+pub mod SameFilesLemmas
 pub mod SealedFileLemmas
 pub mod SettledFilesLemmas
 pub mod SettledQueueLemmas

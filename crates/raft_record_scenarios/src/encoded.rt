@@ -2,7 +2,7 @@
 
 ghost use Rattle.std.specs.Prelude.{◌≡◌, [], ◌∷◌};
 
-use crate::record_rows::{DECODED, DecodedRecord, WantedItem};
+use crate::record_rows::{DecodedRecord, WantedItem, decoded};
 use crate::records::items_of;
 use raft_records::{Command, EntryIndex, Fault, FileBlockHandle, LogBatch, Message, MessageExt};
 use std::alloc::{AllocError, Global};
@@ -66,32 +66,49 @@ fn is_encoded(record: &DecodedRecord) -> bool {
     })
 }
 
-fn comes_to(alloc: Global, record: &DecodedRecord) -> Result<bool, Fault> {
+fn batch_of(alloc: Global, record: &DecodedRecord) -> Result<LogBatch, Fault> {
     let (_, block) = record.bytes.split_at(record.bytes.len().min(16));
     let mut batch = LogBatch::new(alloc);
     for item in record.items {
         add(alloc, &mut batch, item, block)?;
     }
+    Ok(batch)
+}
+
+// Whether the batch is encoded as the record.
+fn has_bytes(batch: &mut LogBatch, record: &DecodedRecord) -> Result<bool, Fault> {
     let len = batch.finish_populate()?;
     batch.prepare_write(&record.file);
     let (wanted, _) = record.bytes.split_at(record.bytes.len().min(record.len));
-    let encoded = len == record.len && batch.encoded_bytes() == wanted;
+    Ok(len == record.len && batch.encoded_bytes() == wanted)
+}
+
+// Whether the batch is drained to the record's items.
+fn has_items(alloc: Global, batch: &mut LogBatch, record: &DecodedRecord) -> Result<bool, Fault> {
     batch.finish_write(FileBlockHandle {
         id: record.file.id,
         offset: record.at,
-        len,
+        len: record.len,
     });
     let mut items = Vec::new(alloc);
     batch.drain(&mut items);
-    Ok(encoded && batch.is_empty() && items == items_of(alloc, record)?)
+    Ok(batch.is_empty() && items == items_of(alloc, record)?)
+}
+
+fn comes_to(alloc: Global, record: &DecodedRecord) -> Result<bool, Fault> {
+    if !is_encoded(record) {
+        return Ok(true);
+    }
+    let mut batch = batch_of(alloc, record)?;
+    Ok(has_bytes(&mut batch, record)? && has_items(alloc, &mut batch, record)?)
 }
 
 #[test]
 fn decoded_records_are_encoded(rt: HostRuntime) -> Result<(), Fail> {
-    let alloc = rt.alloc();
-    for record in &DECODED {
-        let same = !is_encoded(record) || comes_to(alloc, record)?;
-        assert!(rt; same, "{}", record.name);
+    for table in &decoded() {
+        for record in *table {
+            assert!(rt; comes_to(rt.alloc(), record)?, "{}", record.name);
+        }
     }
     Ok(())
 }
@@ -103,7 +120,7 @@ struct NoRecord {
     code: u8,
 }
 
-const NO_RECORDS: [NoRecord; 6] = [
+static NO_RECORDS: [NoRecord; 6] = [
     NoRecord {
         name: "a gap",
         items: &[&[1, 2, 4]],
@@ -136,39 +153,62 @@ const NO_RECORDS: [NoRecord; 6] = [
     },
 ];
 
-fn refusal_of(alloc: Global, no_record: &NoRecord) -> Result<Option<u8>, Fault> {
-    let mut batch = LogBatch::new(alloc);
-    for indexes in no_record.items {
-        let mut entries = Vec::new(alloc);
-        let mut bytes = Vec::new(alloc);
-        for index in *indexes {
-            entries.push(index_at(*index))?;
-            bytes.push(b"e".to_vec(alloc)?)?;
-        }
-        batch.add_raw_entries(1, entries, bytes)?;
+fn add_indexes(alloc: Global, batch: &mut LogBatch, indexes: &[u64]) -> Result<(), Fault> {
+    let mut entries = Vec::new(alloc);
+    let mut bytes = Vec::new(alloc);
+    for index in indexes {
+        entries.push(index_at(*index))?;
+        bytes.push(b"e".to_vec(alloc)?)?;
     }
-    Ok(batch.finish_populate().err().map(|fault| fault.code()))
+    batch.add_raw_entries(1, entries, bytes)
+}
+
+fn add_each(alloc: Global, batch: &mut LogBatch, items: &[&[u64]]) -> Result<(), Fault> {
+    for indexes in items {
+        add_indexes(alloc, batch, indexes)?;
+    }
+    Ok(())
+}
+
+fn is_no_record(alloc: Global, no_record: &NoRecord) -> Result<bool, Fault> {
+    let mut batch = LogBatch::new(alloc);
+    add_each(alloc, &mut batch, no_record.items)?;
+    match batch.finish_populate() {
+        Ok(_) => Ok(false),
+        Err(fault) => Ok(fault.code() == no_record.code),
+    }
 }
 
 #[test]
 fn entries_out_of_order_are_refused(rt: HostRuntime) -> Result<(), Fail> {
     for no_record in &NO_RECORDS {
-        let refusal = refusal_of(rt.alloc(), no_record)?;
-        assert_eq!(rt; refusal, Some(no_record.code), "{}", no_record.name);
+        assert!(rt; is_no_record(rt.alloc(), no_record)?, "{}", no_record.name);
     }
     Ok(())
 }
 
-#[test]
-fn lists_of_different_lengths_are_refused(rt: HostRuntime) -> Result<(), Fail> {
-    let alloc = rt.alloc();
-    let mut batch = LogBatch::new(alloc);
+// Whether an index without its entry is refused.
+fn is_refused(alloc: Global, batch: &mut LogBatch) -> Result<bool, AllocError> {
     let mut indexes = Vec::new(alloc);
     indexes.push(index_at(1))?;
-    let refused = batch.add_raw_entries(1, indexes, Vec::new(alloc));
-    assert_eq!(rt; refused.map_err(|fault| fault.code()), Err(17));
+    match batch.add_raw_entries(1, indexes, Vec::new(alloc)) {
+        Ok(()) => Ok(false),
+        Err(fault) => Ok(fault.code() == 17),
+    }
+}
+
+fn is_left_empty(alloc: Global) -> Result<bool, Fault> {
+    let mut batch = LogBatch::new(alloc);
+    if !is_refused(alloc, &mut batch)? {
+        return Ok(false);
+    }
     batch.add_raw_entries(1, Vec::new(alloc), Vec::new(alloc))?;
-    assert!(rt; batch.is_empty());
+    Ok(batch.is_empty())
+}
+
+#[test]
+fn lists_of_different_lengths_are_refused(rt: HostRuntime) -> Result<(), Fail> {
+    assert!(rt; is_left_empty(rt.alloc())?);
     Ok(())
 }
 
@@ -206,20 +246,35 @@ impl MessageExt for Bytes {
     }
 }
 
-#[test]
-fn messages_are_stored_as_their_bytes(rt: HostRuntime) -> Result<(), Fail> {
-    let alloc = rt.alloc();
-    let mut batch = LogBatch::new(alloc);
+fn add_messages(alloc: Global, batch: &mut LogBatch) -> Result<(), Fault> {
     batch.add_entries::<Bytes>(7, &[Byte(5), Byte(6)])?;
     batch.add_entries::<Bytes>(7, &[])?;
-    batch.put_message(7, b"k".to_vec(alloc)?, &Byte(b'v'))?;
-    let mut raw = LogBatch::new(alloc);
-    add_entries(alloc, &mut raw, 7, &[(5, 0, 1), (6, 1, 1)], &[5, 6])?;
-    raw.put(7, b"k".to_vec(alloc)?, b"v".to_vec(alloc)?)?;
+    batch.put_message(7, b"k".to_vec(alloc)?, &Byte(b'v'))
+}
+
+fn add_bytes(alloc: Global, batch: &mut LogBatch) -> Result<(), Fault> {
+    add_entries(alloc, batch, 7, &[(5, 0, 1), (6, 1, 1)], &[5, 6])?;
+    batch.put(7, b"k".to_vec(alloc)?, b"v".to_vec(alloc)?)
+}
+
+fn are_same(alloc: Global) -> Result<bool, Fault> {
+    let mut batch = LogBatch::new(alloc);
+    add_messages(alloc, &mut batch)?;
     batch.finish_populate()?;
+    let mut raw = LogBatch::new(alloc);
+    add_bytes(alloc, &mut raw)?;
     raw.finish_populate()?;
-    assert!(rt; batch.encoded_bytes() == raw.encoded_bytes());
-    assert!(rt; Byte::parse(alloc, b"v").is_ok_and(|byte| byte.0 == b'v'));
-    assert!(rt; Byte::parse(alloc, b"vw").is_err_and(|fault| fault.code() == 10));
+    Ok(batch.encoded_bytes() == raw.encoded_bytes())
+}
+
+fn are_parsed(alloc: Global) -> bool {
+    Byte::parse(alloc, b"v").is_ok_and(|byte| byte.0 == b'v')
+        && Byte::parse(alloc, b"vw").is_err_and(|fault| fault.code() == 10)
+}
+
+#[test]
+fn messages_are_stored_as_their_bytes(rt: HostRuntime) -> Result<(), Fail> {
+    assert!(rt; are_same(rt.alloc())?);
+    assert!(rt; are_parsed(rt.alloc()));
     Ok(())
 }

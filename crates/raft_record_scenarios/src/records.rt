@@ -1,7 +1,7 @@
 //! Records as bytes: what is read and replayed of them.
 
-use crate::record_rows::{DECODED, DecodedRecord, UNSIGNED, WantedItem};
-use crate::refused_rows::{REFUSED, RefusedRecord};
+use crate::record_rows::{DecodedRecord, UNSIGNED, WantedItem, decoded};
+use crate::refused_rows::{RefusedRecord, refused};
 use raft_records::{
     Command, EntryIndex, Fault, FileBlockHandle, KeyValue, LogFileContext, LogItem, LogItemBatch,
     LogItemContent, RecordHeader, decode_entries_block, decode_header, decode_record,
@@ -114,15 +114,23 @@ fn is_record(
     }
 }
 
+// Whether the bytes are read and replayed to what the record holds.
+fn is_decoded(alloc: Global, record: &DecodedRecord) -> Result<bool, AllocError> {
+    let items = items_of(alloc, record)?;
+    let decoded = read(alloc, record.bytes, record.at, &record.file);
+    if !is_record(decoded, record, &items) {
+        return Ok(false);
+    }
+    let replayed = replay(alloc, record.bytes, record.at, &record.file);
+    Ok(is_record(replayed, record, &items))
+}
+
 #[test]
 fn records_are_decoded(rt: HostRuntime) -> Result<(), Fail> {
-    let alloc = rt.alloc();
-    for record in &DECODED {
-        let items = items_of(alloc, record)?;
-        let decoded = read(alloc, record.bytes, record.at, &record.file);
-        assert!(rt; is_record(decoded, record, &items), "{}", record.name);
-        let replayed = replay(alloc, record.bytes, record.at, &record.file);
-        assert!(rt; is_record(replayed, record, &items), "{}", record.name);
+    for table in &decoded() {
+        for record in *table {
+            assert!(rt; is_decoded(rt.alloc(), record)?, "{}", record.name);
+        }
     }
     Ok(())
 }
@@ -146,13 +154,15 @@ fn is_refused_twice(alloc: Global, record: &RefusedRecord) -> bool {
 
 #[test]
 fn broken_records_are_refused(rt: HostRuntime) {
-    for record in &REFUSED {
-        assert!(rt; is_refused_twice(rt.alloc(), record), "{}", record.name);
+    for table in &refused() {
+        for record in *table {
+            assert!(rt; is_refused_twice(rt.alloc(), record), "{}", record.name);
+        }
     }
 }
 
 /// A put of `v` at `k` in group 1, and two entries of three and two bytes in group 7.
-const FOOTERS: [(&[u8], [(usize, bool, bool); 3]); 2] = [
+static FOOTERS: [(&[u8], [(usize, bool, bool); 3]); 2] = [
     (
         b"\x01\x01\x03\x01\x01\x6b\x01\x76\xb1\x29\x48\xe8",
         [(0, false, true), (9, true, true), (9, false, false)],
@@ -163,27 +173,32 @@ const FOOTERS: [(&[u8], [(usize, bool, bool); 3]); 2] = [
     ),
 ];
 
+fn is_footer(alloc: Global, footer: &[u8], block: (usize, bool, bool)) -> bool {
+    let (len, lz4, wanted) = block;
+    let before = FileBlockHandle {
+        id: UNSIGNED.id,
+        offset: 16,
+        len,
+    };
+    match LogItemBatch::decode(alloc, footer, before, lz4, &UNSIGNED) {
+        Ok(batch) => wanted && batch.items().len() == 1,
+        Err(fault) => !wanted && fault.code() == 2,
+    }
+}
+
 /// Each footer with lengths of the block before it, whether that is marked as compressed, and whether
 /// the footer is decoded.
 #[test]
 fn footers_are_decoded(rt: HostRuntime) {
     for (footer, blocks) in &FOOTERS {
-        for (len, lz4, wanted) in blocks {
-            let block = FileBlockHandle {
-                id: UNSIGNED.id,
-                offset: 16,
-                len: *len,
-            };
-            match LogItemBatch::decode(rt.alloc(), footer, block, *lz4, &UNSIGNED) {
-                Ok(batch) => assert!(rt; *wanted && batch.items().len() == 1, "after {len}"),
-                Err(fault) => assert!(rt; !*wanted && fault.code() == 2, "after {len}"),
-            }
+        for block in blocks {
+            assert!(rt; is_footer(rt.alloc(), footer, *block), "after {}", block.0);
         }
     }
 }
 
 /// Entries blocks, whether each is marked as compressed, and its entries or the fault's code.
-const BLOCKS: [(&[u8], bool, Result<&[u8], u8>); 6] = [
+static BLOCKS: [(&[u8], bool, Result<&[u8], u8>); 6] = [
     (b"", false, Ok(b"")),
     (b"", true, Ok(b"")),
     (b"abcde\x65\xd8\x87\x85", false, Ok(b"abcde")),
@@ -192,19 +207,23 @@ const BLOCKS: [(&[u8], bool, Result<&[u8], u8>); 6] = [
     (b"abc", false, Err(2)),
 ];
 
+fn is_block(block: &[u8], lz4: bool, wanted: &Result<&[u8], u8>) -> bool {
+    match (decode_entries_block(block, lz4), wanted) {
+        (Ok(entries), Ok(bytes)) => entries == *bytes,
+        (Err(fault), Err(code)) => fault.code() == *code,
+        _ => false,
+    }
+}
+
 #[test]
 fn blocks_are_decoded(rt: HostRuntime) {
-    for (block, lz4, wanted) in &BLOCKS {
-        match (decode_entries_block(block, *lz4), wanted) {
-            (Ok(entries), Ok(bytes)) => assert!(rt; entries == *bytes),
-            (Err(fault), Err(code)) => assert!(rt; fault.code() == *code),
-            _ => assert!(rt; false),
-        }
+    for (place, (block, lz4, wanted)) in BLOCKS.iter().enumerate() {
+        assert!(rt; is_block(block, *lz4, wanted), "{place}");
     }
 }
 
 /// Bytes, and the header that they begin with.
-const HEADERS: [(&[u8], Option<RecordHeader>); 2] = [
+static HEADERS: [(&[u8], Option<RecordHeader>); 2] = [
     (
         b"\x00\x00\x00\x00\x00\x00\x16\x01\x00\x00\x00\x00\x00\x00\x00\x11\x01\x00\x8d\xef\x02\xd2",
         Some(RecordHeader {
@@ -219,9 +238,13 @@ const HEADERS: [(&[u8], Option<RecordHeader>); 2] = [
     ),
 ];
 
+fn is_header(bytes: &[u8], header: &Option<RecordHeader>) -> bool {
+    decode_header(bytes) == header.ok_or(Fault::Corruption)
+}
+
 #[test]
 fn headers_are_decoded(rt: HostRuntime) {
-    for (bytes, header) in &HEADERS {
-        assert_eq!(rt; decode_header(bytes), header.ok_or(Fault::Corruption));
+    for (place, (bytes, header)) in HEADERS.iter().enumerate() {
+        assert!(rt; is_header(bytes, header), "{place}");
     }
 }

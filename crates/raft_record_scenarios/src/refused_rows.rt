@@ -14,7 +14,13 @@ pub(crate) struct RefusedRecord {
     pub replayed: Option<u8>,
 }
 
-pub(crate) const REFUSED: [RefusedRecord; 66] = [
+/// The rows in several tables, each named here alone: a function is checked with all of each table
+/// that it names, and that grows with the square of the table.
+pub(crate) fn refused() -> [&'static [RefusedRecord]; 5] {
+    [&BROKEN, &LENGTHS, &BLOCKS, &ITEMS, &OTHERS]
+}
+
+static BROKEN: [RefusedRecord; 12] = [
     RefusedRecord {
         name: "a put that is not signed",
         file: FILE_1,
@@ -99,6 +105,9 @@ pub(crate) const REFUSED: [RefusedRecord; 66] = [
         code: 2,
         replayed: Some(2),
     },
+];
+
+static LENGTHS: [RefusedRecord; 13] = [
     RefusedRecord {
         name: "half a header",
         file: UNSIGNED,
@@ -190,6 +199,9 @@ pub(crate) const REFUSED: [RefusedRecord; 66] = [
         code: 2,
         replayed: Some(2),
     },
+];
+
+static BLOCKS: [RefusedRecord; 10] = [
     RefusedRecord {
         name: "a wrong byte in the block's checksum",
         file: UNSIGNED,
@@ -260,6 +272,9 @@ pub(crate) const REFUSED: [RefusedRecord; 66] = [
         code: 2,
         replayed: Some(2),
     },
+];
+
+static ITEMS: [RefusedRecord; 14] = [
     RefusedRecord {
         name: "tag 0",
         file: UNSIGNED,
@@ -358,6 +373,9 @@ pub(crate) const REFUSED: [RefusedRecord; 66] = [
         code: 2,
         replayed: Some(2),
     },
+];
+
+static OTHERS: [RefusedRecord; 17] = [
     RefusedRecord {
         name: "a number of 2^64",
         file: UNSIGNED,

@@ -4,6 +4,7 @@ use raft_recovery::change::{Change, GroupChange, LogEntry};
 use raft_recovery::recovered::recovered_entries;
 use raft_recovery::recovered_value::recovered_value;
 use std::alloc::{AllocError, Global};
+use std::process::Abort;
 use std::test::Fail;
 
 type Batch = &'static [GroupChange<'static>];
@@ -85,7 +86,10 @@ const END_7: Batch = &[mark!(7, 2), entries_item!(4)];
 
 const BEGIN_8: Batch = &[mark!(8, 0), entries_item!(3)];
 
-const MARKS: [Row; 8] = [
+// Each list of rows is several tables, since a function is checked with all of each table that it names, and that grows
+// with the square of the table.
+
+static NO_MARKS: [Row; 3] = [
     Row(
         "a delete without its mark",
         Queues(&[put![1]], &[DELETE], &[], None),
@@ -101,6 +105,9 @@ const MARKS: [Row; 8] = [
         Queues(&[entries![2]], &[CLEAN], &[], None),
         Queues(&[entries![2]], &[], &[2], None),
     ),
+];
+
+static WRONG_INDEXES: [Row; 3] = [
     Row(
         "a hole that doesn't count as a compaction",
         Queues(&[entries![3]], &[entries![2], entries![4]], &[4], None),
@@ -116,6 +123,9 @@ const MARKS: [Row; 8] = [
         Queues(&[entries![6]], &[compact![3]], &[6], None),
         Queues(&[entries![6], compact![7]], &[compact![3]], &[], None),
     ),
+];
+
+static WRONG_MARKS: [Row; 2] = [
     Row(
         "a delete mark of a key that is there",
         Queues(&[put![1]], &[DELETE, put![1]], &[], Some(1)),
@@ -128,7 +138,11 @@ const MARKS: [Row; 8] = [
     ),
 ];
 
-const REWRITING: [Row; 7] = [
+fn marks() -> [&'static [Row]; 3] {
+    [&NO_MARKS, &WRONG_INDEXES, &WRONG_MARKS]
+}
+
+static WRONG_ENTRIES: [Row; 3] = [
     Row(
         "rewriting that starts late",
         Queues(&[entries![3, 4]], &[entries![5, 6]], &[3, 4, 5, 6], None),
@@ -149,6 +163,9 @@ const REWRITING: [Row; 7] = [
         Queues(&[entries![3, 4]], &[], &[3, 4], None),
         Queues(&[entries![3, 4], entries![3]], &[], &[3], None),
     ),
+];
+
+static WRONG_GROUPS: [Row; 2] = [
     Row(
         "an atomic group without an end",
         Queues(&[entries![3, 4]], &[], &[3, 4], None),
@@ -159,6 +176,9 @@ const REWRITING: [Row; 7] = [
         Queues(&[BEGIN_7, END_7], &[], &[3, 4], None),
         Queues(&[BEGIN_7, END_7, BEGIN_7], &[], &[3], None),
     ),
+];
+
+static INSIDE_GROUPS: [Row; 2] = [
     Row(
         "a key set inside an atomic group",
         Queues(&[BEGIN_1, put![1], END_1_DELETE], &[], &[], None),
@@ -181,7 +201,11 @@ const REWRITING: [Row; 7] = [
     ),
 ];
 
-const DROPS: [Row; 7] = [
+fn rewriting() -> [&'static [Row]; 3] {
+    [&WRONG_ENTRIES, &WRONG_GROUPS, &INSIDE_GROUPS]
+}
+
+static FRONTS: [Row; 3] = [
     Row(
         "a dropped front with a key",
         Queues(&[], &[put![1]], &[], Some(1)),
@@ -197,6 +221,9 @@ const DROPS: [Row; 7] = [
         Queues(&[entries![2]], &[compact![3]], &[], None),
         Queues(&[entries![2]], &[], &[2], None),
     ),
+];
+
+static OLDER_FRONTS: [Row; 4] = [
     Row(
         "a dropped front, and entries after those found",
         Queues(&[entries![4, 5]], &[entries![4]], &[4], None),
@@ -219,7 +246,11 @@ const DROPS: [Row; 7] = [
     ),
 ];
 
-const SYNCS: [Row; 8] = [
+fn drops() -> [&'static [Row]; 2] {
+    [&FRONTS, &OLDER_FRONTS]
+}
+
+static BEFORE_MARKS: [Row; 2] = [
     Row(
         "a compaction mark before Append's sync",
         Queues(
@@ -235,6 +266,9 @@ const SYNCS: [Row; 8] = [
         Queues(&[put![1], CLEAN], &[entries![3], CLEAN], &[], None),
         Queues(&[put![1], CLEAN], &[entries![3]], &[3], None),
     ),
+];
+
+static BEFORE_REWRITING: [Row; 2] = [
     Row(
         "a part of a batch rewritten before Append's sync",
         Queues(&[entries![5]], &[PUT_AND_ENTRY], &[5], Some(1)),
@@ -250,6 +284,9 @@ const SYNCS: [Row; 8] = [
         ),
         Queues(&[entries![3, 4], entries![3]], &[], &[3], None),
     ),
+];
+
+static BEFORE_DROPS: [Row; 4] = [
     Row(
         "a front dropped before Append's sync",
         Queues(&[], &[entries![3]], &[3], None),
@@ -272,6 +309,10 @@ const SYNCS: [Row; 8] = [
     ),
 ];
 
+fn syncs() -> [&'static [Row]; 3] {
+    [&BEFORE_MARKS, &BEFORE_REWRITING, &BEFORE_DROPS]
+}
+
 // Whether the program recovers what stands with the queues.
 fn recovers(alloc: Global, queues: &Queues) -> Result<bool, AllocError> {
     let entries = recovered_entries(alloc, queues.0, queues.1, GROUP)?;
@@ -288,36 +329,35 @@ fn is_byte(value: Option<&[u8]>, wanted: Option<u8>) -> bool {
     }
 }
 
-// The first row of which the program recovers something else.
-fn first_wrong(alloc: Global, rows: &[Row]) -> Result<Option<&'static str>, AllocError> {
-    for row in rows {
-        if !recovers(alloc, &row.1)? || !recovers(alloc, &row.2)? {
-            return Ok(Some(row.0));
+fn is_recovered(alloc: Global, row: &Row) -> Result<bool, AllocError> {
+    Ok(recovers(alloc, &row.1)? && recovers(alloc, &row.2)?)
+}
+
+fn each_is_recovered<R: Abort + AllocGlobal>(rt: &R, tables: &[&[Row]]) -> Result<(), Fail> {
+    for rows in tables {
+        for row in *rows {
+            assert!(rt; is_recovered(rt.alloc(), row)?, "{}", row.0);
         }
     }
-    Ok(None)
+    Ok(())
 }
 
 #[test]
 fn marks_that_are_missing_or_wrong(rt: HostRuntime) -> Result<(), Fail> {
-    assert_eq!(rt; first_wrong(rt.alloc(), &MARKS)?, None);
-    Ok(())
+    each_is_recovered(&rt, &marks())
 }
 
 #[test]
 fn rewriting_that_does_not_fit(rt: HostRuntime) -> Result<(), Fail> {
-    assert_eq!(rt; first_wrong(rt.alloc(), &REWRITING)?, None);
-    Ok(())
+    each_is_recovered(&rt, &rewriting())
 }
 
 #[test]
 fn drops_that_may_not_be(rt: HostRuntime) -> Result<(), Fail> {
-    assert_eq!(rt; first_wrong(rt.alloc(), &DROPS)?, None);
-    Ok(())
+    each_is_recovered(&rt, &drops())
 }
 
 #[test]
 fn syncs_that_are_left_out(rt: HostRuntime) -> Result<(), Fail> {
-    assert_eq!(rt; first_wrong(rt.alloc(), &SYNCS)?, None);
-    Ok(())
+    each_is_recovered(&rt, &syncs())
 }

@@ -1,14 +1,11 @@
 //! What an opening makes of a folder of several log files.
 
-use crate::stored::{
-    HEADER_1, HEADER_2, HEADER_MOVED, Stored, are_stored, found, settings_in, store_all,
-};
-use raft_env::FileSystem;
-use raft_log_engine::{Engine, RecoveryMode};
-use raft_memory::MemoryFileSystem;
-use raft_plans::{EMPTY, State, state_of};
+use crate::held::{Faulty, Held};
+use crate::rows::{Rows, Wrong, each_holds};
+use crate::stored::{HEADER_1, HEADER_2, HEADER_MOVED, Stored};
+use raft_log_engine::RecoveryMode;
+use raft_plans::{EMPTY, State};
 use std::alloc::Global;
-use std::process::Abort;
 use std::test::Fail;
 
 /// A header of version 2 with alignment 16.
@@ -78,113 +75,137 @@ pub(crate) const WITHOUT_2: State = State { b: 0, ..ALL };
 
 const WITHOUT_3: State = State { c: 0, ..ALL };
 
-/// What an opening holds and the files that it changes, or the code with which it fails.
-type Opened = Result<(State, &'static [Stored]), u8>;
+pub(crate) const ABSOLUTE: RecoveryMode = RecoveryMode::AbsoluteConsistency;
 
-struct Case {
-    name: &'static str,
-    files: &'static [Stored],
-    absolute: Opened,
-    tail: Opened,
-    any: Opened,
+pub(crate) const TAIL: RecoveryMode = RecoveryMode::TolerateTailCorruption;
+
+pub(crate) const ANY: RecoveryMode = RecoveryMode::TolerateAnyCorruption;
+
+/// In a mode an opening holds a state, or it fails with a code, and it changes these files.
+pub(crate) struct Opening(
+    pub(crate) RecoveryMode,
+    pub(crate) Result<State, u8>,
+    pub(crate) &'static [Stored],
+);
+
+/// Files, and what openings of them come to.
+pub(crate) struct Folder {
+    pub(crate) name: &'static str,
+    pub(crate) files: &'static [Stored],
+    pub(crate) openings: &'static [Opening],
 }
 
-const BROKEN: [Case; 9] = [
-    Case {
+static BROKEN: [Folder; 11] = [
+    Folder {
         name: "whole files",
         files: &[LOG_1, LOG_2, LOG_3],
-        absolute: Ok((ALL, &[])),
-        tail: Ok((ALL, &[])),
-        any: Ok((ALL, &[])),
+        openings: &[
+            Opening(ABSOLUTE, Ok(ALL), &[]),
+            Opening(TAIL, Ok(ALL), &[]),
+            Opening(ANY, Ok(ALL), &[]),
+        ],
     },
-    Case {
+    Folder {
         name: "a broken record of file 2",
         files: &[
             LOG_1,
             ("raft/0000000000000002.raftlog", &[HEADER_2, BROKEN_2]),
             LOG_3,
         ],
-        absolute: Err(2),
-        tail: Err(2),
-        any: Ok((WITHOUT_2, &[CUT_2])),
+        openings: &[
+            Opening(ABSOLUTE, Err(2), &[]),
+            Opening(TAIL, Err(2), &[]),
+            Opening(ANY, Ok(WITHOUT_2), &[CUT_2]),
+        ],
     },
-    Case {
+    Folder {
         name: "broken entries of file 2",
         files: &[
             LOG_1,
             ("raft/0000000000000002.raftlog", &[HEADER_2, ENTRIES_2]),
             LOG_3,
         ],
-        absolute: Err(2),
-        tail: Err(2),
-        any: Ok((WITHOUT_2, &[CUT_2])),
+        openings: &[
+            Opening(ABSOLUTE, Err(2), &[]),
+            Opening(TAIL, Err(2), &[]),
+            Opening(ANY, Ok(WITHOUT_2), &[CUT_2]),
+        ],
     },
-    Case {
+    Folder {
         name: "a broken record of file 3",
         files: &[
             LOG_1,
             LOG_2,
             ("raft/0000000000000003.raftlog", &[HEADER_2, BROKEN_3]),
         ],
-        absolute: Err(2),
-        tail: Ok((WITHOUT_3, &[CUT_3])),
-        any: Ok((WITHOUT_3, &[CUT_3])),
+        openings: &[
+            Opening(ABSOLUTE, Err(2), &[]),
+            Opening(TAIL, Ok(WITHOUT_3), &[CUT_3]),
+            Opening(ANY, Ok(WITHOUT_3), &[CUT_3]),
+        ],
     },
-    Case {
+    Folder {
         name: "a broken header of file 2",
         files: &[
             LOG_1,
             ("raft/0000000000000002.raftlog", &[HEADER_MOVED, PUT_2]),
             LOG_3,
         ],
-        absolute: Err(2),
-        tail: Err(2),
-        any: Ok((WITHOUT_2, &[BEGUN_2])),
+        openings: &[
+            Opening(ABSOLUTE, Err(2), &[]),
+            Opening(TAIL, Err(2), &[]),
+            Opening(ANY, Ok(WITHOUT_2), &[BEGUN_2]),
+        ],
     },
-    Case {
+    Folder {
         name: "a broken header of file 3",
         files: &[
             LOG_1,
             LOG_2,
             ("raft/0000000000000003.raftlog", &[HEADER_MOVED, PUT_3]),
         ],
-        absolute: Err(2),
-        tail: Ok((WITHOUT_3, &[BEGUN_3])),
-        any: Ok((WITHOUT_3, &[BEGUN_3])),
+        openings: &[
+            Opening(ABSOLUTE, Err(2), &[]),
+            Opening(TAIL, Ok(WITHOUT_3), &[BEGUN_3]),
+            Opening(ANY, Ok(WITHOUT_3), &[BEGUN_3]),
+        ],
     },
-    Case {
+    Folder {
         name: "file 3 without a byte",
         files: &[LOG_1, LOG_2, ("raft/0000000000000003.raftlog", &[])],
-        absolute: Err(2),
-        tail: Ok((WITHOUT_3, &[BEGUN_3])),
-        any: Ok((WITHOUT_3, &[BEGUN_3])),
+        openings: &[
+            Opening(ABSOLUTE, Err(2), &[]),
+            Opening(TAIL, Ok(WITHOUT_3), &[BEGUN_3]),
+            Opening(ANY, Ok(WITHOUT_3), &[BEGUN_3]),
+        ],
     },
-    Case {
+    Folder {
         name: "the bytes of file 2 in file 3",
         files: &[
             LOG_1,
             LOG_2,
             ("raft/0000000000000003.raftlog", &[HEADER_2, PUT_2]),
         ],
-        absolute: Err(2),
-        tail: Ok((WITHOUT_3, &[CUT_3])),
-        any: Ok((WITHOUT_3, &[CUT_3])),
+        openings: &[
+            Opening(ABSOLUTE, Err(2), &[]),
+            Opening(TAIL, Ok(WITHOUT_3), &[CUT_3]),
+            Opening(ANY, Ok(WITHOUT_3), &[CUT_3]),
+        ],
     },
-    Case {
+    Folder {
         name: "a compressed block in file 3",
         files: &[
             LOG_1,
             LOG_2,
             ("raft/0000000000000003.raftlog", &[HEADER_2, LZ4_3]),
         ],
-        absolute: Err(13),
-        tail: Err(13),
-        any: Err(13),
+        openings: &[
+            Opening(ABSOLUTE, Err(13), &[]),
+            Opening(TAIL, Err(13), &[]),
+            Opening(ANY, Err(13), &[]),
+        ],
     },
-];
-
-const ALIGNED: [Case; 2] = [
-    Case {
+    Folder {
         name: "zeros up to an aligned place in file 3",
         files: &[
             LOG_1,
@@ -194,11 +215,13 @@ const ALIGNED: [Case; 2] = [
                 &[HEADER_ALIGNED, &[0; 11], PUT_3],
             ),
         ],
-        absolute: Ok((ALL, &[])),
-        tail: Ok((ALL, &[])),
-        any: Ok((ALL, &[])),
+        openings: &[
+            Opening(ABSOLUTE, Ok(ALL), &[]),
+            Opening(TAIL, Ok(ALL), &[]),
+            Opening(ANY, Ok(ALL), &[]),
+        ],
     },
-    Case {
+    Folder {
         name: "an eight before an aligned place in file 3",
         files: &[
             LOG_1,
@@ -208,15 +231,19 @@ const ALIGNED: [Case; 2] = [
                 &[HEADER_ALIGNED, &[0; 10], &[8], PUT_3],
             ),
         ],
-        absolute: Err(2),
-        tail: Ok((
-            WITHOUT_3,
-            &[("raft/0000000000000003.raftlog", &[HEADER_ALIGNED])],
-        )),
-        any: Ok((
-            WITHOUT_3,
-            &[("raft/0000000000000003.raftlog", &[HEADER_ALIGNED])],
-        )),
+        openings: &[
+            Opening(ABSOLUTE, Err(2), &[]),
+            Opening(
+                TAIL,
+                Ok(WITHOUT_3),
+                &[("raft/0000000000000003.raftlog", &[HEADER_ALIGNED])],
+            ),
+            Opening(
+                ANY,
+                Ok(WITHOUT_3),
+                &[("raft/0000000000000003.raftlog", &[HEADER_ALIGNED])],
+            ),
+        ],
     },
 ];
 
@@ -226,29 +253,33 @@ const FOURTH_AND_FIFTH: State = State {
     ..EMPTY
 };
 
-const HOLES: [Case; 2] = [
-    Case {
+static HOLES: [Folder; 2] = [
+    Folder {
         name: "file 3 is missing",
         files: &[LOG_1, LOG_2, LOG_4, LOG_5],
-        absolute: Ok((FOURTH_AND_FIFTH, &[])),
-        tail: Ok((FOURTH_AND_FIFTH, &[])),
-        any: Ok((FOURTH_AND_FIFTH, &[])),
+        openings: &[
+            Opening(ABSOLUTE, Ok(FOURTH_AND_FIFTH), &[]),
+            Opening(TAIL, Ok(FOURTH_AND_FIFTH), &[]),
+            Opening(ANY, Ok(FOURTH_AND_FIFTH), &[]),
+        ],
     },
-    Case {
+    Folder {
         name: "broken files before a missing one",
         files: &[
             ("raft/0000000000000001.raftlog", &[HEADER_2, BROKEN_2]),
             ("raft/0000000000000002.raftlog", &[HEADER_MOVED]),
             LOG_4,
         ],
-        absolute: Ok((State { d: 4, ..EMPTY }, &[])),
-        tail: Ok((State { d: 4, ..EMPTY }, &[])),
-        any: Ok((State { d: 4, ..EMPTY }, &[])),
+        openings: &[
+            Opening(ABSOLUTE, Ok(State { d: 4, ..EMPTY }), &[]),
+            Opening(TAIL, Ok(State { d: 4, ..EMPTY }), &[]),
+            Opening(ANY, Ok(State { d: 4, ..EMPTY }), &[]),
+        ],
     },
 ];
 
 /// Names that no log file of the Append queue has.
-const NAMES: [Case; 1] = [Case {
+static NAMES: [Folder; 1] = [Folder {
     name: "other names",
     files: &[
         LOG_1,
@@ -262,71 +293,87 @@ const NAMES: [Case; 1] = [Case {
         ("raft/more/0000000000000004.raftlog", &[HEADER_2, PUT_4]),
         ("0000000000000004.raftlog", &[HEADER_2, PUT_4]),
     ],
-    absolute: Ok((ALL, &[])),
-    tail: Ok((ALL, &[])),
-    any: Ok((ALL, &[])),
+    openings: &[
+        Opening(ABSOLUTE, Ok(ALL), &[]),
+        Opening(TAIL, Ok(ALL), &[]),
+        Opening(ANY, Ok(ALL), &[]),
+    ],
 }];
 
-// Whether an opening comes to what is wanted, and the next one to the same.
-fn holds<F: FileSystem + Drop>(
+// Whether an opening comes to what is wanted; a key k is there where the state has something else.
+fn comes_to<F: Faulty>(
     alloc: Global,
-    mut files: F,
-    stored: &[Stored],
+    held: &mut Held<F>,
     mode: RecoveryMode,
-    wanted: &Opened,
-) -> Result<bool, Fail> {
-    store_all(alloc, &mut files, stored)?;
-    let count = files.list("raft")?.len();
-    match (
-        Engine::open_in_order(alloc, settings_in(alloc, mode)?, files),
-        wanted,
-    ) {
-        (Ok(mut engine), Ok((state, changed))) => {
-            let is_found = state_of(&engine.image()?) == *state;
-            let mut files = engine.give_up();
-            let is_left = are_stored(alloc, &mut files, stored, changed)?
-                && files.list("raft")?.len() == count;
-            let tail = RecoveryMode::TolerateTailCorruption;
-            Ok(is_found && is_left && found(alloc, files, tail)? == *state)
-        }
-        (Err(refused), Err(code)) => {
-            let mut files = refused.file_system;
-            Ok(refused.fault.code() == *code && are_stored(alloc, &mut files, stored, &[])?)
-        }
-        _ => Ok(false),
+    wanted: &Result<State, u8>,
+) -> bool {
+    let is_tried = held.open(alloc, mode);
+    match wanted {
+        Ok(state) => is_tried && held.has(*state) && held.has_key(b"k", state.other),
+        Err(code) => is_tried && held.code() == Some(*code),
     }
 }
 
-fn are_opened(rt: &impl Abort, alloc: Global, cases: &[Case]) -> Result<(), Fail> {
-    for case in cases {
-        for (mode, wanted) in [
-            (RecoveryMode::AbsoluteConsistency, &case.absolute),
-            (RecoveryMode::TolerateTailCorruption, &case.tail),
-            (RecoveryMode::TolerateAnyCorruption, &case.any),
-        ] {
-            let files = MemoryFileSystem::new(alloc);
-            assert!(rt;
-                holds(alloc, files, case.files, mode, wanted)?,
-                "{} {mode:?}",
-                case.name
-            );
+// After an opening the engine is closed where that is asked, or gives the files up.
+fn put_back<F: Faulty>(held: &mut Held<F>, closes: bool) {
+    if closes && held.code().is_none() {
+        held.close();
+    }
+    held.give_up();
+}
+
+// Whether an opening comes to what is wanted, and, where it holds a state, the next one to the same.
+fn holds<F: Faulty>(
+    alloc: Global,
+    held: &mut Held<F>,
+    files: &[Stored],
+    opening: &Opening,
+    closes: bool,
+) -> bool {
+    let Opening(mode, wanted, changed) = opening;
+    held.renew(alloc);
+    let Some(count) = held.store(alloc, files) else {
+        return false;
+    };
+    let is_opened = comes_to(alloc, held, *mode, wanted);
+    put_back(held, closes);
+    is_opened
+        && held.stores(alloc, files, changed, count)
+        && (wanted.is_err() || comes_to(alloc, held, TAIL, wanted))
+}
+
+/// The first folder, and the opening of it, that comes to something else.
+pub(crate) fn wrong_opening<F: Faulty>(
+    alloc: Global,
+    held: &mut Held<F>,
+    folders: &'static [Folder],
+    closes: bool,
+) -> Wrong {
+    for Folder {
+        name,
+        files,
+        openings,
+    } in folders {
+        for (place, opening) in openings.iter().enumerate() {
+            if !holds(alloc, held, files, opening, closes) {
+                return Some((*name, place));
+            }
         }
     }
-    Ok(())
+    None
 }
 
 #[test]
 fn each_mode_cuts_its_files(rt: HostRuntime) -> Result<(), Fail> {
-    are_opened(&rt, rt.alloc(), &BROKEN)?;
-    are_opened(&rt, rt.alloc(), &ALIGNED)
+    each_holds(&rt, Rows::Openings(&BROKEN, false))
 }
 
 #[test]
 fn scan_keeps_contiguous_tail(rt: HostRuntime) -> Result<(), Fail> {
-    are_opened(&rt, rt.alloc(), &HOLES)
+    each_holds(&rt, Rows::Openings(&HOLES, false))
 }
 
 #[test]
 fn long_and_reserved_names(rt: HostRuntime) -> Result<(), Fail> {
-    are_opened(&rt, rt.alloc(), &NAMES)
+    each_holds(&rt, Rows::Openings(&NAMES, false))
 }

@@ -8,6 +8,8 @@ mod entries;
 #[cfg(test)]
 mod folders;
 #[cfg(test)]
+mod held;
+#[cfg(test)]
 mod opening;
 #[cfg(test)]
 mod program;
@@ -18,6 +20,10 @@ mod reads;
 #[cfg(test)]
 mod restarts;
 #[cfg(test)]
+mod rows;
+#[cfg(test)]
 mod scans;
 #[cfg(test)]
 mod stored;
+#[cfg(test)]
+mod stories;

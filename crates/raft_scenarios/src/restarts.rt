@@ -1,71 +1,20 @@
 //! Openings of several log files that stop, or in which one call fails, and the next one.
 
-use crate::folders::{ALL, BROKEN_2, LOG_1, LOG_2, LOG_3, PUT_1, PUT_2, PUT_3, WITHOUT_2};
-use crate::stored::{HEADER_2, HEADER_MOVED, Stored, are_stored, found, settings_in, store_all};
-use raft_env::{FileSystem, IoKind};
-use raft_log_engine::{Engine, RecoveryMode};
-use raft_memory::{FsCall, MemoryFileSystem};
-use raft_plans::{Left, MAX_FILES, State, choices_of};
+use crate::folders::{
+    ABSOLUTE, ALL, ANY, BROKEN_2, LOG_1, LOG_2, LOG_3, PUT_1, PUT_2, PUT_3, TAIL, WITHOUT_2,
+};
+use crate::held::{Failing, Faulty, Held};
+use crate::rows::{Rows, Wrong, each_holds};
+use crate::stored::{HEADER_2, HEADER_MOVED, Stored};
+use raft_env::IoKind;
+use raft_log_engine::RecoveryMode;
+use raft_memory::FsCall;
+use raft_plans::Left;
 use raft_records::Fault;
 use std::alloc::Global;
-use std::process::Abort;
 use std::test::Fail;
 
 const THREE: &[Stored] = &[LOG_1, LOG_2, LOG_3];
-
-const MAX_CALLS: u64 = 20;
-
-// With the nth read of an opening failing: whether there were so many.
-fn refuse_read<F: FileSystem + Drop>(
-    rt: &impl Abort,
-    alloc: Global,
-    files: F,
-    mode: RecoveryMode,
-) -> Result<bool, Fail> {
-    match Engine::open_in_order(alloc, settings_in(alloc, mode)?, files) {
-        Ok(_engine) => Ok(false),
-        Err(refused) => {
-            assert!(rt; is_io(&refused.fault), "{:?}", refused.fault);
-            let mut files = refused.file_system;
-            assert!(rt; are_stored(alloc, &mut files, THREE, &[])?);
-            assert_eq!(rt; found(alloc, files, mode)?, ALL);
-            Ok(true)
-        }
-    }
-}
-
-fn is_io(fault: &Fault) -> bool {
-    match fault {
-        Fault::Io(kind, _) => *kind == IoKind::Other,
-        _ => false,
-    }
-}
-
-#[test]
-fn refused_read_cuts_nothing(rt: HostRuntime) -> Result<(), Fail> {
-    let alloc = rt.alloc();
-    for mode in [
-        RecoveryMode::AbsoluteConsistency,
-        RecoveryMode::TolerateTailCorruption,
-        RecoveryMode::TolerateAnyCorruption,
-    ] {
-        let mut met = 0;
-        for nth in 1..MAX_CALLS {
-            let mut files = MemoryFileSystem::new(alloc);
-            store_all(alloc, &mut files, THREE)?;
-            files.refuse(FsCall::Read, nth, IoKind::Other)?;
-            if refuse_read(&rt, alloc, files, mode)? {
-                met = nth;
-            }
-        }
-        // Each of the three files is read.
-        assert!(rt;
-            3 <= met && met.saturating_add(1) < MAX_CALLS,
-            "{met} {mode:?}"
-        );
-    }
-    Ok(())
-}
 
 /// Three files, each of which an opening changes in the mode that takes all.
 const BROKEN: &[Stored] = &[
@@ -80,91 +29,178 @@ const BROKEN: &[Stored] = &[
     ),
 ];
 
-/// The calls of an opening, but for those that no opening of files makes.
-const CALLS: [FsCall; 10] = [
-    FsCall::Open,
-    FsCall::NewReader,
-    FsCall::NewWriter,
-    FsCall::Write,
-    FsCall::Truncate,
-    FsCall::Allocate,
-    FsCall::Sync,
-    FsCall::FileSize,
-    FsCall::List,
-    FsCall::Read,
+const MAX_CALLS: u64 = 20;
+
+/// A name; each nth call of a sort fails, or for none each call that changes files is the last, in openings in this
+/// mode; and how many there are at the least.
+pub(crate) struct Calls(&'static str, Option<FsCall>, RecoveryMode, u64);
+
+/// Each of the three files is read.
+static READS: [Calls; 3] = [
+    Calls("read", Some(FsCall::Read), ABSOLUTE, 3),
+    Calls("read", Some(FsCall::Read), TAIL, 3),
+    Calls("read", Some(FsCall::Read), ANY, 3),
 ];
 
-const LEFT: [Left; 4] = [
-    Left::All,
-    Left::Synced,
-    Left::Torn(7, 255),
-    Left::Torn(60, 0),
+/// The calls of an opening, but for those that no opening of files makes. Each file is cut and synced, and one gets a
+/// header.
+static CALLS: [Calls; 11] = [
+    Calls("changes", None, ANY, 7),
+    Calls("open", Some(FsCall::Open), ANY, 0),
+    Calls("new reader", Some(FsCall::NewReader), ANY, 0),
+    Calls("new writer", Some(FsCall::NewWriter), ANY, 0),
+    Calls("write", Some(FsCall::Write), ANY, 0),
+    Calls("truncate", Some(FsCall::Truncate), ANY, 0),
+    Calls("allocate", Some(FsCall::Allocate), ANY, 0),
+    Calls("sync", Some(FsCall::Sync), ANY, 0),
+    Calls("file size", Some(FsCall::FileSize), ANY, 0),
+    Calls("list", Some(FsCall::List), ANY, 0),
+    Calls("read", Some(FsCall::Read), ANY, 0),
 ];
 
-// The files as the crash before the opening left them.
-fn broken_files(alloc: Global) -> Result<MemoryFileSystem, Fail> {
-    let mut files = MemoryFileSystem::new(alloc);
-    store_all(alloc, &mut files, BROKEN)?;
-    Ok(files.crash(&choices_of(alloc, &Left::All, MAX_FILES)?)?)
-}
+/// What a crash leaves after the opening of broken files; or none, of whole ones.
+static WHOLE: [Option<Left>; 1] = [None];
 
-// The files after an opening that may fail.
-fn tried<F: FileSystem + Drop>(alloc: Global, files: F) -> Result<F, Fail> {
-    let config = settings_in(alloc, RecoveryMode::TolerateAnyCorruption)?;
-    match Engine::open_in_order(alloc, config, files) {
-        Ok(engine) => Ok(engine.give_up()),
-        Err(refused) => Ok(refused.file_system),
+static LEFT: [Option<Left>; 4] = [
+    Some(Left::All),
+    Some(Left::Synced),
+    Some(Left::Torn(7, 255)),
+    Some(Left::Torn(60, 0)),
+];
+
+fn is_refusal(fault: &Fault) -> bool {
+    match fault {
+        Fault::Io(kind, _) => *kind == IoKind::Other,
+        _ => false,
     }
 }
 
-// What the next opening finds after a crash.
-fn found_after(alloc: Global, files: &MemoryFileSystem, left: &Left) -> Result<State, Fail> {
-    let files = files.crash(&choices_of(alloc, left, MAX_FILES)?)?;
-    found(alloc, files, RecoveryMode::TolerateAnyCorruption)
+// Whether the files that an opening refused are as they were, and the next opening finds all.
+fn is_untouched<F: Faulty>(
+    alloc: Global,
+    held: &mut Held<F>,
+    mode: RecoveryMode,
+    count: usize,
+) -> bool {
+    held.stores(alloc, THREE, &[], count) && held.open(alloc, mode) && held.has(ALL)
 }
 
-// Each call of an opening that changes files is the last, in turn: how many there are.
-fn stop_each(rt: &impl Abort, alloc: Global, left: &Left) -> Result<u64, Fail> {
-    let mut met = 0;
+// An opening of whole files that a call fails changes nothing: whether it failed, or nothing where that is wrong.
+fn cuts_nothing<F: Faulty>(
+    alloc: Global,
+    held: &mut Held<F>,
+    mode: RecoveryMode,
+    failing: Failing,
+) -> Option<bool> {
+    let count = held.store(alloc, THREE)?;
+    if !held.fail(failing) || !held.open(alloc, mode) {
+        return None;
+    }
+    let is_right = match held.fault() {
+        Some(fault) => is_refusal(fault),
+        None => return Some(false),
+    };
+    if is_right && is_untouched(alloc, held, mode, count) {
+        Some(true)
+    } else {
+        None
+    }
+}
+
+// Whether a call was refused since the files were made.
+fn is_met<F: Faulty>(held: &mut Held<F>) -> bool {
+    match held.files() {
+        Some(files) => files.refusals() > 0,
+        None => false,
+    }
+}
+
+// Whether broken files are made, and a crash leaves them as they are.
+fn breaks<F: Faulty>(alloc: Global, held: &mut Held<F>) -> bool {
+    held.store(alloc, BROKEN).is_some() && held.crash(alloc, &Left::All)
+}
+
+// After a crash of broken files, an opening with failing calls and another crash the rest is found: whether a call
+// failed, or nothing where that is wrong.
+fn finds_rest<F: Faulty>(
+    alloc: Global,
+    held: &mut Held<F>,
+    mode: RecoveryMode,
+    failing: Failing,
+    left: &Left,
+) -> Option<bool> {
+    if !breaks(alloc, held) || !held.fail(failing) || !held.open(alloc, mode) {
+        return None;
+    }
+    held.give_up();
+    let is_refused = is_met(held);
+    if held.crash(alloc, left) && held.open(alloc, mode) && held.has(WITHOUT_2) {
+        Some(is_refused)
+    } else {
+        None
+    }
+}
+
+// Whether the nth call failed, or nothing where something is wrong.
+fn failed<F: Faulty>(
+    alloc: Global,
+    held: &mut Held<F>,
+    calls: &Calls,
+    nth: u64,
+    left: &Option<Left>,
+) -> Option<bool> {
+    let Calls(_, call, mode, _) = calls;
+    let failing = match call {
+        Some(call) => Failing::Nth(*call, nth, IoKind::Other),
+        None => Failing::From(nth),
+    };
+    held.renew(alloc);
+    match left {
+        Some(left) => finds_rest(alloc, held, *mode, failing, left),
+        None => cuts_nothing(alloc, held, *mode, failing),
+    }
+}
+
+// The last call that failed, or nothing where something is wrong.
+fn last_failed<F: Faulty>(
+    alloc: Global,
+    held: &mut Held<F>,
+    calls: &Calls,
+    left: &Option<Left>,
+) -> Option<u64> {
+    let mut last = 0;
     for nth in 1..MAX_CALLS {
-        let mut files = broken_files(alloc)?;
-        files.stop_at(nth);
-        let files = tried(alloc, files)?;
-        if files.refusals() > 0 {
-            met = nth;
+        if failed(alloc, held, calls, nth, left)? {
+            last = nth;
         }
-        assert_eq!(rt; found_after(alloc, &files, left)?, WITHOUT_2, "at {nth}");
     }
-    Ok(met)
+    Some(last)
 }
 
-// Each call of a sort fails in turn: how many there are.
-fn refuse_each(rt: &impl Abort, alloc: Global, call: FsCall, left: &Left) -> Result<u64, Fail> {
-    let mut met = 0;
-    for nth in 1..MAX_CALLS {
-        let mut files = broken_files(alloc)?;
-        files.refuse(call, nth, IoKind::Other)?;
-        let files = tried(alloc, files)?;
-        if files.refusals() > 0 {
-            met = nth;
+/// The first calls, and the place of what a crash leaves, at which something is wrong, or that are fewer or more.
+pub(crate) fn wrong_call<F: Faulty>(
+    alloc: Global,
+    held: &mut Held<F>,
+    calls: &'static [Calls],
+    lefts: &'static [Option<Left>],
+) -> Wrong {
+    for (place, left) in lefts.iter().enumerate() {
+        for calls in calls {
+            match last_failed(alloc, held, calls, left) {
+                Some(last) if calls.3 <= last && last.saturating_add(1) < MAX_CALLS => {}
+                _ => return Some((calls.0, place)),
+            }
         }
-        assert_eq!(rt;
-            found_after(alloc, &files, left)?,
-            WITHOUT_2,
-            "{call:?} at {nth}"
-        );
     }
-    Ok(met)
+    None
+}
+
+#[test]
+fn refused_read_cuts_nothing(rt: HostRuntime) -> Result<(), Fail> {
+    each_holds(&rt, Rows::Failures(&READS, &WHOLE))
 }
 
 #[test]
 fn an_opening_may_stop_anywhere(rt: HostRuntime) -> Result<(), Fail> {
-    for left in &LEFT {
-        // Each file is cut and synced, and one gets a header.
-        assert!(rt; stop_each(&rt, rt.alloc(), left)? >= 7);
-        for call in CALLS {
-            assert!(rt; refuse_each(&rt, rt.alloc(), call, left)?.saturating_add(1) < MAX_CALLS);
-        }
-    }
-    Ok(())
+    each_holds(&rt, Rows::Failures(&CALLS, &LEFT))
 }

@@ -1,17 +1,15 @@
 //! What an engine's scans hand over.
 
+use crate::rows::{Rows, each_holds};
+use crate::stories::{Step, Story};
 use raft_env::FileSystem;
 use raft_log_engine::Engine;
-use raft_memory::MemoryFileSystem;
-use raft_plans::settings;
-use raft_records::{Fault, LogBatch};
 use raft_script::TextEntry;
 use std::alloc::{AllocError, Global};
-use std::process::Abort;
 use std::test::Fail;
 
 /// The bounds, whether the order is turned round, at which call the answer is false, and the keys that are handed over.
-struct Scan(
+pub(crate) struct Scan(
     Option<&'static [u8]>,
     Option<&'static [u8]>,
     bool,
@@ -19,37 +17,39 @@ struct Scan(
     &'static [&'static [u8]],
 );
 
-/// Of a group with the empty key and k1, k2 and k3, each with the value v.
-const SCANS: [Scan; 9] = [
-    Scan(None, None, false, 9, &[b"", b"k1", b"k2", b"k3"]),
-    Scan(None, None, true, 9, &[b"k3", b"k2", b"k1", b""]),
-    Scan(Some(b"k1"), Some(b"k3"), false, 9, &[b"k1", b"k2"]),
-    Scan(Some(b"k1"), Some(b"k3"), true, 9, &[b"k2", b"k1"]),
-    Scan(Some(b"k2"), None, false, 9, &[b"k2", b"k3"]),
-    Scan(None, Some(b"k2"), true, 9, &[b"k1", b""]),
-    Scan(Some(b"k3"), Some(b"k1"), false, 9, &[]),
-    Scan(None, None, false, 2, &[b"", b"k1"]),
-    Scan(None, None, true, 1, &[b"k3"]),
+/// Group 1 gets the empty key and k1, k2 and k3, and group 2 a message at m and bytes that are none at n. Their record
+/// is 16 + 1 + 3 * 8 + 6 + 9 + 7 + 4 bytes long.
+const FILL: &[Step] = &[
+    Step::Open,
+    Step::Put(1, b"k2", b"v"),
+    Step::Put(1, b"", b"v"),
+    Step::Put(1, b"k3", b"v"),
+    Step::Put(1, b"k1", b"v"),
+    Step::PutMessage(2, b"m"),
+    Step::Put(2, b"n", b"x"),
+    Step::Write(false, Ok(67)),
 ];
 
-fn open<F: FileSystem + Drop>(alloc: Global, files: F) -> Result<Engine<F>, Fault> {
-    match Engine::open_in_order(alloc, settings(alloc)?, files) {
-        Ok(engine) => Ok(engine),
-        Err(refused) => Err(refused.fault),
-    }
-}
-
-// Group 1 gets the keys of the scans, and group 2 a message at m and bytes that are none at n.
-fn fill<F: FileSystem>(alloc: Global, engine: &mut Engine<F>) -> Result<usize, Fault> {
-    let mut batch = LogBatch::new(alloc);
-    for key in &[b"k2".as_slice(), b"", b"k3", b"k1"] {
-        batch.put(1, key.to_vec(alloc)?, b"v".to_vec(alloc)?)?;
-    }
-    let word = b"w".to_vec(alloc)?;
-    batch.put_message(2, b"m".to_vec(alloc)?, &TextEntry { index: 7, word })?;
-    batch.put(2, b"n".to_vec(alloc)?, b"x".to_vec(alloc)?)?;
-    engine.write(&mut batch, false)
-}
+static STORIES: [Story; 1] = [Story {
+    name: "scans of groups 1 and 2",
+    parts: &[
+        FILL,
+        &[
+            Step::Scan(Scan(None, None, false, 9, &[b"", b"k1", b"k2", b"k3"])),
+            Step::Scan(Scan(None, None, true, 9, &[b"k3", b"k2", b"k1", b""])),
+            Step::Scan(Scan(Some(b"k1"), Some(b"k3"), false, 9, &[b"k1", b"k2"])),
+            Step::Scan(Scan(Some(b"k1"), Some(b"k3"), true, 9, &[b"k2", b"k1"])),
+            Step::Scan(Scan(Some(b"k2"), None, false, 9, &[b"k2", b"k3"])),
+            Step::Scan(Scan(None, Some(b"k2"), true, 9, &[b"k1", b""])),
+            Step::Scan(Scan(Some(b"k3"), Some(b"k1"), false, 9, &[])),
+            Step::Scan(Scan(None, None, false, 2, &[b"", b"k1"])),
+            Step::Scan(Scan(None, None, true, 1, &[b"k3"])),
+            Step::Messages(2, &[b"m"]),
+            Step::Messages(9, &[]),
+            Step::NoMessage(2, b"n"),
+        ],
+    ],
+}];
 
 /// The keys that a callback was handed, as far as there was memory, and whether each value was the right one.
 #[derive(Drop)]
@@ -92,7 +92,12 @@ fn keep(alloc: Global, key: &[u8], keys: &mut Vec<Vec<u8>>) -> Result<(), AllocE
     Ok(())
 }
 
-fn is_handed_over<F: FileSystem>(alloc: Global, engine: &Engine<F>, scan: &Scan) -> bool {
+/// Whether a scan of group 1 hands over these keys, each with the value v.
+pub(crate) fn is_handed_over<F: FileSystem>(
+    alloc: Global,
+    engine: &Engine<F>,
+    scan: &Scan,
+) -> bool {
     let Scan(start, end, reverse, last, keys) = scan;
     let mut handed = Handed::new(alloc, *last);
     let answer = engine.scan_raw_messages(
@@ -105,8 +110,8 @@ fn is_handed_over<F: FileSystem>(alloc: Global, engine: &Engine<F>, scan: &Scan)
     answer.is_ok() && handed.has(keys)
 }
 
-// Whether the messages of a group are the entry 7:w at each of these keys.
-fn has_messages<F: FileSystem>(
+/// Whether the messages of a group are the entry 7:w at each of these keys.
+pub(crate) fn has_messages<F: FileSystem>(
     alloc: Global,
     engine: &Engine<F>,
     group: u64,
@@ -129,14 +134,5 @@ fn is_right(entry: &TextEntry) -> bool {
 
 #[test]
 fn scans_hand_over_what_is_between_bounds(rt: HostRuntime) -> Result<(), Fail> {
-    let alloc = rt.alloc();
-    let mut engine = open(alloc, MemoryFileSystem::new(alloc))?;
-    fill(alloc, &mut engine)?;
-    for (row, scan) in SCANS.iter().enumerate() {
-        assert!(rt; is_handed_over(alloc, &engine, scan), "row {row}");
-    }
-    assert!(rt; has_messages(alloc, &engine, 2, &[b"m"]));
-    assert!(rt; has_messages(alloc, &engine, 9, &[]));
-    assert!(rt; matches!(engine.get_message::<TextEntry>(2, b"n"), Err(Fault::Parse)));
-    Ok(())
+    each_holds(&rt, Rows::Stories(&STORIES))
 }

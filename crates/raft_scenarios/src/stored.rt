@@ -1,10 +1,9 @@
 //! Files of a log's folder as their bytes, part by part.
 
 use raft_env::{FileSystem, FsFault, Permission};
-use raft_log_engine::{Config, Engine, RecoveryMode};
-use raft_plans::{State, settings, state_of};
+use raft_log_engine::{Config, RecoveryMode};
+use raft_plans::settings;
 use std::alloc::{AllocError, Global};
-use std::test::Fail;
 
 pub(crate) const HEADER_1: &[u8] =
     b"RAFT-LOG-FILE-HEADER-9986AB3E47F320B394C8E84916EB0ED5\0\0\0\0\0\0\0\x01";
@@ -19,7 +18,7 @@ pub(crate) const HEADER_MOVED: &[u8] =
 /// A file's path, and its bytes part by part.
 pub(crate) type Stored = (&'static str, &'static [&'static [u8]]);
 
-pub(crate) fn joined(alloc: Global, parts: &[&[u8]]) -> Result<Vec<u8>, AllocError> {
+fn joined(alloc: Global, parts: &[&[u8]]) -> Result<Vec<u8>, AllocError> {
     let mut bytes = Vec::new(alloc);
     for part in parts {
         bytes.extend_from_slice(part)?;
@@ -27,80 +26,94 @@ pub(crate) fn joined(alloc: Global, parts: &[&[u8]]) -> Result<Vec<u8>, AllocErr
     Ok(bytes)
 }
 
-pub(crate) fn store<F: FileSystem>(files: &mut F, path: &str, bytes: &[u8]) -> Result<(), FsFault> {
-    let handle = files.create(path)?;
-    let mut writer = files.new_writer(&handle)?;
-    files.write(&mut writer, 0, bytes)
-}
-
-pub(crate) fn is_stored<F: FileSystem>(
+fn store<F: FileSystem>(
     alloc: Global,
     files: &mut F,
     path: &str,
-    wanted: &[u8],
+    parts: &[&[u8]],
+) -> Result<(), FsFault> {
+    let bytes = joined(alloc, parts)?;
+    let handle = files.create(path)?;
+    let mut writer = files.new_writer(&handle)?;
+    files.write(&mut writer, 0, &bytes)
+}
+
+fn read_all<F: FileSystem>(
+    files: &mut F,
+    handle: &F::Handle,
+    bytes: &mut [u8],
+) -> Result<usize, FsFault> {
+    let mut reader = files.new_reader(handle)?;
+    let read = files.read(&mut reader, 0, bytes);
+    files.end_reader(reader);
+    read
+}
+
+fn is_joined(bytes: &[u8], parts: &[&[u8]]) -> bool {
+    let mut rest = bytes;
+    for part in parts {
+        match rest.strip_prefix(*part) {
+            Some(after) => rest = after,
+            None => return false,
+        }
+    }
+    rest.is_empty()
+}
+
+fn is_stored<F: FileSystem>(
+    alloc: Global,
+    files: &mut F,
+    path: &str,
+    parts: &[&[u8]],
 ) -> Result<bool, FsFault> {
     let handle = files.open(path, Permission::ReadOnly)?;
     let size = files.file_size(&handle)?;
-    let mut reader = files.new_reader(&handle)?;
-    let mut bytes = vec![in alloc; 0; wanted.len()]?;
-    let read = files.read(&mut reader, 0, &mut bytes);
-    files.end_reader(reader);
-    Ok(read? == size && bytes.as_slice() == wanted)
+    let mut bytes = vec![in alloc; 0; size]?;
+    Ok(read_all(files, &handle, &mut bytes)? == size && is_joined(&bytes, parts))
 }
 
 // The bytes of a file are those of the row that changes it, or those that it had.
-fn wanted_of(alloc: Global, file: &Stored, changed: &[Stored]) -> Result<Vec<u8>, Fail> {
+fn parts_of(file: &Stored, changed: &[Stored]) -> &'static [&'static [u8]] {
     let (path, mut parts) = *file;
     for (other, after) in changed {
         if *other == path {
             parts = *after;
         }
     }
-    Ok(joined(alloc, parts)?)
+    parts
 }
 
-/// Whether the files have these bytes, but for those that are changed.
+/// Whether the files have these bytes, but for those that are changed, and are so many in the log's folder.
 pub(crate) fn are_stored<F: FileSystem>(
     alloc: Global,
     files: &mut F,
     stored: &[Stored],
     changed: &[Stored],
-) -> Result<bool, Fail> {
-    let mut equal = true;
+    count: usize,
+) -> Result<bool, FsFault> {
     for file in stored {
-        let wanted = wanted_of(alloc, file, changed)?;
-        equal = is_stored(alloc, files, file.0, &wanted)? && equal;
+        if !is_stored(alloc, files, file.0, parts_of(file, changed))? {
+            return Ok(false);
+        }
     }
-    Ok(equal)
+    Ok(files.list("raft")?.len() == count)
 }
 
-/// Makes the folder, one in it, and these files.
+/// Makes the folder, one in it, and these files. Answers how many the log's folder has.
 pub(crate) fn store_all<F: FileSystem>(
     alloc: Global,
     files: &mut F,
     stored: &[Stored],
-) -> Result<(), Fail> {
+) -> Result<usize, FsFault> {
     files.make_dir("raft/more")?;
     for (path, parts) in stored {
-        store(files, path, &joined(alloc, parts)?)?;
+        store(alloc, files, path, parts)?;
     }
-    Ok(())
+    Ok(files.list("raft")?.len())
 }
 
 pub(crate) fn settings_in(alloc: Global, mode: RecoveryMode) -> Result<Config, AllocError> {
     let mut config = settings(alloc)?;
     config.recovery_mode = mode;
     Ok(config)
-}
-
-/// What an opening holds.
-pub(crate) fn found<F: FileSystem + Drop>(
-    alloc: Global,
-    files: F,
-    mode: RecoveryMode,
-) -> Result<State, Fail> {
-    match Engine::open_in_order(alloc, settings_in(alloc, mode)?, files) {
-        Ok(mut engine) => Ok(state_of(&engine.image()?)),
-        Err(refused) => Err(refused.fault.into()),
-    }
 }

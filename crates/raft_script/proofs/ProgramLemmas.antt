@@ -2,18 +2,18 @@
 use Rattle.std.proofs.Common.{◌≡◌, ◌∙◌, true, List, [], ◌∷◌, Option, Some, None, Result, Ok, Err, inl, inr, ap, subst, sym}
 use Rattle.std.specs.Prelude.{◌↔◌, IfOk, IsErrAnd, MatchResult, codes}
 use Rattle.std.specs.declared.alloc.AllocError.{AllocError}
-use Rattle.std.proofs.Math.Logic.{∥∥₁_elim}
-use Rattle.std.proofs.Props.{props}
 use Rattle.std.proofs.lemmas.Bool.{cases_Bool}
 use Rattle.raft_base.specs.declared.errors.Fault.TheVariants as fault
 use Rattle.raft_env.specs.Directory.{CrashImage, Directory, Leaves, Path}
 use Rattle.raft_env.specs.declared.env.FileSystem.{Ghosts}
-use Rattle.raft_log_engine.specs.Batches.{found_batches}
-use Rattle.raft_log_engine.specs.Engine.{begun_of, directory_of, folder_of, has_failed}
+use Rattle.raft_tables.specs.Known.{known_in}
+use Rattle.raft_log_engine.specs.Contents.{contents_at, found_contents, found_groups, known_at, known_from, recovered_contents}
+use Rattle.raft_log_engine.specs.Engine.{begun_of, directory_of, folder_of, found_groups_of, found_of, has_failed}
 use Rattle.raft_log_engine.specs.Opening.{BeginsAsClosed, IsNewIn}
 use Rattle.raft_log_engine.specs.declared.engine.Engine.{Engine}
 use Rattle.raft_log_engine.specs.declared.engine.Refused.{Refused}
 use Rattle.raft_pipes.specs.Folder.{readable_after_crash, readable_in}
+use Rattle.raft_records.specs.Contents.{after_batches}
 use Rattle.raft_records.specs.Item.{Batch}
 use Rattle.raft_script.specs.Line.{Asked}
 use Rattle.raft_script.specs.Program.{AnswersFrom, AnswersLine, HoldsAfterCrash, IsMetBy, IsNewWith, IsReopened, OpensTo}
@@ -37,32 +37,48 @@ module _ {F H R W : Type 0} {g : Ghosts F H R W} where
   opens_to P (Ok e) a new is holds = subst (λ (x : Answer). OpensTo x new P) (sym is.0) (subst (λ (o : Option (Engine F H R W g)). OpensTo answer.Done o P) (sym is.1) holds)
   opens_to P (Err r) a new is holds = subst (λ (x : Answer). OpensTo x new P) (sym is) tt
 
-  -- an opening finds the batches of the folder's log
-  pub opened_with : (folder : Path) (n : Directory) (opening : Result (Engine F H R W g) (Refused F)) → IfOk opening (IsNewIn folder) → IfOk opening (λ e. begun_of e ≡ n ∷ []) → IfOk opening (IsNewWith folder (readable_in folder n))
-  opened_with folder n (Ok e) new begun = (new, new.batches ∙ ap (found_batches folder) begun)
+  -- what a new engine finds, it holds
+  new_with : (folder : Path) (n : Directory) (e : Engine F H R W g) → IsNewIn folder e → begun_of e ≡ n ∷ [] → IsNewWith folder (contents_at folder n) (known_at folder n) e
+  new_with folder n e new begun = record {
+    new = new;
+    contents = ap (after_batches (found_of e)) new.none ∙ ap (λ (f : Path). found_contents f (begun_of e)) new.folder_is ∙ ap (found_contents folder) begun;
+    groups = λ group. ap (λ (l : List Batch). known_from (found_groups_of e) l group) new.none ∙ ap (λ (f : Path). found_groups f (begun_of e) group) new.folder_is ∙ ap (λ (l : List Directory). found_groups folder l group) begun;
+  }
+
+  -- an opening finds what the folder's log stands for
+  pub opened_with : (folder : Path) (n : Directory) (opening : Result (Engine F H R W g) (Refused F)) → IfOk opening (IsNewIn folder) → IfOk opening (λ e. begun_of e ≡ n ∷ []) → IfOk opening (IsNewWith folder (contents_at folder n) (known_at folder n))
+  opened_with folder n (Ok e) new begun = new_with folder n e new begun
   opened_with folder n (Err r) new begun = tt
 
   -- .. in this folder, of whose log these are read
-  pub opened_in : (dir folder : Path) (n : Directory) (batches : List Batch) (opening : Result (Engine F H R W g) (Refused F)) → dir ≡ folder → readable_in dir n ≡ batches → IfOk opening (IsNewWith dir (readable_in dir n)) → IfOk opening (IsNewWith folder batches)
-  opened_in dir folder n batches (Ok e) dir_is are opened = (subst (λ (p : Path). IsNewIn p e) dir_is opened.0, opened.1 ∙ are)
+  pub opened_in : (dir folder : Path) (n : Directory) (batches : List Batch) (opening : Result (Engine F H R W g) (Refused F)) → dir ≡ folder → readable_in dir n ≡ batches → IfOk opening (IsNewWith dir (contents_at dir n) (known_at dir n)) → IfOk opening (IsNewWith folder (recovered_contents batches) (known_in batches))
+  opened_in dir folder n batches (Ok e) dir_is are opened = record {
+    new = subst (λ (p : Path). IsNewIn p e) dir_is opened.new;
+    contents = opened.contents ∙ ap recovered_contents are;
+    groups = λ group. opened.groups group ∙ ap (λ (l : List Batch). known_in l group) are;
+  }
   opened_in dir folder n batches (Err r) dir_is are opened = tt
 
   -- an opening of what a crash left
-  pub opens_after_crash : (old e : Engine F H R W g) (dir : Path) (n m : Directory) (image : CrashImage) → dir ≡ codes "raft" → n ≡ directory_of old → Leaves n image → readable_in dir m ≡ readable_after_crash dir n image → IsNewWith dir (readable_in dir m) e → HoldsAfterCrash old e
-  opens_after_crash old e dir n m image dir_is n_is leaves found opened = (
-    image,
-    subst (λ (x : Directory). Leaves x image) n_is leaves,
-    (
-      subst (λ (p : Path). IsNewIn p e) dir_is opened.0,
-      opened.1 ∙ found ∙ ap (λ (p : Path). readable_after_crash p n image) dir_is ∙ ap (λ (x : Directory). readable_after_crash (codes "raft") x image) n_is,
-    ),
-  )
+  pub opens_after_crash : (old e : Engine F H R W g) (dir : Path) (n m : Directory) (image : CrashImage) → dir ≡ codes "raft" → n ≡ directory_of old → Leaves n image → readable_in dir m ≡ readable_after_crash dir n image → IsNewWith dir (contents_at dir m) (known_at dir m) e → HoldsAfterCrash old e
+  opens_after_crash old e dir n m image dir_is n_is leaves found opened =
+      let same : readable_in dir m ≡ readable_after_crash (codes "raft") (directory_of old) image = found ∙ ap (λ (p : Path). readable_after_crash p n image) dir_is ∙ ap (λ (x : Directory). readable_after_crash (codes "raft") x image) n_is in (
+        image,
+        subst (λ (x : Directory). Leaves x image) n_is leaves,
+        record {
+          new = subst (λ (p : Path). IsNewIn p e) dir_is opened.new;
+          contents = opened.contents ∙ ap recovered_contents same;
+          groups = λ group. opened.groups group ∙ ap (λ (l : List Batch). known_in l group) same;
+        },
+      )
 
   -- an opening of what was closed
   pub reopened : (old : Engine F H R W g) (opening : Result (Engine F H R W g) (Refused F)) → IfOk opening (IsNewIn (folder_of old)) → IfOk opening (BeginsAsClosed old) → (IsErrAnd opening (λ r. r.fault ≡ fault.Failed) ↔ (has_failed old ≡ true)) → IfOk opening (IsReopened old)
   reopened old (Ok e) new begins failed = elim (cases_Bool (has_failed old)) [
     | inl gone ↦ absurd (failed.1 gone)
-    | inr stood ↦ (stood, (new, new.batches ∙ ap (found_batches (folder_of old)) begins.begun ∙ ∥∥₁_elim begins.holds.readable (hlevel props) (λ is. is)))
+    | inr stood ↦
+        let opened = new_with (folder_of old) begins.closed e new begins.begun in
+        (stood, record { new = new; contents = opened.contents ∙ begins.holds.contents; groups = λ group. opened.groups group ∙ begins.holds.known group })
   ]
   reopened old (Err r) new begins failed = tt
 

@@ -9,10 +9,10 @@ use Rattle.raft_env.specs.Directory.{Directory, Path}
 use Rattle.raft_env.specs.Moments.{HoldsThroughout}
 use Rattle.raft_env.specs.declared.env.FileSystem.{Ghosts}
 use Rattle.raft_log_engine.specs.Answered.{Answered, Snapshot}
-use Rattle.raft_log_engine.specs.Contents.{recovered_contents}
 use Rattle.raft_log_engine.specs.Crash.{LeavesAllowed, LeavesAllowedFrom, pending_of, written_batch}
 use Rattle.raft_log_engine.specs.Durability.{Durability, HasOnlyRead, Progresses, StaysFailed, accepted_by, durability_of}
-use Rattle.raft_log_engine.specs.Engine.{answer_now, answered_of, contents_of, directory_of, durable_of, folder_of, has_failed, moments_of, snapshot_of, unsynced_of}
+use Rattle.raft_log_engine.specs.Contents.{found_contents, found_groups}
+use Rattle.raft_log_engine.specs.Engine.{answer_now, answered_of, begun_of, contents_of, directory_of, durable_of, folder_of, found_groups_of, found_of, has_failed, moments_of, snapshot_of, unsynced_of}
 use Rattle.raft_log_engine.specs.declared.engine.Engine.{Engine}
 use Rattle.raft_records.specs.Contents.{Contents, after_batches}
 use Rattle.raft_records.specs.Item.{Batch}
@@ -47,10 +47,18 @@ through_moments folder m p before noted (op ∷ ops) (o ∷ outcomes) now notes 
     let rest = through_moments folder m (progress_after m p op o) passed.0.snapshot (passed.0 ∷ noted) ops outcomes now notes passed.2 in
     (rest.0 ++ passed.1.added, rest.1 ∙ ap (λ (l : List Directory). rest.0 ++ l) passed.1.is ∙ sym (append_assoc rest.0 passed.1.added before.moments))
 
+-- what the opening found is the same
+module _ {F H R W : Type 0} {g : Ghosts F H R W} (new old : Engine F H R W g) (folder : folder_of new ≡ folder_of old) (begun : begun_of new ≡ begun_of old) where
+  pub found_same : found_of new ≡ found_of old
+  found_same = ap (λ (f : Path). found_contents f (begun_of new)) folder ∙ ap (found_contents (folder_of old)) begun
+
+  pub groups_same : found_groups_of new ≡ found_groups_of old
+  groups_same = ap (λ (f : Path). found_groups f (begun_of new)) folder ∙ ap (found_groups (folder_of old)) begun
+
 -- what holds of each engine between two calls
-pub record Keeps (folder : Path) (now : Durability) (n : Directory) : Type 0 where
-  pub leaves : LeavesAllowed folder (recovered_contents now.base) now.unsynced n
-  pub holds : now.failed ≡ false → recovered_contents (now.base ++ now.unsynced) ≡ after_batches (recovered_contents now.base) now.unsynced
+pub record Keeps (folder : Path) (found : Contents) (now : Durability) (n : Directory) : Type 0 where
+  pub leaves : LeavesAllowed folder (after_batches found now.base) now.unsynced n
+  pub holds : now.failed ≡ false → after_batches found (now.base ++ now.unsynced) ≡ after_batches (after_batches found now.base) now.unsynced
 
 -- the moments of one call: those inside it, and the newest of them once it is answered
 module _ (folder : Path) (m : Contents) (p : Progress) (op : Op) (outcome : Outcome) (before : Snapshot) (answer : Answered) (given : IsGiven before.failed (after_batches m p.batches) op answer.given) (P : Directory → Type 0) (n : Directory) where

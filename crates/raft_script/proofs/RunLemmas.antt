@@ -23,9 +23,8 @@ use Rattle.raft_pipes.specs.Queue.{IsRefusalIn}
 use Rattle.raft_log_engine.specs.Durability.{HasWritten}
 use Rattle.raft_log_engine.specs.Engine.{contents_of, has_failed, queue_of, refusals_of}
 use Rattle.raft_log_engine.specs.declared.engine.Engine.{Engine}
-use Rattle.raft_log_engine.specs.Contents.{recovered_contents}
+use Rattle.raft_log_engine.specs.Contents.{known_from}
 use Rattle.raft_log_engine.specs.Crash.{written_batch}
-use Rattle.raft_tables.specs.Known.{known_in}
 use Rattle.raft_script.specs.Run.{accepted_of, AreAnswers, AreSteady, FailsAt, FailsBy, IsFailing, IsFailurePlace, Refuses, StorageRefusalsRoseBy, batch_of_acts, batches_after, batches_after_all, io_count, io_in, is_io, IsAnswer, IsCompactRefusal, IsEngineRefusal, IsGetRefusal, IsOutOfNumbers, IsSteadyBy, IsStorageOrMemory, IsTextRefusal, IsUnbuilt, IsGiven, IsWritten, IsWriteRefusal, compaction_in, items_of_act, of_both}
 use Rattle.raft_log_engine.specs.Reads.{IsEntryAnswer, IsEntryRefusalAt, IsGroupList, compact_count, entry_of}
 use Rattle.raft_script.specs.Entry.{IsTextOf, index_of}
@@ -284,26 +283,26 @@ module _ (m n : Contents) (op : Op) (failed : Bool) (same : failed ≡ false →
       by_op _ _ f = refl
 
 -- what a run has come to: as many outcomes as operations, and what the engine holds
-pub record IsRunning (before : List Batch) (ops : List Op) (outcomes : List Outcome) (now : List Batch) (failed : Bool) : Type 0 where
+pub record IsRunning (m : Contents) (before : List Batch) (ops : List Op) (outcomes : List Outcome) (now : List Batch) (failed : Bool) : Type 0 where
   pub len : length outcomes ≡ length ops
-  pub batches : failed ≡ false → now ≡ batches_after_all before ops outcomes
+  pub batches : failed ≡ false → now ≡ batches_after_all m before ops outcomes
 
-pub running_begun : (before : List Batch) (failed : Bool) → IsRunning before [] [] before failed
-running_begun before failed = record { len = refl; batches = λ _. refl }
+pub running_begun : (m : Contents) (before : List Batch) (failed : Bool) → IsRunning m before [] [] before failed
+running_begun m before failed = record { len = refl; batches = λ _. refl }
 
-batches_after_all-more : (before : List Batch) (ops : List Op) (outcomes : List Outcome) (op : Op) (outcome : Outcome) → length outcomes ≡ length ops → batches_after_all before (ops ++ op ∷ []) (outcomes ++ outcome ∷ []) ≡ batches_after (batches_after_all before ops outcomes) op outcome
-batches_after_all-more before [] [] op outcome same = refl
-batches_after_all-more before [] (o ∷ outcomes) op outcome same = absurd (omega (arith, same))
-batches_after_all-more before (p ∷ ops) [] op outcome same = absurd (omega (arith, same))
-batches_after_all-more before (p ∷ ops) (o ∷ outcomes) op outcome same = batches_after_all-more (batches_after before p o) ops outcomes op outcome (omega (arith, same))
+batches_after_all-more : (m : Contents) (before : List Batch) (ops : List Op) (outcomes : List Outcome) (op : Op) (outcome : Outcome) → length outcomes ≡ length ops → batches_after_all m before (ops ++ op ∷ []) (outcomes ++ outcome ∷ []) ≡ batches_after m (batches_after_all m before ops outcomes) op outcome
+batches_after_all-more m before [] [] op outcome same = refl
+batches_after_all-more m before [] (o ∷ outcomes) op outcome same = absurd (omega (arith, same))
+batches_after_all-more m before (p ∷ ops) [] op outcome same = absurd (omega (arith, same))
+batches_after_all-more m before (p ∷ ops) (o ∷ outcomes) op outcome same = batches_after_all-more m (batches_after m before p o) ops outcomes op outcome (omega (arith, same))
 
 -- one operation more
-module _ (before : List Batch) (ops : List Op) (outcomes : List Outcome) (now : List Batch) (failed : Bool) (running : IsRunning before ops outcomes now failed)
+module _ (m : Contents) (before : List Batch) (ops : List Op) (outcomes : List Outcome) (now : List Batch) (failed : Bool) (running : IsRunning m before ops outcomes now failed)
     (op : Op) (outcome : Outcome) (next : List Batch) (fails : Bool) where
-  pub running_more : (fails ≡ false → next ≡ batches_after now op outcome) → (failed ≡ true → fails ≡ true) → IsRunning before (ops ++ op ∷ []) (outcomes ++ outcome ∷ []) next fails
+  pub running_more : (fails ≡ false → next ≡ batches_after m now op outcome) → (failed ≡ true → fails ≡ true) → IsRunning m before (ops ++ op ∷ []) (outcomes ++ outcome ∷ []) next fails
   running_more batches still = record {
     len = length-append outcomes (outcome ∷ []) ∙ ap (λ (n : ℕ). n + 1) running.len ∙ sym (length-append ops (op ∷ []));
-    batches = λ stands. batches stands ∙ ap (λ (l : List Batch). batches_after l op outcome) (running.batches (stood failed still stands)) ∙ sym (batches_after_all-more before ops outcomes op outcome running.len);
+    batches = λ stands. batches stands ∙ ap (λ (l : List Batch). batches_after m l op outcome) (running.batches (stood failed still stands)) ∙ sym (batches_after_all-more m before ops outcomes op outcome running.len);
   }
     where
       stood : (b : Bool) → (b ≡ true → fails ≡ true) → fails ≡ false → b ≡ false
@@ -394,58 +393,58 @@ module _ (ops : List Op) (outcomes : List Outcome) (op : Op) (outcome : Outcome)
 -- Answers, with one more.
 
 -- an operation is answered so by an engine that holds these batches
-abbrev IsAnswerAt : Bool → List Batch → Op → Outcome → Type 0
-IsAnswerAt failed batches op outcome = IsAnswer failed (recovered_contents batches) (known_in batches) op outcome
+abbrev IsAnswerAt : Bool → Contents → (ℕ → Bool) → List Batch → Op → Outcome → Type 0
+IsAnswerAt failed m known batches op outcome = IsAnswer failed (after_batches m batches) (known_from known batches) op outcome
 
 -- of an engine that has failed or not as before
-answers_steady : (failed : Bool) (batches : List Batch) (ops : List Op) (outcomes : List Outcome) (op : Op) (outcome : Outcome) → AreAnswers failed None batches ops outcomes → IsAnswerAt failed (batches_after_all batches ops outcomes) op outcome → AreAnswers failed None batches (ops ++ op ∷ []) (outcomes ++ outcome ∷ [])
-answers_steady failed batches [] [] op outcome answers more = (more, tt)
-answers_steady failed batches [] (o ∷ outcomes) op outcome answers more = absurd answers
-answers_steady failed batches (p ∷ ops) [] op outcome answers more = absurd answers
-answers_steady failed batches (p ∷ ops) (o ∷ outcomes) op outcome answers more = (answers.0, answers_steady failed (batches_after batches p o) ops outcomes op outcome answers.1 more)
+answers_steady : (failed : Bool) (m : Contents) (known : ℕ → Bool) (batches : List Batch) (ops : List Op) (outcomes : List Outcome) (op : Op) (outcome : Outcome) → AreAnswers failed None m known batches ops outcomes → IsAnswerAt failed m known (batches_after_all m batches ops outcomes) op outcome → AreAnswers failed None m known batches (ops ++ op ∷ []) (outcomes ++ outcome ∷ [])
+answers_steady failed m known batches [] [] op outcome answers more = (more, tt)
+answers_steady failed m known batches [] (o ∷ outcomes) op outcome answers more = absurd answers
+answers_steady failed m known batches (p ∷ ops) [] op outcome answers more = absurd answers
+answers_steady failed m known batches (p ∷ ops) (o ∷ outcomes) op outcome answers more = (answers.0, answers_steady failed m known (batches_after m batches p o) ops outcomes op outcome answers.1 more)
 
 -- of one that fails in the operation
-answers_falls : (failed : Bool) (batches : List Batch) (ops : List Op) (outcomes : List Outcome) (op : Op) (outcome : Outcome) → AreAnswers failed None batches ops outcomes → IsAnswerAt failed (batches_after_all batches ops outcomes) op outcome
-    → AreAnswers failed (Some (length ops)) batches (ops ++ op ∷ []) (outcomes ++ outcome ∷ [])
-answers_falls failed batches [] [] op outcome answers more = (more, tt)
-answers_falls failed batches [] (o ∷ outcomes) op outcome answers more = absurd answers
-answers_falls failed batches (p ∷ ops) [] op outcome answers more = absurd answers
-answers_falls failed batches (p ∷ ops) (o ∷ outcomes) op outcome answers more = (answers.0, answers_falls failed (batches_after batches p o) ops outcomes op outcome answers.1 more)
+answers_falls : (failed : Bool) (m : Contents) (known : ℕ → Bool) (batches : List Batch) (ops : List Op) (outcomes : List Outcome) (op : Op) (outcome : Outcome) → AreAnswers failed None m known batches ops outcomes → IsAnswerAt failed m known (batches_after_all m batches ops outcomes) op outcome
+    → AreAnswers failed (Some (length ops)) m known batches (ops ++ op ∷ []) (outcomes ++ outcome ∷ [])
+answers_falls failed m known batches [] [] op outcome answers more = (more, tt)
+answers_falls failed m known batches [] (o ∷ outcomes) op outcome answers more = absurd answers
+answers_falls failed m known batches (p ∷ ops) [] op outcome answers more = absurd answers
+answers_falls failed m known batches (p ∷ ops) (o ∷ outcomes) op outcome answers more = (answers.0, answers_falls failed m known (batches_after m batches p o) ops outcomes op outcome answers.1 more)
 
 -- of one that failed in an earlier one
-answers_fallen : (place : ℕ) (failed : Bool) (batches : List Batch) (ops : List Op) (outcomes : List Outcome) (op : Op) (outcome : Outcome) → FailsAt place ops outcomes → AreAnswers failed (Some place) batches ops outcomes → IsAnswerAt true (batches_after_all batches ops outcomes) op outcome
-    → AreAnswers failed (Some place) batches (ops ++ op ∷ []) (outcomes ++ outcome ∷ [])
-answers_fallen zero failed batches [] outcomes op outcome at answers more = absurd at
-answers_fallen (suc place) failed batches [] outcomes op outcome at answers more = absurd at
-answers_fallen zero failed batches (p ∷ ops) [] op outcome at answers more = absurd at
-answers_fallen (suc place) failed batches (p ∷ ops) [] op outcome at answers more = absurd at
-answers_fallen zero failed batches (p ∷ ops) (o ∷ outcomes) op outcome at answers more = (answers.0, answers_steady true (batches_after batches p o) ops outcomes op outcome answers.1 more)
-answers_fallen (suc place) failed batches (p ∷ ops) (o ∷ outcomes) op outcome at answers more = (answers.0, answers_fallen place failed (batches_after batches p o) ops outcomes op outcome at.1 answers.1 more)
+answers_fallen : (place : ℕ) (failed : Bool) (m : Contents) (known : ℕ → Bool) (batches : List Batch) (ops : List Op) (outcomes : List Outcome) (op : Op) (outcome : Outcome) → FailsAt place ops outcomes → AreAnswers failed (Some place) m known batches ops outcomes → IsAnswerAt true m known (batches_after_all m batches ops outcomes) op outcome
+    → AreAnswers failed (Some place) m known batches (ops ++ op ∷ []) (outcomes ++ outcome ∷ [])
+answers_fallen zero failed m known batches [] outcomes op outcome at answers more = absurd at
+answers_fallen (suc place) failed m known batches [] outcomes op outcome at answers more = absurd at
+answers_fallen zero failed m known batches (p ∷ ops) [] op outcome at answers more = absurd at
+answers_fallen (suc place) failed m known batches (p ∷ ops) [] op outcome at answers more = absurd at
+answers_fallen zero failed m known batches (p ∷ ops) (o ∷ outcomes) op outcome at answers more = (answers.0, answers_steady true m known (batches_after m batches p o) ops outcomes op outcome answers.1 more)
+answers_fallen (suc place) failed m known batches (p ∷ ops) (o ∷ outcomes) op outcome at answers more = (answers.0, answers_fallen place failed m known (batches_after m batches p o) ops outcomes op outcome at.1 answers.1 more)
 
-module _ (batches : List Batch) (ops : List Op) (outcomes : List Outcome) (op : Op) (outcome : Outcome) where
+module _ (m : Contents) (known : ℕ → Bool) (batches : List Batch) (ops : List Op) (outcomes : List Outcome) (op : Op) (outcome : Outcome) where
   -- what the operation finds
   abbrev found : List Batch
-  found = batches_after_all batches ops outcomes
+  found = batches_after_all m batches ops outcomes
 
-  answers_kept : (had failed : Bool) (failed_at : Option ℕ) → failed ≡ (had || is_some failed_at) → IsFailurePlace had ops outcomes failed_at → AreAnswers had failed_at batches ops outcomes → IsAnswerAt failed found op outcome → AreAnswers had failed_at batches (ops ++ op ∷ []) (outcomes ++ outcome ∷ [])
-  answers_kept true failed None now at answers more = answers_steady true batches ops outcomes op outcome answers (subst (λ (b : Bool). IsAnswerAt b found op outcome) now more)
-  answers_kept false failed None now at answers more = answers_steady false batches ops outcomes op outcome answers (subst (λ (b : Bool). IsAnswerAt b found op outcome) now more)
-  answers_kept true failed (Some place) now at answers more = answers_fallen place true batches ops outcomes op outcome at.1 answers (subst (λ (b : Bool). IsAnswerAt b found op outcome) now more)
-  answers_kept false failed (Some place) now at answers more = answers_fallen place false batches ops outcomes op outcome at.1 answers (subst (λ (b : Bool). IsAnswerAt b found op outcome) now more)
+  answers_kept : (had failed : Bool) (failed_at : Option ℕ) → failed ≡ (had || is_some failed_at) → IsFailurePlace had ops outcomes failed_at → AreAnswers had failed_at m known batches ops outcomes → IsAnswerAt failed m known found op outcome → AreAnswers had failed_at m known batches (ops ++ op ∷ []) (outcomes ++ outcome ∷ [])
+  answers_kept true failed None now at answers more = answers_steady true m known batches ops outcomes op outcome answers (subst (λ (b : Bool). IsAnswerAt b m known found op outcome) now more)
+  answers_kept false failed None now at answers more = answers_steady false m known batches ops outcomes op outcome answers (subst (λ (b : Bool). IsAnswerAt b m known found op outcome) now more)
+  answers_kept true failed (Some place) now at answers more = answers_fallen place true m known batches ops outcomes op outcome at.1 answers (subst (λ (b : Bool). IsAnswerAt b m known found op outcome) now more)
+  answers_kept false failed (Some place) now at answers more = answers_fallen place false m known batches ops outcomes op outcome at.1 answers (subst (λ (b : Bool). IsAnswerAt b m known found op outcome) now more)
 
-  answers_here : (had : Bool) (failed_at : Option ℕ) → false ≡ (had || is_some failed_at) → AreAnswers had failed_at batches ops outcomes → IsAnswerAt false found op outcome → AreAnswers had (Some (length ops)) batches (ops ++ op ∷ []) (outcomes ++ outcome ∷ [])
+  answers_here : (had : Bool) (failed_at : Option ℕ) → false ≡ (had || is_some failed_at) → AreAnswers had failed_at m known batches ops outcomes → IsAnswerAt false m known found op outcome → AreAnswers had (Some (length ops)) m known batches (ops ++ op ∷ []) (outcomes ++ outcome ∷ [])
   answers_here true failed_at now answers more = absurd cc
-  answers_here false None now answers more = answers_falls false batches ops outcomes op outcome answers more
+  answers_here false None now answers more = answers_falls false m known batches ops outcomes op outcome answers more
   answers_here false (Some place) now answers more = absurd cc
 
-  pub answers_more : (had failed fails : Bool) (failed_at next_at : Option ℕ) → failed ≡ (had || is_some failed_at) → IsFailurePlace had ops outcomes failed_at → IsFailing failed op outcome fails → IsNextPlace failed fails (length ops) failed_at next_at → AreAnswers had failed_at batches ops outcomes → IsAnswerAt failed found op outcome
-      → AreAnswers had next_at batches (ops ++ op ∷ []) (outcomes ++ outcome ∷ [])
+  pub answers_more : (had failed fails : Bool) (failed_at next_at : Option ℕ) → failed ≡ (had || is_some failed_at) → IsFailurePlace had ops outcomes failed_at → IsFailing failed op outcome fails → IsNextPlace failed fails (length ops) failed_at next_at → AreAnswers had failed_at m known batches ops outcomes → IsAnswerAt failed m known found op outcome
+      → AreAnswers had next_at m known batches (ops ++ op ∷ []) (outcomes ++ outcome ∷ [])
   answers_more had failed fails failed_at next_at now at is next answers more = by_case failed fails now is next more
     where
-      by_place : (place : Option ℕ) → next_at ≡ place → AreAnswers had place batches (ops ++ op ∷ []) (outcomes ++ outcome ∷ []) → AreAnswers had next_at batches (ops ++ op ∷ []) (outcomes ++ outcome ∷ [])
-      by_place place same all = subst (λ (o : Option ℕ). AreAnswers had o batches (ops ++ op ∷ []) (outcomes ++ outcome ∷ [])) (sym same) all
+      by_place : (place : Option ℕ) → next_at ≡ place → AreAnswers had place m known batches (ops ++ op ∷ []) (outcomes ++ outcome ∷ []) → AreAnswers had next_at m known batches (ops ++ op ∷ []) (outcomes ++ outcome ∷ [])
+      by_place place same all = subst (λ (o : Option ℕ). AreAnswers had o m known batches (ops ++ op ∷ []) (outcomes ++ outcome ∷ [])) (sym same) all
 
-      by_case : (b c : Bool) → b ≡ (had || is_some failed_at) → IsFailing b op outcome c → IsNextPlace b c (length ops) failed_at next_at → IsAnswerAt b found op outcome → AreAnswers had next_at batches (ops ++ op ∷ []) (outcomes ++ outcome ∷ [])
+      by_case : (b c : Bool) → b ≡ (had || is_some failed_at) → IsFailing b op outcome c → IsNextPlace b c (length ops) failed_at next_at → IsAnswerAt b m known found op outcome → AreAnswers had next_at m known batches (ops ++ op ∷ []) (outcomes ++ outcome ∷ [])
       by_case true true now is next more = by_place failed_at (next.rests refl) (answers_kept had true failed_at now at answers more)
       by_case false false now is next more = by_place failed_at (next.rests refl) (answers_kept had false failed_at now at answers more)
       by_case true false now is next more = absurd (let clash = still_by op outcome false is in cc)

@@ -17,7 +17,8 @@ use Rattle.raft_base.specs.declared.errors.Fault.{Fault}
 use Rattle.raft_base.specs.declared.errors.Fault.TheVariants as fault
 use Rattle.raft_log_engine.specs.Image.{IsImageOf}
 use Rattle.raft_log_engine.specs.declared.engine.image.Image.{Image}
-use Rattle.raft_log_engine.specs.Contents.{contents_at, recovered_contents}
+use Rattle.raft_tables.specs.Known.{known_in}
+use Rattle.raft_log_engine.specs.Contents.{contents_at, known_at, recovered_contents}
 use Rattle.raft_pipes.specs.Completed.{ReadsCompletedRecordsIn}
 use Rattle.raft_base.specs.declared.pipe_log.FileId.{FileId}
 use Rattle.raft_base.specs.declared.pipe_log.LogQueue.{LogQueue}
@@ -67,10 +68,10 @@ true_of_none folder n told is =
 
 -- what a run shows that began with no files
 pub run_shown : (dir : Path) (before n : Directory) (ops : List Op) (outcomes : List Outcome) (failed_at : Option ℕ) → readable_in dir before ≡ [] → RecoversContents dir no_contents [] before
-    → (RecoversContents dir (recovered_contents (readable_in dir before)) [] before → RunsOver dir (readable_in dir before) ops outcomes failed_at n) → RunsOver dir [] ops outcomes failed_at n
+    → (RecoversContents dir (contents_at dir before) [] before → RunsOver dir (contents_at dir before) (known_at dir before) ops outcomes failed_at n) → RunsOver dir no_contents (known_in []) ops outcomes failed_at n
 run_shown dir before n ops outcomes failed_at none keeps ran =
     let kept = subst (λ (l : List Batch). RecoversContents dir (recovered_contents l) [] before) (sym none) keeps in
-    subst (λ (l : List Batch). RunsOver dir l ops outcomes failed_at n) none (ran kept)
+    subst (λ (l : List Batch). RunsOver dir (recovered_contents l) (known_in l) ops outcomes failed_at n) none (ran kept)
 
 same_opened : {m m' : Contents} (opened : Result Image Fault) → m ≡ m' → IfOk opened (λ image. IsImageOf image.groups.items m) → IfOk opened (λ image. IsImageOf image.groups.items m')
 same_opened (Ok image) same is = subst (IsImageOf image.groups.items) same is

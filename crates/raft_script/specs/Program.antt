@@ -1,16 +1,17 @@
 -- What the program answers.
-use Rattle.std.specs.Prelude.{◌≡◌, ◌⊎◌, ℕ, true, false, List, [], Option, Some, None, Result, Ok, Err, Vec, codes}
+use Rattle.std.specs.Prelude.{◌≡◌, ◌⊎◌, ℕ, Bool, true, false, List, [], Option, Some, None, Result, Ok, Err, Vec, codes}
 use Rattle.std.specs.declared.alloc.Global.{Global}
 use Rattle.raft_base.specs.declared.errors.Fault.{Fault}
 use Rattle.raft_base.specs.declared.errors.Fault.TheVariants as fault
 use Rattle.raft_env.specs.Directory.{CrashImage, Leaves, Path}
 use Rattle.raft_env.specs.declared.env.FileSystem.{Ghosts}
 use Rattle.raft_log_engine.specs.declared.engine.Engine.{Engine}
-use Rattle.raft_log_engine.specs.Engine.{all_batches, begun_of, contents_of, directory_of, folder_of, has_failed, refusals_of}
+use Rattle.raft_log_engine.specs.Engine.{begun_of, contents_of, directory_of, folder_of, has_failed, is_known_in, refusals_of}
 use Rattle.raft_log_engine.specs.Opening.{IsNewIn}
-use Rattle.raft_pipes.specs.Folder.{IsSpanOf, readable_after_crash}
-use Rattle.raft_records.specs.Contents.{after_batches}
-use Rattle.raft_records.specs.Item.{Batch}
+use Rattle.raft_pipes.specs.Folder.{IsSpanOf}
+use Rattle.raft_records.specs.Contents.{Contents, after_batches, no_contents}
+use Rattle.raft_tables.specs.Known.{known_in}
+use Rattle.raft_log_engine.specs.Crash.{contents_after_crash, known_after_crash}
 use Rattle.raft_tables.specs.Listing.{IsListing, listed}
 use Rattle.raft_script.specs.Entry.{range_of}
 use Rattle.raft_script.specs.Line.{Asked, Nothing, Range, Reopen, Scan, Span, Crash, asked_by_op}
@@ -37,24 +38,29 @@ module _ {F H R W : Type 0} {g : Ghosts F H R W} where
     pub folder : folder_of new ≡ folder_of old
     pub begun : begun_of new ≡ begun_of old
 
-  -- an engine that was just opened in this folder, and found these batches there
-  abbrev pub IsNewWith : Path → List Batch → Engine F H R W g → Type 0
-  IsNewWith folder batches e = IsNewIn folder e × (all_batches e ≡ batches)
+  -- an engine that was just opened in this folder, and found these contents and groups there
+  pub record IsNewWith (folder : Path) (m : Contents) (known : ℕ → Bool) (e : Engine F H R W g)
+      : Type 0 where
+    pub new : IsNewIn folder e
+    pub contents : contents_of e ≡ m
+    pub groups : (group : ℕ) → is_known_in e group ≡ known group
 
   -- the engine that a line meets: the one before it, or one that is opened for it and holds nothing
   abbrev pub IsMetBy : Option (Engine F H R W g) → Engine F H R W g → Type 0
-  IsMetBy None e = IsNewWith (codes "raft") [] e
+  IsMetBy None e = IsNewWith (codes "raft") no_contents (known_in []) e
   IsMetBy (Some before) e = e ≡ before
 
   -- an engine that stood was closed, and what it held is opened again
   abbrev pub IsReopened : Engine F H R W g → Engine F H R W g → Type 0
   IsReopened old new =
-      (has_failed old ≡ false) × IsNewWith (folder_of old) (all_batches old) new
+      (has_failed old ≡ false)
+      × IsNewWith (folder_of old) (contents_of old) (is_known_in old) new
 
   -- a new engine holds what a crash left of another one's files
   abbrev pub HoldsAfterCrash : Engine F H R W g → Engine F H R W g → Type 0
   HoldsAfterCrash old new = (image : CrashImage) × Leaves (directory_of old) image
-      × IsNewWith (codes "raft") (readable_after_crash (codes "raft") (directory_of old) image) new
+      × IsNewWith (codes "raft") (contents_after_crash (codes "raft") (directory_of old) image)
+      (known_after_crash (codes "raft") (directory_of old) image) new
 
   -- a group's keys with their values, each once and in order, or why they aren't listed
   abbrev pub IsScanAnswer : Engine F H R W g → ℕ → Result (Vec (Vec ℕ Global × Vec ℕ Global) Global)

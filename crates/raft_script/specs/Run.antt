@@ -3,17 +3,16 @@ use Rattle.std.specs.Prelude.{◌≡◌, ◌⊎◌, ◌||◌, ℕ, zero, suc, �
 use Rattle.std.specs.List.{Any, count_by, list_any, sum_by}
 use Rattle.std.specs.declared.alloc.Global.{Global}
 use Rattle.raft_records.specs.Batch.{is_internal_key}
-use Rattle.raft_records.specs.Contents.{Contents, after_batch, first_index_of, last_index_of}
+use Rattle.raft_records.specs.Contents.{Contents, after_batch, after_batches, first_index_of, last_index_of}
 use Rattle.raft_records.specs.Item.{Batch, Clean, Compact, Delete, Entries, Entry, Put}
 use Rattle.raft_records.specs.Layout.{entry_bytes}
 use Rattle.raft_records.specs.Validity.{IsValidBatch, batch_refusal}
 use Rattle.raft_base.specs.Fault.{fault_code}
 use Rattle.raft_base.specs.declared.errors.Fault.{Fault}
 use Rattle.raft_base.specs.declared.errors.Fault.TheVariants as fault
-use Rattle.raft_tables.specs.Known.{known_in}
 use Rattle.raft_env.specs.Refusal.{NoFewer, Refusals, StorageRefusalsRose}
 use Rattle.raft_log_engine.specs.Cause.{IsOutOfRange, IsWritable}
-use Rattle.raft_log_engine.specs.Contents.{recovered_contents}
+use Rattle.raft_log_engine.specs.Contents.{known_from}
 use Rattle.raft_log_engine.specs.Crash.{pending_of, written_batch}
 use Rattle.raft_log_engine.specs.Engine.{record_len}
 use Rattle.raft_log_engine.specs.Group.{accepted_in, chosen_of, written_in}
@@ -99,16 +98,16 @@ accepted_of m (CompactTo group index) (Count (Ok count)) =
     written_batch (compaction_in m group index)
 accepted_of m _ _ = []
 
--- what an engine that held these batches holds after the operation
-abbrev pub batches_after : List Batch → Op → Outcome → List Batch
-batches_after batches op outcome =
-    batches ++ accepted_of (recovered_contents batches) op outcome
+-- the batches that stand after these contents, after the operation
+abbrev pub batches_after : Contents → List Batch → Op → Outcome → List Batch
+batches_after m batches op outcome =
+    batches ++ accepted_of (after_batches m batches) op outcome
 
 -- .. and after all of these
-abbrev pub batches_after_all : List Batch → List Op → List Outcome → List Batch
-batches_after_all batches (op ∷ ops) (outcome ∷ outcomes) =
-    batches_after_all (batches_after batches op outcome) ops outcomes
-batches_after_all batches _ _ = batches
+abbrev pub batches_after_all : Contents → List Batch → List Op → List Outcome → List Batch
+batches_after_all m batches (op ∷ ops) (outcome ∷ outcomes) =
+    batches_after_all m (batches_after m batches op outcome) ops outcomes
+batches_after_all m batches _ _ = batches
 
 -- the operation made sure of all that was accepted up to it: a sync that was answered, or a write
 -- or a group that asked for one
@@ -279,15 +278,17 @@ abbrev pub place_after : Option ℕ → Option ℕ
 place_after (Some (suc place)) = Some place
 place_after failed_at = None
 
--- each operation is answered by an engine that holds these batches and those that the operations
--- before it wrote, that had failed or not, and that fails in the one at this place, if any
-abbrev pub AreAnswers : Bool → Option ℕ → List Batch → List Op → List Outcome → Type 0
-AreAnswers failed failed_at batches [] [] = Unit {0}
-AreAnswers failed failed_at batches (op ∷ ops) (outcome ∷ outcomes) =
-    IsAnswer failed (recovered_contents batches) (known_in batches) op outcome
-    × AreAnswers (failed_after failed_at failed) (place_after failed_at)
-    (batches_after batches op outcome) ops outcomes
-AreAnswers failed failed_at batches _ _ = ⊥
+-- each operation is answered by an engine that found these contents and groups, holds these batches
+-- after them and those that the operations before it wrote, that had failed or not, and that fails in
+-- the one at this place, if any
+abbrev pub AreAnswers : Bool → Option ℕ → Contents → (ℕ → Bool) → List Batch → List Op
+    → List Outcome → Type 0
+AreAnswers failed failed_at m known batches [] [] = Unit {0}
+AreAnswers failed failed_at m known batches (op ∷ ops) (outcome ∷ outcomes) =
+    IsAnswer failed (after_batches m batches) (known_from known batches) op outcome
+    × AreAnswers (failed_after failed_at failed) (place_after failed_at) m known
+    (batches_after m batches op outcome) ops outcomes
+AreAnswers failed failed_at m known batches _ _ = ⊥
 
 -- storage's refusal, also where there is no space
 abbrev pub is_io : {T : Type 0} → Result T Fault → Bool

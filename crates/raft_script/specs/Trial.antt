@@ -1,7 +1,7 @@
 -- What a trial shows.
-use Rattle.std.specs.Prelude.{◌≡◌, ◌⊎◌, ℕ, false, List, [], ◌++◌, Option, None, IfOk, IfErr}
-use Rattle.raft_records.specs.Contents.{Contents}
-use Rattle.raft_records.specs.Item.{Batch}
+use Rattle.std.specs.Prelude.{◌≡◌, ◌⊎◌, ℕ, Bool, false, List, [], ◌++◌, Option, None, IfOk, IfErr}
+use Rattle.raft_records.specs.Contents.{Contents, no_contents}
+use Rattle.raft_tables.specs.Known.{known_in}
 use Rattle.raft_base.specs.declared.errors.Fault.{Fault}
 use Rattle.raft_memory.specs.Choice.{AreWhole, left_by}
 use Rattle.raft_memory.specs.Memory.{memory_directory, memory_moments, no_files, stop_of}
@@ -9,7 +9,6 @@ use Rattle.raft_memory.specs.declared.memory.MemoryFileSystem.{MemoryFileSystem}
 use Rattle.raft_env.specs.Consistent.{AreConsistent}
 use Rattle.raft_env.specs.Directory.{Directory, HasFile, Leaves, CrashImage, Path}
 use Rattle.raft_memory.specs.declared.crash.Choice.{Choice}
-use Rattle.raft_log_engine.specs.Contents.{recovered_contents}
 use Rattle.raft_log_engine.specs.Crash.{RecoversContents, contents_after_crash}
 use Rattle.raft_log_engine.specs.Image.{IsImageOf}
 use Rattle.raft_script.specs.Durability.{LeavesAllowedAfter}
@@ -23,10 +22,11 @@ use Rattle.raft_script.specs.declared.operation.Op.{Op}
 use Rattle.raft_script.specs.declared.operation.Outcome.{Outcome}
 use Rattle.raft_script.specs.declared.operation.Trial.{Trial}
 
--- the operations were answered by an engine that stood before them, and held these batches
-pub record AreAnswered (batches : List Batch) (ops : List Op) (outcomes : List Outcome)
+-- the operations were answered by an engine that stood before them, and held these contents and
+-- groups
+pub record AreAnswered (m : Contents) (known : ℕ → Bool) (ops : List Op) (outcomes : List Outcome)
     (failed_at : Option ℕ) : Type 0 where
-  pub answers : AreAnswers false failed_at batches ops outcomes
+  pub answers : AreAnswers false failed_at m known [] ops outcomes
   pub place : IsFailurePlace false ops outcomes failed_at
 
 -- the opening failed, and no operation was done; the files keep what they kept
@@ -36,15 +36,15 @@ pub record AreNotAsked (folder : Path) (m : Contents) (files : Directory) (outco
   pub stands : failed_at ≡ None
   pub files_keep : RecoversContents folder m [] files
 
--- operations over a folder that holds these batches, from an opening on: the files as they were
--- left
-pub record RunsOver (folder : Path) (batches : List Batch) (ops : List Op) (outcomes : List Outcome)
-    (failed_at : Option ℕ) (files : Directory) : Type 0 where
-  pub answered : AreAnswered batches ops outcomes failed_at
-      ⊎ AreNotAsked folder (recovered_contents batches) files outcomes failed_at
+-- operations over a folder that holds these contents and groups, from an opening on: the files as
+-- they were left
+pub record RunsOver (folder : Path) (m : Contents) (known : ℕ → Bool) (ops : List Op)
+    (outcomes : List Outcome) (failed_at : Option ℕ) (files : Directory) : Type 0 where
+  pub answered : AreAnswered m known ops outcomes failed_at
+      ⊎ AreNotAsked folder m files outcomes failed_at
   -- a crash leaves of them a prefix of what was accepted, and of what the operation had in flight
   -- in which the engine failed
-  pub after : LeavesAllowedAfter failed_at folder (recovered_contents batches) [] ops outcomes files
+  pub after : LeavesAllowedAfter failed_at folder m [] ops outcomes files
   -- no file stands in the folder's place
   pub no_file : HasFile files folder → ⊥
 
@@ -58,7 +58,7 @@ pub record RunsFromEmpty (folder : Path) (ops : List Op) (stop : Option ℕ) (ou
   -- the moments there were by then follow those of the first files
   pub added : List Directory
   pub later : memory_moments last ≡ added ++ memory_moments first
-  pub ran : RunsOver folder [] ops outcomes failed_at (memory_directory last)
+  pub ran : RunsOver folder no_contents (known_in []) ops outcomes failed_at (memory_directory last)
 
 -- they may leave files of which storage may not leave what the choices say
 pub record AreNotAllowed (folder : Path) (ops : List Op) (stop : Option ℕ) (choices : List Choice)

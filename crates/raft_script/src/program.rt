@@ -4,7 +4,7 @@ ghost use Rattle.std.specs.String.{string_bytes};
 ghost use Rattle.raft_env.specs.Directory.{CrashImage, IsRestarted, Leaves};
 ghost use Rattle.raft_log_engine.specs.Engine.{contents_of, has_failed};
 ghost use Rattle.raft_memory.specs.Memory.{memory_directory};
-ghost use Rattle.raft_pipes.specs.Folder.{readable_in};
+ghost use Rattle.raft_log_engine.specs.Contents.{contents_at, known_at};
 ghost use Rattle.raft_script.specs.Line.{EndsOn, GoesOnOrEnds, IsNextLine, IsReading, asked_of, asked_of_call};
 ghost use Rattle.raft_script.specs.Entry.{range_of};
 ghost use Rattle.raft_script.specs.Program.{AnswersFrom, AnswersLine, HoldsAfterCrash, IsAnswered, IsMetBy, IsNewWith, IsReopened, OpensTo};
@@ -239,8 +239,8 @@ fn open_again<F: FileSystem + Drop>(
     config: Config,
     files: F,
 ) -> Answer
-    ensures value { OpensTo result engine.new (IsNewWith (string_bytes config.dir)
-        (readable_in (string_bytes config.dir) (F.directory files))) }
+    ensures value { let dir = string_bytes config.dir in OpensTo result engine.new (IsNewWith dir
+        (contents_at dir (F.directory files)) (known_at dir (F.directory files))) }
 {
     answer_opening(engine, Engine::open_in_order(alloc, config, files))
 }

@@ -6,10 +6,9 @@ ghost use Rattle.raft_env.specs.Directory.{Directory, HasFile};
 ghost use Rattle.raft_memory.specs.Choice.{NameNoBytes};
 ghost use Rattle.raft_memory.specs.Memory.{memory_directory, memory_moments, no_files, stop_of};
 ghost use Rattle.raft_log_engine.specs.Image.{IsImageOf};
-ghost use Rattle.raft_log_engine.specs.Contents.{contents_at, recovered_contents};
+ghost use Rattle.raft_log_engine.specs.Contents.{contents_at, known_at};
 ghost use Rattle.raft_log_engine.specs.Crash.{RecoversContents};
 ghost use Rattle.raft_pipes.specs.Completed.{ReadsCompletedRecordsIn};
-ghost use Rattle.raft_pipes.specs.Folder.{readable_in};
 ghost use Rattle.raft_pipes.specs.Queue.{IsOpenableIn};
 ghost use Rattle.raft_script.specs.Run.{IsStorageOrMemory};
 ghost use Rattle.raft_script.specs.Trial.{AreNotAllowed, IsLogRefusal, IsTrialOf, LeavesDetectable, RunsOver};
@@ -76,9 +75,10 @@ fn run_over<F: FileSystem + Drop>(
     ops: &[Op],
 ) -> Result<(RunReport, F), Fault>
     ensures ok { IfOk result (λ r. let dir = string_bytes config.dir in
-        let found = readable_in dir (F.directory files) in
-        RecoversContents dir (recovered_contents found) [] (F.directory files)
-        → RunsOver dir found ops.now r.0.outcomes.items r.0.failed_at (F.directory r.1)) }
+        let found = contents_at dir (F.directory files) in
+        RecoversContents dir found [] (F.directory files)
+        → RunsOver dir found (known_at dir (F.directory files)) ops.now r.0.outcomes.items
+        r.0.failed_at (F.directory r.1)) }
     ensures crash { IfOk result (λ r.
         ReadsCompletedRecordsIn (string_bytes config.dir) (F.directory files) → r.0.failed_at ≡ None
         → (r.0.outcomes.items ≡ [] → ⊥)

@@ -14,3 +14,4 @@ pub mod StatsLemmas
 pub mod LeavingLemmas
 pub mod RecoveringLemmas
 pub mod JoiningLemmas
+pub mod RewrittenLemmas

@@ -9,3 +9,4 @@ pub mod Span
 pub mod Validity
 pub mod Leaving
 pub mod Recovering
+pub mod Rewritten

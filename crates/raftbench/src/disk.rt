@@ -1,9 +1,10 @@
 //! Workloads over a folder of the operating system, each beside bare calls on one file of as many bytes.
 
 use crate::blocks::filled;
-use crate::log::{open, puts_of, write_all};
+use crate::log::open;
 use crate::measure::{micros_since, ratio};
-use crate::workload::{Load, ONE_FILE};
+use crate::parts::{Part, batches_of, write_all};
+use crate::workload::{Amount, Load, ONE_FILE};
 use anyhow::{Result, bail};
 use raft_disk::DiskFileSystem;
 use raft_env::FileSystem;
@@ -29,38 +30,37 @@ struct Run {
 }
 
 /// Does each workload in a new folder below this one, and then opens the last of them again.
-pub(crate) fn run_in(rt: HostRuntime, folder: &str, count: u64, size: usize) -> Result<()> {
+pub(crate) fn run_in(rt: HostRuntime, folder: &str, amount: Amount) -> Result<()> {
     for (name, sync_each) in WORKLOADS {
-        let load = Load {
-            count,
-            keys: count,
-            size,
-            sync_each,
-            file_size: ONE_FILE,
-        };
+        let load = puts(name, amount.count, amount.size, sync_each);
         let place = format!(in rt.alloc(); "{folder}/{name}")?;
         let run = run_folder(rt, place.as_str(), load)?;
         let bare = write_bare(&rt, place.as_str(), load, run.bytes)?;
-        ratio(&rt, name, count, run.bytes, run.puts, bare)?;
+        ratio(&rt, name, amount.count, run.bytes, run.puts, bare)?;
     }
-    reopen(rt, folder, count, size)
+    reopen(rt, folder, amount)
 }
 
-fn reopen(rt: HostRuntime, folder: &str, count: u64, size: usize) -> Result<()> {
-    let place = format!(in rt.alloc(); "{folder}/disk-none")?;
-    let nothing = Load {
-        count: 0,
-        keys: 0,
+fn puts(name: &'static str, count: u64, size: usize, sync_each: u64) -> Load {
+    Load {
+        name,
+        count,
+        keys: count,
         size,
-        sync_each: 0,
+        batch_len: 1,
+        sync_each,
         file_size: ONE_FILE,
-    };
-    let run = run_folder(rt, place.as_str(), nothing)?;
+    }
+}
+
+fn reopen(rt: HostRuntime, folder: &str, amount: Amount) -> Result<()> {
+    let place = format!(in rt.alloc(); "{folder}/disk-none")?;
+    let run = run_folder(rt, place.as_str(), puts("disk-open", 0, amount.size, 0))?;
     let log = format!(in rt.alloc(); "{place}/bench/0000000000000001.raftlog")?;
     let start = Instant::now(&rt)?;
     let bytes = fs::read(&rt, log.as_str())?.len() as u64;
     let bare = micros_since(&rt, start)?;
-    ratio(&rt, "disk-open", count, bytes, run.opening, bare)
+    ratio(&rt, "disk-open", amount.count, bytes, run.opening, bare)
 }
 
 fn run_folder(rt: HostRuntime, place: &str, load: Load) -> Result<Run> {
@@ -88,9 +88,9 @@ fn put_all<F: FileSystem>(
     load: Load,
 ) -> Result<Run> {
     let opening = micros_since(rt, start)?;
-    let puts = puts_of(rt.alloc(), load)?;
+    let batches = batches_of(rt.alloc(), Part::Put, load)?;
     let start = Instant::now(rt)?;
-    let bytes = write_all(rt.alloc(), engine, puts, load.sync_each)?;
+    let bytes = write_all(rt.alloc(), engine, batches, load.sync_each)?;
     Ok(Run {
         opening,
         puts: micros_since(rt, start)?,

@@ -8,12 +8,11 @@ use raft_env::{FileSystem, FsFault};
 use std::time::Instant;
 
 /// Appends to one file, each synced or none. Each tenth of them has a line of its own.
-pub(crate) fn append<R: Host, F: FileSystem>(
+pub(crate) fn append<R: Host, F: FileSystem + Drop>(
     rt: &R,
-    name: &str,
-    files: &mut F,
+    mut files: F,
     load: Load,
-) -> Result<()> {
+) -> Result<Option<usize>> {
     let block = filled(rt.alloc(), load.size, 1)?;
     let handle = files.create("file").map_err(refused)?;
     let mut writer = files.new_writer(&handle).map_err(refused)?;
@@ -21,18 +20,13 @@ pub(crate) fn append<R: Host, F: FileSystem>(
     let mut start = Instant::now(rt)?;
     let mut end = 0;
     for _ in 0..10u8 {
-        end = append_tenth(files, &mut writer, end, &block, load).map_err(refused)?;
-        start = report(
-            rt,
-            name,
-            start,
-            tenth,
-            tenth.saturating_mul(load.size as u64),
-        )?;
+        end = append_tenth(&mut files, &mut writer, end, &block, load).map_err(refused)?;
+        let bytes = tenth.saturating_mul(load.size as u64);
+        start = report(rt, load.name, start, tenth, bytes)?;
     }
     let len = files.file_size(&handle).map_err(refused)?;
-    println!(rt; "{name}: {len} bytes")?;
-    Ok(())
+    println!(rt; "{}: {len} bytes", load.name)?;
+    Ok(None)
 }
 
 fn append_tenth<F: FileSystem>(

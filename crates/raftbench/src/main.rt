@@ -8,47 +8,56 @@ mod entries;
 mod files;
 mod log;
 mod measure;
+mod parts;
 mod workload;
 
 use anyhow::{Result, bail};
+use measure::Host;
 use std::env;
-use workload::Workload;
-
-/// How many operations, and of how many bytes, each workload does where none is asked for.
-const SMALL_COUNT: u64 = 2000;
-
-const SMALL_SIZE: u64 = 100;
+use workload::{Amount, SMALL, Workload};
 
 fn main(rt: HostRuntime) -> Result<()> {
-    let mut words = env::args(&rt)?.skip(1);
-    let Some(name) = words.next() else {
-        return run_all(&rt);
-    };
-    let folder = match name.as_str() {
-        "disk" => words.next(),
-        _ => None,
-    };
-    let count = number_or(words.next(), SMALL_COUNT)?;
-    let size = number_or(words.next(), SMALL_SIZE)? as usize;
-    match (Workload::named(name.as_str()), folder) {
-        (Some(workload), _) => workload.run(&rt, count, size),
-        (None, Some(folder)) => disk::run_in(rt, folder.as_str(), count, size),
-        (None, None) => bail!(
-            "usage: raftbench [WORKLOAD [COUNT [SIZE]] | disk FOLDER [COUNT [SIZE]]]"
-        ),
+    let words = words(&rt)?;
+    match words.as_slice() {
+        [] => run_all(&rt),
+        [word, folder, rest @ ..] if word.as_str() == "disk" => {
+            disk::run_in(rt, folder.as_str(), amount(rest)?)
+        }
+        [name, rest @ ..] => run_named(&rt, name.as_str(), amount(rest)?),
     }
 }
 
-fn number_or(word: Option<String>, otherwise: u64) -> Result<u64> {
-    match word {
-        Some(word) => Ok(word.as_str().parse()?),
-        None => Ok(otherwise),
+// The words after the program's name.
+fn words(rt: &HostRuntime) -> Result<Vec<String>> {
+    let mut words = Vec::new(rt.alloc());
+    for word in env::args(rt)?.skip(1) {
+        words.push(word)?;
+    }
+    Ok(words)
+}
+
+// How many operations, and of how many bytes, where they are asked for.
+fn amount(words: &[String]) -> Result<Amount> {
+    let mut amount = SMALL;
+    if let Some(count) = words.first() {
+        amount.count = count.as_str().parse()?;
+    }
+    if let Some(size) = words.get(1) {
+        amount.size = size.as_str().parse()?;
+    }
+    Ok(amount)
+}
+
+fn run_named<R: Host>(rt: &R, name: &str, amount: Amount) -> Result<()> {
+    match Workload::named(name) {
+        Some(workload) => workload.run(rt, amount),
+        None => bail!("usage: raftbench [WORKLOAD [COUNT [SIZE]] | disk FOLDER [COUNT [SIZE]]]"),
     }
 }
 
-fn run_all<R: measure::Host>(rt: &R) -> Result<()> {
-    for workload in Workload::ALL {
-        workload.run(rt, SMALL_COUNT, SMALL_SIZE as usize)?;
+fn run_all<R: Host>(rt: &R) -> Result<()> {
+    for workload in &Workload::ALL {
+        workload.run(rt, SMALL)?;
     }
     Ok(())
 }

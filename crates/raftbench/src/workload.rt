@@ -3,33 +3,48 @@
 use crate::blocks::report_ceilings;
 use crate::entries::append_entry_fetch;
 use crate::files::append;
-use crate::log::{GROUPS, put_get_reopen};
+use crate::log::put_get_reopen;
 use crate::measure::Host;
 use anyhow::Result;
 use raft_env::FileSystem;
 use raft_memory::MemoryFileSystem;
 
+/// How many operations, and of how many bytes.
 #[derive(Clone, Copy)]
-pub(crate) enum Workload {
-    Crc,
-    Put,
-    PutSync,
-    Overwrite,
-    Append,
-    AppendSync,
-    AppendBatch,
-    AppendFiles,
-    FsAppend,
-    FsSync,
+pub(crate) struct Amount {
+    pub count: u64,
+    pub size: usize,
 }
 
-/// How many values are written, under how many keys, of how many bytes, after how many to sync (0: never), and the
-/// size at which a log file is full.
+/// What each workload does where nothing else is asked for.
+pub(crate) const SMALL: Amount = Amount {
+    count: 2000,
+    size: 100,
+};
+
+/// What a workload does, over what.
+#[derive(Clone, Copy)]
+enum Kind {
+    Blocks,
+    File,
+    /// Under so many keys at the most.
+    Puts(u64),
+    /// So many bytes of entries a batch, and one entry at the least.
+    Entries(u64),
+}
+
+/// Its name, what it does, after how many operations it syncs (0: never), and the size at which a log file is full.
+pub(crate) struct Workload(&'static str, Kind, u64, u64);
+
+/// How many values are written, under how many keys, of how many bytes, how many a batch, after how many to sync (0:
+/// never), and the size at which a log file is full.
 #[derive(Clone, Copy)]
 pub(crate) struct Load {
+    pub name: &'static str,
     pub count: u64,
     pub keys: u64,
     pub size: usize,
+    pub batch_len: u64,
     pub sync_each: u64,
     pub file_size: u64,
 }
@@ -40,115 +55,72 @@ impl Load {
     }
 }
 
-/// How many keys the workload `overwrite` has at the most.
-const FEW_KEYS: u64 = 1000;
+pub(crate) const GROUPS: u64 = 100;
 
 /// The blocks of the workload `crc`.
 const BLOCK_SIZE: usize = 65536;
 
-/// The bytes of entries in a batch of the workload `append-batch`.
-const BATCH_SIZE: u64 = 1 << 20;
-
 /// No log comes to this size, so that it stays one file.
 pub(crate) const ONE_FILE: u64 = 1 << 40;
 
-/// The size of a log file in the workload `append-files`.
-const SMALL_FILE: u64 = 2 << 20;
-
 impl Workload {
     pub(crate) const ALL: [Workload; 10] = [
-        Workload::Crc,
-        Workload::Put,
-        Workload::PutSync,
-        Workload::Overwrite,
-        Workload::Append,
-        Workload::AppendSync,
-        Workload::AppendBatch,
-        Workload::AppendFiles,
-        Workload::FsAppend,
-        Workload::FsSync,
+        Workload("crc", Kind::Blocks, 0, ONE_FILE),
+        Workload("put", Kind::Puts(u64::MAX), 0, ONE_FILE),
+        Workload("put-sync", Kind::Puts(u64::MAX), 1, ONE_FILE),
+        Workload("overwrite", Kind::Puts(1000), 0, ONE_FILE),
+        Workload("append", Kind::Entries(0), 0, ONE_FILE),
+        Workload("append-sync", Kind::Entries(0), 1, ONE_FILE),
+        Workload("append-batch", Kind::Entries(1 << 20), 0, ONE_FILE),
+        Workload("append-files", Kind::Entries(0), 0, 2 << 20),
+        Workload("fs-append", Kind::File, 0, ONE_FILE),
+        Workload("fs-sync", Kind::File, 1, ONE_FILE),
     ];
 
-    pub(crate) fn named(name: &str) -> Option<Workload> {
-        Workload::ALL.iter().copied().find(|w| w.name() == name)
+    pub(crate) fn named(name: &str) -> Option<&'static Workload> {
+        Workload::ALL.iter().find(|workload| workload.0 == name)
     }
 
-    fn name(self) -> &'static str {
-        match self {
-            Workload::Crc => "crc",
-            Workload::Put => "put",
-            Workload::PutSync => "put-sync",
-            Workload::Overwrite => "overwrite",
-            Workload::Append => "append",
-            Workload::AppendSync => "append-sync",
-            Workload::AppendBatch => "append-batch",
-            Workload::AppendFiles => "append-files",
-            Workload::FsAppend => "fs-append",
-            Workload::FsSync => "fs-sync",
-        }
-    }
-
-    /// Does so many operations, with values or blocks of so many bytes.
-    pub(crate) fn run<R: Host>(self, rt: &R, count: u64, size: usize) -> Result<()> {
+    pub(crate) fn run<R: Host>(&self, rt: &R, amount: Amount) -> Result<()> {
+        let Workload(name, kind, sync_each, file_size) = self;
+        let Amount { count, size } = amount;
         let load = Load {
+            name: *name,
             count,
-            keys: match self {
-                Workload::Overwrite => count.min(FEW_KEYS),
+            keys: match kind {
+                Kind::Puts(keys) => count.min(*keys),
                 _ => count,
             },
             size,
-            sync_each: match self {
-                Workload::PutSync | Workload::AppendSync | Workload::FsSync => 1,
-                _ => 0,
+            batch_len: match kind {
+                Kind::Entries(bytes) => (*bytes / (size as u64).max(1)).min(count / GROUPS).max(1),
+                _ => 1,
             },
-            file_size: match self {
-                Workload::AppendFiles => SMALL_FILE,
-                _ => ONE_FILE,
-            },
+            sync_each: *sync_each,
+            file_size: *file_size,
         };
-        self.run_over(rt, MemoryFileSystem::new(rt.alloc()), load)
+        run_over(rt, *kind, MemoryFileSystem::new(rt.alloc()), load)
     }
+}
 
-    /// How many entries of this size a batch has.
-    fn batch_len(self, size: usize) -> u64 {
-        match self {
-            Workload::AppendBatch => BATCH_SIZE / (size as u64).max(1),
-            _ => 1,
-        }
+// Below each workload stand the ceilings of as many records as it made, and of as many values.
+fn run_over<R: Host, F: FileSystem + Drop>(rt: &R, kind: Kind, files: F, load: Load) -> Result<()> {
+    let len = match kind {
+        Kind::Blocks => return sum_blocks(rt, load),
+        Kind::File => append(rt, files, load)?,
+        Kind::Entries(_) => Some(append_entry_fetch(rt, files, load)?),
+        Kind::Puts(_) => Some(put_get_reopen(rt, files, load)?),
+    };
+    if let Some(len) = len {
+        report_ceilings(rt, load.count, len)?;
     }
+    report_ceilings(rt, load.count, load.size)?;
+    Ok(())
+}
 
-    fn run_over<R: Host, F: FileSystem + Drop>(
-        self,
-        rt: &R,
-        mut files: F,
-        load: Load,
-    ) -> Result<()> {
-        let count = load.count;
-        match self {
-            Workload::Crc => {
-                let bytes = count.saturating_mul(BLOCK_SIZE as u64);
-                let sum = report_ceilings(rt, count, BLOCK_SIZE)?;
-                println!(rt; "crc: {bytes} bytes, checksum {sum:08x}")?;
-            }
-            Workload::FsAppend | Workload::FsSync => {
-                append(rt, self.name(), &mut files, load)?;
-                report_ceilings(rt, count, load.size)?;
-            }
-            Workload::Append
-            | Workload::AppendSync
-            | Workload::AppendBatch
-            | Workload::AppendFiles => {
-                let batch_len = self.batch_len(load.size).min(count / GROUPS);
-                let entry_len = append_entry_fetch(rt, self.name(), files, load, batch_len)?;
-                report_ceilings(rt, count, entry_len)?;
-                report_ceilings(rt, count, load.size)?;
-            }
-            Workload::Put | Workload::PutSync | Workload::Overwrite => {
-                let record_len = put_get_reopen(rt, self.name(), files, load)?;
-                report_ceilings(rt, count, record_len)?;
-                report_ceilings(rt, count, load.size)?;
-            }
-        }
-        Ok(())
-    }
+fn sum_blocks<R: Host>(rt: &R, load: Load) -> Result<()> {
+    let bytes = load.count.saturating_mul(BLOCK_SIZE as u64);
+    let sum = report_ceilings(rt, load.count, BLOCK_SIZE)?;
+    println!(rt; "crc: {bytes} bytes, checksum {sum:08x}")?;
+    Ok(())
 }

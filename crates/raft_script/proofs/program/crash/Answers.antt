@@ -2,7 +2,7 @@ use denote.Param.Send.{sendable}
 use Rattle.std.specs.String.{string_bytes}
 use Rattle.raft_memory.proofs.Sent.{memory_send, memory_sync}
 use Rattle.raft_memory.specs.Memory.{memory_directory}
-use Rattle.raft_pipes.specs.Folder.{readable_in}
+use Rattle.raft_log_engine.specs.Contents.{contents_at, known_at}
 use Rattle.raft_script.proofs.ProgramLemmas.{opens_after_crash, opens_weaker}
 use Rattle.raft_script.specs.Program.{HoldsAfterCrash, IsNewWith}
 use Rattle.raft_script.proofs.program.crash.Goals as goal
@@ -26,4 +26,4 @@ returns-in-Ok c =
     let n = memory_directory c.give_up.result in
     let m = memory_directory c.in-Ok.files in
     let left = c.in-Ok.ensures.value in
-    record { value = opens_weaker (IsNewWith dir (readable_in dir m)) (HoldsAfterCrash old) (λ e is. opens_after_crash old e dir n m left.0 c.in_ok-config.ensures.folder c.give_up.ensures.unchanged.0 left.1 (c.crash_leaves_a_prefix.ensures.contents dir n m left.0 left.2) is) c.open_again.result c.open_again.new.engine c.open_again.ensures.value }
+    record { value = opens_weaker (IsNewWith dir (contents_at dir m) (known_at dir m)) (HoldsAfterCrash old) (λ e is. opens_after_crash old e dir n m left.0 c.in_ok-config.ensures.folder c.give_up.ensures.unchanged.0 left.1 (c.crash_leaves_a_prefix.ensures.contents dir n m left.0 left.2) is) c.open_again.result c.open_again.new.engine c.open_again.ensures.value }

@@ -1,12 +1,11 @@
-use Rattle.std.proofs.Common.{◌≡◌, ◌∙◌, ◌∷◌, [], List, Option, Some, ap, map, inl, inr, refl, rules, subst, sym, append-nil}
+use Rattle.std.proofs.Common.{◌≡◌, ◌∙◌, ◌∷◌, [], List, Option, Some, ap, map, inl, inr, refl, rules, subst, sym}
 use Rattle.std.specs.Prelude.{unwrap_or}
 use Rattle.raft_records.specs.Contents.{Contents, first_index_of, last_index_of}
 use Rattle.raft_records.specs.Item.{Batch}
 use Rattle.raft_log_engine.specs.Durability.{Durability, durability_of}
 use Rattle.raft_log_engine.specs.Engine.{answer_now, answered_of, contents_of, directory_of, durable_of, folder_of, has_failed, is_known_in, moments_of, queue_of, refusals_of, unsynced_of}
 use Rattle.raft_script.specs.Run.{IsUnbuiltGroup, Part, batch_of_acts, batches_of_parts, group_batches, items_of_acts}
-use Rattle.raft_log_engine.specs.Crash.{LeavesAllowed, pending_of, written_batch}
-use Rattle.raft_env.specs.Moments.{HoldsThroughout}
+use Rattle.raft_log_engine.specs.Crash.{pending_of, written_batch}
 use Rattle.raft_script.specs.declared.operation.Op.TheVariants.{Sync, Write}
 use Rattle.raft_script.proofs.DurabilityLemmas.{moments_of_batch, written_progress}
 use Rattle.raft_script.proofs.RunAnswersLemmas.{does_compact, does_read, in_flight, read_same}
@@ -38,10 +37,10 @@ returns-in-Ok-clause-progress g c =
       may_be = refl;
       given = written_batch (items_of_acts acts.items);
       is_given = refl;
-      progress = written_progress (contents_of e) acts items c.in-Write.sync built c.write.result (durability_of e) (durability_of n) write.progress;
+      progress = written_progress (contents_of e) acts items c.in-Write.sync built c.write.result (durability_of e) (durability_of n) write.advance.progress;
       answers = inr (record {
         noted = write.answered ∙ ap (λ (given : List Batch). answer_now given n ∷ answered_of e) (ap (λ (b : Option Batch). written_batch (unwrap_or b [])) (sym built));
-        moments = λ alive. in_flight e (Write acts c.in-Write.sync) (pending_of (contents_of e) (items_of_acts acts.items)) (moments_of n) (directory_of n) refl (moments_of_batch (folder_of e) (durable_of e) (contents_of e) (unsynced_of e) items (batch_of_acts acts.items) (moments_of e) (moments_of n) (directory_of n) built write.any_moment);
+        moments = λ alive. in_flight e (Write acts c.in-Write.sync) (pending_of (contents_of e) (items_of_acts acts.items)) (moments_of n) (directory_of n) refl (moments_of_batch (folder_of e) (durable_of e) (contents_of e) (unsynced_of e) items (batch_of_acts acts.items) (moments_of e) (moments_of n) (directory_of n) built write.advance.any_moment);
         rests = λ failed. (write.unchanged failed).0.moments;
       });
     })
@@ -70,8 +69,8 @@ returns-in-Sync-clause-progress g c =
       may_be = refl;
       given = [];
       is_given = refl;
-      progress = search rules;
-      answers = inr (record { noted = search rules; moments = λ alive. in_flight e Sync [] (moments_of n) (directory_of n) refl (subst (λ (l : List Batch). HoldsThroughout (moments_of e) (moments_of n) (directory_of n) (LeavesAllowed (folder_of e) (durable_of e) l)) (sym (append-nil (unsynced_of e))) c.sync.ensures.any_moment); rests = search rules });
+      progress = c.sync.ensures.advance.progress;
+      answers = inr (record { noted = search rules; moments = λ alive. in_flight e Sync [] (moments_of n) (directory_of n) refl c.sync.ensures.advance.any_moment; rests = search rules });
     })
 
 pub returns-in-Ok-clause-failed : goal.returns-in-Ok-clause-failed
@@ -100,7 +99,7 @@ returns-in-CompactTo-clause-progress g c =
     let e = c.args.engine.now in
     let n = c.compact_to.new.self in
     let result = c.compact_to.result in
-    rw c.in-CompactTo.is (does_compact e n c.in-CompactTo.group c.in-CompactTo.index result c.compact_to.ensures.progress c.compact_to.ensures.any_moment c.compact_to.ensures.answered c.compact_to.ensures.unchanged)
+    rw c.in-CompactTo.is (does_compact e n c.in-CompactTo.group c.in-CompactTo.index result c.compact_to.ensures.advance.progress c.compact_to.ensures.advance.any_moment c.compact_to.ensures.answered c.compact_to.ensures.unchanged)
 
 pub returns-in-Entry-clause-value : goal.returns-in-Entry-clause-value
 returns-in-Entry-clause-value g c =
@@ -180,7 +179,7 @@ pub returns-in-Ok-build_group-clause-refused : goal.returns-in-Ok-build_group-cl
 returns-in-Ok-build_group-clause-refused g c =
     let at = (goal.at.returns-in-Ok-build_group-clause-refused g c).After-write_group in
     let write = c.write_group.ensures in
-    group_refuses c.in-WriteGroup.parts c.deref_mut.result.now c.write_group.new.batches c.deref-in-Ok-build_group.result.now c.args.engine.now c.write_group.new.self (group_built g at) (group_flags g at) c.write_group.result write.ok write.cause write.refused
+    group_refuses c.in-WriteGroup.parts c.deref_mut.result.now c.write_group.new.batches c.deref-in-Ok-build_group.result.now c.args.engine.now c.write_group.new.self (group_built g at) (group_flags g at) c.write_group.result write.ok write.cause write.others.counts
 
 pub returns-in-Ok-build_group-clause-progress : goal.returns-in-Ok-build_group-clause-progress
 returns-in-Ok-build_group-clause-progress g c =

@@ -1,12 +1,11 @@
 use Rattle.std.proofs.Common.{◌≡◌, ◌∷◌, ◌||◌, ℕ, Option, false, is_some, List, ◌++◌, ap, append_assoc, ◌∙◌, Bool, [], inl, inr, refl, sym, subst}
 use Rattle.std.specs.String.{string_bytes}
+use Rattle.raft_records.specs.Contents.{Contents}
 use Rattle.raft_records.specs.Item.{Batch}
 use Rattle.raft_env.specs.Directory.{Directory, HasFile, Path}
 use Rattle.raft_script.specs.Durability.{LeavesAllowedAfter}
-use Rattle.raft_log_engine.specs.Engine.{all_batches, answered_of, begun_of, directory_of, durable_of, folder_of, has_failed, snapshot_of, unsynced_of}
-use Rattle.raft_log_engine.specs.Batches.{found_batches}
-use Rattle.raft_log_engine.specs.Contents.{contents_at, recovered_contents}
-use Rattle.raft_pipes.specs.Folder.{readable_in}
+use Rattle.raft_log_engine.specs.Engine.{answered_of, begun_of, directory_of, durable_of, folder_of, found_groups_of, found_of, has_failed, snapshot_of, unsynced_of}
+use Rattle.raft_log_engine.specs.Contents.{contents_at, found_contents, found_groups, known_at}
 use Rattle.std.specs.List.{AllByRecursion}
 use Rattle.raft_pipes.specs.Completed.{ReadsCompletedRecordsIfSimple}
 use Rattle.raft_script.specs.Trial.{LeavesDetectable}
@@ -19,10 +18,11 @@ use Rattle.raft_script.proofs.trials.run_over.Goals as goal
 pub returns-in_ok-ran-in-Ok-clause-ok : goal.returns-in_ok-ran-in-Ok-clause-ok
 returns-in_ok-ran-in-Ok-clause-ok g c =
     let dir = string_bytes c.args.config.dir in
-    let found = readable_in dir (g.F.FileSystem.directory c.args.files) in
-    let m = recovered_contents found in
+    let files = g.F.FileSystem.directory c.args.files in
+    let m = contents_at dir files in
     let e = c.in-Ok.engine in
-    let held : all_batches e ≡ found = c.in-Ok.ensures.ok.batches ∙ ap (found_batches dir) c.in-Ok.ensures.value in
+    let found : found_of e ≡ m = ap (λ (f : Path). found_contents f (begun_of e)) c.in-Ok.ensures.ok.folder_is ∙ ap (found_contents dir) c.in-Ok.ensures.value in
+    let groups : found_groups_of e ≡ known_at dir files = ap (λ (f : Path). found_groups f (begun_of e)) c.in-Ok.ensures.ok.folder_is ∙ ap (found_groups dir) c.in-Ok.ensures.value in
     let ops = c.args.ops.now in
     let ran = c.in_ok-ran-in-Ok.ran in
     let outcomes = ran.outcomes.items in
@@ -31,7 +31,10 @@ returns-in_ok-ran-in-Ok-clause-ok g c =
     c.in-Ok.ensures.ok.folder_is (c.in-Ok.ensures.ok.synced.0 ∙ c.in-Ok.ensures.contents) c.in-Ok.ensures.ok.synced.1 run.ok.now in
     λ _. record {
       answered = inl (record {
-        answers = subst (λ (b : Bool). AreAnswers b ran.failed_at found ops outcomes) c.in-Ok.ensures.ok.stands (subst (λ (l : List Batch). AreAnswers (has_failed e) ran.failed_at l ops outcomes) held run.ok.answers);
+        answers = subst (λ (b : Bool). AreAnswers b ran.failed_at m (known_at dir files) [] ops outcomes) c.in-Ok.ensures.ok.stands
+            (subst (λ (x : Contents). AreAnswers (has_failed e) ran.failed_at x (known_at dir files) [] ops outcomes) found
+            (subst (λ (k : ℕ → Bool). AreAnswers (has_failed e) ran.failed_at (found_of e) k [] ops outcomes) groups
+            (subst (λ (l : List Batch). AreAnswers (has_failed e) ran.failed_at (found_of e) (found_groups_of e) l ops outcomes) c.in-Ok.ensures.ok.none run.ok.answers)));
         place = subst (λ (b : Bool). IsFailurePlace b ops outcomes ran.failed_at) c.in-Ok.ensures.ok.stands run.ok.failures.1;
       });
       after = subst (λ (n : Directory). LeavesAllowedAfter ran.failed_at dir m [] ops outcomes n) (sym c.give_up.ensures.unchanged.0) after;

@@ -1,0 +1,5 @@
+use Rattle.raft_pipes.specs.Dual.{StandSideBySide}
+use Rattle.raft_file_scenarios.proofs.crashed_queues.take_each.Given as goal
+
+abbrev pub invariant-loop-step : goal.invariant-loop-step
+invariant-loop-step g l = StandSideBySide l.pipes (g.F.FileSystem.directory l.fs)

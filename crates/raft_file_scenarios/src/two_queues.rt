@@ -1,0 +1,281 @@
+//! Both queues of a folder, opened in stages: what is read of each, where their files are cut, and what is left of them.
+
+use raft_env::{FileSystem, FsFault, Permission};
+use raft_memory::MemoryFileSystem;
+use raft_pipes::{Config, Cut, DualPipes, DualPipesBuilder, ReplayMachine};
+use raft_records::{Fault, FileId, Fresh, LogItem, LogQueue};
+use std::alloc::{AllocError, Global};
+use std::test::Fail;
+
+const HEADER: &[u8] =
+    b"RAFT-LOG-FILE-HEADER-9986AB3E47F320B394C8E84916EB0ED5\0\0\0\0\0\0\0\x02\0\0\0\0\0\0\0\0";
+
+/// A record of 28 bytes, signed for file 1 of either queue, and one for file 2; by Python's struct and zlib.
+const PUT_1: &[u8] =
+    b"\x00\x00\x00\x00\x00\x00\x1c\x00\x00\x00\x00\x00\x00\x00\x00\x10\x01\x01\x03\x01\x01\x61\x01\x01\xf9\x48\xbe\x2b";
+
+const PUT_2: &[u8] =
+    b"\x00\x00\x00\x00\x00\x00\x1c\x00\x00\x00\x00\x00\x00\x00\x00\x10\x01\x01\x03\x01\x01\x62\x01\x02\x19\xa7\xf1\xb0";
+
+enum Step {
+    Scan,
+    /// The scan fails with this code.
+    ScanRefused(u8),
+    /// So many batches are read of the queue.
+    Read(LogQueue, u64),
+    /// Reading the queue fails with this code.
+    ReadRefused(LogQueue, u8),
+    /// The files that are cut, with their lengths and how much of them is kept.
+    Cuts(&'static [(&'static str, usize, usize)]),
+}
+
+/// Files and their bytes before the opening, its stages, the last file of each queue or the code with which the opening
+/// isn't finished, and the files after it with their lengths.
+struct Case {
+    name: &'static str,
+    stored: &'static [(&'static str, &'static [&'static [u8]])],
+    steps: &'static [Step],
+    finished: Result<(u64, u64), u8>,
+    files: &'static [(&'static str, usize)],
+}
+
+const APPEND_1: (&str, &[&[u8]]) = ("data/0000000000000001.raftlog", &[HEADER, PUT_1]);
+
+const APPEND_2: (&str, &[&[u8]]) = ("data/0000000000000002.raftlog", &[HEADER, PUT_2, b"\x07"]);
+
+const REWRITE_1: (&str, &[&[u8]]) = ("data/0000000000000001.rewrite", &[HEADER, PUT_1, PUT_2]);
+
+static REFUSED: [Case; 3] = [
+    Case {
+        name: "no files",
+        stored: &[],
+        steps: &[Step::Scan, Step::Cuts(&[])],
+        finished: Ok((1, 1)),
+        files: &[
+            ("data/0000000000000001.raftlog", 69),
+            ("data/0000000000000001.rewrite", 69),
+        ],
+    },
+    Case {
+        name: "no scan",
+        stored: &[APPEND_1],
+        steps: &[Step::ReadRefused(LogQueue::Append, 15), Step::Cuts(&[])],
+        finished: Err(15),
+        files: &[("data/0000000000000001.raftlog", 97)],
+    },
+    Case {
+        name: "a file in the folder's place",
+        stored: &[("data", &[PUT_1])],
+        steps: &[
+            Step::ScanRefused(1),
+            Step::ReadRefused(LogQueue::Append, 15),
+        ],
+        finished: Err(15),
+        files: &[("data", 28)],
+    },
+];
+
+static THREE_FILES: [Case; 2] = [
+    Case {
+        name: "one queue is unread",
+        stored: &[APPEND_1, APPEND_2, REWRITE_1],
+        steps: &[
+            Step::Scan,
+            Step::Read(LogQueue::Append, 2),
+            Step::Cuts(&[("data/0000000000000002.raftlog", 98, 97)]),
+        ],
+        finished: Err(15),
+        files: &[
+            ("data/0000000000000001.raftlog", 97),
+            ("data/0000000000000002.raftlog", 98),
+            ("data/0000000000000001.rewrite", 125),
+        ],
+    },
+    Case {
+        name: "broken ends of both queues",
+        stored: &[APPEND_1, APPEND_2, REWRITE_1],
+        steps: &[
+            Step::Scan,
+            Step::Read(LogQueue::Rewrite, 1),
+            Step::Read(LogQueue::Append, 2),
+            Step::Cuts(&[
+                ("data/0000000000000002.raftlog", 98, 97),
+                ("data/0000000000000001.rewrite", 125, 97),
+            ]),
+        ],
+        finished: Ok((2, 1)),
+        files: &[
+            ("data/0000000000000001.raftlog", 97),
+            ("data/0000000000000002.raftlog", 97),
+            ("data/0000000000000001.rewrite", 97),
+        ],
+    },
+];
+
+// A function is checked with all of each table that it names, and that grows with the square of the table.
+fn cases() -> [&'static [Case]; 2] {
+    [&REFUSED, &THREE_FILES]
+}
+
+/// Counts batches.
+#[derive(Drop)]
+struct Counter {
+    batches: u64,
+}
+
+impl ReplayMachine for Counter {
+    ghost stands_for = { λ blocks machine batches. Unit {0} };
+
+    fn replay(&mut self, _items: Vec<LogItem>, _file: FileId) -> Result<(), Fault> {
+        self.batches = self.batches.saturating_add(1);
+        Ok(())
+    }
+}
+
+fn settings(alloc: Global) -> Result<Config, AllocError> {
+    let mut config = Config::fresh(alloc);
+    config.dir.push_str("data")?;
+    Ok(config)
+}
+
+fn store<F: FileSystem>(fs: &mut F, path: &str, parts: &[&[u8]]) -> Result<(), FsFault> {
+    if path.len() > 4 {
+        fs.make_dir("data")?;
+    }
+    let handle = fs.create(path)?;
+    let mut writer = fs.new_writer(&handle)?;
+    let mut at = 0;
+    for part in parts {
+        fs.write(&mut writer, at, part)?;
+        at = at.saturating_add(part.len());
+    }
+    Ok(())
+}
+
+// How many batches are read of the queue.
+fn read<F: FileSystem>(builder: &mut DualPipesBuilder<F>, queue: LogQueue) -> Result<u64, Fault> {
+    let mut machine = Counter { batches: 0 };
+    builder.recover_queue(queue, &mut machine)?;
+    Ok(machine.batches)
+}
+
+fn are_cuts(cuts: &[Cut], wanted: &[(&str, usize, usize)]) -> bool {
+    cuts.len() == wanted.len()
+        && cuts.iter().zip(wanted.iter()).all(|(cut, wanted)| {
+            cut.path.as_str() == wanted.0 && cut.len == wanted.1 && cut.kept == wanted.2
+        })
+}
+
+fn is_refused<T: Drop>(answer: Result<T, Fault>, code: u8) -> bool {
+    match answer {
+        Ok(_answer) => false,
+        Err(fault) => fault.code() == code,
+    }
+}
+
+// Whether the step comes to what it says.
+fn holds<F: FileSystem>(builder: &mut DualPipesBuilder<F>, step: &Step) -> Result<bool, Fault> {
+    match step {
+        Step::Scan => {
+            builder.scan()?;
+            Ok(true)
+        }
+        Step::ScanRefused(code) => Ok(is_refused(builder.scan(), *code)),
+        Step::Read(queue, batches) => Ok(read(builder, *queue)? == *batches),
+        Step::ReadRefused(queue, code) => Ok(is_refused(read(builder, *queue), *code)),
+        Step::Cuts(wanted) => Ok(are_cuts(builder.cuts()?.as_slice(), wanted)),
+    }
+}
+
+fn are_taken<F: FileSystem>(
+    builder: &mut DualPipesBuilder<F>,
+    steps: &[Step],
+) -> Result<bool, Fault> {
+    let mut are_right = true;
+    for step in steps {
+        are_right = holds(builder, step)? && are_right;
+    }
+    Ok(are_right)
+}
+
+/// The first file and the last one of each queue, or the code with which the opening isn't finished.
+type Ended = Result<((u64, u64), (u64, u64)), u8>;
+
+fn finished<F: FileSystem + Drop>(builder: DualPipesBuilder<F>) -> (Ended, F) {
+    match builder.finish() {
+        Ok((pipes, files)) => (Ok(spans_of(&pipes)), files),
+        Err((fault, files)) => (Err(fault.code()), files),
+    }
+}
+
+fn spans_of<F: FileSystem>(pipes: &DualPipes<F>) -> ((u64, u64), (u64, u64)) {
+    (
+        pipes.file_span(LogQueue::Append),
+        pipes.file_span(LogQueue::Rewrite),
+    )
+}
+
+fn is_end(ended: Ended, wanted: &Result<(u64, u64), u8>) -> bool {
+    match (ended, wanted) {
+        (Ok((append, rewrite)), Ok((last_append, last_rewrite))) => {
+            append == (1, *last_append) && rewrite == (1, *last_rewrite)
+        }
+        (Err(code), Err(wanted)) => code == *wanted,
+        _ => false,
+    }
+}
+
+fn have_lengths<F: FileSystem>(fs: &mut F, files: &[(&str, usize)]) -> Result<bool, FsFault> {
+    let folder = if fs.is_dir("data") { "data" } else { "" };
+    let mut equal = fs.list(folder)?.len() == files.len();
+    for (path, len) in files {
+        let handle = fs.open(path, Permission::ReadOnly)?;
+        equal = fs.file_size(&handle)? == *len && equal;
+    }
+    Ok(equal)
+}
+
+fn store_all<F: FileSystem>(fs: &mut F, case: &Case) -> Result<(), FsFault> {
+    for (path, parts) in case.stored {
+        store(fs, path, parts)?;
+    }
+    Ok(())
+}
+
+fn begun<F: FileSystem + Drop>(alloc: Global, fs: F) -> Result<DualPipesBuilder<F>, Fault> {
+    match DualPipesBuilder::new(alloc, &settings(alloc)?, fs) {
+        Ok(builder) => Ok(builder),
+        Err((fault, _files)) => Err(fault),
+    }
+}
+
+// The files after the opening, if its steps and its end come to what they say.
+fn opened<F: FileSystem + Drop>(alloc: Global, fs: F, case: &Case) -> Result<Option<F>, Fault> {
+    let mut builder = begun(alloc, fs)?;
+    let are_right = are_taken(&mut builder, case.steps)?;
+    let (ended, files) = finished(builder);
+    if are_right && is_end(ended, &case.finished) {
+        Ok(Some(files))
+    } else {
+        Ok(None)
+    }
+}
+
+fn is_as_said<F: FileSystem + Drop>(alloc: Global, mut fs: F, case: &Case) -> Result<bool, Fail> {
+    store_all(&mut fs, case)?;
+    match opened(alloc, fs, case)? {
+        Some(mut files) => Ok(have_lengths(&mut files, case.files)?),
+        None => Ok(false),
+    }
+}
+
+#[test]
+fn both_queues_are_opened_in_stages(rt: HostRuntime) -> Result<(), Fail> {
+    for cases in &cases() {
+        for case in *cases {
+            let files = MemoryFileSystem::new(rt.alloc());
+            assert!(rt; is_as_said(rt.alloc(), files, case)?, "{}", case.name);
+        }
+    }
+    Ok(())
+}

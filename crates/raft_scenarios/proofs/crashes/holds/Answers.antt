@@ -1,9 +1,0 @@
-use denote.Param.Send.{sendable}
-use Rattle.raft_memory.proofs.Sent.{memory_send, memory_sync}
-use Rattle.raft_scenarios.proofs.crashes.holds.Goals as goal
-
-pub is_answered-requires-send-F : goal.is_answered-requires-send-F
-is_answered-requires-send-F c = λ κs. search (sendable, memory_send) depth 20
-
-pub is_answered-requires-sync-F : goal.is_answered-requires-sync-F
-is_answered-requires-sync-F c = λ κs. search (sendable, memory_send, memory_sync) depth 20

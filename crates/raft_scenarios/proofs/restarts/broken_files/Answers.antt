@@ -1,9 +1,0 @@
-use denote.Param.Send.{sendable}
-use Rattle.raft_memory.proofs.Sent.{memory_send, memory_sync}
-use Rattle.raft_scenarios.proofs.restarts.broken_files.Goals as goal
-
-pub store_all-requires-send-F : goal.store_all-requires-send-F
-store_all-requires-send-F c = λ κs. search (sendable, memory_send) depth 20
-
-pub store_all-requires-sync-F : goal.store_all-requires-sync-F
-store_all-requires-sync-F c = λ κs. search (sendable, memory_send, memory_sync) depth 20

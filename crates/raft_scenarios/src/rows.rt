@@ -1,0 +1,41 @@
+//! Tables of rows, each of which begins with new files.
+
+use crate::folders::{Folder, wrong_opening};
+use crate::held::{Faulty, Held};
+use crate::program::{Script, wrong_script};
+use crate::restarts::{Calls, wrong_call};
+use crate::stories::{Story, wrong_story};
+use raft_memory::MemoryFileSystem;
+use raft_plans::Left;
+use std::alloc::Global;
+use std::process::Abort;
+use std::test::Fail;
+
+pub(crate) enum Rows {
+    Scripts(&'static [Script]),
+    Stories(&'static [Story]),
+    /// Openings, and whether the engine is closed then.
+    Openings(&'static [Folder], bool),
+    /// Openings with failing calls, and what a crash leaves after each; after none the files are whole.
+    Failures(&'static [Calls], &'static [Option<Left>]),
+}
+
+/// The first row that comes to something else, and where in it.
+pub(crate) type Wrong = Option<(&'static str, usize)>;
+
+fn first_wrong<F: Faulty>(alloc: Global, files: F, rows: Rows) -> Wrong {
+    let mut held = Held::Files(files);
+    match rows {
+        Rows::Scripts(scripts) => wrong_script(alloc, scripts),
+        Rows::Stories(stories) => wrong_story(alloc, &mut held, stories),
+        Rows::Openings(folders, closes) => wrong_opening(alloc, &mut held, folders, closes),
+        Rows::Failures(calls, lefts) => wrong_call(alloc, &mut held, calls, lefts),
+    }
+}
+
+/// Fails where a row comes to something else.
+pub(crate) fn each_holds<R: Abort + AllocGlobal>(rt: &R, rows: Rows) -> Result<(), Fail> {
+    let files = MemoryFileSystem::new(rt.alloc());
+    assert_eq!(rt; first_wrong(rt.alloc(), files, rows), None);
+    Ok(())
+}
