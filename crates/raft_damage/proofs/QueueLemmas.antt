@@ -2,34 +2,33 @@
 use Rattle.std.proofs.Common.{◌≡◌, ℕ, List, [], ◌∷◌, Some, sym, subst, ◌∙◌}
 use Rattle.std.proofs.Math.Logic.{∥∥₁_elim, ∥∥₁_map, ∥∥₁_prop}
 use Rattle.raft_records.specs.Item.{Batch}
-use Rattle.raft_base.specs.declared.pipe_log.LogQueue.TheVariants.{Append}
+use Rattle.raft_base.specs.declared.pipe_log.LogQueue.{LogQueue}
 use Rattle.raft_env.specs.Consistent.{AreConsistent}
 use Rattle.raft_env.specs.Directory.{Directory, Path}
 use Rattle.raft_memory.specs.Choice.{AreWhole, left_by}
 use Rattle.raft_memory.specs.declared.crash.Choice.{Choice}
 use Rattle.raft_files.specs.Detectable.{IsDetectable}
 use Rattle.raft_files.proofs.ScanExtentLemmas.{same_some}
-use Rattle.raft_pipes.specs.Completed.{HasSimplePastIn, PipeHasCompletedLogIfSimple}
-use Rattle.raft_pipes.specs.Folder.{IsDetectableIn}
+use Rattle.raft_pipes.specs.Completed.{HasSimplePastOf, PipeHasCompletedLogIfSimple}
 use Rattle.raft_pipes.specs.Numbered.{in_queue}
-use Rattle.raft_pipes.specs.Pipe.{HasQueue}
+use Rattle.raft_pipes.specs.Pipe.{HasQueueOf}
 use Rattle.raft_pipes.specs.PipeState.{PipeState, WritesFiles, last_file, last_seq}
-use Rattle.raft_pipes.specs.QueueFiles.{last_kept}
+use Rattle.raft_pipes.specs.QueueFiles.{IsDetectableQueue, last_kept}
 use Rattle.raft_pipes.proofs.QueueLemmas.{last_kept-written}
 use Rattle.raft_damage.proofs.PremiseLemmas.{log_whole}
 
-module _ (p : PipeState) (folder : Path) (batches : List Batch) (synced : ℕ) (n : Directory) (queue : HasQueue p folder batches synced n) where
+module _ (which : LogQueue) (p : PipeState) (folder : Path) (batches : List Batch) (synced : ℕ) (n : Directory) (queue : HasQueueOf which p folder batches synced n) where
   -- the pipe's last file is the folder's last one
-  last_kept-queue : WritesFiles p batches synced n → last_kept (folder ∷ []) Append n ≡ Some (last_seq p, p.writer.path)
+  last_kept-queue : WritesFiles p batches synced n → last_kept (folder ∷ []) which n ≡ Some (last_seq p, p.writer.path)
   last_kept-queue writes =
-      subst (λ f. last_kept (f ∷ []) Append n ≡ Some (last_seq p, p.writer.path)) queue.folder_is
+      subst (λ f. last_kept (f ∷ []) which n ≡ Some (last_seq p, p.writer.path)) queue.folder_is
       (subst (λ k. last_kept (p.folder ∷ []) k n ≡ Some (last_seq p, p.writer.path)) queue.queue_is (last_kept-written p batches synced n writes))
 
-  pub queue_whole : PipeHasCompletedLogIfSimple p n → HasSimplePastIn folder n → AreConsistent n → (choices : List Choice) → AreWhole choices → ∥ IsDetectableIn folder n (left_by choices n) ∥₁
+  pub queue_whole : PipeHasCompletedLogIfSimple p n → HasSimplePastOf which folder n → AreConsistent n → (choices : List Choice) → AreWhole choices → ∥ IsDetectableQueue (folder ∷ []) which n (left_by choices n) ∥₁
   queue_whole completed past consistent choices whole = ∥∥₁_elim queue.files ∥∥₁_prop (λ writes.
       let last = last_kept-queue writes in
       ∥∥₁_map (completed (past (last_seq p, p.writer.path) last)) (λ d f is.
       let left = left_by choices n in
       let there : IsDetectable p.writer.path (last_file p) n left = log_whole p.writer.path (last_file p) d.format d.batches d.synced p.writer.written n d.log consistent choices whole in
-      subst (λ (g : ℕ × Path). IsDetectable g.1 (in_queue Append g.0) n left) (same_some (sym last ∙ is))
+      subst (λ (g : ℕ × Path). IsDetectable g.1 (in_queue which g.0) n left) (same_some (sym last ∙ is))
       (subst (λ k. IsDetectable p.writer.path (in_queue k (last_seq p)) n left) queue.queue_is there)))

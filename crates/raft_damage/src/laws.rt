@@ -1,7 +1,8 @@
 //! The premise on damage can be met.
-ghost use Rattle.std.specs.Prelude.{◌≡◌, ◌⊎◌, ◌≤◌, ℕ, List, Some, None, take};
+ghost use Rattle.std.specs.Prelude.{◌≡◌, ◌⊎◌, ◌≤◌, ℕ, List, [], ◌∷◌, Some, None, take};
 ghost use Rattle.raft_records.specs.Item.{Batch};
 ghost use Rattle.raft_base.specs.declared.pipe_log.FileId.{FileId};
+ghost use Rattle.raft_base.specs.declared.pipe_log.LogQueue.{LogQueue};
 ghost use Rattle.raft_base.specs.declared.pipe_log.Version.{Version};
 ghost use Rattle.std.specs.FinMap as finite;
 ghost use Rattle.raft_memory.specs.Choice.{AreWhole, choice_for, left_by, touched_before, NameNoBytes};
@@ -12,10 +13,10 @@ ghost use Rattle.raft_env.specs.Outcomes.{File, is_touched};
 ghost use Rattle.raft_files.specs.Records.{HoldsRecords};
 ghost use Rattle.raft_premise.specs.Completed.{EndsInZeros, HasCompletedLog, HasCompletedRecords};
 ghost use Rattle.raft_damage.specs.DetectableDamage.{EachAddsOnlyItsRecord, IsBrokenFrom, IsReadAsBefore, IsTornAfter};
-ghost use Rattle.raft_pipes.specs.Completed.{HasSimplePastIn, PipeHasCompletedLogIfSimple};
-ghost use Rattle.raft_pipes.specs.Folder.{IsDetectableIn};
-ghost use Rattle.raft_pipes.specs.Pipe.{HasQueue};
+ghost use Rattle.raft_pipes.specs.Completed.{HasSimplePastOf, PipeHasCompletedLogIfSimple};
+ghost use Rattle.raft_pipes.specs.Pipe.{HasQueueOf};
 ghost use Rattle.raft_pipes.specs.PipeState.{PipeState};
+ghost use Rattle.raft_pipes.specs.QueueFiles.{IsDetectableQueue};
 ghost use Rattle.raft_memory.specs.declared.crash.Choice.{Choice};
 ghost use Rattle.raft_memory.specs.declared.crash.Choice.TheVariants as choice;
 ghost use Rattle.raft_files.specs.declared.format.LogFileFormat.{LogFileFormat};
@@ -71,12 +72,11 @@ pub fn premise_can_be_met()
 
 /// The damage of a crash that leaves each file with all its bytes now or those of its last sync is
 /// detectable of a queue of whose last file only writes failed, and no failed call brought a
-/// record (`detectable`). `raft_pipes::open` gives such a queue, and the pipe's calls
-/// keep it.
+/// record (`detectable`). Openings of `raft_pipes` give such queues, and the calls of pipes keep them.
 pub fn damage_of_a_queue_is_detectable()
-    ensures detectable { (p : PipeState) (folder : Path) (batches : List Batch) (synced : ℕ)
-        (n : Directory) → HasQueue p folder batches synced n → PipeHasCompletedLogIfSimple p n
-        → HasSimplePastIn folder n → AreConsistent n
+    ensures detectable { (queue : LogQueue) (p : PipeState) (folder : Path) (batches : List Batch)
+        (synced : ℕ) (n : Directory) → HasQueueOf queue p folder batches synced n
+        → PipeHasCompletedLogIfSimple p n → HasSimplePastOf queue folder n → AreConsistent n
         → (choices : List Choice) → AreWhole choices
-        → ∥ IsDetectableIn folder n (left_by choices n) ∥₁ }
+        → ∥ IsDetectableQueue (folder ∷ []) queue n (left_by choices n) ∥₁ }
 {}

@@ -25,7 +25,7 @@ struct Keys {
 }
 
 impl ReplayMachine for Keys {
-    ghost stands_for = { λ blocks machine batches. Unit {0} };
+    ghost stands_for = { λ blocks earlier machine batches. Unit {0} };
 
     fn replay(&mut self, items: Vec<LogItem>, file: FileId) -> Result<(), Fault> {
         for item in &items {

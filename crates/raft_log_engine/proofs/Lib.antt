@@ -1,14 +1,17 @@
 pub mod CompactLemmas
+pub mod ConsecutiveLemmas
 pub mod ContentsLemmas
 pub mod TableLemmas
 pub mod ValidityLemmas
 pub mod CrashLemmas
 pub mod EngineLemmas
+pub mod BothLemmas
 pub mod DurabilityLemmas
 pub mod AdvanceLemmas
 pub mod GroupLemmas
 pub mod GroupRunLemmas
 pub mod OpeningLemmas
+pub mod RecoveryLemmas
 pub mod PlacedLemmas
 pub mod HeldLemmas
 pub mod CacheLemmas

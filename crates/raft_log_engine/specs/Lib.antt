@@ -9,6 +9,8 @@ pub mod Group
 pub mod Durability
 pub mod Advance
 pub mod Opening
+pub mod Queues
+pub mod Recovery
 pub mod Write
 pub mod Image
 pub mod Reads

@@ -1,20 +1,19 @@
 //! What a crash leaves of an engine, whatever calls came before.
-ghost use Rattle.std.specs.Prelude.{◌≡◌, ◌++◌, List, [], false};
+ghost use Rattle.std.specs.Prelude.{◌≡◌, ◌++◌, ℕ, List, [], false};
 ghost use Rattle.raft_records.specs.Contents.{Contents, after_batches, no_contents};
 ghost use Rattle.raft_records.specs.Item.{Batch};
 ghost use Rattle.raft_env.specs.Directory.{Directory, HasFile, IsRestarted, CrashImage, Path};
 ghost use Rattle.raft_env.specs.Moments.{HoldsThroughout};
-ghost use Rattle.raft_log_engine.specs.Crash.{IsAllowedFrom, IsSound, RecoversContents, LeavesAllowed, contents_after_crash};
+ghost use Rattle.raft_log_engine.specs.Crash.{IsAllowedFrom, LeavesAllowed, RecoversContents, contents_after_crash, known_after_crash};
 ghost use Rattle.raft_files.specs.Records.{as_it_is};
-ghost use Rattle.raft_log_engine.specs.Contents.{contents_at};
+ghost use Rattle.raft_log_engine.specs.Contents.{contents_at, known_at};
 ghost use Rattle.raft_log_engine.specs.Opening.{FoundCompletedRecords};
 ghost use Rattle.raft_log_engine.specs.Engine.{contents_of, directory_of, durable_of, folder_of, has_failed, moments_of, queue_of, settings_of, unsynced_of};
 ghost use Rattle.raft_env.specs.Consistent.{AreConsistent};
 ghost use Rattle.raft_memory.specs.Choice.{AreWhole, left_by};
 ghost use Rattle.raft_memory.specs.declared.crash.Choice.{Choice};
-ghost use Rattle.raft_pipes.specs.Completed.{HasSimplePastIn};
-ghost use Rattle.raft_pipes.specs.Folder.{HasNoLog, IsDetectableIn};
-ghost use Rattle.raft_pipes.specs.Queue.{IsOpenableIn};
+ghost use Rattle.raft_pipes.specs.Folder.{HasNoLog};
+ghost use Rattle.raft_log_engine.specs.Queues.{AreDetectableIn, AreOpenableIn, AreSoundIn, HaveSimplePastIn};
 ghost use Rattle.raft_pipes.specs.declared.config.RecoveryMode.{RecoveryMode};
 ghost use Rattle.raft_pipes.specs.declared.config.RecoveryMode.TheVariants.{AbsoluteConsistency};
 
@@ -32,24 +31,26 @@ pub fn crash_leaves_contents()
     ensures left { (folder : Path) (m : Contents) (batches : List Batch) (n : Directory)
         → RecoversContents folder m batches n → LeavesAllowed folder m batches n }
     ensures restarted { (folder : Path) (n m : Directory) (d : CrashImage) → IsRestarted n d m
-        → IsSound folder n d → RecoversContents folder (contents_after_crash folder n d) [] m }
+        → AreSoundIn folder n d → RecoversContents folder (contents_after_crash folder n d) [] m }
     ensures found { (folder : Path) (n m : Directory) (d : CrashImage) → IsRestarted n d m
         → contents_at folder m ≡ contents_after_crash folder n d }
+    ensures known { (folder : Path) (n m : Directory) (d : CrashImage) → IsRestarted n d m
+        → (group : ℕ) → known_at folder m group ≡ known_after_crash folder n d group }
     ensures opens { (folder : Path) (n m : Directory) (d : CrashImage) → IsRestarted n d m
-        → IsSound folder n d → (mode : RecoveryMode) → (mode ≡ AbsoluteConsistency → ⊥)
-        → IsOpenableIn mode folder m }
+        → AreSoundIn folder n d → (mode : RecoveryMode) → (mode ≡ AbsoluteConsistency → ⊥)
+        → AreOpenableIn mode folder m }
     ensures as_they_are { (folder : Path) (m : Contents) (batches : List Batch) (n : Directory)
-        → RecoversContents folder m batches n → IsDetectableIn folder n (as_it_is n)
+        → RecoversContents folder m batches n → AreDetectableIn folder n (as_it_is n)
         → IsAllowedFrom 0 m batches (contents_at folder n)
-        × ((mode : RecoveryMode) → (mode ≡ AbsoluteConsistency → ⊥) → IsOpenableIn mode folder n) }
+        × ((mode : RecoveryMode) → (mode ≡ AbsoluteConsistency → ⊥) → AreOpenableIn mode folder n) }
     ensures none { (folder : Path) (n : Directory) → HasNoLog folder n → (HasFile n folder → ⊥)
         → (contents_at folder n ≡ no_contents) × RecoversContents folder no_contents [] n }
     ensures folder { (folder : Path) (m : Contents) (batches : List Batch) (n : Directory)
         → RecoversContents folder m batches n → HasFile n folder → ⊥ }
     ensures no_file { (folder : Path) (n m : Directory) (d : CrashImage) → IsRestarted n d m
-        → IsSound folder n d → HasFile m folder → ⊥ }
+        → AreSoundIn folder n d → HasFile m folder → ⊥ }
 {
-    raft_pipes::laws::crash_leaves_a_prefix();
+    raft_pipes::laws::crash_leaves_a_prefix_of_each();
 }
 
 /// What an engine keeps a crash leaves now: what is durable, and a prefix of what is unsynced, and so while no call
@@ -72,8 +73,8 @@ pub fn an_engine_recovers_what_it_keeps<F: FileSystem>(engine: &Engine<F>)
 pub fn the_damage_of_an_engine_is_detectable<F: FileSystem>(engine: &Engine<F>)
     ensures crash { let folder = folder_of engine.now in let n = directory_of engine.now in
         has_failed engine.now ≡ false → FoundCompletedRecords engine.now
-        → HasSimplePastIn folder n → AreConsistent n → (choices : List Choice) → AreWhole choices
-        → ∥ IsDetectableIn folder n (left_by choices n) ∥₁ }
+        → HaveSimplePastIn folder n → AreConsistent n → (choices : List Choice) → AreWhole choices
+        → ∥ AreDetectableIn folder n (left_by choices n) ∥₁ }
 {
     raft_damage::laws::damage_of_a_queue_is_detectable();
 }

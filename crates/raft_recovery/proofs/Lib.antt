@@ -21,3 +21,4 @@ pub mod ExactLemmas
 pub mod ProgramLemmas
 pub mod CompleteGroupsLemmas
 pub mod ValueLemmas
+pub mod ReadLemmas

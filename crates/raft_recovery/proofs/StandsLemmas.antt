@@ -15,19 +15,19 @@ use Rattle.raft_recovery.proofs.FixedLemmas.{consecutive_parts, replay-replay, r
 
 -- batches that are valid one after the other
 
-valid_take : (m : Contents) (k : ℕ) (bs : List Batch) → AreValidBatches m bs → AreValidBatches m (take k bs)
+pub valid_take : (m : Contents) (k : ℕ) (bs : List Batch) → AreValidBatches m bs → AreValidBatches m (take k bs)
 valid_take m zero bs _ = tt
 valid_take m (suc k) [] _ = tt
 valid_take m (suc k) (b ∷ bs) (valid, others) = (valid, valid_take (after_batch m b) k bs others)
 
-valid_append : (m : Contents) (bs more : List Batch) → AreValidBatches m bs → AreValidBatches (after_batches m bs) more → AreValidBatches m (bs ++ more)
+pub valid_append : (m : Contents) (bs more : List Batch) → AreValidBatches m bs → AreValidBatches (after_batches m bs) more → AreValidBatches m (bs ++ more)
 valid_append m [] more _ then = then
 valid_append m (b ∷ bs) more (valid, others) then = (valid, valid_append (after_batch m b) bs more others then)
 
 one_consecutive : (m : Contents) (b : Batch) → IsValidBatch m b → HaveConsecutiveEntries (b ∷ [])
 one_consecutive m b valid = consecutive_one b (valid_is_consecutive m b valid)
 
-valid_consecutive : (m : Contents) (bs : List Batch) → AreValidBatches m bs → HaveConsecutiveEntries bs
+pub valid_consecutive : (m : Contents) (bs : List Batch) → AreValidBatches m bs → HaveConsecutiveEntries bs
 valid_consecutive m [] _ = refl
 valid_consecutive m (b ∷ bs) (valid, others) = consecutive-append (b ∷ []) bs (one_consecutive m b valid) (valid_consecutive (after_batch m b) bs others)
 

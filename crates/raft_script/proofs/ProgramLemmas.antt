@@ -1,19 +1,18 @@
 -- What the program's openings answer.
-use Rattle.std.proofs.Common.{◌≡◌, ◌∙◌, true, List, [], ◌∷◌, Option, Some, None, Result, Ok, Err, inl, inr, ap, subst, sym}
+use Rattle.std.proofs.Common.{◌≡◌, ◌∙◌, ℕ, Bool, true, List, [], ◌∷◌, Option, Some, None, Result, Ok, Err, inl, inr, ap, subst, sym}
 use Rattle.std.specs.Prelude.{◌↔◌, IfOk, IsErrAnd, MatchResult, codes}
 use Rattle.std.specs.declared.alloc.AllocError.{AllocError}
 use Rattle.std.proofs.lemmas.Bool.{cases_Bool}
 use Rattle.raft_base.specs.declared.errors.Fault.TheVariants as fault
 use Rattle.raft_env.specs.Directory.{CrashImage, Directory, Leaves, Path}
 use Rattle.raft_env.specs.declared.env.FileSystem.{Ghosts}
-use Rattle.raft_tables.specs.Known.{known_in}
-use Rattle.raft_log_engine.specs.Contents.{contents_at, found_contents, found_groups, known_at, known_from, recovered_contents}
+use Rattle.raft_log_engine.specs.Contents.{contents_at, found_contents, found_groups, known_at, known_from}
+use Rattle.raft_log_engine.specs.Crash.{contents_after_crash, known_after_crash}
 use Rattle.raft_log_engine.specs.Engine.{begun_of, directory_of, folder_of, found_groups_of, found_of, has_failed}
 use Rattle.raft_log_engine.specs.Opening.{BeginsAsClosed, IsNewIn}
 use Rattle.raft_log_engine.specs.declared.engine.Engine.{Engine}
 use Rattle.raft_log_engine.specs.declared.engine.Refused.{Refused}
-use Rattle.raft_pipes.specs.Folder.{readable_after_crash, readable_in}
-use Rattle.raft_records.specs.Contents.{after_batches}
+use Rattle.raft_records.specs.Contents.{Contents, after_batches}
 use Rattle.raft_records.specs.Item.{Batch}
 use Rattle.raft_script.specs.Line.{Asked}
 use Rattle.raft_script.specs.Program.{AnswersFrom, AnswersLine, HoldsAfterCrash, IsMetBy, IsNewWith, IsReopened, OpensTo}
@@ -50,27 +49,27 @@ module _ {F H R W : Type 0} {g : Ghosts F H R W} where
   opened_with folder n (Ok e) new begun = new_with folder n e new begun
   opened_with folder n (Err r) new begun = tt
 
-  -- .. in this folder, of whose log these are read
-  pub opened_in : (dir folder : Path) (n : Directory) (batches : List Batch) (opening : Result (Engine F H R W g) (Refused F)) → dir ≡ folder → readable_in dir n ≡ batches → IfOk opening (IsNewWith dir (contents_at dir n) (known_at dir n)) → IfOk opening (IsNewWith folder (recovered_contents batches) (known_in batches))
-  opened_in dir folder n batches (Ok e) dir_is are opened = record {
+  -- .. in this folder, where it stands for these
+  pub opened_in : (dir folder : Path) (n : Directory) (m : Contents) (known : ℕ → Bool) (opening : Result (Engine F H R W g) (Refused F)) → dir ≡ folder → contents_at dir n ≡ m → ((group : ℕ) → known_at dir n group ≡ known group) → IfOk opening (IsNewWith dir (contents_at dir n) (known_at dir n)) → IfOk opening (IsNewWith folder m known)
+  opened_in dir folder n m known (Ok e) dir_is contents groups opened = record {
     new = subst (λ (p : Path). IsNewIn p e) dir_is opened.new;
-    contents = opened.contents ∙ ap recovered_contents are;
-    groups = λ group. opened.groups group ∙ ap (λ (l : List Batch). known_in l group) are;
+    contents = opened.contents ∙ contents;
+    groups = λ group. opened.groups group ∙ groups group;
   }
-  opened_in dir folder n batches (Err r) dir_is are opened = tt
+  opened_in dir folder n m known (Err r) dir_is contents groups opened = tt
 
   -- an opening of what a crash left
-  pub opens_after_crash : (old e : Engine F H R W g) (dir : Path) (n m : Directory) (image : CrashImage) → dir ≡ codes "raft" → n ≡ directory_of old → Leaves n image → readable_in dir m ≡ readable_after_crash dir n image → IsNewWith dir (contents_at dir m) (known_at dir m) e → HoldsAfterCrash old e
-  opens_after_crash old e dir n m image dir_is n_is leaves found opened =
-      let same : readable_in dir m ≡ readable_after_crash (codes "raft") (directory_of old) image = found ∙ ap (λ (p : Path). readable_after_crash p n image) dir_is ∙ ap (λ (x : Directory). readable_after_crash (codes "raft") x image) n_is in (
-        image,
-        subst (λ (x : Directory). Leaves x image) n_is leaves,
-        record {
-          new = subst (λ (p : Path). IsNewIn p e) dir_is opened.new;
-          contents = opened.contents ∙ ap recovered_contents same;
-          groups = λ group. opened.groups group ∙ ap (λ (l : List Batch). known_in l group) same;
-        },
-      )
+  pub opens_after_crash : (old e : Engine F H R W g) (dir : Path) (n m : Directory) (image : CrashImage) → dir ≡ codes "raft" → n ≡ directory_of old → Leaves n image → contents_at dir m ≡ contents_after_crash dir n image → ((group : ℕ) → known_at dir m group ≡ known_after_crash dir n image group)
+      → IsNewWith dir (contents_at dir m) (known_at dir m) e → HoldsAfterCrash old e
+  opens_after_crash old e dir n m image dir_is n_is leaves contents groups opened = (
+    image,
+    subst (λ (x : Directory). Leaves x image) n_is leaves,
+    record {
+      new = subst (λ (p : Path). IsNewIn p e) dir_is opened.new;
+      contents = opened.contents ∙ contents ∙ ap (λ (p : Path). contents_after_crash p n image) dir_is ∙ ap (λ (x : Directory). contents_after_crash (codes "raft") x image) n_is;
+      groups = λ group. opened.groups group ∙ groups group ∙ ap (λ (p : Path). known_after_crash p n image group) dir_is ∙ ap (λ (x : Directory). known_after_crash (codes "raft") x image group) n_is;
+    },
+  )
 
   -- an opening of what was closed
   pub reopened : (old : Engine F H R W g) (opening : Result (Engine F H R W g) (Refused F)) → IfOk opening (IsNewIn (folder_of old)) → IfOk opening (BeginsAsClosed old) → (IsErrAnd opening (λ r. r.fault ≡ fault.Failed) ↔ (has_failed old ≡ true)) → IfOk opening (IsReopened old)

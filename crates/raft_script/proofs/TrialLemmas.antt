@@ -2,6 +2,7 @@
 use Rattle.std.proofs.Common.{◌≡◌, ◌⊎◌, ⊎_elim, inl, inr, ℕ, List, [], ◌∷◌, ◌++◌, Option, Some, None, refl, sym, ap, subst, ◌∙◌}
 use Rattle.std.specs.Prelude.{Bool, IsSome, IfOk, IfErr, Result, Ok, Err, is_some, option_map}
 use Rattle.std.specs.FinMap.{get-empty}
+use Rattle.std.proofs.Math.Path.{fun_ext}
 use Rattle.raft_records.specs.Contents.{Contents, no_contents}
 use Rattle.raft_records.specs.Item.{Batch}
 use Rattle.raft_base.specs.Fault.{fault_code}
@@ -18,19 +19,17 @@ use Rattle.raft_base.specs.declared.errors.Fault.TheVariants as fault
 use Rattle.raft_log_engine.specs.Image.{IsImageOf}
 use Rattle.raft_log_engine.specs.declared.engine.image.Image.{Image}
 use Rattle.raft_tables.specs.Known.{known_in}
-use Rattle.raft_log_engine.specs.Contents.{contents_at, known_at, recovered_contents}
-use Rattle.raft_pipes.specs.Completed.{ReadsCompletedRecordsIn}
-use Rattle.raft_base.specs.declared.pipe_log.FileId.{FileId}
+use Rattle.raft_log_engine.specs.Contents.{contents_at, known_at}
 use Rattle.raft_base.specs.declared.pipe_log.LogQueue.{LogQueue}
-use Rattle.raft_base.specs.declared.pipe_log.LogQueue.TheVariants.{Append}
+use Rattle.raft_base.specs.declared.pipe_log.LogQueue.TheVariants.{Append, Rewrite}
 use Rattle.raft_env.specs.Refusal.{Refusals}
-use Rattle.raft_files.specs.Writer.{bytes_at}
-use Rattle.raft_pipes.specs.Files.{EachFile, HasDamageAmong, IsOpenableFile, is_last}
-use Rattle.raft_pipes.specs.Folder.{HasNoLog, IsDetectableIn, log_files, readable_in}
-use Rattle.raft_pipes.specs.LogFile.{IsDamage, IsOpenableLog, tolerates_corruption}
-use Rattle.raft_pipes.specs.Numbered.{in_queue}
+use Rattle.raft_pipes.specs.Folder.{HasNoLog, readable_queue}
 use Rattle.raft_script.specs.Durability.{LeavesAllowedAfter, Progress, progress_after_all, progress_from}
-use Rattle.raft_pipes.specs.Queue.{HasDamageIn, HasLeftDamage, IsOpenRefusal, IsOpenableIn}
+use Rattle.raft_pipes.specs.Queue.{IsOpenRefusalOf}
+use Rattle.raft_log_engine.specs.Queues.{AreDetectableIn, AreOpenableIn, HaveDamageIn, HaveLeftDamage, IsOpeningRefusal, ReadCompletedRecordsIn}
+use Rattle.raft_log_engine.proofs.CrashLemmas.{same_groups, same_queues}
+use Rattle.raft_log_engine.proofs.OpeningLemmas.{undamaged}
+use Rattle.raft_recovery.proofs.ContentsLemmas.{recovered-nothing_rewritten}
 use Rattle.raft_script.specs.Run.{IsStorageOrMemory}
 use Rattle.raft_script.specs.Trial.{IsLeftRefusal, IsLogRefusal, RunsOver}
 use Rattle.raft_pipes.specs.declared.config.RecoveryMode.{RecoveryMode}
@@ -57,7 +56,7 @@ no_log : (folder : Path) (n : Directory) → n ≡ no_files → HasNoLog folder 
 no_log folder n is = λ q named. ap (λ (x : Directory). file_at x q) is ∙ get-empty _ q
 
 -- of a folder without files no failed call brought a record
-pub none_done : (folder : Path) (n : Directory) → (HasNoLog folder n → ReadsCompletedRecordsIn folder n) → n ≡ no_files → ReadsCompletedRecordsIn folder n
+pub none_done : (folder : Path) (n : Directory) → (HasNoLog folder n → ReadCompletedRecordsIn folder n) → n ≡ no_files → ReadCompletedRecordsIn folder n
 none_done folder n done is = done (no_log folder n is)
 
 -- what is true of a folder without a log is so where there are no files
@@ -67,11 +66,13 @@ true_of_none folder n told is =
     told (no_log folder n is) (λ found. let clash = subst IsSome (absent folder) found in absurd cc)
 
 -- what a run shows that began with no files
-pub run_shown : (dir : Path) (before n : Directory) (ops : List Op) (outcomes : List Outcome) (failed_at : Option ℕ) → readable_in dir before ≡ [] → RecoversContents dir no_contents [] before
+pub run_shown : (dir : Path) (before n : Directory) (ops : List Op) (outcomes : List Outcome) (failed_at : Option ℕ) → ((queue : LogQueue) → readable_queue queue dir before ≡ []) → RecoversContents dir no_contents [] before
     → (RecoversContents dir (contents_at dir before) [] before → RunsOver dir (contents_at dir before) (known_at dir before) ops outcomes failed_at n) → RunsOver dir no_contents (known_in []) ops outcomes failed_at n
 run_shown dir before n ops outcomes failed_at none keeps ran =
-    let kept = subst (λ (l : List Batch). RecoversContents dir (recovered_contents l) [] before) (sym none) keeps in
-    subst (λ (l : List Batch). RunsOver dir (recovered_contents l) (known_in l) ops outcomes failed_at n) none (ran kept)
+    let contents : contents_at dir before ≡ no_contents = same_queues dir before [] [] (none Rewrite) (none Append) ∙ recovered-nothing_rewritten [] in
+    let groups : known_at dir before ≡ known_in [] = fun_ext (same_groups dir before [] [] (none Rewrite) (none Append)) in
+    subst (λ (k : ℕ → Bool). RunsOver dir no_contents k ops outcomes failed_at n) groups
+    (subst (λ (m : Contents). RunsOver dir m (known_at dir before) ops outcomes failed_at n) contents (ran (subst (λ (m : Contents). RecoversContents dir m [] before) (sym contents) keeps)))
 
 same_opened : {m m' : Contents} (opened : Result Image Fault) → m ≡ m' → IfOk opened (λ image. IsImageOf image.groups.items m) → IfOk opened (λ image. IsImageOf image.groups.items m')
 same_opened (Ok image) same is = subst (IsImageOf image.groups.items) same is
@@ -87,28 +88,31 @@ if_err : {T G : Type 0} (P Q : G → Type 0) (result : Result T G) → ((e : G) 
 if_err P Q (Ok x) f holds = tt
 if_err P Q (Err e) f holds = f e holds
 
--- a log that can be opened isn't damaged
-openable_undamaged : (id : FileId) (is_tolerant : Bool) (bytes : List ℕ) (e : Fault) → IsOpenableLog id is_tolerant bytes → IsDamage id is_tolerant bytes e → ⊥
-openable_undamaged id is_tolerant bytes fault.Corruption openable damage = damage.1 openable
-openable_undamaged id is_tolerant bytes fault.Range openable damage = let clash = sym openable.places ∙ damage in absurd cc
-openable_undamaged id is_tolerant bytes fault.Lz4 openable damage = openable.unmarked damage.read damage.is_read damage.marked
-openable_undamaged id is_tolerant bytes _ openable damage = absurd damage
-
--- .. nor are files of which each can be
-undamaged : (mode : RecoveryMode) (queue : LogQueue) (bytes : Path → List ℕ) (files : List (ℕ × Path)) (e : Fault) → EachFile (IsOpenableFile mode queue bytes) files → HasDamageAmong mode queue bytes files e → ⊥
-undamaged mode queue bytes [] e openable damage = absurd damage
-undamaged mode queue bytes (f ∷ files) e openable (inl damage) = openable_undamaged (in_queue queue f.0) (tolerates_corruption mode (is_last files)) (bytes f.1) e openable.0 damage
-undamaged mode queue bytes (f ∷ files) e openable (inr damage) = undamaged mode queue bytes files e openable.1 damage.1
-
 -- where the log can be opened, and no file stands in the folder's place, an opening fails by storage or for lack of memory
-pub refused_outside : (mode : RecoveryMode) (folder : Path) (n : Directory) (old new : Refusals) (e : Fault) → IsOpenRefusal mode folder n old new e → IsOpenableIn mode folder n → (HasFile n folder → ⊥) → IsStorageOrMemory e
-refused_outside mode folder n old new (fault.InvalidArgument text) refused openable none = absurd (none refused)
-refused_outside mode folder n old new fault.Corruption refused openable none = absurd (undamaged mode Append (λ path. bytes_at path n) (log_files folder n) fault.Corruption openable refused)
-refused_outside mode folder n old new fault.Range refused openable none = absurd (undamaged mode Append (λ path. bytes_at path n) (log_files folder n) fault.Range openable refused)
-refused_outside mode folder n old new fault.Lz4 refused openable none = absurd (undamaged mode Append (λ path. bytes_at path n) (log_files folder n) fault.Lz4 openable refused)
-refused_outside mode folder n old new (fault.Io kind text) refused openable none = tt
-refused_outside mode folder n old new fault.Memory refused openable none = tt
-refused_outside mode folder n old new _ refused openable none = absurd refused
+pub refused_outside : (mode : RecoveryMode) (folder : Path) (n : Directory) (old new : Refusals) (e : Fault) → IsOpeningRefusal mode folder n old new e → AreOpenableIn mode folder n → (HasFile n folder → ⊥) → IsStorageOrMemory e
+refused_outside mode folder n old new e (queue, refused) openable none = by_fault e refused
+  where
+    by_fault : (e : Fault) → IsOpenRefusalOf queue mode folder n old new e → IsStorageOrMemory e
+    by_fault (fault.InvalidArgument text) refused = absurd (none refused)
+    by_fault fault.Corruption refused = absurd (undamaged queue mode folder n fault.Corruption (openable queue) refused)
+    by_fault fault.Range refused = absurd (undamaged queue mode folder n fault.Range (openable queue) refused)
+    by_fault fault.Lz4 refused = absurd (undamaged queue mode folder n fault.Lz4 (openable queue) refused)
+    by_fault (fault.Io kind text) refused = tt
+    by_fault fault.Memory refused = tt
+    by_fault _ refused = absurd refused
+
+-- .. where none stands, by these or for the damage of the log
+pub refused_inside : (mode : RecoveryMode) (folder : Path) (n : Directory) (old new : Refusals) (e : Fault) → IsOpeningRefusal mode folder n old new e → (HasFile n folder → ⊥) → IsLogRefusal mode folder n e
+refused_inside mode folder n old new e (queue, refused) none = by_fault e refused
+  where
+    by_fault : (e : Fault) → IsOpenRefusalOf queue mode folder n old new e → IsLogRefusal mode folder n e
+    by_fault (fault.InvalidArgument text) refused = absurd (none refused)
+    by_fault fault.Corruption refused = inr (queue, refused)
+    by_fault fault.Range refused = inr (queue, refused)
+    by_fault fault.Lz4 refused = inr (queue, refused)
+    by_fault (fault.Io kind text) refused = inl tt
+    by_fault fault.Memory refused = inl tt
+    by_fault _ refused = absurd refused
 
 -- a file that stands after a crash stood before it
 restarted_stood : (path : Path) (n m : Directory) (d : CrashImage) → IsRestarted n d m → HasFile m path → HasFile n path
@@ -119,15 +123,15 @@ restarted_stood path n m d restarted there = sym (by_file (file_at n path)) ∙ 
     by_file (Some file) = refl
 
 -- an opening of files that a crash left sound
-pub opened_outside : (mode again : RecoveryMode) (folder dir : Path) (n m : Directory) (d : CrashImage) (opened : Result Image Fault) → again ≡ mode → dir ≡ folder → (IsDetectableIn folder n d → (mode ≡ AbsoluteConsistency → ⊥) → IsOpenableIn mode folder m) → (IsDetectableIn folder n d → HasFile m folder → ⊥)
-    → IfErr opened (λ e. IsOpenableIn again dir m → (HasFile m dir → ⊥) → IsStorageOrMemory e) → IsDetectableIn folder n d → (mode ≡ AbsoluteConsistency → ⊥) → IfErr opened IsStorageOrMemory
+pub opened_outside : (mode again : RecoveryMode) (folder dir : Path) (n m : Directory) (d : CrashImage) (opened : Result Image Fault) → again ≡ mode → dir ≡ folder → (AreDetectableIn folder n d → (mode ≡ AbsoluteConsistency → ⊥) → AreOpenableIn mode folder m) → (AreDetectableIn folder n d → HasFile m folder → ⊥)
+    → IfErr opened (λ e. AreOpenableIn again dir m → (HasFile m dir → ⊥) → IsStorageOrMemory e) → AreDetectableIn folder n d → (mode ≡ AbsoluteConsistency → ⊥) → IfErr opened IsStorageOrMemory
 opened_outside mode again folder dir n m d opened mode_is dir_is opens no_file refused detectable tolerant =
-    let openable : IsOpenableIn again dir m = subst (λ (x : RecoveryMode). IsOpenableIn x dir m) (sym mode_is) (subst (λ (p : Path). IsOpenableIn mode p m) (sym dir_is) (opens detectable tolerant)) in
+    let openable : AreOpenableIn again dir m = subst (λ (x : RecoveryMode). AreOpenableIn x dir m) (sym mode_is) (subst (λ (p : Path). AreOpenableIn mode p m) (sym dir_is) (opens detectable tolerant)) in
     let none : HasFile m dir → ⊥ = subst (λ (p : Path). HasFile m p → ⊥) (sym dir_is) (no_file detectable) in
     if_err _ _ opened (λ e outside. outside openable none) refused
 
 -- an opening of files that a crash left, in whose folder's place no file stood
-pub opened_log : (mode again : RecoveryMode) (folder dir : Path) (n m : Directory) (d : CrashImage) (opened : Result Image Fault) → again ≡ mode → dir ≡ folder → IsRestarted n d m → (HasFile n folder → ⊥) → ((e : Fault) → HasDamageIn mode folder m e → HasLeftDamage mode folder n d e)
+pub opened_log : (mode again : RecoveryMode) (folder dir : Path) (n m : Directory) (d : CrashImage) (opened : Result Image Fault) → again ≡ mode → dir ≡ folder → IsRestarted n d m → (HasFile n folder → ⊥) → ((e : Fault) → HaveDamageIn mode folder m e → HaveLeftDamage mode folder n d e)
     → IfErr opened (λ e. (HasFile m dir → ⊥) → IsLogRefusal again dir m e) → IfErr opened (IsLeftRefusal mode folder n d)
 opened_log mode again folder dir n m d opened mode_is dir_is restarted none left_damage refused =
     if_err _ _ opened (λ e cause.

@@ -12,9 +12,7 @@ use Rattle.raft_memory.specs.declared.crash.Choice.{Choice}
 use Rattle.raft_log_engine.specs.Crash.{RecoversContents, contents_after_crash}
 use Rattle.raft_log_engine.specs.Image.{IsImageOf}
 use Rattle.raft_script.specs.Durability.{LeavesAllowedAfter}
-use Rattle.raft_pipes.specs.Completed.{HasSimplePastIn}
-use Rattle.raft_pipes.specs.Folder.{IsDetectableIn}
-use Rattle.raft_pipes.specs.Queue.{HasDamageIn, HasLeftDamage}
+use Rattle.raft_log_engine.specs.Queues.{AreDetectableIn, HaveDamageIn, HaveLeftDamage, HaveSimplePastIn}
 use Rattle.raft_script.specs.Run.{AreAnswers, IsFailurePlace, IsStorageOrMemory}
 use Rattle.raft_pipes.specs.declared.config.RecoveryMode.{RecoveryMode}
 use Rattle.raft_pipes.specs.declared.config.RecoveryMode.TheVariants.{AbsoluteConsistency}
@@ -71,18 +69,18 @@ pub record AreNotAllowed (folder : Path) (ops : List Op) (stop : Option ℕ) (ch
 
 -- an opening fails by storage, for lack of memory, or for the damage of the log in the folder
 abbrev pub IsLogRefusal : RecoveryMode → Path → Directory → Fault → Type 0
-IsLogRefusal mode folder files e = IsStorageOrMemory e ⊎ HasDamageIn mode folder files e
+IsLogRefusal mode folder files e = IsStorageOrMemory e ⊎ HaveDamageIn mode folder files e
 
 -- .. of what a crash left of it
 abbrev pub IsLeftRefusal : RecoveryMode → Path → Directory → CrashImage → Fault → Type 0
-IsLeftRefusal mode folder files d e = IsStorageOrMemory e ⊎ HasLeftDamage mode folder files d e
+IsLeftRefusal mode folder files d e = IsStorageOrMemory e ⊎ HaveLeftDamage mode folder files d e
 
 -- where only writes failed on the log of consistent files, choices that leave each file whole, as it
 -- is now or as it was synced, leave detectable damage of it
 abbrev pub LeavesDetectable : Path → Directory → Type 0
-LeavesDetectable folder files = HasSimplePastIn folder files → AreConsistent files
+LeavesDetectable folder files = HaveSimplePastIn folder files → AreConsistent files
     → (choices : List Choice) → AreWhole choices
-    → ∥ IsDetectableIn folder files (left_by choices files) ∥₁
+    → ∥ AreDetectableIn folder files (left_by choices files) ∥₁
 
 -- operations over files that were empty, then a crash by these choices, then an opening in this
 -- mode
@@ -96,14 +94,14 @@ pub record IsTrialOf (mode : RecoveryMode) (folder : Path) (ops : List Op) (stop
   -- it was synced, leave detectable damage
   pub detectable : t.failed_at ≡ None → (t.outcomes.items ≡ [] → ⊥) → AreWhole choices
       → let files = memory_directory last in
-      ∥ IsDetectableIn folder files (left_by choices files) ∥₁
+      ∥ AreDetectableIn folder files (left_by choices files) ∥₁
   -- the opening found what the choices leave
   pub found : let files = memory_directory last in
       IfOk t.opened (λ image.
       IsImageOf image.groups.items (contents_after_crash folder files (left_by choices files)))
   -- a tolerant one doesn't fail for what they leave, where its damage is detectable
   pub refused : let files = memory_directory last in
-      IsDetectableIn folder files (left_by choices files)
+      AreDetectableIn folder files (left_by choices files)
       → (mode ≡ AbsoluteConsistency → ⊥) → IfErr t.opened IsStorageOrMemory
   -- in any mode and of any damage it fails by storage, for lack of memory, or for what is left
   -- of the log

@@ -15,10 +15,11 @@ use crate::operation::Outcome;
 use crate::runs::step;
 use crate::scan::pairs_of;
 use raft_env::FileSystem;
+use raft_log_engine::laws::crash_leaves_contents;
 use raft_log_engine::{Config, Engine, Refused};
 use raft_memory::{Choice, MemoryFileSystem};
-use raft_pipes::laws::crash_leaves_a_prefix;
-use raft_records::{Fault, Fresh, ReadableSize};
+use raft_pipes::laws::crash_leaves_a_prefix_of_each;
+use raft_records::{Fault, Fresh, LogQueue, ReadableSize};
 use std::alloc::{AllocError, Global};
 use std::io;
 use std::io::{BufRead, BufReader, BufWriter, Read, Write};
@@ -180,7 +181,7 @@ fn answer_asked(
             Ok(Answer::Pairs(pairs))
         }
         Line::Span => {
-            let span = opened.file_span();
+            let span = opened.file_span(LogQueue::Append);
             *engine = Some(opened);
             Ok(Answer::Span(span))
         }
@@ -211,7 +212,7 @@ fn settings(alloc: Global) -> Result<Config, AllocError>
 fn open(alloc: Global) -> Result<Opening, AllocError>
     ensures value { IfOk result (λ opening. IfOk opening (IsMetBy None)) }
 {
-    crash_leaves_a_prefix();
+    crash_leaves_a_prefix_of_each();
     let config = settings(alloc)?;
     Ok(Engine::open_in_order(alloc, config, MemoryFileSystem::new(alloc)))
 }
@@ -225,7 +226,7 @@ fn crash(
 ) -> Result<Answer, AllocError>
     ensures value { IfOk result (λ answer. OpensTo answer engine.new (HoldsAfterCrash opened)) }
 {
-    crash_leaves_a_prefix();
+    crash_leaves_contents();
     let config = settings(alloc)?;
     match crashed(alloc, opened.give_up(), left) {
         Ok(files) => Ok(open_again(alloc, engine, config, files)),

@@ -8,8 +8,7 @@ ghost use Rattle.raft_memory.specs.Memory.{memory_directory, memory_moments, no_
 ghost use Rattle.raft_log_engine.specs.Image.{IsImageOf};
 ghost use Rattle.raft_log_engine.specs.Contents.{contents_at, known_at};
 ghost use Rattle.raft_log_engine.specs.Crash.{RecoversContents};
-ghost use Rattle.raft_pipes.specs.Completed.{ReadsCompletedRecordsIn};
-ghost use Rattle.raft_pipes.specs.Queue.{IsOpenableIn};
+ghost use Rattle.raft_log_engine.specs.Queues.{AreOpenableIn, ReadCompletedRecordsIn};
 ghost use Rattle.raft_script.specs.Run.{IsStorageOrMemory};
 ghost use Rattle.raft_script.specs.Trial.{AreNotAllowed, IsLogRefusal, IsTrialOf, LeavesDetectable, RunsOver};
 
@@ -19,7 +18,7 @@ use raft_env::FileSystem;
 use raft_log_engine::laws::{crash_leaves_contents, the_damage_of_an_engine_is_detectable};
 use raft_log_engine::{Config, Engine, Image};
 use raft_memory::{Choice, MemoryFileSystem};
-use raft_pipes::laws::{a_queue_keeps_its_completed_log, crash_leaves_a_prefix};
+use raft_pipes::laws::{crash_leaves_a_prefix_of_each, each_queue_recovers_its_batches};
 use raft_records::Fault;
 use std::alloc::Global;
 
@@ -42,8 +41,8 @@ pub fn trial(
         ⊎ ((fault_code e ≡ 1) × (NameNoBytes choices.now → ⊥)
         × AreNotAllowed (string_bytes config.dir) ops.now stop choices.now)) }
 {
-    a_queue_keeps_its_completed_log();
-    crash_leaves_a_prefix();
+    each_queue_recovers_its_batches();
+    crash_leaves_a_prefix_of_each();
     crash_leaves_contents();
     let again = config.clone()?;
     let (ran, files) = run_over(alloc, config, new_files(alloc, stop), ops)?;
@@ -80,7 +79,7 @@ fn run_over<F: FileSystem + Drop>(
         → RunsOver dir found (known_at dir (F.directory files)) ops.now r.0.outcomes.items
         r.0.failed_at (F.directory r.1)) }
     ensures crash { IfOk result (λ r.
-        ReadsCompletedRecordsIn (string_bytes config.dir) (F.directory files) → r.0.failed_at ≡ None
+        ReadCompletedRecordsIn (string_bytes config.dir) (F.directory files) → r.0.failed_at ≡ None
         → (r.0.outcomes.items ≡ [] → ⊥)
         → LeavesDetectable (string_bytes config.dir) (F.directory r.1)) }
     ensures any_moment { IfOk result (λ r.
@@ -108,7 +107,7 @@ fn open_image<F: FileSystem + Drop>(alloc: Global, config: Config, files: F) -> 
     ensures value { IfOk result (λ image.
         IsImageOf image.groups.items (contents_at (string_bytes config.dir) (F.directory files))) }
     ensures refused { IfErr result (λ e.
-        IsOpenableIn config.recovery_mode (string_bytes config.dir) (F.directory files)
+        AreOpenableIn config.recovery_mode (string_bytes config.dir) (F.directory files)
         → (HasFile (F.directory files) (string_bytes config.dir) → ⊥) → IsStorageOrMemory e) }
     ensures cause { IfErr result (λ e. (HasFile (F.directory files) (string_bytes config.dir) → ⊥)
         → IsLogRefusal config.recovery_mode (string_bytes config.dir) (F.directory files) e) }

@@ -26,4 +26,4 @@ returns-in-Ok c =
     let n = memory_directory c.give_up.result in
     let m = memory_directory c.in-Ok.files in
     let left = c.in-Ok.ensures.value in
-    record { value = opens_weaker (IsNewWith dir (contents_at dir m) (known_at dir m)) (HoldsAfterCrash old) (λ e is. opens_after_crash old e dir n m left.0 c.in_ok-config.ensures.folder c.give_up.ensures.unchanged.0 left.1 (c.crash_leaves_a_prefix.ensures.contents dir n m left.0 left.2) is) c.open_again.result c.open_again.new.engine c.open_again.ensures.value }
+    record { value = opens_weaker (IsNewWith dir (contents_at dir m) (known_at dir m)) (HoldsAfterCrash old) (λ e is. opens_after_crash old e dir n m left.0 c.in_ok-config.ensures.folder c.give_up.ensures.unchanged.0 left.1 (c.crash_leaves_contents.ensures.found dir n m left.0 left.2) (c.crash_leaves_contents.ensures.known dir n m left.0 left.2) is) c.open_again.result c.open_again.new.engine c.open_again.ensures.value }

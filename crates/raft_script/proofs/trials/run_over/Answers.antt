@@ -7,7 +7,8 @@ use Rattle.raft_script.specs.Durability.{LeavesAllowedAfter}
 use Rattle.raft_log_engine.specs.Engine.{answered_of, begun_of, directory_of, durable_of, folder_of, found_groups_of, found_of, has_failed, snapshot_of, unsynced_of}
 use Rattle.raft_log_engine.specs.Contents.{contents_at, found_contents, found_groups, known_at}
 use Rattle.std.specs.List.{AllByRecursion}
-use Rattle.raft_pipes.specs.Completed.{ReadsCompletedRecordsIfSimple}
+use Rattle.raft_base.specs.declared.pipe_log.LogQueue.{LogQueue}
+use Rattle.raft_pipes.specs.Completed.{ReadsCompletedRecordsIfSimpleOf}
 use Rattle.raft_script.specs.Trial.{LeavesDetectable}
 use Rattle.raft_script.specs.Run.{AreAnswers, IsFailurePlace}
 use Rattle.raft_script.specs.Durability.{progress_from}
@@ -64,8 +65,8 @@ returns-in_ok-ran-in-Ok-clause-crash g c = λ done none some.
     let folder : folder_of ran ≡ dir = c.in_ok-ran-in-Ok.ensures.folder ∙ c.in-Ok.ensures.ok.folder_is in
     let stands : has_failed ran ≡ false = failures ∙ ap (λ (b : Bool). b || is_some c.in_ok-ran-in-Ok.ran.failed_at) c.in-Ok.ensures.ok.stands ∙ ap (λ (o : Option ℕ). is_some o) none in
     let begun : begun_of ran ≡ g.F.FileSystem.directory c.args.files ∷ [] = c.in_ok-ran-in-Ok.ensures.others ∙ c.in-Ok.ensures.value in
-    let all : AllByRecursion (ReadsCompletedRecordsIfSimple dir) (begun_of ran) = subst (λ (l : List Directory). AllByRecursion (ReadsCompletedRecordsIfSimple dir) l) (sym begun) ((λ past. done), tt) in
-    let told : LeavesDetectable dir (directory_of ran) = subst (λ (p : Path). AllByRecursion (ReadsCompletedRecordsIfSimple p) (begun_of ran) → LeavesDetectable p (directory_of ran)) folder (c.the_damage_of_an_engine_is_detectable.ensures.crash stands) all in
+    let all : (queue : LogQueue) → AllByRecursion (ReadsCompletedRecordsIfSimpleOf queue dir) (begun_of ran) = λ queue. subst (λ (l : List Directory). AllByRecursion (ReadsCompletedRecordsIfSimpleOf queue dir) l) (sym begun) ((λ past. done queue), tt) in
+    let told : LeavesDetectable dir (directory_of ran) = subst (λ (p : Path). ((queue : LogQueue) → AllByRecursion (ReadsCompletedRecordsIfSimpleOf queue p) (begun_of ran)) → LeavesDetectable p (directory_of ran)) folder (c.the_damage_of_an_engine_is_detectable.ensures.crash stands) all in
     subst (λ (n : Directory). LeavesDetectable dir n) (sym c.give_up.ensures.unchanged.0) told
 
 pub returns-in-Err-clause-crash : goal.returns-in-Err-clause-crash

@@ -2,8 +2,8 @@ use Rattle.std.proofs.Common.{subst}
 use Rattle.raft_records.specs.Contents.{Contents}
 use Rattle.raft_log_engine.specs.Engine.{has_failed, refusals_of}
 use Rattle.raft_log_engine.specs.Image.{IsImageOf}
-use Rattle.raft_log_engine.proofs.FaultLemmas.{failed_iff, refusal_not_failed}
-use Rattle.raft_log_engine.proofs.HeldLemmas.{completed_still, holds_still, left_still, pipe_refusal, queue_still, stands_for}
+use Rattle.raft_log_engine.proofs.FaultLemmas.{dual_refusal_not_failed, failed_iff}
+use Rattle.raft_log_engine.proofs.HeldLemmas.{completed_still, holds_still, left_still, pipe_refusal, queues_still, stands_for}
 use Rattle.raft_log_engine.proofs.engine.Engine.image.Goals as goal
 
 pub image_of-requires-clause-holds : goal.image_of-requires-clause-holds
@@ -21,7 +21,8 @@ invariant_of-self g c =
       emptied = old.emptied;
       holds = holds_still old n same;
       cached = λ alive. c.image_of.ensures.holds;
-      queue = queue_still old n same;
+      valid = old.valid;
+      queues = queues_still old n same;
       completed = completed_still old n same;
       format = old.format;
       left = left_still old n same;
@@ -34,7 +35,7 @@ returns-in-Ok-clause-value g c =
 pub returns-in-Err-clause-failed : goal.returns-in-Err-clause-failed
 returns-in-Err-clause-failed g c =
     let old = c.args.self.now in
-    failed_iff c.in-Err.fault (has_failed old) c.if-self.false (refusal_not_failed old.pipe.folder (refusals_of old) (g.F.FileSystem.refusals_of c.image_of.new.file_system) c.in-Err.fault c.in-Err.ensures.cause)
+    failed_iff c.in-Err.fault (has_failed old) c.if-self.false (dual_refusal_not_failed old.pipes (refusals_of old) (g.F.FileSystem.refusals_of c.image_of.new.file_system) c.in-Err.fault c.in-Err.ensures.cause)
 
 pub returns-in-Err-clause-cause : goal.returns-in-Err-clause-cause
 returns-in-Err-clause-cause g c = λ alive.

@@ -1,15 +1,16 @@
 use Rattle.std.proofs.Common.{◌≡◌, ◌∙◌, ◌+◌, ◌++◌, ◌∷◌, [], List, ℕ, Vec, Global, ap, arith, refl, sym, subst, append_assoc, append-nil}
 use Rattle.std.proofs.lemmas.List.{map-append}
 use Rattle.std.proofs.lemmas.Result.{err_from_is_err_and}
+use Rattle.raft_base.specs.declared.pipe_log.LogQueue.TheVariants.{Append}
 use Rattle.raft_env.specs.Directory.{Directory}
 use Rattle.raft_records.specs.Item.{Entry}
 use Rattle.raft_records.specs.Places.{bytes_in, entries_in}
 use Rattle.raft_tables.specs.Table.{table_of}
 use Rattle.raft_log_engine.specs.Image.{entries_of}
 use Rattle.raft_log_engine.specs.Reads.{IsReadableIn, entries_between}
-use Rattle.raft_pipes.specs.Blocks.{blocks_now}
+use Rattle.raft_pipes.specs.Dual.{both_blocks_now}
 use Rattle.raft_records.specs.ItemBatch.{is_readable_at}
-use Rattle.raft_log_engine.proofs.FaultLemmas.{no_fewer_then, refusal_since}
+use Rattle.raft_log_engine.proofs.FaultLemmas.{dual_refusal_since, no_fewer_then}
 use Rattle.raft_log_engine.proofs.NumberedLemmas.{between_none, ends_of, no_last, placed_all, placed_skip, placed_step}
 use Rattle.raft_log_engine.proofs.PlacedLemmas.{found_holds}
 use Rattle.raft_log_engine.proofs.engine.image.group_entries.Goals as goal
@@ -27,7 +28,7 @@ pub returns-in_default-last_index-clause-ok : goal.returns-in_default-last_index
 returns-in_default-last_index-clause-ok g c =
     let t = c.args.table.now in
     let none = no_last t.entries.first t.entries.places.items (sym c.in_default-last_index.ensures.value) in
-    ap entries_of c.new-entries.ensures.items ∙ ap (entries_in (blocks_now c.args.pipe.now (g.F.FileSystem.directory c.args.file_system.now))) (sym none)
+    ap entries_of c.new-entries.ensures.items ∙ ap (entries_in (both_blocks_now c.args.pipes.now (g.F.FileSystem.directory c.args.file_system.now))) (sym none)
 
 pub overflow_add-index-end : goal.overflow_add-index-end
 overflow_add-index-end g c =
@@ -43,41 +44,41 @@ loop-index-init g c =
       reads = (refl, refl);
       refused = (omega arith, omega arith);
       holds = c.requires.holds;
-      listed = rw c.new-entries.ensures.items (placed_all (blocks_now c.args.pipe.now (g.F.FileSystem.directory c.args.file_system.now)) c.in-Some.first (c.in-Some-last_index.last + 1) t.entries.first t.entries.places.items (omega (arith, ends.0)) (omega (arith, ends.1)));
+      listed = rw c.new-entries.ensures.items (placed_all (both_blocks_now c.args.pipes.now (g.F.FileSystem.directory c.args.file_system.now)) c.in-Some.first (c.in-Some-last_index.last + 1) t.entries.first t.entries.places.items (omega (arith, ends.0)) (omega (arith, ends.1)));
     }
 
 pub read-requires-clause-readable : goal.read-requires-clause-readable
 read-requires-clause-readable g c = λ lifetimes order.
-    let readable : IsReadableIn c.args.pipe.now (g.F.FileSystem.directory c.args.file_system.now) c.in-Some-entry.place =
+    let readable : IsReadableIn c.args.pipes.now (g.F.FileSystem.directory c.args.file_system.now) c.in-Some-entry.place =
     λ blocks has. found_holds (is_readable_at blocks) _ (table_of c.args.table.now).entries c.in-Some-entry.place (c.requires.readable blocks has) (sym c.in-Some-entry.ensures.value) in
-    subst (λ (n : Directory). IsReadableIn c.args.pipe.now n c.in-Some-entry.place) (sym c.loop-index.invariant.reads.0) readable
+    subst (λ (n : Directory). IsReadableIn c.args.pipes.now n c.in-Some-entry.place) (sym c.loop-index.invariant.reads.0) readable
 
 pub returns-in_err-bytes-clause-cause : goal.returns-in_err-bytes-clause-cause
 returns-in_err-bytes-clause-cause g c =
     let p = err_from_is_err_and c.from_residual.result c.from_residual.ensures.1 in
-    rw (p.1, p.2) (refusal_since c.args.pipe.now.folder (g.F.FileSystem.refusals_of c.args.file_system.now) (g.F.FileSystem.refusals_of c.loop-index.file_system) (g.F.FileSystem.refusals_of c.read.new.file_system) c.in_err-bytes.field-0.0 c.loop-index.invariant.refused c.in_err-bytes.ensures.cause)
+    rw (p.1, p.2) (dual_refusal_since c.args.pipes.now (g.F.FileSystem.refusals_of c.args.file_system.now) (g.F.FileSystem.refusals_of c.loop-index.file_system) (g.F.FileSystem.refusals_of c.read.new.file_system) c.in_err-bytes.field-0.0 c.loop-index.invariant.refused c.in_err-bytes.ensures.cause)
 
 pub loop-index-preserved : goal.loop-index-preserved
 loop-index-preserved g c =
     let n = g.F.FileSystem.directory c.args.file_system.now in
-    let pipe = c.args.pipe.now in
+    let pipe = c.args.pipes.now in
     let t = c.args.table.now in
     let end = c.in-Some-last_index.last + 1 in
     let inv = c.loop-index.invariant in
-    let all = entries_in (blocks_now pipe n) (table_of t).entries in
+    let all = entries_in (both_blocks_now pipe n) (table_of t).entries in
     elim c.match-entry.branch [
       | in-Some-entry+in_ok-bytes+in_ok-push w ↦
           let place = w.in-Some-entry.place in
-          let step = placed_step (blocks_now pipe n) c.loop-index.index end t.entries.first t.entries.places.items place (sym w.in-Some-entry.ensures.value) c.loop-index-test.true in
-          let read = w.in_ok-bytes.ensures.ok ∙ ap (λ (m : Directory). bytes_in (blocks_now pipe m) place) inv.reads.0 in
+          let step = placed_step (both_blocks_now pipe n) c.loop-index.index end t.entries.first t.entries.places.items place (sym w.in-Some-entry.ensures.value) c.loop-index-test.true in
+          let read = w.in_ok-bytes.ensures.ok ∙ ap (λ (m : Directory). bytes_in (both_blocks_now pipe m) place) inv.reads.0 in
           record {
             reads = rw w.file_system-is (w.in_ok-bytes.ensures.unchanged.0 ∙ inv.reads.0, w.in_ok-bytes.ensures.unchanged.1 ∙ inv.reads.1);
             refused = rw w.file_system-is (no_fewer_then (g.F.FileSystem.refusals_of c.args.file_system.now) (g.F.FileSystem.refusals_of c.loop-index.file_system) (g.F.FileSystem.refusals_of w.read.new.file_system) inv.refused w.in_ok-bytes.ensures.refused);
             holds = rw (w.cache-is, w.file_system-is) w.in_ok-bytes.ensures.holds;
-            listed = rw (ap (λ v. v.items) w.entries-is, w.in_ok-push.ensures.items) (listed_more c.loop-index.entries.items c.loop-index.index w.in_ok-bytes.bytes (bytes_in (blocks_now pipe n) place) (entries_between (c.loop-index.index + 1) end all) (entries_between c.loop-index.index end all) all read step inv.listed);
+            listed = rw (ap (λ v. v.items) w.entries-is, w.in_ok-push.ensures.items) (listed_more c.loop-index.entries.items c.loop-index.index w.in_ok-bytes.bytes (bytes_in (both_blocks_now pipe n) place) (entries_between (c.loop-index.index + 1) end all) (entries_between c.loop-index.index end all) all read step inv.listed);
           }
       | in_default-entry w ↦
-          let skip = placed_skip (blocks_now pipe n) c.loop-index.index end (table_of t).entries (sym w.in_default-entry.ensures.value) in
+          let skip = placed_skip (both_blocks_now pipe n) c.loop-index.index end (table_of t).entries (sym w.in_default-entry.ensures.value) in
           record {
             reads = rw w.file_system-is inv.reads;
             refused = rw w.file_system-is inv.refused;
@@ -88,6 +89,12 @@ loop-index-preserved g c =
 
 pub returns-clause-ok : goal.returns-clause-ok
 returns-clause-ok g c =
-    let all = entries_in (blocks_now c.args.pipe.now (g.F.FileSystem.directory c.args.file_system.now)) (table_of c.args.table.now).entries in
+    let all = entries_in (both_blocks_now c.args.pipes.now (g.F.FileSystem.directory c.args.file_system.now)) (table_of c.args.table.now).entries in
     let none = between_none c.loop-index.index (c.in-Some-last_index.last + 1) all c.loop-index-test.false in
     sym (append-nil (entries_of c.loop-index.entries.items)) ∙ ap (λ es. entries_of c.loop-index.entries.items ++ es) (sym none) ∙ c.loop-index.invariant.listed
+
+-- there was no memory
+pub returns-in_err-push-clause-cause : goal.returns-in_err-push-clause-cause
+returns-in_err-push-clause-cause g c =
+    let p = err_from_is_err_and c.from_residual-in_err-push.result c.from_residual-in_err-push.ensures.1 in
+    rw (p.1, p.2) (Append, tt)

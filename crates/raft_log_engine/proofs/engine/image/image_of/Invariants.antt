@@ -3,7 +3,7 @@ use Rattle.raft_env.specs.Moments.{OnlyReads}
 use Rattle.raft_env.specs.Refusal.{NoFewer}
 use Rattle.raft_tables.specs.Tables.{contents_in, tables_of}
 use Rattle.raft_log_engine.specs.Reads.{HoldsBlockIn}
-use Rattle.raft_pipes.specs.Blocks.{blocks_now}
+use Rattle.raft_pipes.specs.Dual.{both_blocks_now}
 use Rattle.raft_log_engine.proofs.ImageLemmas.{IsBuilding}
 use Rattle.raft_log_engine.proofs.engine.image.image_of.Given as goal
 
@@ -11,6 +11,6 @@ abbrev pub invariant-loop-group : goal.invariant-loop-group
 invariant-loop-group g l = record {
   reads : OnlyReads g.F.FileSystem.directory g.F.FileSystem.moments l.fn.file_system l.file_system;
   refused : NoFewer (g.F.FileSystem.refusals_of l.fn.file_system) (g.F.FileSystem.refusals_of l.file_system);
-  holds : HoldsBlockIn l.pipe (g.F.FileSystem.directory l.file_system) l.cache;
-  building : IsBuilding (contents_in (blocks_now l.pipe (g.F.FileSystem.directory l.fn.file_system)) (tables_of l.tables)) l.groups.items (drop l.group-index l.group-items);
+  holds : HoldsBlockIn l.pipes (g.F.FileSystem.directory l.file_system) l.cache;
+  building : IsBuilding (contents_in (both_blocks_now l.pipes (g.F.FileSystem.directory l.fn.file_system)) (tables_of l.tables)) l.groups.items (drop l.group-index l.group-items);
 }
