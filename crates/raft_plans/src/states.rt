@@ -245,7 +245,7 @@ pub fn is_allowed(
 }
 
 /// No more log files than this come of the operations, also where one of them finds no space and goes on to a next one.
-pub const MAX_FILES: usize = 5;
+pub const MAX_FILES: usize = 6;
 
 /// A log file is full once it has 1 KB.
 pub fn settings(alloc: Global) -> Result<Config, AllocError> {

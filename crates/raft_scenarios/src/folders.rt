@@ -2,7 +2,7 @@
 
 use crate::held::{Faulty, Held};
 use crate::rows::{Rows, Wrong, each_holds};
-use crate::stored::{HEADER_1, HEADER_2, HEADER_MOVED, Stored};
+use crate::stored::{FIRST_REWRITE, HEADER_1, HEADER_2, HEADER_MOVED, Stored};
 use raft_log_engine::RecoveryMode;
 use raft_plans::{EMPTY, State};
 use std::alloc::Global;
@@ -278,7 +278,7 @@ static HOLES: [Folder; 2] = [
     },
 ];
 
-/// Names that no log file of the Append queue has.
+/// Names that no log file has.
 static NAMES: [Folder; 1] = [Folder {
     name: "other names",
     files: &[
@@ -288,7 +288,7 @@ static NAMES: [Folder; 1] = [Folder {
         ("raft/+000000000000004.raftlog", &[HEADER_2, PUT_4]),
         ("raft/10000000000000000.raftlog", &[HEADER_2, PUT_4]),
         ("raft/0000000000000004.raftlog.reserved", &[&[0; 80]]),
-        ("raft/0000000000000004.rewrite", &[HEADER_2, PUT_4]),
+        ("raft/0000000000000004.rewritten", &[HEADER_2, PUT_4]),
         ("raft/random_file", &[b"x"]),
         ("raft/more/0000000000000004.raftlog", &[HEADER_2, PUT_4]),
         ("0000000000000004.raftlog", &[HEADER_2, PUT_4]),
@@ -322,6 +322,24 @@ fn put_back<F: Faulty>(held: &mut Held<F>, closes: bool) {
     held.give_up();
 }
 
+fn has_rewritten(files: &[Stored]) -> bool {
+    for (path, _) in files {
+        if path.ends_with(".rewrite") {
+            return true;
+        }
+    }
+    false
+}
+
+// An opening that is done makes a file of the Rewrite queue, where there is none.
+fn made_by(opening: &Opening, files: &[Stored]) -> &'static [Stored] {
+    if opening.1.is_err() || has_rewritten(files) {
+        &[]
+    } else {
+        &[FIRST_REWRITE]
+    }
+}
+
 // Whether an opening comes to what is wanted, and, where it holds a state, the next one to the same.
 fn holds<F: Faulty>(
     alloc: Global,
@@ -337,8 +355,11 @@ fn holds<F: Faulty>(
     };
     let is_opened = comes_to(alloc, held, *mode, wanted);
     put_back(held, closes);
+    let made = made_by(opening, files);
+    let count = count + made.len();
     is_opened
         && held.stores(alloc, files, changed, count)
+        && held.stores(alloc, made, &[], count)
         && (wanted.is_err() || comes_to(alloc, held, TAIL, wanted))
 }
 

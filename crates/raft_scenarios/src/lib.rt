@@ -20,6 +20,8 @@ mod reads;
 #[cfg(test)]
 mod restarts;
 #[cfg(test)]
+mod rewritten;
+#[cfg(test)]
 mod rows;
 #[cfg(test)]
 mod scans;

@@ -48,8 +48,8 @@ const GROUP_READ: Step = Step::Run(
     ],
 );
 
-/// What is written, the last of it with a sync; the last file that this makes, and how many there are; and what is read
-/// at once, after a crash, and after a reopening.
+/// What is written, the last of it with a sync; the last file that this makes, and how many there are with the Rewrite
+/// queue's one; and what is read at once, after a crash, and after a reopening.
 static STORIES: [Story; 2] = [
     Story {
         name: "entries in four files",
@@ -71,7 +71,7 @@ static STORIES: [Story; 2] = [
                 ),
                 ENTRIES_READ,
                 Step::GiveUp,
-                Step::LastFile("raft/0000000000000004.raftlog", 4),
+                Step::LastFile("raft/0000000000000004.raftlog", 5),
             ],
             &[
                 Step::Crash(Left::Synced),
@@ -99,7 +99,7 @@ static STORIES: [Story; 2] = [
                 ),
                 GROUP_READ,
                 Step::GiveUp,
-                Step::LastFile("raft/0000000000000003.raftlog", 3),
+                Step::LastFile("raft/0000000000000003.raftlog", 4),
             ],
             &[
                 Step::Crash(Left::Synced),

@@ -18,6 +18,9 @@ pub(crate) const HEADER_MOVED: &[u8] =
 /// A file's path, and its bytes part by part.
 pub(crate) type Stored = (&'static str, &'static [&'static [u8]]);
 
+/// The first file of the Rewrite queue, as an opening makes it.
+pub(crate) const FIRST_REWRITE: Stored = ("raft/0000000000000001.rewrite", &[HEADER_2]);
+
 fn joined(alloc: Global, parts: &[&[u8]]) -> Result<Vec<u8>, AllocError> {
     let mut bytes = Vec::new(alloc);
     for part in parts {

@@ -8,7 +8,7 @@ use crate::scans::{Scan, has_messages, is_handed_over};
 use raft_env::FileSystem;
 use raft_log_engine::Engine;
 use raft_plans::{Answer, Left, Plan, State, are_answers, first_refused, ops_of};
-use raft_records::{Fault, LogBatch};
+use raft_records::{Fault, LogBatch, LogQueue};
 use raft_script::{TextEntry, run};
 use std::alloc::Global;
 
@@ -117,7 +117,7 @@ fn is_answered<F: FileSystem>(
         Step::Write(sync, wanted) => writes(engine, batch, *sync, wanted),
         Step::Run(plans, answers) => matches!(runs(alloc, engine, plans, answers), Ok(true)),
         Step::Failed(wanted) => engine.failed() == *wanted,
-        Step::Span(first, last) => engine.file_span() == (*first, *last),
+        Step::Span(first, last) => engine.file_span(LogQueue::Append) == (*first, *last),
         Step::Path(path) => engine.path() == *path,
         Step::Fetch(fetch) => fetches(alloc, engine, fetch),
         Step::Scan(scan) => is_handed_over(alloc, engine, scan),
