@@ -220,7 +220,7 @@ fn is_as_said<F: FileSystem>(alloc: Global, fs: &mut F, case: &Case) -> Result<b
         store(fs, path)?;
     }
     let mut machine = NoMachine {};
-    let mut pipe = open(alloc, &settings(alloc)?, fs, &mut machine)?;
+    let mut pipe = open(alloc, LogQueue::Append, &settings(alloc)?, fs, &mut machine)?;
     if first_wrong(alloc, fs, &mut pipe, case.steps)?.is_some() {
         return Ok(false);
     }

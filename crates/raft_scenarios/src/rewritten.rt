@@ -22,11 +22,7 @@ const GROUP_ENDED: &[u8] =
 
 const KEPT: Stored = ("raft/0000000000000001.rewrite", &[HEADER_2, REWRITTEN]);
 
-const WITH_GROUP: State = State {
-    b: 8,
-    c: 9,
-    ..ALL
-};
+const WITH_GROUP: State = State { b: 8, c: 9, ..ALL };
 
 /// Over the Rewrite queue's keys stand those of the Append queue, whose file 1 puts a: 1.
 static BOTH: [Folder; 4] = [
@@ -43,7 +39,10 @@ static BOTH: [Folder; 4] = [
         name: "a record of another file at the end of the Rewrite queue",
         files: &[
             LOG_1,
-            ("raft/0000000000000001.rewrite", &[HEADER_2, REWRITTEN, PUT_2]),
+            (
+                "raft/0000000000000001.rewrite",
+                &[HEADER_2, REWRITTEN, PUT_2],
+            ),
         ],
         openings: &[
             Opening(ABSOLUTE, Err(2), &[]),
@@ -55,7 +54,10 @@ static BOTH: [Folder; 4] = [
         name: "an atomic group without an end",
         files: &[
             LOG_1,
-            ("raft/0000000000000001.rewrite", &[HEADER_2, REWRITTEN, GROUP_BEGUN]),
+            (
+                "raft/0000000000000001.rewrite",
+                &[HEADER_2, REWRITTEN, GROUP_BEGUN],
+            ),
         ],
         openings: &[Opening(ABSOLUTE, Ok(ALL), &[])],
     },

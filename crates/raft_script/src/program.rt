@@ -18,7 +18,7 @@ use raft_env::FileSystem;
 use raft_log_engine::laws::crash_leaves_contents;
 use raft_log_engine::{Config, Engine, Refused};
 use raft_memory::{Choice, MemoryFileSystem};
-use raft_pipes::laws::crash_leaves_a_prefix_of_each;
+use raft_pipes::laws::crash_leaves_a_prefix;
 use raft_records::{Fault, Fresh, LogQueue, ReadableSize};
 use std::alloc::{AllocError, Global};
 use std::io;
@@ -212,7 +212,7 @@ fn settings(alloc: Global) -> Result<Config, AllocError>
 fn open(alloc: Global) -> Result<Opening, AllocError>
     ensures value { IfOk result (λ opening. IfOk opening (IsMetBy None)) }
 {
-    crash_leaves_a_prefix_of_each();
+    crash_leaves_a_prefix();
     let config = settings(alloc)?;
     Ok(Engine::open_in_order(alloc, config, MemoryFileSystem::new(alloc)))
 }

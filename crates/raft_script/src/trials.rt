@@ -18,7 +18,7 @@ use raft_env::FileSystem;
 use raft_log_engine::laws::{crash_leaves_contents, the_damage_of_an_engine_is_detectable};
 use raft_log_engine::{Config, Engine, Image};
 use raft_memory::{Choice, MemoryFileSystem};
-use raft_pipes::laws::{crash_leaves_a_prefix_of_each, each_queue_recovers_its_batches};
+use raft_pipes::laws::{a_queue_recovers_its_batches, crash_leaves_a_prefix};
 use raft_records::Fault;
 use std::alloc::Global;
 
@@ -41,8 +41,8 @@ pub fn trial(
         ⊎ ((fault_code e ≡ 1) × (NameNoBytes choices.now → ⊥)
         × AreNotAllowed (string_bytes config.dir) ops.now stop choices.now)) }
 {
-    each_queue_recovers_its_batches();
-    crash_leaves_a_prefix_of_each();
+    a_queue_recovers_its_batches();
+    crash_leaves_a_prefix();
     crash_leaves_contents();
     let again = config.clone()?;
     let (ran, files) = run_over(alloc, config, new_files(alloc, stop), ops)?;

@@ -18,26 +18,26 @@ returns-clause-left c = contents_left
 
 pub returns-clause-found : goal.returns-clause-found
 returns-clause-found c = λ folder n m d restarted.
-    let left : (queue : LogQueue) → readable_queue queue folder m ≡ left_of_queue queue folder n d = λ queue. c.crash_leaves_a_prefix_of_each.ensures.contents queue folder n m d restarted in
+    let left : (queue : LogQueue) → readable_queue queue folder m ≡ left_of_queue queue folder n d = λ queue. c.crash_leaves_a_prefix.ensures.contents queue folder n m d restarted in
     same_queues folder m (left_of_queue Rewrite folder n d) (left_of_queue Append folder n d) (left Rewrite) (left Append)
 
 pub returns-clause-known : goal.returns-clause-known
 returns-clause-known c = λ folder n m d restarted.
-    let left : (queue : LogQueue) → readable_queue queue folder m ≡ left_of_queue queue folder n d = λ queue. c.crash_leaves_a_prefix_of_each.ensures.contents queue folder n m d restarted in
+    let left : (queue : LogQueue) → readable_queue queue folder m ≡ left_of_queue queue folder n d = λ queue. c.crash_leaves_a_prefix.ensures.contents queue folder n m d restarted in
     same_groups folder m (left_of_queue Rewrite folder n d) (left_of_queue Append folder n d) (left Rewrite) (left Append)
 
 -- what is left stays
 pub returns-clause-restarted : goal.returns-clause-restarted
 returns-clause-restarted c = λ folder n m d restarted sound.
-    let left : (queue : LogQueue) → readable_queue queue folder m ≡ left_of_queue queue folder n d = λ queue. c.crash_leaves_a_prefix_of_each.ensures.contents queue folder n m d restarted in
-    let kept : (queue : LogQueue) → RecoversPrefixOf queue folder (left_of_queue queue folder n d) (length (left_of_queue queue folder n d)) m = λ queue. c.crash_leaves_a_prefix_of_each.ensures.restarted queue folder n m d restarted (sound queue) in
+    let left : (queue : LogQueue) → readable_queue queue folder m ≡ left_of_queue queue folder n d = λ queue. c.crash_leaves_a_prefix.ensures.contents queue folder n m d restarted in
+    let kept : (queue : LogQueue) → RecoversPrefixOf queue folder (left_of_queue queue folder n d) (length (left_of_queue queue folder n d)) m = λ queue. c.crash_leaves_a_prefix.ensures.restarted queue folder n m d restarted (sound queue) in
     keeps_found folder m (left_of_queue Rewrite folder n d) (left_of_queue Append folder n d) (left Rewrite) (left Append) (kept Rewrite) (kept Append)
 
 pub returns-clause-opens : goal.returns-clause-opens
-returns-clause-opens c = λ folder n m d restarted sound mode tolerant queue. c.crash_leaves_a_prefix_of_each.ensures.opens queue folder n m d restarted (sound queue) mode tolerant
+returns-clause-opens c = λ folder n m d restarted sound mode tolerant queue. c.crash_leaves_a_prefix.ensures.opens queue folder n m d restarted (sound queue) mode tolerant
 
 pub returns-clause-no_file : goal.returns-clause-no_file
-returns-clause-no_file c = λ folder n m d restarted sound. c.crash_leaves_a_prefix_of_each.ensures.no_file Append folder n m d restarted (sound Append)
+returns-clause-no_file c = λ folder n m d restarted sound. c.crash_leaves_a_prefix.ensures.no_file Append folder n m d restarted (sound Append)
 
 pub returns-clause-folder : goal.returns-clause-folder
 returns-clause-folder c = contents_folder
@@ -45,19 +45,17 @@ returns-clause-folder c = contents_folder
 -- the files as they are, without a crash, stand for what a crash could leave
 pub returns-clause-as_they_are : goal.returns-clause-as_they_are
 returns-clause-as_they_are c = λ folder m batches n keeps detectable.
-    let found = contents_found folder m batches n keeps (as_it_is n) (now_leaves_synced n) detectable in
-    (
-      subst (λ (bs : List Batch). IsAllowedFrom 0 m batches (recovered bs (readable_queue Append folder n))) (c.crash_leaves_a_prefix_of_each.ensures.now Rewrite folder n)
-          (subst (λ (bs : List Batch). IsAllowedFrom 0 m batches (recovered (left_of_queue Rewrite folder n (as_it_is n)) bs)) (c.crash_leaves_a_prefix_of_each.ensures.now Append folder n) found.0),
-      λ mode tolerant queue. c.crash_leaves_a_prefix_of_each.ensures.opens_now queue folder n (found.1 queue) mode tolerant,
+    let found = contents_found folder m batches n keeps (as_it_is n) (now_leaves_synced n) detectable in (
+      subst (λ (bs : List Batch). IsAllowedFrom 0 m batches (recovered bs (readable_queue Append folder n))) (c.crash_leaves_a_prefix.ensures.now Rewrite folder n)
+          (subst (λ (bs : List Batch). IsAllowedFrom 0 m batches (recovered (left_of_queue Rewrite folder n (as_it_is n)) bs)) (c.crash_leaves_a_prefix.ensures.now Append folder n) found.0),
+      λ mode tolerant queue. c.crash_leaves_a_prefix.ensures.opens_now queue folder n (found.1 queue) mode tolerant,
     )
 
 -- a folder without a log keeps nothing
 pub returns-clause-none : goal.returns-clause-none
 returns-clause-none c = λ folder n none no_file.
-    let found : (queue : LogQueue) → (readable_queue queue folder n ≡ []) × RecoversPrefixOf queue folder [] 0 n = λ queue. c.crash_leaves_a_prefix_of_each.ensures.none queue folder n none no_file in
-    let is = recovered-nothing_rewritten [] in
-    (
+    let found : (queue : LogQueue) → (readable_queue queue folder n ≡ []) × RecoversPrefixOf queue folder [] 0 n = λ queue. c.crash_leaves_a_prefix.ensures.none queue folder n none no_file in
+    let is = recovered-nothing_rewritten [] in (
       same_queues folder n [] [] (found Rewrite).0 (found Append).0 ∙ is,
       subst (λ (m : Contents). RecoversContents folder m [] n) is (keeps_found folder n [] [] (found Rewrite).0 (found Append).0 (found Rewrite).1 (found Append).1),
     )

@@ -10,5 +10,7 @@ use Rattle.raft_log_engine.proofs.laws.the_damage_of_an_engine_is_detectable.Goa
 pub returns : goal.returns
 returns g c =
     let e = c.args.engine.now in
-    record { crash = λ stands begun past consistent choices whole. of_both (λ (queue : LogQueue). IsDetectableQueue (folder_of e ∷ []) queue (directory_of e) (left_by choices (directory_of e))) (λ queue.
-        c.damage_of_a_queue_is_detectable.ensures.detectable queue (pipe_of queue e.pipes) (folder_of e) _ _ (directory_of e) (e.queues stands queue) (e.completed stands queue (begun queue)) (past queue) consistent choices whole) }
+    record {
+      crash = λ stands begun past consistent choices whole. of_both (λ (queue : LogQueue). IsDetectableQueue (folder_of e ∷ []) queue (directory_of e) (left_by choices (directory_of e))) (λ queue.
+          c.damage_of_a_queue_is_detectable.ensures.detectable queue (pipe_of queue e.pipes) (folder_of e) _ _ (directory_of e) (e.queues stands queue) (e.completed stands queue (begun queue)) (past queue) consistent choices whole);
+    }

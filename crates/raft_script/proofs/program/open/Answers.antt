@@ -25,7 +25,7 @@ pub returns : goal.returns
 returns c =
     let dir = string_bytes c.in_ok-config.config.dir in
     let files = memory_directory c.new.result in
-    let none : (queue : LogQueue) → readable_queue queue dir files ≡ [] = λ queue. (true_of_none dir files (c.crash_leaves_a_prefix_of_each.ensures.none queue dir files) c.new.ensures.value).0 in
+    let none : (queue : LogQueue) → readable_queue queue dir files ≡ [] = λ queue. (true_of_none dir files (c.crash_leaves_a_prefix.ensures.none queue dir files) c.new.ensures.value).0 in
     record {
       value = opened_in dir (codes "raft") files no_contents (known_in []) c.open_in_order.result c.in_ok-config.ensures.folder (same_queues dir files [] [] (none Rewrite) (none Append) ∙ recovered-nothing_rewritten []) (same_groups dir files [] [] (none Rewrite) (none Append))
           (opened_with dir files c.open_in_order.result c.open_in_order.ensures.ok c.open_in_order.ensures.value);

@@ -31,7 +31,7 @@ returns-clause-value c =
     let none = c.new_files.ensures.files in
     let ran = c.in_ok-ran.ran in
     let leaves = c.in_ok-left.ensures.value in
-    let shown = run_shown dir before files c.args.ops.now ran.outcomes.items ran.failed_at (λ queue. (true_of_none dir before (c.crash_leaves_a_prefix_of_each.ensures.none queue dir before) none).0) (true_of_none dir before (c.crash_leaves_contents.ensures.none dir before) none).1 c.in_ok-ran.ensures.ok in
+    let shown = run_shown dir before files c.args.ops.now ran.outcomes.items ran.failed_at (λ queue. (true_of_none dir before (c.crash_leaves_a_prefix.ensures.none queue dir before) none).0) (true_of_none dir before (c.crash_leaves_contents.ensures.none dir before) none).1 c.in_ok-ran.ensures.ok in
     let m = memory_directory c.in_ok-left.left in
     let restarted = c.in_ok-left.ensures.ok in
     let sound : AreDetectableIn dir files left → AreSoundIn dir files left = λ detectable. (shown.after.2 left leaves detectable).1 in
@@ -39,7 +39,7 @@ returns-clause-value c =
       last = c.in_ok-ran.files;
       runs = record { first = c.new_files.result; stop_is = search rules; none = none; added = c.in_ok-ran.ensures.any_moment.0; later = c.in_ok-ran.ensures.any_moment.1; ran = shown };
       left = leaves;
-      detectable = λ none some whole. c.in_ok-ran.ensures.crash (none_done dir before (λ absent queue. (c.each_queue_recovers_its_batches.ensures.none queue dir before absent).0) c.new_files.ensures.files) none some
+      detectable = λ none some whole. c.in_ok-ran.ensures.crash (none_done dir before (λ absent queue. (c.a_queue_recovers_its_batches.ensures.none queue dir before absent).0) c.new_files.ensures.files) none some
           (λ queue f last file stands. record { only_writes = c.in_ok-left.ensures.only_writes f.1 file stands })
           c.in_ok-left.ensures.consistent c.args.choices.now whole;
       found = image_restarted (string_bytes c.in_ok-again.again.dir) dir files (memory_directory c.in_ok-left.left) left c.open_image.result c.in_ok-again.ensures.value.dir (c.crash_leaves_contents.ensures.found dir files m left restarted) c.open_image.ensures.value;
@@ -47,7 +47,7 @@ returns-clause-value c =
           c.in_ok-again.ensures.value.dir (λ detectable. c.crash_leaves_contents.ensures.opens dir files m left restarted (sound detectable) c.args.config.recovery_mode)
           (λ detectable. c.crash_leaves_contents.ensures.no_file dir files m left restarted (sound detectable)) c.open_image.ensures.refused;
       cause = opened_log c.args.config.recovery_mode c.in_ok-again.again.recovery_mode dir (string_bytes c.in_ok-again.again.dir) files (memory_directory c.in_ok-left.left) left c.open_image.result (ap (λ (x : Config). x.recovery_mode) c.in_ok-again.ensures.value.others)
-          c.in_ok-again.ensures.value.dir restarted shown.no_file (λ e damage. (damage.0, c.crash_leaves_a_prefix_of_each.ensures.refused damage.0 c.args.config.recovery_mode dir files m left e restarted damage.1)) c.open_image.ensures.cause;
+          c.in_ok-again.ensures.value.dir restarted shown.no_file (λ e damage. (damage.0, c.crash_leaves_a_prefix.ensures.refused damage.0 c.args.config.recovery_mode dir files m left e restarted damage.1)) c.open_image.ensures.cause;
     }
 
 pub returns-in_err-left-clause-cause : goal.returns-in_err-left-clause-cause
@@ -57,7 +57,7 @@ returns-in_err-left-clause-cause c =
     let dir = string_bytes c.args.config.dir in
     let before = memory_directory c.new_files.result in
     let none = c.new_files.ensures.files in
-    let shown = run_shown dir before files c.args.ops.now ran.outcomes.items ran.failed_at (λ queue. (true_of_none dir before (c.crash_leaves_a_prefix_of_each.ensures.none queue dir before) none).0) (true_of_none dir before (c.crash_leaves_contents.ensures.none dir before) none).1 c.in_ok-ran.ensures.ok in
+    let shown = run_shown dir before files c.args.ops.now ran.outcomes.items ran.failed_at (λ queue. (true_of_none dir before (c.crash_leaves_a_prefix.ensures.none queue dir before) none).0) (true_of_none dir before (c.crash_leaves_contents.ensures.none dir before) none).1 c.in_ok-ran.ensures.ok in
     let p = err_from_is_err_and c.from_residual-in_err-left.result c.from_residual-in_err-left.ensures.1 in
     rw (p.1, p.2) (choices_refused files c.args.choices.now c.in_err-left.field-0.0 c.in_err-left.ensures.consistent c.in_err-left.ensures.refused
     (λ not_left. record {
