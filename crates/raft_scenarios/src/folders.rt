@@ -356,7 +356,7 @@ fn holds<F: Faulty>(
     let is_opened = comes_to(alloc, held, *mode, wanted);
     put_back(held, closes);
     let made = made_by(opening, files);
-    let count = count + made.len();
+    let count = count.saturating_add(made.len());
     is_opened
         && held.stores(alloc, files, changed, count)
         && held.stores(alloc, made, &[], count)
