@@ -1,9 +1,9 @@
 -- Copies of settings, and contradictions among them.
-use Rattle.std.proofs.Common.{◌≡◌, ◌∙◌, ⊥, Bool, List, ℕ, Option, None, Some, ap, false, refl, sym}
-use Rattle.std.specs.Prelude.{◌==◌, ◌&&◌, codes, nat_lt, not, option_map, if◌then◌else◌}
+use Rattle.std.proofs.Common.{◌≡◌, ◌∙◌, Bool, List, ℕ, Option, None, Some, ap, false, refl, sym}
+use Rattle.std.specs.Prelude.{◌==◌, ◌&&◌, String, codes, nat_lt, not, option_map, if◌then◌else◌}
 use Rattle.std.specs.Option.{option_map_or}
 use Rattle.std.specs.Str.{bytes_eq}
-use Rattle.std.specs.String.{String, string_bytes}
+use Rattle.std.specs.String.{string_bytes}
 use Rattle.std.specs.declared.alloc.Global.{Global}
 use Rattle.raft_base.specs.declared.errors.Fault.{Fault}
 use Rattle.raft_base.specs.declared.errors.Fault.TheVariants as fault
