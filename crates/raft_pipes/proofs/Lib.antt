@@ -3,6 +3,7 @@ pub mod BesideLemmas
 pub mod BlocksLemmas
 pub mod BuilderLemmas
 pub mod CompletedLemmas
+pub mod ConfigLemmas
 pub mod CutLemmas
 pub mod DualEndsLemmas
 pub mod DualLemmas

@@ -131,13 +131,14 @@ opened_outside mode again folder dir n m d opened mode_is dir_is opens no_file r
     if_err _ _ opened (λ e outside. outside openable none) refused
 
 -- an opening of files that a crash left, in whose folder's place no file stood
-pub opened_log : (mode again : RecoveryMode) (folder dir : Path) (n m : Directory) (d : CrashImage) (opened : Result Image Fault) → again ≡ mode → dir ≡ folder → IsRestarted n d m → (HasFile n folder → ⊥) → ((e : Fault) → HaveDamageIn mode folder m e → HaveLeftDamage mode folder n d e)
-    → IfErr opened (λ e. (HasFile m dir → ⊥) → IsLogRefusal again dir m e) → IfErr opened (IsLeftRefusal mode folder n d)
-opened_log mode again folder dir n m d opened mode_is dir_is restarted none left_damage refused =
+pub opened_log : (C C' : Fault → Type 0) (mode again : RecoveryMode) (folder dir : Path) (n m : Directory) (d : CrashImage) (opened : Result Image Fault) → ((e : Fault) → C' e → C e) → again ≡ mode → dir ≡ folder → IsRestarted n d m → (HasFile n folder → ⊥) → ((e : Fault) → HaveDamageIn mode folder m e → HaveLeftDamage mode folder n d e)
+    → IfErr opened (λ e. (HasFile m dir → ⊥) → C' e ⊎ IsLogRefusal again dir m e) → IfErr opened (λ e. C e ⊎ IsLeftRefusal mode folder n d e)
+opened_log C C' mode again folder dir n m d opened same mode_is dir_is restarted none left_damage refused =
     if_err _ _ opened (λ e cause.
     let absent : HasFile m dir → ⊥ = λ there. none (restarted_stood folder n m d restarted (subst (λ (p : Path). HasFile m p) dir_is there)) in
-    let there : IsLogRefusal mode folder m e = subst (λ (x : RecoveryMode). IsLogRefusal x folder m e) mode_is (subst (λ (p : Path). IsLogRefusal again p m e) dir_is (cause absent)) in
-    ⊎_elim inl (λ damage. inr (left_damage e damage)) there) refused
+    ⊎_elim (λ no. inl (same e no)) (λ log.
+    let there : IsLogRefusal mode folder m e = subst (λ (x : RecoveryMode). IsLogRefusal x folder m e) mode_is (subst (λ (p : Path). IsLogRefusal again p m e) dir_is log) in
+    inr (⊎_elim inl (λ damage. inr (left_damage e damage)) there)) (cause absent)) refused
 
 -- Why the choices are refused.
 

@@ -1,5 +1,6 @@
 -- What a trial shows.
 use Rattle.std.specs.Prelude.{◌≡◌, ◌⊎◌, ℕ, Bool, false, List, [], ◌++◌, Option, None, IfOk, IfErr}
+use Rattle.std.specs.String.{string_bytes}
 use Rattle.raft_records.specs.Contents.{Contents, no_contents}
 use Rattle.raft_tables.specs.Known.{known_in}
 use Rattle.raft_base.specs.declared.errors.Fault.{Fault}
@@ -14,6 +15,8 @@ use Rattle.raft_log_engine.specs.Image.{IsImageOf}
 use Rattle.raft_script.specs.Durability.{LeavesAllowedAfter}
 use Rattle.raft_log_engine.specs.Queues.{AreDetectableIn, HaveDamageIn, HaveLeftDamage, HaveSimplePastIn}
 use Rattle.raft_script.specs.Run.{AreAnswers, IsFailurePlace, IsStorageOrMemory}
+use Rattle.raft_pipes.specs.Sanitized.{IsContradiction, contradiction}
+use Rattle.raft_pipes.specs.declared.config.Config.{Config}
 use Rattle.raft_pipes.specs.declared.config.RecoveryMode.{RecoveryMode}
 use Rattle.raft_pipes.specs.declared.config.RecoveryMode.TheVariants.{AbsoluteConsistency}
 use Rattle.raft_script.specs.declared.operation.Op.{Op}
@@ -82,28 +85,31 @@ LeavesDetectable folder files = HaveSimplePastIn folder files → AreConsistent 
     → (choices : List Choice) → AreWhole choices
     → ∥ AreDetectableIn folder files (left_by choices files) ∥₁
 
--- operations over files that were empty, then a crash by these choices, then an opening in this
--- mode
-pub record IsTrialOf (mode : RecoveryMode) (folder : Path) (ops : List Op) (stop : Option ℕ)
-    (choices : List Choice) (t : Trial) : Type 0 where
+-- operations over files that were empty, then a crash by these choices, then an opening with the
+-- same settings
+pub record IsTrialOf (config : Config) (ops : List Op) (stop : Option ℕ) (choices : List Choice)
+    (t : Trial) : Type 0 where
   pub last : MemoryFileSystem
-  pub runs : RunsFromEmpty folder ops stop t.outcomes.items t.failed_at last
+  pub runs : RunsFromEmpty (string_bytes config.dir) ops stop t.outcomes.items t.failed_at last
   -- storage may leave of them what the choices say
   pub left : let files = memory_directory last in Leaves files (left_by choices files)
   -- where an engine answered and none failed, choices that leave each file whole, as it is now or as
   -- it was synced, leave detectable damage
   pub detectable : t.failed_at ≡ None → (t.outcomes.items ≡ [] → ⊥) → AreWhole choices
       → let files = memory_directory last in
-      ∥ AreDetectableIn folder files (left_by choices files) ∥₁
+      ∥ AreDetectableIn (string_bytes config.dir) files (left_by choices files) ∥₁
   -- the opening found what the choices leave
   pub found : let files = memory_directory last in
       IfOk t.opened (λ image.
-      IsImageOf image.groups.items (contents_after_crash folder files (left_by choices files)))
+      IsImageOf image.groups.items
+      (contents_after_crash (string_bytes config.dir) files (left_by choices files)))
   -- a tolerant one doesn't fail for what they leave, where its damage is detectable
   pub refused : let files = memory_directory last in
-      AreDetectableIn folder files (left_by choices files)
-      → (mode ≡ AbsoluteConsistency → ⊥) → IfErr t.opened IsStorageOrMemory
-  -- in any mode and of any damage it fails by storage, for lack of memory, or for what is left
-  -- of the log
+      AreDetectableIn (string_bytes config.dir) files (left_by choices files)
+      → (config.recovery_mode ≡ AbsoluteConsistency → ⊥) → contradiction config ≡ None
+      → IfErr t.opened IsStorageOrMemory
+  -- in any mode and of any damage it fails where settings contradict one another, by storage, for
+  -- lack of memory, or for what is left of the log
   pub cause : let files = memory_directory last in
-      IfErr t.opened (IsLeftRefusal mode folder files (left_by choices files))
+      IfErr t.opened (λ e. IsContradiction config e ⊎ IsLeftRefusal config.recovery_mode
+      (string_bytes config.dir) files (left_by choices files) e)

@@ -4,6 +4,7 @@ ghost use Rattle.std.specs.String.{string_bytes};
 ghost use Rattle.raft_base.specs.Fault.{fault_code};
 ghost use Rattle.raft_env.specs.Directory.{Directory, HasFile};
 ghost use Rattle.raft_memory.specs.Choice.{NameNoBytes};
+ghost use Rattle.raft_pipes.specs.Sanitized.{IsContradiction, contradiction};
 ghost use Rattle.raft_memory.specs.Memory.{memory_directory, memory_moments, no_files, stop_of};
 ghost use Rattle.raft_log_engine.specs.Image.{IsImageOf};
 ghost use Rattle.raft_log_engine.specs.Contents.{contents_at, known_at};
@@ -26,8 +27,9 @@ use std::alloc::Global;
 /// change files are counted from 1, and from the one at `stop` on each fails; the opening after the crash has no
 /// stop. The choices say what the crash leaves; bytes that storage doesn't allow are refused, and no others. Where
 /// the damage of what it leaves is detectable, a tolerant opening fails by storage or for lack of memory alone; any
-/// other opening only for these, or for what is left of the log. It is detectable where an engine answered and didn't
-/// fail, and the choices leave each file whole, as it is at the crash or as it was synced.
+/// other opening only for these, for what is left of the log, or where settings contradict one another. The damage is
+/// detectable where an engine answered and didn't fail, and the choices leave each file whole, as it is at the crash
+/// or as it was synced.
 pub fn trial(
     alloc: Global,
     config: Config,
@@ -36,7 +38,7 @@ pub fn trial(
     choices: &[Choice],
 ) -> Result<Trial, Fault>
     ensures value { IfOk result
-        (IsTrialOf config.recovery_mode (string_bytes config.dir) ops.now stop choices.now) }
+        (IsTrialOf config ops.now stop choices.now) }
     ensures cause { IfErr result (λ e. (e ≡ Fault.Memory)
         ⊎ ((fault_code e ≡ 1) × (NameNoBytes choices.now → ⊥)
         × AreNotAllowed (string_bytes config.dir) ops.now stop choices.now)) }
@@ -106,11 +108,12 @@ fn run_over<F: FileSystem + Drop>(
 fn open_image<F: FileSystem + Drop>(alloc: Global, config: Config, files: F) -> Result<Image, Fault>
     ensures value { IfOk result (λ image.
         IsImageOf image.groups.items (contents_at (string_bytes config.dir) (F.directory files))) }
-    ensures refused { IfErr result (λ e.
+    ensures refused { contradiction config ≡ None → IfErr result (λ e.
         AreOpenableIn config.recovery_mode (string_bytes config.dir) (F.directory files)
         → (HasFile (F.directory files) (string_bytes config.dir) → ⊥) → IsStorageOrMemory e) }
     ensures cause { IfErr result (λ e. (HasFile (F.directory files) (string_bytes config.dir) → ⊥)
-        → IsLogRefusal config.recovery_mode (string_bytes config.dir) (F.directory files) e) }
+        → IsContradiction config e
+        ⊎ IsLogRefusal config.recovery_mode (string_bytes config.dir) (F.directory files) e) }
 {
     match Engine::open_in_order(alloc, config, files) {
         Ok(mut engine) => engine.image(),

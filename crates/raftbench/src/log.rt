@@ -106,6 +106,7 @@ pub(crate) fn open<F: FileSystem + Drop>(
     let mut config = Config::fresh(alloc);
     config.dir.push_str(FOLDER)?;
     config.target_file_size = ReadableSize(file_size);
+    config.purge_threshold = ReadableSize(config.purge_threshold.0.max(file_size));
     match Engine::open_in_order(alloc, config, files) {
         Ok(engine) => Ok(engine),
         Err(refused) => Err(refused.fault),

@@ -1,11 +1,13 @@
 use denote.Param.Send.{sendable}
-use Rattle.std.proofs.Common.{ap, rules}
+use Rattle.std.proofs.Common.{◌≡◌, ◌∙◌, ap, rules}
 use Rattle.raft_memory.proofs.Sent.{memory_send, memory_sync}
 use Rattle.std.proofs.lemmas.Result.{err_from_is_err_and}
 use Rattle.std.specs.String.{string_bytes}
 use Rattle.raft_memory.specs.Memory.{memory_directory}
 use Rattle.raft_memory.specs.Choice.{left_by}
 use Rattle.raft_log_engine.specs.Queues.{AreDetectableIn, AreSoundIn}
+use Rattle.raft_pipes.proofs.ConfigLemmas.{contradiction-copy, same_contradiction}
+use Rattle.raft_pipes.specs.Sanitized.{IsContradiction, contradiction}
 use Rattle.raft_pipes.specs.declared.config.Config.{Config}
 use Rattle.raft_script.proofs.TrialLemmas.{choices_refused, image_restarted, opened_log, none_done, opened_outside, run_shown, true_of_none}
 use Rattle.raft_script.proofs.trials.trial.Goals as goal
@@ -34,6 +36,7 @@ returns-clause-value c =
     let shown = run_shown dir before files c.args.ops.now ran.outcomes.items ran.failed_at (λ queue. (true_of_none dir before (c.crash_leaves_a_prefix.ensures.none queue dir before) none).0) (true_of_none dir before (c.crash_leaves_contents.ensures.none dir before) none).1 c.in_ok-ran.ensures.ok in
     let m = memory_directory c.in_ok-left.left in
     let restarted = c.in_ok-left.ensures.ok in
+    let copied : contradiction c.in_ok-again.again ≡ contradiction c.args.config = contradiction-copy c.args.config c.in_ok-again.again c.in_ok-again.ensures.value in
     let sound : AreDetectableIn dir files left → AreSoundIn dir files left = λ detectable. (shown.after.2 left leaves detectable).1 in
     record {
       last = c.in_ok-ran.files;
@@ -43,10 +46,10 @@ returns-clause-value c =
           (λ queue f last file stands. record { only_writes = c.in_ok-left.ensures.only_writes f.1 file stands })
           c.in_ok-left.ensures.consistent c.args.choices.now whole;
       found = image_restarted (string_bytes c.in_ok-again.again.dir) dir files (memory_directory c.in_ok-left.left) left c.open_image.result c.in_ok-again.ensures.value.dir (c.crash_leaves_contents.ensures.found dir files m left restarted) c.open_image.ensures.value;
-      refused = opened_outside c.args.config.recovery_mode c.in_ok-again.again.recovery_mode dir (string_bytes c.in_ok-again.again.dir) files (memory_directory c.in_ok-left.left) left c.open_image.result (ap (λ (x : Config). x.recovery_mode) c.in_ok-again.ensures.value.others)
+      refused = λ detectable tolerant fine. opened_outside c.args.config.recovery_mode c.in_ok-again.again.recovery_mode dir (string_bytes c.in_ok-again.again.dir) files (memory_directory c.in_ok-left.left) left c.open_image.result (ap (λ (x : Config). x.recovery_mode) c.in_ok-again.ensures.value.others)
           c.in_ok-again.ensures.value.dir (λ detectable. c.crash_leaves_contents.ensures.opens dir files m left restarted (sound detectable) c.args.config.recovery_mode)
-          (λ detectable. c.crash_leaves_contents.ensures.no_file dir files m left restarted (sound detectable)) c.open_image.ensures.refused;
-      cause = opened_log c.args.config.recovery_mode c.in_ok-again.again.recovery_mode dir (string_bytes c.in_ok-again.again.dir) files (memory_directory c.in_ok-left.left) left c.open_image.result (ap (λ (x : Config). x.recovery_mode) c.in_ok-again.ensures.value.others)
+          (λ detectable. c.crash_leaves_contents.ensures.no_file dir files m left restarted (sound detectable)) (c.open_image.ensures.refused (copied ∙ fine)) detectable tolerant;
+      cause = opened_log (IsContradiction c.args.config) (IsContradiction c.in_ok-again.again) c.args.config.recovery_mode c.in_ok-again.again.recovery_mode dir (string_bytes c.in_ok-again.again.dir) files (memory_directory c.in_ok-left.left) left c.open_image.result (λ e no. same_contradiction c.args.config c.in_ok-again.again e copied no) (ap (λ (x : Config). x.recovery_mode) c.in_ok-again.ensures.value.others)
           c.in_ok-again.ensures.value.dir restarted shown.no_file (λ e damage. (damage.0, c.crash_leaves_a_prefix.ensures.refused damage.0 c.args.config.recovery_mode dir files m left e restarted damage.1)) c.open_image.ensures.cause;
     }
 
