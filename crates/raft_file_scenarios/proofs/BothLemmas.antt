@@ -7,7 +7,7 @@ use Rattle.raft_base.specs.FileId.{file_signature}
 use Rattle.raft_base.specs.declared.pipe_log.LogFileContext.{LogFileContext}
 use Rattle.raft_base.specs.declared.pipe_log.LogQueue.{LogQueue}
 use Rattle.raft_env.specs.Directory.{Directory, Path}
-use Rattle.raft_pipes.specs.Dual.{DualState, HasAppendedIn, HasBoth, HasSyncedIn, StandSideBySide, StillHasBoth, counted, grown, pipe_of}
+use Rattle.raft_queues.specs.Dual.{DualState, HasAppendedIn, HasBoth, HasSyncedIn, StandSideBySide, StillHasBoth, counted, grown, pipe_of}
 use Rattle.raft_pipes.specs.Pipe.{IsPipeOf, IsRecordOf}
 use Rattle.raft_pipes.specs.PipeState.{PipeState, context_of}
 use Rattle.raft_records.specs.Batch.{BatchView, populated, signed_for}

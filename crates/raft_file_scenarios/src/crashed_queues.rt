@@ -1,13 +1,14 @@
 //! Both queues of a folder, written side by side and crashed: what the stages of an opening then read of each, and when
 //! they don't come to an end.
 ghost use Rattle.std.specs.Prelude.{IfOk, OnOk};
-ghost use Rattle.raft_pipes.specs.Dual.{StandSideBySide};
+ghost use Rattle.raft_queues.specs.Dual.{StandSideBySide};
 
 use crate::crashed_rows::{Case, Left, ONE_EACH, Opening, Stage, Step, cases, openings};
 use LogQueue::{Append, Rewrite};
 use raft_env::{FileSystem, IoKind};
 use raft_memory::{Choice, MemoryFileSystem};
-use raft_pipes::{AppendFault, Config, DualPipes, DualPipesBuilder, ReplayMachine, RotationFault};
+use raft_pipes::{AppendFault, Config, ReplayMachine, RotationFault};
+use raft_queues::{DualPipes, DualPipesBuilder};
 use raft_records::{Fault, FileId, Fresh, KeyValue, LogBatch, LogItem, LogItemContent, LogQueue};
 use std::alloc::{AllocError, Global};
 use std::test::Fail;

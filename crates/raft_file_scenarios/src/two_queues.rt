@@ -2,7 +2,8 @@
 
 use raft_env::{FileSystem, FsFault, Permission};
 use raft_memory::MemoryFileSystem;
-use raft_pipes::{Config, Cut, DualPipes, DualPipesBuilder, ReplayMachine};
+use raft_pipes::{Config, ReplayMachine};
+use raft_queues::{Cut, DualPipes, DualPipesBuilder};
 use raft_records::{Fault, FileId, Fresh, LogItem, LogQueue};
 use std::alloc::{AllocError, Global};
 use std::test::Fail;

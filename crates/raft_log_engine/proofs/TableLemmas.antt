@@ -3,7 +3,7 @@ use Rattle.std.proofs.Common.{◌≡◌, ℕ, true, List, [], ◌∷◌, ◌++�
 use Rattle.std.specs.List.{list_all}
 use Rattle.raft_base.specs.declared.pipe_log.FileId.{FileId}
 use Rattle.raft_env.specs.Directory.{Directory}
-use Rattle.raft_pipes.specs.Dual.{DualState, both_blocks_now}
+use Rattle.raft_queues.specs.Dual.{DualState, both_blocks_now}
 use Rattle.raft_records.specs.Contents.{Contents, after_batch}
 use Rattle.raft_records.specs.Item.{Batch}
 use Rattle.raft_records.specs.ItemBatch.{are_readable, is_readable_at}
@@ -15,7 +15,7 @@ use Rattle.raft_tables.specs.Tables.{Applies, Tables, contents_in, or_empty, tab
 use Rattle.raft_tables.specs.declared.memtables.MemTables.{MemTables}
 use Rattle.raft_log_engine.specs.Contents.{StandFor, known_from}
 use Rattle.raft_log_engine.specs.Queues.{AreByQueue, HasBothBlocks}
-use Rattle.raft_pipes.proofs.DualLemmas.{both_have_blocks}
+use Rattle.raft_queues.proofs.DualLemmas.{both_have_blocks}
 
 -- tables that took a batch hold it too
 pub stand_more : (blocks : Blocks) (id : FileId) (items : List PlacedItem) (old new : MemTables) (m : Contents) (is_known : ℕ → Bool) (batch : Batch) → list_all (λ i. is_placed_in_order i.content) items ≡ true → are_readable blocks items ≡ true

@@ -50,7 +50,7 @@ pub fn crash_leaves_contents()
     ensures no_file { (folder : Path) (n m : Directory) (d : CrashImage) → IsRestarted n d m
         → AreSoundIn folder n d → HasFile m folder → ⊥ }
 {
-    raft_pipes::laws::crash_leaves_a_prefix();
+    raft_queues::laws::crash_leaves_a_prefix();
 }
 
 /// What an engine keeps a crash leaves now: what is durable, and a prefix of what is unsynced, and so while no call

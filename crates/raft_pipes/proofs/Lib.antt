@@ -1,13 +1,7 @@
 pub mod ApartLemmas
-pub mod BesideLemmas
 pub mod BlocksLemmas
-pub mod BuilderLemmas
 pub mod CompletedLemmas
 pub mod ConfigLemmas
-pub mod CutLemmas
-pub mod DualEndsLemmas
-pub mod DualLemmas
-pub mod DualOpeningLemmas
 pub mod FileListLemmas
 pub mod FilesLemmas
 pub mod FolderLemmas
@@ -15,7 +9,6 @@ pub mod FolderQueueLemmas
 pub mod KeepsLogLemmas
 pub mod KeepsQueueLemmas
 pub mod ListedLemmas
-pub mod ListingLemmas
 pub mod LogFileLemmas
 pub mod NamesInLemmas
 pub mod NamesLemmas
@@ -34,14 +27,11 @@ pub mod QueueAppendLemmas
 pub mod QueueFilesLemmas
 pub mod QueueLemmas
 pub mod QueueRotationLemmas
-pub mod QueueSoundLemmas
 pub mod RestartLemmas
 pub mod RotationLemmas
-pub mod SameFilesLemmas
 pub mod SealedFileLemmas
 pub mod SettledFilesLemmas
 pub mod SettledQueueLemmas
 pub mod SingleLemmas
-pub mod SpanLemmas
 pub mod StepsLemmas
 pub mod WrittenLemmas

@@ -1,10 +1,8 @@
 pub mod Blocks
-pub mod Builder
 pub mod Config
 pub mod Sanitized
 pub mod Completed
 pub mod FileList
-pub mod Dual
 pub mod Files
 pub mod Folder
 pub mod Listing

@@ -18,7 +18,7 @@ use raft_env::FileSystem;
 use raft_log_engine::laws::crash_leaves_contents;
 use raft_log_engine::{Config, Engine, Refused};
 use raft_memory::{Choice, MemoryFileSystem};
-use raft_pipes::laws::crash_leaves_a_prefix;
+use raft_queues::laws::crash_leaves_a_prefix;
 use raft_records::{Fault, Fresh, LogQueue, ReadableSize};
 use std::alloc::{AllocError, Global};
 use std::io;

@@ -19,7 +19,7 @@ use raft_env::FileSystem;
 use raft_log_engine::laws::{crash_leaves_contents, the_damage_of_an_engine_is_detectable};
 use raft_log_engine::{Config, Engine, Image};
 use raft_memory::{Choice, MemoryFileSystem};
-use raft_pipes::laws::{a_queue_recovers_its_batches, crash_leaves_a_prefix};
+use raft_queues::laws::{a_queue_recovers_its_batches, crash_leaves_a_prefix};
 use raft_records::Fault;
 use std::alloc::Global;
 

@@ -1,5 +1,5 @@
 use Rattle.raft_pipes.specs.Pipe.{IsRecordOf}
-use Rattle.raft_pipes.specs.Dual.{pipe_of}
+use Rattle.raft_queues.specs.Dual.{pipe_of}
 use Rattle.raft_file_scenarios.proofs.BothLemmas.{each_stands, signed_record, stand_appended}
 use Rattle.raft_file_scenarios.proofs.crashed_queues.put.Goals as goal
 

@@ -1,4 +1,4 @@
-use Rattle.raft_pipes.specs.Dual.{StandSideBySide}
+use Rattle.raft_queues.specs.Dual.{StandSideBySide}
 use Rattle.raft_file_scenarios.proofs.crashed_queues.take_each.Given as goal
 
 abbrev pub invariant-loop-step : goal.invariant-loop-step

@@ -5,7 +5,7 @@ use Rattle.raft_records.specs.Places.{entries_in}
 use Rattle.raft_tables.specs.Table.{table_of}
 use Rattle.raft_log_engine.specs.Image.{entries_of}
 use Rattle.raft_log_engine.specs.Reads.{HoldsBlockIn, entries_between}
-use Rattle.raft_pipes.specs.Dual.{both_blocks_now}
+use Rattle.raft_queues.specs.Dual.{both_blocks_now}
 use Rattle.raft_log_engine.proofs.engine.image.group_entries.Given as goal
 
 abbrev pub invariant-loop-index : goal.invariant-loop-index

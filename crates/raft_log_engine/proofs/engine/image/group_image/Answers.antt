@@ -7,7 +7,7 @@ use Rattle.raft_tables.specs.Table.{TableView, value_at}
 use Rattle.raft_tables.specs.Tables.{or_empty}
 use Rattle.raft_log_engine.specs.Image.{entries_of}
 use Rattle.raft_log_engine.specs.Reads.{are_readable_at}
-use Rattle.raft_pipes.specs.Dual.{both_blocks_now}
+use Rattle.raft_queues.specs.Dual.{both_blocks_now}
 use Rattle.raft_log_engine.proofs.engine.image.group_image.Goals as goal
 
 pub returns-in_default-clause-value : goal.returns-in_default-clause-value

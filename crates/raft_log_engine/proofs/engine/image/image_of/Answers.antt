@@ -6,7 +6,7 @@ use Rattle.raft_env.specs.Directory.{Directory}
 use Rattle.raft_tables.specs.Tables.{contents_in, tables_of}
 use Rattle.raft_log_engine.specs.Image.{IsGroupImageOf, IsWithout}
 use Rattle.raft_log_engine.specs.Reads.{AreAllReadableIn}
-use Rattle.raft_pipes.specs.Dual.{both_blocks_now}
+use Rattle.raft_queues.specs.Dual.{both_blocks_now}
 use Rattle.raft_log_engine.proofs.FaultLemmas.{dual_refusal_since, no_fewer_then}
 use Rattle.raft_log_engine.proofs.ImageLemmas.{building_begun, building_ended, building_with, building_without, holds_nothing}
 use Rattle.raft_log_engine.proofs.engine.image.image_of.Goals as goal
