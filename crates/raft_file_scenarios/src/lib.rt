@@ -15,4 +15,6 @@ mod memory_files;
 #[cfg(test)]
 mod queues;
 #[cfg(test)]
+mod read_bytes;
+#[cfg(test)]
 mod two_queues;

@@ -12,10 +12,10 @@ const HEADER: &[u8] =
     b"RAFT-LOG-FILE-HEADER-9986AB3E47F320B394C8E84916EB0ED5\0\0\0\0\0\0\0\x02\0\0\0\0\0\0\0\0";
 
 /// A record of 28 bytes, signed for file 1 of either queue, and one for file 2; by Python's struct and zlib.
-const PUT_1: &[u8] =
+pub(super) const PUT_1: &[u8] =
     b"\x00\x00\x00\x00\x00\x00\x1c\x00\x00\x00\x00\x00\x00\x00\x00\x10\x01\x01\x03\x01\x01\x61\x01\x01\xf9\x48\xbe\x2b";
 
-const PUT_2: &[u8] =
+pub(super) const PUT_2: &[u8] =
     b"\x00\x00\x00\x00\x00\x00\x1c\x00\x00\x00\x00\x00\x00\x00\x00\x10\x01\x01\x03\x01\x01\x62\x01\x02\x19\xa7\xf1\xb0";
 
 enum Step {
@@ -40,11 +40,17 @@ struct Case {
     files: &'static [(&'static str, usize)],
 }
 
-const APPEND_1: (&str, &[&[u8]]) = ("data/0000000000000001.raftlog", &[HEADER, PUT_1]);
+pub(super) const APPEND_1: (&str, &[&[u8]]) = ("data/0000000000000001.raftlog", &[HEADER, PUT_1]);
 
-const APPEND_2: (&str, &[&[u8]]) = ("data/0000000000000002.raftlog", &[HEADER, PUT_2, b"\x07"]);
+pub(super) const APPEND_2: (&str, &[&[u8]]) = (
+    "data/0000000000000002.raftlog",
+    &[HEADER, PUT_2, b"\x07"],
+);
 
-const REWRITE_1: (&str, &[&[u8]]) = ("data/0000000000000001.rewrite", &[HEADER, PUT_1, PUT_2]);
+pub(super) const REWRITE_1: (&str, &[&[u8]]) = (
+    "data/0000000000000001.rewrite",
+    &[HEADER, PUT_1, PUT_2],
+);
 
 static REFUSED: [Case; 3] = [
     Case {
@@ -139,7 +145,7 @@ fn settings(alloc: Global) -> Result<Config, AllocError> {
     Ok(config)
 }
 
-fn store<F: FileSystem>(fs: &mut F, path: &str, parts: &[&[u8]]) -> Result<(), FsFault> {
+pub(super) fn store<F: FileSystem>(fs: &mut F, path: &str, parts: &[&[u8]]) -> Result<(), FsFault> {
     if path.len() > 4 {
         fs.make_dir("data")?;
     }
@@ -154,7 +160,10 @@ fn store<F: FileSystem>(fs: &mut F, path: &str, parts: &[&[u8]]) -> Result<(), F
 }
 
 // How many batches are read of the queue.
-fn read<F: FileSystem>(builder: &mut DualPipesBuilder<F>, queue: LogQueue) -> Result<u64, Fault> {
+pub(super) fn read<F: FileSystem>(
+    builder: &mut DualPipesBuilder<F>,
+    queue: LogQueue,
+) -> Result<u64, Fault> {
     let mut machine = Counter { batches: 0 };
     builder.recover_queue(queue, &mut machine)?;
     Ok(machine.batches)
@@ -243,7 +252,10 @@ fn store_all<F: FileSystem>(fs: &mut F, case: &Case) -> Result<(), FsFault> {
     Ok(())
 }
 
-fn begun<F: FileSystem + Drop>(alloc: Global, fs: F) -> Result<DualPipesBuilder<F>, Fault> {
+pub(super) fn begun<F: FileSystem + Drop>(
+    alloc: Global,
+    fs: F,
+) -> Result<DualPipesBuilder<F>, Fault> {
     match DualPipesBuilder::new(alloc, &settings(alloc)?, fs) {
         Ok(builder) => Ok(builder),
         Err((fault, _files)) => Err(fault),
