@@ -4,13 +4,14 @@ ghost use Rattle.std.specs.Prelude.{IfOk, OnOk};
 ghost use Rattle.raft_queues.specs.Dual.{StandSideBySide};
 
 use crate::crashed_rows::{Case, Left, ONE_EACH, Opening, Stage, Step, cases, openings};
+use crate::folders::begun;
 use LogQueue::{Append, Rewrite};
 use raft_env::{FileSystem, IoKind};
 use raft_memory::{Choice, MemoryFileSystem};
-use raft_pipes::{AppendFault, Config, ReplayMachine, RotationFault};
+use raft_pipes::{AppendFault, ReplayMachine, RotationFault};
 use raft_queues::{DualPipes, DualPipesBuilder};
-use raft_records::{Fault, FileId, Fresh, KeyValue, LogBatch, LogItem, LogItemContent, LogQueue};
-use std::alloc::{AllocError, Global};
+use raft_records::{Fault, FileId, KeyValue, LogBatch, LogItem, LogItemContent, LogQueue};
+use std::alloc::Global;
 use std::test::Fail;
 
 /// A file with so many bytes is full.
@@ -37,19 +38,6 @@ impl ReplayMachine for Keys {
             }
         }
         Ok(())
-    }
-}
-
-fn settings(alloc: Global) -> Result<Config, AllocError> {
-    let mut config = Config::fresh(alloc);
-    config.dir.push_str("data")?;
-    Ok(config)
-}
-
-fn begun<F: FileSystem + Drop>(alloc: Global, fs: F) -> Result<DualPipesBuilder<F>, Fault> {
-    match DualPipesBuilder::new(alloc, &settings(alloc)?, fs) {
-        Ok(builder) => Ok(builder),
-        Err((fault, _fs)) => Err(fault),
     }
 }
 

@@ -7,6 +7,8 @@ mod crashed_queues;
 #[cfg(test)]
 mod crashed_rows;
 #[cfg(test)]
+mod folders;
+#[cfg(test)]
 mod laws;
 #[cfg(test)]
 mod log_files;

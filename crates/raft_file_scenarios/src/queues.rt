@@ -2,18 +2,16 @@
 ghost use Rattle.std.specs.Prelude.{◌≡◌, OnOk};
 ghost use Rattle.raft_pipes.specs.Pipe.{IsPipeOf};
 
-use raft_env::{FileSystem, FsFault, Permission};
+use crate::folders::{HEADER, have_lengths, settings, store};
+use raft_env::FileSystem;
 use raft_memory::MemoryFileSystem;
-use raft_pipes::{AppendFault, Config, ReplayMachine, RotationFault, SinglePipe, open};
-use raft_records::{Fault, FileBlockHandle, FileId, Fresh, LogItem, LogQueue};
-use std::alloc::{AllocError, Global};
+use raft_pipes::{AppendFault, ReplayMachine, RotationFault, SinglePipe, open};
+use raft_records::{Fault, FileBlockHandle, FileId, LogItem, LogQueue};
+use std::alloc::Global;
 use std::test::Fail;
 
 /// A file with so many bytes is full.
 const TARGET: usize = 1024;
-
-const HEADER: &[u8] =
-    b"RAFT-LOG-FILE-HEADER-9986AB3E47F320B394C8E84916EB0ED5\0\0\0\0\0\0\0\x02\0\0\0\0\0\0\0\0";
 
 enum Step {
     /// Appends so many bytes, to the next file where the last one is full: the file and the place where they stand.
@@ -193,31 +191,9 @@ fn first_wrong<F: FileSystem>(
     Ok(wrong)
 }
 
-fn settings(alloc: Global) -> Result<Config, AllocError> {
-    let mut config = Config::fresh(alloc);
-    config.dir.push_str("data")?;
-    Ok(config)
-}
-
-fn store<F: FileSystem>(fs: &mut F, path: &str) -> Result<(), FsFault> {
-    fs.make_dir("data")?;
-    let handle = fs.create(path)?;
-    let mut writer = fs.new_writer(&handle)?;
-    fs.write(&mut writer, 0, HEADER)
-}
-
-fn have_lengths<F: FileSystem>(fs: &mut F, files: &[(&str, usize)]) -> Result<bool, FsFault> {
-    let mut equal = fs.list("data")?.len() == files.len();
-    for (path, len) in files {
-        let handle = fs.open(path, Permission::ReadOnly)?;
-        equal = fs.file_size(&handle)? == *len && equal;
-    }
-    Ok(equal)
-}
-
 fn is_as_said<F: FileSystem>(alloc: Global, fs: &mut F, case: &Case) -> Result<bool, Fail> {
     if let Some(path) = case.found {
-        store(fs, path)?;
+        store(fs, path, &[HEADER])?;
     }
     let mut machine = NoMachine {};
     let mut pipe = open(alloc, LogQueue::Append, &settings(alloc)?, fs, &mut machine)?;

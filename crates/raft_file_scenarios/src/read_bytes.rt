@@ -1,6 +1,7 @@
 //! Bytes of either queue's files, read at handles.
 
-use crate::two_queues::{APPEND_1, APPEND_2, PUT_1, PUT_2, REWRITE_1, begun, read, store};
+use crate::folders::{begun, store};
+use crate::two_queues::{APPEND_1, APPEND_2, PUT_1, PUT_2, REWRITE_1, read};
 use raft_env::FileSystem;
 use raft_memory::MemoryFileSystem;
 use raft_queues::DualPipes;

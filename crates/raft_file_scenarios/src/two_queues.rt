@@ -1,15 +1,13 @@
 //! Both queues of a folder, opened in stages: what is read of each, where their files are cut, and what is left of them.
 
-use raft_env::{FileSystem, FsFault, Permission};
+use crate::folders::{HEADER, begun, have_lengths, store};
+use raft_env::{FileSystem, FsFault};
 use raft_memory::MemoryFileSystem;
-use raft_pipes::{Config, ReplayMachine};
+use raft_pipes::ReplayMachine;
 use raft_queues::{Cut, DualPipes, DualPipesBuilder};
-use raft_records::{Fault, FileId, Fresh, LogItem, LogQueue};
-use std::alloc::{AllocError, Global};
+use raft_records::{Fault, FileId, LogItem, LogQueue};
+use std::alloc::Global;
 use std::test::Fail;
-
-const HEADER: &[u8] =
-    b"RAFT-LOG-FILE-HEADER-9986AB3E47F320B394C8E84916EB0ED5\0\0\0\0\0\0\0\x02\0\0\0\0\0\0\0\0";
 
 /// A record of 28 bytes, signed for file 1 of either queue, and one for file 2; by Python's struct and zlib.
 pub(super) const PUT_1: &[u8] =
@@ -139,26 +137,6 @@ impl ReplayMachine for Counter {
     }
 }
 
-fn settings(alloc: Global) -> Result<Config, AllocError> {
-    let mut config = Config::fresh(alloc);
-    config.dir.push_str("data")?;
-    Ok(config)
-}
-
-pub(super) fn store<F: FileSystem>(fs: &mut F, path: &str, parts: &[&[u8]]) -> Result<(), FsFault> {
-    if path.len() > 4 {
-        fs.make_dir("data")?;
-    }
-    let handle = fs.create(path)?;
-    let mut writer = fs.new_writer(&handle)?;
-    let mut at = 0;
-    for part in parts {
-        fs.write(&mut writer, at, part)?;
-        at = at.saturating_add(part.len());
-    }
-    Ok(())
-}
-
 // How many batches are read of the queue.
 pub(super) fn read<F: FileSystem>(
     builder: &mut DualPipesBuilder<F>,
@@ -235,31 +213,11 @@ fn is_end(ended: Ended, wanted: &Result<(u64, u64), u8>) -> bool {
     }
 }
 
-fn have_lengths<F: FileSystem>(fs: &mut F, files: &[(&str, usize)]) -> Result<bool, FsFault> {
-    let folder = if fs.is_dir("data") { "data" } else { "" };
-    let mut equal = fs.list(folder)?.len() == files.len();
-    for (path, len) in files {
-        let handle = fs.open(path, Permission::ReadOnly)?;
-        equal = fs.file_size(&handle)? == *len && equal;
-    }
-    Ok(equal)
-}
-
 fn store_all<F: FileSystem>(fs: &mut F, case: &Case) -> Result<(), FsFault> {
     for (path, parts) in case.stored {
         store(fs, path, parts)?;
     }
     Ok(())
-}
-
-pub(super) fn begun<F: FileSystem + Drop>(
-    alloc: Global,
-    fs: F,
-) -> Result<DualPipesBuilder<F>, Fault> {
-    match DualPipesBuilder::new(alloc, &settings(alloc)?, fs) {
-        Ok(builder) => Ok(builder),
-        Err((fault, _files)) => Err(fault),
-    }
 }
 
 // The files after the opening, if its steps and its end come to what they say.

@@ -31,9 +31,6 @@ module _ (m : Contents) (group : ℕ) (start end : Option (List ℕ)) where
       subst (IsListing (value_between start end (m.value group))) (sym (reverse-map (λ p. (p.0.now, p.1.now)) back ∙ ap (λ ps. lent_pairs (reverse ps)) is ∙ ap lent_pairs (reverse-reverse pairs))) listing
 
 module _ {F : Type 0} (called : F → List ℕ → List ℕ → Bool → F → Type 0) where
-  pub begun_at_start : (f : F) (ps : List (List ℕ × List ℕ)) → AreBegun called f ps f
-  begun_at_start f [] = refl
-  begun_at_start f (p ∷ ps) = inl refl
 
   module _ (xs : List (Bor (List ℕ) × Bor (List ℕ))) (i : ℕ) (d : Bor (List ℕ) × Bor (List ℕ)) (within : i < length xs) (f last : F) where
     pub handed_last : called f (get_or xs i d).0.now (get_or xs i d).1.now false last → AreHandedOver called f (lent_pairs (drop i xs)) last

@@ -67,38 +67,3 @@ module _ (known left : Option (List ℕ)) (old read : List ℕ) (empty : old ≡
 
   pub line_without_end : slice_index read (length read - 1) ≢ 10 → IfSome known (λ text. IsNextLine true text read left)
   line_without_end other = found read (λ text next. next.unended other)
-
-pub reading_begins : (known : Option (List ℕ)) → IsReading known known 1
-reading_begins None = tt
-reading_begins (Some text) = (text, refl, omega arith, omega arith)
-
--- the next line, or none, where bytes are known to be left
-next_of : (some : Bool) (rest line : List ℕ) (left after : Option (List ℕ)) → left ≡ Some rest → IfSome left (λ t. IsNextLine some t line after) → IsNextLine some rest line after
-next_of some rest line left after is next = subst (λ l. IfSome l (λ t. IsNextLine some t line after)) is next
-
-pub reading_goes_on : (known left after : Option (List ℕ)) (number : ℕ) (line : List ℕ) → IsReading known left number → IfSome left (λ t. IsNextLine true t line after) → is_bad line ≡ false → IsReading known after (number + 1)
-reading_goes_on None left after number line r next good = tt
-reading_goes_on (Some text) left after number line r next good =
-    let n = next_of true r.0 line left after r.1 next in
-    let place : position_or_len is_bad (lines_in r.0) ≡ 1 + position_or_len is_bad (lines_in n.0) = ap (position_or_len is_bad) n.2 ∙ ap (λ b. cond (not b) (1 + position_or_len is_bad (lines_in n.0)) 0) good in
-    let count : length (lines_in r.0) ≡ suc (length (lines_in n.0)) = ap length n.2 in
-    (n.0, n.1, omega (arith, r.2, place), omega (arith, r.3, count))
-
-pub reading_ends : (known left after : Option (List ℕ)) (number : ℕ) (line : List ℕ) → IsReading known left number → IfSome left (λ t. IsNextLine false t line after) → IfSome known (λ text. first_bad_line text ≡ None)
-reading_ends None left after number line r next = tt
-reading_ends (Some text) left after number line r next =
-    let empty : r.0 ≡ [] = next_of false r.0 line left after r.1 next in
-    let place : position_or_len is_bad (lines_in r.0) ≡ 0 = ap (λ t. position_or_len is_bad (lines_in t)) empty in
-    let count : length (lines_in r.0) ≡ 0 = ap (λ t. length (lines_in t)) empty in
-    let p = position_or_len is_bad (lines_in text) in
-    ap (λ b. option_map (λ before. before + 1) (cond b (Some p) None)) (le-ltb p (length (lines_in text)) (omega (arith, r.2, r.3, place, count)))
-
-pub reading_stops : (known left after : Option (List ℕ)) (number : ℕ) (line : List ℕ) → IsReading known left number → IfSome left (λ t. IsNextLine true t line after) → is_bad line ≡ true → IfSome known (λ text. first_bad_line text ≡ Some number)
-reading_stops None left after number line r next bad = tt
-reading_stops (Some text) left after number line r next bad =
-    let n = next_of true r.0 line left after r.1 next in
-    let place : position_or_len is_bad (lines_in r.0) ≡ 0 = ap (position_or_len is_bad) n.2 ∙ ap (λ b. cond (not b) (1 + position_or_len is_bad (lines_in n.0)) 0) bad in
-    let count : length (lines_in r.0) ≡ suc (length (lines_in n.0)) = ap length n.2 in
-    let p = position_or_len is_bad (lines_in text) in
-    let number_is : p + 1 ≡ number = omega (arith, r.2, place) in
-    ap (λ b. option_map (λ before. before + 1) (cond b (Some p) None)) (lt-ltb p (length (lines_in text)) (omega (arith, r.2, r.3, place, count))) ∙ ap (λ n. Some n) number_is

@@ -103,10 +103,6 @@ unbuilt_by e items n acts act within is built first (inr (inr r)) = inr (inr (r.
 pub built_ended : (items : Batch) (n : ℕ) (acts : List Act) → drop n acts ≡ [] → IsBuilt items n acts → batch_of_acts acts ≡ Some items
 built_ended items n acts none built = sym built ∙ ap (λ l. followed_by items (batch_of_acts l)) none ∙ ap Some (append-nil items)
 
-pub after-written_batch : (m : Contents) (batch : Batch) → after_batches m (written_batch batch) ≡ after_batch m batch
-after-written_batch m [] = refl
-after-written_batch m (item ∷ items) = refl
-
 pub same_err : {T : Type 0} {x y : Fault} (r : Result T Fault) → r ≡ Err x → r ≡ Err y → x ≡ y
 same_err r a b = cc
 
