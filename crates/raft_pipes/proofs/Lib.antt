@@ -23,6 +23,7 @@ pub mod PipeQueueLemmas
 pub mod PipeResultLemmas
 pub mod PipeRotationLemmas
 pub mod PlacesLemmas
+pub mod PurgeLemmas
 pub mod QueueAppendLemmas
 pub mod QueueFilesLemmas
 pub mod QueueLemmas
