@@ -1,5 +1,5 @@
 -- Two queues side by side, after calls on one of them.
-use Rattle.std.proofs.Common.{◌≡◌, ◌∙◌, ℕ, ◌<◌, ◌^◌, Bool, true, List, [], length, Some, ap, subst, sym}
+use Rattle.std.proofs.Common.{◌≡◌, ◌∙◌, ℕ, ◌-◌, ◌<◌, ◌^◌, Bool, true, List, [], length, Some, ap, subst, sym}
 use Rattle.std.specs.Prelude.{unwrap_or}
 use Rattle.std.proofs.Math.Logic.{∥∥₁_elim, ∥∥₁_map, ∥∥₁_prop}
 use Rattle.std.proofs.lemmas.Bool.{lt-ltb}
@@ -10,6 +10,8 @@ use Rattle.raft_env.specs.Directory.{Directory, Path}
 use Rattle.raft_queues.specs.Dual.{DualState, HasAppendedIn, HasBoth, HasSyncedIn, StandSideBySide, StillHasBoth, counted, grown, pipe_of}
 use Rattle.raft_pipes.specs.Pipe.{IsPipeOf, IsRecordOf}
 use Rattle.raft_pipes.specs.PipeState.{PipeState, context_of}
+use Rattle.raft_pipes.specs.Purge.{dropped_batches}
+use Rattle.raft_queues.specs.DualPurge.{HasDroppedIn, with_queue}
 use Rattle.raft_records.specs.Batch.{BatchView, populated, signed_for}
 use Rattle.raft_records.specs.Item.{Batch}
 use Rattle.raft_records.specs.Layout.{entry_bytes}
@@ -32,6 +34,11 @@ stand_synced queue d d' old new synced stand = ∥∥₁_map stand (λ w. (w.0, 
 
 pub stand_still : (d d' : DualState) (old new : Directory) → StillHasBoth d d' old new → StandSideBySide d old → StandSideBySide d' new
 stand_still d d' old new still stand = ∥∥₁_map stand (λ w. (w.0, w.1, w.2, still w.0 w.1 w.2 w.3))
+
+pub stand_dropped : (queue : LogQueue) (count : ℕ) (d d' : DualState) (old new : Directory) → HasDroppedIn queue count d d' old new → StandSideBySide d old → StandSideBySide d' new
+stand_dropped queue count d d' old new dropped stand =
+    ∥∥₁_elim stand ∥∥₁_prop (λ w. let keeps = dropped.keeps w.0 w.1 w.2 w.3 in
+        ∥∥₁_map keeps.0 (λ rest. (w.0, with_queue queue rest.0 w.1, with_queue queue (w.2 queue - length (dropped_batches count (pipe_of queue d) old)) w.2, keeps.1 rest.0 rest.1)))
 
 -- a batch that was populated and then signed for the last file of a pipe is encoded to its record
 pub signed_record : (p : PipeState) (context : LogFileContext) (given : List ℕ) (batch full signed : BatchView) → full ≡ populated batch → signed ≡ signed_for (file_signature context) full → given ≡ unwrap_or signed.encoded [] → FitsRecord batch.items

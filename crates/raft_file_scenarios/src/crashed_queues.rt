@@ -89,6 +89,21 @@ fn put<F: FileSystem>(
     }
 }
 
+fn purge<F: FileSystem>(
+    fs: &mut F,
+    pipes: &mut DualPipes<F>,
+    queue: LogQueue,
+    seq: u64,
+) -> Result<(), Fault>
+    requires { StandSideBySide pipes.old (F.directory fs.old) }
+    ensures stands { OnOk result (StandSideBySide pipes.new (F.directory fs.new)) }
+{
+    match pipes.purge_to(queue, fs, seq) {
+        Ok(_count) => Ok(()),
+        Err(fault) => Err(fault),
+    }
+}
+
 fn take<F: FileSystem>(
     alloc: Global,
     fs: &mut F,
@@ -101,6 +116,7 @@ fn take<F: FileSystem>(
     match step {
         Step::Put(queue, key, sync) => put(alloc, fs, pipes, *queue, *key, *sync),
         Step::Sync(queue) => pipes.sync(*queue, fs),
+        Step::Purge(queue, seq) => purge(fs, pipes, *queue, *seq),
         Step::Rotate(queue) => match pipes.rotate_if_full(*queue, fs, 0) {
             Ok(()) => Ok(()),
             Err(RotationFault::NotBegun(fault)) | Err(RotationFault::Stopped(fault)) => Err(fault),

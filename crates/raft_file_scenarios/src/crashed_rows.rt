@@ -18,6 +18,8 @@ pub(crate) enum Step {
     Sync(LogQueue),
     /// Goes on to the queue's next file.
     Rotate(LogQueue),
+    /// Deletes the queue's files before this number.
+    Purge(LogQueue, u64),
 }
 
 /// What is written from no files on, what a crash leaves of the files, and what is then read of the Append queue and of
@@ -64,7 +66,7 @@ static IN_ONE_FILE: [Case; 3] = [
     },
 ];
 
-static IN_MORE: [Case; 4] = [
+static IN_MORE: [Case; 5] = [
     Case {
         name: "all of both queues is left",
         steps: &[
@@ -105,6 +107,22 @@ static IN_MORE: [Case; 4] = [
         left: Left::Synced,
         append: &[(1, b'a'), (2, b'd')],
         rewrite: &[(1, b'b'), (2, b'c'), (3, b'e')],
+    },
+    Case {
+        name: "the first files of a queue are deleted",
+        steps: &[
+            Step::Put(Append, b'a', true),
+            Step::Rotate(Append),
+            Step::Put(Append, b'b', false),
+            Step::Put(Rewrite, b'c', true),
+            Step::Rotate(Append),
+            Step::Put(Append, b'd', true),
+            Step::Purge(Append, 2),
+            Step::Put(Append, b'e', false),
+        ],
+        left: Left::Synced,
+        append: &[(2, b'b'), (3, b'd')],
+        rewrite: &[(1, b'c')],
     },
     Case {
         name: "torn records of both queues",

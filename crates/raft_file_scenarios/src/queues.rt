@@ -21,6 +21,8 @@ enum Step {
     RotateRefused(u8),
     /// So many bytes are read of this place in this file.
     Read(u64, u64, usize, usize),
+    /// So many files before this number are deleted, or that fails with this code.
+    Purge(u64, Result<usize, u8>),
     /// The first file and the last one, and the bytes of all if they are full.
     Span(u64, u64, usize),
 }
@@ -33,7 +35,7 @@ struct Case {
     files: &'static [(&'static str, usize)],
 }
 
-static ROWS: [Case; 2] = [
+static ROWS: [Case; 3] = [
     Case {
         name: "three files",
         found: None,
@@ -54,6 +56,27 @@ static ROWS: [Case; 2] = [
             ("data/0000000000000001.raftlog", 1093),
             ("data/0000000000000002.raftlog", 1093),
             ("data/0000000000000003.raftlog", 95),
+        ],
+    },
+    Case {
+        name: "the first files are deleted",
+        found: None,
+        steps: &[
+            Step::Append(1024, 1, 69),
+            Step::Append(1024, 2, 69),
+            Step::Rotate,
+            Step::Purge(4, Err(14)),
+            Step::Purge(2, Ok(1)),
+            Step::Span(2, 3, 2048),
+            Step::Purge(1, Err(14)),
+            Step::Purge(2, Ok(0)),
+            Step::Append(13, 3, 69),
+            Step::Read(1, 69, 1024, 0),
+            Step::Read(2, 69, 1024, 1024),
+        ],
+        files: &[
+            ("data/0000000000000002.raftlog", 1093),
+            ("data/0000000000000003.raftlog", 82),
         ],
     },
     Case {
@@ -166,6 +189,11 @@ fn holds<F: FileSystem>(
             };
             Ok(read(alloc, fs, pipe, block)? == Some(*wanted))
         }
+        Step::Purge(seq, wanted) => Ok(match (pipe.purge_to(fs, *seq), wanted) {
+            (Ok(count), Ok(wanted)) => count == *wanted,
+            (Err(fault), Err(code)) => fault.code() == *code,
+            _ => false,
+        }),
         Step::Span(first, last, size) => {
             Ok(pipe.file_span() == (*first, *last) && pipe.total_size(TARGET) == *size)
         }

@@ -50,11 +50,6 @@ record_at-replayed_at signature bytes at = ap (option_map placed) (record_of-rep
     by_found sound None = elim (cases_Bool (sound at)) [ inl is ↦ rw is refl | inr not_so ↦ rw not_so refl ]
     by_found sound (Some x) = elim (cases_Bool (sound at)) [ inl is ↦ rw is refl | inr not_so ↦ rw not_so refl ]
 
--- a record that can be read is taken by a replay
-pub replayed_of_record : (signature : Option ℕ) (bytes : List ℕ) (x : Batch × ℕ) → record_of signature bytes ≡ Some x → replayed_record signature bytes ≡ Some x
-replayed_of_record signature bytes x e =
-    some_if (is_block (block_after bytes (record_header bytes))) (replayed_record signature bytes) x (sym (record_of-replayed_record signature bytes) ∙ e)
-
 -- one search stops where what the other finds isn't sound
 placed_by-sound : (sound : ℕ → Bool) (next next' : ℕ → Option PlacedRecord) → ((at : ℕ) → next at ≡ option_and_then (λ p. cond (sound p.at) (Some p) None) (next' at)) →
     (n at : ℕ) → placed_by n next at ≡ take_while (λ p. sound p.at) (placed_by n next' at)

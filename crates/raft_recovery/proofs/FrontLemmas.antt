@@ -21,10 +21,6 @@ kept-append cs ds w = filter_agree (λ e. all_keep (cs ++ ds) e.0) (λ e. all_ke
 pub kept_twice : (cs : List EntryChange) (w : List Entry) → kept cs (kept cs w) ≡ kept cs w
 kept_twice cs w = filter_all (λ e. all_keep cs e.0) (kept cs w) (each_passes (λ e. all_keep cs e.0) w)
 
-pub each_run_left : (cs ds : List EntryChange) → Each IsRun (cs ++ ds) → Each IsRun cs
-each_run_left [] ds _ = tt
-each_run_left (c ∷ cs) ds (run, runs) = (run, each_run_left cs ds runs)
-
 pub each_run_right : (cs ds : List EntryChange) → Each IsRun (cs ++ ds) → Each IsRun ds
 each_run_right [] ds runs = runs
 each_run_right (c ∷ cs) ds (run, runs) = each_run_right cs ds runs

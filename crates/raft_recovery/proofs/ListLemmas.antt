@@ -41,10 +41,6 @@ pub each_left : {X : Type 0} (P : X → Type 0) (xs ys : List X) → Each P (xs 
 each_left P [] ys _ = tt
 each_left P (x ∷ xs) ys (here, rest) = (here, each_left P xs ys rest)
 
-pub each_right : {X : Type 0} (P : X → Type 0) (xs ys : List X) → Each P (xs ++ ys) → Each P ys
-each_right P [] ys all = all
-each_right P (x ∷ xs) ys (here, rest) = each_right P xs ys rest
-
 pub each_weaker : {X : Type 0} (P Q : X → Type 0) → ((x : X) → P x → Q x) → (xs : List X) → Each P xs → Each Q xs
 each_weaker P Q imp [] _ = tt
 each_weaker P Q imp (x ∷ xs) (here, rest) = (imp x here, each_weaker P Q imp xs rest)

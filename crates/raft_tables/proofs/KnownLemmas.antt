@@ -52,7 +52,3 @@ known_after_items id blocks group t (item ∷ items) in_order =
     let parts = both (is_placed_in_order item.content) (list_all (λ i. is_placed_in_order i.content) items) in_order in
     known_after_items id blocks group (tables_after_item id t item) items parts.1
     ∙ ap (λ k. known_after group k (map (item_in blocks) items)) (known_after_one id blocks group t item parts.0)
-
--- one batch more
-pub known_in-push : (batches : List Batch) (batch : Batch) (group : ℕ) → known_in (batches ++ batch ∷ []) group ≡ known_after group (known_in batches group) batch
-known_in-push batches batch group = fold-append (known_after group) false batches (batch ∷ [])
