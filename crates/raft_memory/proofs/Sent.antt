@@ -36,8 +36,14 @@ known_field_sync = known_sync
 noted_inside_send : IsSend noted.TheInside.the_row
 noted_inside_send = search (sendable, items.crosses, known_field_send) depth 20
 
+noted_inside_sync : IsSync noted.TheInside.the_row
+noted_inside_sync = search (sendable, items.crosses, known_field_sync) depth 20
+
 pub noted_send : IsSend noted.the_row
 noted_send = view_send noted.TheInside.the_row _ _ _ _ noted_inside_send
+
+pub noted_sync : IsSync noted.the_row
+noted_sync = view_sync noted.TheInside.the_row _ _ _ _ noted_inside_sync
 
 pub noted_field_send : IsSend (noted.the_field).row
 noted_field_send = noted_send
