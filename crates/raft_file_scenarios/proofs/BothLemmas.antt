@@ -38,7 +38,7 @@ stand_still d d' old new still stand = ∥∥₁_map stand (λ w. (w.0, w.1, w.2
 pub stand_dropped : (queue : LogQueue) (count : ℕ) (d d' : DualState) (old new : Directory) → HasDroppedIn queue count d d' old new → StandSideBySide d old → StandSideBySide d' new
 stand_dropped queue count d d' old new dropped stand =
     ∥∥₁_elim stand ∥∥₁_prop (λ w. let keeps = dropped.keeps w.0 w.1 w.2 w.3 in
-        ∥∥₁_map keeps.0 (λ rest. (w.0, with_queue queue rest.0 w.1, with_queue queue (w.2 queue - length (dropped_batches count (pipe_of queue d) old)) w.2, keeps.1 rest.0 rest.1)))
+    ∥∥₁_map keeps.0 (λ rest. (w.0, with_queue queue rest.0 w.1, with_queue queue (w.2 queue - length (dropped_batches count (pipe_of queue d) old)) w.2, keeps.1 rest.0 rest.1)))
 
 -- a batch that was populated and then signed for the last file of a pipe is encoded to its record
 pub signed_record : (p : PipeState) (context : LogFileContext) (given : List ℕ) (batch full signed : BatchView) → full ≡ populated batch → signed ≡ signed_for (file_signature context) full → given ≡ unwrap_or signed.encoded [] → FitsRecord batch.items

@@ -43,7 +43,10 @@ pub(crate) fn store<F: FileSystem>(fs: &mut F, path: &str, parts: &[&[u8]]) -> R
 }
 
 /// Whether these files stand alone, with these lengths.
-pub(crate) fn have_lengths<F: FileSystem>(fs: &mut F, files: &[(&str, usize)]) -> Result<bool, FsFault> {
+pub(crate) fn have_lengths<F: FileSystem>(
+    fs: &mut F,
+    files: &[(&str, usize)],
+) -> Result<bool, FsFault> {
     let folder = if fs.is_dir("data") { "data" } else { "" };
     let mut equal = fs.list(folder)?.len() == files.len();
     for (path, len) in files {

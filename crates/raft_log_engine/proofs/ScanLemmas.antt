@@ -31,7 +31,6 @@ module _ (m : Contents) (group : ℕ) (start end : Option (List ℕ)) where
       subst (IsListing (value_between start end (m.value group))) (sym (reverse-map (λ p. (p.0.now, p.1.now)) back ∙ ap (λ ps. lent_pairs (reverse ps)) is ∙ ap lent_pairs (reverse-reverse pairs))) listing
 
 module _ {F : Type 0} (called : F → List ℕ → List ℕ → Bool → F → Type 0) where
-
   module _ (xs : List (Bor (List ℕ) × Bor (List ℕ))) (i : ℕ) (d : Bor (List ℕ) × Bor (List ℕ)) (within : i < length xs) (f last : F) where
     pub handed_last : called f (get_or xs i d).0.now (get_or xs i d).1.now false last → AreHandedOver called f (lent_pairs (drop i xs)) last
     handed_last call = rw (drop_more xs i d within) (inl call)
