@@ -2,7 +2,7 @@
 
 use crate::folders::{begun, store};
 use crate::two_queues::{APPEND_1, APPEND_2, PUT_1, PUT_2, REWRITE_1, read};
-use raft_env::FileSystem;
+use raft_env::{FileSystem, FsFault};
 use raft_memory::MemoryFileSystem;
 use raft_queues::DualPipes;
 use raft_records::{Fault, FileBlockHandle, FileId, LogQueue};
@@ -22,11 +22,15 @@ static ROWS: [Row; 7] = [
     (LogQueue::Rewrite, 2, 69, 28, Err(14)),
 ];
 
-// The pipes of the files, each of which was read.
-fn pipes_over<F: FileSystem + Drop>(alloc: Global, mut fs: F) -> Result<(DualPipes<F>, F), Fault> {
+fn store_all<F: FileSystem>(fs: &mut F) -> Result<(), FsFault> {
     for (path, parts) in &[APPEND_1, APPEND_2, REWRITE_1] {
-        store(&mut fs, path, parts)?;
+        store(fs, path, parts)?;
     }
+    Ok(())
+}
+
+// The pipes of the files, each of which was read.
+fn pipes_over<F: FileSystem + Drop>(alloc: Global, fs: F) -> Result<(DualPipes<F>, F), Fault> {
     let mut builder = begun(alloc, fs)?;
     builder.scan()?;
     read(&mut builder, LogQueue::Rewrite)?;
@@ -54,7 +58,9 @@ fn is_as_said<F: FileSystem>(alloc: Global, fs: &mut F, pipes: &DualPipes<F>, ro
 
 #[test]
 fn bytes_of_both_queues_are_read(rt: HostRuntime) -> Result<(), Fail> {
-    let (pipes, mut files) = pipes_over(rt.alloc(), MemoryFileSystem::new(rt.alloc()))?;
+    let mut files = MemoryFileSystem::new(rt.alloc());
+    store_all(&mut files)?;
+    let (pipes, mut files) = pipes_over(rt.alloc(), files)?;
     for (at, row) in ROWS.iter().enumerate() {
         assert!(rt;
             is_as_said(rt.alloc(), &mut files, &pipes, row),
