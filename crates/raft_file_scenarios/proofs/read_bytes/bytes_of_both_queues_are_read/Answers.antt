@@ -1,0 +1,9 @@
+use denote.Param.Send.{sendable}
+use Rattle.raft_memory.proofs.Sent.{memory_send, memory_sync}
+use Rattle.raft_file_scenarios.proofs.read_bytes.bytes_of_both_queues_are_read.Goals as goal
+
+pub store_all-requires-send-F : goal.store_all-requires-send-F
+store_all-requires-send-F g c = λ κs. search (sendable, memory_send) depth 20
+
+pub store_all-requires-sync-F : goal.store_all-requires-sync-F
+store_all-requires-sync-F g c = λ κs. search (sendable, memory_send, memory_sync) depth 20
