@@ -1,0 +1,23 @@
+-- The folders of the settings.
+use Rattle.std.specs.Prelude.{Contains, List, [], ◌∷◌, Option, Some, None, if◌then◌else◌}
+use Rattle.std.specs.Str.{bytes_eq}
+use Rattle.raft_env.specs.Directory.{Directory, HasFile, Path}
+
+pub record Folders : Type 0 where
+  -- where files are made
+  pub main : Path
+  -- another one, whose files are read too
+  pub spill : Option Path
+
+-- the other folder, unless it is the first one
+abbrev pub beside_main : Path → Option Path → List Path
+beside_main main None = []
+beside_main main (Some spill) = if bytes_eq spill main then [] else spill ∷ []
+
+-- all of them, in their order: where files of one number stand in both, the last one stands for it
+abbrev pub all_of : Folders → List Path
+all_of folders = folders.main ∷ beside_main folders.main folders.spill
+
+-- a file stands in the place of one of them
+abbrev pub HasFileFor : Folders → Directory → Type 0
+HasFileFor folders n = (folder : Path) × Contains (all_of folders) folder × HasFile n folder
