@@ -1,13 +1,17 @@
 //! A queue of log files: where what is appended stands, what is read of it, and how it goes on to next files.
-ghost use Rattle.std.specs.Prelude.{◌≡◌, OnOk};
+ghost use Rattle.std.specs.Prelude.{◌≡◌, IfOk, OnOk};
 ghost use Rattle.raft_pipes.specs.Pipe.{IsPipeOf};
 
 use crate::folders::{HEADER, have_lengths, settings, store};
 use raft_env::FileSystem;
 use raft_memory::MemoryFileSystem;
-use raft_pipes::{AppendFault, ReplayMachine, RotationFault, SinglePipe, open};
+use raft_pipes::file_list::scan;
+use raft_pipes::{
+    AppendFault, ReplayMachine, RotationFault, SinglePipe, make_folder, read_files, settle_or_begin,
+};
 use raft_records::{Fault, FileBlockHandle, FileId, LogItem, LogQueue};
 use std::alloc::Global;
+use std::slice;
 use std::test::Fail;
 
 /// A file with so many bytes is full.
@@ -119,6 +123,21 @@ fn fault_of(fault: RotationFault) -> Fault {
     }
 }
 
+// The pipe of the Append queue, over the files that stand.
+fn opened<F: FileSystem>(alloc: Global, fs: &mut F) -> Result<SinglePipe<F>, Fault>
+    ensures stands { IfOk result (λ pipe. IsPipeOf pipe (F.directory fs.new)) }
+{
+    let config = settings(alloc)?;
+    let folder = config.dir.clone()?;
+    make_folder(alloc, folder.as_str(), fs)?;
+    let queue = LogQueue::Append;
+    let files = scan(alloc, slice::from_ref(&folder), queue, fs)?;
+    let mode = config.recovery_mode;
+    let replayed = read_files(alloc, queue, &files, mode, fs, &mut NoMachine {})?;
+    let version = config.format_version;
+    settle_or_begin(alloc, queue, folder, files, replayed, version, fs)
+}
+
 fn append<F: FileSystem>(
     alloc: Global,
     fs: &mut F,
@@ -223,8 +242,7 @@ fn is_as_said<F: FileSystem>(alloc: Global, fs: &mut F, case: &Case) -> Result<b
     if let Some(path) = case.found {
         store(fs, path, &[HEADER])?;
     }
-    let mut machine = NoMachine {};
-    let mut pipe = open(alloc, LogQueue::Append, &settings(alloc)?, fs, &mut machine)?;
+    let mut pipe = opened(alloc, fs)?;
     if first_wrong(alloc, fs, &mut pipe, case.steps)?.is_some() {
         return Ok(false);
     }

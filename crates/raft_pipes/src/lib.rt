@@ -12,5 +12,5 @@ pub mod rotation;
 pub use config::{Config, RecoveryMode};
 pub use files::read_files;
 pub use pipe::{AppendFault, RotationFault, SinglePipe};
-pub use pipe_builder::{make_folder, open, settle_or_begin};
+pub use pipe_builder::{make_folder, settle_or_begin};
 pub use replay::{ReplayMachine, ReplayedLog};
