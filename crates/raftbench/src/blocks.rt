@@ -62,17 +62,20 @@ pub(crate) fn report_ceilings<R: Host>(rt: &R, count: u64, size: usize) -> Resul
         copies: Vec::new(rt.alloc()),
         sum: 0,
     };
-    let bytes = count.saturating_mul(size as u64);
+    report_passes(rt, &mut blocks, count, count.saturating_mul(size as u64))?;
+    Ok(blocks.sum)
+}
+
+fn report_passes<R: Host>(rt: &R, blocks: &mut Blocks, count: u64, bytes: u64) -> Result<()> {
     let mut start = Instant::now(rt)?;
     for pass in Pass::ALL {
         blocks.pass(pass, count)?;
         start = report(rt, pass.name(), start, count, bytes)?;
     }
     // the sum and the copies are used, so that no pass is left out
-    let sum = blocks.sum;
     let last = blocks.copies.last().copied().unwrap_or(0);
-    eprintln!(rt; "  their checksum {sum:08x}, the last byte {last}")?;
-    Ok(sum)
+    eprintln!(rt; "  their checksum {:08x}, the last byte {last}", blocks.sum)?;
+    Ok(())
 }
 
 /// The sum of the blocks before, and of this one.

@@ -12,9 +12,17 @@ use raft_env::FileSystem;
 use raft_log_engine::Engine;
 use raft_records::{Fault, Message, MessageExt};
 use std::alloc::{AllocError, Global};
+use std::io;
 
 /// How many entries a fetch asks for.
 const FETCH_LEN: u64 = 100;
+
+/// What is read of the entries that were appended.
+const READS: [(&str, Part); 3] = [
+    ("  entry", Part::Entry),
+    ("  entry-in-order", Part::EntryInOrder),
+    ("  fetch", Part::Fetch),
+];
 
 /// An entry: its bytes, of which the first eight are its index.
 #[derive(Drop)]
@@ -77,18 +85,29 @@ fn append_and_read<R: Host, F: FileSystem>(
     engine: &mut Engine<F>,
     load: Load,
 ) -> Result<usize> {
-    let Load { name, count, .. } = load;
-    let len = run_part(rt, name, engine, Part::Append, load)?;
-    let sum = run_part(rt, "  entry", engine, Part::Entry, load)?;
-    let sum_in_order = run_part(rt, "  entry-in-order", engine, Part::EntryInOrder, load)?;
-    let fetched = run_part(rt, "  fetch", engine, Part::Fetch, load)?;
+    let len = run_part(rt, load.name, engine, Part::Append, load)?;
+    let mut read = [0; 3];
+    for ((name, part), figure) in READS.iter().zip(read.iter_mut()) {
+        *figure = run_part(rt, name, engine, *part, load)?;
+    }
+    print_figures(rt, load.name, load.count, len, read)?;
+    Ok((len / load.count.max(1)) as usize)
+}
+
+fn print_figures<R: Host>(
+    rt: &R,
+    name: &str,
+    count: u64,
+    len: u64,
+    read: [u64; 3],
+) -> io::Result<()> {
+    let [sum, sum_in_order, fetched] = read;
     println!(rt;
         "{name}: {count} entries, {len} bytes of log\n  \
          entry: checksum {sum:08x}\n  \
          entry-in-order: checksum {sum_in_order:08x}\n  \
          fetch: {fetched} entries"
-    )?;
-    Ok((len / count.max(1)) as usize)
+    )
 }
 
 /// So many entries from an index on, each with these bytes behind its index.

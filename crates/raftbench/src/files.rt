@@ -12,21 +12,42 @@ pub(crate) fn append<R: Host, F: FileSystem + Drop>(
     rt: &R,
     mut files: F,
     load: Load,
-) -> Result<Option<usize>> {
+) -> Result<()> {
     let block = filled(rt.alloc(), load.size, 1)?;
+    let len = append_to_file(rt, &mut files, &block, load)?;
+    println!(rt; "{}: {len} bytes", load.name)?;
+    Ok(())
+}
+
+// Answers the file's length.
+fn append_to_file<R: Host, F: FileSystem>(
+    rt: &R,
+    files: &mut F,
+    block: &[u8],
+    load: Load,
+) -> Result<usize> {
     let handle = files.create("file").map_err(refused)?;
     let mut writer = files.new_writer(&handle).map_err(refused)?;
+    append_tenths(rt, files, &mut writer, block, load)?;
+    files.file_size(&handle).map_err(refused)
+}
+
+fn append_tenths<R: Host, F: FileSystem>(
+    rt: &R,
+    files: &mut F,
+    writer: &mut F::Writer,
+    block: &[u8],
+    load: Load,
+) -> Result<()> {
     let tenth = load.count / 10;
+    let bytes = tenth.saturating_mul(load.size as u64);
     let mut start = Instant::now(rt)?;
     let mut end = 0;
     for _ in 0..10u8 {
-        end = append_tenth(&mut files, &mut writer, end, &block, load).map_err(refused)?;
-        let bytes = tenth.saturating_mul(load.size as u64);
+        end = append_tenth(files, writer, end, block, load).map_err(refused)?;
         start = report(rt, load.name, start, tenth, bytes)?;
     }
-    let len = files.file_size(&handle).map_err(refused)?;
-    println!(rt; "{}: {len} bytes", load.name)?;
-    Ok(None)
+    Ok(())
 }
 
 fn append_tenth<F: FileSystem>(

@@ -9,11 +9,20 @@ use raft_env::{FileSystem, FsFault, Permission};
 use raft_log_engine::{Config, Engine};
 use raft_records::{Fault, Fresh, ReadableSize};
 use std::alloc::{AllocError, Global};
+use std::io;
 use std::time::Instant;
 
 const FOLDER: &str = "bench";
 
 const LOG_PATH: &str = "bench/0000000000000001.raftlog";
+
+/// How many keys are found, the checksum of their values, and the length of the log.
+#[derive(Clone, Copy)]
+struct Figures {
+    found: u64,
+    sum: u32,
+    len: usize,
+}
 
 /// Puts, reads of keys in no order, and a close and an opening, over one engine. Answers the length of a record.
 pub(crate) fn put_get_reopen<R: Host, F: FileSystem + Drop>(
@@ -21,16 +30,36 @@ pub(crate) fn put_get_reopen<R: Host, F: FileSystem + Drop>(
     files: F,
     load: Load,
 ) -> Result<usize> {
-    let mut engine = open(rt.alloc(), files, load.file_size)?;
-    let (found, sum) = put_and_get(rt, &mut engine, load)?;
-    let (len, last_found) = reopen(rt, engine, load)?;
-    let Load { name, count, .. } = load;
+    let (files, figures) = put_and_close(rt, files, load)?;
+    let last_found = reopen(rt, files, figures.len, load)?;
+    print_figures(rt, load.name, load.count, figures, last_found)?;
+    Ok(figures.len / (load.count as usize).max(1))
+}
+
+fn print_figures<R: Host>(
+    rt: &R,
+    name: &str,
+    count: u64,
+    figures: Figures,
+    last_found: bool,
+) -> io::Result<()> {
+    let Figures { found, sum, len } = figures;
     println!(rt;
         "{name}: {count} operations, {len} bytes of log\n  \
          get: {count} operations, {found} found, checksum {sum:08x}\n  \
          reopen: {count} records, {len} bytes of log, last found: {last_found}"
-    )?;
-    Ok(len / (count as usize).max(1))
+    )
+}
+
+fn put_and_close<R: Host, F: FileSystem + Drop>(
+    rt: &R,
+    files: F,
+    load: Load,
+) -> Result<(F, Figures)> {
+    let mut engine = open(rt.alloc(), files, load.file_size)?;
+    let (found, sum) = put_and_get(rt, &mut engine, load)?;
+    let (files, len) = close(rt.alloc(), engine)?;
+    Ok((files, Figures { found, sum, len }))
 }
 
 // How many keys are found, and the checksum of their values, which no clock times.
@@ -41,8 +70,17 @@ fn put_and_get<R: Host, F: FileSystem>(
 ) -> Result<(u64, u32)> {
     run_part(rt, load.name, engine, Part::Put, load)?;
     let found = run_part(rt, "  get", engine, Part::Get, load)?;
-    let (_, sum) = get_each(engine, &keys_of(rt.alloc(), load)?, true)?;
+    let sum = sum_of_values(rt.alloc(), engine, load)?;
     Ok((found, sum))
+}
+
+fn sum_of_values<F: FileSystem>(
+    alloc: Global,
+    engine: &Engine<F>,
+    load: Load,
+) -> Result<u32, Fault> {
+    let (_, sum) = get_each(engine, &keys_of(alloc, load)?, true)?;
+    Ok(sum)
 }
 
 #[derive(Drop)]
@@ -85,17 +123,22 @@ pub(crate) fn get_each<F: FileSystem>(
     Ok((found, sum))
 }
 
-// The clock runs while the log is opened. Answers its length, and whether the last key is found.
-fn reopen<R: Host, F: FileSystem + Drop>(
-    rt: &R,
-    engine: Engine<F>,
-    load: Load,
-) -> Result<(usize, bool)> {
-    let (files, len) = close(rt.alloc(), engine)?;
+// The clock runs while the log of this length is opened. Answers whether the last key is found.
+fn reopen<R: Host, F: FileSystem + Drop>(rt: &R, files: F, len: usize, load: Load) -> Result<bool> {
     let start = Instant::now(rt)?;
     let engine = open(rt.alloc(), files, load.file_size)?;
+    report_opening(rt, &engine, start, len, load)
+}
+
+fn report_opening<R: Host, F: FileSystem>(
+    rt: &R,
+    engine: &Engine<F>,
+    start: Instant,
+    len: usize,
+    load: Load,
+) -> Result<bool> {
     report(rt, "  reopen", start, load.count, len as u64)?;
-    Ok((len, has_last(rt.alloc(), &engine, load)?))
+    Ok(has_last(rt.alloc(), engine, load)?)
 }
 
 pub(crate) fn open<F: FileSystem + Drop>(

@@ -52,8 +52,19 @@ pub(crate) fn run_part<R: Host, F: FileSystem>(
     load: Load,
 ) -> Result<u64> {
     let mut data = data_of(rt.alloc(), engine, part, load)?;
+    run_timed(rt, name, engine, &mut data, part, load)
+}
+
+fn run_timed<R: Host, F: FileSystem>(
+    rt: &R,
+    name: &str,
+    engine: &mut Engine<F>,
+    data: &mut Data,
+    part: Part,
+    load: Load,
+) -> Result<u64> {
     let start = Instant::now(rt)?;
-    let figure = perform(rt.alloc(), engine, &mut data, load.sync_each)?;
+    let figure = perform(rt.alloc(), engine, data, load.sync_each)?;
     let (count, bytes) = match part {
         Part::Put | Part::Append => (load.count, figure),
         Part::Get | Part::Entry | Part::EntryInOrder => (load.count, load.bytes()),
@@ -123,6 +134,13 @@ fn perform<F: FileSystem>(
     }
 }
 
+fn add(batch: &mut LogBatch, written: Written) -> Result<(), Fault> {
+    match written {
+        Written::Put(group, key, value) => batch.put(group, key, value),
+        Written::Entries(group, entries) => batch.add_entries::<Entries>(group, &entries),
+    }
+}
+
 /// Each in a batch of its own, and after so many a sync, or never for 0. Answers the bytes of their records.
 pub(crate) fn write_all<F: FileSystem>(
     alloc: Global,
@@ -134,10 +152,7 @@ pub(crate) fn write_all<F: FileSystem>(
     let mut bytes = 0u64;
     let mut unsynced = 0u64;
     for written in batches {
-        match written {
-            Written::Put(group, key, value) => batch.put(group, key, value)?,
-            Written::Entries(group, entries) => batch.add_entries::<Entries>(group, &entries)?,
-        }
+        add(&mut batch, written)?;
         unsynced = unsynced.saturating_add(1);
         let sync = unsynced == sync_each;
         if sync {

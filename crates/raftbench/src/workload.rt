@@ -105,17 +105,29 @@ impl Workload {
 
 // Below each workload stand the ceilings of as many records as it made, and of as many values.
 fn run_over<R: Host, F: FileSystem + Drop>(rt: &R, kind: Kind, files: F, load: Load) -> Result<()> {
-    let len = match kind {
+    match kind {
         Kind::Blocks => return sum_blocks(rt, load),
         Kind::File => append(rt, files, load)?,
-        Kind::Entries(_) => Some(append_entry_fetch(rt, files, load)?),
-        Kind::Puts(_) => Some(put_get_reopen(rt, files, load)?),
-    };
-    if let Some(len) = len {
-        report_ceilings(rt, load.count, len)?;
+        Kind::Entries(_) | Kind::Puts(_) => {
+            let len = run_over_engine(rt, kind, files, load)?;
+            report_ceilings(rt, load.count, len)?;
+        }
     }
     report_ceilings(rt, load.count, load.size)?;
     Ok(())
+}
+
+// Answers the length of a record.
+fn run_over_engine<R: Host, F: FileSystem + Drop>(
+    rt: &R,
+    kind: Kind,
+    files: F,
+    load: Load,
+) -> Result<usize> {
+    match kind {
+        Kind::Puts(_) => put_get_reopen(rt, files, load),
+        _ => append_entry_fetch(rt, files, load),
+    }
 }
 
 fn sum_blocks<R: Host>(rt: &R, load: Load) -> Result<()> {

@@ -1,10 +1,11 @@
 //! Commands on the entries of a group, and on groups.
 ghost use Rattle.std.specs.Prelude.{◌≡◌};
 
+use crate::changes::{Change, write};
 use crate::output::{Output, Word};
 use raft_codec::number::{push_u64, take_u64};
-use raft_log_engine::{Engine, Fault, FileSystem, LogBatch};
-use raft_records::{Command, Message, MessageExt};
+use raft_log_engine::{Engine, Fault, FileSystem};
+use raft_records::{Message, MessageExt};
 use std::alloc::{AllocError, Global};
 
 /// The bytes before an entry's value, which are its index, the greatest first.
@@ -74,9 +75,7 @@ pub(crate) fn append<F: FileSystem>(
         .map_or(1, |last| last.saturating_add(1));
     let first = at.unwrap_or(next);
     let entries = entries_from(alloc, first, values)?;
-    let mut batch = LogBatch::new(alloc);
-    batch.add_entries::<Entry>(group, &entries)?;
-    engine.write(&mut batch, sync)?;
+    write(alloc, engine, group, Change::Append(&entries), sync)?;
     let last = engine.last_index(group).unwrap_or(first);
     out.line(&[Word::Number(first), Word::Number(last)])?;
     Ok(true)
@@ -139,18 +138,6 @@ pub(crate) fn compact<F: FileSystem>(
         engine.sync()?;
     }
     out.line(&[Word::Number(count)])?;
-    Ok(true)
-}
-
-pub(crate) fn clean<F: FileSystem>(
-    alloc: Global,
-    engine: &mut Engine<F>,
-    group: u64,
-    sync: bool,
-) -> Result<bool, Fault> {
-    let mut batch = LogBatch::new(alloc);
-    batch.add_command(group, Command::Clean)?;
-    engine.write(&mut batch, sync)?;
     Ok(true)
 }
 

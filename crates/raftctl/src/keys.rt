@@ -1,38 +1,7 @@
-//! Commands on single keys.
+//! Reads of keys.
 
 use crate::output::{Output, Word};
-use raft_log_engine::{Engine, Fault, FileSystem, LogBatch};
-use std::alloc::Global;
-
-pub(crate) fn put<F: FileSystem>(
-    alloc: Global,
-    engine: &mut Engine<F>,
-    group: u64,
-    key: &str,
-    value: &str,
-    sync: bool,
-) -> Result<bool, Fault> {
-    let key = key.as_bytes().to_vec(alloc)?;
-    let value = value.as_bytes().to_vec(alloc)?;
-    let mut batch = LogBatch::new(alloc);
-    batch.put(group, key, value)?;
-    engine.write(&mut batch, sync)?;
-    Ok(true)
-}
-
-pub(crate) fn delete<F: FileSystem>(
-    alloc: Global,
-    engine: &mut Engine<F>,
-    group: u64,
-    key: &str,
-    sync: bool,
-) -> Result<bool, Fault> {
-    let key = key.as_bytes().to_vec(alloc)?;
-    let mut batch = LogBatch::new(alloc);
-    batch.delete(group, key)?;
-    engine.write(&mut batch, sync)?;
-    Ok(true)
-}
+use raft_log_engine::{Engine, Fault, FileSystem};
 
 /// Adds the value at the key, and says whether there is one.
 pub(crate) fn get<F: FileSystem>(

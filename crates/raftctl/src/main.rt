@@ -2,6 +2,7 @@
 #![tactic(auto)]
 
 mod arguments;
+mod changes;
 mod entries;
 mod keys;
 mod numbered;
@@ -11,6 +12,7 @@ mod stat;
 
 use anyhow::{Result, anyhow, bail};
 use arguments::parse;
+use changes::{Change, write};
 use clap::Error;
 use output::Output;
 use raft_disk::DiskFileSystem;
@@ -125,9 +127,14 @@ fn command<F: FileSystem>(
 ) -> Result<bool, Fault> {
     let sync = request.sync;
     match &request.verb {
-        Verb::Put(group, key, value) => keys::put(alloc, engine, *group, key, value, sync),
+        Verb::Put(group, key, value) => {
+            let change = Change::Put(key.as_bytes(), value.as_bytes());
+            write(alloc, engine, *group, change, sync)
+        }
         Verb::Get(group, key) => keys::get(engine, *group, key, out),
-        Verb::Delete(group, key) => keys::delete(alloc, engine, *group, key, sync),
+        Verb::Delete(group, key) => {
+            write(alloc, engine, *group, Change::Delete(key.as_bytes()), sync)
+        }
         Verb::List(group) => keys::list(engine, *group, out),
         Verb::Append(group, values, at) => {
             entries::append(alloc, engine, *group, values, *at, sync, out)
@@ -135,7 +142,7 @@ fn command<F: FileSystem>(
         Verb::Entry(group, index) => entries::get(engine, *group, *index, out),
         Verb::Entries(group, from, to) => { entries::list(alloc, engine, *group, *from, *to, out) }
         Verb::Compact(group, index) => entries::compact(engine, *group, *index, sync, out),
-        Verb::Clean(group) => entries::clean(alloc, engine, *group, sync),
+        Verb::Clean(group) => write(alloc, engine, *group, Change::Clean, sync),
         Verb::Groups => entries::groups(engine, out),
         Verb::Verify(load) => numbered::verify(alloc, engine, *load, out),
         // Done before.

@@ -1,10 +1,11 @@
 //! Keys numbered from 0, by which a disk can be tested: pull its plug while they are loaded.
 
+use crate::changes::{Change, write};
 use crate::failure;
 use crate::output::{Output, Word};
 use crate::request::Load;
 use anyhow::Result;
-use raft_log_engine::{Engine, Fault, FileSystem, LogBatch};
+use raft_log_engine::{Engine, Fault, FileSystem};
 use std::alloc::{AllocError, Global};
 use std::time::Instant;
 
@@ -54,15 +55,10 @@ fn put<F: FileSystem>(
     number: u64,
     size: u64,
     sync: bool,
-) -> Result<(), Fault> {
-    let mut batch = LogBatch::new(alloc);
-    batch.put(
-        GROUP,
-        key_of(alloc, number)?,
-        value_of(alloc, number, size)?,
-    )?;
-    engine.write(&mut batch, sync)?;
-    Ok(())
+) -> Result<bool, Fault> {
+    let key = key_of(alloc, number)?;
+    let value = value_of(alloc, number, size)?;
+    write(alloc, engine, GROUP, Change::Put(&key, &value), sync)
 }
 
 fn report(rt: &HostRuntime, start: Instant, load: Load) -> Result<()> {
@@ -130,8 +126,7 @@ fn find<F: FileSystem>(
 }
 
 fn key_of(alloc: Global, number: u64) -> Result<Vec<u8>, AllocError> {
-    let key = format!(in alloc; "{number}")?;
-    key.as_bytes().to_vec(alloc)
+    format!(in alloc; "{number}").map(String::into_bytes)
 }
 
 // The number and a space, again and again, cut to the size.

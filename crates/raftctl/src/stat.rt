@@ -4,20 +4,24 @@ use crate::output::{Output, Word};
 use crate::{failure, open};
 use anyhow::{Result, bail};
 use raft_log_engine::{Engine, Fault, FileSystem, FsFault, GroupImage, Image, Permission};
+use std::alloc::Global;
 
 /// Prints how much the folder holds, and how many bytes the opening cut from its files.
 pub(crate) fn stat<F: FileSystem + Drop>(rt: &HostRuntime, mut files: F) -> Result<bool> {
     let found = measured(&mut files)?;
-    let mut engine = open(rt.alloc(), files)?;
-    let image = image_of(&mut engine)?;
-    let left = measured(&mut engine.give_up())?;
+    let (image, left) = opened(rt.alloc(), files)?;
     let mut out = Output::new(rt.alloc());
-    add_totals(&image, found, left, &mut out)?;
-    for held in &image.groups {
-        add_group(held, &mut out)?;
-    }
+    add_image(&image, found, left, &mut out)?;
     out.print(rt)?;
     Ok(true)
+}
+
+// What the log holds, and how much the folder holds once it was opened.
+fn opened<F: FileSystem + Drop>(alloc: Global, files: F) -> Result<(Image, Sizes)> {
+    let mut engine = open(alloc, files)?;
+    let image = image_of(&mut engine)?;
+    let left = measured(&mut engine.give_up())?;
+    Ok((image, left))
 }
 
 fn image_of<F: FileSystem>(engine: &mut Engine<F>) -> Result<Image> {
@@ -25,6 +29,14 @@ fn image_of<F: FileSystem>(engine: &mut Engine<F>) -> Result<Image> {
         Ok(image) => Ok(image),
         Err(fault) => Err(failure("the log cannot be read", &fault)),
     }
+}
+
+fn add_image(image: &Image, found: Sizes, left: Sizes, out: &mut Output) -> Result<(), Fault> {
+    add_totals(image, found, left, out)?;
+    for held in &image.groups {
+        add_group(held, out)?;
+    }
+    Ok(())
 }
 
 fn add_totals(image: &Image, found: Sizes, left: Sizes, out: &mut Output) -> Result<(), Fault> {
