@@ -8,6 +8,7 @@ pub mod FolderLemmas
 pub mod FolderQueueLemmas
 pub mod KeepsLogLemmas
 pub mod KeepsQueueLemmas
+pub mod KeptLemmas
 pub mod ListedLemmas
 pub mod LogFileLemmas
 pub mod NamesInLemmas
