@@ -1,5 +1,5 @@
 -- Each file that a recovery keeps stands at a path of its number.
-use Rattle.std.proofs.Common.{◌≡◌, ℕ, zero, suc, ◌<◌, ◌≤◌, Bool, true, false, cond, List, [], ◌∷◌, ◌++◌, map, refl, sym, subst, arith, inl, inr}
+use Rattle.std.proofs.Common.{◌≡◌, ℕ, zero, suc, ◌<◌, ◌≤◌, Bool, true, false, cond, List, [], ◌∷◌, ◌++◌, ◌∙◌, map, refl, ap, sym, subst, arith, inl, inr}
 use Rattle.std.specs.Prelude.{Contains, ◌⊎◌}
 use Rattle.std.specs.List.{AllByRecursion}
 use Rattle.std.proofs.lemmas.List.Elements.{Contains-append_cases}
@@ -27,7 +27,7 @@ module _ (queue : LogQueue) (n : Directory) where
       by_test false is rest = rest
 
   module _ (folders : List Path) where
-    abbrev IsKept : ℕ × Path → Type 0
+    abbrev pub IsKept : ℕ × Path → Type 0
     IsKept f = (f.0 < end_of_numbers) × StandsAt folders queue n f.0 f.1
 
     joined_stand : (seq : ℕ) → seq < end_of_numbers → (found : List Path) (before : List (ℕ × Path)) → AllByRecursion (StandsAt folders queue n seq) found → AllByRecursion IsKept before → AllByRecursion IsKept (joined seq found before)
@@ -58,5 +58,26 @@ module _ (queue : LogQueue) (n : Directory) where
       | inr rest ↦ among_kept files kept.1 q rest
     ]
 
+    pub kept_all : AllByRecursion IsKept (kept_files folders queue n)
+    kept_all = last_stands end_of_numbers (omega arith)
+
     pub kept_stands : (q : Path) → Contains (map (λ f. f.1) (kept_files folders queue n)) q → (seq : ℕ) × (seq < end_of_numbers) × StandsAt folders queue n seq q
-    kept_stands q among = among_kept (kept_files folders queue n) (last_stands end_of_numbers (omega arith)) q among
+    kept_stands q among = among_kept (kept_files folders queue n) kept_all q among
+
+-- Where the same files stand the same are kept.
+
+module _ (here there : ℕ → List Path) where
+  run_alike : (top : ℕ) → ((k : ℕ) → k < top → there k ≡ here k) → run_below there top ≡ run_below here top
+  run_alike zero same = run_below-zero there ∙ sym (run_below-zero here)
+  run_alike (suc top) same =
+      run_below-suc there top ∙ ap (λ found. joined top found (run_below there top)) (same top (omega arith))
+      ∙ ap (joined top (here top)) (run_alike top (λ k low. same k (omega arith))) ∙ sym (run_below-suc here top)
+
+  last_alike : (top : ℕ) → ((k : ℕ) → k < top → there k ≡ here k) → last_run there top ≡ last_run here top
+  last_alike zero same = last_run-zero there ∙ sym (last_run-zero here)
+  last_alike (suc top) same =
+      last_run-suc there top ∙ ap (λ files. found_or files (last_run there top)) (run_alike (suc top) same)
+      ∙ ap (found_or (run_below here (suc top))) (last_alike top (λ k low. same k (omega arith))) ∙ sym (last_run-suc here top)
+
+pub kept_files-beside : (folders : List Path) (queue : LogQueue) (old new : Directory) → ((k : ℕ) → k < end_of_numbers → paths_of folders queue new k ≡ paths_of folders queue old k) → kept_files folders queue new ≡ kept_files folders queue old
+kept_files-beside folders queue old new same = last_alike (paths_of folders queue old) (paths_of folders queue new) end_of_numbers same

@@ -36,4 +36,5 @@ pub mod SettledFilesLemmas
 pub mod SettledQueueLemmas
 pub mod SingleLemmas
 pub mod StepsLemmas
+pub mod TakenLemmas
 pub mod WrittenLemmas
