@@ -1,4 +1,5 @@
-//! Tests of numbers, batches, tables, and the names and readings of log files. Each is one loop over a table of cases.
+//! Tests of numbers, records, batches, tables, and the names and readings of log files. Each is one loop over a table of
+//! cases.
 #![tactic(auto)]
 
 #[cfg(test)]
@@ -10,6 +11,8 @@ mod changes;
 #[cfg(test)]
 mod counts;
 #[cfg(test)]
+mod encoded;
+#[cfg(test)]
 mod names;
 #[cfg(test)]
 mod numbers;
@@ -17,6 +20,12 @@ mod numbers;
 mod openings;
 #[cfg(test)]
 mod reading;
+#[cfg(test)]
+mod record_rows;
+#[cfg(test)]
+mod records;
+#[cfg(test)]
+mod refused_rows;
 #[cfg(test)]
 mod rows;
 #[cfg(test)]

@@ -1,4 +1,5 @@
-//! Tests that cross crates: the program line by line, an engine over files in memory, and what is found after crashes.
+//! Tests that cross crates: the program line by line, an engine over files in memory, what is found after crashes, and
+//! every stop, crash and refusal of a list of operations.
 #![tactic(auto)]
 
 #[cfg(test)]
@@ -20,6 +21,8 @@ mod queues;
 #[cfg(test)]
 mod reads;
 #[cfg(test)]
+mod refusals;
+#[cfg(test)]
 mod restarts;
 #[cfg(test)]
 mod rewritten;
@@ -31,3 +34,7 @@ mod scans;
 mod stored;
 #[cfg(test)]
 mod stories;
+#[cfg(test)]
+mod sweep;
+#[cfg(test)]
+mod trials;

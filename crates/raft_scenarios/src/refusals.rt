@@ -10,7 +10,6 @@ use raft_plans::{
 use raft_records::Fault;
 use raft_script::{Op, Outcome, run};
 use std::alloc::Global;
-use std::process::Abort;
 use std::test::Fail;
 
 const MAX_CALLS: u64 = 100;
@@ -35,6 +34,8 @@ const CALLS: [FsCall; 16] = [
 ];
 
 const KINDS: [IoKind; 3] = [IoKind::NoSpace, IoKind::NotFound, IoKind::Other];
+
+const LEFT: [Left; 3] = [Left::All, Left::Synced, Left::Torn(7, 255)];
 
 /// What operations came to, and the files.
 #[derive(Drop)]
@@ -105,43 +106,46 @@ fn tells(state: State, op: &Op, outcome: &Outcome) -> bool {
     }
 }
 
-// Each operation is answered as the ones done before it tell. One alone fails by the files, and those after it
-// by a failed engine, if at all. Whether one fails.
-fn are_answers(rt: &impl Abort, ops: &[Op], outcomes: &[Outcome], kind: IoKind) -> bool {
+// Whether one operation fails, or nothing where an answer is wrong: each operation is answered as the ones done before it
+// tell, one alone fails by the files, and those after it by a failed engine, if at all.
+fn is_one_refused(ops: &[Op], outcomes: &[Outcome], kind: IoKind) -> Option<bool> {
     let mut state = EMPTY;
     let mut refused = false;
     for (op, outcome) in ops.iter().zip(outcomes.iter()) {
-        assert!(rt; tells(state, op, outcome), "{outcome:?}");
+        if !tells(state, op, outcome) {
+            return None;
+        }
         match fault_of(outcome) {
-            Some(Fault::Failed) => {
-                assert!(rt; refused);
-            }
-            Some(fault) => {
-                assert!(rt; is_refusal(fault, kind) && !refused, "{fault:?}");
-                refused = true;
-            }
+            Some(Fault::Failed) if refused => {}
+            Some(fault) if is_refusal(fault, kind) && !refused => refused = true,
+            Some(_) => return None,
             None => state = after(state, op),
         }
     }
-    refused
+    Some(refused)
 }
 
-// Up to the first failed one the outcomes are those that were wanted.
-fn begin_as_wanted(rt: &impl Abort, outcomes: &[Outcome], wanted: &[Outcome]) {
+// Whether the outcomes up to the first failed one are those that were wanted.
+fn begin_as_wanted(outcomes: &[Outcome], wanted: &[Outcome]) -> bool {
     for (outcome, wanted) in outcomes.iter().zip(wanted.iter()) {
         if !is_done(outcome) {
-            return;
+            return true;
         }
-        assert_eq!(rt; *outcome, *wanted);
+        if *outcome != *wanted {
+            return false;
+        }
     }
+    true
 }
 
 // What the operations are answered where nothing fails.
-fn answered(rt: &impl Abort, alloc: Global, ops: &[Op]) -> Result<Vec<Outcome>, Fail> {
-    let shown = run_over(alloc, ops, MemoryFileSystem::new(alloc))?;
-    assert_eq!(rt; shown.outcomes.len(), ops.len());
-    assert!(rt; shown.outcomes.iter().all(is_done));
-    Ok(shown.outcomes)
+fn answered(alloc: Global, ops: &[Op]) -> Result<Vec<Outcome>, Fail> {
+    let outcomes = run_over(alloc, ops, MemoryFileSystem::new(alloc))?.outcomes;
+    if outcomes.len() == ops.len() && outcomes.iter().all(is_done) {
+        Ok(outcomes)
+    } else {
+        Err(Fail::new("an operation fails by itself"))
+    }
 }
 
 // Whether no operation fails by the failing call: room that can't be made ahead is done without, and a record that
@@ -154,53 +158,78 @@ fn is_done_without(call: FsCall, kind: IoKind, refused: bool) -> bool {
     }
 }
 
-// With the nth call of a sort failing: whether there were so many.
+// Whether an operation or the opening fails, or nothing where an answer is wrong.
+fn is_any_refused(shown: &Shown<MemoryFileSystem>, ops: &[Op], kind: IoKind) -> Option<bool> {
+    match &shown.opening {
+        Some(fault) if is_refusal(fault, kind) => Some(true),
+        Some(_) => None,
+        None => is_one_refused(ops, &shown.outcomes, kind),
+    }
+}
+
+// Whether what is found after a crash is what may be found.
+fn finds_allowed(
+    alloc: Global,
+    shown: &Shown<MemoryFileSystem>,
+    ops: &[Op],
+    left: &Left,
+) -> Result<bool, Fail> {
+    let choices = choices_of(alloc, left, MAX_FILES)?;
+    let found = found_in(alloc, shown.files.crash(&choices)?)?;
+    Ok(is_allowed(ops, &shown.outcomes, shown.failed_at, found))
+}
+
+// With the nth call of a sort failing: whether there were so many, or nothing where something is wrong.
 fn refuse_one(
-    rt: &impl Abort,
+    alloc: Global,
+    ops: &[Op],
+    wanted: &[Outcome],
+    (call, nth, kind): (FsCall, u64, IoKind),
+) -> Result<Option<bool>, Fail> {
+    let mut files = MemoryFileSystem::new(alloc);
+    files.refuse(call, nth, kind)?;
+    let shown = run_over(alloc, ops, files)?;
+    let is_right = match is_any_refused(&shown, ops, kind) {
+        Some(refused) => refused == (shown.refused && !is_done_without(call, kind, refused)),
+        None => false,
+    };
+    if !is_right || !begin_as_wanted(&shown.outcomes, wanted) {
+        return Ok(None);
+    }
+    for left in &LEFT {
+        if !finds_allowed(alloc, &shown, ops, left)? {
+            return Ok(None);
+        }
+    }
+    Ok(Some(shown.refused))
+}
+
+// The first call that is wrong, or the greatest number where there is no end of them.
+fn wrong_call(
     alloc: Global,
     ops: &[Op],
     wanted: &[Outcome],
     call: FsCall,
-    nth: u64,
     kind: IoKind,
-) -> Result<bool, Fail> {
-    let mut files = MemoryFileSystem::new(alloc);
-    files.refuse(call, nth, kind)?;
-    let shown = run_over(alloc, ops, files)?;
-    begin_as_wanted(rt, &shown.outcomes, wanted);
-    let mut refused = are_answers(rt, ops, &shown.outcomes, kind);
-    if let Some(fault) = &shown.opening {
-        assert!(rt; is_refusal(fault, kind), "{fault:?}");
-        refused = true;
+) -> Result<Option<u64>, Fail> {
+    for nth in 1..MAX_CALLS {
+        match refuse_one(alloc, ops, wanted, (call, nth, kind))? {
+            Some(true) => {}
+            Some(false) => return Ok(None),
+            None => return Ok(Some(nth)),
+        }
     }
-    assert_eq!(rt;
-        refused,
-        shown.refused && !is_done_without(call, kind, refused),
-        "{call:?} {nth}"
-    );
-    for left in [Left::All, Left::Synced, Left::Torn(7, 255)] {
-        let choices = choices_of(alloc, &left, MAX_FILES)?;
-        let found = found_in(alloc, shown.files.crash(&choices)?)?;
-        assert!(rt;
-            is_allowed(ops, &shown.outcomes, shown.failed_at, found),
-            "{found:?} after {call:?} {nth}"
-        );
-    }
-    Ok(shown.refused)
+    Ok(Some(MAX_CALLS))
 }
 
 #[test]
 fn each_call_may_be_refused(rt: HostRuntime) -> Result<(), Fail> {
-    let alloc = rt.alloc();
-    let ops = ops_of(alloc, &OPERATIONS)?;
-    let wanted = answered(&rt, alloc, &ops)?;
+    let ops = ops_of(rt.alloc(), &OPERATIONS)?;
+    let wanted = answered(rt.alloc(), &ops)?;
     for call in CALLS {
         for kind in KINDS {
-            let mut met = true;
-            for nth in 1..MAX_CALLS {
-                met = met && refuse_one(&rt, alloc, &ops, &wanted, call, nth, kind)?;
-            }
-            assert!(rt; !met);
+            let wrong = wrong_call(rt.alloc(), &ops, &wanted, call, kind)?;
+            assert_eq!(rt; wrong, None, "{call:?} {kind:?}");
         }
     }
     Ok(())

@@ -1,9 +1,0 @@
-//! Tests that cross crates: trials, and every stop, crash and refusal of a list of operations.
-#![tactic(auto)]
-
-#[cfg(test)]
-mod refusals;
-#[cfg(test)]
-mod sweep;
-#[cfg(test)]
-mod trials;
