@@ -1,0 +1,142 @@
+//! Workloads of entries: consecutive indexes from 1 on, in 100 groups.
+ghost use Rattle.std.specs.Prelude.{◌≡◌};
+
+use crate::blocks::{next_state, then_sum};
+use crate::log::{open, reopen};
+use crate::measure::Host;
+use crate::parts::{Part, run_part};
+use crate::workload::{GROUPS, Load};
+use anyhow::Result;
+use raft_codec::number::take_u64;
+use raft_env::FileSystem;
+use raft_log_engine::Engine;
+use raft_records::{Fault, Message, MessageExt};
+use std::alloc::{AllocError, Global};
+
+/// How many entries a fetch asks for.
+const FETCH_LEN: u64 = 100;
+
+/// An entry: its bytes, of which the first eight are its index.
+#[derive(Drop)]
+pub(crate) struct Entry {
+    index: u64,
+    bytes: Vec<u8>,
+}
+
+impl Message for Entry {
+    ghost bytes_of = { λ e. e.bytes.items };
+
+    ghost is_parsed = { λ bytes e. e.bytes.items ≡ bytes };
+
+    fn parse(alloc: Global, bytes: &[u8]) -> Result<Entry, Fault> {
+        let index = take_u64(bytes).map_or(0, |(index, _)| index);
+        Ok(Entry {
+            index,
+            bytes: bytes.to_vec(alloc)?,
+        })
+    }
+
+    fn to_bytes(&self, buffer: &mut Vec<u8>) -> Result<(), AllocError> {
+        buffer.extend_from_slice(&self.bytes)
+    }
+}
+
+/// Entries by their first bytes.
+pub(crate) struct Entries;
+
+impl MessageExt for Entries {
+    type Entry = Entry;
+
+    ghost index_of = { λ e. e.index };
+
+    fn index(entry: &Entry) -> u64 {
+        entry.index
+    }
+}
+
+/// A place in a group's log.
+#[derive(Clone, Copy)]
+pub(crate) struct Place {
+    group: u64,
+    index: u64,
+}
+
+pub(crate) fn append_entry_fetch<R: Host, F: FileSystem + Drop>(
+    rt: &R,
+    files: F,
+    load: Load,
+) -> Result<()> {
+    let mut engine = open(rt.alloc(), files, load.file_size)?;
+    run_part(rt, load.name, &mut engine, Part::Append, load)?;
+    run_part(rt, "  entry", &mut engine, Part::Entry, load)?;
+    run_part(rt, "  fetch", &mut engine, Part::Fetch, load)?;
+    reopen(rt, engine, load)
+}
+
+/// So many entries from an index on, each with these bytes behind its index.
+pub(crate) fn entries_of(
+    alloc: Global,
+    first: u64,
+    len: u64,
+    bytes: &[u8],
+) -> Result<Vec<Entry>, AllocError> {
+    let mut entries = Vec::new(alloc);
+    for number in 0..len {
+        let index = first.saturating_add(number);
+        let mut own = Vec::with_capacity(alloc, bytes.len())?;
+        own.extend_from_slice(&index.to_be_bytes())?;
+        own.extend_from_slice(bytes.get(8..).unwrap_or(&[]))?;
+        entries.push(Entry { index, bytes: own })?;
+    }
+    Ok(entries)
+}
+
+/// Places of entries in no order.
+pub(crate) fn places_of<F: FileSystem>(
+    alloc: Global,
+    engine: &Engine<F>,
+    count: u64,
+) -> Result<Vec<Place>, AllocError> {
+    let mut places = Vec::new(alloc);
+    let mut state = 1u64;
+    for _ in 0..count {
+        state = next_state(state);
+        let group = (state >> 20) % GROUPS;
+        let last = engine.last_index(group).unwrap_or(0);
+        let index = (state >> 32) % last.max(1) + 1;
+        places.push(Place { group, index })?;
+    }
+    Ok(places)
+}
+
+/// The checksum of the entries at these places.
+pub(crate) fn read_each<F: FileSystem>(
+    engine: &mut Engine<F>,
+    places: &[Place],
+) -> Result<u64, Fault> {
+    let mut sum = 0;
+    for Place { group, index } in places {
+        if let Some(entry) = engine.get_entry::<Entries>(*group, *index)? {
+            sum = then_sum(sum, &entry.bytes);
+        }
+    }
+    Ok(sum as u64)
+}
+
+/// Fetches from every hundredth place on, as far as its group goes. Answers how many entries they had.
+pub(crate) fn fetch_each<F: FileSystem>(
+    alloc: Global,
+    engine: &mut Engine<F>,
+    places: &[Place],
+) -> Result<u64, Fault> {
+    let mut fetched = 0u64;
+    let mut entries = Vec::new(alloc);
+    for Place { group, index } in places.iter().step_by(FETCH_LEN as usize) {
+        let last = engine.last_index(*group).unwrap_or(0);
+        let end = index.saturating_add(FETCH_LEN).min(last.saturating_add(1));
+        entries.clear();
+        let count = engine.fetch_entries_to::<Entries>(*group, *index, end, None, &mut entries)?;
+        fetched = fetched.saturating_add(count as u64);
+    }
+    Ok(fetched)
+}

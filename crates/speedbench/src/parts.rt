@@ -1,0 +1,147 @@
+//! The parts of the workloads over an engine, each timed in the same way.
+
+use crate::blocks::{filled, mark};
+use crate::entries::{
+    Entries, Entry, Place, entries_of, fetch_each, places_of, read_each,
+};
+use crate::log::{Key, get_each, key_of, keys_of};
+use crate::measure::{Host, report};
+use crate::workload::{GROUPS, Load};
+use anyhow::Result;
+use raft_env::FileSystem;
+use raft_log_engine::Engine;
+use raft_records::{Fault, LogBatch};
+use std::alloc::{AllocError, Global};
+use std::mem;
+use std::time::Instant;
+
+#[derive(Clone, Copy)]
+pub(crate) enum Part {
+    Put,
+    Get,
+    Append,
+    /// Reads of entries in no order, and in order.
+    Entry,
+    Fetch,
+}
+
+/// What a batch holds: a group with a key and a value, or with entries.
+#[derive(Drop)]
+pub(crate) enum Written {
+    Put(u64, Vec<u8>, Vec<u8>),
+    Entries(u64, Vec<Entry>),
+}
+
+/// What a part writes or reads.
+#[derive(Drop)]
+enum Data {
+    Batches(Vec<Written>),
+    Keys(Vec<Key>),
+    Entries(Vec<Place>),
+    Fetches(Vec<Place>),
+}
+
+/// Does a part and prints what it took. Answers the bytes of records, the keys or entries found, or the checksum of
+/// the entries read.
+pub(crate) fn run_part<R: Host, F: FileSystem>(
+    rt: &R,
+    name: &str,
+    engine: &mut Engine<F>,
+    part: Part,
+    load: Load,
+) -> Result<u64> {
+    let mut data = data_of(rt.alloc(), engine, part, load)?;
+    let start = Instant::now(rt)?;
+    let figure = perform(rt.alloc(), engine, &mut data, load.sync_each)?;
+    let (count, bytes) = match part {
+        Part::Put | Part::Append => (load.count, figure),
+        Part::Get | Part::Entry => (load.count, load.bytes()),
+        Part::Fetch => (figure, figure.saturating_mul(load.size as u64)),
+    };
+    report(rt, name, start, count, bytes)?;
+    Ok(figure)
+}
+
+// Made before the clock starts.
+fn data_of<F: FileSystem>(
+    alloc: Global,
+    engine: &Engine<F>,
+    part: Part,
+    load: Load,
+) -> Result<Data, AllocError> {
+    match part {
+        Part::Put | Part::Append => Ok(Data::Batches(batches_of(alloc, part, load)?)),
+        Part::Get => Ok(Data::Keys(keys_of(alloc, load)?)),
+        Part::Entry => Ok(Data::Entries(places_of(alloc, engine, load.count)?)),
+        Part::Fetch => Ok(Data::Fetches(places_of(alloc, engine, load.count)?)),
+    }
+}
+
+/// Each group in turn gets the next key or entries.
+pub(crate) fn batches_of(
+    alloc: Global,
+    part: Part,
+    load: Load,
+) -> Result<Vec<Written>, AllocError> {
+    let mut value = filled(alloc, load.size, 1)?;
+    let mut batches = Vec::new(alloc);
+    for number in 0..load.count / load.batch_len.max(1) {
+        mark(&mut value, number);
+        batches.push(match part {
+            Part::Put => put_of(alloc, number % load.keys.max(1), &value)?,
+            _ => append_of(alloc, number, load.batch_len, &value)?,
+        })?;
+    }
+    Ok(batches)
+}
+
+fn put_of(alloc: Global, key: u64, value: &[u8]) -> Result<Written, AllocError> {
+    Ok(Written::Put(key % GROUPS, key_of(alloc, key)?, value.to_vec(alloc)?))
+}
+
+fn append_of(alloc: Global, number: u64, len: u64, value: &[u8]) -> Result<Written, AllocError> {
+    let first = (number / GROUPS).saturating_mul(len).saturating_add(1);
+    Ok(Written::Entries(number % GROUPS, entries_of(alloc, first, len, value)?))
+}
+
+fn perform<F: FileSystem>(
+    alloc: Global,
+    engine: &mut Engine<F>,
+    data: &mut Data,
+    sync_each: u64,
+) -> Result<u64, Fault> {
+    match data {
+        Data::Batches(batches) => {
+            let batches = mem::replace(batches, Vec::new(alloc));
+            write_all(alloc, engine, batches, sync_each)
+        }
+        Data::Keys(keys) => Ok(get_each(engine, keys, false)?.0),
+        Data::Entries(places) => read_each(engine, places),
+        Data::Fetches(places) => fetch_each(alloc, engine, places),
+    }
+}
+
+/// Each in a batch of its own, and after so many a sync, or never for 0. Answers the bytes of their records.
+pub(crate) fn write_all<F: FileSystem>(
+    alloc: Global,
+    engine: &mut Engine<F>,
+    batches: Vec<Written>,
+    sync_each: u64,
+) -> Result<u64, Fault> {
+    let mut batch = LogBatch::new(alloc);
+    let mut bytes = 0u64;
+    let mut unsynced = 0u64;
+    for written in batches {
+        match written {
+            Written::Put(group, key, value) => batch.put(group, key, value)?,
+            Written::Entries(group, entries) => batch.add_entries::<Entries>(group, &entries)?,
+        }
+        unsynced = unsynced.saturating_add(1);
+        let sync = unsynced == sync_each;
+        if sync {
+            unsynced = 0;
+        }
+        bytes = bytes.saturating_add(engine.write(&mut batch, sync)? as u64);
+    }
+    Ok(bytes)
+}
