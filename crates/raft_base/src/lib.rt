@@ -4,10 +4,12 @@
 mod errors;
 mod history;
 pub mod laws;
+mod lists;
 mod pipe_log;
 mod readable_size;
 
 pub use errors::{Fault, IoKind};
 pub use history::History;
+pub use lists::{is_any, take_back};
 pub use pipe_log::{FileBlockHandle, FileId, FileSeq, LogFileContext, LogQueue, Version};
 pub use readable_size::ReadableSize;
