@@ -14,6 +14,7 @@ use std::marker::Model;
 
 /// A file of more bytes than these grows by so many at once.
 const LARGE_FILE: usize = 4 << 20;
+
 const LARGE_GROWTH: usize = 64 << 20;
 
 #[derive(Drop)]
