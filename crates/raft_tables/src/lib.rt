@@ -1,6 +1,7 @@
 //! The in-memory index: what each group holds, and the files that it stands in.
 #![tactic(auto)]
 
+mod dropping;
 pub mod entries;
 mod joining;
 mod leaving;
