@@ -3,6 +3,7 @@
 
 mod dropping;
 pub mod entries;
+mod growing;
 mod joining;
 mod leaving;
 pub mod memtable;
