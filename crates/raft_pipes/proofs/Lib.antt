@@ -8,6 +8,7 @@ pub mod FolderLemmas
 pub mod FolderQueueLemmas
 pub mod KeepsLogLemmas
 pub mod KeepsQueueLemmas
+pub mod KeptLemmas
 pub mod ListedLemmas
 pub mod LogFileLemmas
 pub mod NamesInLemmas
@@ -35,4 +36,5 @@ pub mod SettledFilesLemmas
 pub mod SettledQueueLemmas
 pub mod SingleLemmas
 pub mod StepsLemmas
+pub mod TakenLemmas
 pub mod WrittenLemmas
