@@ -1,10 +1,10 @@
 -- The places of the settings' folders, and why they can't be made.
-use Rattle.std.proofs.Common.{◌≡◌, ◌∙◌, true, is_some, zero, suc, List, [], ◌∷◌, refl, ap, sym, subst, inl, inr, arith}
+use Rattle.std.proofs.Common.{◌≡◌, ◌∙◌, true, is_some, zero, suc, [], ◌∷◌, refl, ap, sym, subst, inl, inr, arith}
 use Rattle.std.specs.Prelude.{Contains, ◌⊎◌}
 use Rattle.raft_base.specs.declared.errors.Fault.{Fault}
 use Rattle.raft_base.specs.declared.errors.Fault.TheVariants as fault
 use Rattle.raft_base.specs.declared.pipe_log.LogQueue.{LogQueue}
-use Rattle.raft_env.specs.Directory.{Directory, HasFile, Path, file_at}
+use Rattle.raft_env.specs.Directory.{Directory, HasFile, Path}
 use Rattle.raft_env.specs.Refusal.{NoFewer, Refusals}
 use Rattle.raft_pipes.specs.Folder.{HasFileFor, IsLogPath, IsLogPathIn}
 use Rattle.raft_pipes.specs.Folders.{Folders, all_of, beside_main}
