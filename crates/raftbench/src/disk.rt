@@ -90,7 +90,7 @@ fn put_all<F: FileSystem>(
     let opening = micros_since(rt, start)?;
     let batches = batches_of(rt.alloc(), Part::Put, load)?;
     let start = Instant::now(rt)?;
-    let bytes = write_all(rt.alloc(), engine, batches, load.sync_each)?;
+    let bytes = write_all(rt, engine, batches, load.sync_each)?;
     Ok(Run {
         opening,
         puts: micros_since(rt, start)?,

@@ -58,7 +58,9 @@ fn put_and_close<R: Host, F: FileSystem + Drop>(
 ) -> Result<(F, Figures)> {
     let mut engine = open(rt.alloc(), files, load.file_size)?;
     let (found, sum) = put_and_get(rt, &mut engine, load)?;
+    let start = Instant::now(rt)?;
     let (files, len) = close(rt.alloc(), engine)?;
+    report(rt, "  close", start, load.count, len as u64)?;
     Ok((files, Figures { found, sum, len }))
 }
 

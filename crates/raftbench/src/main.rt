@@ -12,12 +12,13 @@ mod parts;
 mod workload;
 
 use anyhow::{Result, bail};
-use measure::Host;
+use measure::{Host, print_line};
 use std::env;
 use workload::{Amount, SMALL, Workload};
 
 fn main(rt: HostRuntime) -> Result<()> {
     let words = words(&rt)?;
+    print_line(&rt, "/proc/cpuinfo", "model name")?;
     match words.as_slice() {
         [] => run_all(&rt),
         [word, folder, rest @ ..] if word.as_str() == "disk" => {

@@ -1,13 +1,14 @@
 //! The clock that all workloads share.
 
 use anyhow::Result;
-use std::rt::Clock;
+use std::fs;
+use std::rt::{Clock, Files};
 use std::time::Instant;
 
 /// What the program asks of its runtime.
-pub(crate) trait Host: Print + Eprint + AllocGlobal + Clock {}
+pub(crate) trait Host: Print + Eprint + AllocGlobal + Clock + Files {}
 
-impl<R: Print + Eprint + AllocGlobal + Clock> Host for R {}
+impl<R: Print + Eprint + AllocGlobal + Clock + Files> Host for R {}
 
 /// Prints what so many operations on so many bytes took since then, on standard error, and answers the time after it.
 pub(crate) fn report<R: Host>(
@@ -43,5 +44,20 @@ pub(crate) fn ratio<R: Host>(
         hundredths / 100,
         hundredths % 100
     )?;
+    Ok(())
+}
+
+/// Prints the line of a file of the system that begins so, on standard error, where there is one: of
+/// `/proc/self/status` the most memory that the program had, of `/proc/cpuinfo` the processor.
+pub(crate) fn print_line<R: Host>(rt: &R, path: &str, start: &str) -> Result<()> {
+    let Ok(text) = fs::read_to_string(rt, path) else {
+        return Ok(());
+    };
+    for line in text.as_str().lines() {
+        if line.starts_with(start) {
+            eprintln!(rt; "  {line}")?;
+            return Ok(());
+        }
+    }
     Ok(())
 }

@@ -5,7 +5,7 @@ use crate::entries::{
     Entries, Entry, Place, entries_of, fetch_each, places_in_order, places_of, read_each,
 };
 use crate::log::{Key, get_each, key_of, keys_of};
-use crate::measure::{Host, report};
+use crate::measure::{Host, micros_since, report};
 use crate::workload::{GROUPS, Load};
 use anyhow::Result;
 use raft_env::FileSystem;
@@ -64,7 +64,7 @@ fn run_timed<R: Host, F: FileSystem>(
     load: Load,
 ) -> Result<u64> {
     let start = Instant::now(rt)?;
-    let figure = perform(rt.alloc(), engine, data, load.sync_each)?;
+    let figure = perform(rt, engine, data, load.sync_each)?;
     let (count, bytes) = match part {
         Part::Put | Part::Append => (load.count, figure),
         Part::Get | Part::Entry | Part::EntryInOrder => (load.count, load.bytes()),
@@ -117,20 +117,20 @@ fn append_of(alloc: Global, number: u64, len: u64, value: &[u8]) -> Result<Writt
     Ok(Written::Entries(number % GROUPS, entries_of(alloc, first, len, value)?))
 }
 
-fn perform<F: FileSystem>(
-    alloc: Global,
+fn perform<R: Host, F: FileSystem>(
+    rt: &R,
     engine: &mut Engine<F>,
     data: &mut Data,
     sync_each: u64,
-) -> Result<u64, Fault> {
+) -> Result<u64> {
     match data {
         Data::Batches(batches) => {
-            let batches = mem::replace(batches, Vec::new(alloc));
-            write_all(alloc, engine, batches, sync_each)
+            let batches = mem::replace(batches, Vec::new(rt.alloc()));
+            write_all(rt, engine, batches, sync_each)
         }
         Data::Keys(keys) => Ok(get_each(engine, keys, false)?.0),
-        Data::Entries(places) => read_each(engine, places),
-        Data::Fetches(places) => fetch_each(alloc, engine, places),
+        Data::Entries(places) => Ok(read_each(engine, places)?),
+        Data::Fetches(places) => Ok(fetch_each(rt.alloc(), engine, places)?),
     }
 }
 
@@ -141,17 +141,20 @@ fn add(batch: &mut LogBatch, written: Written) -> Result<(), Fault> {
     }
 }
 
-/// Each in a batch of its own, and after so many a sync, or never for 0. Answers the bytes of their records.
-pub(crate) fn write_all<F: FileSystem>(
-    alloc: Global,
+/// Each in a batch of its own, and after so many a sync, or never for 0. Prints what the longest of each thousand took,
+/// and answers the bytes of their records.
+pub(crate) fn write_all<R: Host, F: FileSystem>(
+    rt: &R,
     engine: &mut Engine<F>,
     batches: Vec<Written>,
     sync_each: u64,
-) -> Result<u64, Fault> {
-    let mut batch = LogBatch::new(alloc);
+) -> Result<u64> {
+    let mut batch = LogBatch::new(rt.alloc());
     let mut bytes = 0u64;
     let mut unsynced = 0u64;
-    for written in batches {
+    let mut longest = 0;
+    let mut start = Instant::now(rt)?;
+    for (number, written) in batches.into_iter().enumerate() {
         add(&mut batch, written)?;
         unsynced = unsynced.saturating_add(1);
         let sync = unsynced == sync_each;
@@ -159,6 +162,11 @@ pub(crate) fn write_all<F: FileSystem>(
             unsynced = 0;
         }
         bytes = bytes.saturating_add(engine.write(&mut batch, sync)? as u64);
+        if number % 1000 == 999 {
+            longest = longest.max(micros_since(rt, start)?);
+            start = Instant::now(rt)?;
+        }
     }
+    eprintln!(rt; "  longest thousand: {longest} us")?;
     Ok(bytes)
 }

@@ -4,7 +4,7 @@ use crate::blocks::report_ceilings;
 use crate::entries::append_entry_fetch;
 use crate::files::append;
 use crate::log::put_get_reopen;
-use crate::measure::Host;
+use crate::measure::{Host, print_line};
 use anyhow::Result;
 use raft_env::FileSystem;
 use raft_memory::MemoryFileSystem;
@@ -110,6 +110,7 @@ fn run_over<R: Host, F: FileSystem + Drop>(rt: &R, kind: Kind, files: F, load: L
         Kind::File => append(rt, files, load)?,
         Kind::Entries(_) | Kind::Puts(_) => {
             let len = run_over_engine(rt, kind, files, load)?;
+            print_line(rt, "/proc/self/status", "VmHWM")?;
             report_ceilings(rt, load.count, len)?;
         }
     }
