@@ -12,6 +12,11 @@ use raft_base::Fault;
 use std::alloc::{AllocError, Global};
 use std::marker::Model;
 
+/// A file of more bytes than these grows by so many at once.
+const LARGE_FILE: usize = 4 << 20;
+
+const LARGE_GROWTH: usize = 64 << 20;
+
 #[derive(Drop)]
 pub(crate) struct MemoryFile {
     bytes: Vec<u8>,
@@ -113,6 +118,7 @@ impl MemoryFile {
         self.ranges.reserve(1)?;
         let from = self.bytes.len();
         let len = size.max(from);
+        make_room(&mut self.bytes, len)?;
         self.bytes.resize(len, 0)?;
         add_range(&mut self.ranges, from, len - from);
         self.least = self.least.min(len);
@@ -301,10 +307,21 @@ fn overlay(bytes: &mut Vec<u8>, at: usize, given: &[u8]) -> Result<(), AllocErro
     }
     let end = at + given.len();
     if end > bytes.len() {
+        make_room(bytes, end)?;
         bytes.resize(end, 0)?;
     }
     put(bytes, at, given);
     Ok(())
+}
+
+// A large file grows by much at once: so large a piece of memory is moved without a copy.
+fn make_room(bytes: &mut Vec<u8>, end: usize) -> Result<(), AllocError>
+    ensures unchanged { bytes.new.items ≡ bytes.old.items }
+{
+    if bytes.len() <= LARGE_FILE || end <= bytes.capacity() {
+        return Ok(());
+    }
+    bytes.reserve(LARGE_GROWTH)
 }
 
 fn put(bytes: &mut [u8], at: usize, given: &[u8])

@@ -8,7 +8,7 @@ use crate::text_entry::entries_between;
 use std::alloc::{AllocError, Global};
 
 /// What a line asks for.
-#[derive(Debug, PartialEq, Eq, Drop)]
+#[derive(Clone, Copy)]
 pub(crate) enum Line<'a> {
     /// An empty line or a comment.
     Nothing,
@@ -24,7 +24,7 @@ pub(crate) enum Line<'a> {
 }
 
 /// A call of the engine, as the line spells it.
-#[derive(Debug, PartialEq, Eq, Drop)]
+#[derive(Clone, Copy)]
 pub(crate) enum Call<'a> {
     Put {
         group: u64,
@@ -108,7 +108,7 @@ impl Call<'_> {
 }
 
 /// What a crash leaves of each file.
-#[derive(Clone, Copy, Debug, PartialEq, Eq)]
+#[derive(Clone, Copy)]
 pub(crate) enum CrashChoice {
     All,
     Synced,

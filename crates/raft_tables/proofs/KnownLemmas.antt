@@ -1,15 +1,14 @@
 -- Which groups are known after items.
-use Rattle.std.proofs.Common.{◌≡◌, ℕ, ◌==◌, ◌&&◌, Bool, true, false, cond, List, [], ◌∷◌, ◌++◌, Option, Some, None, is_some, map, refl, ◌∙◌, ap, sym, arith}
+use Rattle.std.proofs.Common.{◌≡◌, ℕ, ◌==◌, ◌&&◌, Bool, true, false, cond, List, [], ◌∷◌, Option, Some, None, is_some, map, refl, ◌∙◌, ap, sym, arith}
 use Rattle.std.specs.List.{list_all}
 use Rattle.std.specs.Option.{option_map}
 use Rattle.std.specs.Str.{bytes_eq}
 use Rattle.std.proofs.lemmas.Grind.{common_steps}
-use Rattle.std.proofs.lemmas.List.Sums.{fold-append}
 use Rattle.raft_base.specs.declared.pipe_log.FileId.{FileId}
-use Rattle.raft_records.specs.Item.{Entries, Clean, Compact, Put, Delete, Batch, group_mark_key}
+use Rattle.raft_records.specs.Item.{Entries, Clean, Compact, Put, Delete, group_mark_key}
 use Rattle.raft_records.specs.PlacedItem.{PlacedContent, EntriesAt, Plain, PlacedItem, content_in, item_in, is_placed_in_order}
 use Rattle.raft_records.specs.Places.{Blocks}
-use Rattle.raft_tables.specs.Known.{known_after_content, known_after_item, known_after, known_in}
+use Rattle.raft_tables.specs.Known.{known_after_content, known_after_item, known_after}
 use Rattle.raft_tables.specs.Table.{TableView}
 use Rattle.raft_tables.specs.Tables.{Tables, table_after, tables_after_item, tables_after}
 

@@ -1,7 +1,9 @@
 //! The in-memory index: what each group holds, and the files that it stands in.
 #![tactic(auto)]
 
+mod dropping;
 pub mod entries;
+mod growing;
 mod joining;
 mod leaving;
 pub mod memtable;

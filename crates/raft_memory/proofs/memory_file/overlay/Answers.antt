@@ -5,7 +5,7 @@ use Rattle.std.proofs.lemmas.List.{take_at}
 use Rattle.std.proofs.lemmas.Grind.{common_steps}
 use Rattle.raft_memory.proofs.MemoryFileLemmas.{overlaid_long, overlaid_short}
 use Rattle.raft_memory.proofs.memory_file.overlay.Goals as goal
-use Rattle.raft_memory.proofs.memory_file.overlay.Goals.{then-end-len+in_ok-resize, else-end-len}
+use Rattle.raft_memory.proofs.memory_file.overlay.Goals.{then-end-len+in_ok-make_room+in_ok-resize, else-end-len}
 
 pub returns-clause-ok : goal.returns-clause-ok
 returns-clause-ok c =
@@ -18,7 +18,7 @@ returns-clause-ok c =
     take_at _ _ _ long ∙ c.put.ensures.ok
     ∙ ap (λ (l : List ℕ). take c.args.at l ++ c.args.given.now ++ drop (c.args.at + length c.args.given.now) l) value
     ∙ (elim c.if-end-len.branch [
-      | then-end-len+in_ok-resize w ↦
+      | then-end-len+in_ok-make_room+in_ok-resize w ↦
           let short : length bytes < end = omega (arith, c.len.ensures) in
           let is : c.if-end-len.bytes.items ≡ take end bytes ++ replicate (end - length bytes) 0 = grind (arith, common_steps, ap (λ v. v.items) w.bytes-is, w.in_ok-resize.ensures.items) in
           overlaid_short bytes c.if-end-len.bytes.items c.args.at c.args.given.now some short is
