@@ -2,7 +2,7 @@
 ghost use Rattle.std.specs.Prelude.{◌≡◌, ◌++◌, ℕ, List, [], false};
 ghost use Rattle.raft_records.specs.Contents.{Contents, after_batches, no_contents};
 ghost use Rattle.raft_records.specs.Item.{Batch};
-ghost use Rattle.raft_env.specs.Directory.{Directory, HasFile, IsRestarted, CrashImage, Path};
+ghost use Rattle.raft_env.specs.Directory.{Directory, IsRestarted, CrashImage};
 ghost use Rattle.raft_env.specs.Moments.{HoldsThroughout};
 ghost use Rattle.raft_log_engine.specs.Crash.{IsAllowedFrom, LeavesAllowed, RecoversContents, contents_after_crash, known_after_crash};
 ghost use Rattle.raft_files.specs.Records.{as_it_is};
@@ -13,25 +13,27 @@ ghost use Rattle.raft_env.specs.Consistent.{AreConsistent};
 ghost use Rattle.raft_memory.specs.Choice.{AreWhole, left_by};
 ghost use Rattle.raft_memory.specs.declared.crash.Choice.{Choice};
 ghost use Rattle.raft_pipes.specs.Folder.{HasNoLog};
-ghost use Rattle.raft_log_engine.specs.Queues.{AreDetectableIn, AreOpenableIn, AreSoundIn, HaveSimplePastIn};
+ghost use Rattle.raft_pipes.specs.Folders.{Folders};
+ghost use Rattle.raft_log_engine.specs.Queues.{AreClear, AreDetectableIn, AreOpenableIn, AreSoundIn, HaveSimplePastIn};
 ghost use Rattle.raft_pipes.specs.declared.config.RecoveryMode.{RecoveryMode};
 ghost use Rattle.raft_pipes.specs.declared.config.RecoveryMode.TheVariants.{AbsoluteConsistency};
 
 use crate::Engine;
 use raft_env::FileSystem;
 
-/// A folder that keeps contents through a crash leaves them then, possibly with a prefix of the
-/// batches after them, where damage is detectable. A restart after a crash finds what the crash
-/// left. Where that is sound, it keeps it, its log can be opened in each mode but the absolute one,
-/// and no file stands in the folder's place. Where no log stands, nothing is read and nothing is kept. Files that no
-/// crash met, as an engine gave them up, stand for what a crash could leave, and their log can be
-/// opened, where their damage is detectable: what a failed write left of its record may be any
-/// bytes.
+/// Folders that keep contents through a crash leave them then, possibly with a prefix of the batches
+/// after them, where damage is detectable. A restart after a crash finds what the crash left. Where
+/// that is sound, it keeps it, its log can be opened in each mode but the absolute one, and no
+/// folder's place is taken (`AreClear`). Where no log stands, nothing is read and nothing is kept.
+/// Files that no crash met, as an engine gave them up, stand for what a crash could leave, and their
+/// log can be opened, where their damage is detectable: what a failed write left of its record may
+/// be any bytes.
 pub fn crash_leaves_contents()
     ensures left { (folders : Folders) (m : Contents) (batches : List Batch) (n : Directory)
         → RecoversContents folders m batches n → LeavesAllowed folders m batches n }
     ensures restarted { (folders : Folders) (n m : Directory) (d : CrashImage) → IsRestarted n d m
-        → AreSoundIn folders n d → RecoversContents folders (contents_after_crash folders n d) [] m }
+        → AreSoundIn folders n d
+        → RecoversContents folders (contents_after_crash folders n d) [] m }
     ensures found { (folders : Folders) (n m : Directory) (d : CrashImage) → IsRestarted n d m
         → contents_at folders m ≡ contents_after_crash folders n d }
     ensures known { (folders : Folders) (n m : Directory) (d : CrashImage) → IsRestarted n d m
@@ -41,14 +43,14 @@ pub fn crash_leaves_contents()
         → AreOpenableIn mode folders m }
     ensures as_they_are { (folders : Folders) (m : Contents) (batches : List Batch) (n : Directory)
         → RecoversContents folders m batches n → AreDetectableIn folders n (as_it_is n)
-        → IsAllowedFrom 0 m batches (contents_at folders n)
-        × ((mode : RecoveryMode) → (mode ≡ AbsoluteConsistency → ⊥) → AreOpenableIn mode folders n) }
-    ensures none { (folders : Folders) (n : Directory) → HasNoLog folders n → (HasFile n folders → ⊥)
+        → IsAllowedFrom 0 m batches (contents_at folders n) × ((mode : RecoveryMode)
+        → (mode ≡ AbsoluteConsistency → ⊥) → AreOpenableIn mode folders n) }
+    ensures none { (folders : Folders) (n : Directory) → HasNoLog folders n → AreClear folders n
         → (contents_at folders n ≡ no_contents) × RecoversContents folders no_contents [] n }
-    ensures folder { (folders : Folders) (m : Contents) (batches : List Batch) (n : Directory)
-        → RecoversContents folders m batches n → HasFile n folders → ⊥ }
-    ensures no_file { (folders : Folders) (n m : Directory) (d : CrashImage) → IsRestarted n d m
-        → AreSoundIn folders n d → HasFile m folders → ⊥ }
+    ensures clear { (folders : Folders) (m : Contents) (batches : List Batch) (n : Directory)
+        → RecoversContents folders m batches n → AreClear folders n }
+    ensures stays_clear { (folders : Folders) (n m : Directory) (d : CrashImage)
+        → IsRestarted n d m → AreSoundIn folders n d → AreClear folders m }
 {
     raft_queues::laws::crash_leaves_a_prefix();
 }

@@ -51,10 +51,10 @@ returns-clause-as_they_are c = λ folders m batches n keeps detectable.
       λ mode tolerant queue. c.crash_leaves_a_prefix.ensures.opens_now queue folders n (found.1 queue) mode tolerant,
     )
 
--- a folder without a log keeps nothing
+-- folders without a log keep nothing
 pub returns-clause-none : goal.returns-clause-none
-returns-clause-none c = λ folders n none no_file.
-    let found : (queue : LogQueue) → (readable_queue queue folders n ≡ []) × RecoversPrefixOf queue folders [] 0 n = λ queue. c.crash_leaves_a_prefix.ensures.none queue folders n none no_file in
+returns-clause-none c = λ folders n none clear.
+    let found : (queue : LogQueue) → (readable_queue queue folders n ≡ []) × RecoversPrefixOf queue folders [] 0 n = λ queue. c.crash_leaves_a_prefix.ensures.none queue folders n none clear in
     let is = recovered-nothing_rewritten [] in (
       same_queues folders n [] [] (found Rewrite).0 (found Append).0 ∙ is,
       subst (λ (m : Contents). RecoversContents folders m [] n) is (keeps_found folders n [] [] (found Rewrite).0 (found Append).0 (found Rewrite).1 (found Append).1),

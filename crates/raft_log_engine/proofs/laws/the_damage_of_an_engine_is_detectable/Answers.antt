@@ -1,7 +1,7 @@
 use Rattle.raft_base.specs.declared.pipe_log.LogQueue.{LogQueue}
-use Rattle.std.proofs.Common.{[], ◌∷◌}
 use Rattle.raft_memory.specs.Choice.{left_by}
 use Rattle.raft_queues.specs.Dual.{pipe_of}
+use Rattle.raft_pipes.specs.Folders.{all_of}
 use Rattle.raft_pipes.specs.QueueFiles.{IsDetectableQueue}
 use Rattle.raft_log_engine.specs.Engine.{directory_of, folders_of}
 use Rattle.raft_log_engine.proofs.CrashLemmas.{of_both}
