@@ -14,7 +14,7 @@ ghost use Rattle.raft_memory.specs.Choice.{AreWhole, left_by};
 ghost use Rattle.raft_memory.specs.declared.crash.Choice.{Choice};
 ghost use Rattle.raft_pipes.specs.Folder.{HasNoLog};
 ghost use Rattle.raft_pipes.specs.Folders.{Folders};
-ghost use Rattle.raft_log_engine.specs.Queues.{AreClear, AreDetectableIn, AreOpenableIn, AreSoundIn, HaveSimplePastIn};
+ghost use Rattle.raft_log_engine.specs.Queues.{AreClear, AreDetectableIn, AreOpenableIn, AreSingleIn, AreSoundIn, HaveSimplePastIn};
 ghost use Rattle.raft_pipes.specs.declared.config.RecoveryMode.{RecoveryMode};
 ghost use Rattle.raft_pipes.specs.declared.config.RecoveryMode.TheVariants.{AbsoluteConsistency};
 
@@ -24,7 +24,8 @@ use raft_env::FileSystem;
 /// Folders that keep contents through a crash leave them then, possibly with a prefix of the batches
 /// after them, where damage is detectable. A restart after a crash finds what the crash left. Where
 /// that is sound, it keeps it, its log can be opened in each mode but the absolute one, and no
-/// folder's place is taken (`AreClear`). Where no log stands, nothing is read and nothing is kept.
+/// folder's place is taken (`AreClear`), nor do both folders have a log file of one number
+/// (`AreSingleIn`). Where no log stands, nothing is read and nothing is kept.
 /// Files that no crash met, as an engine gave them up, stand for what a crash could leave, and their
 /// log can be opened, where their damage is detectable: what a failed write left of its record may
 /// be any bytes.
@@ -49,6 +50,8 @@ pub fn crash_leaves_contents()
         → (contents_at folders n ≡ no_contents) × RecoversContents folders no_contents [] n }
     ensures clear { (folders : Folders) (m : Contents) (batches : List Batch) (n : Directory)
         → RecoversContents folders m batches n → AreClear folders n }
+    ensures single { (folders : Folders) (m : Contents) (batches : List Batch) (n : Directory)
+        → RecoversContents folders m batches n → AreSingleIn folders n }
     ensures stays_clear { (folders : Folders) (n m : Directory) (d : CrashImage)
         → IsRestarted n d m → AreSoundIn folders n d → AreClear folders m }
 {

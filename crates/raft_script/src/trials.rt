@@ -1,15 +1,15 @@
 //! Operations over files in memory, then a crash, then an opening.
 ghost use Rattle.std.specs.Prelude.{◌≡◌, ◌⊎◌, None, List, [], ◌∷◌, ◌++◌, IfOk, IfErr};
-ghost use Rattle.std.specs.String.{string_bytes};
 ghost use Rattle.raft_base.specs.Fault.{fault_code};
-ghost use Rattle.raft_env.specs.Directory.{Directory, HasFile};
+ghost use Rattle.raft_env.specs.Directory.{Directory};
 ghost use Rattle.raft_memory.specs.Choice.{NameNoBytes};
+ghost use Rattle.raft_pipes.specs.Folders.{folders_in};
 ghost use Rattle.raft_pipes.specs.Sanitized.{IsContradiction, contradiction};
 ghost use Rattle.raft_memory.specs.Memory.{memory_directory, memory_moments, no_files, stop_of};
 ghost use Rattle.raft_log_engine.specs.Image.{IsImageOf};
 ghost use Rattle.raft_log_engine.specs.Contents.{contents_at, known_at};
 ghost use Rattle.raft_log_engine.specs.Crash.{RecoversContents};
-ghost use Rattle.raft_log_engine.specs.Queues.{AreOpenableIn, ReadCompletedRecordsIn};
+ghost use Rattle.raft_log_engine.specs.Queues.{AreClear, AreOpenableIn, AreSingleIn, ReadCompletedRecordsIn};
 ghost use Rattle.raft_script.specs.Run.{IsStorageOrMemory};
 ghost use Rattle.raft_script.specs.Trial.{AreNotAllowed, IsLogRefusal, IsTrialOf, LeavesDetectable, RunsOver};
 
@@ -41,7 +41,7 @@ pub fn trial(
         (IsTrialOf config ops.now stop choices.now) }
     ensures cause { IfErr result (λ e. (e ≡ Fault.Memory)
         ⊎ ((fault_code e ≡ 1) × (NameNoBytes choices.now → ⊥)
-        × AreNotAllowed (string_bytes config.dir) ops.now stop choices.now)) }
+        × AreNotAllowed (folders_in config) ops.now stop choices.now)) }
 {
     a_queue_recovers_its_batches();
     crash_leaves_a_prefix();
@@ -75,15 +75,15 @@ fn run_over<F: FileSystem + Drop>(
     files: F,
     ops: &[Op],
 ) -> Result<(RunReport, F), Fault>
-    ensures ok { IfOk result (λ r. let dir = string_bytes config.dir in
+    ensures ok { IfOk result (λ r. let dir = folders_in config in
         let found = contents_at dir (F.directory files) in
         RecoversContents dir found [] (F.directory files)
         → RunsOver dir found (known_at dir (F.directory files)) ops.now r.0.outcomes.items
         r.0.failed_at (F.directory r.1)) }
     ensures crash { IfOk result (λ r.
-        ReadCompletedRecordsIn (string_bytes config.dir) (F.directory files) → r.0.failed_at ≡ None
+        ReadCompletedRecordsIn (folders_in config) (F.directory files) → r.0.failed_at ≡ None
         → (r.0.outcomes.items ≡ [] → ⊥)
-        → LeavesDetectable (string_bytes config.dir) (F.directory r.1)) }
+        → LeavesDetectable (folders_in config) (F.directory r.1)) }
     ensures any_moment { IfOk result (λ r.
         (added : List Directory) × (F.moments r.1 ≡ added ++ F.moments files)) }
     ensures cause { IfErr result (λ e. e ≡ Fault.Memory) }
@@ -107,13 +107,14 @@ fn run_over<F: FileSystem + Drop>(
 
 fn open_image<F: FileSystem + Drop>(alloc: Global, config: Config, files: F) -> Result<Image, Fault>
     ensures value { IfOk result (λ image.
-        IsImageOf image.groups.items (contents_at (string_bytes config.dir) (F.directory files))) }
+        IsImageOf image.groups.items (contents_at (folders_in config) (F.directory files))) }
     ensures refused { contradiction config ≡ None → IfErr result (λ e.
-        AreOpenableIn config.recovery_mode (string_bytes config.dir) (F.directory files)
-        → (HasFile (F.directory files) (string_bytes config.dir) → ⊥) → IsStorageOrMemory e) }
-    ensures cause { IfErr result (λ e. (HasFile (F.directory files) (string_bytes config.dir) → ⊥)
-        → IsContradiction config e
-        ⊎ IsLogRefusal config.recovery_mode (string_bytes config.dir) (F.directory files) e) }
+        AreOpenableIn config.recovery_mode (folders_in config) (F.directory files)
+        → AreClear (folders_in config) (F.directory files)
+        → AreSingleIn (folders_in config) (F.directory files) → IsStorageOrMemory e) }
+    ensures cause { IfErr result (λ e. AreClear (folders_in config) (F.directory files)
+        → AreSingleIn (folders_in config) (F.directory files) → IsContradiction config e
+        ⊎ IsLogRefusal config.recovery_mode (folders_in config) (F.directory files) e) }
 {
     match Engine::open_in_order(alloc, config, files) {
         Ok(mut engine) => engine.image(),

@@ -10,7 +10,7 @@ use Rattle.raft_pipes.proofs.QueueFilesLemmas.{now_leaves_synced}
 use Rattle.raft_recovery.specs.Recovered.{recovered}
 use Rattle.raft_recovery.proofs.ContentsLemmas.{recovered-nothing_rewritten}
 use Rattle.raft_log_engine.specs.Crash.{IsAllowedFrom, RecoversContents, left_of_queue}
-use Rattle.raft_log_engine.proofs.CrashLemmas.{contents_clear, contents_found, contents_left, keeps_found, same_groups, same_queues}
+use Rattle.raft_log_engine.proofs.CrashLemmas.{contents_clear, contents_found, contents_left, contents_single, keeps_found, same_groups, same_queues}
 use Rattle.raft_log_engine.proofs.laws.crash_leaves_contents.Goals as goal
 
 pub returns-clause-left : goal.returns-clause-left
@@ -41,6 +41,9 @@ returns-clause-stays_clear c = λ folders n m d restarted sound. c.crash_leaves_
 
 pub returns-clause-clear : goal.returns-clause-clear
 returns-clause-clear c = contents_clear
+
+pub returns-clause-single : goal.returns-clause-single
+returns-clause-single c = contents_single
 
 -- the files as they are, without a crash, stand for what a crash could leave
 pub returns-clause-as_they_are : goal.returns-clause-as_they_are
