@@ -26,10 +26,11 @@ use Rattle.raft_base.specs.declared.pipe_log.LogQueue.{LogQueue}
 use Rattle.raft_base.specs.declared.pipe_log.LogQueue.TheVariants.{Append, Rewrite}
 use Rattle.raft_env.specs.Refusal.{Refusals}
 use Rattle.raft_pipes.specs.Config.{IsCopy}
-use Rattle.raft_pipes.specs.Folders.{Folders, folders_in}
+use Rattle.raft_pipes.specs.Folders.{Folders, beside_main, folders_in}
 use Rattle.raft_pipes.specs.Folder.{HasNoLog, readable_of, readable_queue}
 use Rattle.raft_script.specs.Durability.{LeavesAllowedAfter, Progress, progress_after_all, progress_from}
 use Rattle.raft_pipes.proofs.FolderQueueLemmas.{log_files-no_log}
+use Rattle.raft_pipes.proofs.TakenLemmas.{one_free}
 use Rattle.raft_pipes.specs.Queue.{IsOpenRefusalOf}
 use Rattle.raft_log_engine.specs.Queues.{AreClear, AreOpenableIn, AreSingleIn, HaveDamageIn, HaveLeftDamage, IsOpeningRefusal, ReadCompletedRecordsIn}
 use Rattle.raft_log_engine.proofs.CrashLemmas.{clear_restarted, same_groups, same_queues, single_restarted}
@@ -71,6 +72,11 @@ none_readable queue folders n is = ap (readable_of queue n) (log_files-no_log qu
 clear_of_none : (folders : Folders) (n : Directory) → HaveNoLogPath folders → n ≡ no_files → AreClear folders n
 clear_of_none folders n free is (folder, among, inl there) = let clash = subst IsSome (none_there n is folder) there in absurd cc
 clear_of_none folders n free is (folder, among, inr log) = free folder among log
+
+-- as a folder alone hasn't it
+pub one_has_no_log_path : (folders : Folders) → folders.spill ≡ None → HaveNoLogPath folders
+one_has_no_log_path folders alone folder among log =
+    one_free folders no_files (ap (beside_main folders.main) alone) (λ there. let clash = subst IsSome (none_there no_files refl folders.main) there in absurd cc) (folder, among, inr log)
 
 -- of folders without files no failed call brought a record
 pub none_done : (folders : Folders) (n : Directory) → (HasNoLog folders n → ReadCompletedRecordsIn folders n) → n ≡ no_files → ReadCompletedRecordsIn folders n

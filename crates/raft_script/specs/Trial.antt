@@ -51,7 +51,7 @@ pub record RunsOver (folders : Folders) (m : Contents) (known : ℕ → Bool) (o
   pub clear : AreClear folders files
   pub single : AreSingleIn folders files
 
--- no folder has the path of a log file: a folder in another one can
+-- no folder has the path of a log file, as a second one can have that stands in the first
 abbrev pub HaveNoLogPath : Folders → Type 0
 HaveNoLogPath folders =
     (folder : Path) → Contains (all_of folders) folder → IsLogPath folders folder → ⊥
@@ -70,8 +70,8 @@ pub record RunsFromEmpty (folders : Folders) (ops : List Op) (stop : Option ℕ)
       → RunsOver folders no_contents (known_in []) ops outcomes failed_at (memory_directory last)
 
 -- they may leave files of which storage may not leave what the choices say
-pub record AreNotAllowed (folders : Folders) (ops : List Op) (stop : Option ℕ) (choices : List Choice)
-    : Type 0 where
+pub record AreNotAllowed (folders : Folders) (ops : List Op) (stop : Option ℕ)
+    (choices : List Choice) : Type 0 where
   pub outcomes : List Outcome
   pub failed_at : Option ℕ
   pub last : MemoryFileSystem

@@ -1,12 +1,13 @@
 //! The program `raftlog` over any reader and writer.
-ghost use Rattle.std.specs.Prelude.{◌≡◌, false, IfOk, IfSome, List, MatchResult, None, Option, Some, codes, ℕ};
+ghost use Rattle.std.specs.Prelude.{◌≡◌, false, IfOk, IfSome, List, MatchResult, None, Option, Some, ℕ};
 ghost use Rattle.raft_env.specs.Directory.{CrashImage, IsRestarted, Leaves};
 ghost use Rattle.raft_log_engine.specs.Engine.{contents_of, has_failed};
 ghost use Rattle.raft_memory.specs.Memory.{memory_directory};
 ghost use Rattle.raft_log_engine.specs.Contents.{contents_at, known_at};
+ghost use Rattle.raft_pipes.specs.Folders.{folders_in};
 ghost use Rattle.raft_script.specs.Line.{EndsOn, GoesOnOrEnds, IsNextLine, IsReading, asked_of, asked_of_call};
 ghost use Rattle.raft_script.specs.Entry.{range_of};
-ghost use Rattle.raft_script.specs.Program.{AnswersFrom, AnswersLine, HoldsAfterCrash, IsAnswered, IsMetBy, IsNewWith, IsReopened, OpensTo};
+ghost use Rattle.raft_script.specs.Program.{AnswersFrom, AnswersLine, HoldsAfterCrash, IsAnswered, IsMetBy, IsNewWith, IsReopened, OpensTo, program_folders};
 
 use crate::answer::{Answer, print};
 use crate::line::{Call, CrashChoice, Line, parse_line};
@@ -17,7 +18,6 @@ use raft_env::FileSystem;
 use raft_log_engine::laws::crash_leaves_contents;
 use raft_log_engine::{Config, Engine, Refused};
 use raft_memory::{Choice, MemoryFileSystem};
-use raft_queues::laws::crash_leaves_a_prefix;
 use raft_records::{Fault, Fresh, LogQueue, ReadableSize};
 use std::alloc::{AllocError, Global};
 use std::io;

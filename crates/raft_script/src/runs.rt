@@ -39,7 +39,7 @@ pub(crate) struct RunReport {
 ///
 /// After the operations the accepted batches that are covered are durable, and no more, and the others stand
 /// unsynced. At least as many calls as answer `Io` were refused by storage. Where all operations are reads, but of
-/// entries, and writes of acts without a batch, the engine stays as it was. The settings' folder stays, and so does
+/// entries, and writes of acts without a batch, the engine stays as it was. The settings' folders stay, and so does
 /// the engine's note of the files that its opening found.
 pub fn run<F: FileSystem>(
     alloc: Global,

@@ -3,7 +3,7 @@ ghost use Rattle.std.specs.Prelude.{◌≡◌, ◌⊎◌, None, List, [], ◌∷
 ghost use Rattle.raft_base.specs.Fault.{fault_code};
 ghost use Rattle.raft_env.specs.Directory.{Directory};
 ghost use Rattle.raft_memory.specs.Choice.{NameNoBytes};
-ghost use Rattle.raft_pipes.specs.Folders.{folders_in};
+ghost use Rattle.raft_pipes.specs.Folders.{Folders, folders_in};
 ghost use Rattle.raft_pipes.specs.Sanitized.{IsContradiction, contradiction};
 ghost use Rattle.raft_memory.specs.Memory.{memory_directory, memory_moments, no_files, stop_of};
 ghost use Rattle.raft_log_engine.specs.Image.{IsImageOf};
@@ -11,7 +11,7 @@ ghost use Rattle.raft_log_engine.specs.Contents.{contents_at, known_at};
 ghost use Rattle.raft_log_engine.specs.Crash.{RecoversContents};
 ghost use Rattle.raft_log_engine.specs.Queues.{AreClear, AreOpenableIn, AreSingleIn, ReadCompletedRecordsIn};
 ghost use Rattle.raft_script.specs.Run.{IsStorageOrMemory};
-ghost use Rattle.raft_script.specs.Trial.{AreNotAllowed, IsLogRefusal, IsTrialOf, LeavesDetectable, RunsOver};
+ghost use Rattle.raft_script.specs.Trial.{AreNotAllowed, HaveNoLogPath, IsLogRefusal, IsTrialOf, LeavesDetectable, RunsOver};
 
 use crate::operation::{Op, Trial};
 use crate::runs::{RunReport, run_watched};
@@ -25,11 +25,11 @@ use std::alloc::Global;
 
 /// Opens a log in memory, does the operations, crashes, and opens again. From the first opening on the calls that may
 /// change files are counted from 1, and from the one at `stop` on each fails; the opening after the crash has no
-/// stop. The choices say what the crash leaves; bytes that storage doesn't allow are refused, and no others. Where
-/// the damage of what it leaves is detectable, a tolerant opening fails by storage or for lack of memory alone; any
-/// other opening only for these, for what is left of the log, or where settings contradict one another. The damage is
-/// detectable where an engine answered and didn't fail, and the choices leave each file whole, as it is at the crash
-/// or as it was synced.
+/// stop. The choices say what the crash leaves; bytes that storage doesn't allow are refused, and no others. No folder
+/// may have the path of a log file (`HaveNoLogPath`), or each opening fails. Then where the damage of what the crash
+/// leaves is detectable, a tolerant opening fails by storage or for lack of memory alone; any other opening only for
+/// these, for what is left of the log, or where settings contradict one another. The damage is detectable where an
+/// engine answered and didn't fail, and the choices leave each file whole, as it is at the crash or as it was synced.
 pub fn trial(
     alloc: Global,
     config: Config,
@@ -55,6 +55,11 @@ pub fn trial(
         opened: open_image(alloc, again, left),
     })
 }
+
+/// A folder alone hasn't the path of a log file: of it all that is said of a trial is true.
+pub fn a_folder_alone_has_no_log_path()
+    ensures one { (folders : Folders) → folders.spill ≡ None → HaveNoLogPath folders }
+{}
 
 fn new_files(alloc: Global, stop: Option<u64>) -> MemoryFileSystem
     ensures files { memory_directory result ≡ no_files }
