@@ -8,12 +8,13 @@ use crate::held::{Faulty, Held};
 use crate::rewritten::REWRITTEN;
 use crate::rows::{Rows, Wrong, each_holds};
 use crate::stored::{FIRST_REWRITE, HEADER_2, Stored};
-use raft_plans::{EMPTY, State};
+use crate::stories::{Step, Story};
+use raft_plans::{Answer, Change, EMPTY, Left, Plan, State};
 use std::alloc::Global;
 use std::test::Fail;
 
 /// The second folder.
-const SPILL: &str = "spill";
+pub(crate) const SPILL: &str = "spill";
 
 const SPILL_1: Stored = ("spill/0000000000000001.raftlog", &[HEADER_2, PUT_1]);
 
@@ -190,8 +191,57 @@ static REFUSED: [Spilled; 4] = [
     },
 ];
 
-// Makes the files, and the second folder where some stand in it. Answers how many each folder has.
-fn store<F: Faulty>(alloc: Global, held: &mut Held<F>, files: &[Stored]) -> Option<(usize, usize)> {
+/// Two values of so many bytes fill a file of 1 KB.
+const HALF: &[u8] = &[b'w'; 500];
+
+/// Records go to the last file, which stands in the second folder, and then to a next one in the first.
+static STORIES: [Story; 1] = [Story {
+    name: "a next file after one in the second folder",
+    parts: &[
+        &[
+            Step::Spill(&[SPILL_1]),
+            Step::OpenBoth,
+            Step::Run(
+                &[
+                    Plan::Write(&[Change::Put(1, b"b", HALF)], false),
+                    Plan::Write(&[Change::Put(1, b"c", HALF)], false),
+                    Plan::Write(&[Change::Put(1, b"d", b"x")], true),
+                ],
+                &[],
+            ),
+            Step::Span(1, 2),
+            Step::GiveUp,
+            Step::LastFile("spill/0000000000000001.raftlog", 3),
+            Step::LastFile("raft/0000000000000002.raftlog", 3),
+        ],
+        &[
+            Step::Crash(Left::Synced),
+            Step::OpenBoth,
+            Step::Run(
+                &[
+                    Plan::Get(1, b"a"),
+                    Plan::Get(1, b"b"),
+                    Plan::Get(1, b"c"),
+                    Plan::Get(1, b"d"),
+                ],
+                &[
+                    Answer::Value(Some(&[1])),
+                    Answer::Value(Some(HALF)),
+                    Answer::Value(Some(HALF)),
+                    Answer::Value(Some(b"x")),
+                ],
+            ),
+            Step::Span(1, 2),
+        ],
+    ],
+}];
+
+/// Makes the files, and the second folder where some stand in it. Answers how many each folder has.
+pub(crate) fn store<F: Faulty>(
+    alloc: Global,
+    held: &mut Held<F>,
+    files: &[Stored],
+) -> Option<(usize, usize)> {
     let spilled = files
         .iter()
         .filter(|file| file.0.starts_with("spill/"))
@@ -270,4 +320,9 @@ fn files_of_both_folders_are_cut(rt: HostRuntime) -> Result<(), Fail> {
 #[test]
 fn doubled_numbers_and_taken_places_fail(rt: HostRuntime) -> Result<(), Fail> {
     each_holds(&rt, Rows::Spills(&REFUSED))
+}
+
+#[test]
+fn new_files_stand_in_the_first_folder(rt: HostRuntime) -> Result<(), Fail> {
+    each_holds(&rt, Rows::Stories(&STORIES))
 }
