@@ -27,7 +27,7 @@ use Rattle.raft_base.specs.declared.pipe_log.LogQueue.TheVariants.{Append, Rewri
 use Rattle.raft_env.specs.Refusal.{Refusals}
 use Rattle.raft_pipes.specs.Config.{IsCopy}
 use Rattle.raft_pipes.specs.Folders.{Folders, beside_main, folders_in}
-use Rattle.raft_pipes.specs.Folder.{HasNoLog, readable_of, readable_queue}
+use Rattle.raft_pipes.specs.Folder.{HasFileFor, HasNoLog, readable_of, readable_queue}
 use Rattle.raft_script.specs.Durability.{LeavesAllowedAfter, Progress, progress_after_all, progress_from}
 use Rattle.raft_pipes.proofs.FolderQueueLemmas.{log_files-no_log}
 use Rattle.raft_pipes.proofs.TakenLemmas.{one_free}
@@ -69,7 +69,7 @@ pub none_readable : (queue : LogQueue) (folders : Folders) (n : Directory) → n
 none_readable queue folders n is = ap (readable_of queue n) (log_files-no_log queue folders n (no_log folders n is))
 
 -- .. and no folder's place is taken but by the path of a log file
-clear_of_none : (folders : Folders) (n : Directory) → HaveNoLogPath folders → n ≡ no_files → AreClear folders n
+clear_of_none : (folders : Folders) (n : Directory) → HaveNoLogPath folders → n ≡ no_files → HasFileFor folders n → ⊥
 clear_of_none folders n free is (folder, among, inl there) = let clash = subst IsSome (none_there n is folder) there in absurd cc
 clear_of_none folders n free is (folder, among, inr log) = free folder among log
 
