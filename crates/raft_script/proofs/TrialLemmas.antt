@@ -75,7 +75,7 @@ clear_of_none folders n free is (folder, among, inr log) = free folder among log
 
 -- as a folder alone hasn't it
 pub one_has_no_log_path : (folders : Folders) → folders.spill ≡ None → HaveNoLogPath folders
-one_has_no_log_path folders alone folder among log =
+one_has_no_log_path folders alone = λ folder among log.
     one_free folders no_files (ap (beside_main folders.main) alone) (λ there. let clash = subst IsSome (none_there no_files refl folders.main) there in absurd cc) (folder, among, inr log)
 
 -- of folders without files no failed call brought a record
