@@ -1,8 +1,8 @@
 //! What an opening makes of log files that stand in both folders of the settings.
 
 use crate::folders::{
-    ABSOLUTE, ALL, ANY, BROKEN_2, BROKEN_3, LOG_1, LOG_2, LOG_3, Opening, PUT_1, PUT_2, PUT_3, TAIL,
-    WITHOUT_2, WITHOUT_3, has_come_to, put_back,
+    ABSOLUTE, ALL, ANY, BROKEN_2, BROKEN_3, LOG_1, LOG_2, LOG_3, Opening, PUT_1, PUT_2, PUT_3,
+    TAIL, WITHOUT_2, WITHOUT_3, has_come_to, put_back,
 };
 use crate::held::{Faulty, Held};
 use crate::rewritten::REWRITTEN;
@@ -268,12 +268,7 @@ fn made_by(row: &Spilled, opening: &Opening) -> &'static [Stored] {
 }
 
 // Whether an opening comes to what is wanted, and, where it holds a state, the next one to the same.
-fn holds<F: Faulty>(
-    alloc: Global,
-    held: &mut Held<F>,
-    row: &Spilled,
-    opening: &Opening,
-) -> bool {
+fn holds<F: Faulty>(alloc: Global, held: &mut Held<F>, row: &Spilled, opening: &Opening) -> bool {
     let Opening(mode, wanted, changed) = opening;
     held.renew(alloc);
     let Some((main, spilled)) = store(alloc, held, row.files) else {
