@@ -211,8 +211,8 @@ static STORIES: [Story; 1] = [Story {
             ),
             Step::Span(1, 2),
             Step::GiveUp,
-            Step::LastFile("spill/0000000000000001.raftlog", 3),
-            Step::LastFile("raft/0000000000000002.raftlog", 3),
+            Step::LastFile("spill/0000000000000001.raftlog", 2),
+            Step::LastFile("raft/0000000000000002.raftlog", 2),
         ],
         &[
             Step::Crash(Left::Synced),
