@@ -1,5 +1,5 @@
 use Rattle.raft_script.proofs.TrialLemmas.{one_has_no_log_path}
 use Rattle.raft_script.proofs.trials.a_folder_alone_has_no_log_path.Goals as goal
 
-pub returns-clause-one : goal.returns-clause-one
-returns-clause-one c = one_has_no_log_path
+pub returns : goal.returns
+returns c = one_has_no_log_path
