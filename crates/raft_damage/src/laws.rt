@@ -14,6 +14,7 @@ ghost use Rattle.raft_files.specs.Records.{HoldsRecords};
 ghost use Rattle.raft_premise.specs.Completed.{EndsInZeros, HasCompletedLog, HasCompletedRecords};
 ghost use Rattle.raft_damage.specs.DetectableDamage.{EachAddsOnlyItsRecord, IsBrokenFrom, IsReadAsBefore, IsTornAfter};
 ghost use Rattle.raft_pipes.specs.Completed.{HasSimplePastOf, PipeHasCompletedLogIfSimple};
+ghost use Rattle.raft_pipes.specs.Folders.{Folders, all_of};
 ghost use Rattle.raft_pipes.specs.Pipe.{HasQueueOf};
 ghost use Rattle.raft_pipes.specs.PipeState.{PipeState};
 ghost use Rattle.raft_pipes.specs.QueueFiles.{IsDetectableQueue};
@@ -74,9 +75,9 @@ pub fn premise_can_be_met()
 /// detectable of a queue of whose last file only writes failed, and no failed call brought a
 /// record (`detectable`). Openings of `raft_pipes` give such queues, and the calls of pipes keep them.
 pub fn damage_of_a_queue_is_detectable()
-    ensures detectable { (queue : LogQueue) (p : PipeState) (folder : Path) (batches : List Batch)
-        (synced : ℕ) (n : Directory) → HasQueueOf queue p folder batches synced n
-        → PipeHasCompletedLogIfSimple p n → HasSimplePastOf queue folder n → AreConsistent n
+    ensures detectable { (queue : LogQueue) (p : PipeState) (folders : Folders)
+        (batches : List Batch) (synced : ℕ) (n : Directory) → HasQueueOf queue p folders batches synced n
+        → PipeHasCompletedLogIfSimple p n → HasSimplePastOf queue folders n → AreConsistent n
         → (choices : List Choice) → AreWhole choices
-        → ∥ IsDetectableQueue (folder ∷ []) queue n (left_by choices n) ∥₁ }
+        → ∥ IsDetectableQueue (all_of folders) queue n (left_by choices n) ∥₁ }
 {}

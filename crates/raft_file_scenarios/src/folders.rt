@@ -32,6 +32,23 @@ pub(crate) fn store<F: FileSystem>(fs: &mut F, path: &str, parts: &[&[u8]]) -> R
     if path.len() > 4 {
         fs.make_dir("data")?;
     }
+    write_parts(fs, path, parts)
+}
+
+/// .. in this folder, or in none.
+pub(crate) fn store_in<F: FileSystem>(
+    fs: &mut F,
+    folder: &str,
+    path: &str,
+    parts: &[&[u8]],
+) -> Result<(), FsFault> {
+    if !folder.is_empty() {
+        fs.make_dir(folder)?;
+    }
+    write_parts(fs, path, parts)
+}
+
+fn write_parts<F: FileSystem>(fs: &mut F, path: &str, parts: &[&[u8]]) -> Result<(), FsFault> {
     let handle = fs.create(path)?;
     let mut writer = fs.new_writer(&handle)?;
     let mut at = 0;

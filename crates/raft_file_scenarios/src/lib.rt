@@ -19,4 +19,6 @@ mod queues;
 #[cfg(test)]
 mod read_bytes;
 #[cfg(test)]
+mod two_folders;
+#[cfg(test)]
 mod two_queues;

@@ -5,13 +5,11 @@ ghost use Rattle.raft_pipes.specs.Pipe.{IsPipeOf};
 use crate::folders::{HEADER, have_lengths, settings, store};
 use raft_env::FileSystem;
 use raft_memory::MemoryFileSystem;
-use raft_pipes::file_list::scan;
 use raft_pipes::{
-    AppendFault, ReplayMachine, RotationFault, SinglePipe, make_folder, read_files, settle_or_begin,
+    AppendFault, LogFolders, ReplayMachine, RotationFault, SinglePipe, read_files, settle_or_begin,
 };
 use raft_records::{Fault, FileBlockHandle, FileId, LogItem, LogQueue};
 use std::alloc::Global;
-use std::slice;
 use std::test::Fail;
 
 /// A file with so many bytes is full.
@@ -128,14 +126,14 @@ fn opened<F: FileSystem>(alloc: Global, fs: &mut F) -> Result<SinglePipe<F>, Fau
     ensures stands { IfOk result (λ pipe. IsPipeOf pipe (F.directory fs.new)) }
 {
     let config = settings(alloc)?;
-    let folder = config.dir.clone()?;
-    make_folder(alloc, folder.as_str(), fs)?;
+    let folders = LogFolders::new(&config)?;
+    folders.make(alloc, fs)?;
     let queue = LogQueue::Append;
-    let files = scan(alloc, slice::from_ref(&folder), queue, fs)?;
+    let files = folders.find(alloc, queue, fs)?;
     let mode = config.recovery_mode;
     let replayed = read_files(alloc, queue, &files, mode, fs, &mut NoMachine {})?;
     let version = config.format_version;
-    settle_or_begin(alloc, queue, folder, files, replayed, version, fs)
+    settle_or_begin(alloc, queue, folders, files, replayed, version, fs)
 }
 
 fn append<F: FileSystem>(

@@ -147,7 +147,7 @@ pub(super) fn read<F: FileSystem>(
     Ok(machine.batches)
 }
 
-fn are_cuts(cuts: &[Cut], wanted: &[(&str, usize, usize)]) -> bool {
+pub(super) fn are_cuts(cuts: &[Cut], wanted: &[(&str, usize, usize)]) -> bool {
     cuts.len() == wanted.len()
         && cuts.iter().zip(wanted.iter()).all(|(cut, wanted)| {
             cut.path.as_str() == wanted.0 && cut.len == wanted.1 && cut.kept == wanted.2

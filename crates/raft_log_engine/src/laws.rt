@@ -2,53 +2,58 @@
 ghost use Rattle.std.specs.Prelude.{◌≡◌, ◌++◌, ℕ, List, [], false};
 ghost use Rattle.raft_records.specs.Contents.{Contents, after_batches, no_contents};
 ghost use Rattle.raft_records.specs.Item.{Batch};
-ghost use Rattle.raft_env.specs.Directory.{Directory, HasFile, IsRestarted, CrashImage, Path};
+ghost use Rattle.raft_env.specs.Directory.{Directory, IsRestarted, CrashImage};
 ghost use Rattle.raft_env.specs.Moments.{HoldsThroughout};
 ghost use Rattle.raft_log_engine.specs.Crash.{IsAllowedFrom, LeavesAllowed, RecoversContents, contents_after_crash, known_after_crash};
 ghost use Rattle.raft_files.specs.Records.{as_it_is};
 ghost use Rattle.raft_log_engine.specs.Contents.{contents_at, known_at};
 ghost use Rattle.raft_log_engine.specs.Opening.{FoundCompletedRecords};
-ghost use Rattle.raft_log_engine.specs.Engine.{contents_of, directory_of, durable_of, folder_of, has_failed, moments_of, queue_of, settings_of, unsynced_of};
+ghost use Rattle.raft_log_engine.specs.Engine.{contents_of, directory_of, durable_of, folders_of, has_failed, moments_of, queue_of, settings_of, unsynced_of};
 ghost use Rattle.raft_env.specs.Consistent.{AreConsistent};
 ghost use Rattle.raft_memory.specs.Choice.{AreWhole, left_by};
 ghost use Rattle.raft_memory.specs.declared.crash.Choice.{Choice};
 ghost use Rattle.raft_pipes.specs.Folder.{HasNoLog};
-ghost use Rattle.raft_log_engine.specs.Queues.{AreDetectableIn, AreOpenableIn, AreSoundIn, HaveSimplePastIn};
+ghost use Rattle.raft_pipes.specs.Folders.{Folders};
+ghost use Rattle.raft_log_engine.specs.Queues.{AreClear, AreDetectableIn, AreOpenableIn, AreSingleIn, AreSoundIn, HaveSimplePastIn};
 ghost use Rattle.raft_pipes.specs.declared.config.RecoveryMode.{RecoveryMode};
 ghost use Rattle.raft_pipes.specs.declared.config.RecoveryMode.TheVariants.{AbsoluteConsistency};
 
 use crate::Engine;
 use raft_env::FileSystem;
 
-/// A folder that keeps contents through a crash leaves them then, possibly with a prefix of the
-/// batches after them, where damage is detectable. A restart after a crash finds what the crash
-/// left. Where that is sound, it keeps it, its log can be opened in each mode but the absolute one,
-/// and no file stands in the folder's place. Where no log stands, nothing is read and nothing is kept. Files that no
-/// crash met, as an engine gave them up, stand for what a crash could leave, and their log can be
-/// opened, where their damage is detectable: what a failed write left of its record may be any
-/// bytes.
+/// Folders that keep contents through a crash leave them then, possibly with a prefix of the batches
+/// after them, where damage is detectable. A restart after a crash finds what the crash left. Where
+/// that is sound, it keeps it, its log can be opened in each mode but the absolute one, and no
+/// folder's place is taken (`AreClear`), nor do both folders have a log file of one number
+/// (`AreSingleIn`). Where no log stands, nothing is read and nothing is kept.
+/// Files that no crash met, as an engine gave them up, stand for what a crash could leave, and their
+/// log can be opened, where their damage is detectable: what a failed write left of its record may
+/// be any bytes.
 pub fn crash_leaves_contents()
-    ensures left { (folder : Path) (m : Contents) (batches : List Batch) (n : Directory)
-        → RecoversContents folder m batches n → LeavesAllowed folder m batches n }
-    ensures restarted { (folder : Path) (n m : Directory) (d : CrashImage) → IsRestarted n d m
-        → AreSoundIn folder n d → RecoversContents folder (contents_after_crash folder n d) [] m }
-    ensures found { (folder : Path) (n m : Directory) (d : CrashImage) → IsRestarted n d m
-        → contents_at folder m ≡ contents_after_crash folder n d }
-    ensures known { (folder : Path) (n m : Directory) (d : CrashImage) → IsRestarted n d m
-        → (group : ℕ) → known_at folder m group ≡ known_after_crash folder n d group }
-    ensures opens { (folder : Path) (n m : Directory) (d : CrashImage) → IsRestarted n d m
-        → AreSoundIn folder n d → (mode : RecoveryMode) → (mode ≡ AbsoluteConsistency → ⊥)
-        → AreOpenableIn mode folder m }
-    ensures as_they_are { (folder : Path) (m : Contents) (batches : List Batch) (n : Directory)
-        → RecoversContents folder m batches n → AreDetectableIn folder n (as_it_is n)
-        → IsAllowedFrom 0 m batches (contents_at folder n)
-        × ((mode : RecoveryMode) → (mode ≡ AbsoluteConsistency → ⊥) → AreOpenableIn mode folder n) }
-    ensures none { (folder : Path) (n : Directory) → HasNoLog folder n → (HasFile n folder → ⊥)
-        → (contents_at folder n ≡ no_contents) × RecoversContents folder no_contents [] n }
-    ensures folder { (folder : Path) (m : Contents) (batches : List Batch) (n : Directory)
-        → RecoversContents folder m batches n → HasFile n folder → ⊥ }
-    ensures no_file { (folder : Path) (n m : Directory) (d : CrashImage) → IsRestarted n d m
-        → AreSoundIn folder n d → HasFile m folder → ⊥ }
+    ensures left { (folders : Folders) (m : Contents) (batches : List Batch) (n : Directory)
+        → RecoversContents folders m batches n → LeavesAllowed folders m batches n }
+    ensures restarted { (folders : Folders) (n m : Directory) (d : CrashImage) → IsRestarted n d m
+        → AreSoundIn folders n d
+        → RecoversContents folders (contents_after_crash folders n d) [] m }
+    ensures found { (folders : Folders) (n m : Directory) (d : CrashImage) → IsRestarted n d m
+        → contents_at folders m ≡ contents_after_crash folders n d }
+    ensures known { (folders : Folders) (n m : Directory) (d : CrashImage) → IsRestarted n d m
+        → (group : ℕ) → known_at folders m group ≡ known_after_crash folders n d group }
+    ensures opens { (folders : Folders) (n m : Directory) (d : CrashImage) → IsRestarted n d m
+        → AreSoundIn folders n d → (mode : RecoveryMode) → (mode ≡ AbsoluteConsistency → ⊥)
+        → AreOpenableIn mode folders m }
+    ensures as_they_are { (folders : Folders) (m : Contents) (batches : List Batch) (n : Directory)
+        → RecoversContents folders m batches n → AreDetectableIn folders n (as_it_is n)
+        → IsAllowedFrom 0 m batches (contents_at folders n) × ((mode : RecoveryMode)
+        → (mode ≡ AbsoluteConsistency → ⊥) → AreOpenableIn mode folders n) }
+    ensures none { (folders : Folders) (n : Directory) → HasNoLog folders n → AreClear folders n
+        → (contents_at folders n ≡ no_contents) × RecoversContents folders no_contents [] n }
+    ensures clear { (folders : Folders) (m : Contents) (batches : List Batch) (n : Directory)
+        → RecoversContents folders m batches n → AreClear folders n }
+    ensures single { (folders : Folders) (m : Contents) (batches : List Batch) (n : Directory)
+        → RecoversContents folders m batches n → AreSingleIn folders n }
+    ensures stays_clear { (folders : Folders) (n m : Directory) (d : CrashImage)
+        → IsRestarted n d m → AreSoundIn folders n d → AreClear folders m }
 {
     raft_queues::laws::crash_leaves_a_prefix();
 }
@@ -56,10 +61,10 @@ pub fn crash_leaves_contents()
 /// What an engine keeps a crash leaves now: what is durable, and a prefix of what is unsynced, and so while no call
 /// changes its files, with any batches more. Both make up what an engine holds that hasn't failed.
 pub fn an_engine_recovers_what_it_keeps<F: FileSystem>(engine: &Engine<F>)
-    ensures crash { LeavesAllowed (folder_of engine.now) (durable_of engine.now)
+    ensures crash { LeavesAllowed (folders_of engine.now) (durable_of engine.now)
         (unsynced_of engine.now) (directory_of engine.now) }
     ensures any_moment { (more : List Batch) → HoldsThroughout (moments_of engine.now)
-        (moments_of engine.now) (directory_of engine.now) (LeavesAllowed (folder_of engine.now)
+        (moments_of engine.now) (directory_of engine.now) (LeavesAllowed (folders_of engine.now)
         (durable_of engine.now) (unsynced_of engine.now ++ more)) }
     ensures contents { has_failed engine.now ≡ false
         → contents_of engine.now ≡ after_batches (durable_of engine.now) (unsynced_of engine.now) }
@@ -71,10 +76,10 @@ pub fn an_engine_recovers_what_it_keeps<F: FileSystem>(engine: &Engine<F>)
 /// writes failed, and the log was never renamed, the damage of a crash that leaves every file with all its
 /// bytes now, or with those of its last sync, is detectable (`AreConsistent`: as in memory always).
 pub fn the_damage_of_an_engine_is_detectable<F: FileSystem>(engine: &Engine<F>)
-    ensures crash { let folder = folder_of engine.now in let n = directory_of engine.now in
+    ensures crash { let folders = folders_of engine.now in let n = directory_of engine.now in
         has_failed engine.now ≡ false → FoundCompletedRecords engine.now
-        → HaveSimplePastIn folder n → AreConsistent n → (choices : List Choice) → AreWhole choices
-        → ∥ AreDetectableIn folder n (left_by choices n) ∥₁ }
+        → HaveSimplePastIn folders n → AreConsistent n → (choices : List Choice) → AreWhole choices
+        → ∥ AreDetectableIn folders n (left_by choices n) ∥₁ }
 {
     raft_damage::laws::damage_of_a_queue_is_detectable();
 }

@@ -8,11 +8,13 @@ pub mod FolderLemmas
 pub mod FolderQueueLemmas
 pub mod KeepsLogLemmas
 pub mod KeepsQueueLemmas
+pub mod KeptLemmas
 pub mod ListedLemmas
 pub mod LogFileLemmas
 pub mod NamesInLemmas
 pub mod NamesLemmas
 pub mod NumberedLemmas
+mod OnlyLemmas
 pub mod OpenLemmas
 pub mod OpenMomentsLemmas
 pub mod OpenReplayLemmas
@@ -35,4 +37,5 @@ pub mod SettledFilesLemmas
 pub mod SettledQueueLemmas
 pub mod SingleLemmas
 pub mod StepsLemmas
+pub mod TakenLemmas
 pub mod WrittenLemmas

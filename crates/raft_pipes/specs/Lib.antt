@@ -5,6 +5,7 @@ pub mod Completed
 pub mod FileList
 pub mod Files
 pub mod Folder
+pub mod Folders
 pub mod Listing
 pub mod LogFile
 pub mod Numbered

@@ -4,6 +4,7 @@
 mod config;
 pub mod file_list;
 mod files;
+mod log_folders;
 mod pipe;
 mod pipe_builder;
 mod replay;
@@ -11,6 +12,7 @@ pub mod rotation;
 
 pub use config::{Config, RecoveryMode};
 pub use files::read_files;
+pub use log_folders::LogFolders;
 pub use pipe::{AppendFault, RotationFault, SinglePipe};
-pub use pipe_builder::{make_folder, settle_or_begin};
+pub use pipe_builder::settle_or_begin;
 pub use replay::{ReplayMachine, ReplayedLog};

@@ -210,4 +210,5 @@ fn what_is_left_is_found(rt: HostRuntime) -> Result<(), Fail> {
 #[test]
 fn laws_can_be_called() {
     raft_log_engine::laws::crash_leaves_contents();
+    raft_script::a_folder_alone_has_no_log_path();
 }

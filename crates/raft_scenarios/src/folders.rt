@@ -73,7 +73,7 @@ pub(crate) const ALL: State = State {
 
 pub(crate) const WITHOUT_2: State = State { b: 0, ..ALL };
 
-const WITHOUT_3: State = State { c: 0, ..ALL };
+pub(crate) const WITHOUT_3: State = State { c: 0, ..ALL };
 
 pub(crate) const ABSOLUTE: RecoveryMode = RecoveryMode::AbsoluteConsistency;
 
@@ -300,22 +300,25 @@ static NAMES: [Folder; 1] = [Folder {
     ],
 }];
 
-// Whether an opening comes to what is wanted; a key k is there where the state has something else.
+/// Whether an opening came to what is wanted; a key k is there where the state has something else.
+pub(crate) fn has_come_to<F: Faulty>(held: &mut Held<F>, wanted: &Result<State, u8>) -> bool {
+    match wanted {
+        Ok(state) => held.has(*state) && held.has_key(b"k", state.other),
+        Err(code) => held.code() == Some(*code),
+    }
+}
+
 fn comes_to<F: Faulty>(
     alloc: Global,
     held: &mut Held<F>,
     mode: RecoveryMode,
     wanted: &Result<State, u8>,
 ) -> bool {
-    let is_tried = held.open(alloc, mode);
-    match wanted {
-        Ok(state) => is_tried && held.has(*state) && held.has_key(b"k", state.other),
-        Err(code) => is_tried && held.code() == Some(*code),
-    }
+    held.open(alloc, mode) && has_come_to(held, wanted)
 }
 
-// After an opening the engine is closed where that is asked, or gives the files up.
-fn put_back<F: Faulty>(held: &mut Held<F>, closes: bool) {
+/// After an opening the engine is closed where that is asked, or gives the files up.
+pub(crate) fn put_back<F: Faulty>(held: &mut Held<F>, closes: bool) {
     if closes && held.code().is_none() {
         held.close();
     }

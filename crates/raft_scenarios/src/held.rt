@@ -1,6 +1,6 @@
 //! Files in memory, or an engine over them.
 
-use crate::stored::{Stored, are_stored, settings_in, store_all};
+use crate::stored::{Stored, are_stored, settings_in, settings_with, store_all};
 use raft_env::{FileSystem, IoKind};
 use raft_log_engine::{Config, Engine, RecoveryMode, Refused};
 use raft_memory::{FsCall, MemoryFileSystem};
@@ -124,6 +124,22 @@ impl<F: Faulty> Held<F> {
     /// Opens the files, which an engine gives up first: whether there was memory for the settings.
     pub(crate) fn open(&mut self, alloc: Global, mode: RecoveryMode) -> bool {
         match settings_in(alloc, mode) {
+            Ok(config) => {
+                self.open_with(alloc, config);
+                true
+            }
+            Err(_) => false,
+        }
+    }
+
+    /// .. with a second folder.
+    pub(crate) fn open_with_spill(
+        &mut self,
+        alloc: Global,
+        mode: RecoveryMode,
+        spill: &str,
+    ) -> bool {
+        match settings_with(alloc, mode, spill) {
             Ok(config) => {
                 self.open_with(alloc, config);
                 true

@@ -28,6 +28,8 @@ mod rows;
 #[cfg(test)]
 mod scans;
 #[cfg(test)]
+mod spilled;
+#[cfg(test)]
 mod stored;
 #[cfg(test)]
 mod stories;

@@ -9,7 +9,7 @@ use std::test::Fail;
 // The records below were made by Python's struct and zlib, for file 1 in version 2.
 
 /// The puts a: 9, b: 2 and c: 3.
-const REWRITTEN: &[u8] =
+pub(crate) const REWRITTEN: &[u8] =
     b"\x00\x00\x00\x00\x00\x00\x2a\x00\x00\x00\x00\x00\x00\x00\x00\x10\x03\x01\x03\x01\x01\x61\x01\x09\x01\x03\x01\x01\x62\x01\x02\x02\x03\x01\x01\x63\x01\x03\x4b\x1f\x3d\x11";
 
 /// The first batch of the atomic group 7, with the put b: 8.

@@ -4,6 +4,7 @@ use crate::folders::{Folder, wrong_opening};
 use crate::held::{Faulty, Held};
 use crate::program::{Script, wrong_script};
 use crate::restarts::{Calls, wrong_call};
+use crate::spilled::{Spilled, wrong_spill};
 use crate::stories::{Story, wrong_story};
 use raft_memory::MemoryFileSystem;
 use raft_plans::Left;
@@ -16,6 +17,8 @@ pub(crate) enum Rows {
     Stories(&'static [Story]),
     /// Openings, and whether the engine is closed then.
     Openings(&'static [Folder], bool),
+    /// Openings of two folders.
+    Spills(&'static [Spilled]),
     /// Openings with failing calls, and what a crash leaves after each; after none the files are whole.
     Failures(&'static [Calls], &'static [Option<Left>]),
 }
@@ -29,6 +32,7 @@ fn first_wrong<F: Faulty>(alloc: Global, files: F, rows: Rows) -> Wrong {
         Rows::Scripts(scripts) => wrong_script(alloc, scripts),
         Rows::Stories(stories) => wrong_story(alloc, &mut held, stories),
         Rows::Openings(folders, closes) => wrong_opening(alloc, &mut held, folders, closes),
+        Rows::Spills(rows) => wrong_spill(alloc, &mut held, rows),
         Rows::Failures(calls, lefts) => wrong_call(alloc, &mut held, calls, lefts),
     }
 }

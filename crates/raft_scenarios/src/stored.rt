@@ -120,3 +120,16 @@ pub(crate) fn settings_in(alloc: Global, mode: RecoveryMode) -> Result<Config, A
     config.recovery_mode = mode;
     Ok(config)
 }
+
+/// The same with a second folder.
+pub(crate) fn settings_with(
+    alloc: Global,
+    mode: RecoveryMode,
+    spill: &str,
+) -> Result<Config, AllocError> {
+    let mut config = settings_in(alloc, mode)?;
+    let mut folder = String::new(alloc);
+    folder.push_str(spill)?;
+    config.spill_dir = Some(folder);
+    Ok(config)
+}

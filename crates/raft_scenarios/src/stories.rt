@@ -5,6 +5,8 @@ use crate::held::{Failing, Faulty, Held};
 use crate::reads::{Fetch, fetches};
 use crate::rows::Wrong;
 use crate::scans::{Scan, has_messages, is_handed_over};
+use crate::spilled::{SPILL, store};
+use crate::stored::Stored;
 use raft_env::FileSystem;
 use raft_log_engine::Engine;
 use raft_plans::{Answer, Left, Plan, State, are_answers, first_refused, ops_of};
@@ -15,6 +17,10 @@ use std::alloc::Global;
 pub(crate) enum Step {
     /// Opens the files, which an engine gives up first.
     Open,
+    /// .. of both folders.
+    OpenBoth,
+    /// Makes these files.
+    Spill(&'static [Stored]),
     /// Closes the engine, or fails with this code.
     Close(Option<u8>),
     Reopen,
@@ -131,6 +137,10 @@ fn opens<F: Faulty>(alloc: Global, held: &mut Held<F>) -> bool {
     held.open(alloc, TAIL) && held.code().is_none()
 }
 
+fn opens_both<F: Faulty>(alloc: Global, held: &mut Held<F>) -> bool {
+    held.open_with_spill(alloc, TAIL, SPILL) && held.code().is_none()
+}
+
 fn is_last<F: Faulty>(held: &mut Held<F>, path: &str, count: usize) -> bool {
     match held.files() {
         Some(files) => files.is_file(path) && has_files(files, count),
@@ -164,6 +174,8 @@ fn gives_up<F: Faulty>(held: &mut Held<F>) -> bool {
 fn holds<F: Faulty>(alloc: Global, held: &mut Held<F>, batch: &mut LogBatch, step: &Step) -> bool {
     match step {
         Step::Open => opens(alloc, held),
+        Step::OpenBoth => opens_both(alloc, held),
+        Step::Spill(files) => store(alloc, held, files).is_some(),
         Step::Close(code) => closes(held, *code),
         Step::Reopen => reopens(held),
         Step::GiveUp => gives_up(held),

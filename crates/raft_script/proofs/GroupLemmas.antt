@@ -10,7 +10,6 @@ use Rattle.std.proofs.Math.Logic.{∥∥₁_map}
 use Rattle.raft_base.specs.Fault.{fault_code}
 use Rattle.raft_base.specs.declared.errors.Fault.{Fault}
 use Rattle.raft_base.specs.declared.errors.Fault.TheVariants as fault
-use Rattle.raft_env.specs.Directory.{Path}
 use Rattle.raft_env.specs.Moments.{HoldsThroughout}
 use Rattle.raft_env.specs.Refusal.{NoFewer, Refusals, StorageRefusalsRose}
 use Rattle.raft_env.specs.declared.env.FileSystem.{Ghosts}
@@ -21,7 +20,7 @@ use Rattle.raft_records.specs.Item.{Batch}
 use Rattle.raft_log_engine.specs.Cause as engine
 use Rattle.raft_pipes.specs.PipeState.{PipeState}
 use Rattle.raft_log_engine.specs.Durability.{Progresses, durability_of}
-use Rattle.raft_log_engine.specs.Engine.{answer_now, answered_of, contents_of, directory_of, durable_of, folder_of, has_failed, moments_of, queue_of, refusals_of, unsynced_of}
+use Rattle.raft_log_engine.specs.Engine.{answer_now, answered_of, contents_of, directory_of, durable_of, folders_of, has_failed, moments_of, queue_of, refusals_of, unsynced_of}
 use Rattle.raft_log_engine.specs.Group as group
 use Rattle.raft_log_engine.specs.Group.{AreGroupAnswers, FailsWithChoice, HasWrittenGroup, LeavesChoice, accepted_in, chosen_of, items_of, written_in}
 use Rattle.raft_log_engine.specs.declared.engine.Engine.{Engine}
@@ -30,6 +29,7 @@ use Rattle.raft_script.specs.Run.{AreBatchAnswers, FailsBy, IsBatchRefusal, IsGr
 use Rattle.raft_script.proofs.RunLemmas.{same_err}
 use Rattle.raft_script.specs.declared.operation.Op.TheVariants.{WriteGroup}
 use Rattle.raft_script.specs.declared.operation.Outcome.TheVariants.{Sizes}
+use Rattle.raft_pipes.specs.Folders.{Folders}
 
 -- Building.
 
@@ -102,44 +102,44 @@ flags_any (p ∷ parts) = ap (λ (b : Bool). p.1 || b) (flags_any parts)
 same_failure : {T : Type 0} (x : T) → Ok x ≡ Err fault.Failed → ⊥
 same_failure x clash = cc
 
-batch_refusal_of : (folder : Path) (p : PipeState) (m : Contents) (batch : Batch) (old new : Refusals) (e : Fault) → engine.IsWriteRefusal folder p m batch false old new e → IsBatchRefusal m batch e
-batch_refusal_of folder p m batch old new fault.Gap h = h.0
-batch_refusal_of folder p m batch old new fault.Range h = elim h.0 [
+batch_refusal_of : (folders : Folders) (p : PipeState) (m : Contents) (batch : Batch) (old new : Refusals) (e : Fault) → engine.IsWriteRefusal folders p m batch false old new e → IsBatchRefusal m batch e
+batch_refusal_of folders p m batch old new fault.Gap h = h.0
+batch_refusal_of folders p m batch old new fault.Range h = elim h.0 [
   | inl out ↦ inl out
   | inr last ↦ inr last.0
 ]
-batch_refusal_of folder p m batch old new (fault.Io kind path) h = h.0
-batch_refusal_of folder p m batch old new fault.TryAgain h = h.0
-batch_refusal_of folder p m batch old new fault.Memory h = h.0
-batch_refusal_of folder p m batch old new _ h = absurd h.1
+batch_refusal_of folders p m batch old new (fault.Io kind path) h = h.0
+batch_refusal_of folders p m batch old new fault.TryAgain h = h.0
+batch_refusal_of folders p m batch old new fault.Memory h = h.0
+batch_refusal_of folders p m batch old new _ h = absurd h.1
 
-batch_answers : (folder : Path) (p : PipeState) (old new : Refusals) (m : Contents) (batches : List Batch) (answers : List (Result ℕ Fault)) → AreGroupAnswers folder p old new m batches answers → AreBatchAnswers m batches answers
-batch_answers folder p old new m [] [] are = tt
-batch_answers folder p old new m [] (a ∷ answers) are = absurd are
-batch_answers folder p old new m (b ∷ batches) [] are = absurd are
-batch_answers folder p old new m (b ∷ batches) (Ok len ∷ answers) are = (are.0, are.1, batch_answers folder p old new (after_batch m b) batches answers are.2)
-batch_answers folder p old new m (b ∷ batches) (Err e ∷ answers) are = (batch_refusal_of folder p m b old are.0 e are.1, batch_answers folder p are.0 new m batches answers are.3)
+batch_answers : (folders : Folders) (p : PipeState) (old new : Refusals) (m : Contents) (batches : List Batch) (answers : List (Result ℕ Fault)) → AreGroupAnswers folders p old new m batches answers → AreBatchAnswers m batches answers
+batch_answers folders p old new m [] [] are = tt
+batch_answers folders p old new m [] (a ∷ answers) are = absurd are
+batch_answers folders p old new m (b ∷ batches) [] are = absurd are
+batch_answers folders p old new m (b ∷ batches) (Ok len ∷ answers) are = (are.0, are.1, batch_answers folders p old new (after_batch m b) batches answers are.2)
+batch_answers folders p old new m (b ∷ batches) (Err e ∷ answers) are = (batch_refusal_of folders p m b old are.0 e are.1, batch_answers folders p are.0 new m batches answers are.3)
 
 -- storage's count rose by as many as it refused
-refused_rose : (folder : Path) (p : PipeState) (m : Contents) (batch : Batch) (old new : Refusals) (e : Fault) → engine.IsWriteRefusal folder p m batch false old new e → is_io {T = ℕ} (Err e) ≡ true → StorageRefusalsRose old new
-refused_rose folder p m batch old new (fault.Io kind path) h io = h.1.0
-refused_rose folder p m batch old new fault.TryAgain h io = let twice = h.1 in omega (arith, twice)
-refused_rose folder p m batch old new _ h io = absurd (let clash = io in cc)
+refused_rose : (folders : Folders) (p : PipeState) (m : Contents) (batch : Batch) (old new : Refusals) (e : Fault) → engine.IsWriteRefusal folders p m batch false old new e → is_io {T = ℕ} (Err e) ≡ true → StorageRefusalsRose old new
+refused_rose folders p m batch old new (fault.Io kind path) h io = h.1.0
+refused_rose folders p m batch old new fault.TryAgain h io = let twice = h.1 in omega (arith, twice)
+refused_rose folders p m batch old new _ h io = absurd (let clash = io in cc)
 
 more_rose : (io : Bool) (n : ℕ) (old mid new : Refusals) → NoFewer old mid → (io ≡ true → StorageRefusalsRose old mid) → StorageRefusalsRoseBy n mid new → StorageRefusalsRoseBy ((0 + cond io 1 0) + n) old new
 more_rose true n old mid new counts rose more = let one = rose refl in omega (arith, one, more)
 more_rose false n old mid new counts rose more = omega (arith, counts.0, more)
 
-batches_rose : (folder : Path) (p : PipeState) (old new : Refusals) (m : Contents) (batches : List Batch) (answers : List (Result ℕ Fault)) → AreGroupAnswers folder p old new m batches answers → StorageRefusalsRoseBy (count_by is_io answers) old new
-batches_rose folder p old new m [] [] are = omega (arith, are.0)
-batches_rose folder p old new m [] (a ∷ answers) are = absurd are
-batches_rose folder p old new m (b ∷ batches) [] are = absurd are
-batches_rose folder p old new m (b ∷ batches) (Ok len ∷ answers) are =
+batches_rose : (folders : Folders) (p : PipeState) (old new : Refusals) (m : Contents) (batches : List Batch) (answers : List (Result ℕ Fault)) → AreGroupAnswers folders p old new m batches answers → StorageRefusalsRoseBy (count_by is_io answers) old new
+batches_rose folders p old new m [] [] are = omega (arith, are.0)
+batches_rose folders p old new m [] (a ∷ answers) are = absurd are
+batches_rose folders p old new m (b ∷ batches) [] are = absurd are
+batches_rose folders p old new m (b ∷ batches) (Ok len ∷ answers) are =
     subst (λ (n : ℕ). StorageRefusalsRoseBy n old new) (sym (sum_by-append (λ (r : Result ℕ Fault). cond (is_io r) 1 0) (Ok len ∷ []) answers))
-    (more_rose false (count_by is_io answers) old old new (omega arith, omega arith) (λ io. absurd (let clash = io in cc)) (batches_rose folder p old new (after_batch m b) batches answers are.2))
-batches_rose folder p old new m (b ∷ batches) (Err e ∷ answers) are =
+    (more_rose false (count_by is_io answers) old old new (omega arith, omega arith) (λ io. absurd (let clash = io in cc)) (batches_rose folders p old new (after_batch m b) batches answers are.2))
+batches_rose folders p old new m (b ∷ batches) (Err e ∷ answers) are =
     subst (λ (n : ℕ). StorageRefusalsRoseBy n old new) (sym (sum_by-append (λ (r : Result ℕ Fault). cond (is_io r) 1 0) (Err e ∷ []) answers))
-    (more_rose (is_io {T = ℕ} (Err e)) (count_by is_io answers) old are.0 new are.2 (refused_rose folder p m b old are.0 e are.1) (batches_rose folder p are.0 new m batches answers are.3))
+    (more_rose (is_io {T = ℕ} (Err e)) (count_by is_io answers) old are.0 new are.2 (refused_rose folders p m b old are.0 e are.1) (batches_rose folders p are.0 new m batches answers are.3))
 
 -- an engine's write of the batches is answered as the operation
 module _ {F H R W : Type 0} {g : Ghosts F H R W} (parts : Vec Part Global) (views after : List BatchView) (flags : List Bool) (old new : Engine F H R W g) (built : batches_of_parts parts.items ≡ Some (items_of views)) (flags_are : flags ≡ map (λ (part : Part). part.1) parts.items) where
@@ -147,7 +147,7 @@ module _ {F H R W : Type 0} {g : Ghosts F H R W} (parts : Vec Part Global) (view
   batches = items_of views
 
   abbrev pub IsCause : Result (Vec (Result ℕ Fault) Global) Fault → Type 0
-  IsCause result = IfErr result (group.IsGroupRefusal (folder_of old) (length views) (length flags) (has_failed old) (has_failed new) (refusals_of old) (refusals_of new))
+  IsCause result = IfErr result (group.IsGroupRefusal (folders_of old) (length views) (length flags) (has_failed old) (has_failed new) (refusals_of old) (refusals_of new))
 
   abbrev pub IsOk : Result (Vec (Result ℕ Fault) Global) Fault → Type 0
   IsOk result = IfOk result (λ answers. HasWrittenGroup batches (items_of after) old new answers.items)
@@ -173,11 +173,11 @@ module _ {F H R W : Type 0} {g : Ghosts F H R W} (parts : Vec Part Global) (view
     | inl gone ↦ absurd (same_failure answers (failed gone))
     | inr stands ↦
         subst (λ (o : Option (List Batch)). IsSomeAnd o (λ l. AreBatchAnswers m l answers.items)) (sym built)
-        (subst (λ (c : Contents). AreBatchAnswers c batches answers.items) (sym (same stands)) (batch_answers (folder_of old) (queue_of new) (refusals_of old) (refusals_of new) (contents_of old) batches answers.items ok.answered))
+        (subst (λ (c : Contents). AreBatchAnswers c batches answers.items) (sym (same stands)) (batch_answers (folders_of old) (queue_of new) (refusals_of old) (refusals_of new) (contents_of old) batches answers.items ok.answered))
   ]
   group_answered m same (Err e) ok failed cause = by_fault e cause
     where
-      by_fault : (e : Fault) → group.IsGroupRefusal (folder_of old) (length views) (length flags) (has_failed old) (has_failed new) (refusals_of old) (refusals_of new) e → IsGroupRefusal parts.items e
+      by_fault : (e : Fault) → group.IsGroupRefusal (folders_of old) (length views) (length flags) (has_failed old) (has_failed new) (refusals_of old) (refusals_of new) e → IsGroupRefusal parts.items e
       by_fault (fault.InvalidArgument text) h = absurd (h.1 same_count)
       by_fault fault.Failed h = subst IsSome (sym built) refl
       by_fault (fault.Io kind path) h = subst IsSome (sym built) refl
@@ -197,7 +197,7 @@ module _ {F H R W : Type 0} {g : Ghosts F H R W} (parts : Vec Part Global) (view
       told (Err fault.Failed) cause failure = cause
       told (Err _) cause failure = absurd (let clash = failure in cc)
 
-      by_fault : (e : Fault) → group.IsGroupRefusal (folder_of old) (length views) (length flags) (has_failed old) (has_failed new) (refusals_of old) (refusals_of new) e → has_failed old ≡ false → IsStorageOrMemory e
+      by_fault : (e : Fault) → group.IsGroupRefusal (folders_of old) (length views) (length flags) (has_failed old) (has_failed new) (refusals_of old) (refusals_of new) e → has_failed old ≡ false → IsStorageOrMemory e
       by_fault (fault.InvalidArgument text) h alive = absurd (h.1 same_count)
       by_fault fault.Failed h alive = absurd (let clash = sym h ∙ alive in cc)
       by_fault (fault.Io kind path) h alive = tt
@@ -209,7 +209,7 @@ module _ {F H R W : Type 0} {g : Ghosts F H R W} (parts : Vec Part Global) (view
       caused (Err e) ok cause alive fails = by_fault e cause alive
 
   pub group_refuses : (result : Result (Vec (Result ℕ Fault) Global) Fault) → IsOk result → IsCause result → NoFewer (refusals_of old) (refusals_of new) → Refuses (Sizes result) (refusals_of old) (refusals_of new)
-  group_refuses (Ok answers) ok cause counts = (counts, batches_rose (folder_of old) (queue_of new) (refusals_of old) (refusals_of new) (contents_of old) batches answers.items ok.answered)
+  group_refuses (Ok answers) ok cause counts = (counts, batches_rose (folders_of old) (queue_of new) (refusals_of old) (refusals_of new) (contents_of old) batches answers.items ok.answered)
   group_refuses (Err (fault.Io kind path)) ok cause counts = (counts, λ io. cause.3.0)
   group_refuses (Err fault.TryAgain) ok cause counts = absurd cause.2
   group_refuses (Err _) ok cause counts = (counts, λ io. absurd (let clash = io in cc))
@@ -220,7 +220,7 @@ module _ {F H R W : Type 0} {g : Ghosts F H R W} (parts : Vec Part Global) (view
   -- what it has done
   pub does_group : (result : Result (Vec (Result ℕ Fault) Global) Fault)
       → MatchResult result (λ answers. Progresses (accepted_in answers.items batches) (list_any (λ (flag : Bool). flag) flags) [] (durability_of old) (durability_of new)) (λ _. FailsWithChoice batches old new)
-      → HoldsThroughout (moments_of old) (moments_of new) (directory_of new) (LeavesChoice (folder_of old) (durable_of old) (unsynced_of old) (contents_of old) batches)
+      → HoldsThroughout (moments_of old) (moments_of new) (directory_of new) (LeavesChoice (folders_of old) (durable_of old) (unsynced_of old) (contents_of old) batches)
       → answered_of new ≡ answer_now (written_in batches) new ∷ answered_of old → (has_failed old ≡ true → moments_of new ≡ moments_of old) → Does (WriteGroup parts) (Sizes result) old new
   does_group result progress moments answered stays = by_result result (subst (λ (l : List Batch). IsProgress l result) (sym group_is) progress)
     where
@@ -232,7 +232,7 @@ module _ {F H R W : Type 0} {g : Ghosts F H R W} (parts : Vec Part Global) (view
         noted = answered ∙ ap (λ (l : List Batch). answer_now (written_in l) new ∷ answered_of old) (sym group_is);
         moments = λ alive. passes_weaker _ _ (moments_of old) (moments_of new) (directory_of new)
             (λ x leaves. ∥∥₁_map leaves (λ (choice, allowed). (chosen_of (contents_of old) choice (group_batches parts.items), ∣ (choice, refl) ∣₁, allowed)))
-            (subst (λ (l : List Batch). HoldsThroughout (moments_of old) (moments_of new) (directory_of new) (LeavesChoice (folder_of old) (durable_of old) (unsynced_of old) (contents_of old) l)) (sym group_is) moments);
+            (subst (λ (l : List Batch). HoldsThroughout (moments_of old) (moments_of new) (directory_of new) (LeavesChoice (folders_of old) (durable_of old) (unsynced_of old) (contents_of old) l)) (sym group_is) moments);
         rests = stays;
       }
 

@@ -7,7 +7,6 @@ use Rattle.std.proofs.lemmas.List.Sums.{sum_by-append}
 use Rattle.std.proofs.Math.Seq.{take-suc}
 use Rattle.raft_env.specs.Refusal.{Refusals, StorageRefusalsRose}
 use Rattle.raft_records.specs.Contents.{Contents, after_batch, after_batches}
-use Rattle.raft_env.specs.Directory.{Path}
 use Rattle.raft_env.specs.declared.env.FileSystem.{Ghosts}
 use Rattle.raft_records.specs.Item.{Batch}
 use Rattle.raft_records.specs.Layout.{entry_bytes}
@@ -36,6 +35,7 @@ use Rattle.raft_script.specs.declared.operation.Op.TheVariants.{Write, WriteGrou
 use Rattle.raft_script.specs.declared.operation.Outcome.{Outcome}
 use Rattle.raft_script.specs.declared.operation.Outcome.TheVariants as reply
 use Rattle.raft_script.specs.declared.operation.Outcome.TheVariants.{Size, Sizes, Done, Value, Count, Index}
+use Rattle.raft_pipes.specs.Folders.{Folders}
 
 -- items before others, where there are both
 abbrev with_items : Option Batch → Option Batch → Option Batch
@@ -111,8 +111,8 @@ of_built : (P : Batch → Type 0) (acts : List Act) (items : Batch) → batch_of
 of_built P acts items built h = subst (λ (o : Option Batch). IsSomeAnd o P) (sym built) h
 
 -- an engine's write of such a batch is answered as the operation
-module _ {F H R W : Type 0} {g : Ghosts F H R W} (acts : List Act) (items rest : Batch) (folder : Path) (m : Contents) (old new : Engine F H R W g) (built : batch_of_acts acts ≡ Some items) (same : has_failed old ≡ false → m ≡ contents_of old) where
-  pub write_answered : (result : Result ℕ Fault) → IfOk result (HasWritten items rest old new) → ((result ≡ Err fault.Failed) ↔ (has_failed old ≡ true)) → IfErr result (λ e. has_failed old ≡ false → engine.IsWriteRefusal folder (queue_of new) (contents_of old) items (has_failed new) (refusals_of old) (refusals_of new) e) →
+module _ {F H R W : Type 0} {g : Ghosts F H R W} (acts : List Act) (items rest : Batch) (folders : Folders) (m : Contents) (old new : Engine F H R W g) (built : batch_of_acts acts ≡ Some items) (same : has_failed old ≡ false → m ≡ contents_of old) where
+  pub write_answered : (result : Result ℕ Fault) → IfOk result (HasWritten items rest old new) → ((result ≡ Err fault.Failed) ↔ (has_failed old ≡ true)) → IfErr result (λ e. has_failed old ≡ false → engine.IsWriteRefusal folders (queue_of new) (contents_of old) items (has_failed new) (refusals_of old) (refusals_of new) e) →
       MatchResult result (IsWritten m acts) (IsWriteRefusal m acts)
   write_answered (Ok len) written failed cause = elim (cases_Bool (has_failed old)) [
     | inl gone ↦ absurd (let clash = failed.1 gone in cc)
@@ -120,10 +120,10 @@ module _ {F H R W : Type 0} {g : Ghosts F H R W} (acts : List Act) (items rest :
   ]
   write_answered (Err e) written failed cause = elim (cases_Bool (has_failed old)) [
     | inl gone ↦ let is : e ≡ fault.Failed = same_err (Err e) refl (failed.1 gone) in subst (IsWriteRefusal m acts) (sym is) (subst IsSome (sym built) refl)
-    | inr stands ↦ by_fault e (subst (λ (c : Contents). engine.IsWriteRefusal folder (queue_of new) c items (has_failed new) (refusals_of old) (refusals_of new) e) (sym (same stands)) (cause stands))
+    | inr stands ↦ by_fault e (subst (λ (c : Contents). engine.IsWriteRefusal folders (queue_of new) c items (has_failed new) (refusals_of old) (refusals_of new) e) (sym (same stands)) (cause stands))
   ]
     where
-      by_fault : (e : Fault) → engine.IsWriteRefusal folder (queue_of new) m items (has_failed new) (refusals_of old) (refusals_of new) e → IsWriteRefusal m acts e
+      by_fault : (e : Fault) → engine.IsWriteRefusal folders (queue_of new) m items (has_failed new) (refusals_of old) (refusals_of new) e → IsWriteRefusal m acts e
       by_fault (fault.Io kind path) h = of_built (engine.IsWritable m) acts items built h.0
       by_fault fault.TryAgain h = of_built (engine.IsWritable m) acts items built h.0
       by_fault fault.Memory h = tt
@@ -135,20 +135,20 @@ module _ {F H R W : Type 0} {g : Ghosts F H R W} (acts : List Act) (items rest :
       by_fault _ h = absurd h.1
 
 -- .. and so is a compaction
-module _ (m n : Contents) (group index : ℕ) (failed : Bool) (folder : Path) (old new : Refusals) (same : failed ≡ false → m ≡ n) where
-  engine_refusal : (e : Fault) → IsRefusalIn folder old new e → IsEngineRefusal e
+module _ (m n : Contents) (group index : ℕ) (failed : Bool) (folders : Folders) (old new : Refusals) (same : failed ≡ false → m ≡ n) where
+  engine_refusal : (e : Fault) → IsRefusalIn folders old new e → IsEngineRefusal e
   engine_refusal (fault.Io kind path) h = tt
   engine_refusal fault.Memory h = tt
   engine_refusal _ h = absurd h
 
-  append_refusal : (p : PipeState) (fails : Bool) (e : Fault) → engine.IsAppendRefusal folder p fails old new e → IsCompactRefusal e
+  append_refusal : (p : PipeState) (fails : Bool) (e : Fault) → engine.IsAppendRefusal folders p fails old new e → IsCompactRefusal e
   append_refusal p fails (fault.Io kind path) h = tt
   append_refusal p fails fault.TryAgain h = tt
   append_refusal p fails fault.Memory h = tt
   append_refusal p fails fault.Range h = tt
   append_refusal p fails _ h = absurd h
 
-  pub compaction_answered : (p : PipeState) (fails : Bool) (result : Result ℕ Fault) → IfOk result (λ count. count ≡ compact_count index (n.entries group)) → ((result ≡ Err fault.Failed) ↔ (failed ≡ true)) → IfErr result (λ e. failed ≡ false → engine.IsAppendRefusal folder p fails old new e)
+  pub compaction_answered : (p : PipeState) (fails : Bool) (result : Result ℕ Fault) → IfOk result (λ count. count ≡ compact_count index (n.entries group)) → ((result ≡ Err fault.Failed) ↔ (failed ≡ true)) → IfErr result (λ e. failed ≡ false → engine.IsAppendRefusal folders p fails old new e)
       → MatchResult result (λ count. count ≡ compact_count index (m.entries group)) IsCompactRefusal
   compaction_answered p fails (Ok count) is told cause = elim (cases_Bool failed) [
     | inl gone ↦ absurd (let clash = told.1 gone in cc)
@@ -161,7 +161,7 @@ module _ (m n : Contents) (group index : ℕ) (failed : Bool) (folder : Path) (o
 
   -- a read of an entry
   pub entry_answered : (result : Result (Option TextEntry) Fault) → IfOk result (IsEntryAnswer IsTextOf index_of index (entry_of n group index)) → ((result ≡ Err fault.Failed) ↔ (failed ≡ true))
-      → IfErr result (λ e. failed ≡ false → IsEntryRefusalAt IsTextOf index_of index (entry_of n group index) e ⊎ IsRefusalIn folder old new e)
+      → IfErr result (λ e. failed ≡ false → IsEntryRefusalAt IsTextOf index_of index (entry_of n group index) e ⊎ IsRefusalIn folders old new e)
       → MatchResult result (IsEntryAnswer IsTextOf index_of index (entry_of m group index)) (IsTextRefusal index (entry_of m group index))
   entry_answered (Ok found) is fails cause = elim (cases_Bool failed) [
     | inl gone ↦ absurd (let clash = fails.1 gone in cc)
@@ -184,7 +184,7 @@ module _ (m n : Contents) (group index : ℕ) (failed : Bool) (folder : Path) (o
   no_entry_again (Some bytes) told = told
 
   -- .. that storage fails is counted
-  pub entry_rose : (result : Result (Option TextEntry) Fault) → ((result ≡ Err fault.Failed) ↔ (failed ≡ true)) → IfErr result (λ e. failed ≡ false → IsEntryRefusalAt IsTextOf index_of index (entry_of n group index) e ⊎ IsRefusalIn folder old new e)
+  pub entry_rose : (result : Result (Option TextEntry) Fault) → ((result ≡ Err fault.Failed) ↔ (failed ≡ true)) → IfErr result (λ e. failed ≡ false → IsEntryRefusalAt IsTextOf index_of index (entry_of n group index) e ⊎ IsRefusalIn folders old new e)
       → is_io result ≡ true → StorageRefusalsRose old new
   entry_rose (Ok found) fails cause io = absurd cc
   entry_rose (Err (fault.Io kind path)) fails cause io = elim (cases_Bool failed) [
@@ -204,23 +204,23 @@ module _ (m n : Contents) (group index : ℕ) (failed : Bool) (folder : Path) (o
   entry_rose (Err _) fails cause io = absurd cc
 
 -- a compaction fails an engine by storage or for lack of memory alone
-pub compaction_fails : (P R : Type 0) (Q : Fault → Type 0) (failed fails : Bool) (folder : Path) (p : PipeState) (old new : Refusals) (result : Result ℕ Fault) → MatchResult result (λ _. (fails ≡ false) × P × R) Q → ((result ≡ Err fault.Failed) ↔ (failed ≡ true)) → (failed ≡ true → fails ≡ true)
-    → IfErr result (λ e. failed ≡ false → engine.IsAppendRefusal folder p fails old new e) → FailsBy failed result fails (λ _. ⊥)
-compaction_fails P R Q failed fails folder p old new result ok told still cause = record {
+pub compaction_fails : (P R : Type 0) (Q : Fault → Type 0) (failed fails : Bool) (folders : Folders) (p : PipeState) (old new : Refusals) (result : Result ℕ Fault) → MatchResult result (λ _. (fails ≡ false) × P × R) Q → ((result ≡ Err fault.Failed) ↔ (failed ≡ true)) → (failed ≡ true → fails ≡ true)
+    → IfErr result (λ e. failed ≡ false → engine.IsAppendRefusal folders p fails old new e) → FailsBy failed result fails (λ _. ⊥)
+compaction_fails P R Q failed fails folders p old new result ok told still cause = record {
   still = still;
   only_failed = told.0;
   refused = λ gone. inl (told.1 gone);
   cause = caused result ok cause;
 }
   where
-    by_fault : (e : Fault) → engine.IsAppendRefusal folder p fails old new e → fails ≡ true → IsStorageOrMemory e
+    by_fault : (e : Fault) → engine.IsAppendRefusal folders p fails old new e → fails ≡ true → IsStorageOrMemory e
     by_fault (fault.Io kind path) h dies = tt
     by_fault fault.Memory h dies = tt
     by_fault fault.Range h dies = absurd (let clash = sym dies ∙ h.1 in cc)
     by_fault fault.TryAgain h dies = absurd (let clash = sym dies ∙ h.1 in cc)
     by_fault _ h dies = absurd h
 
-    caused : (result : Result ℕ Fault) → MatchResult result (λ _. (fails ≡ false) × P × R) Q → IfErr result (λ e. failed ≡ false → engine.IsAppendRefusal folder p fails old new e) → failed ≡ false → fails ≡ true → IsErrAnd result IsStorageOrMemory
+    caused : (result : Result ℕ Fault) → MatchResult result (λ _. (fails ≡ false) × P × R) Q → IfErr result (λ e. failed ≡ false → engine.IsAppendRefusal folders p fails old new e) → failed ≡ false → fails ≡ true → IsErrAnd result IsStorageOrMemory
     caused (Ok count) ok cause alive dies = absurd (let clash = sym dies ∙ ok.0 in cc)
     caused (Err e) ok cause alive dies = by_fault e (cause alive) dies
 

@@ -3,12 +3,13 @@ use Rattle.std.specs.Prelude.{◌≡◌, ◌⊎◌, ℕ, Bool, true, false, List
 use Rattle.std.specs.declared.alloc.Global.{Global}
 use Rattle.raft_base.specs.declared.errors.Fault.{Fault}
 use Rattle.raft_base.specs.declared.errors.Fault.TheVariants as fault
-use Rattle.raft_env.specs.Directory.{CrashImage, Leaves, Path}
+use Rattle.raft_env.specs.Directory.{CrashImage, Leaves}
 use Rattle.raft_env.specs.declared.env.FileSystem.{Ghosts}
 use Rattle.raft_log_engine.specs.declared.engine.Engine.{Engine}
-use Rattle.raft_log_engine.specs.Engine.{begun_of, contents_of, directory_of, folder_of, has_failed, is_known_in, refusals_of}
+use Rattle.raft_log_engine.specs.Engine.{begun_of, contents_of, directory_of, folders_of, has_failed, is_known_in, refusals_of}
 use Rattle.raft_log_engine.specs.Opening.{IsNewIn}
 use Rattle.raft_base.specs.declared.pipe_log.LogQueue.TheVariants.{Append}
+use Rattle.raft_pipes.specs.Folders.{Folders}
 use Rattle.raft_pipes.specs.Folder.{IsQueueSpan}
 use Rattle.raft_records.specs.Contents.{Contents, after_batches, no_contents}
 use Rattle.raft_tables.specs.Known.{known_in}
@@ -23,6 +24,10 @@ use Rattle.raft_script.specs.declared.answer.Answer.TheVariants as answer
 use Rattle.raft_script.specs.declared.operation.Op.{Op}
 use Rattle.raft_script.specs.declared.operation.Outcome.{Outcome}
 
+-- the program's folder
+abbrev pub program_folders : Folders
+program_folders = record { main = codes "raft"; spill = None }
+
 module _ {F H R W : Type 0} {g : Ghosts F H R W} where
   -- the operation that does what is asked is done, and answered so by the engine
   pub record IsAnswered (asked : Asked) (outcome : Outcome) (old new : Engine F H R W g) : Type 0 where
@@ -36,32 +41,32 @@ module _ {F H R W : Type 0} {g : Ghosts F H R W} where
         → contents_of new
         ≡ after_batches (contents_of old) (accepted_of (contents_of old) op outcome)
     pub done : Does op outcome old new
-    pub folder : folder_of new ≡ folder_of old
+    pub folders : folders_of new ≡ folders_of old
     pub begun : begun_of new ≡ begun_of old
 
-  -- an engine that was just opened in this folder, and found these contents and groups there
-  pub record IsNewWith (folder : Path) (m : Contents) (known : ℕ → Bool) (e : Engine F H R W g)
+  -- an engine that was just opened in these folders, and found these contents and groups there
+  pub record IsNewWith (folders : Folders) (m : Contents) (known : ℕ → Bool) (e : Engine F H R W g)
       : Type 0 where
-    pub new : IsNewIn folder e
+    pub new : IsNewIn folders e
     pub contents : contents_of e ≡ m
     pub groups : (group : ℕ) → is_known_in e group ≡ known group
 
   -- the engine that a line meets: the one before it, or one that is opened for it and holds nothing
   abbrev pub IsMetBy : Option (Engine F H R W g) → Engine F H R W g → Type 0
-  IsMetBy None e = IsNewWith (codes "raft") no_contents (known_in []) e
+  IsMetBy None e = IsNewWith program_folders no_contents (known_in []) e
   IsMetBy (Some before) e = e ≡ before
 
   -- an engine that stood was closed, and what it held is opened again
   abbrev pub IsReopened : Engine F H R W g → Engine F H R W g → Type 0
   IsReopened old new =
       (has_failed old ≡ false)
-      × IsNewWith (folder_of old) (contents_of old) (is_known_in old) new
+      × IsNewWith (folders_of old) (contents_of old) (is_known_in old) new
 
   -- a new engine holds what a crash left of another one's files
   abbrev pub HoldsAfterCrash : Engine F H R W g → Engine F H R W g → Type 0
   HoldsAfterCrash old new = (image : CrashImage) × Leaves (directory_of old) image
-      × IsNewWith (codes "raft") (contents_after_crash (codes "raft") (directory_of old) image)
-      (known_after_crash (codes "raft") (directory_of old) image) new
+      × IsNewWith program_folders (contents_after_crash program_folders (directory_of old) image)
+      (known_after_crash program_folders (directory_of old) image) new
 
   -- a group's keys with their values, each once and in order, or why they aren't listed
   abbrev pub IsScanAnswer : Engine F H R W g → ℕ → Result (Vec (Vec ℕ Global × Vec ℕ Global) Global)
@@ -80,7 +85,7 @@ module _ {F H R W : Type 0} {g : Ghosts F H R W} where
   AnswersAsked (Scan group) (answer.Pairs result) old new = (new ≡ old) × IsScanAnswer old group result
   AnswersAsked Span (answer.Span span) old new =
       (new ≡ old)
-      × (has_failed old ≡ false → IsQueueSpan Append (folder_of old) (directory_of old) span)
+      × (has_failed old ≡ false → IsQueueSpan Append (folders_of old) (directory_of old) span)
   AnswersAsked asked (answer.Outcome outcome) old new = IsAnswered asked outcome old new
   AnswersAsked asked _ old new = ⊥
 

@@ -14,4 +14,4 @@ pub use operation::{Act, Op, Outcome, Trial};
 pub use program::{Ended, serve};
 pub use runs::run;
 pub use text_entry::TextEntry;
-pub use trials::trial;
+pub use trials::{a_folder_alone_has_no_log_path, trial};

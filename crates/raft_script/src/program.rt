@@ -1,13 +1,13 @@
 //! The program `raftlog` over any reader and writer.
-ghost use Rattle.std.specs.Prelude.{◌≡◌, false, IfOk, IfSome, List, MatchResult, None, Option, Some, codes, ℕ};
-ghost use Rattle.std.specs.String.{string_bytes};
+ghost use Rattle.std.specs.Prelude.{◌≡◌, false, IfOk, IfSome, List, MatchResult, None, Option, Some, ℕ};
 ghost use Rattle.raft_env.specs.Directory.{CrashImage, IsRestarted, Leaves};
 ghost use Rattle.raft_log_engine.specs.Engine.{contents_of, has_failed};
 ghost use Rattle.raft_memory.specs.Memory.{memory_directory};
 ghost use Rattle.raft_log_engine.specs.Contents.{contents_at, known_at};
+ghost use Rattle.raft_pipes.specs.Folders.{folders_in};
 ghost use Rattle.raft_script.specs.Line.{EndsOn, GoesOnOrEnds, IsNextLine, IsReading, asked_of, asked_of_call};
 ghost use Rattle.raft_script.specs.Entry.{range_of};
-ghost use Rattle.raft_script.specs.Program.{AnswersFrom, AnswersLine, HoldsAfterCrash, IsAnswered, IsMetBy, IsNewWith, IsReopened, OpensTo};
+ghost use Rattle.raft_script.specs.Program.{AnswersFrom, AnswersLine, HoldsAfterCrash, IsAnswered, IsMetBy, IsNewWith, IsReopened, OpensTo, program_folders};
 
 use crate::answer::{Answer, print};
 use crate::line::{Call, CrashChoice, Line, parse_line};
@@ -18,7 +18,6 @@ use raft_env::FileSystem;
 use raft_log_engine::laws::crash_leaves_contents;
 use raft_log_engine::{Config, Engine, Refused};
 use raft_memory::{Choice, MemoryFileSystem};
-use raft_queues::laws::crash_leaves_a_prefix;
 use raft_records::{Fault, Fresh, LogQueue, ReadableSize};
 use std::alloc::{AllocError, Global};
 use std::io;
@@ -200,7 +199,7 @@ fn range_of<F: FileSystem>(engine: &Engine<F>, group: u64) -> Option<(u64, u64)>
 }
 
 fn settings(alloc: Global) -> Result<Config, AllocError>
-    ensures folder { IfOk result (λ config. string_bytes config.dir ≡ codes "raft") }
+    ensures folder { IfOk result (λ config. folders_in config ≡ program_folders) }
 {
     let mut config = Config::fresh(alloc);
     config.dir.push_str(FOLDER)?;
@@ -212,7 +211,6 @@ fn settings(alloc: Global) -> Result<Config, AllocError>
 fn open(alloc: Global) -> Result<Opening, AllocError>
     ensures value { IfOk result (λ opening. IfOk opening (IsMetBy None)) }
 {
-    crash_leaves_a_prefix();
     let config = settings(alloc)?;
     Ok(Engine::open_in_order(alloc, config, MemoryFileSystem::new(alloc)))
 }
@@ -240,7 +238,7 @@ fn open_again<F: FileSystem + Drop>(
     config: Config,
     files: F,
 ) -> Answer
-    ensures value { let dir = string_bytes config.dir in OpensTo result engine.new (IsNewWith dir
+    ensures value { let dir = folders_in config in OpensTo result engine.new (IsNewWith dir
         (contents_at dir (F.directory files)) (known_at dir (F.directory files))) }
 {
     answer_opening(engine, Engine::open_in_order(alloc, config, files))

@@ -6,7 +6,7 @@ ghost use Rattle.raft_records.specs.Item.{Batch};
 ghost use Rattle.raft_records.specs.Layout.{entry_bytes};
 ghost use Rattle.raft_log_engine.specs.Crash.{LeavesAllowed};
 ghost use Rattle.raft_log_engine.specs.Group.{items_of};
-ghost use Rattle.raft_log_engine.specs.Engine.{begun_of, contents_of, directory_of, durable_of, folder_of, has_failed, refusals_of, unsynced_of};
+ghost use Rattle.raft_log_engine.specs.Engine.{begun_of, contents_of, directory_of, durable_of, folders_of, has_failed, refusals_of, unsynced_of};
 ghost use Rattle.raft_script.specs.Durability.{AreAllowedInside, Does, HaveRun, IsAnswerOf, Runs};
 ghost use Rattle.raft_script.specs.Run.{IsUnbuilt, IsUnbuiltGroup, IsFailing, IsUnasked, Refuses, accepted_of, batch_of_acts, batches_of_parts, items_of_act};
 
@@ -39,7 +39,7 @@ pub(crate) struct RunReport {
 ///
 /// After the operations the accepted batches that are covered are durable, and no more, and the others stand
 /// unsynced. At least as many calls as answer `Io` were refused by storage. Where all operations are reads, but of
-/// entries, and writes of acts without a batch, the engine stays as it was. The settings' folder stays, and so does
+/// entries, and writes of acts without a batch, the engine stays as it was. The settings' folders stay, and so does
 /// the engine's note of the files that its opening found.
 pub fn run<F: FileSystem>(
     alloc: Global,
@@ -49,10 +49,10 @@ pub fn run<F: FileSystem>(
     ensures any_moment { IfOk result (λ outcomes.
         AreAllowedInside ops.now outcomes.items engine.old engine.new) }
     ensures ok { IfOk result (λ outcomes. HaveRun ops.now outcomes.items engine.old engine.new) }
-    ensures left { LeavesAllowed (folder_of engine.new) (durable_of engine.new)
+    ensures left { LeavesAllowed (folders_of engine.new) (durable_of engine.new)
         (unsynced_of engine.new) (directory_of engine.new) }
     ensures unchanged { All IsUnasked ops.now → engine.new ≡ engine.old }
-    ensures folder { folder_of engine.new ≡ folder_of engine.old }
+    ensures folder { folders_of engine.new ≡ folders_of engine.old }
     ensures others { begun_of engine.new ≡ begun_of engine.old }
     ensures err { OnErr result (engine.new ≡ engine.old) }
     ensures cause { IfErr result (λ e. e ≡ Fault.Memory) }
@@ -70,10 +70,10 @@ pub(crate) fn run_watched<F: FileSystem>(
         AreAllowedInside ops.now ran.outcomes.items engine.old engine.new) }
     ensures ok { IfOk result (λ ran.
         Runs ops.now ran.outcomes.items ran.failed_at engine.old engine.new) }
-    ensures left { LeavesAllowed (folder_of engine.new) (durable_of engine.new)
+    ensures left { LeavesAllowed (folders_of engine.new) (durable_of engine.new)
         (unsynced_of engine.new) (directory_of engine.new) }
     ensures unchanged { All IsUnasked ops.now → engine.new ≡ engine.old }
-    ensures folder { folder_of engine.new ≡ folder_of engine.old }
+    ensures folder { folders_of engine.new ≡ folders_of engine.old }
     ensures others { begun_of engine.new ≡ begun_of engine.old }
     ensures err { OnErr result (engine.new ≡ engine.old) }
     ensures cause { IfErr result (λ e. e ≡ Fault.Memory) }
@@ -106,7 +106,7 @@ pub(crate) fn step<F: FileSystem>(alloc: Global, engine: &mut Engine<F>, op: &Op
         ≡ after_batches (contents_of engine.old)
         (accepted_of (contents_of engine.old) op.now result) }
     ensures progress { Does op.now result engine.old engine.new }
-    ensures folder { folder_of engine.new ≡ folder_of engine.old }
+    ensures folder { folders_of engine.new ≡ folders_of engine.old }
     ensures others { begun_of engine.new ≡ begun_of engine.old }
 {
     match op {

@@ -1,17 +1,17 @@
 //! Operations over files in memory, then a crash, then an opening.
 ghost use Rattle.std.specs.Prelude.{◌≡◌, ◌⊎◌, None, List, [], ◌∷◌, ◌++◌, IfOk, IfErr};
-ghost use Rattle.std.specs.String.{string_bytes};
 ghost use Rattle.raft_base.specs.Fault.{fault_code};
-ghost use Rattle.raft_env.specs.Directory.{Directory, HasFile};
+ghost use Rattle.raft_env.specs.Directory.{Directory};
 ghost use Rattle.raft_memory.specs.Choice.{NameNoBytes};
+ghost use Rattle.raft_pipes.specs.Folders.{Folders, folders_in};
 ghost use Rattle.raft_pipes.specs.Sanitized.{IsContradiction, contradiction};
 ghost use Rattle.raft_memory.specs.Memory.{memory_directory, memory_moments, no_files, stop_of};
 ghost use Rattle.raft_log_engine.specs.Image.{IsImageOf};
 ghost use Rattle.raft_log_engine.specs.Contents.{contents_at, known_at};
 ghost use Rattle.raft_log_engine.specs.Crash.{RecoversContents};
-ghost use Rattle.raft_log_engine.specs.Queues.{AreOpenableIn, ReadCompletedRecordsIn};
+ghost use Rattle.raft_log_engine.specs.Queues.{AreClear, AreOpenableIn, AreSingleIn, ReadCompletedRecordsIn};
 ghost use Rattle.raft_script.specs.Run.{IsStorageOrMemory};
-ghost use Rattle.raft_script.specs.Trial.{AreNotAllowed, IsLogRefusal, IsTrialOf, LeavesDetectable, RunsOver};
+ghost use Rattle.raft_script.specs.Trial.{AreNotAllowed, HaveNoLogPath, IsLogRefusal, IsTrialOf, LeavesDetectable, RunsOver};
 
 use crate::operation::{Op, Trial};
 use crate::runs::{RunReport, run_watched};
@@ -25,11 +25,11 @@ use std::alloc::Global;
 
 /// Opens a log in memory, does the operations, crashes, and opens again. From the first opening on the calls that may
 /// change files are counted from 1, and from the one at `stop` on each fails; the opening after the crash has no
-/// stop. The choices say what the crash leaves; bytes that storage doesn't allow are refused, and no others. Where
-/// the damage of what it leaves is detectable, a tolerant opening fails by storage or for lack of memory alone; any
-/// other opening only for these, for what is left of the log, or where settings contradict one another. The damage is
-/// detectable where an engine answered and didn't fail, and the choices leave each file whole, as it is at the crash
-/// or as it was synced.
+/// stop. The choices say what the crash leaves; bytes that storage doesn't allow are refused, and no others. No folder
+/// may have the path of a log file (`HaveNoLogPath`), or each opening fails. Then where the damage of what the crash
+/// leaves is detectable, a tolerant opening fails by storage or for lack of memory alone; any other opening only for
+/// these, for what is left of the log, or where settings contradict one another. The damage is detectable where an
+/// engine answered and didn't fail, and the choices leave each file whole, as it is at the crash or as it was synced.
 pub fn trial(
     alloc: Global,
     config: Config,
@@ -41,7 +41,7 @@ pub fn trial(
         (IsTrialOf config ops.now stop choices.now) }
     ensures cause { IfErr result (λ e. (e ≡ Fault.Memory)
         ⊎ ((fault_code e ≡ 1) × (NameNoBytes choices.now → ⊥)
-        × AreNotAllowed (string_bytes config.dir) ops.now stop choices.now)) }
+        × AreNotAllowed (folders_in config) ops.now stop choices.now)) }
 {
     a_queue_recovers_its_batches();
     crash_leaves_a_prefix();
@@ -55,6 +55,11 @@ pub fn trial(
         opened: open_image(alloc, again, left),
     })
 }
+
+/// A folder alone hasn't the path of a log file: of it all that is said of a trial is true.
+pub fn a_folder_alone_has_no_log_path()
+    ensures one { (folders : Folders) → folders.spill ≡ None → HaveNoLogPath folders }
+{}
 
 fn new_files(alloc: Global, stop: Option<u64>) -> MemoryFileSystem
     ensures files { memory_directory result ≡ no_files }
@@ -75,15 +80,15 @@ fn run_over<F: FileSystem + Drop>(
     files: F,
     ops: &[Op],
 ) -> Result<(RunReport, F), Fault>
-    ensures ok { IfOk result (λ r. let dir = string_bytes config.dir in
+    ensures ok { IfOk result (λ r. let dir = folders_in config in
         let found = contents_at dir (F.directory files) in
         RecoversContents dir found [] (F.directory files)
         → RunsOver dir found (known_at dir (F.directory files)) ops.now r.0.outcomes.items
         r.0.failed_at (F.directory r.1)) }
     ensures crash { IfOk result (λ r.
-        ReadCompletedRecordsIn (string_bytes config.dir) (F.directory files) → r.0.failed_at ≡ None
+        ReadCompletedRecordsIn (folders_in config) (F.directory files) → r.0.failed_at ≡ None
         → (r.0.outcomes.items ≡ [] → ⊥)
-        → LeavesDetectable (string_bytes config.dir) (F.directory r.1)) }
+        → LeavesDetectable (folders_in config) (F.directory r.1)) }
     ensures any_moment { IfOk result (λ r.
         (added : List Directory) × (F.moments r.1 ≡ added ++ F.moments files)) }
     ensures cause { IfErr result (λ e. e ≡ Fault.Memory) }
@@ -107,13 +112,14 @@ fn run_over<F: FileSystem + Drop>(
 
 fn open_image<F: FileSystem + Drop>(alloc: Global, config: Config, files: F) -> Result<Image, Fault>
     ensures value { IfOk result (λ image.
-        IsImageOf image.groups.items (contents_at (string_bytes config.dir) (F.directory files))) }
+        IsImageOf image.groups.items (contents_at (folders_in config) (F.directory files))) }
     ensures refused { contradiction config ≡ None → IfErr result (λ e.
-        AreOpenableIn config.recovery_mode (string_bytes config.dir) (F.directory files)
-        → (HasFile (F.directory files) (string_bytes config.dir) → ⊥) → IsStorageOrMemory e) }
-    ensures cause { IfErr result (λ e. (HasFile (F.directory files) (string_bytes config.dir) → ⊥)
-        → IsContradiction config e
-        ⊎ IsLogRefusal config.recovery_mode (string_bytes config.dir) (F.directory files) e) }
+        AreOpenableIn config.recovery_mode (folders_in config) (F.directory files)
+        → AreClear (folders_in config) (F.directory files)
+        → AreSingleIn (folders_in config) (F.directory files) → IsStorageOrMemory e) }
+    ensures cause { IfErr result (λ e. AreClear (folders_in config) (F.directory files)
+        → AreSingleIn (folders_in config) (F.directory files) → IsContradiction config e
+        ⊎ IsLogRefusal config.recovery_mode (folders_in config) (F.directory files) e) }
 {
     match Engine::open_in_order(alloc, config, files) {
         Ok(mut engine) => engine.image(),

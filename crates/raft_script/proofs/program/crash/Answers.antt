@@ -1,7 +1,7 @@
 use denote.Param.Send.{sendable}
-use Rattle.std.specs.String.{string_bytes}
 use Rattle.raft_memory.proofs.Sent.{memory_send, memory_sync}
 use Rattle.raft_memory.specs.Memory.{memory_directory}
+use Rattle.raft_pipes.specs.Folders.{folders_in}
 use Rattle.raft_log_engine.specs.Contents.{contents_at, known_at}
 use Rattle.raft_script.proofs.ProgramLemmas.{opens_after_crash, opens_weaker}
 use Rattle.raft_script.specs.Program.{HoldsAfterCrash, IsNewWith}
@@ -22,7 +22,7 @@ open_again-requires-sync-F c = λ κs. search (sendable, memory_sync) depth 20
 pub returns-in-Ok : goal.returns-in-Ok
 returns-in-Ok c =
     let old = c.args.opened in
-    let dir = string_bytes c.in_ok-config.config.dir in
+    let dir = folders_in c.in_ok-config.config in
     let n = memory_directory c.give_up.result in
     let m = memory_directory c.in-Ok.files in
     let left = c.in-Ok.ensures.value in

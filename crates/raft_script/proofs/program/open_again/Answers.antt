@@ -1,11 +1,11 @@
-use Rattle.std.specs.String.{string_bytes}
 use Rattle.raft_log_engine.specs.Contents.{contents_at, known_at}
 use Rattle.raft_script.proofs.ProgramLemmas.{opened_with, opens_to}
 use Rattle.raft_script.specs.Program.{IsNewWith}
+use Rattle.raft_pipes.specs.Folders.{folders_in}
 use Rattle.raft_script.proofs.program.open_again.Goals as goal
 
 pub returns : goal.returns
 returns g c =
-    let dir = string_bytes c.args.config.dir in
+    let dir = folders_in c.args.config in
     let files = g.F.FileSystem.directory c.args.files in
     record { value = opens_to (IsNewWith dir (contents_at dir files) (known_at dir files)) c.open_in_order.result c.answer_opening.result c.answer_opening.new.engine c.answer_opening.ensures.value (opened_with dir files c.open_in_order.result c.open_in_order.ensures.ok c.open_in_order.ensures.value) }

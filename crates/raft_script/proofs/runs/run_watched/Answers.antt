@@ -4,7 +4,8 @@ use Rattle.std.proofs.lemmas.List.{take_all}
 use Rattle.std.proofs.lemmas.List.Elements.{All-get_or}
 use Rattle.std.proofs.lemmas.Option.{slice_get_read}
 use Rattle.std.proofs.Math.Logic.{∥∥₁_elim, ∥∥₁_prop}
-use Rattle.raft_env.specs.Directory.{Directory, Path}
+use Rattle.raft_env.specs.Directory.{Directory}
+use Rattle.raft_pipes.specs.Folders.{Folders}
 use Rattle.raft_records.specs.Contents.{Contents, after_batches}
 use Rattle.raft_records.specs.Item.{Batch}
 use Rattle.raft_log_engine.specs.Contents.{known_from}
@@ -13,7 +14,7 @@ use Rattle.raft_script.specs.Durability.{Answers, AreAllowedInside, IsDurableAft
 use Rattle.raft_log_engine.specs.Durability.{Progresses, durability_of}
 use Rattle.raft_script.specs.Run.{AreAnswers, IsFailurePlace, IsUnasked, MayBeInFlight, accepted_of, batches_after_all, is_covering}
 use Rattle.raft_script.specs.declared.operation.Op.{Op}
-use Rattle.raft_log_engine.specs.Engine.{all_batches, answer_now, base_of, contents_of, directory_of, durable_of, folder_of, found_groups_of, found_of, has_failed, moments_of, refusals_of, snapshot_of, unsynced_of}
+use Rattle.raft_log_engine.specs.Engine.{all_batches, answer_now, base_of, contents_of, directory_of, durable_of, folders_of, found_groups_of, found_of, has_failed, moments_of, refusals_of, snapshot_of, unsynced_of}
 use Rattle.raft_log_engine.proofs.ContentsLemmas.{after-append}
 use Rattle.raft_script.proofs.RunAnswersLemmas.{allowed_more, inside_call, found_same, groups_same}
 use Rattle.raft_script.proofs.DurabilityLemmas.{IsUnderWay, batches_more, durable_after, holds_all, inside_here, leaves_after, leaves_standing, progress_more, under_way_begun, under_way_more}
@@ -67,15 +68,15 @@ loop-op-preserved g c =
     let is_given = given_same (contents_of old) (after_batches m p.batches) op (has_failed old) held does.given does.is_given in
     let way = under_way_more found m p c.args.ops.now c.loop-op.op-index c.loop-op.failed_at c.if-stood.failed_at (durability_of old) kept.4 op outcome flight (durability_of new) next here (subst (λ (f : Contents). MayBeInFlight (after_batches f (all_batches old)) op flight) before does.may_be) progress holds still in
     let now = (g.met.F.FileSystem g.world.𝓛 g.world.𝓜 g.world.𝓡 ((λ s allowed. allowed), (λ patient. patient), (λ solo. solo), (λ cuts. cuts))).now_counts new.file_system in
-    let leaves = subst (λ (f : Path). LeavesAllowed f (durable_of new) (unsynced_of new) (directory_of new)) (step.folder ∙ kept.3) law.crash in
-    let newest : (x : Directory) (earlier : List Directory) → moments_of new ≡ x ∷ earlier → LeavesAllowed (folder_of begun) (durable_of new) (unsynced_of new) x = λ x earlier moments.
-    let same : directory_of new ≡ x = cc now.1 in subst (λ (y : Directory). LeavesAllowed (folder_of begun) (durable_of new) (unsynced_of new) y) same leaves in
-    let inside = λ (asks : Answers op does.given old new). inside_call (folder_of begun) m p op outcome (snapshot_of old) (answer_now does.given new) is_given (LeavesInFlight op old) (directory_of new)
+    let leaves = subst (λ (f : Folders). LeavesAllowed f (durable_of new) (unsynced_of new) (directory_of new)) (step.folder ∙ kept.3) law.crash in
+    let newest : (x : Directory) (earlier : List Directory) → moments_of new ≡ x ∷ earlier → LeavesAllowed (folders_of begun) (durable_of new) (unsynced_of new) x = λ x earlier moments.
+    let same : directory_of new ≡ x = cc now.1 in subst (λ (y : Directory). LeavesAllowed (folders_of begun) (durable_of new) (unsynced_of new) y) same leaves in
+    let inside = λ (asks : Answers op does.given old new). inside_call (folders_of begun) m p op outcome (snapshot_of old) (answer_now does.given new) is_given (LeavesInFlight op old) (directory_of new)
     (λ x alive allowed. ∥∥₁_elim allowed ∥∥₁_prop (λ (some, may_be, leaves).
-    inside_here found m p c.args.ops.now c.loop-op.op-index c.loop-op.failed_at c.if-stood.failed_at (durability_of old) kept.4 op outcome some (durability_of new) next (folder_of begun) x (subst (λ (f : Contents). MayBeInFlight (after_batches f (all_batches old)) op some) before may_be) holds alive
-    (subst (λ (f : Contents). LeavesAllowed (folder_of begun) (after_batches f (base_of old)) (unsynced_of old ++ some) x) before (subst (λ (f : Path). LeavesAllowed f (durable_of old) (unsynced_of old ++ some) x) kept.3 leaves))))
+    inside_here found m p c.args.ops.now c.loop-op.op-index c.loop-op.failed_at c.if-stood.failed_at (durability_of old) kept.4 op outcome some (durability_of new) next (folders_of begun) x (subst (λ (f : Contents). MayBeInFlight (after_batches f (all_batches old)) op some) before may_be) holds alive
+    (subst (λ (f : Contents). LeavesAllowed (folders_of begun) (after_batches f (base_of old)) (unsynced_of old ++ some) x) before (subst (λ (f : Folders). LeavesAllowed f (durable_of old) (unsynced_of old ++ some) x) kept.3 leaves))))
     asks.moments asks.rests
-    (λ stands x earlier moments. leaves_standing (folder_of begun) found m (progress_after m p op outcome) c.args.ops.now c.if-stood.failed_at (durability_of new) way stands x (subst (λ (f : Contents). LeavesAllowed (folder_of begun) (after_batches f (base_of new)) (unsynced_of new) x) after (newest x earlier moments))) step.failed in
+    (λ stands x earlier moments. leaves_standing (folders_of begun) found m (progress_after m p op outcome) c.args.ops.now c.if-stood.failed_at (durability_of new) way stands x (subst (λ (f : Contents). LeavesAllowed (folders_of begun) (after_batches f (base_of new)) (unsynced_of new) x) after (newest x earlier moments))) step.failed in
     let allowed = allowed_more ops outcomes op outcome begun old new kept.5 does.given does.answers inside in
     let way_more = subst (λ (q : Progress). IsUnderWay found m q c.args.ops.now c.if-stood.failed_at (durability_of new)) (sym (progress_more m first ops outcomes op outcome kept.0.len)) way in
     let next_here = subst (λ (k : ℕ). IsNextPlace (has_failed old) fails k c.loop-op.failed_at c.if-stood.failed_at) (sym done) next in
@@ -95,7 +96,7 @@ loop-op-preserved g c =
       rw (taken, c.in_ok-push.ensures.items) place.1,
       rw c.in_ok-push.ensures.items (rose_more outcomes outcome (refusals_of begun) (refusals_of old) (refusals_of new) kept.8 step.refused),
       λ none. step.unchanged (subst IsUnasked (sym c.op-item.is) (All-get_or IsUnasked c.args.ops.now c.loop-op.op-index op c.loop-op-test.true none)) ∙ kept.9 none,
-      record { leaves = subst (λ (f : Contents). LeavesAllowed (folder_of new) (after_batches f (base_of new)) (unsynced_of new) (directory_of new)) after law.crash; holds = λ alive. after-append found (base_of new) (unsynced_of new) },
+      record { leaves = subst (λ (f : Contents). LeavesAllowed (folders_of new) (after_batches f (base_of new)) (unsynced_of new) (directory_of new)) after law.crash; holds = λ alive. after-append found (base_of new) (unsynced_of new) },
       step.others ∙ kept.11,
       rw (taken, c.in_ok-push.ensures.items) answers,
     )
@@ -137,7 +138,7 @@ returns-clause-ok g c =
       failures = (kept.6, subst (λ (l : List Op). IsFailurePlace (has_failed old) l outcomes failed_at) whole kept.7);
       counted = kept.8;
       batches = running.batches;
-      now = leaves_after (found_of old) (durable_of old) (unsynced_of old) ops outcomes failed_at (durability_of e) way (folder_of old) (directory_of e) (subst (λ (f : Path). LeavesAllowed f (after_batches (found_of old) (base_of e)) (unsynced_of e) (directory_of e)) kept.3 kept.10.leaves);
+      now = leaves_after (found_of old) (durable_of old) (unsynced_of old) ops outcomes failed_at (durability_of e) way (folders_of old) (directory_of e) (subst (λ (f : Folders). LeavesAllowed f (after_batches (found_of old) (base_of e)) (unsynced_of e) (directory_of e)) kept.3 kept.10.leaves);
       progress = subst (λ (f : Contents). IsDurableAfter failed_at (durable_of old) (unsynced_of old) ops outcomes (after_batches f (base_of e)) (unsynced_of e)) (sym (found_same e old kept.3 kept.11)) (durable_after (found_of old) (durable_of old) (unsynced_of old) ops outcomes failed_at (durability_of e) way);
     }
 
@@ -151,4 +152,4 @@ pub returns-clause-left : goal.returns-clause-left
 returns-clause-left g c =
     let e = c.loop-op.engine in
     let kept = c.loop-op.invariant in
-    subst (λ (f : Contents). LeavesAllowed (folder_of e) (after_batches f (base_of e)) (unsynced_of e) (directory_of e)) (sym (found_same e c.args.engine.now kept.3 kept.11)) kept.10.leaves
+    subst (λ (f : Contents). LeavesAllowed (folders_of e) (after_batches f (base_of e)) (unsynced_of e) (directory_of e)) (sym (found_same e c.args.engine.now kept.3 kept.11)) kept.10.leaves

@@ -3,7 +3,7 @@ use Rattle.std.specs.Prelude.{unwrap_or}
 use Rattle.raft_records.specs.Contents.{Contents, first_index_of, last_index_of}
 use Rattle.raft_records.specs.Item.{Batch}
 use Rattle.raft_log_engine.specs.Durability.{Durability, durability_of}
-use Rattle.raft_log_engine.specs.Engine.{answer_now, answered_of, contents_of, directory_of, durable_of, folder_of, has_failed, is_known_in, moments_of, queue_of, refusals_of, unsynced_of}
+use Rattle.raft_log_engine.specs.Engine.{answer_now, answered_of, contents_of, directory_of, durable_of, folders_of, has_failed, is_known_in, moments_of, queue_of, refusals_of, unsynced_of}
 use Rattle.raft_script.specs.Run.{IsUnbuiltGroup, Part, batch_of_acts, batches_of_parts, group_batches, items_of_acts}
 use Rattle.raft_log_engine.specs.Crash.{pending_of, written_batch}
 use Rattle.raft_script.specs.declared.operation.Op.TheVariants.{Sync, Write}
@@ -22,7 +22,7 @@ returns-in-Ok-clause-value g c =
     let write = c.write.ensures in
     let acts = c.in-Write.acts in
     let built : batch_of_acts acts.items ≡ Some c.in-Ok.batch.items = ap batch_of_acts (sym c.deref.ensures.value) ∙ c.in-Ok.ensures.value in
-    rw c.in-Write.is (λ m known is same_known. write_answered acts.items c.in-Ok.batch.items c.write.new.batch.items (folder_of c.args.engine.now) m c.args.engine.now c.write.new.self built is c.write.result write.ok write.failed write.cause)
+    rw c.in-Write.is (λ m known is same_known. write_answered acts.items c.in-Ok.batch.items c.write.new.batch.items (folders_of c.args.engine.now) m c.args.engine.now c.write.new.self built is c.write.result write.ok write.failed write.cause)
 
 pub returns-in-Ok-clause-progress : goal.returns-in-Ok-clause-progress
 returns-in-Ok-clause-progress g c =
@@ -40,7 +40,7 @@ returns-in-Ok-clause-progress g c =
       progress = written_progress (contents_of e) acts items c.in-Write.sync built c.write.result (durability_of e) (durability_of n) write.advance.progress;
       answers = inr (record {
         noted = write.answered ∙ ap (λ (given : List Batch). answer_now given n ∷ answered_of e) (ap (λ (b : Option Batch). written_batch (unwrap_or b [])) (sym built));
-        moments = λ alive. in_flight e (Write acts c.in-Write.sync) (pending_of (contents_of e) (items_of_acts acts.items)) (moments_of n) (directory_of n) refl (moments_of_batch (folder_of e) (durable_of e) (contents_of e) (unsynced_of e) items (batch_of_acts acts.items) (moments_of e) (moments_of n) (directory_of n) built write.advance.any_moment);
+        moments = λ alive. in_flight e (Write acts c.in-Write.sync) (pending_of (contents_of e) (items_of_acts acts.items)) (moments_of n) (directory_of n) refl (moments_of_batch (folders_of e) (durable_of e) (contents_of e) (unsynced_of e) items (batch_of_acts acts.items) (moments_of e) (moments_of n) (directory_of n) built write.advance.any_moment);
         rests = λ failed. (write.unchanged failed).0.moments;
       });
     })
@@ -85,14 +85,14 @@ pub returns-in-CompactTo-clause-value : goal.returns-in-CompactTo-clause-value
 returns-in-CompactTo-clause-value g c =
     let compaction = c.compact_to.ensures in
     let e = c.args.engine.now in
-    rw c.in-CompactTo.is (λ m known same same_known. compaction_answered m (contents_of e) c.in-CompactTo.group c.in-CompactTo.index (has_failed e) (folder_of e) (refusals_of e) (refusals_of c.compact_to.new.self) same (queue_of c.compact_to.new.self) (has_failed c.compact_to.new.self) c.compact_to.result compaction.value compaction.failed compaction.cause)
+    rw c.in-CompactTo.is (λ m known same same_known. compaction_answered m (contents_of e) c.in-CompactTo.group c.in-CompactTo.index (has_failed e) (folders_of e) (refusals_of e) (refusals_of c.compact_to.new.self) same (queue_of c.compact_to.new.self) (has_failed c.compact_to.new.self) c.compact_to.result compaction.value compaction.failed compaction.cause)
 
 pub returns-in-CompactTo-clause-failed : goal.returns-in-CompactTo-clause-failed
 returns-in-CompactTo-clause-failed g c =
     let compaction = c.compact_to.ensures in
     let e = c.args.engine.now in
     let n = c.compact_to.new.self in
-    rw c.in-CompactTo.is (compaction_fails _ _ _ (has_failed e) (has_failed n) (folder_of e) (queue_of n) (refusals_of e) (refusals_of n) c.compact_to.result compaction.contents compaction.failed (λ gone. (compaction.unchanged gone).failed) compaction.cause)
+    rw c.in-CompactTo.is (compaction_fails _ _ _ (has_failed e) (has_failed n) (folders_of e) (queue_of n) (refusals_of e) (refusals_of n) c.compact_to.result compaction.contents compaction.failed (λ gone. (compaction.unchanged gone).failed) compaction.cause)
 
 pub returns-in-CompactTo-clause-progress : goal.returns-in-CompactTo-clause-progress
 returns-in-CompactTo-clause-progress g c =
@@ -105,7 +105,7 @@ pub returns-in-Entry-clause-value : goal.returns-in-Entry-clause-value
 returns-in-Entry-clause-value g c =
     let e = c.args.engine.now in
     let read = c.get_entry.ensures in
-    rw c.in-Entry.is (λ m known same same_known. entry_answered m (contents_of e) c.in-Entry.group c.in-Entry.index (has_failed e) (folder_of e) (refusals_of e) (refusals_of c.get_entry.new.self) same c.get_entry.result read.value read.failed read.cause)
+    rw c.in-Entry.is (λ m known same same_known. entry_answered m (contents_of e) c.in-Entry.group c.in-Entry.index (has_failed e) (folders_of e) (refusals_of e) (refusals_of c.get_entry.new.self) same c.get_entry.result read.value read.failed read.cause)
 
 pub returns-in-Entry-clause-failed : goal.returns-in-Entry-clause-failed
 returns-in-Entry-clause-failed g c =
@@ -119,7 +119,7 @@ returns-in-Entry-clause-refused g c =
     let n = c.get_entry.new.self in
     let read = c.get_entry.ensures in (
       read.unchanged.refusals,
-      entry_rose (contents_of e) (contents_of e) c.in-Entry.group c.in-Entry.index (has_failed e) (folder_of e) (refusals_of e) (refusals_of n) (λ _. refl) c.get_entry.result read.failed read.cause,
+      entry_rose (contents_of e) (contents_of e) c.in-Entry.group c.in-Entry.index (has_failed e) (folders_of e) (refusals_of e) (refusals_of n) (λ _. refl) c.get_entry.result read.failed read.cause,
     )
 
 pub returns-in-Entry-clause-progress : goal.returns-in-Entry-clause-progress
