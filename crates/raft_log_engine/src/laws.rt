@@ -24,7 +24,7 @@ use raft_env::FileSystem;
 /// Folders that keep contents through a crash leave them then, possibly with a prefix of the batches
 /// after them, where damage is detectable. A restart after a crash finds what the crash left. Where
 /// that is sound, it keeps it, its log can be opened in each mode but the absolute one, and no
-/// folder's place is taken (`AreClear`), nor do both folders have a log file of one number
+/// folder's place is taken (`AreClear`), nor does a kept number stand in both folders
 /// (`AreSingleIn`). Where no log stands, nothing is read and nothing is kept.
 /// Files that no crash met, as an engine gave them up, stand for what a crash could leave, and their
 /// log can be opened, where their damage is detectable: what a failed write left of its record may

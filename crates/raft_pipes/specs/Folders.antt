@@ -6,13 +6,14 @@ use Rattle.std.specs.String.{string_bytes}
 use Rattle.raft_env.specs.Directory.{Path}
 use Rattle.raft_pipes.specs.declared.config.Config.{Config}
 
+-- the first folder, and a second one if there is one
 pub record Folders : Type 0 where
   -- where files are made
   pub main : Path
-  -- another one, whose files are read too
+  -- whose files are read too
   pub spill : Option Path
 
--- the other folder, unless it is the first one
+-- the second folder, unless it is the first one
 abbrev pub beside_main : Path → Option Path → List Path
 beside_main main None = []
 beside_main main (Some spill) = if bytes_eq spill main then [] else spill ∷ []

@@ -37,13 +37,13 @@ const MIN_RECOVERY_THREADS: usize = 1;
 /// How many files are kept for recycling at most.
 const MAX_SPARE_FILES: u64 = u32::MAX as u64;
 
-/// The settings of an engine. `specs/Config.antt` lists each with its default. Only `dir`, `recovery_mode`,
-/// `format_version` and `target_file_size` are used so far.
+/// The settings of an engine. `specs/Config.antt` lists each with its default. Only `dir`, `spill_dir`,
+/// `recovery_mode`, `format_version` and `target_file_size` are used so far.
 #[derive(Debug, PartialEq, Drop)]
 pub struct Config {
     /// The folder of the log files. The empty path is the root.
     pub dir: String,
-    /// A second folder for log files, where the first has no space.
+    /// A second folder, whose log files are read too. New ones are made in `dir`.
     pub spill_dir: Option<String>,
     pub recovery_mode: RecoveryMode,
     /// How many bytes an opening reads at once.

@@ -1,4 +1,4 @@
-//! A queue of log files in a folder: how it is opened, replayed and appended to.
+//! A queue of log files in the settings' folders: how it is opened, replayed and appended to.
 #![tactic(auto)]
 
 mod config;

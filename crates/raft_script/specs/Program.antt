@@ -24,7 +24,7 @@ use Rattle.raft_script.specs.declared.answer.Answer.TheVariants as answer
 use Rattle.raft_script.specs.declared.operation.Op.{Op}
 use Rattle.raft_script.specs.declared.operation.Outcome.{Outcome}
 
--- the program's folder
+-- the program's folder, and no second one
 abbrev pub program_folders : Folders
 program_folders = record { main = codes "raft"; spill = None }
 

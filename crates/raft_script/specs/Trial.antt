@@ -47,11 +47,11 @@ pub record RunsOver (folders : Folders) (m : Contents) (known : ℕ → Bool) (o
   -- a crash leaves of them a prefix of what was accepted, and of what the operation had in flight
   -- in which the engine failed
   pub after : LeavesAllowedAfter failed_at folders m [] ops outcomes files
-  -- no folder's place is taken, and no number of the log files stands in both folders
+  -- no folder's place is taken, and no number of a kept log file stands in both
   pub clear : AreClear folders files
   pub single : AreSingleIn folders files
 
--- no folder has the path of a log file, as a second one can have that stands in the first
+-- no folder has the path of a log file, as one can have that stands in the other
 abbrev pub HaveNoLogPath : Folders → Type 0
 HaveNoLogPath folders =
     (folder : Path) → Contains (all_of folders) folder → IsLogPath folders folder → ⊥
@@ -66,6 +66,7 @@ pub record RunsFromEmpty (folders : Folders) (ops : List Op) (stop : Option ℕ)
   -- the moments there were by then follow those of the first files
   pub added : List Directory
   pub later : memory_moments last ≡ added ++ memory_moments first
+  -- said of folders of which none has the path of a log file
   pub ran : HaveNoLogPath folders
       → RunsOver folders no_contents (known_in []) ops outcomes failed_at (memory_directory last)
 
@@ -111,13 +112,14 @@ pub record IsTrialOf (config : Config) (ops : List Op) (stop : Option ℕ) (choi
       IfOk t.opened (λ image.
       IsImageOf image.groups.items
       (contents_after_crash (folders_in config) files (left_by choices files)))
-  -- a tolerant one doesn't fail for what they leave, where its damage is detectable
+  -- where no folder has the path of a log file, a tolerant one doesn't fail for what they leave of
+  -- detectable damage
   pub refused : let files = memory_directory last in HaveNoLogPath (folders_in config)
       → AreDetectableIn (folders_in config) files (left_by choices files)
       → (config.recovery_mode ≡ AbsoluteConsistency → ⊥) → contradiction config ≡ None
       → IfErr t.opened IsStorageOrMemory
-  -- in any mode and of any damage it fails where settings contradict one another, by storage, for
-  -- lack of memory, or for what is left of the log
+  -- .. and in any mode and of any damage it fails where settings contradict one another, by storage,
+  -- for lack of memory, or for what is left of the log
   pub cause : let files = memory_directory last in HaveNoLogPath (folders_in config)
       → IfErr t.opened (λ e. IsContradiction config e ⊎ IsLeftRefusal config.recovery_mode
       (folders_in config) files (left_by choices files) e)

@@ -25,11 +25,11 @@ use std::alloc::Global;
 
 /// Opens a log in memory, does the operations, crashes, and opens again. From the first opening on the calls that may
 /// change files are counted from 1, and from the one at `stop` on each fails; the opening after the crash has no
-/// stop. The choices say what the crash leaves; bytes that storage doesn't allow are refused, and no others. No folder
-/// may have the path of a log file (`HaveNoLogPath`), or each opening fails. Then where the damage of what the crash
-/// leaves is detectable, a tolerant opening fails by storage or for lack of memory alone; any other opening only for
-/// these, for what is left of the log, or where settings contradict one another. The damage is detectable where an
-/// engine answered and didn't fail, and the choices leave each file whole, as it is at the crash or as it was synced.
+/// stop. The choices say what the crash leaves; bytes that storage doesn't allow are refused, and no others. Where
+/// no folder has the path of a log file (`HaveNoLogPath`), and the damage of what the crash leaves is detectable, a
+/// tolerant opening fails by storage or for lack of memory alone; any other opening only for these, for what is left of
+/// the log, or where settings contradict one another. The damage is detectable where an engine answered and didn't fail,
+/// and the choices leave each file whole, as it is at the crash or as it was synced.
 pub fn trial(
     alloc: Global,
     config: Config,
