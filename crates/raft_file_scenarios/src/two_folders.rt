@@ -266,25 +266,40 @@ fn reads<F: FileSystem>(builder: &mut DualPipesBuilder<F>, found: &Found) -> Res
     )
 }
 
+// The files after an opening that goes on after its scan, if it comes to what it says.
+fn finished<F: FileSystem + Drop>(
+    mut builder: DualPipesBuilder<F>,
+    found: &Found,
+) -> Result<Option<F>, Fault> {
+    if !reads(&mut builder, found)? {
+        return Ok(None);
+    }
+    match builder.finish() {
+        Ok((pipes, files)) => {
+            let is_found = pipes.file_span(LogQueue::Append) == found.span;
+            Ok(if is_found { Some(files) } else { None })
+        }
+        Err((fault, _files)) => Err(fault),
+    }
+}
+
 // The files after the opening, if it comes to what it says.
 fn opened<F: FileSystem + Drop>(
     mut builder: DualPipesBuilder<F>,
     row: &Opening,
 ) -> Result<Option<F>, Fault> {
-    match (builder.scan(), &row.found) {
-        (Ok(()), Ok(found)) => {
-            if !reads(&mut builder, found)? {
-                return Ok(None);
+    match builder.scan() {
+        Ok(()) => match &row.found {
+            Ok(found) => finished(builder, found),
+            Err(_code) => Ok(None),
+        },
+        Err(fault) => match &row.found {
+            Ok(_found) => Err(fault),
+            Err(code) => {
+                let is_wanted = fault.code() == *code;
+                Ok(if is_wanted { Some(builder.give_up()) } else { None })
             }
-            match builder.finish() {
-                Ok((pipes, files)) if pipes.file_span(LogQueue::Append) == found.span => {
-                    Ok(Some(files))
-                }
-                _ => Ok(None),
-            }
-        }
-        (Err(fault), Err(code)) if fault.code() == *code => Ok(Some(builder.give_up())),
-        _ => Ok(None),
+        },
     }
 }
 

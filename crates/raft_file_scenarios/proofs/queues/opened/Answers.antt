@@ -1,4 +1,4 @@
-use Rattle.std.proofs.Common.{◌≡◌, ◌∙◌, map, subst, sym}
+use Rattle.std.proofs.Common.{◌≡◌, ◌∙◌, ap, map, subst, sym}
 use Rattle.raft_base.specs.declared.pipe_log.LogQueue.TheVariants.{Append}
 use Rattle.raft_env.specs.Directory.{Directory}
 use Rattle.raft_files.specs.Writer.{bytes_at}
@@ -16,7 +16,7 @@ settle_or_begin-requires-clause-places g c _ _ =
     let made = g.F.FileSystem.directory c.make.new.file_system in
     let read = g.F.FileSystem.directory c.read_files.new.file_system in
     let found = map place_of c.deref.result.now in
-    let found_is : found ≡ log_files_of Append folders made = ? in
+    let found_is : found ≡ log_files_of Append folders made = ap (map place_of) c.deref.ensures.value ∙ c.in_ok-files.ensures.value in
     let still : read ≡ made = c.read_files.ensures.unchanged.0 ∙ c.find.ensures.unchanged.0 in
     let before : EachFile (IsOpenableFile mode Append (λ path. bytes_at path made)) (log_files_of Append folders made) =
     subst (λ (n : Directory). EachFile (IsOpenableFile mode Append (λ path. bytes_at path n)) (log_files_of Append folders made)) c.find.ensures.unchanged.0 (subst (EachFile (IsOpenableFile mode Append (λ path. bytes_at path (g.F.FileSystem.directory c.find.new.file_system)))) found_is c.in_ok-replayed.ensures.openable) in
