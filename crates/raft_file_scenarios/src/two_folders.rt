@@ -297,7 +297,11 @@ fn opened<F: FileSystem + Drop>(
             Ok(_found) => Err(fault),
             Err(code) => {
                 let is_wanted = fault.code() == *code;
-                Ok(if is_wanted { Some(builder.give_up()) } else { None })
+                Ok(if is_wanted {
+                    Some(builder.give_up())
+                } else {
+                    None
+                })
             }
         },
     }
