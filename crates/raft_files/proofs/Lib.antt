@@ -2,6 +2,7 @@ pub mod BlocksLemmas
 pub mod DetectableLemmas
 pub mod DetectableStaleLemmas
 pub mod FileReaderLemmas
+pub mod FileRecordsLemmas
 pub mod HeaderLemmas
 pub mod NameLemmas
 pub mod PlacesLemmas
