@@ -12,9 +12,9 @@ ghost use Rattle.raft_log_engine.specs.Engine.{contents_of, directory_of, durabl
 ghost use Rattle.raft_env.specs.Consistent.{AreConsistent};
 ghost use Rattle.raft_memory.specs.Choice.{AreWhole, left_by};
 ghost use Rattle.raft_memory.specs.declared.crash.Choice.{Choice};
-ghost use Rattle.raft_pipes.specs.Folder.{HasNoLog};
+ghost use Rattle.raft_pipes.specs.Folder.{AreClear, HasNoLog};
 ghost use Rattle.raft_pipes.specs.Folders.{Folders};
-ghost use Rattle.raft_log_engine.specs.Queues.{AreClear, AreDetectableIn, AreOpenableIn, AreSingleIn, AreSoundIn, HaveSimplePastIn};
+ghost use Rattle.raft_log_engine.specs.Queues.{AreDetectableIn, AreOpenableIn, AreSingleIn, AreSoundIn, HaveSimplePastIn};
 ghost use Rattle.raft_pipes.specs.declared.config.RecoveryMode.{RecoveryMode};
 ghost use Rattle.raft_pipes.specs.declared.config.RecoveryMode.TheVariants.{AbsoluteConsistency};
 

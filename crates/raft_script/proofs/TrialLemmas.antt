@@ -27,12 +27,12 @@ use Rattle.raft_base.specs.declared.pipe_log.LogQueue.TheVariants.{Append, Rewri
 use Rattle.raft_env.specs.Refusal.{Refusals}
 use Rattle.raft_pipes.specs.Config.{IsCopy}
 use Rattle.raft_pipes.specs.Folders.{Folders, beside_main, folders_in}
-use Rattle.raft_pipes.specs.Folder.{HasFileFor, HasNoLog, readable_of, readable_queue}
+use Rattle.raft_pipes.specs.Folder.{AreClear, HasFileFor, HasNoLog, readable_of, readable_queue}
 use Rattle.raft_script.specs.Durability.{LeavesAllowedAfter, Progress, progress_after_all, progress_from}
 use Rattle.raft_pipes.proofs.FolderQueueLemmas.{log_files-no_log}
 use Rattle.raft_pipes.proofs.TakenLemmas.{one_free}
 use Rattle.raft_pipes.specs.Queue.{IsOpenRefusalOf}
-use Rattle.raft_log_engine.specs.Queues.{AreClear, AreOpenableIn, AreSingleIn, HaveDamageIn, HaveLeftDamage, IsOpeningRefusal, ReadCompletedRecordsIn}
+use Rattle.raft_log_engine.specs.Queues.{AreOpenableIn, AreSingleIn, HaveDamageIn, HaveLeftDamage, IsOpeningRefusal, ReadCompletedRecordsIn}
 use Rattle.raft_log_engine.proofs.CrashLemmas.{clear_restarted, same_groups, same_queues, single_restarted}
 use Rattle.raft_log_engine.proofs.OpeningLemmas.{undamaged}
 use Rattle.raft_recovery.proofs.ContentsLemmas.{recovered-nothing_rewritten}

@@ -12,9 +12,9 @@ use Rattle.raft_memory.specs.declared.crash.Choice.{Choice}
 use Rattle.raft_log_engine.specs.Crash.{RecoversContents, contents_after_crash}
 use Rattle.raft_log_engine.specs.Image.{IsImageOf}
 use Rattle.raft_script.specs.Durability.{LeavesAllowedAfter}
-use Rattle.raft_log_engine.specs.Queues.{AreClear, AreDetectableIn, AreSingleIn, HaveDamageIn, HaveLeftDamage, HaveSimplePastIn}
+use Rattle.raft_log_engine.specs.Queues.{AreDetectableIn, AreSingleIn, HaveDamageIn, HaveLeftDamage, HaveSimplePastIn}
 use Rattle.raft_script.specs.Run.{AreAnswers, IsFailurePlace, IsStorageOrMemory}
-use Rattle.raft_pipes.specs.Folder.{IsLogPath}
+use Rattle.raft_pipes.specs.Folder.{AreClear, IsLogPath}
 use Rattle.raft_pipes.specs.Folders.{Folders, all_of, folders_in}
 use Rattle.raft_pipes.specs.Sanitized.{IsContradiction, contradiction}
 use Rattle.raft_pipes.specs.declared.config.Config.{Config}

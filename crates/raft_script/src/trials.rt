@@ -9,7 +9,8 @@ ghost use Rattle.raft_memory.specs.Memory.{memory_directory, memory_moments, no_
 ghost use Rattle.raft_log_engine.specs.Image.{IsImageOf};
 ghost use Rattle.raft_log_engine.specs.Contents.{contents_at, known_at};
 ghost use Rattle.raft_log_engine.specs.Crash.{RecoversContents};
-ghost use Rattle.raft_log_engine.specs.Queues.{AreClear, AreOpenableIn, AreSingleIn, ReadCompletedRecordsIn};
+ghost use Rattle.raft_pipes.specs.Folder.{AreClear};
+ghost use Rattle.raft_log_engine.specs.Queues.{AreOpenableIn, AreSingleIn, ReadCompletedRecordsIn};
 ghost use Rattle.raft_script.specs.Run.{IsStorageOrMemory};
 ghost use Rattle.raft_script.specs.Trial.{AreNotAllowed, HaveNoLogPath, IsLogRefusal, IsTrialOf, LeavesDetectable, RunsOver};
 

@@ -37,7 +37,7 @@ pub returns-clause-opens : goal.returns-clause-opens
 returns-clause-opens c = λ folders n m d restarted sound mode tolerant queue. c.crash_leaves_a_prefix.ensures.opens queue folders n m d restarted (sound queue) mode tolerant
 
 pub returns-clause-stays_clear : goal.returns-clause-stays_clear
-returns-clause-stays_clear c = λ folders n m d restarted sound. c.crash_leaves_a_prefix.ensures.no_file Append folders n m d restarted (sound Append)
+returns-clause-stays_clear c = λ folders n m d restarted sound. c.crash_leaves_a_prefix.ensures.clear Append folders n m d restarted (sound Append)
 
 pub returns-clause-clear : goal.returns-clause-clear
 returns-clause-clear c = contents_clear

@@ -9,7 +9,8 @@ use Rattle.raft_log_engine.specs.Contents.{contents_at, found_contents, found_gr
 use Rattle.std.specs.List.{AllByRecursion}
 use Rattle.raft_base.specs.declared.pipe_log.LogQueue.{LogQueue}
 use Rattle.raft_pipes.specs.Completed.{ReadsCompletedRecordsIfSimpleOf}
-use Rattle.raft_log_engine.specs.Queues.{AreClear, AreSingleIn}
+use Rattle.raft_pipes.specs.Folder.{AreClear}
+use Rattle.raft_log_engine.specs.Queues.{AreSingleIn}
 use Rattle.raft_script.specs.Trial.{LeavesDetectable}
 use Rattle.raft_script.specs.Run.{AreAnswers, IsFailurePlace}
 use Rattle.raft_script.specs.Durability.{progress_from}
