@@ -76,7 +76,8 @@ pub fn premise_can_be_met()
 /// record (`detectable`). Openings of `raft_pipes` give such queues, and the calls of pipes keep them.
 pub fn damage_of_a_queue_is_detectable()
     ensures detectable { (queue : LogQueue) (p : PipeState) (folders : Folders)
-        (batches : List Batch) (synced : ℕ) (n : Directory) → HasQueueOf queue p folders batches synced n
+        (batches : List Batch) (synced : ℕ) (n : Directory)
+        → HasQueueOf queue p folders batches synced n
         → PipeHasCompletedLogIfSimple p n → HasSimplePastOf queue folders n → AreConsistent n
         → (choices : List Choice) → AreWhole choices
         → ∥ IsDetectableQueue (all_of folders) queue n (left_by choices n) ∥₁ }

@@ -118,8 +118,8 @@ pub record IsTrialOf (config : Config) (ops : List Op) (stop : Option ℕ) (choi
       → AreDetectableIn (folders_in config) files (left_by choices files)
       → (config.recovery_mode ≡ AbsoluteConsistency → ⊥) → contradiction config ≡ None
       → IfErr t.opened IsStorageOrMemory
-  -- .. and in any mode and of any damage it fails where settings contradict one another, by storage,
-  -- for lack of memory, or for what is left of the log
+  -- .. and in any mode and of any damage it fails where settings contradict one another, by
+  -- storage, for lack of memory, or for what is left of the log
   pub cause : let files = memory_directory last in HaveNoLogPath (folders_in config)
       → IfErr t.opened (λ e. IsContradiction config e ⊎ IsLeftRefusal config.recovery_mode
       (folders_in config) files (left_by choices files) e)
