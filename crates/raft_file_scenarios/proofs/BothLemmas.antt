@@ -6,8 +6,9 @@ use Rattle.std.proofs.lemmas.Bool.{lt-ltb}
 use Rattle.raft_base.specs.FileId.{file_signature}
 use Rattle.raft_base.specs.declared.pipe_log.LogFileContext.{LogFileContext}
 use Rattle.raft_base.specs.declared.pipe_log.LogQueue.{LogQueue}
-use Rattle.raft_env.specs.Directory.{Directory, Path}
+use Rattle.raft_env.specs.Directory.{Directory}
 use Rattle.raft_queues.specs.Dual.{DualState, HasAppendedIn, HasBoth, HasSyncedIn, StandSideBySide, StillHasBoth, counted, grown, pipe_of}
+use Rattle.raft_pipes.specs.Folders.{Folders}
 use Rattle.raft_pipes.specs.Pipe.{IsPipeOf, IsRecordOf}
 use Rattle.raft_pipes.specs.PipeState.{PipeState, context_of}
 use Rattle.raft_pipes.specs.Purge.{dropped_batches}
@@ -22,8 +23,8 @@ use Rattle.raft_records.specs.RecordLimits.{FitsRecord}
 pub each_stands : (queue : LogQueue) (d : DualState) (n : Directory) → StandSideBySide d n → IsPipeOf (pipe_of queue d) n
 each_stands queue d n stand = ∥∥₁_elim stand ∥∥₁_prop (λ w. (w.3 queue).writes)
 
-pub stand_opened : (d : DualState) (n : Directory) (folder : Path) (batches : LogQueue → List Batch) (synced : LogQueue → ℕ) → HasBoth d folder batches synced n → StandSideBySide d n
-stand_opened d n folder batches synced has = ∣ (folder, batches, synced, has) ∣₁
+pub stand_opened : (d : DualState) (n : Directory) (folders : Folders) (batches : LogQueue → List Batch) (synced : LogQueue → ℕ) → HasBoth d folders batches synced n → StandSideBySide d n
+stand_opened d n folders batches synced has = ∣ (folders, batches, synced, has) ∣₁
 
 pub stand_appended : (queue : LogQueue) (sync : Bool) (d d' : DualState) (given : List ℕ) (batch : Batch) (old new : Directory) → HasAppendedIn queue sync d d' given old new → IsRecordOf (pipe_of queue d) given batch → StandSideBySide d old → StandSideBySide d' new
 stand_appended queue sync d d' given batch old new appended is stand =
