@@ -10,6 +10,7 @@ pub mod memtable;
 pub mod memtables;
 pub mod recovering;
 pub mod rewritten;
+mod short_key;
 mod span;
 pub mod stats;
 mod validity;
