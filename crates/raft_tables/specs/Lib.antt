@@ -1,5 +1,6 @@
 pub mod EntryTable
 pub mod Table
+pub mod Keys
 pub mod Known
 pub mod Tables
 pub mod Counters

@@ -23,7 +23,7 @@ pub(crate) fn drop_in_turn(alloc: Global, tables: BTreeMap<u64, MemTable>) {
             return;
         };
         for _ in 0..ROWS {
-            let _ = rows.next();
+            rows.drop_next();
         }
         if rows.len() > 0 {
             let _ = all.push_back(rows);

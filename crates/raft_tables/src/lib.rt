@@ -1,10 +1,12 @@
 //! The in-memory index: what each group holds, and the files that it stands in.
 #![tactic(auto)]
 
+mod bounds;
 mod dropping;
 pub mod entries;
 mod growing;
 mod joining;
+mod keys;
 mod leaving;
 pub mod memtable;
 pub mod memtables;

@@ -1,0 +1,30 @@
+//! Keys between bounds.
+ghost use Rattle.std.specs.Prelude.{◌≡◌};
+ghost use Rattle.std.specs.Option.{option_copied};
+ghost use Rattle.raft_tables.specs.Listing.{is_before, is_between, is_from};
+
+/// Whether the key is from `start` on and before `end`. None is no bound.
+pub(crate) fn is_between(key: &[u8], start: Option<&[u8]>, end: Option<&[u8]>) -> bool
+    ensures value { result ≡ is_between (option_copied start.entry) (option_copied end.entry)
+        key.now }
+{
+    is_from(start, key) && is_before(end, key)
+}
+
+fn is_from(start: Option<&[u8]>, key: &[u8]) -> bool
+    ensures value { result ≡ is_from (option_copied start.entry) key.now }
+{
+    match start {
+        Some(start) => start <= key,
+        None => true,
+    }
+}
+
+fn is_before(end: Option<&[u8]>, key: &[u8]) -> bool
+    ensures value { result ≡ is_before (option_copied end.entry) key.now }
+{
+    match end {
+        Some(end) => key < end,
+        None => true,
+    }
+}
