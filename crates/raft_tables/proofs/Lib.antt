@@ -4,6 +4,7 @@ pub mod TableLemmas
 pub mod TablesLemmas
 pub mod ListingLemmas
 pub mod ContentsLemmas
+pub mod KeysLemmas
 pub mod KnownLemmas
 pub mod SpanLemmas
 pub mod ValidityLemmas
