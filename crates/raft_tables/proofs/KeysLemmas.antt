@@ -23,6 +23,10 @@ use Rattle.raft_tables.specs.declared.keys.Stored.{Stored}
 abbrev pub MapOf : Type 0 → Type 0
 MapOf K = HashMap K Stored (BuildHasherDefault FoldHasher)
 
+-- the bytes of a long key
+abbrev pub key_bytes : Vec ℕ Global → List ℕ
+key_bytes key = key.items
+
 -- how many of its values stand in the Rewrite queue
 abbrev pub count_in : {K : Type 0} → MapOf K → ℕ
 count_in m = count_by (λ s. is_rewrite s.id.queue) (hash.values m)
@@ -110,7 +114,7 @@ pub short_changed : (t n : Keys) (bs : List ℕ) (w : Option Stored) → length 
 short_changed t n bs w short same updates counted =
     let none : (k : List ℕ) → bytes_eq k bs ≡ true → is_some (hash.get_by (λ x. bytes_eq k x.items) t.long) ≡ false = λ k at. t.long_keys k (rw ((bytes_decides k bs).0 at) short) in
     record {
-      found = λ k. ap (λ m. option_or (hash.get_by (bytes_eq k) n.short) (hash.get_by (λ x. bytes_eq k x.items) m)) same
+      found = λ k. ap (λ (m : MapOf (Vec ℕ Global)). option_or (hash.get_by (bytes_eq k) n.short) (hash.get_by (λ x. bytes_eq k x.items) m)) same
           ∙ ap (λ o. option_or o (hash.get_by (λ x. bytes_eq k x.items) t.long)) (get_by-UpdatesBy (λ x. x) bs t.short n.short w updates k) ∙ first_changed (bytes_eq k bs) w _ _ (none k);
       counted =
           let at = ap rewritten_of (or_none (hash.get_by (bytes_eq bs) t.short) _ (t.long_keys bs short)) in
@@ -123,8 +127,8 @@ pub long_changed : (t n : Keys) (bs : List ℕ) (w : Option Stored) → 23 < len
 long_changed t n bs w long same updates counted =
     let none : (k : List ℕ) → bytes_eq k bs ≡ true → is_some (hash.get_by (bytes_eq k) t.short) ≡ false = λ k at. t.short_keys k (rw ((bytes_decides k bs).0 at) long) in
     record {
-      found = λ k. ap (λ m. option_or (hash.get_by (bytes_eq k) m) (hash.get_by (λ x. bytes_eq k x.items) n.long)) same
-          ∙ ap (option_or (hash.get_by (bytes_eq k) t.short)) (get_by-UpdatesBy (λ x. x.items) bs t.long n.long w updates k) ∙ second_changed (bytes_eq k bs) w _ _ (none k);
+      found = λ k. ap (λ (m : MapOf (List ℕ)). option_or (hash.get_by (bytes_eq k) m) (hash.get_by (λ x. bytes_eq k x.items) n.long)) same
+          ∙ ap (option_or (hash.get_by (bytes_eq k) t.short)) (get_by-UpdatesBy key_bytes bs t.long n.long w updates k) ∙ second_changed (bytes_eq k bs) w _ _ (none k);
       counted =
           let at = ap rewritten_of (none_or (hash.get_by (bytes_eq bs) t.short) (hash.get_by (λ x. bytes_eq bs x.items) t.long) (t.short_keys bs long)) in
           omega (arith, counted, at, ap count_in same);
@@ -135,7 +139,7 @@ pub keys_reordered : (t n : Keys) → hash.IsReordered bytes_eq t.short n.short 
 keys_reordered t n short long =
     record {
       found = λ k. ap (λ o. option_or o (hash.get_by (λ x. bytes_eq k x.items) n.long)) (get_by-IsReordered (λ x. x) t.short n.short short k)
-          ∙ ap (option_or (hash.get_by (bytes_eq k) t.short)) (get_by-IsReordered (λ x. x.items) t.long n.long long k);
+          ∙ ap (option_or (hash.get_by (bytes_eq k) t.short)) (get_by-IsReordered key_bytes t.long n.long long k);
       counted =
           let shorts : count_in n.short ≡ count_in t.short = sum_by_values_permutation (λ (s : Stored). cond (is_rewrite s.id.queue) 1 0) t.short.entries n.short.entries short.0 in
           let longs : count_in n.long ≡ count_in t.long = sum_by_values_permutation (λ (s : Stored). cond (is_rewrite s.id.queue) 1 0) t.long.entries n.long.entries long.0 in
@@ -146,8 +150,8 @@ keys_reordered t n short long =
 pub stay_away-put : {E : Type 0} (r : Result (Option Stored) E) (bs : List ℕ) (m n : MapOf (Vec ℕ Global)) (w : Option Stored)
     → OnOk r (hash.UpdatesBy (λ x y. bytes_eq x.items y.items) (λ x. bytes_eq bs x.items) m n w) → OnErr r (hash.IsUnchanged m n) → 23 < length bs
     → ((k : List ℕ) → length k ≤ 23 → is_some (hash.get_by (λ x. bytes_eq k x.items) m) ≡ false) → (k : List ℕ) → length k ≤ 23 → is_some (hash.get_by (λ x. bytes_eq k x.items) n) ≡ false
-stay_away-put (Ok old) bs m n w updates same long away = stay_away (λ x. x.items) (λ k. length k ≤ 23) bs m n w updates (λ k short. shorter k bs short long) away
-stay_away-put (Err e) bs m n w updates same long away = λ k short. ap (λ es. is_some (lookup (λ x. bytes_eq k x.items) es)) same ∙ away k short
+stay_away-put (Ok old) bs m n w updates same long away = stay_away key_bytes (λ k. length k ≤ 23) bs m n w updates (λ k short. shorter k bs short long) away
+stay_away-put (Err e) bs m n w updates same long away = λ k short. ap (λ (es : List (Vec ℕ Global × Stored)). is_some (lookup (λ x. bytes_eq k x.items) es)) same ∙ away k short
 
 -- no keys at all
 
@@ -158,7 +162,7 @@ nothing_at test (e ∷ es) none = absurd (omega (arith, none))
 pub nothing_stored : (t : Keys) → hash_map_len t.short ≡ 0 → hash_map_len t.long ≡ 0 → (k : List ℕ) → stored_in t k ≡ None
 nothing_stored t short long k =
     ap (option_map (λ s. let p : StoredValue = (s.value.items, s.id) in p))
-    (ap (λ o. option_or o (hash.get_by (λ x. bytes_eq k x.items) t.long)) (nothing_at (bytes_eq k) t.short.entries short) ∙ nothing_at (λ x. bytes_eq k x.items) t.long.entries long)
+    (ap (λ o. option_or o (hash.get_by (λ x. bytes_eq k x.items) t.long)) (nothing_at (bytes_eq k) t.short.entries short) ∙ nothing_at (λ (x : Vec ℕ Global). bytes_eq k x.items) t.long.entries long)
 
 neither : (o p : Option Stored) → option_map (λ s. let v : StoredValue = (s.value.items, s.id) in v) (option_or o p) ≡ None → (o ≡ None) × (p ≡ None)
 neither None None none = (refl, refl)
@@ -176,7 +180,7 @@ pub no_short : (t : Keys) → ((k : List ℕ) → stored_in t k ≡ None) → ha
 no_short t none = no_keys (λ x. x) t.short.entries (λ k. (neither (hash.get_by (bytes_eq k) t.short) (hash.get_by (λ x. bytes_eq k x.items) t.long) (none k)).0)
 
 pub no_long : (t : Keys) → ((k : List ℕ) → stored_in t k ≡ None) → hash_map_len t.long ≡ 0
-no_long t none = no_keys (λ x. x.items) t.long.entries (λ k. (neither (hash.get_by (bytes_eq k) t.short) (hash.get_by (λ x. bytes_eq k x.items) t.long) (none k)).1)
+no_long t none = no_keys key_bytes t.long.entries (λ k. (neither (hash.get_by (bytes_eq k) t.short) (hash.get_by (λ x. bytes_eq k x.items) t.long) (none k)).1)
 
 -- older keys below
 
