@@ -32,6 +32,14 @@ option_or-none : (o : Option StoredValue) → option_or o None ≡ o
 option_or-none None = refl
 option_or-none (Some v) = refl
 
+-- no table below
+pub joined_none : (l a : Tables) → ((g : ℕ) → l g ≡ None) → IsJoined l a a
+joined_none l a none = record {
+  entries = λ g. sym (ap (λ (o : Option TableView). with_entries (or_empty o).entries (or_empty (a g)).entries) (none g) ∙ with_entries-nothing (or_empty (a g)).entries);
+  keys = λ g k. sym (ap (λ (o : Option TableView). option_or ((or_empty (a g)).keys k) ((or_empty o).keys k)) (none g) ∙ option_or-none ((or_empty (a g)).keys k));
+  known = λ g. sym (ap (λ (o : Option TableView). is_some o || is_some (a g)) (none g));
+}
+
 or_true : (b : Bool) → (b || true) ≡ true
 or_true true = refl
 or_true false = refl
