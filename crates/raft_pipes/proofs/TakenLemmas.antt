@@ -3,27 +3,22 @@ use Rattle.std.proofs.Common.{◌≡◌, ◌∙◌, true, is_some, zero, suc, []
 use Rattle.std.specs.Prelude.{Contains, ◌⊎◌}
 use Rattle.raft_base.specs.declared.errors.Fault.{Fault}
 use Rattle.raft_base.specs.declared.errors.Fault.TheVariants as fault
-use Rattle.raft_base.specs.declared.pipe_log.LogQueue.{LogQueue}
 use Rattle.raft_env.specs.Directory.{Directory, HasFile, Path}
 use Rattle.raft_env.specs.Refusal.{NoFewer, Refusals}
 use Rattle.raft_pipes.specs.Folder.{HasFileFor, IsLogPath, IsLogPathIn}
 use Rattle.raft_pipes.specs.Folders.{Folders, all_of, beside_main}
 use Rattle.raft_pipes.specs.Numbered.{path_of}
-use Rattle.raft_pipes.specs.Queue.{IsMakeRefusal, IsOpenRefusalOf, LeavesAll}
-use Rattle.raft_pipes.specs.declared.config.RecoveryMode.{RecoveryMode}
+use Rattle.raft_pipes.specs.Queue.{IsMakeRefusal, IsMakeRefusalIn, LeavesAll}
 use Rattle.raft_pipes.proofs.ApartLemmas.{main_among}
 use Rattle.raft_pipes.proofs.FolderLemmas.{folder_apart}
 use Rattle.raft_pipes.proofs.PlacesLemmas.{one_of}
 
 -- a folder can't be made
-pub make_refused : (queue : LogQueue) (mode : RecoveryMode) (folders : Folders) (folder : Path) (n mid : Directory) (old between new : Refusals) (e : Fault) → Contains (all_of folders) folder → LeavesAll n mid → NoFewer old between → IsMakeRefusal folder mid between new e → IsOpenRefusalOf queue mode folders n old new e
-make_refused queue mode folders folder n mid old between new (fault.InvalidArgument text) among same fewer refused = inl (folder, among, inl (subst (λ o. is_some o ≡ true) (same folder) refused))
-make_refused queue mode folders folder n mid old between new (fault.Io kind text) among same fewer refused = (omega (arith, fewer.0, refused.0), inl (folder, among, refused.1))
-make_refused queue mode folders folder n mid old between new fault.Memory among same fewer refused = tt
-make_refused queue mode folders folder n mid old between new fault.Corruption among same fewer refused = absurd refused
-make_refused queue mode folders folder n mid old between new fault.Range among same fewer refused = absurd refused
-make_refused queue mode folders folder n mid old between new fault.Lz4 among same fewer refused = absurd refused
-make_refused queue mode folders folder n mid old between new _ among same fewer refused = absurd refused
+pub make_refused : (folders : Folders) (folder : Path) (n mid : Directory) (old between new : Refusals) (e : Fault) → Contains (all_of folders) folder → LeavesAll n mid → NoFewer old between → IsMakeRefusal folder mid between new e → IsMakeRefusalIn folders n old new e
+make_refused folders folder n mid old between new (fault.InvalidArgument text) among same fewer refused = (folder, among, inl (subst (λ o. is_some o ≡ true) (same folder) refused))
+make_refused folders folder n mid old between new (fault.Io kind text) among same fewer refused = (omega (arith, fewer.0, refused.0), inl (folder, among, refused.1))
+make_refused folders folder n mid old between new fault.Memory among same fewer refused = tt
+make_refused folders folder n mid old between new _ among same fewer refused = absurd refused
 
 -- one of two
 two_cases : (first second x : Path) → Contains (first ∷ second ∷ []) x → (first ≡ x) ⊎ (second ≡ x)
