@@ -29,8 +29,8 @@ struct Keys {
 impl ReplayMachine for Keys {
     ghost stands_for = { λ blocks earlier machine batches. Unit {0} };
 
-    fn replay(&mut self, items: Vec<LogItem>, file: FileId) -> Result<(), Fault> {
-        for item in &items {
+    fn replay(&mut self, items: &mut Vec<LogItem>, file: FileId) -> Result<(), Fault> {
+        for item in items.iter() {
             if let LogItemContent::Kv(KeyValue::Put { key, value: _ }) = &item.content {
                 for byte in key {
                     self.found.push((file.seq, *byte))?;

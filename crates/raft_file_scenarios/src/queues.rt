@@ -106,7 +106,7 @@ struct NoMachine {}
 impl ReplayMachine for NoMachine {
     ghost stands_for = { λ blocks earlier machine batches. Unit {0} };
 
-    fn replay(&mut self, _items: Vec<LogItem>, _file: FileId) -> Result<(), Fault> {
+    fn replay(&mut self, _items: &mut Vec<LogItem>, _file: FileId) -> Result<(), Fault> {
         Ok(())
     }
 }

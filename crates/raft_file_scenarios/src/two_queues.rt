@@ -131,7 +131,7 @@ struct Counter {
 impl ReplayMachine for Counter {
     ghost stands_for = { λ blocks earlier machine batches. Unit {0} };
 
-    fn replay(&mut self, _items: Vec<LogItem>, _file: FileId) -> Result<(), Fault> {
+    fn replay(&mut self, _items: &mut Vec<LogItem>, _file: FileId) -> Result<(), Fault> {
         self.batches = self.batches.saturating_add(1);
         Ok(())
     }

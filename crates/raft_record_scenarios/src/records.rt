@@ -86,7 +86,7 @@ fn read(
     file: &LogFileContext,
 ) -> Result<(LogItemBatch, usize), Fault> {
     match at.checked_add(bytes.len() as u64) {
-        Some(_) => decode_record(alloc, bytes, at, file),
+        Some(_) => decode_record(alloc, bytes, at, file, Vec::new(alloc)),
         None => Err(Fault::Range),
     }
 }
@@ -98,7 +98,7 @@ fn replay(
     file: &LogFileContext,
 ) -> Result<(LogItemBatch, usize), Fault> {
     match at.checked_add(bytes.len() as u64) {
-        Some(_) => replay_record(alloc, bytes, at, file),
+        Some(_) => replay_record(alloc, bytes, at, file, Vec::new(alloc)),
         None => Err(Fault::Range),
     }
 }
