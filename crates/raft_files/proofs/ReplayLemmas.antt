@@ -13,7 +13,7 @@ use Rattle.raft_files.specs.Header.{header_len, header_of}
 use Rattle.raft_files.specs.Scan.{PlacedRecord, placed_by, readable_records, scan_after_header, record_at, record_place, next_record, records_after, records_of}
 use Rattle.raft_files.specs.Replay.{block_after, has_sound_block_at, next_replayed, replayed_at, replayed_after, replayed_in, replayed_records}
 use Rattle.raft_files.specs.declared.format.LogFileFormat.{LogFileFormat}
-use Rattle.raft_files.proofs.ScanExtentLemmas.{parts_there, some_if, record_header_is, same_some, some_then}
+use Rattle.raft_files.proofs.ScanExtentLemmas.{parts_there, record_header_is, same_some, some_then}
 use Rattle.raft_files.proofs.ScanLemmas.{placed_there, record_place-forward}
 use Rattle.raft_files.proofs.ScanPlacedLemmas.{StaysBefore, cases_next}
 
