@@ -1,10 +1,9 @@
 //! Blocks that are copied and summed: the ceilings of each workload, and one of their own.
 
-use crate::measure::{Host, report};
+use crate::measure::{Against, Host, Measure, Report, Stopwatch};
 use anyhow::Result;
 use raft_codec::checksum::crc32;
 use std::alloc::{AllocError, Global};
-use std::time::Instant;
 
 /// What is done with each block.
 #[derive(Clone, Copy)]
@@ -55,27 +54,41 @@ impl Blocks {
     }
 }
 
-/// What as many blocks of as many bytes take through checksum and copy alone. Answers the checksum of all passes.
-pub(crate) fn report_ceilings<R: Host>(rt: &R, count: u64, size: usize) -> Result<u32> {
+/// What as many blocks of as many bytes take through checksum and copy alone: the ceilings of records or of values.
+/// Answers the checksum of all passes.
+pub(crate) fn add_ceilings<R: Host>(
+    rt: &R,
+    report: &mut Report,
+    against: Against,
+    count: u64,
+    size: usize,
+) -> Result<u32> {
     let mut blocks = Blocks {
         block: filled(rt.alloc(), size, 1)?,
         copies: Vec::new(rt.alloc()),
         sum: 0,
     };
-    report_passes(rt, &mut blocks, count, count.saturating_mul(size as u64))?;
-    Ok(blocks.sum)
-}
-
-fn report_passes<R: Host>(rt: &R, blocks: &mut Blocks, count: u64, bytes: u64) -> Result<()> {
-    let mut start = Instant::now(rt)?;
     for pass in Pass::ALL {
+        let watch = Stopwatch::start(rt)?;
         blocks.pass(pass, count)?;
-        start = report(rt, pass.name(), start, count, bytes)?;
+        let ceiling = Measure {
+            name: pass.name(),
+            count,
+            bytes: count.saturating_mul(size as u64),
+            against,
+            taken: watch.stop(rt)?,
+            longest: None,
+        };
+        match against {
+            Against::Records => report.records.push(ceiling)?,
+            Against::Values => report.values.push(ceiling)?,
+        }
     }
-    // the sum and the copies are used, so that no pass is left out
     let last = blocks.copies.last().copied().unwrap_or(0);
-    eprintln!(rt; "  their checksum {:08x}, the last byte {last}", blocks.sum)?;
-    Ok(())
+    report.checksum = then_sum(report.checksum, &blocks.sum.to_be_bytes()).wrapping_add(
+        last as u32,
+    );
+    Ok(blocks.sum)
 }
 
 /// The sum of the blocks before, and of this one.

@@ -2,7 +2,7 @@
 
 use crate::blocks::filled;
 use crate::log::open;
-use crate::measure::{micros_since, ratio};
+use crate::measure::{Against, Measure, Report, Stopwatch, Taken};
 use crate::parts::{Part, batches_of, write_all};
 use crate::workload::{Amount, Load, ONE_FILE};
 use anyhow::{Result, bail};
@@ -11,7 +11,6 @@ use raft_env::FileSystem;
 use raft_log_engine::Engine;
 use std::fs::{self, File};
 use std::io::Write;
-use std::time::Instant;
 
 /// The workloads, and after how many puts each syncs; 0: never.
 const WORKLOADS: [(&str, u64); 4] = [
@@ -21,12 +20,11 @@ const WORKLOADS: [(&str, u64); 4] = [
     ("disk-none", 0),
 ];
 
-/// How long an opening and the puts after it took, in microseconds, and the bytes of their records.
+/// What an opening took, and the puts after it.
 #[derive(Clone, Copy)]
 struct Run {
-    opening: u64,
-    puts: u64,
-    bytes: u64,
+    opening: Taken,
+    puts: Measure,
 }
 
 /// Does each workload in a new folder below this one, and then opens the last of them again.
@@ -35,8 +33,8 @@ pub(crate) fn run_in(rt: HostRuntime, folder: &str, amount: Amount) -> Result<()
         let load = puts(name, amount.count, amount.size, sync_each);
         let place = format!(in rt.alloc(); "{folder}/{name}")?;
         let run = run_folder(rt, place.as_str(), load)?;
-        let bare = write_bare(&rt, place.as_str(), load, run.bytes)?;
-        ratio(&rt, name, amount.count, run.bytes, run.puts, bare)?;
+        let taken = write_bare(&rt, place.as_str(), load, run.puts.bytes)?;
+        print_beside(&rt, run.puts, taken)?;
     }
     reopen(rt, folder, amount)
 }
@@ -46,6 +44,7 @@ fn puts(name: &'static str, count: u64, size: usize, sync_each: u64) -> Load {
         name,
         count,
         keys: count,
+        is_in_order: true,
         size,
         batch_len: 1,
         sync_each,
@@ -57,60 +56,84 @@ fn reopen(rt: HostRuntime, folder: &str, amount: Amount) -> Result<()> {
     let place = format!(in rt.alloc(); "{folder}/disk-none")?;
     let run = run_folder(rt, place.as_str(), puts("disk-open", 0, amount.size, 0))?;
     let log = format!(in rt.alloc(); "{place}/bench/0000000000000001.raftlog")?;
-    let start = Instant::now(&rt)?;
+    let watch = Stopwatch::start(&rt)?;
     let bytes = fs::read(&rt, log.as_str())?.len() as u64;
-    let bare = micros_since(&rt, start)?;
-    ratio(&rt, "disk-open", amount.count, bytes, run.opening, bare)
+    let taken = watch.stop(&rt)?;
+    let opening = Measure {
+        count: amount.count,
+        bytes,
+        taken: run.opening,
+        ..run.puts
+    };
+    print_beside(&rt, opening, taken)
+}
+
+// The bare calls are the ceiling.
+fn print_beside(rt: &HostRuntime, part: Measure, taken: Taken) -> Result<()> {
+    let mut report = Report::new(rt);
+    report.parts.push(part)?;
+    report.note_memory(rt);
+    report.records.push(Measure {
+        name: "  ceiling, bare calls",
+        taken,
+        longest: None,
+        ..part
+    })?;
+    report.print(rt)
 }
 
 fn run_folder(rt: HostRuntime, place: &str, load: Load) -> Result<Run> {
-    let start = Instant::now(&rt)?;
+    let watch = Stopwatch::start(&rt)?;
     match DiskFileSystem::open(rt, place) {
-        Ok(files) => run_over(&rt, start, files, load),
+        Ok(files) => run_over(&rt, watch, files, load),
         Err(fault) => bail!("{fault}"),
     }
 }
 
 fn run_over<F: FileSystem + Drop>(
     rt: &HostRuntime,
-    start: Instant,
+    watch: Stopwatch,
     files: F,
     load: Load,
 ) -> Result<Run> {
     let mut engine = open(rt.alloc(), files, load.file_size)?;
-    put_all(rt, start, &mut engine, load)
+    put_all(rt, watch, &mut engine, load)
 }
 
 fn put_all<F: FileSystem>(
     rt: &HostRuntime,
-    start: Instant,
+    watch: Stopwatch,
     engine: &mut Engine<F>,
     load: Load,
 ) -> Result<Run> {
-    let opening = micros_since(rt, start)?;
+    let opening = watch.stop(rt)?;
     let batches = batches_of(rt.alloc(), Part::Put, load)?;
-    let start = Instant::now(rt)?;
-    let bytes = write_all(rt, engine, batches, load.sync_each)?;
-    Ok(Run {
-        opening,
-        puts: micros_since(rt, start)?,
+    let watch = Stopwatch::start(rt)?;
+    let (bytes, longest) = write_all(rt, engine, batches, load.sync_each)?;
+    let puts = Measure {
+        name: load.name,
+        count: load.count,
         bytes,
-    })
+        against: Against::Records,
+        taken: watch.stop(rt)?,
+        longest,
+    };
+    Ok(Run { opening, puts })
 }
 
 // As many bytes at the end of a new file: a write, and a sync where there is one, for the puts that share a sync.
-fn write_bare(rt: &HostRuntime, place: &str, load: Load, bytes: u64) -> Result<u64> {
+fn write_bare(rt: &HostRuntime, place: &str, load: Load, bytes: u64) -> Result<Taken> {
     let path = format!(in rt.alloc(); "{place}.bare")?;
     let each = load.sync_each.max(1);
     let len = (bytes / load.count.max(1)).saturating_mul(each);
     let block = filled(rt.alloc(), len as usize, 1)?;
     let mut file = File::create(rt, path.as_str())?;
-    let start = Instant::now(rt)?;
+    let watch = Stopwatch::start(rt)?;
     for _ in 0..load.count / each {
         file.write_all(&block)?;
         if load.sync_each > 0 {
             file.sync_data()?;
         }
     }
-    micros_since(rt, start)
+    watch.stop(rt)
 }

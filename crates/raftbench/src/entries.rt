@@ -3,7 +3,7 @@ ghost use Rattle.std.specs.Prelude.{◌≡◌};
 
 use crate::blocks::{next_state, then_sum};
 use crate::log::open;
-use crate::measure::Host;
+use crate::measure::{Host, Report};
 use crate::parts::{Part, run_part};
 use crate::workload::{GROUPS, Load};
 use anyhow::Result;
@@ -18,11 +18,7 @@ use std::io;
 const FETCH_LEN: u64 = 100;
 
 /// What is read of the entries that were appended.
-const READS: [(&str, Part); 3] = [
-    ("  entry", Part::Entry),
-    ("  entry-in-order", Part::EntryInOrder),
-    ("  fetch", Part::Fetch),
-];
+const READS: [Part; 3] = [Part::Entry, Part::EntryInOrder, Part::Fetch];
 
 /// An entry: its bytes, of which the first eight are its index.
 #[derive(Drop)]
@@ -73,22 +69,24 @@ pub(crate) struct Place {
 /// for each entry.
 pub(crate) fn append_entry_fetch<R: Host, F: FileSystem + Drop>(
     rt: &R,
+    report: &mut Report,
     files: F,
     load: Load,
 ) -> Result<usize> {
     let mut engine = open(rt.alloc(), files, load.file_size)?;
-    append_and_read(rt, &mut engine, load)
+    append_and_read(rt, report, &mut engine, load)
 }
 
 fn append_and_read<R: Host, F: FileSystem>(
     rt: &R,
+    report: &mut Report,
     engine: &mut Engine<F>,
     load: Load,
 ) -> Result<usize> {
-    let len = run_part(rt, load.name, engine, Part::Append, load)?;
+    let len = run_part(rt, report, engine, Part::Append, load)?;
     let mut read = [0; 3];
-    for ((name, part), figure) in READS.iter().zip(read.iter_mut()) {
-        *figure = run_part(rt, name, engine, *part, load)?;
+    for (part, figure) in READS.iter().zip(read.iter_mut()) {
+        *figure = run_part(rt, report, engine, *part, load)?;
     }
     print_figures(rt, load.name, load.count, len, read)?;
     Ok((len / load.count.max(1)) as usize)

@@ -1,7 +1,7 @@
 //! Workloads of keys: of 16 bytes, in 100 groups.
 
 use crate::blocks::{next_state, then_sum};
-use crate::measure::{Host, report};
+use crate::measure::{Against, Host, Measure, Report, Stopwatch};
 use crate::parts::{Part, run_part};
 use crate::workload::{GROUPS, Load};
 use anyhow::Result;
@@ -10,7 +10,6 @@ use raft_log_engine::{Config, Engine};
 use raft_records::{Fault, Fresh, ReadableSize};
 use std::alloc::{AllocError, Global};
 use std::io;
-use std::time::Instant;
 
 const FOLDER: &str = "bench";
 
@@ -27,11 +26,12 @@ struct Figures {
 /// Puts, reads of keys in no order, and a close and an opening, over one engine. Answers the length of a record.
 pub(crate) fn put_get_reopen<R: Host, F: FileSystem + Drop>(
     rt: &R,
+    report: &mut Report,
     files: F,
     load: Load,
 ) -> Result<usize> {
-    let (files, figures) = put_and_close(rt, files, load)?;
-    let last_found = reopen(rt, files, figures.len, load)?;
+    let (files, figures) = put_and_close(rt, report, files, load)?;
+    let last_found = reopen(rt, report, files, figures.len, load)?;
     print_figures(rt, load.name, load.count, figures, last_found)?;
     Ok(figures.len / (load.count as usize).max(1))
 }
@@ -53,25 +53,27 @@ fn print_figures<R: Host>(
 
 fn put_and_close<R: Host, F: FileSystem + Drop>(
     rt: &R,
+    report: &mut Report,
     files: F,
     load: Load,
 ) -> Result<(F, Figures)> {
     let mut engine = open(rt.alloc(), files, load.file_size)?;
-    let (found, sum) = put_and_get(rt, &mut engine, load)?;
-    let start = Instant::now(rt)?;
+    let (found, sum) = put_and_get(rt, report, &mut engine, load)?;
+    let watch = Stopwatch::start(rt)?;
     let (files, len) = close(rt.alloc(), engine)?;
-    report(rt, "  close", start, load.count, len as u64)?;
+    add_whole(rt, report, "  close", watch, len, load)?;
     Ok((files, Figures { found, sum, len }))
 }
 
 // How many keys are found, and the checksum of their values, which no clock times.
 fn put_and_get<R: Host, F: FileSystem>(
     rt: &R,
+    report: &mut Report,
     engine: &mut Engine<F>,
     load: Load,
 ) -> Result<(u64, u32)> {
-    run_part(rt, load.name, engine, Part::Put, load)?;
-    let found = run_part(rt, "  get", engine, Part::Get, load)?;
+    run_part(rt, report, engine, Part::Put, load)?;
+    let found = run_part(rt, report, engine, Part::Get, load)?;
     let sum = sum_of_values(rt.alloc(), engine, load)?;
     Ok((found, sum))
 }
@@ -126,21 +128,38 @@ pub(crate) fn get_each<F: FileSystem>(
 }
 
 // The clock runs while the log of this length is opened. Answers whether the last key is found.
-fn reopen<R: Host, F: FileSystem + Drop>(rt: &R, files: F, len: usize, load: Load) -> Result<bool> {
-    let start = Instant::now(rt)?;
-    let engine = open(rt.alloc(), files, load.file_size)?;
-    report_opening(rt, &engine, start, len, load)
-}
-
-fn report_opening<R: Host, F: FileSystem>(
+fn reopen<R: Host, F: FileSystem + Drop>(
     rt: &R,
-    engine: &Engine<F>,
-    start: Instant,
+    report: &mut Report,
+    files: F,
     len: usize,
     load: Load,
 ) -> Result<bool> {
-    report(rt, "  reopen", start, load.count, len as u64)?;
-    Ok(has_last(rt.alloc(), engine, load)?)
+    let watch = Stopwatch::start(rt)?;
+    let engine = open(rt.alloc(), files, load.file_size)?;
+    add_whole(rt, report, "  reopen", watch, len, load)?;
+    Ok(has_last(rt.alloc(), &engine, load)?)
+}
+
+// What was done with the whole log of this length.
+fn add_whole<R: Host>(
+    rt: &R,
+    report: &mut Report,
+    name: &'static str,
+    watch: Stopwatch,
+    len: usize,
+    load: Load,
+) -> Result<()> {
+    let taken = watch.stop(rt)?;
+    report.parts.push(Measure {
+        name,
+        count: load.count,
+        bytes: len as u64,
+        against: Against::Records,
+        taken,
+        longest: None,
+    })?;
+    Ok(())
 }
 
 pub(crate) fn open<F: FileSystem + Drop>(

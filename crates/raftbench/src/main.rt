@@ -9,16 +9,18 @@ mod files;
 mod log;
 mod measure;
 mod parts;
+mod system;
 mod workload;
 
 use anyhow::{Result, bail};
-use measure::{Host, print_line};
+use measure::Host;
 use std::env;
+use system::print_system;
 use workload::{Amount, SMALL, Workload};
 
 fn main(rt: HostRuntime) -> Result<()> {
     let words = words(&rt)?;
-    print_line(&rt, "/proc/cpuinfo", "model name")?;
+    print_system(&rt)?;
     match words.as_slice() {
         [] => run_all(&rt),
         [word, folder, rest @ ..] if word.as_str() == "disk" => {

@@ -1,11 +1,11 @@
 //! The parts of the workloads over an engine, each timed in the same way.
 
-use crate::blocks::{filled, mark};
+use crate::blocks::{filled, mark, next_state};
 use crate::entries::{
     Entries, Entry, Place, entries_of, fetch_each, places_in_order, places_of, read_each,
 };
 use crate::log::{Key, get_each, key_of, keys_of};
-use crate::measure::{Host, micros_since, report};
+use crate::measure::{Against, Host, Measure, Report, Stopwatch, micros_since};
 use crate::workload::{GROUPS, Load};
 use anyhow::Result;
 use raft_env::FileSystem;
@@ -26,6 +26,18 @@ pub(crate) enum Part {
     Fetch,
 }
 
+impl Part {
+    fn name(self, load: Load) -> &'static str {
+        match self {
+            Part::Put | Part::Append => load.name,
+            Part::Get => "  get",
+            Part::Entry => "  entry",
+            Part::EntryInOrder => "  entry-in-order",
+            Part::Fetch => "  fetch",
+        }
+    }
+}
+
 /// What a batch holds: a group with a key and a value, or with entries.
 #[derive(Drop)]
 pub(crate) enum Written {
@@ -42,35 +54,47 @@ enum Data {
     Fetches(Vec<Place>),
 }
 
-/// Does a part and prints what it took. Answers the bytes of records, the keys or entries found, or the checksum of
+/// Does a part and reports what it took. Answers the bytes of records, the keys or entries found, or the checksum of
 /// the entries read.
 pub(crate) fn run_part<R: Host, F: FileSystem>(
     rt: &R,
-    name: &str,
+    report: &mut Report,
     engine: &mut Engine<F>,
     part: Part,
     load: Load,
 ) -> Result<u64> {
     let mut data = data_of(rt.alloc(), engine, part, load)?;
-    run_timed(rt, name, engine, &mut data, part, load)
+    run_timed(rt, report, engine, &mut data, part, load)
 }
 
 fn run_timed<R: Host, F: FileSystem>(
     rt: &R,
-    name: &str,
+    report: &mut Report,
     engine: &mut Engine<F>,
     data: &mut Data,
     part: Part,
     load: Load,
 ) -> Result<u64> {
-    let start = Instant::now(rt)?;
-    let figure = perform(rt, engine, data, load.sync_each)?;
-    let (count, bytes) = match part {
-        Part::Put | Part::Append => (load.count, figure),
-        Part::Get | Part::Entry | Part::EntryInOrder => (load.count, load.bytes()),
-        Part::Fetch => (figure, figure.saturating_mul(load.size as u64)),
+    let watch = Stopwatch::start(rt)?;
+    let (figure, longest) = perform(rt, engine, data, load.sync_each)?;
+    let taken = watch.stop(rt)?;
+    let (count, bytes, against) = match part {
+        Part::Put | Part::Append => (load.count, figure, Against::Records),
+        Part::Get | Part::Entry | Part::EntryInOrder => (load.count, load.bytes(), Against::Values),
+        Part::Fetch => (
+            figure,
+            figure.saturating_mul(load.size as u64),
+            Against::Values,
+        ),
     };
-    report(rt, name, start, count, bytes)?;
+    report.parts.push(Measure {
+        name: part.name(load),
+        count,
+        bytes,
+        against,
+        taken,
+        longest,
+    })?;
     Ok(figure)
 }
 
@@ -98,14 +122,33 @@ pub(crate) fn batches_of(
 ) -> Result<Vec<Written>, AllocError> {
     let mut value = filled(alloc, load.size, 1)?;
     let mut batches = Vec::new(alloc);
+    let mut key = 0;
     for number in 0..load.count / load.batch_len.max(1) {
         mark(&mut value, number);
         batches.push(match part {
-            Part::Put => put_of(alloc, number % load.keys.max(1), &value)?,
+            Part::Put => put_of(alloc, key, &value)?,
             _ => append_of(alloc, number, load.batch_len, &value)?,
         })?;
+        key = next_key(key, load);
     }
     Ok(batches)
+}
+
+// The next number; or the next of a generator whose period is the power of two above all keys, past what is no key.
+fn next_key(key: u64, load: Load) -> u64 {
+    if load.is_in_order {
+        return key.saturating_add(1) % load.keys.max(1);
+    }
+    let unused_bits = load.keys.saturating_sub(1).leading_zeros();
+    let mask = u64::MAX.checked_shr(unused_bits).unwrap_or(0);
+    let mut next = key;
+    for _ in 0..load.keys {
+        next = next_state(next) & mask;
+        if next < load.keys {
+            break;
+        }
+    }
+    next
 }
 
 fn put_of(alloc: Global, key: u64, value: &[u8]) -> Result<Written, AllocError> {
@@ -122,15 +165,15 @@ fn perform<R: Host, F: FileSystem>(
     engine: &mut Engine<F>,
     data: &mut Data,
     sync_each: u64,
-) -> Result<u64> {
+) -> Result<(u64, Option<u64>)> {
     match data {
         Data::Batches(batches) => {
             let batches = mem::replace(batches, Vec::new(rt.alloc()));
             write_all(rt, engine, batches, sync_each)
         }
-        Data::Keys(keys) => Ok(get_each(engine, keys, false)?.0),
-        Data::Entries(places) => Ok(read_each(engine, places)?),
-        Data::Fetches(places) => Ok(fetch_each(rt.alloc(), engine, places)?),
+        Data::Keys(keys) => Ok((get_each(engine, keys, false)?.0, None)),
+        Data::Entries(places) => Ok((read_each(engine, places)?, None)),
+        Data::Fetches(places) => Ok((fetch_each(rt.alloc(), engine, places)?, None)),
     }
 }
 
@@ -141,18 +184,18 @@ fn add(batch: &mut LogBatch, written: Written) -> Result<(), Fault> {
     }
 }
 
-/// Each in a batch of its own, and after so many a sync, or never for 0. Prints what the longest of each thousand took,
-/// and answers the bytes of their records.
+/// Each in a batch of its own, and after so many a sync, or never for 0. Answers the bytes of
+/// their records, and what the longest of each thousand took.
 pub(crate) fn write_all<R: Host, F: FileSystem>(
     rt: &R,
     engine: &mut Engine<F>,
     batches: Vec<Written>,
     sync_each: u64,
-) -> Result<u64> {
+) -> Result<(u64, Option<u64>)> {
     let mut batch = LogBatch::new(rt.alloc());
     let mut bytes = 0u64;
     let mut unsynced = 0u64;
-    let mut longest = 0;
+    let mut longest = None;
     let mut start = Instant::now(rt)?;
     for (number, written) in batches.into_iter().enumerate() {
         add(&mut batch, written)?;
@@ -163,10 +206,10 @@ pub(crate) fn write_all<R: Host, F: FileSystem>(
         }
         bytes = bytes.saturating_add(engine.write(&mut batch, sync)? as u64);
         if number % 1000 == 999 {
-            longest = longest.max(micros_since(rt, start)?);
+            let micros = micros_since(rt, start)?;
+            longest = Some(micros.max(longest.unwrap_or(0)));
             start = Instant::now(rt)?;
         }
     }
-    eprintln!(rt; "  longest thousand: {longest} us")?;
-    Ok(bytes)
+    Ok((bytes, longest))
 }

@@ -1,10 +1,10 @@
 //! The workloads by their names.
 
-use crate::blocks::report_ceilings;
+use crate::blocks::add_ceilings;
 use crate::entries::append_entry_fetch;
 use crate::files::append;
 use crate::log::put_get_reopen;
-use crate::measure::{Host, print_line};
+use crate::measure::{Against, Host, Report};
 use anyhow::Result;
 use raft_env::FileSystem;
 use raft_memory::MemoryFileSystem;
@@ -29,6 +29,8 @@ enum Kind {
     File,
     /// Under so many keys at the most.
     Puts(u64),
+    /// Each under a key of its own, in no order.
+    PutsInNoOrder,
     /// So many bytes of entries a batch, and one entry at the least.
     Entries(u64),
 }
@@ -36,13 +38,14 @@ enum Kind {
 /// Its name, what it does, after how many operations it syncs (0: never), and the size at which a log file is full.
 pub(crate) struct Workload(&'static str, Kind, u64, u64);
 
-/// How many values are written, under how many keys, of how many bytes, how many a batch, after how many to sync (0:
+/// How many values are written, under how many keys, in order or not, of how many bytes, how many a batch, after how many to sync (0:
 /// never), and the size at which a log file is full.
 #[derive(Clone, Copy)]
 pub(crate) struct Load {
     pub name: &'static str,
     pub count: u64,
     pub keys: u64,
+    pub is_in_order: bool,
     pub size: usize,
     pub batch_len: u64,
     pub sync_each: u64,
@@ -64,10 +67,11 @@ const BLOCK_SIZE: usize = 65536;
 pub(crate) const ONE_FILE: u64 = 1 << 40;
 
 impl Workload {
-    pub(crate) const ALL: [Workload; 10] = [
+    pub(crate) const ALL: [Workload; 11] = [
         Workload("crc", Kind::Blocks, 0, ONE_FILE),
         Workload("put", Kind::Puts(u64::MAX), 0, ONE_FILE),
         Workload("put-sync", Kind::Puts(u64::MAX), 1, ONE_FILE),
+        Workload("put-random", Kind::PutsInNoOrder, 0, ONE_FILE),
         Workload("overwrite", Kind::Puts(1000), 0, ONE_FILE),
         Workload("append", Kind::Entries(0), 0, ONE_FILE),
         Workload("append-sync", Kind::Entries(0), 1, ONE_FILE),
@@ -84,6 +88,10 @@ impl Workload {
     pub(crate) fn run<R: Host>(&self, rt: &R, amount: Amount) -> Result<()> {
         let Workload(name, kind, sync_each, file_size) = self;
         let Amount { count, size } = amount;
+        let size = match kind {
+            Kind::Blocks => BLOCK_SIZE,
+            _ => size,
+        };
         let load = Load {
             name: *name,
             count,
@@ -91,6 +99,7 @@ impl Workload {
                 Kind::Puts(keys) => count.min(*keys),
                 _ => count,
             },
+            is_in_order: !matches!(kind, Kind::PutsInNoOrder),
             size,
             batch_len: match kind {
                 Kind::Entries(bytes) => (*bytes / (size as u64).max(1)).min(count / GROUPS).max(1),
@@ -103,37 +112,25 @@ impl Workload {
     }
 }
 
-// Below each workload stand the ceilings of as many records as it made, and of as many values.
+// Below the parts of a workload stand the ceilings of as many records as it made, and of as many values.
 fn run_over<R: Host, F: FileSystem + Drop>(rt: &R, kind: Kind, files: F, load: Load) -> Result<()> {
-    match kind {
-        Kind::Blocks => return sum_blocks(rt, load),
-        Kind::File => append(rt, files, load)?,
-        Kind::Entries(_) | Kind::Puts(_) => {
-            let len = run_over_engine(rt, kind, files, load)?;
-            print_line(rt, "/proc/self/status", "VmHWM")?;
-            report_ceilings(rt, load.count, len)?;
+    let mut report = Report::new(rt);
+    let len = match kind {
+        Kind::Blocks => None,
+        Kind::File => {
+            append(rt, &mut report, files, load)?;
+            None
         }
+        Kind::Puts(_) | Kind::PutsInNoOrder => Some(put_get_reopen(rt, &mut report, files, load)?),
+        Kind::Entries(_) => Some(append_entry_fetch(rt, &mut report, files, load)?),
+    };
+    report.note_memory(rt);
+    if let Some(len) = len {
+        add_ceilings(rt, &mut report, Against::Records, load.count, len)?;
     }
-    report_ceilings(rt, load.count, load.size)?;
-    Ok(())
-}
-
-// Answers the length of a record.
-fn run_over_engine<R: Host, F: FileSystem + Drop>(
-    rt: &R,
-    kind: Kind,
-    files: F,
-    load: Load,
-) -> Result<usize> {
-    match kind {
-        Kind::Puts(_) => put_get_reopen(rt, files, load),
-        _ => append_entry_fetch(rt, files, load),
+    let sum = add_ceilings(rt, &mut report, Against::Values, load.count, load.size)?;
+    if let Kind::Blocks = kind {
+        println!(rt; "{}: {} bytes, checksum {sum:08x}", load.name, load.bytes())?;
     }
-}
-
-fn sum_blocks<R: Host>(rt: &R, load: Load) -> Result<()> {
-    let bytes = load.count.saturating_mul(BLOCK_SIZE as u64);
-    let sum = report_ceilings(rt, load.count, BLOCK_SIZE)?;
-    println!(rt; "crc: {bytes} bytes, checksum {sum:08x}")?;
-    Ok(())
+    report.print(rt)
 }
