@@ -38,8 +38,8 @@ enum Kind {
 /// Its name, what it does, after how many operations it syncs (0: never), and the size at which a log file is full.
 pub(crate) struct Workload(&'static str, Kind, u64, u64);
 
-/// How many values are written, under how many keys, in order or not, of how many bytes, how many a batch, after how many to sync (0:
-/// never), and the size at which a log file is full.
+/// How many values are written, under how many keys, in order or not, of how many bytes, how many a batch, after how many
+/// to sync (0: never), and the size at which a log file is full.
 #[derive(Clone, Copy)]
 pub(crate) struct Load {
     pub name: &'static str,
