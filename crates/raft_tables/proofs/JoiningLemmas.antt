@@ -1,15 +1,15 @@
 -- Older tables put below newer ones.
-use Rattle.std.proofs.Common.{◌≡◌, ℕ, ◌+◌, ◌-◌, ◌^◌, ◌==◌, ◌||◌, min, Bool, true, false, cond, List, [], ◌∷◌, Option, Some, None, is_some, unwrap_or, refl, sym, ◌∙◌, ap, subst, arith}
+use Rattle.std.proofs.Common.{◌≡◌, ℕ, ◌+◌, ◌-◌, ◌^◌, ◌==◌, nat_eq, ◌||◌, min, Bool, true, false, cond, List, [], ◌∷◌, Option, Some, None, is_some, unwrap_or, refl, sym, ◌∙◌, ap, subst, arith}
 use Rattle.std.proofs.lemmas.Bool.Decides.{nat_tests}
-use Rattle.std.proofs.lemmas.Cmp.{nat_cmp_total}
 use Rattle.std.proofs.lemmas.Grind.{common_steps}
 use Rattle.std.proofs.lemmas.List.Sums.{sum_by-cons}
-use Rattle.std.proofs.lemmas.Map.Entries.{sum_by-insert_entry, sum_by-set_value}
-use Rattle.std.specs.BTreeMap as tree
-use Rattle.std.specs.List.{sum_by}
-use Rattle.std.specs.Map.{set_value, values_of}
+use Rattle.std.proofs.lemmas.Map.{lookup-none}
+use Rattle.std.proofs.lemmas.Map.Entries.{lookup_head, none_past_head, sum_by-set_value, sum_by_puts_entry}
+use Rattle.std.specs.Cmp.{nat_eq_equiv}
+use Rattle.std.specs.HashMap as hash
+use Rattle.std.specs.List.{IsDistinct, sum_by}
+use Rattle.std.specs.Map.{keys_of, lookup, set_value, values_of}
 use Rattle.std.specs.Option.{option_map, option_or}
-use Rattle.std.specs.Ordering.{nat_cmp}
 use Rattle.raft_base.specs.declared.pipe_log.LogQueue.TheVariants.{Rewrite}
 use Rattle.raft_records.specs.Contents.{with_entries}
 use Rattle.raft_records.specs.declared.entry_index.EntryPlace.{EntryPlace}
@@ -69,27 +69,47 @@ join_step l a j group t v first table joined = record {
         is ∙ ap (λ (o : Option TableView). is_some o || is_some (a g)) (sym first) ∙ ap (λ h. is_some (l h) || is_some (a g)) (sym (eq_from_test g group here))
     known_at g false here is = is
 
+-- the tables of a list of groups, none of them twice
+abbrev pub tables_in : List (ℕ × MemTable) → Tables
+tables_in es group = option_map table_of (lookup (nat_eq group) es)
+
+tables_in-rest : (e : ℕ × MemTable) (es : List (ℕ × MemTable)) → IsDistinct nat_eq (keys_of (e ∷ es)) → tables_in es ≡ with_table e.0 None (tables_in (e ∷ es))
+tables_in-rest e es distinct = λ i g. at g (g == e.0) refl i
+  where
+    at : (g : ℕ) (b : Bool) → (g == e.0) ≡ b → option_map table_of (lookup (nat_eq g) es) ≡ cond b None (option_map table_of (cond b (Some e.1) (lookup (nat_eq g) es)))
+    at g true here = ap (option_map table_of) (lookup-none (nat_eq g) es (none_past_head nat_eq_equiv g e es distinct here))
+    at g false here = refl
+
+-- after the first of a list was put below, the others give the same as all did
+pub join_first : (e : ℕ × MemTable) (all es : List (ℕ × MemTable)) (a b j : Tables) (v : TableView) → all ≡ e ∷ es → IsDistinct nat_eq (keys_of all) → IsTableJoined (Some (table_of e.1)) (a e.0) v → b ≡ with_table e.0 (Some v) a
+    → IsJoined (tables_in es) b j → IsJoined (tables_in all) a j
+join_first e all es a b j v whole distinct table put joined =
+    let apart = subst (λ xs. IsDistinct nat_eq (keys_of xs)) whole distinct in
+    let first : tables_in (e ∷ es) e.0 ≡ Some (table_of e.1) = ap (option_map table_of) (lookup_head (nat_eq e.0) e es (nat_eq_equiv.refl e.0)) in
+    let others = subst (λ (t : Tables). IsJoined (tables_in es) t j) put joined in
+    subst (λ xs. IsJoined (tables_in xs) a j) (sym whole)
+    (join_step (tables_in (e ∷ es)) a j e.0 (table_of e.1) v first table (subst (λ (t : Tables). IsJoined t (with_table e.0 (Some v) a) j) (tables_in-rest e es apart) others))
+
 -- how many stand in the Rewrite queue
 
-pub total-set : (m : MemTables) (n : Groups) (group : ℕ) (old new : MemTable) → Some old ≡ tree.get nat_cmp m.tables group → n.entries ≡ set_value (tree.is_at (nat_cmp group)) m.tables.entries new
+abbrev pub total_in : List (ℕ × MemTable) → ℕ
+total_in es = sum_by (λ t. rewritten_in (table_of t)) (values_of es)
+
+pub total-set : (m : MemTables) (n : Groups) (group : ℕ) (old new : MemTable) → Some old ≡ hash.get nat_eq m.tables group → n.entries ≡ set_value (nat_eq group) m.tables.entries new
     → rewritten_total (record { alloc = m.alloc; tables = n }) + rewritten_in (table_of old) ≡ rewritten_total m + rewritten_in (table_of new)
 total-set m n group old new there is =
-    ap (λ es. sum_by (λ t. rewritten_in (table_of t)) (values_of es) + rewritten_in (table_of old)) is
-    ∙ sum_by-set_value (λ t. rewritten_in (table_of t)) (tree.is_at (nat_cmp group)) m.tables.entries old new (sym there)
+    ap (λ es. total_in es + rewritten_in (table_of old)) is
+    ∙ sum_by-set_value (λ t. rewritten_in (table_of t)) (nat_eq group) m.tables.entries old new (sym there)
 
-pub total-insert : (m : MemTables) (n : Groups) (group : ℕ) (new : MemTable) → None ≡ tree.get nat_cmp m.tables group → tree.IsOrdered nat_cmp m.tables → n.entries ≡ tree.insert_entry nat_cmp m.tables.entries group new
+pub total-insert : (m : MemTables) (n : Groups) (group : ℕ) (new : MemTable) (old : Option MemTable) → None ≡ hash.get nat_eq m.tables group → old ≡ hash.get nat_eq m.tables group → hash.PutsEntry nat_eq m.tables n group new old
     → rewritten_total (record { alloc = m.alloc; tables = n }) ≡ rewritten_total m + rewritten_in (table_of new)
-total-insert m n group new none ordered is =
-    let sum = sum_by-insert_entry (λ (t : MemTable). rewritten_in (table_of t)) nat_cmp_total m.tables.entries group new ordered in
-    let all = ap (λ es. sum_by (λ (t : MemTable). rewritten_in (table_of t)) (values_of es)) is in
-    let nothing = ap (λ o. unwrap_or (option_map (λ (t : MemTable). rewritten_in (table_of t)) o) 0) none in
-    omega (arith, sum, all, nothing)
+total-insert m n group new old none is puts =
+    let sum = sum_by_puts_entry (λ (t : MemTable). rewritten_in (table_of t)) nat_eq m.tables n group new old is puts in
+    let nothing = ap (λ o. unwrap_or (option_map (λ (t : MemTable). rewritten_in (table_of t)) o) 0) (is ∙ sym none) in
+    omega (arith, sum, nothing)
 
-pub total-cons : (m : MemTables) (n : Groups) (group : ℕ) (t : MemTable) → m.tables.entries ≡ (group, t) ∷ n.entries
-    → rewritten_total m ≡ rewritten_in (table_of t) + rewritten_total (record { alloc = m.alloc; tables = n })
-total-cons m n group t is =
-    ap (λ es. sum_by (λ (x : MemTable). rewritten_in (table_of x)) (values_of es)) is
-    ∙ sum_by-cons (λ (x : MemTable). rewritten_in (table_of x)) t (values_of n.entries)
+pub total_in-cons : (e : ℕ × MemTable) (es : List (ℕ × MemTable)) → total_in (e ∷ es) ≡ rewritten_in (table_of e.1) + total_in es
+total_in-cons e es = sum_by-cons (λ (t : MemTable). rewritten_in (table_of t)) e.1 (values_of es)
 
 pub count_more : (n left more next : ℕ) → left ≡ count_after Rewrite n 0 → next ≡ min (left + more) (2 ^ 64 - 1) → next ≡ count_after Rewrite (n + more) 0
 count_more n left more next is then = at (2 ^ 64 - 1) is then
