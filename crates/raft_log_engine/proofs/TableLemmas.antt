@@ -1,5 +1,5 @@
 -- What tables hold, where blocks hold the bytes of their entries.
-use Rattle.std.proofs.Common.{◌≡◌, ℕ, true, List, [], ◌∷◌, ◌++◌, map, Option, Some, None, is_some, ap, sym, ◌∙◌, Bool}
+use Rattle.std.proofs.Common.{◌≡◌, ℕ, true, List, [], ◌∷◌, map, Some, None, ap, ◌∙◌, Bool}
 use Rattle.std.specs.List.{list_all}
 use Rattle.raft_base.specs.declared.pipe_log.FileId.{FileId}
 use Rattle.raft_env.specs.Directory.{Directory}
@@ -10,8 +10,7 @@ use Rattle.raft_records.specs.ItemBatch.{are_readable, is_readable_at}
 use Rattle.raft_records.specs.PlacedItem.{PlacedItem, is_placed_in_order, item_in}
 use Rattle.raft_records.specs.Places.{Blocks}
 use Rattle.raft_tables.specs.Known.{known_after}
-use Rattle.raft_tables.specs.Table.{TableView}
-use Rattle.raft_tables.specs.Tables.{Applies, Tables, contents_in, or_empty, tables_of}
+use Rattle.raft_tables.specs.Tables.{Applies, tables_of}
 use Rattle.raft_tables.specs.declared.memtables.MemTables.{MemTables}
 use Rattle.raft_log_engine.specs.Contents.{StandFor, known_from}
 use Rattle.raft_log_engine.specs.Queues.{AreByQueue, HasBothBlocks}
