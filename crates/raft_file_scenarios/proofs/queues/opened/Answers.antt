@@ -3,21 +3,28 @@ use Rattle.raft_base.specs.declared.pipe_log.LogQueue.TheVariants.{Append}
 use Rattle.raft_env.specs.Directory.{Directory}
 use Rattle.raft_files.specs.Writer.{bytes_at}
 use Rattle.raft_pipes.specs.FileList.{place_of}
-use Rattle.raft_pipes.specs.Files.{EachFile, IsOpenableFile}
+use Rattle.raft_pipes.specs.Files.{AreReplaysOf, EachFile, IsOpenableFile}
 use Rattle.raft_pipes.specs.Folder.{log_files_of}
-use Rattle.raft_pipes.specs.Folders.{Folders}
+use Rattle.raft_pipes.specs.Folders.{Folders, all_of}
+use Rattle.raft_pipes.specs.Numbered.{AreSingle}
 use Rattle.raft_pipes.proofs.OpenedQueueLemmas.{openable_places}
 use Rattle.raft_file_scenarios.proofs.queues.opened.Goals as goal
 
-pub settle_or_begin-requires-clause-places : goal.settle_or_begin-requires-clause-places
-settle_or_begin-requires-clause-places g c _ _ =
+pub settle_or_begin-requires-clause-read : goal.settle_or_begin-requires-clause-read
+settle_or_begin-requires-clause-read g c _ _ =
     let folders : Folders = c.in_ok-folders.folders in
     let mode = c.in_ok-config.config.recovery_mode in
+    let replayed = c.in_ok-replayed.replayed.items in
     let made = g.F.FileSystem.directory c.make.new.file_system in
     let read = g.F.FileSystem.directory c.read_files.new.file_system in
-    let found = map place_of c.deref.result.now in
-    let found_is : found ≡ log_files_of Append folders made = ap (map place_of) c.deref.ensures.value ∙ c.in_ok-files.ensures.value in
     let still : read ≡ made = c.read_files.ensures.unchanged.0 ∙ c.find.ensures.unchanged.0 in
-    let before : EachFile (IsOpenableFile mode Append (λ path. bytes_at path made)) (log_files_of Append folders made) =
-    subst (λ (n : Directory). EachFile (IsOpenableFile mode Append (λ path. bytes_at path n)) (log_files_of Append folders made)) c.find.ensures.unchanged.0 (subst (EachFile (IsOpenableFile mode Append (λ path. bytes_at path (g.F.FileSystem.directory c.find.new.file_system)))) found_is c.in_ok-replayed.ensures.openable) in
-    openable_places Append mode folders read (subst (λ (n : Directory). EachFile (IsOpenableFile mode Append (λ path. bytes_at path n)) (log_files_of Append folders n)) (sym still) before)
+    let found_is = ap (map place_of) c.deref.ensures.value ∙ c.in_ok-files.ensures.value in
+    let openable = subst (λ (n : Directory). EachFile (IsOpenableFile mode Append (λ path. bytes_at path n)) (map place_of c.deref.result.now)) (sym c.read_files.ensures.unchanged.0) c.in_ok-replayed.ensures.openable in
+    let before = subst (EachFile (IsOpenableFile mode Append (λ path. bytes_at path read))) (found_is ∙ ap (λ (n : Directory). log_files_of Append folders n) (sym still)) openable in
+    let replays = subst (λ (n : Directory). AreReplaysOf Append n (map place_of c.deref.result.now) replayed) (sym c.read_files.ensures.unchanged.0) c.in_ok-replayed.ensures.value in
+    record {
+      files = c.in_ok-files.ensures.value ∙ ap (λ (n : Directory). log_files_of Append folders n) (sym still);
+      single = subst (λ (n : Directory). AreSingle (all_of folders) Append n) (sym still) c.in_ok-files.ensures.single;
+      places = openable_places Append mode folders read before;
+      replays = λ some. subst (λ fs. AreReplaysOf Append read (map place_of fs) replayed) c.deref.ensures.value replays;
+    }
