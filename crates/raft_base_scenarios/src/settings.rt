@@ -1,7 +1,7 @@
 //! Settings: which are refused, and what becomes of the others.
 
 use crate::rows::{Row, each_holds};
-use raft_pipes::Config;
+use raft_config::Config;
 use raft_records::{Fault, Fresh, ReadableSize, Version};
 use std::alloc::Global;
 use std::test::Fail;

@@ -14,7 +14,7 @@ ghost use Rattle.raft_files.specs.Records.{HoldsRecords};
 ghost use Rattle.raft_premise.specs.Completed.{EndsInZeros, HasCompletedLog, HasCompletedRecords};
 ghost use Rattle.raft_damage.specs.DetectableDamage.{EachAddsOnlyItsRecord, IsBrokenFrom, IsReadAsBefore, IsTornAfter};
 ghost use Rattle.raft_pipes.specs.Completed.{HasSimplePastOf, PipeHasCompletedLogIfSimple};
-ghost use Rattle.raft_pipes.specs.Folders.{Folders, all_of};
+ghost use Rattle.raft_config.specs.Folders.{Folders, all_of};
 ghost use Rattle.raft_pipes.specs.Pipe.{HasQueueOf};
 ghost use Rattle.raft_pipes.specs.PipeState.{PipeState};
 ghost use Rattle.raft_pipes.specs.QueueFiles.{IsDetectableQueue};

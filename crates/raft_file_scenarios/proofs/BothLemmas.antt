@@ -8,7 +8,7 @@ use Rattle.raft_base.specs.declared.pipe_log.LogFileContext.{LogFileContext}
 use Rattle.raft_base.specs.declared.pipe_log.LogQueue.{LogQueue}
 use Rattle.raft_env.specs.Directory.{Directory}
 use Rattle.raft_queues.specs.Dual.{DualState, HasAppendedIn, HasBoth, HasSyncedIn, StandSideBySide, StillHasBoth, counted, grown, pipe_of}
-use Rattle.raft_pipes.specs.Folders.{Folders}
+use Rattle.raft_config.specs.Folders.{Folders}
 use Rattle.raft_pipes.specs.Pipe.{IsPipeOf, IsRecordOf}
 use Rattle.raft_pipes.specs.PipeState.{PipeState, context_of}
 use Rattle.raft_pipes.specs.Purge.{dropped_batches}

@@ -1,7 +1,7 @@
 //! What the tests of queues share: the settings of their folder, and its files before and after.
 
+use raft_config::Config;
 use raft_env::{FileSystem, FsFault, Permission};
-use raft_pipes::Config;
 use raft_queues::DualPipesBuilder;
 use raft_records::{Fault, Fresh};
 use std::alloc::{AllocError, Global};

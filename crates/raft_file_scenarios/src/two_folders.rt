@@ -2,9 +2,9 @@
 
 use crate::folders::{HEADER, store_in};
 use crate::two_queues::{PUT_1, PUT_2, are_cuts, read};
+use raft_config::Config;
 use raft_env::{FileSystem, FsFault, Permission};
 use raft_memory::MemoryFileSystem;
-use raft_pipes::Config;
 use raft_pipes::file_list::{FoundFile, scan};
 use raft_queues::DualPipesBuilder;
 use raft_records::{Fault, Fresh, LogQueue};

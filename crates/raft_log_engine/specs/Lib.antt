@@ -2,6 +2,7 @@ pub mod Answered
 pub mod Attempt
 pub mod Batches
 pub mod Contents
+pub mod Held
 pub mod Crash
 pub mod Cause
 pub mod Engine
@@ -15,3 +16,5 @@ pub mod Write
 pub mod Image
 pub mod Reads
 pub mod Scan
+pub mod PurgeSteps
+pub mod DropOld

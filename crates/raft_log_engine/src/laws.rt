@@ -13,10 +13,10 @@ ghost use Rattle.raft_env.specs.Consistent.{AreConsistent};
 ghost use Rattle.raft_memory.specs.Choice.{AreWhole, left_by};
 ghost use Rattle.raft_memory.specs.declared.crash.Choice.{Choice};
 ghost use Rattle.raft_pipes.specs.Folder.{AreClear, HasNoLog};
-ghost use Rattle.raft_pipes.specs.Folders.{Folders};
+ghost use Rattle.raft_config.specs.Folders.{Folders};
 ghost use Rattle.raft_log_engine.specs.Queues.{AreDetectableIn, AreOpenableIn, AreSingleIn, AreSoundIn, HaveSimplePastIn};
-ghost use Rattle.raft_pipes.specs.declared.config.RecoveryMode.{RecoveryMode};
-ghost use Rattle.raft_pipes.specs.declared.config.RecoveryMode.TheVariants.{AbsoluteConsistency};
+ghost use Rattle.raft_config.specs.declared.config.RecoveryMode.{RecoveryMode};
+ghost use Rattle.raft_config.specs.declared.config.RecoveryMode.TheVariants.{AbsoluteConsistency};
 
 use crate::Engine;
 use raft_env::FileSystem;

@@ -3,9 +3,11 @@
 
 pub mod engine;
 pub mod laws;
+pub mod purge_steps;
+pub mod steps;
 
 pub use engine::{Engine, GroupImage, Image, Refused};
+pub use raft_config::{Config, RecoveryMode};
 pub use raft_env::{FileSystem, FsFault, Permission};
 pub use raft_memory::{Choice, FsCall, MemoryFileSystem};
-pub use raft_pipes::{Config, RecoveryMode};
 pub use raft_records::{Fault, Fresh, IoKind, LogBatch, ReadableSize, Version};

@@ -1,7 +1,6 @@
 pub mod ApartLemmas
 pub mod BlocksLemmas
 pub mod CompletedLemmas
-pub mod ConfigLemmas
 pub mod FileListLemmas
 pub mod FilesLemmas
 pub mod FolderLemmas

@@ -6,7 +6,7 @@ use Rattle.raft_base.specs.declared.errors.Fault.TheVariants as fault
 use Rattle.raft_env.specs.Directory.{Directory, HasFile, Path}
 use Rattle.raft_env.specs.Refusal.{NoFewer, Refusals}
 use Rattle.raft_pipes.specs.Folder.{HasFileFor, IsLogPath, IsLogPathIn}
-use Rattle.raft_pipes.specs.Folders.{Folders, all_of, beside_main}
+use Rattle.raft_config.specs.Folders.{Folders, all_of, beside_main}
 use Rattle.raft_pipes.specs.Numbered.{path_of}
 use Rattle.raft_pipes.specs.Queue.{IsMakeRefusal, IsMakeRefusalIn, LeavesAll}
 use Rattle.raft_pipes.proofs.ApartLemmas.{main_among}

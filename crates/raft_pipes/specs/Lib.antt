@@ -1,11 +1,8 @@
 pub mod Blocks
-pub mod Config
-pub mod Sanitized
 pub mod Completed
 pub mod FileList
 pub mod Files
 pub mod Folder
-pub mod Folders
 pub mod Listing
 pub mod LogFile
 pub mod Numbered

@@ -1,7 +1,6 @@
 //! A queue of log files in the settings' folders: how it is opened, replayed and appended to.
 #![tactic(auto)]
 
-mod config;
 pub mod file_list;
 mod files;
 mod log_folders;
@@ -10,7 +9,6 @@ mod pipe_builder;
 mod replay;
 pub mod rotation;
 
-pub use config::{Config, RecoveryMode};
 pub use files::read_files;
 pub use log_folders::LogFolders;
 pub use pipe::{AppendFault, RotationFault, SinglePipe};

@@ -49,14 +49,14 @@ place_of_other id other None rest is apart = absurd (false≢true is)
 place_of_other id other (Some mark) rest is apart = ap (λ b. cons_option (cond b (Some mark.place) None) rest) (other_id mark.id id other is apart)
 
 -- a batch of the group, and all after it
-of_group : (id : ℕ) (b : Batch) (bs : List Batch) → list_all (is_of_group id) (b ∷ bs) ≡ true → (is_of_group id b ≡ true) × (list_all (is_of_group id) bs ≡ true)
+pub of_group : (id : ℕ) (b : Batch) (bs : List Batch) → list_all (is_of_group id) (b ∷ bs) ≡ true → (is_of_group id b ≡ true) × (list_all (is_of_group id) bs ≡ true)
 of_group id b bs all = both (is_of_group id b) _ all
   where
     both : (x y : Bool) → (x && y) ≡ true → (x ≡ true) × (y ≡ true)
     both true y is = (refl, is)
     both false y is = absurd (false≢true is)
 
-none_of_others : (id other : ℕ) (bs : List Batch) → list_all (is_of_group id) bs ≡ true → eqb other id ≡ false → places_in other bs ≡ []
+pub none_of_others : (id other : ℕ) (bs : List Batch) → list_all (is_of_group id) bs ≡ true → eqb other id ≡ false → places_in other bs ≡ []
 none_of_others id other [] all apart = refl
 none_of_others id other (b ∷ bs) all apart =
     let each = of_group id b bs all in

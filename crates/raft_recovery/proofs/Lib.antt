@@ -22,3 +22,5 @@ pub mod ProgramLemmas
 pub mod CompleteGroupsLemmas
 pub mod ValueLemmas
 pub mod ReadLemmas
+pub mod TogetherLemmas
+pub mod TakesLemmas

@@ -1,6 +1,6 @@
 -- Queues that stand for contents: what a crash finds, and each step.
 use Rattle.std.proofs.Common.{◌≡◌, ℕ, zero, suc, List, [], ◌∷◌, ◌++◌, take, drop, length, refl, sym, ◌∙◌, ap, subst, append_assoc, append-nil, arith, inl, inr, length-append}
-use Rattle.std.proofs.lemmas.List.{take-append-drop, take-append-le, take_all}
+use Rattle.std.proofs.lemmas.List.{drop_at, take-append-drop, take-append-le, take_all}
 use Rattle.std.proofs.lemmas.Bool.{cases_lt}
 use Rattle.std.proofs.Math.Seq.{take-length}
 use Rattle.raft_records.specs.Item.{Batch}
@@ -11,6 +11,8 @@ use Rattle.raft_recovery.specs.Consecutive.{HaveConsecutiveEntries, HasConsecuti
 use Rattle.raft_recovery.specs.Valid.{AreValidBatches}
 use Rattle.raft_recovery.specs.Stands.{Queues, Stands, found_after_crash, left_by_crash, synced_queues}
 use Rattle.raft_recovery.proofs.ContentsLemmas.{consecutive_one, consecutive-append, effect_consecutive, replay_consecutive, replay-all_appended, valid_is_consecutive}
+use Rattle.raft_recovery.specs.Dropping.{HoldsLeft, ShareNoGroup}
+use Rattle.raft_recovery.proofs.DropRewriteLemmas.{dropped_old_batches, holds_with_more}
 use Rattle.raft_recovery.proofs.FixedLemmas.{consecutive_parts, replay-replay, replay-later, replay-more}
 
 -- batches that are valid one after the other
@@ -197,3 +199,33 @@ stands_reopened q m i j k s =
     let bs = take k q.appended_since in
     subst (Stands (left_by_crash q i j k)) (found_prefix q m i j k s)
     (stands_opened (q.rewritten ++ take j q.rewritten_since) (drop i q.older ++ q.appended ++ bs) (rewritten_part q m j s) (consecutive-append (drop i q.older ++ q.appended) bs (standing_consecutive q m i s) (valid_consecutive m bs (valid_take m k q.appended_since s.valid))))
+
+-- Drops file by file.
+
+-- older batches that still stand are as good as synced ones
+pub stands_standing : (q : Queues) (m : Contents) → Stands q m → Stands (record q { older = []; appended = q.older ++ q.appended }) m
+stands_standing q m s = record {
+  rewritten_consecutive = s.rewritten_consecutive;
+  appended_consecutive = s.appended_consecutive;
+  now = λ j. found_synced q m 0 j s;
+  past = s.past;
+  valid = s.valid;
+}
+
+-- of a front that may be dropped any first part may go
+pub stands_first_gone : (q : Queues) (m : Contents) (first second rest : List Batch) → Stands q m → q.rewritten_since ≡ [] → q.older ++ q.appended ≡ first ++ second ++ rest → recovered q.rewritten rest ≡ recovered q.rewritten (first ++ second ++ rest) → Stands (record q { older = []; appended = second ++ rest }) m
+stands_first_gone q m first second rest s none is same =
+    let whole : Queues = record q { older = []; appended = q.older ++ q.appended } in
+    let dropped : Queues = record q { older = first ++ second; appended = rest } in
+    let gone = stands_older_gone dropped m (length first) (stands_front_dropped whole m (first ++ second) rest (stands_standing q m s) none is same) in
+    stands_standing (record q { older = second; appended = rest }) m (subst (λ bs. Stands (record q { older = bs; appended = rest }) m) (drop_at first second (length first) refl) gone)
+
+-- .. and of old files of the Rewrite queue, where no atomic group stands on both sides
+pub stands_rewrite_first_gone : (q : Queues) (m : Contents) (first second new : List Batch) → Stands q m → q.rewritten_since ≡ [] → q.rewritten ≡ first ++ (second ++ new) → ShareNoGroup first (second ++ new) → ShareNoGroup second new → HoldsLeft (effect new) q.appended m → Stands (record q { rewritten = second ++ new }) m
+stands_rewrite_first_gone q m first second new s none is apart apart_new held =
+    let run = (consecutive_parts q.rewritten q.rewritten_since s.rewritten_consecutive).0 in
+    let parts = consecutive_parts first (second ++ new) (subst HaveConsecutiveEntries is run) in
+    let later = consecutive_parts second new parts.1 in
+    let found : recovered (first ++ (second ++ new)) q.appended ≡ m = ap (λ bs. recovered bs q.appended) (sym is ∙ sym (append-nil q.rewritten) ∙ ap (λ bs. q.rewritten ++ bs) (sym none)) ∙ all_rewritten q m s in
+    stands_rewrite_dropped q m first (second ++ new) s none is
+    (dropped_old_batches first (second ++ new) q.appended apart parts.0 parts.1 (appended_part q m s) (subst (HoldsLeft (effect (second ++ new)) q.appended) (sym found) (holds_with_more second new q.appended m apart_new later.0 later.1 held)))

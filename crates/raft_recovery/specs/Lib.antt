@@ -9,3 +9,5 @@ pub mod Dropping
 pub mod DroppingFront
 pub mod Change
 pub mod Program
+pub mod Together
+pub mod Takes

@@ -12,3 +12,4 @@ pub mod recovered;
 pub mod recovered_value;
 pub mod rewrite_laws;
 pub mod stands_laws;
+pub mod takes_laws;

@@ -92,3 +92,23 @@ pub fn batches_of_such_items_change_nothing()
         → replay (after_batches (effect old) group) appended ≡ replay (effect old) appended
         → recovered (old ++ group) appended ≡ recovered old appended }
 {}
+
+/// A group is written batch by batch. While it isn't complete a further batch of it changes nothing
+/// (`open`); its last one changes nothing where the group as a whole doesn't (`last`). So a crash
+/// inside it finds what was found before it.
+pub fn a_group_may_be_written_batch_by_batch()
+    ensures open { (id : ℕ) (old group appended : List Batch) (batch : Batch)
+        → places_in id old ≡ [] → IsTrue (list_all (is_of_group id) group)
+        → IsTrue (list_all (is_of_group id) (group ++ batch ∷ []))
+        → is_complete (places_in id group) ≡ false
+        → is_complete (places_in id (group ++ batch ∷ [])) ≡ false
+        → recovered (old ++ group ++ batch ∷ []) appended ≡ recovered (old ++ group) appended }
+    ensures last { (id : ℕ) (old group appended : List Batch) (batch : Batch)
+        → places_in id old ≡ [] → IsTrue (list_all (is_of_group id) group)
+        → IsTrue (list_all (is_of_group id) (group ++ batch ∷ []))
+        → is_complete (places_in id group) ≡ false
+        → IsTrue (is_complete (places_in id (group ++ batch ∷ [])))
+        → replay (after_batches (effect old) (group ++ batch ∷ [])) appended
+        ≡ replay (effect old) appended
+        → recovered (old ++ group ++ batch ∷ []) appended ≡ recovered (old ++ group) appended }
+{}

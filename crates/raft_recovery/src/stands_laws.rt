@@ -5,6 +5,7 @@ ghost use Rattle.raft_records.specs.Item.{Batch};
 ghost use Rattle.raft_records.specs.Validity.{IsValidBatch};
 ghost use Rattle.raft_recovery.specs.Consecutive.{HaveConsecutiveEntries};
 ghost use Rattle.raft_recovery.specs.Recovered.{effect, recovered};
+ghost use Rattle.raft_recovery.specs.Dropping.{HoldsLeft, ShareNoGroup};
 ghost use Rattle.raft_recovery.specs.Stands.{Queues, Stands, found_after_crash, left_by_crash, synced_queues};
 
 /// After every crash, whatever it leaves of the unsynced ends of both queues and of dropped files
@@ -60,4 +61,21 @@ pub fn steps_of_the_rewrite_queue_keep_contents()
         → q.rewritten_since ≡ [] → q.rewritten ≡ old ++ new
         → recovered new q.appended ≡ recovered (old ++ new) q.appended
         → Stands (record q { rewritten = new }) m }
+{}
+
+/// Files are dropped one after the other. Of a front of the Append queue that may be dropped any
+/// first part may be gone, while the rest still stands (`front`); and so of old files of the Rewrite
+/// queue, where no atomic group has batches on both sides of where they end (`old`). Older batches
+/// that stand are as good as synced ones (`standing`).
+pub fn files_may_go_one_after_the_other()
+    ensures standing { (q : Queues) (m : Contents) → Stands q m
+        → Stands (record q { older = []; appended = q.older ++ q.appended }) m }
+    ensures front { (q : Queues) (m : Contents) (first second rest : List Batch) → Stands q m
+        → q.rewritten_since ≡ [] → q.older ++ q.appended ≡ first ++ second ++ rest
+        → recovered q.rewritten rest ≡ recovered q.rewritten (first ++ second ++ rest)
+        → Stands (record q { older = []; appended = second ++ rest }) m }
+    ensures old { (q : Queues) (m : Contents) (first second new : List Batch) → Stands q m
+        → q.rewritten_since ≡ [] → q.rewritten ≡ first ++ (second ++ new)
+        → ShareNoGroup first (second ++ new) → ShareNoGroup second new
+        → HoldsLeft (effect new) q.appended m → Stands (record q { rewritten = second ++ new }) m }
 {}

@@ -29,7 +29,7 @@ use Rattle.raft_script.specs.Run.{AreBatchAnswers, FailsBy, IsBatchRefusal, IsGr
 use Rattle.raft_script.proofs.RunLemmas.{same_err}
 use Rattle.raft_script.specs.declared.operation.Op.TheVariants.{WriteGroup}
 use Rattle.raft_script.specs.declared.operation.Outcome.TheVariants.{Sizes}
-use Rattle.raft_pipes.specs.Folders.{Folders}
+use Rattle.raft_config.specs.Folders.{Folders}
 
 -- Building.
 

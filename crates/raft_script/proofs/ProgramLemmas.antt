@@ -5,7 +5,7 @@ use Rattle.std.specs.declared.alloc.AllocError.{AllocError}
 use Rattle.std.proofs.lemmas.Bool.{cases_Bool}
 use Rattle.raft_base.specs.declared.errors.Fault.TheVariants as fault
 use Rattle.raft_env.specs.Directory.{CrashImage, Directory, Leaves}
-use Rattle.raft_pipes.specs.Folders.{Folders}
+use Rattle.raft_config.specs.Folders.{Folders}
 use Rattle.raft_env.specs.declared.env.FileSystem.{Ghosts}
 use Rattle.raft_log_engine.specs.Contents.{contents_at, found_contents, found_groups, known_at, known_from}
 use Rattle.raft_log_engine.specs.Crash.{contents_after_crash, known_after_crash}

@@ -35,7 +35,7 @@ use Rattle.raft_script.specs.declared.operation.Op.TheVariants.{Write, WriteGrou
 use Rattle.raft_script.specs.declared.operation.Outcome.{Outcome}
 use Rattle.raft_script.specs.declared.operation.Outcome.TheVariants as reply
 use Rattle.raft_script.specs.declared.operation.Outcome.TheVariants.{Size, Sizes, Done, Value, Count, Index}
-use Rattle.raft_pipes.specs.Folders.{Folders}
+use Rattle.raft_config.specs.Folders.{Folders}
 
 -- items before others, where there are both
 abbrev with_items : Option Batch → Option Batch → Option Batch

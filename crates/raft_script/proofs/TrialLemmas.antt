@@ -25,8 +25,8 @@ use Rattle.raft_log_engine.specs.Contents.{contents_at, known_at}
 use Rattle.raft_base.specs.declared.pipe_log.LogQueue.{LogQueue}
 use Rattle.raft_base.specs.declared.pipe_log.LogQueue.TheVariants.{Append, Rewrite}
 use Rattle.raft_env.specs.Refusal.{Refusals}
-use Rattle.raft_pipes.specs.Config.{IsCopy}
-use Rattle.raft_pipes.specs.Folders.{Folders, beside_main, folders_in}
+use Rattle.raft_config.specs.Config.{IsCopy}
+use Rattle.raft_config.specs.Folders.{Folders, beside_main, folders_in}
 use Rattle.raft_pipes.specs.Folder.{AreClear, HasFileFor, HasNoLog, readable_of, readable_queue}
 use Rattle.raft_script.specs.Durability.{LeavesAllowedAfter, Progress, progress_after_all, progress_from}
 use Rattle.raft_pipes.proofs.FolderQueueLemmas.{log_files-no_log}
@@ -38,8 +38,8 @@ use Rattle.raft_log_engine.proofs.OpeningLemmas.{undamaged}
 use Rattle.raft_recovery.proofs.ContentsLemmas.{recovered-nothing_rewritten}
 use Rattle.raft_script.specs.Run.{IsStorageOrMemory}
 use Rattle.raft_script.specs.Trial.{HaveNoLogPath, IsLeftRefusal, IsLogRefusal, RunsOver}
-use Rattle.raft_pipes.specs.declared.config.Config.{Config}
-use Rattle.raft_pipes.specs.declared.config.RecoveryMode.{RecoveryMode}
+use Rattle.raft_config.specs.declared.config.Config.{Config}
+use Rattle.raft_config.specs.declared.config.RecoveryMode.{RecoveryMode}
 use Rattle.raft_script.specs.declared.operation.Op.{Op}
 use Rattle.raft_script.specs.declared.operation.Outcome.{Outcome}
 

@@ -9,7 +9,7 @@ use Rattle.raft_log_engine.specs.declared.engine.Engine.{Engine}
 use Rattle.raft_log_engine.specs.Engine.{begun_of, contents_of, directory_of, folders_of, has_failed, is_known_in, refusals_of}
 use Rattle.raft_log_engine.specs.Opening.{IsNewIn}
 use Rattle.raft_base.specs.declared.pipe_log.LogQueue.TheVariants.{Append}
-use Rattle.raft_pipes.specs.Folders.{Folders}
+use Rattle.raft_config.specs.Folders.{Folders}
 use Rattle.raft_pipes.specs.Folder.{IsQueueSpan}
 use Rattle.raft_records.specs.Contents.{Contents, after_batches, no_contents}
 use Rattle.raft_tables.specs.Known.{known_in}

@@ -15,11 +15,11 @@ use Rattle.raft_script.specs.Durability.{LeavesAllowedAfter}
 use Rattle.raft_log_engine.specs.Queues.{AreDetectableIn, AreSingleIn, HaveDamageIn, HaveLeftDamage, HaveSimplePastIn}
 use Rattle.raft_script.specs.Run.{AreAnswers, IsFailurePlace, IsStorageOrMemory}
 use Rattle.raft_pipes.specs.Folder.{AreClear, IsLogPath}
-use Rattle.raft_pipes.specs.Folders.{Folders, all_of, folders_in}
-use Rattle.raft_pipes.specs.Sanitized.{IsContradiction, contradiction}
-use Rattle.raft_pipes.specs.declared.config.Config.{Config}
-use Rattle.raft_pipes.specs.declared.config.RecoveryMode.{RecoveryMode}
-use Rattle.raft_pipes.specs.declared.config.RecoveryMode.TheVariants.{AbsoluteConsistency}
+use Rattle.raft_config.specs.Folders.{Folders, all_of, folders_in}
+use Rattle.raft_config.specs.Sanitized.{IsContradiction, contradiction}
+use Rattle.raft_config.specs.declared.config.Config.{Config}
+use Rattle.raft_config.specs.declared.config.RecoveryMode.{RecoveryMode}
+use Rattle.raft_config.specs.declared.config.RecoveryMode.TheVariants.{AbsoluteConsistency}
 use Rattle.raft_script.specs.declared.operation.Op.{Op}
 use Rattle.raft_script.specs.declared.operation.Outcome.{Outcome}
 use Rattle.raft_script.specs.declared.operation.Trial.{Trial}

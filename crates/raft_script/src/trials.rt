@@ -3,8 +3,8 @@ ghost use Rattle.std.specs.Prelude.{◌≡◌, ◌⊎◌, None, List, [], ◌∷
 ghost use Rattle.raft_base.specs.Fault.{fault_code};
 ghost use Rattle.raft_env.specs.Directory.{Directory};
 ghost use Rattle.raft_memory.specs.Choice.{NameNoBytes};
-ghost use Rattle.raft_pipes.specs.Folders.{Folders, folders_in};
-ghost use Rattle.raft_pipes.specs.Sanitized.{IsContradiction, contradiction};
+ghost use Rattle.raft_config.specs.Folders.{Folders, folders_in};
+ghost use Rattle.raft_config.specs.Sanitized.{IsContradiction, contradiction};
 ghost use Rattle.raft_memory.specs.Memory.{memory_directory, memory_moments, no_files, stop_of};
 ghost use Rattle.raft_log_engine.specs.Image.{IsImageOf};
 ghost use Rattle.raft_log_engine.specs.Contents.{contents_at, known_at};

@@ -2,6 +2,7 @@ pub mod OrderLemmas
 pub mod EntryTableLemmas
 pub mod TableLemmas
 pub mod TablesLemmas
+pub mod MovingLemmas
 pub mod ListingLemmas
 pub mod ContentsLemmas
 pub mod KnownLemmas
@@ -15,3 +16,4 @@ pub mod LeavingLemmas
 pub mod RecoveringLemmas
 pub mod JoiningLemmas
 pub mod RewrittenLemmas
+pub mod OwedLemmas

@@ -10,3 +10,9 @@ pub mod Validity
 pub mod Leaving
 pub mod Recovering
 pub mod Rewritten
+pub mod Owed
+pub mod OwedMarks
+pub mod FirstFile
+pub mod FirstFiles
+pub mod MovedEntries
+pub mod Moving

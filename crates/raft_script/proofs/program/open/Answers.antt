@@ -7,7 +7,7 @@ use Rattle.raft_base.specs.declared.pipe_log.LogQueue.TheVariants.{Append, Rewri
 use Rattle.raft_records.specs.Contents.{no_contents}
 use Rattle.raft_tables.specs.Known.{known_in}
 use Rattle.raft_pipes.specs.Folder.{readable_queue}
-use Rattle.raft_pipes.specs.Folders.{folders_in}
+use Rattle.raft_config.specs.Folders.{folders_in}
 use Rattle.raft_recovery.proofs.ContentsLemmas.{recovered-nothing_rewritten}
 use Rattle.raft_log_engine.proofs.CrashLemmas.{same_groups, same_queues}
 use Rattle.raft_script.proofs.ProgramLemmas.{opened_in, opened_with}

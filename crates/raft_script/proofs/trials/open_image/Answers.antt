@@ -1,7 +1,7 @@
 use Rattle.std.proofs.Common.{inl, inr}
-use Rattle.raft_pipes.proofs.ConfigLemmas.{no_contradiction}
+use Rattle.raft_config.proofs.ConfigLemmas.{no_contradiction}
 use Rattle.raft_script.proofs.TrialLemmas.{refused_inside, refused_outside}
-use Rattle.raft_pipes.specs.Folders.{folders_in}
+use Rattle.raft_config.specs.Folders.{folders_in}
 use Rattle.raft_script.proofs.trials.open_image.Goals as goal
 
 pub returns-in-Err-clause-refused : goal.returns-in-Err-clause-refused

@@ -2,7 +2,7 @@ use Rattle.std.proofs.Common.{◌≡◌, ◌∷◌, ◌||◌, ℕ, Option, false
 use Rattle.raft_records.specs.Contents.{Contents}
 use Rattle.raft_records.specs.Item.{Batch}
 use Rattle.raft_env.specs.Directory.{Directory}
-use Rattle.raft_pipes.specs.Folders.{Folders, folders_in}
+use Rattle.raft_config.specs.Folders.{Folders, folders_in}
 use Rattle.raft_script.specs.Durability.{LeavesAllowedAfter}
 use Rattle.raft_log_engine.specs.Engine.{answered_of, begun_of, directory_of, durable_of, folders_of, found_groups_of, found_of, has_failed, snapshot_of, unsynced_of}
 use Rattle.raft_log_engine.specs.Contents.{contents_at, found_contents, found_groups, known_at}

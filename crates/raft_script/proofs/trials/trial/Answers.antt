@@ -8,10 +8,10 @@ use Rattle.raft_records.specs.Contents.{no_contents}
 use Rattle.raft_tables.specs.Known.{known_in}
 use Rattle.raft_log_engine.specs.Crash.{contents_after_crash}
 use Rattle.raft_log_engine.specs.Queues.{AreSoundIn}
-use Rattle.raft_pipes.specs.Folders.{folders_in}
-use Rattle.raft_pipes.proofs.ConfigLemmas.{contradiction-copy, same_contradiction}
-use Rattle.raft_pipes.specs.Sanitized.{IsContradiction, contradiction}
-use Rattle.raft_pipes.specs.declared.config.Config.{Config}
+use Rattle.raft_config.specs.Folders.{folders_in}
+use Rattle.raft_config.proofs.ConfigLemmas.{contradiction-copy, same_contradiction}
+use Rattle.raft_config.specs.Sanitized.{IsContradiction, contradiction}
+use Rattle.raft_config.specs.declared.config.Config.{Config}
 use Rattle.raft_script.proofs.TrialLemmas.{choices_refused, image_restarted, none_done, none_readable, opened_log, opened_outside, run_shown, same_folders, true_of_none}
 use Rattle.raft_script.specs.Trial.{HaveNoLogPath, RunsOver}
 use Rattle.raft_script.proofs.trials.trial.Goals as goal

@@ -21,7 +21,6 @@ invariant_of-self g c =
       emptied = old.emptied;
       holds = holds_still old n same;
       cached = λ alive. c.image_of.ensures.holds;
-      valid = old.valid;
       queues = queues_still old n same;
       completed = completed_still old n same;
       format = old.format;

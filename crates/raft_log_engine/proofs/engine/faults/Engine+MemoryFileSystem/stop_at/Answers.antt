@@ -14,7 +14,6 @@ invariant_of-self c =
       emptied = e.emptied;
       holds = λ alive. subst (λ n. Holds e.pipes n e.tables (contents_of e) (is_known_in e)) (sym same) (e.holds alive);
       cached = λ alive. subst (λ n. HoldsBlockIn e.pipes n e.cache) (sym same) (e.cached alive);
-      valid = e.valid;
       queues = queues_still e _ same;
       completed = completed_still e _ same;
       format = e.format;

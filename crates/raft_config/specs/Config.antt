@@ -2,8 +2,8 @@
 use Rattle.std.specs.Prelude.{◌≡◌, ◌*◌, ◌^◌, true, false, [], None, option_map}
 use Rattle.std.specs.String.{string_bytes}
 use Rattle.raft_base.specs.declared.pipe_log.Version.TheVariants.{V2}
-use Rattle.raft_pipes.specs.declared.config.Config.{Config}
-use Rattle.raft_pipes.specs.declared.config.RecoveryMode.TheVariants.{TolerateTailCorruption}
+use Rattle.raft_config.specs.declared.config.Config.{Config}
+use Rattle.raft_config.specs.declared.config.RecoveryMode.TheVariants.{TolerateTailCorruption}
 
 pub record IsDefault (c : Config) : Type 0 where
   pub dir : string_bytes c.dir ≡ []

@@ -1,7 +1,7 @@
 //! Settings.
 ghost use Rattle.std.specs.Prelude.{◌≡◌, IfOk, IfErr, OnOk, OnErr, None};
 ghost use Rattle.std.specs.Option.{option_map};
-ghost use Rattle.raft_pipes.specs.Sanitized.{spare_files};
+ghost use Rattle.raft_config.specs.Sanitized.{spare_files};
 
 use raft_records::{Fault, Fresh, ReadableSize, Version};
 use std::alloc::Global;
@@ -15,10 +15,10 @@ pub enum RecoveryMode {
 }
 
 impl RecoveryMode {
-    ghost use Rattle.raft_pipes.specs.LogFile.{tolerates_corruption};
+    ghost use Rattle.raft_config.specs.Recovery.{tolerates_corruption};
 
     /// Whether an opening cuts off the broken bytes of a file: in the tail mode those of the last file of a queue alone.
-    pub(crate) fn tolerates_corruption(self, is_last: bool) -> bool
+    pub fn tolerates_corruption(self, is_last: bool) -> bool
         ensures value { result ≡ tolerates_corruption self is_last }
     {
         match self {
@@ -68,8 +68,8 @@ pub struct Config {
 }
 
 impl Config {
-    ghost use Rattle.raft_pipes.specs.Config.{IsCopy};
-    ghost use Rattle.raft_pipes.specs.Sanitized.{IsContradiction, contradiction, is_recycling, prefill_capacity, prefill_limit, recycle_capacity, rewrite_threshold, sanitized, spills_into_dir};
+    ghost use Rattle.raft_config.specs.Config.{IsCopy};
+    ghost use Rattle.raft_config.specs.Sanitized.{IsContradiction, contradiction, is_recycling, prefill_capacity, prefill_limit, recycle_capacity, rewrite_threshold, sanitized, spills_into_dir};
 
     /// The same settings.
     pub fn clone(&self) -> Result<Config, Fault>
@@ -212,7 +212,7 @@ fn spare_files(size: ReadableSize, target: ReadableSize) -> usize
 }
 
 impl Fresh for Config {
-    ghost use Rattle.raft_pipes.specs.Config.{IsDefault};
+    ghost use Rattle.raft_config.specs.Config.{IsDefault};
 
     ghost is_fresh = { IsDefault };
 

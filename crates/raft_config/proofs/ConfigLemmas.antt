@@ -7,9 +7,9 @@ use Rattle.std.specs.String.{string_bytes}
 use Rattle.std.specs.declared.alloc.Global.{Global}
 use Rattle.raft_base.specs.declared.errors.Fault.{Fault}
 use Rattle.raft_base.specs.declared.errors.Fault.TheVariants as fault
-use Rattle.raft_pipes.specs.Config.{IsCopy}
-use Rattle.raft_pipes.specs.Sanitized.{IsContradiction, contradiction, is_signed, spills_into_dir}
-use Rattle.raft_pipes.specs.declared.config.Config.{Config}
+use Rattle.raft_config.specs.Config.{IsCopy}
+use Rattle.raft_config.specs.Sanitized.{IsContradiction, contradiction, is_signed, spills_into_dir}
+use Rattle.raft_config.specs.declared.config.Config.{Config}
 
 -- what there is beside the two folders
 abbrev contradiction_with : Config → Bool → Option (List ℕ)

@@ -8,7 +8,7 @@ use Rattle.raft_base.specs.declared.errors.Fault.TheVariants as fault
 use Rattle.raft_base.specs.declared.pipe_log.Version.{Version}
 use Rattle.raft_base.specs.declared.pipe_log.Version.TheVariants.{V1, V2}
 use Rattle.raft_base.specs.declared.readable_size.ReadableSize.{ReadableSize}
-use Rattle.raft_pipes.specs.declared.config.Config.{Config}
+use Rattle.raft_config.specs.declared.config.Config.{Config}
 
 -- records are signed for their file, so that a file that is used again shows none of its old ones
 abbrev pub is_signed : Version → Bool
