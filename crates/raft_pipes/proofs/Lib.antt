@@ -1,5 +1,8 @@
 pub mod ApartLemmas
 pub mod BlocksLemmas
+pub mod ByFileCallsLemmas
+pub mod ByFileLemmas
+pub mod ByFileRotationLemmas
 pub mod CompletedLemmas
 pub mod FileListLemmas
 pub mod FilesLemmas
