@@ -2,6 +2,7 @@ pub mod ApartLemmas
 pub mod BlocksLemmas
 pub mod ByFileCallsLemmas
 pub mod ByFileLemmas
+pub mod ByFileOpeningLemmas
 pub mod ByFileRotationLemmas
 pub mod CompletedLemmas
 pub mod FileListLemmas
