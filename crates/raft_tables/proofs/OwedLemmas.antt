@@ -1,5 +1,5 @@
 -- Marks that are noted.
-use Rattle.std.proofs.Common.{◌≡◌, ℕ, ◌==◌, ◌||◌, Bool, true, false, cond, List, [], ◌∷◌, Option, Some, None, Vec, is_some, unwrap_or, refl, sym, ◌∙◌, ap, arith}
+use Rattle.std.proofs.Common.{◌≡◌, ℕ, ◌+◌, ◌==◌, ◌&&◌, ◌||◌, nat_lt, length, Bool, true, false, cond, List, [], ◌∷◌, Option, Some, None, Vec, is_some, unwrap_or, refl, sym, ◌∙◌, ap, arith}
 use Rattle.std.proofs.lemmas.Bool.{cases_Bool, cond-true, cond-false}
 use Rattle.std.proofs.lemmas.Grind.{common_steps}
 use Rattle.std.proofs.lemmas.Map.Text.{is_eq-slice_cmp}
@@ -8,16 +8,21 @@ use Rattle.std.specs.BTreeMap.{BTreeMap}
 use Rattle.std.specs.BTreeSet as set
 use Rattle.std.specs.BTreeSet.{BTreeSet, insert_key}
 use Rattle.std.specs.Cmp.Lexicographic.{slice_cmp, bytes_decides, nat_list_eq_equiv}
-use Rattle.std.specs.List.{list_any}
+use Rattle.std.specs.List.{AllByRecursion as Each, list_any}
+use Rattle.std.specs.Map.{lookup}
 use Rattle.std.specs.Option.{option_map}
 use Rattle.std.specs.Ordering.{is_eq, match_ordering, nat_cmp}
 use Rattle.std.specs.Str.{bytes_eq}
 use Rattle.std.specs.declared.alloc.Global.{Global}
 use Rattle.std.specs.declared.cmp.Ordering.{Ordering}
 use Rattle.std.specs.declared.cmp.Ordering.TheVariants.{Less, Equal, Greater}
-use Rattle.raft_tables.specs.Owed.{Marks, Owed, clean_marks, with_compaction, with_delete, with_marks}
-use Rattle.raft_tables.specs.OwedMarks.{is_key_of, owed_of}
-use Rattle.raft_tables.specs.declared.owed.OwedMarks.{OwedMarks}
+use Rattle.raft_records.specs.declared.entry_index.EntryPlace.{EntryPlace}
+use Rattle.raft_records.specs.Item.{Content, Entries, Clean, Compact, Put, Delete}
+use Rattle.raft_records.specs.PlacedItem.{EntriesAt, Plain}
+use Rattle.raft_records.specs.Validity.{are_in_order}
+use Rattle.raft_tables.specs.Owed.{Marks, Owed, clean_marks, marks_after, marks_noted, with_compaction, with_delete, with_marks}
+use Rattle.raft_tables.specs.OwedMarks.{is_key_of, leave_hole}
+use Rattle.raft_tables.specs.Span.{span_of}
 
 pub is_eq-nat_cmp : (a b : ℕ) → is_eq (nat_cmp a b) ≡ (b == a)
 is_eq-nat_cmp a b = grind (arith, common_steps)
@@ -114,3 +119,57 @@ delete_noted cleaned compacted deleted new_deleted group key old keys before has
         (λ i. record { cleaned = set.contains nat_cmp cleaned g; compacted = set.contains nat_cmp compacted g; deleted = λ bs. each bs i })
         ∙ ap (λ h. with_delete key.items (in_sets cleaned compacted deleted h)) (eq_from_test g group here)
     at g false here q = λ i. record { cleaned = set.contains nat_cmp cleaned g; compacted = set.contains nat_cmp compacted g; deleted = λ key. unwrap_or (option_map (is_key_of key) (q i)) false }
+
+-- no keys
+
+abbrev pub AreEmpty : List (ℕ × Keys) → Type 0
+AreEmpty es = Each (λ e. set.btree_set_len e.1 ≡ 0) es
+
+no_key : (keys : Keys) (key : List ℕ) → set.btree_set_len keys ≡ 0 → is_key_of key keys ≡ false
+no_key keys key none = at (set.keys keys) none
+  where
+    at : (ks : List (Vec ℕ Global)) → length ks ≡ 0 → has_bytes key ks ≡ false
+    at [] short = refl
+    at (k ∷ ks) short = absurd (omega arith)
+
+pub none_deleted : (es : List (ℕ × Keys)) (group : ℕ) (key : List ℕ) → AreEmpty es → unwrap_or (option_map (is_key_of key) (lookup (λ k. is_eq (nat_cmp group k)) es)) false ≡ false
+none_deleted [] group key empty = refl
+none_deleted (e ∷ es) group key empty = at (is_eq (nat_cmp group e.0)) (none_deleted es group key empty.1)
+  where
+    at : (b : Bool) → unwrap_or (option_map (is_key_of key) (lookup (λ k. is_eq (nat_cmp group k)) es)) false ≡ false
+        → unwrap_or (option_map (is_key_of key) (cond b (Some e.1) (lookup (λ k. is_eq (nat_cmp group k)) es))) false ≡ false
+    at true rest = no_key e.1 key empty.0
+    at false rest = rest
+
+-- where a set has keys, one of them is noted
+pub some_deleted : (m : Deleted) (group : ℕ) (keys : Keys) → tree.get nat_cmp m group ≡ Some keys → (set.btree_set_len keys ≡ 0 → ⊥)
+    → ((g : ℕ) (key : List ℕ) → unwrap_or (option_map (is_key_of key) (tree.get nat_cmp m g)) false ≡ false) → ⊥
+some_deleted m group keys is some none = at (set.keys keys) refl
+  where
+    at : (ks : List (Vec ℕ Global)) → set.keys keys ≡ ks → ⊥
+    at [] same = some (ap length same)
+    at (k ∷ ks) same =
+        let noted = none group k.items in
+        let has : is_key_of k.items keys ≡ true = ap (has_bytes k.items) same ∙ ap (λ b. b || has_bytes k.items ks) (nat_list_eq_equiv.refl k.items) in
+        let clash : true ≡ false = sym has ∙ sym (ap (λ o. unwrap_or (option_map (is_key_of k.items) o) false) is) ∙ noted in
+        absurd cc
+
+-- entries that leave a hole
+
+and_swap : (a b : Bool) → (a && b) ≡ (b && a)
+and_swap true true = refl
+and_swap true false = refl
+and_swap false true = refl
+and_swap false false = refl
+
+pub marks_by_hole : {X : Type 0} (new : List (ℕ × EntryPlace)) (es : List (ℕ × X)) (m : Marks) → marks_after (EntriesAt new) es m ≡ cond (leave_hole (span_of es) new) (with_compaction m) m
+marks_by_hole [] es m = refl
+marks_by_hole (e ∷ new) [] m = ap (λ b. cond b (with_compaction m) m) (and_swap (are_in_order (e ∷ new)) false)
+marks_by_hole (e ∷ new) (x ∷ es) m = ap (λ b. cond b (with_compaction m) m) (and_swap (are_in_order (e ∷ new)) (nat_lt (x.0 + length (x ∷ es)) e.0))
+
+pub plain_noted : {X : Type 0} (content : Content) (es : List (ℕ × X)) (m : Marks) → marks_noted (Plain content) m ≡ marks_after (Plain content) es m
+plain_noted (Entries entries) es m = refl
+plain_noted Clean es m = refl
+plain_noted (Compact index) es m = refl
+plain_noted (Put key value) es m = refl
+plain_noted (Delete key) es m = refl
