@@ -137,7 +137,7 @@ entries_dropped x y appended g front consecutive run run_y is held =
     (subst (All (λ (e : Entry). leaves appended g e.0 ≡ true → Contains (y.entries g) e)) at_x held))
     ∙ sym at_x
 
-pub consecutive-append : (old new : List Batch) → HaveConsecutiveEntries old → HaveConsecutiveEntries new → HaveConsecutiveEntries (old ++ new)
+consecutive-append : (old new : List Batch) → HaveConsecutiveEntries old → HaveConsecutiveEntries new → HaveConsecutiveEntries (old ++ new)
 consecutive-append [] new is_old is_new = is_new
 consecutive-append (b ∷ bs) new is_old is_new =
     let parts = consecutive_parts b bs is_old in

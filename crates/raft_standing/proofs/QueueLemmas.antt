@@ -17,8 +17,7 @@ use Rattle.raft_recovery.specs.Bounds.{AreItemsBelow}
 use Rattle.raft_recovery.specs.Consecutive.{HaveConsecutiveEntries}
 use Rattle.raft_recovery.specs.Recovered.{effect, items_of}
 use Rattle.raft_recovery.specs.Stands.{Queues, synced_queues}
-use Rattle.raft_recovery.proofs.ContentsLemmas.{consecutive_one, effect_consecutive, valid_is_consecutive}
-use Rattle.raft_recovery.proofs.DropRewriteLemmas.{consecutive-append}
+use Rattle.raft_recovery.proofs.ContentsLemmas.{consecutive-append, consecutive_one, effect_consecutive, valid_is_consecutive}
 use Rattle.raft_recovery.proofs.MarkLemmas.{contents_ext}
 use Rattle.raft_tables.specs.Owed.{Marks, Owed, owed_noted}
 use Rattle.raft_tables.specs.Table.{StoredValue}
