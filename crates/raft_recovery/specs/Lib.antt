@@ -11,3 +11,5 @@ pub mod Change
 pub mod Program
 pub mod Together
 pub mod Takes
+pub mod Bounds
+pub mod Ids

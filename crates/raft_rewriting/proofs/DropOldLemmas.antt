@@ -11,17 +11,17 @@ use Rattle.raft_records.specs.declared.entry_index.EntryPlace.{EntryPlace}
 use Rattle.raft_records.specs.Contents.{Contents}
 use Rattle.raft_records.specs.Item.{Entry}
 use Rattle.raft_records.specs.Places.{Blocks, entry_in, entries_in}
-use Rattle.raft_recovery.specs.Dropping.{HoldsLeft}
+use Rattle.raft_recovery.specs.Dropping.{HoldsLeft, IsLaterPart}
 use Rattle.raft_recovery.specs.Recovered.{item_leaves, item_leaves_key, leaves, leaves_key, replay}
 use Rattle.raft_tables.specs.Table.{StoredValue}
 use Rattle.raft_tables.specs.Tables.{Tables, contents_in, or_empty}
-use Rattle.raft_rewriting.specs.DroppingOld.{AreRewrittenFrom, HoldsFrom, IsHeldFrom, IsLaterPart, IsRewrittenFrom, IsValueHeldFrom, IsValueRewrittenFrom}
+use Rattle.raft_rewriting.specs.DroppingOld.{AreRewrittenFrom, HoldsFrom, IsHeldFrom, IsRewrittenFrom, IsValueHeldFrom, IsValueRewrittenFrom}
 use Rattle.raft_tables.specs.Owed.{Marks, Owed}
 use Rattle.raft_records.specs.FileBatches.{FileBatch, batches_of}
-use Rattle.raft_rewriting.specs.Standing.{EntryStands, GroupStands, HasNoneBefore, HasNoneBehind, KeyStands, PlacedEntryStands, PlacedKeyStands, StandsInBlock, TablesStandFor, ends_leave, ends_leave_key}
-use Rattle.raft_rewriting.proofs.DropLemmas.{placed_of}
-use Rattle.raft_rewriting.proofs.EachLemmas.{all_of, each_contained, each_of, each_right}
-use Rattle.raft_rewriting.proofs.EndsLemmas.{from_none, pass-later}
+use Rattle.raft_standing.specs.Standing.{EntryStands, GroupStands, HasNoneBefore, HasNoneBehind, KeyStands, PlacedEntryStands, PlacedKeyStands, StandsInBlock, TablesStandFor, ends_leave, ends_leave_key}
+use Rattle.raft_standing.proofs.DropLemmas.{placed_of}
+use Rattle.raft_recovery.proofs.EachLemmas.{all_of, each_contained, each_of, each_right}
+use Rattle.raft_standing.proofs.EndsLemmas.{from_none, pass-later}
 
 -- an entry that stands is held, or taken by the Append queue
 held_or_taken : (first : ℕ) (left : ℕ → ℕ → Bool) (all : Bool) (marks : Marks) (held now : List Entry) (e : Entry) (block : Option FileBlockHandle) → ((n : ℕ) → left n e.0 ≡ false → all ≡ false) → IsHeldFrom first now e block → IsRewrittenFrom first block
