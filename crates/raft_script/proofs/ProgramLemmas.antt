@@ -7,8 +7,8 @@ use Rattle.raft_base.specs.declared.errors.Fault.TheVariants as fault
 use Rattle.raft_env.specs.Directory.{CrashImage, Directory, Leaves}
 use Rattle.raft_config.specs.Folders.{Folders}
 use Rattle.raft_env.specs.declared.env.FileSystem.{Ghosts}
-use Rattle.raft_log_engine.specs.Contents.{contents_at, found_contents, found_groups, known_at, known_from}
-use Rattle.raft_log_engine.specs.Crash.{contents_after_crash, known_after_crash}
+use Rattle.raft_held.specs.Contents.{contents_at, found_contents, found_groups, known_at, known_from}
+use Rattle.raft_held.specs.Crash.{contents_after_crash, known_after_crash}
 use Rattle.raft_log_engine.specs.Engine.{begun_of, directory_of, folders_of, found_groups_of, found_of, has_failed}
 use Rattle.raft_log_engine.specs.Opening.{BeginsAsClosed, IsNewIn}
 use Rattle.raft_log_engine.specs.declared.engine.Engine.{Engine}

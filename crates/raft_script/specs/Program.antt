@@ -13,7 +13,7 @@ use Rattle.raft_config.specs.Folders.{Folders}
 use Rattle.raft_pipes.specs.Folder.{IsQueueSpan}
 use Rattle.raft_records.specs.Contents.{Contents, after_batches, no_contents}
 use Rattle.raft_tables.specs.Known.{known_in}
-use Rattle.raft_log_engine.specs.Crash.{contents_after_crash, known_after_crash}
+use Rattle.raft_held.specs.Crash.{contents_after_crash, known_after_crash}
 use Rattle.raft_tables.specs.Listing.{IsListing, listed}
 use Rattle.raft_script.specs.Entry.{range_of}
 use Rattle.raft_script.specs.Line.{Asked, Nothing, Range, Reopen, Scan, Span, Crash, asked_by_op}
