@@ -22,7 +22,4 @@ pub mod FetchLemmas
 pub mod ScanLemmas
 pub mod StandsLemmas
 pub mod RoomLemmas
-pub mod StepsLemmas
-pub mod PurgeStepsLemmas
-pub mod DropOldLemmas
 pub mod AttemptLemmas

@@ -4,9 +4,9 @@ ghost use Rattle.raft_records.specs.Contents.{Contents, after_batches, no_conten
 ghost use Rattle.raft_records.specs.Item.{Batch};
 ghost use Rattle.raft_env.specs.Directory.{Directory, IsRestarted, CrashImage};
 ghost use Rattle.raft_env.specs.Moments.{HoldsThroughout};
-ghost use Rattle.raft_log_engine.specs.Crash.{IsAllowedFrom, LeavesAllowed, RecoversContents, contents_after_crash, known_after_crash};
+ghost use Rattle.raft_held.specs.Crash.{IsAllowedFrom, LeavesAllowed, RecoversContents, contents_after_crash, known_after_crash};
 ghost use Rattle.raft_files.specs.Records.{as_it_is};
-ghost use Rattle.raft_log_engine.specs.Contents.{contents_at, known_at};
+ghost use Rattle.raft_held.specs.Contents.{contents_at, known_at};
 ghost use Rattle.raft_log_engine.specs.Opening.{FoundCompletedRecords};
 ghost use Rattle.raft_log_engine.specs.Engine.{contents_of, directory_of, durable_of, folders_of, has_failed, moments_of, queue_of, settings_of, unsynced_of};
 ghost use Rattle.raft_env.specs.Consistent.{AreConsistent};
@@ -14,7 +14,7 @@ ghost use Rattle.raft_memory.specs.Choice.{AreWhole, left_by};
 ghost use Rattle.raft_memory.specs.declared.crash.Choice.{Choice};
 ghost use Rattle.raft_pipes.specs.Folder.{AreClear, HasNoLog};
 ghost use Rattle.raft_config.specs.Folders.{Folders};
-ghost use Rattle.raft_log_engine.specs.Queues.{AreDetectableIn, AreOpenableIn, AreSingleIn, AreSoundIn, HaveSimplePastIn};
+ghost use Rattle.raft_held.specs.Queues.{AreDetectableIn, AreOpenableIn, AreSingleIn, AreSoundIn, HaveSimplePastIn};
 ghost use Rattle.raft_config.specs.declared.config.RecoveryMode.{RecoveryMode};
 ghost use Rattle.raft_config.specs.declared.config.RecoveryMode.TheVariants.{AbsoluteConsistency};
 

@@ -3,8 +3,6 @@
 
 pub mod engine;
 pub mod laws;
-pub mod purge_steps;
-pub mod steps;
 
 pub use engine::{Engine, GroupImage, Image, Refused};
 pub use raft_config::{Config, RecoveryMode};

@@ -7,8 +7,8 @@ use Rattle.raft_base.specs.declared.errors.Fault.TheVariants as fault
 use Rattle.raft_env.specs.Directory.{CrashImage, Directory, Leaves}
 use Rattle.raft_config.specs.Folders.{Folders}
 use Rattle.raft_env.specs.declared.env.FileSystem.{Ghosts}
-use Rattle.raft_log_engine.specs.Contents.{contents_at, found_contents, found_groups, known_at, known_from}
-use Rattle.raft_log_engine.specs.Crash.{contents_after_crash, known_after_crash}
+use Rattle.raft_held.specs.Contents.{contents_at, found_contents, found_groups, known_at, known_from}
+use Rattle.raft_held.specs.Crash.{contents_after_crash, known_after_crash}
 use Rattle.raft_log_engine.specs.Engine.{begun_of, directory_of, folders_of, found_groups_of, found_of, has_failed}
 use Rattle.raft_log_engine.specs.Opening.{BeginsAsClosed, IsNewIn}
 use Rattle.raft_log_engine.specs.declared.engine.Engine.{Engine}
@@ -78,7 +78,7 @@ module _ {F H R W : Type 0} {g : Ghosts F H R W} where
     | inl gone ↦ absurd (failed.1 gone)
     | inr stood ↦
         let opened = new_with (folders_of old) begins.closed e new begins.begun in
-        (stood, record { new = new; contents = opened.contents ∙ begins.holds.contents; groups = λ group. opened.groups group ∙ begins.holds.known group })
+        record { stood = stood; new_is = new; contents = opened.contents ∙ begins.holds.contents; groups = λ group is. begins.holds.known group (sym (opened.groups group) ∙ is) }
   ]
   reopened old (Err r) new begins failed = tt
 

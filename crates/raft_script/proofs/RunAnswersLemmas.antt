@@ -10,9 +10,9 @@ use Rattle.raft_config.specs.Folders.{Folders}
 use Rattle.raft_env.specs.Moments.{HoldsThroughout}
 use Rattle.raft_env.specs.declared.env.FileSystem.{Ghosts}
 use Rattle.raft_log_engine.specs.Answered.{Answered, Snapshot}
-use Rattle.raft_log_engine.specs.Crash.{LeavesAllowed, LeavesAllowedFrom, pending_of, written_batch}
+use Rattle.raft_held.specs.Crash.{LeavesAllowed, LeavesAllowedFrom, pending_of, written_batch}
 use Rattle.raft_log_engine.specs.Durability.{Durability, HasOnlyRead, Progresses, StaysFailed, accepted_by, durability_of}
-use Rattle.raft_log_engine.specs.Contents.{found_contents, found_groups}
+use Rattle.raft_held.specs.Contents.{found_contents, found_groups}
 use Rattle.raft_log_engine.specs.Engine.{answer_now, answered_of, begun_of, contents_of, directory_of, durable_of, folders_of, found_groups_of, found_of, has_failed, moments_of, snapshot_of, unsynced_of}
 use Rattle.raft_log_engine.specs.declared.engine.Engine.{Engine}
 use Rattle.raft_records.specs.Contents.{Contents, after_batches}

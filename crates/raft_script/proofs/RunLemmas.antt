@@ -22,8 +22,8 @@ use Rattle.raft_pipes.specs.Queue.{IsRefusalIn}
 use Rattle.raft_log_engine.specs.Durability.{HasWritten}
 use Rattle.raft_log_engine.specs.Engine.{contents_of, has_failed, queue_of, refusals_of}
 use Rattle.raft_log_engine.specs.declared.engine.Engine.{Engine}
-use Rattle.raft_log_engine.specs.Contents.{known_from}
-use Rattle.raft_log_engine.specs.Crash.{written_batch}
+use Rattle.raft_held.specs.Contents.{known_from}
+use Rattle.raft_held.specs.Crash.{written_batch}
 use Rattle.raft_script.specs.Run.{accepted_of, AreAnswers, AreSteady, FailsAt, FailsBy, IsFailing, IsFailurePlace, Refuses, StorageRefusalsRoseBy, batch_of_acts, batches_after, batches_after_all, io_count, io_in, is_io, IsAnswer, IsCompactRefusal, IsEngineRefusal, IsGetRefusal, IsOutOfNumbers, IsSteadyBy, IsStorageOrMemory, IsTextRefusal, IsUnbuilt, IsGiven, IsWritten, IsWriteRefusal, compaction_in, items_of_act, of_both}
 use Rattle.raft_log_engine.specs.Reads.{IsEntryAnswer, IsEntryRefusalAt, IsGroupList, compact_count, entry_of}
 use Rattle.raft_script.specs.Entry.{IsTextOf, index_of}

@@ -15,13 +15,13 @@ use Rattle.raft_env.specs.Directory.{Directory, IsRestarted, Leaves, CrashImage,
 use Rattle.raft_memory.specs.Memory.{no_files}
 use Rattle.raft_memory.specs.declared.crash.Choice.{Choice}
 use Rattle.raft_memory.proofs.ChoiceTornLemmas.{choices_may_leave}
-use Rattle.raft_log_engine.specs.Crash.{RecoversContents, LeavesAllowedFrom, contents_after_crash}
+use Rattle.raft_held.specs.Crash.{RecoversContents, LeavesAllowedFrom, contents_after_crash}
 use Rattle.raft_base.specs.declared.errors.Fault.{Fault}
 use Rattle.raft_base.specs.declared.errors.Fault.TheVariants as fault
 use Rattle.raft_log_engine.specs.Image.{IsImageOf}
 use Rattle.raft_log_engine.specs.declared.engine.image.Image.{Image}
 use Rattle.raft_tables.specs.Known.{known_in}
-use Rattle.raft_log_engine.specs.Contents.{contents_at, known_at}
+use Rattle.raft_held.specs.Contents.{contents_at, known_at}
 use Rattle.raft_base.specs.declared.pipe_log.LogQueue.{LogQueue}
 use Rattle.raft_base.specs.declared.pipe_log.LogQueue.TheVariants.{Append, Rewrite}
 use Rattle.raft_env.specs.Refusal.{Refusals}
@@ -32,7 +32,7 @@ use Rattle.raft_script.specs.Durability.{LeavesAllowedAfter, Progress, progress_
 use Rattle.raft_pipes.proofs.FolderQueueLemmas.{log_files-no_log}
 use Rattle.raft_pipes.proofs.TakenLemmas.{one_free}
 use Rattle.raft_pipes.specs.Queue.{IsOpenRefusalOf}
-use Rattle.raft_log_engine.specs.Queues.{AreOpenableIn, AreSingleIn, HaveDamageIn, HaveLeftDamage, IsOpeningRefusal, ReadCompletedRecordsIn}
+use Rattle.raft_held.specs.Queues.{AreOpenableIn, AreSingleIn, HaveDamageIn, HaveLeftDamage, IsOpeningRefusal, ReadCompletedRecordsIn}
 use Rattle.raft_log_engine.proofs.CrashLemmas.{clear_restarted, same_groups, same_queues, single_restarted}
 use Rattle.raft_log_engine.proofs.OpeningLemmas.{undamaged}
 use Rattle.raft_recovery.proofs.ContentsLemmas.{recovered-nothing_rewritten}

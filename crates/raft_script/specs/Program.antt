@@ -13,7 +13,7 @@ use Rattle.raft_config.specs.Folders.{Folders}
 use Rattle.raft_pipes.specs.Folder.{IsQueueSpan}
 use Rattle.raft_records.specs.Contents.{Contents, after_batches, no_contents}
 use Rattle.raft_tables.specs.Known.{known_in}
-use Rattle.raft_log_engine.specs.Crash.{contents_after_crash, known_after_crash}
+use Rattle.raft_held.specs.Crash.{contents_after_crash, known_after_crash}
 use Rattle.raft_tables.specs.Listing.{IsListing, listed}
 use Rattle.raft_script.specs.Entry.{range_of}
 use Rattle.raft_script.specs.Line.{Asked, Nothing, Range, Reopen, Scan, Span, Crash, asked_by_op}
@@ -56,11 +56,12 @@ module _ {F H R W : Type 0} {g : Ghosts F H R W} where
   IsMetBy None e = IsNewWith program_folders no_contents (known_in []) e
   IsMetBy (Some before) e = e ≡ before
 
-  -- an engine that stood was closed, and what it held is opened again
-  abbrev pub IsReopened : Engine F H R W g → Engine F H R W g → Type 0
-  IsReopened old new =
-      (has_failed old ≡ false)
-      × IsNewWith (folders_of old) (contents_of old) (is_known_in old) new
+  -- an engine that stood was closed, and what it held is opened again; no other groups are known
+  pub record IsReopened (old new : Engine F H R W g) : Type 0 where
+    pub stood : has_failed old ≡ false
+    pub new_is : IsNewIn (folders_of old) new
+    pub contents : contents_of new ≡ contents_of old
+    pub groups : (group : ℕ) → is_known_in new group ≡ true → is_known_in old group ≡ true
 
   -- a new engine holds what a crash left of another one's files
   abbrev pub HoldsAfterCrash : Engine F H R W g → Engine F H R W g → Type 0

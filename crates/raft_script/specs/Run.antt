@@ -12,8 +12,8 @@ use Rattle.raft_base.specs.declared.errors.Fault.{Fault}
 use Rattle.raft_base.specs.declared.errors.Fault.TheVariants as fault
 use Rattle.raft_env.specs.Refusal.{NoFewer, Refusals, StorageRefusalsRose}
 use Rattle.raft_log_engine.specs.Cause.{IsOutOfRange, IsWritable}
-use Rattle.raft_log_engine.specs.Contents.{known_from}
-use Rattle.raft_log_engine.specs.Crash.{pending_of, written_batch}
+use Rattle.raft_held.specs.Contents.{known_from}
+use Rattle.raft_held.specs.Crash.{pending_of, written_batch}
 use Rattle.raft_log_engine.specs.Engine.{record_len}
 use Rattle.raft_log_engine.specs.Group.{accepted_in, chosen_of, written_in}
 use Rattle.raft_log_engine.specs.Reads.{IsEntryAnswer, IsEntryRefusalAt, IsGroupList, compact_batch, compact_count, entry_of}

@@ -9,10 +9,10 @@ use Rattle.raft_memory.specs.declared.memory.MemoryFileSystem.{MemoryFileSystem}
 use Rattle.raft_env.specs.Consistent.{AreConsistent}
 use Rattle.raft_env.specs.Directory.{CrashImage, Directory, Leaves, Path}
 use Rattle.raft_memory.specs.declared.crash.Choice.{Choice}
-use Rattle.raft_log_engine.specs.Crash.{RecoversContents, contents_after_crash}
+use Rattle.raft_held.specs.Crash.{RecoversContents, contents_after_crash}
 use Rattle.raft_log_engine.specs.Image.{IsImageOf}
 use Rattle.raft_script.specs.Durability.{LeavesAllowedAfter}
-use Rattle.raft_log_engine.specs.Queues.{AreDetectableIn, AreSingleIn, HaveDamageIn, HaveLeftDamage, HaveSimplePastIn}
+use Rattle.raft_held.specs.Queues.{AreDetectableIn, AreSingleIn, HaveDamageIn, HaveLeftDamage, HaveSimplePastIn}
 use Rattle.raft_script.specs.Run.{AreAnswers, IsFailurePlace, IsStorageOrMemory}
 use Rattle.raft_pipes.specs.Folder.{AreClear, IsLogPath}
 use Rattle.raft_config.specs.Folders.{Folders, all_of, folders_in}

@@ -4,7 +4,7 @@ ghost use Rattle.raft_records.specs.Contents.{after_batches};
 ghost use Rattle.raft_base.specs.Fault.{fault_code};
 ghost use Rattle.raft_records.specs.Item.{Batch};
 ghost use Rattle.raft_records.specs.Layout.{entry_bytes};
-ghost use Rattle.raft_log_engine.specs.Crash.{LeavesAllowed};
+ghost use Rattle.raft_held.specs.Crash.{LeavesAllowed};
 ghost use Rattle.raft_log_engine.specs.Group.{items_of};
 ghost use Rattle.raft_log_engine.specs.Engine.{begun_of, contents_of, directory_of, durable_of, folders_of, has_failed, refusals_of, unsynced_of};
 ghost use Rattle.raft_script.specs.Durability.{AreAllowedInside, Does, HaveRun, IsAnswerOf, Runs};

@@ -7,10 +7,10 @@ ghost use Rattle.raft_config.specs.Folders.{Folders, folders_in};
 ghost use Rattle.raft_config.specs.Sanitized.{IsContradiction, contradiction};
 ghost use Rattle.raft_memory.specs.Memory.{memory_directory, memory_moments, no_files, stop_of};
 ghost use Rattle.raft_log_engine.specs.Image.{IsImageOf};
-ghost use Rattle.raft_log_engine.specs.Contents.{contents_at, known_at};
-ghost use Rattle.raft_log_engine.specs.Crash.{RecoversContents};
+ghost use Rattle.raft_held.specs.Contents.{contents_at, known_at};
+ghost use Rattle.raft_held.specs.Crash.{RecoversContents};
 ghost use Rattle.raft_pipes.specs.Folder.{AreClear};
-ghost use Rattle.raft_log_engine.specs.Queues.{AreOpenableIn, AreSingleIn, ReadCompletedRecordsIn};
+ghost use Rattle.raft_held.specs.Queues.{AreOpenableIn, AreSingleIn, ReadCompletedRecordsIn};
 ghost use Rattle.raft_script.specs.Run.{IsStorageOrMemory};
 ghost use Rattle.raft_script.specs.Trial.{AreNotAllowed, HaveNoLogPath, IsLogRefusal, IsTrialOf, LeavesDetectable, RunsOver};
 

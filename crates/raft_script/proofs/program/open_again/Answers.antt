@@ -1,4 +1,4 @@
-use Rattle.raft_log_engine.specs.Contents.{contents_at, known_at}
+use Rattle.raft_held.specs.Contents.{contents_at, known_at}
 use Rattle.raft_script.proofs.ProgramLemmas.{opened_with, opens_to}
 use Rattle.raft_script.specs.Program.{IsNewWith}
 use Rattle.raft_config.specs.Folders.{folders_in}

@@ -8,14 +8,14 @@ use Rattle.raft_env.specs.Directory.{Directory}
 use Rattle.raft_config.specs.Folders.{Folders}
 use Rattle.raft_records.specs.Contents.{Contents, after_batches}
 use Rattle.raft_records.specs.Item.{Batch}
-use Rattle.raft_log_engine.specs.Contents.{known_from}
-use Rattle.raft_log_engine.specs.Crash.{LeavesAllowed}
+use Rattle.raft_held.specs.Contents.{known_from}
+use Rattle.raft_held.specs.Crash.{LeavesAllowed}
 use Rattle.raft_script.specs.Durability.{Answers, AreAllowedInside, IsDurableAfter, LeavesInFlight, Progress, progress_after, progress_after_all, progress_from}
 use Rattle.raft_log_engine.specs.Durability.{Progresses, durability_of}
 use Rattle.raft_script.specs.Run.{AreAnswers, IsFailurePlace, IsUnasked, MayBeInFlight, accepted_of, batches_after_all, is_covering}
 use Rattle.raft_script.specs.declared.operation.Op.{Op}
 use Rattle.raft_log_engine.specs.Engine.{all_batches, answer_now, base_of, contents_of, directory_of, durable_of, folders_of, found_groups_of, found_of, has_failed, moments_of, refusals_of, snapshot_of, unsynced_of}
-use Rattle.raft_log_engine.proofs.ContentsLemmas.{after-append}
+use Rattle.raft_held.proofs.ContentsLemmas.{after-append}
 use Rattle.raft_script.proofs.RunAnswersLemmas.{allowed_more, inside_call, found_same, groups_same}
 use Rattle.raft_script.proofs.DurabilityLemmas.{IsUnderWay, batches_more, durable_after, holds_all, inside_here, leaves_after, leaves_standing, progress_more, under_way_begun, under_way_more}
 use Rattle.raft_script.proofs.RunLemmas.{IsNextPlace, IsRunning, accepted_same, answers_more, given_same, place_more, rose_more, running_begun, running_more, stands_so_far, still_failing, taken_more}

@@ -5,7 +5,7 @@ use Rattle.raft_records.specs.Item.{Batch}
 use Rattle.raft_log_engine.specs.Durability.{Durability, durability_of}
 use Rattle.raft_log_engine.specs.Engine.{answer_now, answered_of, contents_of, directory_of, durable_of, folders_of, has_failed, is_known_in, moments_of, queue_of, refusals_of, unsynced_of}
 use Rattle.raft_script.specs.Run.{IsUnbuiltGroup, Part, batch_of_acts, batches_of_parts, group_batches, items_of_acts}
-use Rattle.raft_log_engine.specs.Crash.{pending_of, written_batch}
+use Rattle.raft_held.specs.Crash.{pending_of, written_batch}
 use Rattle.raft_script.specs.declared.operation.Op.TheVariants.{Sync, Write}
 use Rattle.raft_script.proofs.DurabilityLemmas.{moments_of_batch, written_progress}
 use Rattle.raft_script.proofs.RunAnswersLemmas.{does_compact, does_read, in_flight, read_same}

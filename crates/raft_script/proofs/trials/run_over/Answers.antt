@@ -5,12 +5,12 @@ use Rattle.raft_env.specs.Directory.{Directory}
 use Rattle.raft_config.specs.Folders.{Folders, folders_in}
 use Rattle.raft_script.specs.Durability.{LeavesAllowedAfter}
 use Rattle.raft_log_engine.specs.Engine.{answered_of, begun_of, directory_of, durable_of, folders_of, found_groups_of, found_of, has_failed, snapshot_of, unsynced_of}
-use Rattle.raft_log_engine.specs.Contents.{contents_at, found_contents, found_groups, known_at}
+use Rattle.raft_held.specs.Contents.{contents_at, found_contents, found_groups, known_at}
 use Rattle.std.specs.List.{AllByRecursion}
 use Rattle.raft_base.specs.declared.pipe_log.LogQueue.{LogQueue}
 use Rattle.raft_pipes.specs.Completed.{ReadsCompletedRecordsIfSimpleOf}
 use Rattle.raft_pipes.specs.Folder.{AreClear}
-use Rattle.raft_log_engine.specs.Queues.{AreSingleIn}
+use Rattle.raft_held.specs.Queues.{AreSingleIn}
 use Rattle.raft_script.specs.Trial.{LeavesDetectable}
 use Rattle.raft_script.specs.Run.{AreAnswers, IsFailurePlace}
 use Rattle.raft_script.specs.Durability.{progress_from}

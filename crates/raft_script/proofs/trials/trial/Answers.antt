@@ -6,8 +6,8 @@ use Rattle.raft_memory.specs.Memory.{memory_directory}
 use Rattle.raft_memory.specs.Choice.{left_by}
 use Rattle.raft_records.specs.Contents.{no_contents}
 use Rattle.raft_tables.specs.Known.{known_in}
-use Rattle.raft_log_engine.specs.Crash.{contents_after_crash}
-use Rattle.raft_log_engine.specs.Queues.{AreSoundIn}
+use Rattle.raft_held.specs.Crash.{contents_after_crash}
+use Rattle.raft_held.specs.Queues.{AreSoundIn}
 use Rattle.raft_config.specs.Folders.{folders_in}
 use Rattle.raft_config.proofs.ConfigLemmas.{contradiction-copy, same_contradiction}
 use Rattle.raft_config.specs.Sanitized.{IsContradiction, contradiction}

@@ -7,8 +7,9 @@ use Rattle.raft_pipes.specs.Purge.{dropped_batches}
 use Rattle.raft_queues.specs.Dual.{DualState}
 use Rattle.raft_records.specs.Contents.{Contents}
 use Rattle.raft_records.specs.Item.{Batch}
-use Rattle.raft_log_engine.specs.Crash.{RecoversContents}
-use Rattle.raft_log_engine.specs.Held.{CanDropFront, HoldsContents, IsSyncedIn, LeaveKnown, RewriteTakes}
+use Rattle.raft_held.specs.Crash.{RecoversContents}
+use Rattle.raft_held.specs.Held.{HoldsContents, IsSyncedIn, LeaveKnown}
+use Rattle.raft_recovery.specs.Takes.{CanDropFront, RewriteTakes}
 use Rattle.raft_base.specs.declared.pipe_log.LogQueue.TheVariants.{Rewrite}
 
 -- what the log held it holds, with the Rewrite queue synced

@@ -1,9 +1,9 @@
 use Rattle.std.proofs.Common.{[], ◌∷◌, refl}
 use Rattle.raft_base.specs.declared.pipe_log.LogQueue.TheVariants.{Append}
-use Rattle.raft_log_engine.specs.Contents.{known_from}
-use Rattle.raft_log_engine.specs.Held.{LeaveKnown, syncs}
-use Rattle.raft_log_engine.proofs.StepsLemmas.{held_appended, held_appending, held_begins, held_kept, held_recovers, held_still, held_synced, known_more, known_same, synced_batches_in}
-use Rattle.raft_log_engine.proofs.steps.calls_on_the_append_queue_keep_contents.Goals as goal
+use Rattle.raft_held.specs.Contents.{known_from}
+use Rattle.raft_held.specs.Held.{LeaveKnown, syncs}
+use Rattle.raft_held.proofs.StepsLemmas.{held_appended, held_appending, held_begins, held_kept, held_recovers, held_still, held_synced, known_more, known_same, synced_batches_in}
+use Rattle.raft_held.proofs.steps.calls_on_the_append_queue_keep_contents.Goals as goal
 
 pub returns-clause-now : goal.returns-clause-now
 returns-clause-now c = λ d folders m since known n held. (held_recovers d folders m since (LeaveKnown known) n held, held_begins d folders m since (LeaveKnown known) n held)

@@ -11,16 +11,17 @@ ghost use Rattle.raft_queues.specs.DualPurge.{HasDroppedUpToIn, KeepsBothRest};
 ghost use Rattle.raft_records.specs.Contents.{Contents, after_batches};
 ghost use Rattle.raft_records.specs.Item.{Batch};
 ghost use Rattle.raft_records.specs.Validity.{IsValidBatch};
-ghost use Rattle.raft_log_engine.specs.Cause.{LogStandsFor};
-ghost use Rattle.raft_log_engine.specs.Crash.{RecoversContents};
-ghost use Rattle.raft_log_engine.specs.Contents.{known_from};
-ghost use Rattle.raft_log_engine.specs.Held.{CanDropFront, HoldsContents, IsSyncedIn, LeaveKnown, RewriteTakes};
+ghost use Rattle.raft_held.specs.Begins.{LogStandsFor};
+ghost use Rattle.raft_held.specs.Crash.{RecoversContents};
+ghost use Rattle.raft_held.specs.Contents.{known_from};
+ghost use Rattle.raft_held.specs.Held.{HoldsContents, IsSyncedIn, LeaveKnown};
+ghost use Rattle.raft_recovery.specs.Takes.{CanDropFront, RewriteTakes};
 
 /// Calls on the Append queue.
 pub fn calls_on_the_append_queue_keep_contents()
     ensures now { (d : DualState) (folders : Folders) (m : Contents) (since : List Batch)
         (known : ℕ → Bool) (n : Directory) → HoldsContents d folders m since (LeaveKnown known) n
-        → RecoversContents folders m since n × LogStandsFor folders (after_batches m since) n }
+        → RecoversContents folders m since n × LogStandsFor folders m since n }
     ensures written { (d d' : DualState) (folders : Folders) (m : Contents) (since : List Batch)
         (known : ℕ → Bool) (old new : Directory)
         → HoldsContents d folders m since (LeaveKnown known) old

@@ -22,9 +22,10 @@ use Rattle.raft_records.specs.Item.{Batch}
 use Rattle.raft_recovery.specs.Recovered.{recovered}
 use Rattle.raft_recovery.specs.Stands.{Queues, Stands}
 use Rattle.raft_recovery.proofs.StandsLemmas.{all_rewritten, found_prefix, stands_front_dropped, stands_older_gone, stands_rewritten, stands_rewritten_synced}
-use Rattle.raft_log_engine.specs.Crash.{KeepsContents, RecoversContents}
-use Rattle.raft_log_engine.specs.Held.{CanDropFront, HasQueues, HoldsContents, HoldsQueues, RecoversQueues, RewriteTakes, appends, batches_in, drops, synced_in, syncs}
-use Rattle.raft_log_engine.proofs.StepsLemmas.{drop_nothing, have_both, recover_both, queues_appended, queues_appending, queues_synced, some_none, take_nothing}
+use Rattle.raft_held.specs.Crash.{KeepsContents, RecoversContents}
+use Rattle.raft_held.specs.Held.{HasQueues, HoldsContents, HoldsQueues, RecoversQueues, appends, batches_in, drops, synced_in, syncs}
+use Rattle.raft_recovery.specs.Takes.{CanDropFront, RewriteTakes}
+use Rattle.raft_held.proofs.StepsLemmas.{drop_nothing, have_both, recover_both, queues_appended, queues_appending, queues_synced, some_none, take_nothing}
 
 -- The Rewrite queue's calls.
 

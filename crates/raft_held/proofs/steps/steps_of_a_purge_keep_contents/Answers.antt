@@ -2,9 +2,10 @@ use Rattle.std.proofs.Common.{refl}
 use Rattle.std.specs.Prelude.{⊤}
 use Rattle.raft_base.specs.declared.pipe_log.LogQueue.TheVariants.{Rewrite}
 use Rattle.raft_pipes.specs.Purge.{dropped_batches}
-use Rattle.raft_log_engine.specs.Held.{CanDropFront, IsSyncedIn, RewriteTakes}
-use Rattle.raft_log_engine.proofs.PurgeStepsLemmas.{held_dropped, held_dropping, held_rewrite_synced, held_rewriting, held_rewritten}
-use Rattle.raft_log_engine.proofs.steps.steps_of_a_purge_keep_contents.Goals as goal
+use Rattle.raft_held.specs.Held.{IsSyncedIn}
+use Rattle.raft_recovery.specs.Takes.{CanDropFront, RewriteTakes}
+use Rattle.raft_held.proofs.PurgeStepsLemmas.{held_dropped, held_dropping, held_rewrite_synced, held_rewriting, held_rewritten}
+use Rattle.raft_held.proofs.steps.steps_of_a_purge_keep_contents.Goals as goal
 
 pub returns-clause-rewritten : goal.returns-clause-rewritten
 returns-clause-rewritten c = λ d d' folders m since old new given b held done is. held_rewritten d d' folders m since (RewriteTakes b) (λ q. ⊤) old new held given b done is (λ q h. h) (λ q h. tt)

@@ -7,9 +7,9 @@ use Rattle.raft_env.proofs.MomentsLemmas.{passes_weaker}
 use Rattle.raft_pipes.specs.Purge.{dropped_batches}
 use Rattle.raft_queues.specs.Dual.{DualState}
 use Rattle.raft_queues.specs.DualPurge.{HasDroppedIn, HasDroppedUpToIn}
-use Rattle.raft_log_engine.specs.DropOld.{CanDropOld}
-use Rattle.raft_log_engine.proofs.DropOldLemmas.{held_old_dropped, held_old_dropping}
-use Rattle.raft_log_engine.proofs.purge_steps.drop_rewrite_front.Goals as goal
+use Rattle.raft_recovery.specs.Takes.{CanDropOld}
+use Rattle.raft_held.proofs.DropOldLemmas.{held_old_dropped, held_old_dropping}
+use Rattle.raft_held.proofs.purge_steps.drop_rewrite_front.Goals as goal
 
 -- also where it is answered
 up_to : (d d' : DualState) (old new : Directory) (seq : ℕ) (r : Result ℕ Fault) → IfOk r (λ count. d.rewrite.first + count ≡ seq) → IfOk r (λ count. HasDroppedIn Rewrite count d d' old new) → OnErr r (HasDroppedUpToIn Rewrite (seq - d.rewrite.first) d d' old new) → HasDroppedUpToIn Rewrite (seq - d.rewrite.first) d d' old new

@@ -1,0 +1,4 @@
+pub mod ContentsLemmas
+pub mod StepsLemmas
+pub mod PurgeStepsLemmas
+pub mod DropOldLemmas
