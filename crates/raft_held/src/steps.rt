@@ -21,7 +21,7 @@ ghost use Rattle.raft_recovery.specs.Takes.{CanDropFront, RewriteTakes};
 pub fn calls_on_the_append_queue_keep_contents()
     ensures now { (d : DualState) (folders : Folders) (m : Contents) (since : List Batch)
         (known : ℕ → Bool) (n : Directory) → HoldsContents d folders m since (LeaveKnown known) n
-        → RecoversContents folders m since n × LogStandsFor folders (after_batches m since) n }
+        → RecoversContents folders m since n × LogStandsFor folders m since n }
     ensures written { (d d' : DualState) (folders : Folders) (m : Contents) (since : List Batch)
         (known : ℕ → Bool) (old new : Directory)
         → HoldsContents d folders m since (LeaveKnown known) old

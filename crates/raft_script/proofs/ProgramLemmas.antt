@@ -78,7 +78,7 @@ module _ {F H R W : Type 0} {g : Ghosts F H R W} where
     | inl gone ↦ absurd (failed.1 gone)
     | inr stood ↦
         let opened = new_with (folders_of old) begins.closed e new begins.begun in
-        (stood, record { new = new; contents = opened.contents ∙ begins.holds.contents; groups = λ group. opened.groups group ∙ begins.holds.known group })
+        record { stood = stood; new_is = new; contents = opened.contents ∙ begins.holds.contents; groups = λ group is. begins.holds.known group (sym (opened.groups group) ∙ is) }
   ]
   reopened old (Err r) new begins failed = tt
 

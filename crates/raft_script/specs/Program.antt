@@ -56,11 +56,12 @@ module _ {F H R W : Type 0} {g : Ghosts F H R W} where
   IsMetBy None e = IsNewWith program_folders no_contents (known_in []) e
   IsMetBy (Some before) e = e ≡ before
 
-  -- an engine that stood was closed, and what it held is opened again
-  abbrev pub IsReopened : Engine F H R W g → Engine F H R W g → Type 0
-  IsReopened old new =
-      (has_failed old ≡ false)
-      × IsNewWith (folders_of old) (contents_of old) (is_known_in old) new
+  -- an engine that stood was closed, and what it held is opened again; no other groups are known
+  pub record IsReopened (old new : Engine F H R W g) : Type 0 where
+    pub stood : has_failed old ≡ false
+    pub new_is : IsNewIn (folders_of old) new
+    pub contents : contents_of new ≡ contents_of old
+    pub groups : (group : ℕ) → is_known_in new group ≡ true → is_known_in old group ≡ true
 
   -- a new engine holds what a crash left of another one's files
   abbrev pub HoldsAfterCrash : Engine F H R W g → Engine F H R W g → Type 0
