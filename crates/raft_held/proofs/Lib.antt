@@ -2,3 +2,4 @@ pub mod ContentsLemmas
 pub mod StepsLemmas
 pub mod PurgeStepsLemmas
 pub mod DropOldLemmas
+pub mod LogLemmas
