@@ -3,3 +3,4 @@ pub mod StepsLemmas
 pub mod PurgeStepsLemmas
 pub mod DropOldLemmas
 pub mod LogLemmas
+pub mod LogDropLemmas
