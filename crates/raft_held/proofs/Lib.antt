@@ -4,3 +4,4 @@ pub mod PurgeStepsLemmas
 pub mod DropOldLemmas
 pub mod LogLemmas
 pub mod LogDropLemmas
+pub mod LogTakeLemmas

@@ -6,3 +6,4 @@ pub mod Held
 pub mod Kept
 pub mod Log
 pub mod Queues
+pub mod Taking
