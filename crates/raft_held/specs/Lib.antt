@@ -3,5 +3,7 @@ pub mod Contents
 pub mod Crash
 pub mod DropOld
 pub mod Held
-pub mod PurgeSteps
+pub mod Kept
+pub mod Log
 pub mod Queues
+pub mod Taking
