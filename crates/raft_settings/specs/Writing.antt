@@ -1,5 +1,5 @@
 -- The table that is written for settings.
-use Rattle.std.specs.Prelude.{◌≡◌, ◌⊎◌, ◌==◌, ◌||◌, ◌++◌, ◌/◌, ◌%◌, ◌^◌, ◌≤◌, ℕ, not, pos, List, codes, Option, Some, None, option_map, if◌then◌else◌}
+use Rattle.std.specs.Prelude.{◌⊎◌, ◌==◌, ◌||◌, ◌++◌, ◌/◌, ◌%◌, ◌^◌, ◌<◌, ◌≤◌, ℕ, not, pos, List, codes, Option, Some, None, option_map, if◌then◌else◌}
 use Rattle.std.specs.Fmt.{decimal}
 use Rattle.std.specs.Ordering.{nat_cmp, match_ordering}
 use Rattle.std.specs.Cmp.Lexicographic.{slice_cmp}
@@ -84,6 +84,22 @@ with_recycling c table =
 -- a key for each setting that isn't missing
 abbrev pub table_of : Config → Members
 table_of c = with_recycling c (with_files c (with_recovery c no_members))
+
+-- the size, if there is one, is a u64
+abbrev pub Fits : Option ReadableSize → Type 0
+Fits None = Unit {0}
+Fits (Some size) = size.0 < 2 ^ 64
+
+-- .. each of those that are written with recovery, with files and with recycling
+abbrev pub RecoveryFits : Config → Type 0
+RecoveryFits c = Fits (Some c.recovery_read_block_size)
+
+abbrev pub FilesFit : Config → Type 0
+FilesFit c = Fits (Some c.target_file_size) × Fits (Some c.purge_threshold)
+    × Fits c.purge_rewrite_threshold
+
+abbrev pub RecyclingFits : Config → Type 0
+RecyclingFits c = Fits c.bytes_per_sync × Fits c.memory_limit × Fits c.prefill_limit
 
 -- TOML has no number from 2 ^ 63 on
 abbrev pub IsNumberRefusal : ℕ → Fault → Type 0

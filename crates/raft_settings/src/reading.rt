@@ -80,12 +80,7 @@ fn setting<T: Setting + Drop>(table: &Table, key: &'static str, old: T) -> Resul
     }
 }
 
-fn text(
-    alloc: Global,
-    table: &Table,
-    key: &'static str,
-    old: &String,
-) -> Result<String, Fault>
+fn text(alloc: Global, table: &Table, key: &'static str, old: &String) -> Result<String, Fault>
     ensures ok { IfOk result (λ new. setting (table_view table.now) key.now as_str
         (string_bytes old.now) ≡ Some (string_bytes new)) }
     ensures refused { IfErr result

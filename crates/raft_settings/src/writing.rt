@@ -6,7 +6,7 @@ ghost use Rattle.toml.specs.Parse.{parse_document};
 ghost use Rattle.toml.specs.View.{table_view, view};
 ghost use Rattle.raft_base.specs.declared.errors.Fault.TheVariants.{Memory};
 ghost use Rattle.raft_settings.specs.Reading.{ReadsAlone};
-ghost use Rattle.raft_settings.specs.Writing.{IsNumberRefusal, IsWriteRefusal, mode_name, number_data, size_data, size_text, table_of, version_number, with_files, with_recovery, with_recycling, with_setting};
+ghost use Rattle.raft_settings.specs.Writing.{FilesFit, Fits, IsNumberRefusal, IsWriteRefusal, RecoveryFits, RecyclingFits, mode_name, number_data, size_data, size_text, table_of, version_number, with_files, with_recovery, with_recycling, with_setting};
 
 use raft_config::{Config, RecoveryMode};
 use raft_records::{Fault, ReadableSize, Version};
@@ -36,6 +36,8 @@ pub fn write(alloc: Global, config: &Config) -> Result<String, Fault>
 
 fn table_of(alloc: Global, config: &Config) -> Result<Table, Fault>
     ensures value { IfOk result (λ table. table_view table ≡ table_of config.now) }
+    ensures fits { OnOk result (RecoveryFits config.now × FilesFit config.now
+        × RecyclingFits config.now) }
     ensures refused { IfErr result (IsWriteRefusal config.now) }
 {
     let mut table = Table::new(alloc);
@@ -48,6 +50,7 @@ fn table_of(alloc: Global, config: &Config) -> Result<Table, Fault>
 fn put_recovery(alloc: Global, config: &Config, table: &mut Table) -> Result<(), Fault>
     ensures ok { OnOk result (table_view table.new ≡ with_recovery config.now
         (table_view table.old)) }
+    ensures fits { OnOk result (RecoveryFits config.now) }
     ensures refused { IfErr result (IsWriteRefusal config.now) }
 {
     put(alloc, "dir", Value::string(alloc, &config.dir)?, table)?;
@@ -65,6 +68,7 @@ fn put_recovery(alloc: Global, config: &Config, table: &mut Table) -> Result<(),
 fn put_files(alloc: Global, config: &Config, table: &mut Table) -> Result<(), Fault>
     ensures ok { OnOk result (table_view table.new ≡ with_files config.now
         (table_view table.old)) }
+    ensures fits { OnOk result (FilesFit config.now) }
     ensures refused { IfErr result (IsWriteRefusal config.now) }
 {
     let version = version_number(config.format_version);
@@ -82,12 +86,23 @@ fn put_files(alloc: Global, config: &Config, table: &mut Table) -> Result<(), Fa
 fn put_recycling(alloc: Global, config: &Config, table: &mut Table) -> Result<(), Fault>
     ensures ok { OnOk result (table_view table.new ≡ with_recycling config.now
         (table_view table.old)) }
+    ensures fits { OnOk result (RecyclingFits config.now) }
     ensures memory { IfErr result (λ e. e ≡ Memory) }
 {
     put_size(alloc, "bytes-per-sync", config.bytes_per_sync, table)?;
     put_size(alloc, "memory-limit", config.memory_limit, table)?;
-    put(alloc, "enable-log-recycle", Value::from(config.enable_log_recycle), table)?;
-    put(alloc, "prefill-for-recycle", Value::from(config.prefill_for_recycle), table)?;
+    put(
+        alloc,
+        "enable-log-recycle",
+        Value::from(config.enable_log_recycle),
+        table,
+    )?;
+    put(
+        alloc,
+        "prefill-for-recycle",
+        Value::from(config.prefill_for_recycle),
+        table,
+    )?;
     put_size(alloc, "prefill-limit", config.prefill_limit, table)
 }
 
@@ -99,6 +114,7 @@ fn put_size(
 ) -> Result<(), Fault>
     ensures ok { OnOk result (table_view table.new ≡ with_setting key.now
         (option_map size_data size) (table_view table.old)) }
+    ensures fits { Fits size }
     ensures memory { IfErr result (λ e. e ≡ Memory) }
 {
     match size {
