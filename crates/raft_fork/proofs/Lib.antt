@@ -1,0 +1,4 @@
+pub mod CopiesLemmas
+pub mod PlacesLemmas
+pub mod ReadsLemmas
+pub mod RefusedLemmas
