@@ -46,12 +46,8 @@ planned_stop is_tolerant end None = Keep
 planned_stop is_tolerant end (Some fault.Corruption) = if is_tolerant then Cut end else Fail
 planned_stop is_tolerant end (Some _) = Fail
 
-abbrev pub is_last : List FileCheck → Bool
-is_last [] = true
-is_last (c ∷ checks) = false
-
 -- what an opening in this mode does with each of these files of a queue
 abbrev pub plan_of : RecoveryMode → List FileCheck → List Planned
 plan_of mode [] = []
 plan_of mode (c ∷ checks) =
-    planned_stop (tolerates_corruption mode (is_last checks)) c.end c.stop ∷ plan_of mode checks
+    planned_stop (tolerates_corruption mode (length checks == 0)) c.end c.stop ∷ plan_of mode checks

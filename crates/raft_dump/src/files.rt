@@ -31,8 +31,11 @@ pub fn log_file(
     let Some(id) = FileId::parse_file_name(name) else {
         return Ok(None);
     };
+    if id.queue != queue {
+        return Ok(None);
+    }
     let built = id.build_file_name(alloc)?;
-    if id.queue != queue || built.as_str() != name {
+    if built.as_str() != name {
         return Ok(None);
     }
     let path = id.build_file_path(alloc, folder)?;

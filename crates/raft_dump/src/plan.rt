@@ -31,7 +31,7 @@ pub fn plan_opening(
 {
     let mut plan = Vec::new(alloc);
     let mut left = checks;
-    while let Some((check, rest)) = left.split_first() {
+    'files: while let Some((check, rest)) = left.split_first() {
         plan.push(plan_file(mode.tolerates_corruption(rest.is_empty()), check))?;
         left = rest;
     }
@@ -54,11 +54,9 @@ pub fn passed_over(checks: &[FileCheck]) -> usize
     ensures within { result ≤ length checks.now }
 {
     let mut passed = 0;
-    for (place, pair) in checks.windows(2).enumerate() {
-        if let [before, check] = pair {
-            if before.id.seq.checked_add(1) != Some(check.id.seq) {
-                passed = place + 1;
-            }
+    for place in 1..checks.len() {
+        if checks[place - 1].id.seq.checked_add(1) != Some(checks[place].id.seq) {
+            passed = place;
         }
     }
     passed
