@@ -1,0 +1,18 @@
+//! What log files hold, item by item, and what can be read of a file: for tools that look at a log.
+#![tactic(auto)]
+
+mod build;
+mod check;
+mod dumping;
+mod item_files;
+mod item_reader;
+mod files;
+mod plan;
+
+pub use build::{build_file_reader, build_file_writer};
+pub use check::{FileCheck, check_file};
+pub use dumping::{dump, dump_with_file_system};
+pub use item_files::{ItemFiles, RecordPlace};
+pub use item_reader::LogItemReader;
+pub use files::{LogFile, log_file, log_files};
+pub use plan::{Planned, passed_over, plan_opening};
