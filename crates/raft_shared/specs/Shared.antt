@@ -56,6 +56,15 @@ module _ {F H R W : Type 0} {g : Ghosts F H R W} where
     pub limit : limit_of new ≡ limit_of old
     pub seats : seats_of new ≡ seats_of old
 
+  -- all but the number of its seats is as before
+  pub record IsButSeats (old new : Shared F H R W g) : Type 0 where
+    pub engine : engine_of new ≡ engine_of old
+    pub history : history_of new ≡ history_of old
+    pub base : base_of new ≡ base_of old
+    pub failed : had_failed new ≡ had_failed old
+    pub refusals : refusals_at_new new ≡ refusals_at_new old
+    pub limit : limit_of new ≡ limit_of old
+
   -- nothing was recorded, and the engine is as it was
   pub record HasRecordedNothing (old new : Shared F H R W g) (seat seat' : Seat) : Type 0 where
     pub same : IsSameShared old new

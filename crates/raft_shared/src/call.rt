@@ -1,5 +1,6 @@
 //! Calls of a shared engine, and what they were answered.
 ghost use Rattle.std.specs.Prelude.{◌≡◌, IfOk, IfErr, IsOk, option_map};
+ghost use Rattle.raft_shared.specs.Words.{reason_of};
 
 use raft_log_engine::{Fault, LogBatch};
 use std::alloc::Global;
