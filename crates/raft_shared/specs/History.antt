@@ -1,0 +1,133 @@
+-- A history of a shared engine, in the words of contents, and when it is legal: one thread could have
+-- made it.
+use Rattle.std.specs.Prelude.{◌≡◌, ◌⊎◌, ℕ, Bool, true, false, List, [], ◌∷◌, Option, Some, Result, Ok, Err, fold, suc}
+use Rattle.raft_base.specs.declared.errors.Fault.TheVariants as fault
+use Rattle.raft_base.specs.declared.errors.IoKind.{IoKind}
+use Rattle.raft_records.specs.Contents.{Contents, after_batch, first_index_of, last_index_of}
+use Rattle.raft_records.specs.Item.{Batch}
+use Rattle.raft_records.specs.Validity.{IsValidBatch, batch_refusal}
+use Rattle.raft_log_engine.specs.Engine.{record_len}
+
+-- what a call asks for
+pub data Asked : Type 0 where
+  Write : (batch : Batch) (sync : Bool) → Asked
+  Sync : Asked
+  Get : (group : ℕ) (key : List ℕ) → Asked
+  First : (group : ℕ) → Asked
+  Last : (group : ℕ) → Asked
+
+-- why it is refused
+pub data Reason : Type 0 where
+  Io : (kind : IoKind) → Reason
+  TryAgain : Reason
+  Gap : Reason
+  Range : Reason
+  Failed : Reason
+  Memory : Reason
+  -- a fault of another number, which no legal history has
+  Other : (code : ℕ) → Reason
+
+pub data Answer : Type 0 where
+  Size : (size : Result ℕ Reason) → Answer
+  Done : (done : Result (Unit {0}) Reason) → Answer
+  Value : (value : Result (Option (List ℕ)) Reason) → Answer
+  Index : (index : Option ℕ) → Answer
+
+-- a call of a seat
+pub record Event : Type 0 where
+  pub seat : ℕ
+  pub asked : Asked
+  pub answer : Answer
+
+-- an answered write moves the contents, and nothing else does
+abbrev pub after_event : Contents → Event → Contents
+after_event m event = after_answer m event.asked event.answer
+  where
+    after_answer : Contents → Asked → Answer → Contents
+    after_answer m (Write batch sync) (Size (Ok size)) = after_batch m batch
+    after_answer m asked answer = m
+
+-- the contents after a history
+abbrev pub after_events : Contents → List Event → Contents
+after_events m events = fold after_event m events
+
+-- a write is refused for its batch alone, or of a valid batch by storage, for want of memory, or
+-- since a number's type ends; the engine may fail by storage or for want of memory
+abbrev pub IsRefusedWrite : Contents → Batch → Reason → Bool → Type 0
+IsRefusedWrite m batch Gap fails = (batch_refusal m batch ≡ Some fault.Gap) × (fails ≡ false)
+IsRefusedWrite m batch Range fails =
+    ((batch_refusal m batch ≡ Some fault.Range) ⊎ IsValidBatch m batch) × (fails ≡ false)
+IsRefusedWrite m batch TryAgain fails = IsValidBatch m batch × (fails ≡ false)
+IsRefusedWrite m batch (Io kind) fails = IsValidBatch m batch
+IsRefusedWrite m batch Memory fails = IsValidBatch m batch
+IsRefusedWrite m batch Failed fails = ⊥
+IsRefusedWrite m batch (Other code) fails = ⊥
+
+-- a sync is refused by storage or for want of memory, and that fails the engine
+abbrev pub IsRefusedSync : Reason → Bool → Type 0
+IsRefusedSync (Io kind) fails = fails ≡ true
+IsRefusedSync Memory fails = fails ≡ true
+IsRefusedSync reason fails = ⊥
+
+-- what an engine that stands answers at these contents, and whether it fails in the call
+abbrev pub IsAnswer : Contents → Asked → Answer → Bool → Type 0
+IsAnswer m (Write batch sync) (Size (Ok size)) fails =
+    IsValidBatch m batch × (size ≡ record_len batch) × (fails ≡ false)
+IsAnswer m (Write batch sync) (Size (Err reason)) fails = IsRefusedWrite m batch reason fails
+IsAnswer m Sync (Done (Ok _)) fails = fails ≡ false
+IsAnswer m Sync (Done (Err reason)) fails = IsRefusedSync reason fails
+IsAnswer m (Get group key) (Value (Ok value)) fails =
+    (value ≡ m.value group key) × (fails ≡ false)
+IsAnswer m (Get group key) (Value (Err reason)) fails = (reason ≡ Memory) × (fails ≡ false)
+IsAnswer m (First group) (Index index) fails =
+    (index ≡ first_index_of (m.entries group)) × (fails ≡ false)
+IsAnswer m (Last group) (Index index) fails =
+    (index ≡ last_index_of (m.entries group)) × (fails ≡ false)
+IsAnswer m asked answer fails = ⊥
+
+-- one that has failed answers so; the indexes that it tells are open
+abbrev pub IsAnswerOfFailed : Asked → Answer → Type 0
+IsAnswerOfFailed (Write batch sync) answer = answer ≡ Size (Err Failed)
+IsAnswerOfFailed Sync answer = answer ≡ Done (Err Failed)
+IsAnswerOfFailed (Get group key) answer = answer ≡ Value (Err Failed)
+IsAnswerOfFailed (First group) answer = (index : Option ℕ) × (answer ≡ Index index)
+IsAnswerOfFailed (Last group) answer = (index : Option ℕ) × (answer ≡ Index index)
+
+-- a call of an engine that holds these contents, where it has failed or not, and whether it has
+-- after the call
+abbrev pub IsLegalCall : Contents → Bool → Event → Bool → Type 0
+IsLegalCall m false event fails = IsAnswer m event.asked event.answer fails
+IsLegalCall m true event fails = IsAnswerOfFailed event.asked event.answer × (fails ≡ true)
+
+-- each call is legal where the calls before it leave the engine; whether it has failed at the end
+abbrev pub IsLegalTo : Contents → Bool → List Event → Bool → Type 0
+IsLegalTo m failed [] fails = fails ≡ failed
+IsLegalTo m failed (event ∷ later) fails =
+    (next : Bool) × IsLegalCall m failed event next × IsLegalTo (after_event m event) next later fails
+
+-- a history of an engine that held these contents, where it had failed then or not
+abbrev pub IsLegalHistory : Contents → Bool → List Event → Type 0
+IsLegalHistory m failed events = ∥ ((fails : Bool) × IsLegalTo m failed events fails) ∥₁
+
+-- one that leaves it so
+abbrev pub IsHistoryTo : Contents → Bool → List Event → Bool → Type 0
+IsHistoryTo m failed events fails = ∥ IsLegalTo m failed events fails ∥₁
+
+-- the answer is `Io` or `TryAgain`
+abbrev pub is_storage_refusal : Answer → Bool
+is_storage_refusal (Size (Err (Io kind))) = true
+is_storage_refusal (Size (Err TryAgain)) = true
+is_storage_refusal (Done (Err (Io kind))) = true
+is_storage_refusal (Done (Err TryAgain)) = true
+is_storage_refusal (Value (Err (Io kind))) = true
+is_storage_refusal (Value (Err TryAgain)) = true
+is_storage_refusal answer = false
+
+-- how many answers are
+abbrev pub storage_refusals : List Event → ℕ
+storage_refusals [] = 0
+storage_refusals (event ∷ later) = counted (is_storage_refusal event.answer) (storage_refusals later)
+  where
+    counted : Bool → ℕ → ℕ
+    counted true count = suc count
+    counted false count = count
