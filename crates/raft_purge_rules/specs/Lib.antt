@@ -1,0 +1,4 @@
+pub mod Choice
+pub mod Need
+pub mod Rounds
+pub mod Watermarks

@@ -1,0 +1,12 @@
+//! When a purge rewrites, what it rewrites, and which files it may drop, as rules over counts and numbers of files.
+#![tactic(auto)]
+
+mod group_choice;
+mod need;
+mod rounds;
+mod watermarks;
+
+pub use group_choice::{Choice, GroupUse, choose};
+pub use need::{QueueUse, RewrittenEntries, append_needs_rewrite, rewrite_needs_rewrite};
+pub use rounds::Rounds;
+pub use watermarks::{compact_watermark, rewrite_watermark};
