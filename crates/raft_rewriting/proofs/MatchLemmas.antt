@@ -37,14 +37,14 @@ tail_same x y xs ys is = cc
 pub no_cons : {X : Type 0} (x : X) (xs : List X) → [] ≡ x ∷ xs → ⊥
 no_cons x xs is = cc
 
-abbrev kind_of : Content → ℕ
+abbrev pub kind_of : Content → ℕ
 kind_of (Entries es) = 0
 kind_of Clean = 1
 kind_of (Compact index) = 2
 kind_of (Put key value) = 3
 kind_of (Delete key) = 4
 
-abbrev set_entries : Content → List Entry
+abbrev pub set_entries : Content → List Entry
 set_entries (Entries es) = es
 set_entries Clean = []
 set_entries (Compact index) = []
@@ -65,7 +65,7 @@ put_value (Compact index) = []
 put_value (Put key value) = value
 put_value (Delete key) = []
 
-unlike : (c d : Content) → c ≡ d → (kind_of c ≡ kind_of d → ⊥) → ⊥
+pub unlike : (c d : Content) → c ≡ d → (kind_of c ≡ kind_of d → ⊥) → ⊥
 unlike c d is other = other (ap kind_of is)
 
 -- The same bytes at other places.

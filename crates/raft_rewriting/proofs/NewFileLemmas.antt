@@ -23,7 +23,7 @@ use Rattle.raft_recovery.specs.Ids.{EndsInGroup, HasIdsBelow, HasIdsFrom}
 use Rattle.raft_recovery.specs.Recovered.{effect, items_of, recovered, replay}
 use Rattle.raft_recovery.specs.Stands.{Queues}
 use Rattle.raft_recovery.specs.Takes.{CanDropOld}
-use Rattle.raft_recovery.specs.Together.{StandTogether}
+use Rattle.raft_recovery.specs.Together.{IsCut, StandTogether}
 use Rattle.raft_recovery.proofs.ContentsLemmas.{effect_consecutive, items-append}
 use Rattle.raft_recovery.proofs.DropRewriteLemmas.{effect-cut, later_part}
 use Rattle.raft_recovery.proofs.EachLemmas.{each_map, each_right}
@@ -280,7 +280,7 @@ old_lost blocks numbered owed t q first bound old new front rest s h none none_r
     share : ShareNoGroup old new
     share = share_none bound old new h.old_ids h.new_ids
 
-    cut : _
+    cut : IsCut front rest
     cut = h.together front rest split
 
     -- the old batches, and those of them that are of no group that began before the cut
