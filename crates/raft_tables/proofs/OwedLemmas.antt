@@ -199,8 +199,8 @@ empty_set s none = at (set.keys s) none
     here k = grind (arith, common_steps)
 
     at : (ks : List ℕ) → ((group : ℕ) → list_any (λ k. is_eq (nat_cmp group k)) ks ≡ false) → length ks ≡ 0
-    at [] no = refl
-    at (k ∷ ks) no = absurd (let clash : true ≡ false = sym (ap (λ b. b || list_any (λ x. is_eq (nat_cmp k x)) ks) (here k)) ∙ no k in cc)
+    at [] absent = refl
+    at (k ∷ ks) absent = absurd (let clash : true ≡ false = sym (ap (λ b. b || list_any (λ x. is_eq (nat_cmp k x)) ks) (here k)) ∙ absent k in cc)
 
 pub nothing_owed : (cleaned compacted : Groups) (deleted : Deleted) → set.btree_set_len cleaned ≡ 0 → set.btree_set_len compacted ≡ 0 → ((group : ℕ) (key : List ℕ) → (in_sets cleaned compacted deleted group).deleted key ≡ false)
     → (group : ℕ) → in_sets cleaned compacted deleted group ≡ no_marks
