@@ -2,3 +2,4 @@ pub mod CopiesLemmas
 pub mod PlacesLemmas
 pub mod ReadsLemmas
 pub mod RefusedLemmas
+pub mod StepsLemmas

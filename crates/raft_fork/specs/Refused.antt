@@ -36,6 +36,12 @@ IsSettingsRefusal c _ = ⊥
 abbrev pub HasLogIn : Path → Directory → Type 0
 HasLogIn target n = (path : Path) × IsLogPathIn target path × HasFile n path
 
+-- a folder isn't made where a file stands in its place, or where that call fails
+abbrev pub IsFolderRefusal : Path → Directory → Refusals → Refusals → Fault → Type 0
+IsFolderRefusal folder n old new (fault.InvalidArgument text) = HasFile n folder
+IsFolderRefusal folder n old new e = IsRefusal folder old new e
+
+-- .. as a target also where a log file stands in it
 abbrev pub IsTargetRefusal : Path → Directory → Refusals → Refusals → Fault → Type 0
 IsTargetRefusal target n old new (fault.InvalidArgument text) =
     HasFile n target ⊎ HasLogIn target n

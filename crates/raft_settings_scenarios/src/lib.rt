@@ -1,0 +1,7 @@
+//! Tests of settings as text. Each is one loop over a table of cases.
+#![tactic(auto)]
+
+#[cfg(test)]
+mod rows;
+#[cfg(test)]
+mod settings;

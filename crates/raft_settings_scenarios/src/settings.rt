@@ -1,0 +1,211 @@
+//! Texts of settings: what they are read as, what is written for them, and which are refused.
+
+use crate::rows::{Row, each_holds};
+use raft_config::Config;
+use raft_records::{Fault, Fresh};
+use raft_settings::{read, with_text, write};
+use std::alloc::Global;
+use std::test::Fail;
+
+const DEFAULTS: &str = "\
+dir = \"\"
+enable-log-recycle = true
+format-version = 2
+prefill-for-recycle = false
+purge-rewrite-garbage-ratio = 600
+purge-threshold = \"10GB\"
+recovery-mode = \"tolerate-corrupted-tail-records\"
+recovery-read-block-size = \"16KB\"
+recovery-threads = 4
+target-file-size = \"128MB\"
+";
+
+const ALL_SET: &str = "\
+bytes-per-sync = \"1B\"
+dir = \"a/b c\"
+enable-log-recycle = false
+format-version = 1
+memory-limit = \"18446744073709551615B\"
+prefill-for-recycle = true
+prefill-limit = \"1025KB\"
+purge-rewrite-garbage-ratio = 0
+purge-rewrite-threshold = \"3GB\"
+purge-threshold = \"1025MB\"
+recovery-mode = \"tolerate-any-corruption\"
+recovery-read-block-size = \"0B\"
+recovery-threads = 9223372036854775807
+spill-dir = \"\"
+target-file-size = \"1023B\"
+";
+
+/// A text, and the text that is written for the settings that it is read as.
+struct Read(&'static str, &'static str);
+
+static TEXTS: [Read; 6] = [
+    Read("", DEFAULTS),
+    Read(DEFAULTS, DEFAULTS),
+    Read(ALL_SET, ALL_SET),
+    // Keys that are no setting's, comments, and sizes in other units than they are written in.
+    Read(
+        "batch-compression-threshold = \"8KB\"\ncompression-level = 0.5\n# a comment\n[other]\ndir = 1\n",
+        DEFAULTS,
+    ),
+    Read(
+        "recovery-mode = \"tolerate-tail-corruption\"\ntarget-file-size = 134217728\npurge-threshold = \"10240MB\"\n",
+        DEFAULTS,
+    ),
+    Read(
+        "purge-threshold = \"10737418240\"\nrecovery-read-block-size = \"16384B\"\n",
+        DEFAULTS,
+    ),
+];
+
+impl Row for Read {
+    type State = ();
+
+    fn holds(&self, alloc: Global, _: &mut ()) -> Result<bool, Fault> {
+        let config = read(alloc, self.0)?;
+        let written = write(alloc, &config)?;
+        let back = read(alloc, written.as_str())?;
+        Ok(written.as_str() == self.1 && back == config)
+    }
+}
+
+#[test]
+fn texts_are_read_and_written(rt: HostRuntime) -> Result<(), Fail> {
+    each_holds(&rt, &mut (), &TEXTS)
+}
+
+/// A text that is refused, and why.
+struct Refused(&'static str, &'static str);
+
+static REFUSED: [Refused; 14] = [
+    Refused("dir", "the settings are no TOML"),
+    Refused("dir = \"a\"\ndir = \"a\"\n", "the settings are no TOML"),
+    Refused(
+        "target-file-size = 9223372036854775808",
+        "the settings are no TOML",
+    ),
+    Refused("dir = 1", "dir"),
+    Refused("spill-dir = true", "spill-dir"),
+    Refused("recovery-mode = \"tolerate\"", "recovery-mode"),
+    Refused("recovery-threads = -1", "recovery-threads"),
+    Refused("recovery-threads = \"4\"", "recovery-threads"),
+    Refused("format-version = 3", "format-version"),
+    Refused("target-file-size = \"1.5GB\"", "target-file-size"),
+    Refused("purge-threshold = \"18446744073709551616\"", "purge-threshold"),
+    Refused(
+        "purge-rewrite-garbage-ratio = 0.6",
+        "purge-rewrite-garbage-ratio",
+    ),
+    Refused("enable-log-recycle = 1", "enable-log-recycle"),
+    Refused("prefill-limit = \"\"", "prefill-limit"),
+];
+
+impl Row for Refused {
+    type State = ();
+
+    fn holds(&self, alloc: Global, _: &mut ()) -> Result<bool, Fault> {
+        match read(alloc, self.0) {
+            Err(Fault::InvalidArgument(reason)) => Ok(reason == self.1),
+            _ => Ok(false),
+        }
+    }
+}
+
+#[test]
+fn texts_are_refused(rt: HostRuntime) -> Result<(), Fail> {
+    each_holds(&rt, &mut (), &REFUSED)
+}
+
+/// A text over the settings of another, and the size of the read block and the number of threads that come of it.
+struct Laid(&'static str, &'static str, u64, usize);
+
+static LAID: [Laid; 4] = [
+    Laid("recovery-threads = 7", "", 16_384, 7),
+    Laid("recovery-threads = 7", "recovery-threads = 9", 16_384, 9),
+    Laid(
+        "recovery-threads = 7",
+        "recovery-read-block-size = \"1MB\"",
+        1_048_576,
+        7,
+    ),
+    Laid(
+        "recovery-read-block-size = 1\nrecovery-threads = 7",
+        "recovery-threads = 0\nformat-version = 1",
+        1,
+        0,
+    ),
+];
+
+impl Row for Laid {
+    type State = ();
+
+    fn holds(&self, alloc: Global, _: &mut ()) -> Result<bool, Fault> {
+        let below = read(alloc, self.0)?;
+        let config = with_text(alloc, &below, self.1)?;
+        Ok(config.recovery_read_block_size.0 == self.2 && config.recovery_threads == self.3)
+    }
+}
+
+#[test]
+fn texts_are_laid_over_settings(rt: HostRuntime) -> Result<(), Fail> {
+    each_holds(&rt, &mut (), &LAID)
+}
+
+/// Settings from text, and what of them is used: the size of the read block, the number of threads, the threshold of the
+/// Rewrite queue and how many files are kept to be used again; or why they are refused.
+struct Sanitized(&'static str, Result<(u64, usize, u64, usize), &'static str>);
+
+static SANITIZED: [Sanitized; 4] = [
+    Sanitized("", Ok((16_384, 4, 1_073_741_824, 120))),
+    Sanitized(
+        "recovery-read-block-size = 1\nrecovery-threads = 0\ntarget-file-size = \"5000MB\"",
+        Ok((512, 1, 5_242_880_000, 3)),
+    ),
+    Sanitized(
+        "target-file-size = \"5MB\"\npurge-threshold = \"3MB\"",
+        Err("purge-threshold is below target-file-size"),
+    ),
+    Sanitized("dir = \"a\"\nspill-dir = \"a\"", Err("spill-dir is dir")),
+];
+
+fn is_sanitized(config: &mut Config, wanted: &Result<(u64, usize, u64, usize), &'static str>) -> bool {
+    match (config.sanitize(), wanted) {
+        (Ok(()), Ok((block_size, threads, threshold, capacity))) => {
+            config.recovery_read_block_size.0 == *block_size
+                && config.recovery_threads == *threads
+                && config.rewrite_threshold().0 == *threshold
+                && config.recycle_capacity() == *capacity
+        }
+        (Err(Fault::InvalidArgument(reason)), Err(wanted)) => reason == *wanted,
+        _ => false,
+    }
+}
+
+impl Row for Sanitized {
+    type State = ();
+
+    fn holds(&self, alloc: Global, _: &mut ()) -> Result<bool, Fault> {
+        let mut config = read(alloc, self.0)?;
+        Ok(is_sanitized(&mut config, &self.1))
+    }
+}
+
+#[test]
+fn settings_of_texts_are_sanitized(rt: HostRuntime) -> Result<(), Fail> {
+    each_holds(&rt, &mut (), &SANITIZED)
+}
+
+/// Numbers that TOML doesn't have aren't written.
+#[test]
+fn great_numbers_are_refused(rt: HostRuntime) -> Result<(), Fail> {
+    let mut config = Config::fresh(rt.alloc());
+    config.recovery_threads = usize::MAX;
+    assert!(rt; write(rt.alloc(), &config).is_err());
+    config.recovery_threads = 1;
+    assert!(rt; write(rt.alloc(), &config).is_ok());
+    config.purge_rewrite_garbage_ratio = u64::MAX;
+    assert!(rt; write(rt.alloc(), &config).is_err());
+    Ok(())
+}
