@@ -3,7 +3,8 @@
 use crate::forms::{FORMS, Form, Kind, OPTIONS, Word};
 use crate::opening::mode_named;
 use crate::request::{Load, Look, Options, Range, Request, Verb};
-use clap::{Arg, ArgAction, ArgMatches, Command, Error, ErrorKind, value_parser};
+use clap::error::ErrorKind;
+use clap::{Arg, ArgAction, ArgMatches, Command, Error, value_parser};
 use raft_log_engine::{ReadableSize, RecoveryMode};
 use std::alloc::{AllocError, Global};
 

@@ -21,7 +21,7 @@ pub(crate) enum Change<'a> {
 }
 
 /// Does what is asked to be changed.
-pub(crate) fn change<F: FileSystem>(
+pub(crate) fn carry_out<F: FileSystem>(
     rt: &HostRuntime,
     engine: &mut Engine<F>,
     request: &Request<'_>,
