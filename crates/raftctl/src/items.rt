@@ -6,7 +6,7 @@ use crate::output::{Field, Output, Word};
 use crate::request::Options;
 use crate::status::Status;
 use anyhow::{Result, bail};
-use raft_dump::{ItemFiles, LogFile, RecordPlace, build_file_reader, log_files};
+use raft_dump::{LogItemReader, LogFile, RecordPlace, build_file_reader, log_files};
 use raft_log_engine::{Fault, FileSystem};
 use raft_records::{
     Command, EntryIndex, FileBlockHandle, FileId, KeyValue, LogItem, LogItemContent,
@@ -33,7 +33,7 @@ pub(crate) fn dump<F: FileSystem>(
         Ok(paths) => paths,
         Err(fault) => return Err(failure("the files cannot be listed", &fault)),
     };
-    let mut items = ItemFiles::new(alloc, found);
+    let mut items = LogItemReader::new(alloc, found);
     let mut status = Status::Done;
     for _ in 0..u64::MAX {
         let Some(item) = items.next(image) else {
