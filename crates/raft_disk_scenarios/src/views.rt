@@ -37,9 +37,13 @@ fn sees_the_log(rt: HostRuntime, folder: &str, in_use: bool) -> Result<bool, Fai
     let [first, second] = names.as_slice() else {
         return Ok(false);
     };
-    Ok(first.as_str() == "log" && second.as_str() == "other" && bytes.as_slice() == LOG
-        && is_in_use == in_use
-        && standing(&rt, folder)? == before)
+    Ok(
+        first.as_str() == "log"
+            && second.as_str() == "other"
+            && bytes.as_slice() == LOG
+            && is_in_use == in_use
+            && standing(&rt, folder)? == before,
+    )
 }
 
 fn make(rt: &HostRuntime, folder: &str) -> Result<(), Fail> {
@@ -86,7 +90,11 @@ fn looks_at_no_folder_fail(rt: HostRuntime) -> Result<(), Fail> {
     let file = format!(in rt.alloc(); "{folder}/log")?;
     let missing = format!(in rt.alloc(); "{folder}/missing")?;
     let made = make(&rt, folder.as_str());
-    let said = (fault_of(rt, file.as_str()), fault_of(rt, missing.as_str()), fault_of(rt, ""));
+    let said = (
+        fault_of(rt, file.as_str()),
+        fault_of(rt, missing.as_str()),
+        fault_of(rt, ""),
+    );
     let stands = fs::exists(&rt, missing.as_str());
     let removed = fs::remove_dir_all(&rt, folder.as_str());
     made?;

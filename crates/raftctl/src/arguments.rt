@@ -20,10 +20,7 @@ pub(crate) fn parse<'a>(alloc: Global, words: &'a [String]) -> Result<Request<'a
 }
 
 // `None` only for a command line that `command` refuses.
-fn read_request<'a>(
-    alloc: Global,
-    matches: &ArgMatches<'a>,
-) -> Result<Option<Request<'a>>, Error> {
+fn read_request<'a>(alloc: Global, matches: &ArgMatches<'a>) -> Result<Option<Request<'a>>, Error> {
     let (Some(folder), Some((name, rest))) = (matches.get_str("FOLDER"), matches.subcommand())
     else {
         return Ok(None);

@@ -42,7 +42,13 @@ pub(crate) fn carry_out<F: FileSystem>(
         }
         Verb::Delete(group, key) => {
             let key = bytes_of(rt, key, hex)?;
-            write(rt.alloc(), engine, *group, Change::Delete(&key), request.sync)
+            write(
+                rt.alloc(),
+                engine,
+                *group,
+                Change::Delete(&key),
+                request.sync,
+            )
         }
         Verb::Append(group, values, at) => {
             let values = values_of(rt, values, hex)?;

@@ -6,7 +6,7 @@ use crate::output::{Field, Output, Word};
 use crate::request::Options;
 use crate::status::Status;
 use anyhow::{Result, bail};
-use raft_dump::{LogItemReader, LogFile, RecordPlace, build_file_reader, log_files};
+use raft_dump::{LogFile, LogItemReader, RecordPlace, build_file_reader, log_files};
 use raft_log_engine::{Fault, FileSystem};
 use raft_records::{
     Command, EntryIndex, FileBlockHandle, FileId, KeyValue, LogItem, LogItemContent,
@@ -112,7 +112,11 @@ fn path_of<'a>(paths: &'a [PathOf], id: FileId) -> &'a str {
 // Where an item stands.
 fn place_fields(place: Option<RecordPlace>) -> [Field<'static>; 3] {
     let (queue, number, offset) = match place {
-        Some(place) => (queue_name(place.id.queue), place.id.seq, place.offset as u64),
+        Some(place) => (
+            queue_name(place.id.queue),
+            place.id.seq,
+            place.offset as u64,
+        ),
         None => ("", 0, 0),
     };
     [
@@ -157,11 +161,7 @@ fn add_item<F: FileSystem>(
     }
 }
 
-fn add_command(
-    front: [Field<'_>; 4],
-    command: Command,
-    out: &mut Output,
-) -> Result<(), Fault> {
+fn add_command(front: [Field<'_>; 4], command: Command, out: &mut Output) -> Result<(), Fault> {
     let [queue, file, offset, group] = front;
     match command {
         Command::Clean => out.line(&[queue, file, offset, group, kind("clean")])?,

@@ -30,7 +30,14 @@ struct Found {
 pub(crate) fn look(rt: HostRuntime, request: &Request<'_>, look: Look<'_>) -> Result<Status> {
     let files = load(rt, request.folder, &request.options)?;
     let mut out = Output::new(rt.alloc(), &request.options);
-    let status = show(&rt, files.image, &files.others, &request.options, look, &mut out)?;
+    let status = show(
+        &rt,
+        files.image,
+        &files.others,
+        &request.options,
+        look,
+        &mut out,
+    )?;
     out.print(&rt)?;
     Ok(status)
 }

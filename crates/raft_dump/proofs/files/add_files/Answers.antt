@@ -1,4 +1,4 @@
-use Rattle.std.proofs.Common.{◌≡◌, ◌∙◌, ℕ, ◌+◌, ◌<◌, List, [], ◌∷◌, ◌++◌, length, map, take, Option, Some, None, option_map, ap, sym, append_assoc, arith, Global, String}
+use Rattle.std.proofs.Common.{◌≡◌, ◌∙◌, ℕ, ◌+◌, ◌<◌, List, [], ◌∷◌, ◌++◌, length, map, take, Option, Some, None, option_map, ap, sym, append_assoc, arith, Global, String, Vec}
 use Rattle.std.proofs.lemmas.List.{append-nil, map-append, take_more}
 use Rattle.std.proofs.lemmas.List.Elements.{filter_map-append}
 use Rattle.std.specs.List.{cons_option, filter_map}
@@ -33,5 +33,15 @@ loop-name-preserved c =
     ap (λ (xs : List (String Global)). map string_bytes xs) (take_more names i item within ∙ ap (λ x. take i names ++ x ∷ []) (sym c.name-item.is)) ∙ map-append string_bytes (take i names) (item ∷ []) in
     let before = map place_of c.args.files.now.items in
     let now = map place_of c.loop-name.files.items in
-    let told : option_map place_of c.in_ok-file.field-0 ≡ h name = c.in_ok-file.ensures.value ∙ ap h c.as_str.ensures.value in
-    ?
+    elim c.match-branch-2.branch [
+      | in-Some+in_ok-push w ↦
+          with_name h before now (map place_of c.match-branch-2.files.items) front name (Some (place_of w.in-Some.file)) c.loop-name.invariant
+          (ap h (sym c.as_str.ensures.value) ∙ sym c.in_ok-file.ensures.value ∙ ap (option_map place_of) w.in-Some.is)
+          (ap (λ (fs : Vec LogFile Global). map place_of fs.items) w.files-is ∙ ap (map place_of) w.in_ok-push.ensures.items ∙ map-append place_of c.loop-name.files.items (w.in-Some.file ∷ []))
+          ∙ ap (λ (ns : List (List ℕ)). before ++ filter_map h ns) (sym grown)
+      | in_default w ↦
+          with_name h before now (map place_of c.match-branch-2.files.items) front name None c.loop-name.invariant
+          (ap h (sym c.as_str.ensures.value) ∙ sym c.in_ok-file.ensures.value ∙ ap (option_map place_of) w.in_default.is)
+          (ap (λ (fs : Vec LogFile Global). map place_of fs.items) w.files-is ∙ sym (append-nil now))
+          ∙ ap (λ (ns : List (List ℕ)). before ++ filter_map h ns) (sym grown)
+    ]

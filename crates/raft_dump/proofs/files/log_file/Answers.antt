@@ -10,10 +10,10 @@ use Rattle.raft_dump.proofs.files.log_file.Goals as goal
 not_named : (folder : Path) (queue : LogQueue) (name : List ℕ) (parsed f : FileId) (built : List ℕ) (t : Bool) → t ≡ false → parsed_name name ≡ Some parsed → f ≡ in_queue queue parsed.seq → built ≡ file_name f → t ≡ bytes_eq built name → None ≡ file_named folder queue name
 not_named folder queue name parsed f built t differs some is built_is eq =
     sym (
-      ap (option_and_then (λ (id : FileId). if_named folder name (in_queue queue id.seq))) some
-      ∙ ap (if_named folder name) (sym is)
-      ∙ ap (λ (b : List ℕ). cond {A = Option (FileId × Path)} (bytes_eq b name) (Some (f, path_in folder (file_name f))) None) (sym built_is)
-      ∙ ap (λ (t : Bool). cond {A = Option (FileId × Path)} t (Some (f, path_in folder (file_name f))) None) (sym eq ∙ differs)
+    ap (option_and_then (λ (id : FileId). if_named folder name (in_queue queue id.seq))) some
+    ∙ ap (if_named folder name) (sym is)
+    ∙ ap (λ (b : List ℕ). cond {A = Option (FileId × Path)} (bytes_eq b name) (Some (f, path_in folder (file_name f))) None) (sym built_is)
+    ∙ ap (λ (t : Bool). cond {A = Option (FileId × Path)} t (Some (f, path_in folder (file_name f))) None) (sym eq ∙ differs)
     )
 
 pub returns-clause-value : goal.returns-clause-value
