@@ -52,8 +52,8 @@ impl FolderView {
         self.in_use
     }
 
-    /// The names of the files in a folder, by its path from here, in the order of their bytes. Links count as what
-    /// they lead to.
+    /// The names of the files in a folder, by its path from here, in the order of their bytes, but for the lock's. Links
+    /// count as what they lead to.
     pub fn names(&self, folder: &str) -> Result<Vec<String>, OpenFault> {
         let alloc = self.rt.alloc();
         let place = self.place(folder)?;
@@ -75,6 +75,9 @@ impl FolderView {
     fn add_name(&self, entry: &DirEntry, names: &mut Vec<String>) -> Result<(), OpenFault> {
         let alloc = self.rt.alloc();
         let place = entry.path();
+        if entry.file_name() == LOCK {
+            return Ok(());
+        }
         match fs::metadata(&self.rt, place.as_str()) {
             Ok(metadata) if metadata.is_file() => {
                 Ok(names.push(String::from_str(alloc, entry.file_name())?)?)

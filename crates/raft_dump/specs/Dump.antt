@@ -13,7 +13,7 @@ use Rattle.raft_dump.specs.LogFiles.{files_in}
 
 -- a reader that hasn't begun with these files
 abbrev pub begun_with : List (FileId × Path) → ItemsState
-begun_with files = record { files = files; reading = None; items = [] }
+begun_with files = record { files = files; is_open = false; reading = None; items = [] }
 
 -- the last part of a path, a name, tells this file, or none
 abbrev pub TellsFile : Path → Option FileId → Type 0

@@ -28,18 +28,17 @@ pub fn log_file(
         ≡ file_named folder.now queue name.now) }
     ensures memory { IfErr result (λ e. e ≡ Memory) }
 {
-    let Some(id) = FileId::parse_file_name(name) else {
+    let Some(parsed) = FileId::parse_file_name(name) else {
         return Ok(None);
     };
-    if id.queue != queue {
-        return Ok(None);
-    }
+    let id = FileId::new(queue, parsed.seq);
     let built = id.build_file_name(alloc)?;
-    if built.as_str() != name {
-        return Ok(None);
+    if built.as_str() == name {
+        let path = id.build_file_path(alloc, folder)?;
+        Ok(Some(LogFile { id, path }))
+    } else {
+        Ok(None)
     }
-    let path = id.build_file_path(alloc, folder)?;
-    Ok(Some(LogFile { id, path }))
 }
 
 /// The log files that these names stand for in a folder: those of the Rewrite queue, then those of the Append queue,

@@ -4,15 +4,13 @@
 mod build;
 mod check;
 mod dumping;
-mod item_files;
-mod item_reader;
 mod files;
+mod item_reader;
 mod plan;
 
 pub use build::{build_file_reader, build_file_writer};
 pub use check::{FileCheck, check_file};
-pub use dumping::{dump, dump_with_file_system};
-pub use item_files::{ItemFiles, RecordPlace};
-pub use item_reader::LogItemReader;
+pub use dumping::dump_with_file_system;
 pub use files::{LogFile, log_file, log_files};
+pub use item_reader::{LogItemReader, RecordPlace};
 pub use plan::{Planned, passed_over, plan_opening};

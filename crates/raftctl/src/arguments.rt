@@ -3,7 +3,8 @@
 use crate::forms::{FORMS, Form, Kind, OPTIONS, Word};
 use crate::opening::mode_named;
 use crate::request::{Load, Look, Options, Range, Request, Verb};
-use clap::{Arg, ArgAction, ArgMatches, Command, Error, ErrorKind, value_parser};
+use clap::error::ErrorKind;
+use clap::{Arg, ArgAction, ArgMatches, Command, Error, value_parser};
 use raft_log_engine::{ReadableSize, RecoveryMode};
 use std::alloc::{AllocError, Global};
 
@@ -19,10 +20,7 @@ pub(crate) fn parse<'a>(alloc: Global, words: &'a [String]) -> Result<Request<'a
 }
 
 // `None` only for a command line that `command` refuses.
-fn read_request<'a>(
-    alloc: Global,
-    matches: &ArgMatches<'a>,
-) -> Result<Option<Request<'a>>, Error> {
+fn read_request<'a>(alloc: Global, matches: &ArgMatches<'a>) -> Result<Option<Request<'a>>, Error> {
     let (Some(folder), Some((name, rest))) = (matches.get_str("FOLDER"), matches.subcommand())
     else {
         return Ok(None);

@@ -21,7 +21,7 @@ pub(crate) enum Change<'a> {
 }
 
 /// Does what is asked to be changed.
-pub(crate) fn change<F: FileSystem>(
+pub(crate) fn carry_out<F: FileSystem>(
     rt: &HostRuntime,
     engine: &mut Engine<F>,
     request: &Request<'_>,
@@ -42,7 +42,13 @@ pub(crate) fn change<F: FileSystem>(
         }
         Verb::Delete(group, key) => {
             let key = bytes_of(rt, key, hex)?;
-            write(rt.alloc(), engine, *group, Change::Delete(&key), request.sync)
+            write(
+                rt.alloc(),
+                engine,
+                *group,
+                Change::Delete(&key),
+                request.sync,
+            )
         }
         Verb::Append(group, values, at) => {
             let values = values_of(rt, values, hex)?;

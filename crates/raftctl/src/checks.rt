@@ -2,40 +2,41 @@
 
 use crate::failure;
 use crate::inspection::{QueueFiles, inspect};
-use crate::look::Files;
 use crate::output::{Output, Word};
 use crate::request::Options;
 use crate::status::Status;
 use anyhow::Result;
 use raft_dump::{FileCheck, LogFile, Planned};
-use raft_log_engine::{Fault, RecoveryMode, Version};
+use raft_log_engine::{Fault, FileSystem, RecoveryMode, Version};
 use raft_records::LogQueue;
 use std::alloc::Global;
 
 /// Adds a line for each file, and says what an opening in the mode of the options would do.
-pub(crate) fn check(
+pub(crate) fn check<F: FileSystem>(
     alloc: Global,
-    mut files: Files,
+    image: &mut F,
+    others: &[String],
     options: &Options<'_>,
     out: &mut Output,
 ) -> Result<Status> {
-    match check_files(alloc, &mut files, options, out) {
+    match check_files(alloc, image, others, options, out) {
         Ok(status) => Ok(status),
         Err(fault) => Err(failure("the files cannot be checked", &fault)),
     }
 }
 
-fn check_files(
+fn check_files<F: FileSystem>(
     alloc: Global,
-    files: &mut Files,
+    image: &mut F,
+    others: &[String],
     options: &Options<'_>,
     out: &mut Output,
 ) -> Result<Status, Fault> {
-    let append = inspect(alloc, &mut files.image, options, LogQueue::Append)?;
-    let rewrite = inspect(alloc, &mut files.image, options, LogQueue::Rewrite)?;
+    let append = inspect(alloc, image, options, LogQueue::Append)?;
+    let rewrite = inspect(alloc, image, options, LogQueue::Rewrite)?;
     add_queue(alloc, &append, out)?;
     add_queue(alloc, &rewrite, out)?;
-    for name in &files.others {
+    for name in others {
         out.named(&[("other", Word::Bytes(name.as_bytes()))])?;
     }
     let append = status_of(alloc, &append, options.mode)?;

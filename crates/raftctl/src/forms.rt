@@ -119,7 +119,11 @@ pub(crate) const FORMS: [Form; 18] = [
         about: "Prints a line for each key of a group in a range: itself and its value",
         words: &[
             GROUP,
-            Word("from", Kind::NamedText, "The first key; else that of the group"),
+            Word(
+                "from",
+                Kind::NamedText,
+                "The first key; else that of the group",
+            ),
             Word("to", Kind::NamedText, "The key before which the range ends"),
             Word("reverse", Kind::Flag, "Begins with the last key"),
             LIMIT,
@@ -201,11 +205,7 @@ pub(crate) const FORMS: [Form; 18] = [
     Form {
         name: "dump",
         about: "Prints a line for each item of the log files; status 4 where one can't be read on",
-        words: &[Word(
-            "FILE",
-            Kind::OptionalText,
-            "The items of this file alone",
-        )],
+        words: &[Word("FILE", Kind::OptionalText, "The items of this file alone")],
         example: "Example: raftctl log dump 0000000000000001.raftlog --json",
     },
     Form {

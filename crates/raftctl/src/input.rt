@@ -28,7 +28,11 @@ fn input(rt: &HostRuntime) -> Result<Vec<u8>> {
 
 /// The bytes of a file, or of standard input for `-`.
 pub(crate) fn file_or_input(rt: &HostRuntime, path: &str) -> Result<Vec<u8>> {
-    if path == "-" { input(rt) } else { file(rt, path) }
+    if path == "-" {
+        input(rt)
+    } else {
+        file(rt, path)
+    }
 }
 
 fn file(rt: &HostRuntime, path: &str) -> Result<Vec<u8>> {

@@ -2,28 +2,27 @@
 
 use crate::checks::queue_name;
 use crate::failure;
-use crate::look::Files;
 use crate::output::{Field, Output, Word};
 use crate::request::Options;
 use crate::status::Status;
 use anyhow::{Result, bail};
-use raft_dump::{ItemFiles, LogFile, RecordPlace, build_file_reader, log_files};
-use raft_log_engine::{Fault, FileSystem, MemoryFileSystem};
+use raft_dump::{LogFile, LogItemReader, RecordPlace, build_file_reader, log_files};
+use raft_log_engine::{Fault, FileSystem};
 use raft_records::{
     Command, EntryIndex, FileBlockHandle, FileId, KeyValue, LogItem, LogItemContent,
 };
 use std::alloc::Global;
 
 /// Prints a line for each item of one file, or of all: the Rewrite queue's first.
-pub(crate) fn dump(
+pub(crate) fn dump<F: FileSystem>(
     rt: &HostRuntime,
-    mut files: Files,
+    image: &mut F,
     options: &Options<'_>,
     name: Option<&str>,
     out: &mut Output,
 ) -> Result<Status> {
     let alloc = rt.alloc();
-    let found = match chosen(alloc, &mut files.image, options, name) {
+    let found = match chosen(alloc, image, options, name) {
         Ok(found) => found,
         Err(fault) => return Err(failure("the files cannot be listed", &fault)),
     };
@@ -34,14 +33,14 @@ pub(crate) fn dump(
         Ok(paths) => paths,
         Err(fault) => return Err(failure("the files cannot be listed", &fault)),
     };
-    let mut items = ItemFiles::new(alloc, found);
+    let mut items = LogItemReader::new(alloc, found);
     let mut status = Status::Done;
     for _ in 0..u64::MAX {
-        let Some(item) = items.next(&mut files.image) else {
+        let Some(item) = items.next(image) else {
             break;
         };
         let added = match item {
-            Ok(item) => add_item(alloc, &mut files.image, &paths, items.place(), &item, out),
+            Ok(item) => add_item(alloc, image, &paths, items.place(), &item, out),
             Err(fault) => {
                 status = Status::WouldCut;
                 add_fault(items.place(), &fault, out)
@@ -56,9 +55,9 @@ pub(crate) fn dump(
 }
 
 // The file of this name, or all files.
-fn chosen(
+fn chosen<F: FileSystem>(
     alloc: Global,
-    image: &mut MemoryFileSystem,
+    image: &mut F,
     options: &Options<'_>,
     name: Option<&str>,
 ) -> Result<Vec<LogFile>, Fault> {
@@ -71,9 +70,9 @@ fn chosen(
     Ok(all)
 }
 
-fn add_files(
+fn add_files<F: FileSystem>(
     alloc: Global,
-    image: &mut MemoryFileSystem,
+    image: &mut F,
     folder: &str,
     name: Option<&str>,
     all: &mut Vec<LogFile>,
@@ -113,7 +112,11 @@ fn path_of<'a>(paths: &'a [PathOf], id: FileId) -> &'a str {
 // Where an item stands.
 fn place_fields(place: Option<RecordPlace>) -> [Field<'static>; 3] {
     let (queue, number, offset) = match place {
-        Some(place) => (queue_name(place.id.queue), place.id.seq, place.offset as u64),
+        Some(place) => (
+            queue_name(place.id.queue),
+            place.id.seq,
+            place.offset as u64,
+        ),
         None => ("", 0, 0),
     };
     [
@@ -135,9 +138,9 @@ fn add_fault(place: Option<RecordPlace>, fault: &Fault, out: &mut Output) -> Res
     Ok(())
 }
 
-fn add_item(
+fn add_item<F: FileSystem>(
     alloc: Global,
-    image: &mut MemoryFileSystem,
+    image: &mut F,
     paths: &[PathOf],
     place: Option<RecordPlace>,
     item: &LogItem,
@@ -158,11 +161,7 @@ fn add_item(
     }
 }
 
-fn add_command(
-    front: [Field<'_>; 4],
-    command: Command,
-    out: &mut Output,
-) -> Result<(), Fault> {
+fn add_command(front: [Field<'_>; 4], command: Command, out: &mut Output) -> Result<(), Fault> {
     let [queue, file, offset, group] = front;
     match command {
         Command::Clean => out.line(&[queue, file, offset, group, kind("clean")])?,
@@ -195,9 +194,9 @@ fn add_pair(front: [Field<'_>; 4], pair: &KeyValue, out: &mut Output) -> Result<
     Ok(())
 }
 
-fn add_entry(
+fn add_entry<F: FileSystem>(
     alloc: Global,
-    image: &mut MemoryFileSystem,
+    image: &mut F,
     paths: &[PathOf],
     front: [Field<'_>; 4],
     entry: &EntryIndex,
@@ -219,9 +218,9 @@ fn add_entry(
 }
 
 // The bytes of an entry as they stand in its file, whether its block is sound or not.
-fn entry_bytes(
+fn entry_bytes<F: FileSystem>(
     alloc: Global,
-    image: &mut MemoryFileSystem,
+    image: &mut F,
     paths: &[PathOf],
     entry: &EntryIndex,
 ) -> Result<Vec<u8>, Fault> {

@@ -89,10 +89,7 @@ pub(crate) fn scan<F: FileSystem>(
     out: &mut Output,
 ) -> Result<bool, Fault> {
     for (key, value) in scanned(alloc, engine, group, bounds)? {
-        out.line(&[
-            ("key", Word::Bytes(&key)),
-            ("value", Word::Bytes(&value)),
-        ])?;
+        out.line(&[("key", Word::Bytes(&key)), ("value", Word::Bytes(&value))])?;
     }
     Ok(true)
 }

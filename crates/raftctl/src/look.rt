@@ -8,15 +8,15 @@ use crate::{checks, entries, failure, input, items, keys, numbered, stat};
 use anyhow::{Result, bail};
 use raft_disk::{FolderView, image_of};
 use raft_dump::log_file;
-use raft_log_engine::{Engine, Fault, MemoryFileSystem};
+use raft_log_engine::{Engine, Fault, FileSystem, MemoryFileSystem};
 use raft_records::LogQueue;
 use std::alloc::Global;
 
 /// The log files of a folder in memory, and the names of its other files.
 #[derive(Drop)]
-pub(crate) struct Files {
-    pub image: MemoryFileSystem,
-    pub others: Vec<String>,
+struct Files {
+    image: MemoryFileSystem,
+    others: Vec<String>,
 }
 
 /// What was read so far.
@@ -30,25 +30,43 @@ struct Found {
 pub(crate) fn look(rt: HostRuntime, request: &Request<'_>, look: Look<'_>) -> Result<Status> {
     let files = load(rt, request.folder, &request.options)?;
     let mut out = Output::new(rt.alloc(), &request.options);
-    let status = match look {
-        Look::Check => checks::check(rt.alloc(), files, &request.options, &mut out)?,
-        Look::Dump(name) => items::dump(&rt, files, &request.options, name, &mut out)?,
-        Look::Stat => stat::stat(rt.alloc(), files, &request.options, &mut out)?,
-        _ => read(&rt, files, &request.options, look, &mut out)?,
-    };
+    let status = show(
+        &rt,
+        files.image,
+        &files.others,
+        &request.options,
+        look,
+        &mut out,
+    )?;
     out.print(&rt)?;
     Ok(status)
 }
 
-// What an engine finds in the files.
-fn read(
+fn show<F: FileSystem + Drop>(
     rt: &HostRuntime,
-    files: Files,
+    mut image: F,
+    others: &[String],
     options: &Options<'_>,
     look: Look<'_>,
     out: &mut Output,
 ) -> Result<Status> {
-    let mut engine = open(rt.alloc(), files.image, options)?;
+    match look {
+        Look::Check => checks::check(rt.alloc(), &mut image, others, options, out),
+        Look::Dump(name) => items::dump(rt, &mut image, options, name, out),
+        Look::Stat => stat::stat(rt.alloc(), image, options, out),
+        _ => read(rt, image, options, look, out),
+    }
+}
+
+// What an engine finds in the files.
+fn read<F: FileSystem + Drop>(
+    rt: &HostRuntime,
+    image: F,
+    options: &Options<'_>,
+    look: Look<'_>,
+    out: &mut Output,
+) -> Result<Status> {
+    let mut engine = open(rt.alloc(), image, options)?;
     let found = match look {
         Look::Get(group, key) => {
             let key = input::bytes_of(rt, key, options.hex)?;
@@ -67,9 +85,9 @@ fn read(
     }
 }
 
-fn answer(
+fn answer<F: FileSystem>(
     alloc: Global,
-    engine: &mut Engine<MemoryFileSystem>,
+    engine: &mut Engine<F>,
     look: Look<'_>,
     out: &mut Output,
 ) -> Result<bool, Fault> {
@@ -86,8 +104,8 @@ fn answer(
     }
 }
 
-/// Reads the log files of a folder, and of the second one where the options name one.
-pub(crate) fn load(rt: HostRuntime, folder: &str, options: &Options<'_>) -> Result<Files> {
+// Reads the log files of a folder, and of the second one where the options name one.
+fn load(rt: HostRuntime, folder: &str, options: &Options<'_>) -> Result<Files> {
     let alloc = rt.alloc();
     let view = match FolderView::open(rt, folder) {
         Ok(view) => view,

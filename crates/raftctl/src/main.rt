@@ -21,7 +21,7 @@ mod status;
 
 use anyhow::{Result, anyhow, bail};
 use arguments::parse;
-use changes::change;
+use changes::carry_out;
 use clap::Error;
 use output::Output;
 use raft_disk::DiskFileSystem;
@@ -91,7 +91,7 @@ fn answer<F: FileSystem + Drop>(
     }
     let mut engine = opening::open(rt.alloc(), files, &request.options)?;
     let mut out = Output::new(rt.alloc(), &request.options);
-    change(rt, &mut engine, request, &mut out)?;
+    carry_out(rt, &mut engine, request, &mut out)?;
     out.print(rt)?;
     if request.sync {
         opening::close(engine)?;

@@ -2,7 +2,6 @@
 
 use crate::failure;
 use crate::inspection::{QueueFiles, inspect};
-use crate::look::Files;
 use crate::opening::open;
 use crate::output::{Output, Word};
 use crate::request::Options;
@@ -24,17 +23,17 @@ struct Sizes {
 }
 
 /// Adds how much the log holds, and how many bytes an opening would cut from its files.
-pub(crate) fn stat(
+pub(crate) fn stat<F: FileSystem + Drop>(
     alloc: Global,
-    mut files: Files,
+    mut files: F,
     options: &Options<'_>,
     out: &mut Output,
 ) -> Result<Status> {
-    let sizes = match measure(alloc, &mut files.image, options) {
+    let sizes = match measure(alloc, &mut files, options) {
         Ok(sizes) => sizes,
         Err(fault) => return Err(failure("the log cannot be measured", &fault)),
     };
-    let mut engine = open(alloc, files.image, options)?;
+    let mut engine = open(alloc, files, options)?;
     let image = match engine.image() {
         Ok(image) => image,
         Err(fault) => return Err(failure("the log cannot be read", &fault)),
