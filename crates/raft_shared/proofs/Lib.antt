@@ -1,2 +1,4 @@
 pub mod HistoryLemmas
 pub mod CallLemmas
+pub mod SharedLemmas
+pub mod SettledLemmas
