@@ -123,11 +123,13 @@ is_storage_refusal (Value (Err (Io kind))) = true
 is_storage_refusal (Value (Err TryAgain)) = true
 is_storage_refusal answer = false
 
+-- one more where an answer is
+abbrev pub refused : Bool → ℕ → ℕ
+refused true count = suc count
+refused false count = count
+
 -- how many answers are
 abbrev pub storage_refusals : List Event → ℕ
 storage_refusals [] = 0
-storage_refusals (event ∷ later) = counted (is_storage_refusal event.answer) (storage_refusals later)
-  where
-    counted : Bool → ℕ → ℕ
-    counted true count = suc count
-    counted false count = count
+storage_refusals (event ∷ later) =
+    refused (is_storage_refusal event.answer) (storage_refusals later)

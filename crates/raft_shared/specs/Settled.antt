@@ -1,5 +1,5 @@
 -- Seats whose receipts are the calls of a history, each once.
-use Rattle.std.specs.Prelude.{◌≡◌, ℕ, suc, ◌==◌, Bool, true, false, List, [], ◌∷◌, map}
+use Rattle.std.specs.Prelude.{◌≡◌, ℕ, suc, ◌==◌, Bool, true, false, List, [], ◌∷◌, map, if◌then◌else◌}
 use Rattle.std.specs.List.{All}
 use Rattle.raft_shared.specs.History.{Event}
 use Rattle.raft_shared.specs.Shared.{receipts_of}
@@ -9,11 +9,8 @@ use Rattle.raft_shared.specs.declared.seat.Seat.{Seat}
 -- how many of the seats have this number
 abbrev pub seats_with : ℕ → List Seat → ℕ
 seats_with number [] = 0
-seats_with number (seat ∷ seats) = counted (seat.number == number) (seats_with number seats)
-  where
-    counted : Bool → ℕ → ℕ
-    counted true count = suc count
-    counted false count = count
+seats_with number (seat ∷ seats) =
+    if seat.number == number then suc (seats_with number seats) else seats_with number seats
 
 -- each seat has the receipts of its calls, in order, each at its number; and each call is of just one
 -- seat
