@@ -110,12 +110,13 @@ pub opened : (blocks : Blocks) (numbered : List FileBatch) (owed : Owed) (t : Ta
     → let batch = marked id (next_mark parts) (entries_item group (entries_in blocks part) ∷ []) in
     let next = record q { rewritten_since = q.rewritten_since ++ batch ∷ [] } in
     RewriteTakes batch q × StandForQueues blocks numbered owed t next × EndsInGroup id (open_group id (bodies_in blocks group (parts ++ part ∷ []))) (next.rewritten ++ next.rewritten_since)
-opened blocks numbered owed t q id group parts part rest s e from =
-    (record { consecutive = consecutive_one batch run; found = ap (λ x. replay x q.appended) same },
-      one_more blocks numbered owed owed t t q batch s run low (subst (λ (x : Contents). TablesStandFor blocks x numbered owed t) (sym same) s.stand),
-      subst (λ (bs : List Batch). EndsInGroup id (open_group id (bodies_in blocks group (parts ++ part ∷ []))) bs) (append_assoc q.rewritten q.rewritten_since (batch ∷ []))
+opened blocks numbered owed t q id group parts part rest s e from = (
+  record { consecutive = consecutive_one batch run; found = ap (λ x. replay x q.appended) same },
+  one_more blocks numbered owed owed t t q batch s run low (subst (λ (x : Contents). TablesStandFor blocks x numbered owed t) (sym same) s.stand),
+  subst (λ (bs : List Batch). EndsInGroup id (open_group id (bodies_in blocks group (parts ++ part ∷ []))) bs) (append_assoc q.rewritten q.rewritten_since (batch ∷ []))
       (subst (λ (bs : List Batch). EndsInGroup id (open_group id bs) (rewrites q ++ batch ∷ [])) (sym (map-append body_of parts (part ∷ [])))
-      (subst (λ (m : Mark). EndsInGroup id (open_group id (bodies ++ body ∷ [])) (rewrites q ++ marked id m body ∷ [])) mark (ends_more id bodies (rewrites q) body e))))
+      (subst (λ (m : Mark). EndsInGroup id (open_group id (bodies ++ body ∷ [])) (rewrites q ++ marked id m body ∷ [])) mark (ends_more id bodies (rewrites q) body e))),
+)
   where
     body_of : List (ℕ × EntryPlace) → Batch
     body_of = λ p. entries_item group (entries_in blocks p) ∷ []

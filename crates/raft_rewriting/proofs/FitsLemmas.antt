@@ -42,8 +42,11 @@ Fits x a g (Delete key) = ⊥
 pub fits_of : (blocks : Blocks) (x : Contents) (appended : List FileBatch) (owed : Owed) (t : Tables) (w : Option ℕ) (g : ℕ) (c : PlacedContent) → HasConsecutiveEntries x → HaveConsecutiveEntries (batches_of appended) → TablesStandFor blocks x appended owed t
     → IsFetchedContent w t g c → Fits x (batches_of appended) g (content_in blocks c)
 fits_of blocks x appended owed t w g (EntriesAt []) run_x run stands from = absurd from
-fits_of blocks x appended owed t w g (EntriesAt (e ∷ es)) run_x run stands from = (new_run, part_fits blocks x appended (owed g) g from.pre e es from.post (run_x g) run_parts (now ∙ ap (entries_in blocks) from.parts)
-    (subst (Each (EntryStands blocks (ends_leave appended g) (owed g) (x.entries g))) from.parts (stands.entries g).each) from.first from.rest)
+fits_of blocks x appended owed t w g (EntriesAt (e ∷ es)) run_x run stands from = (
+  new_run,
+  part_fits blocks x appended (owed g) g from.pre e es from.post (run_x g) run_parts (now ∙ ap (entries_in blocks) from.parts)
+      (subst (Each (EntryStands blocks (ends_leave appended g) (owed g) (x.entries g))) from.parts (stands.entries g).each) from.first from.rest,
+)
   where
     now : (replay x (batches_of appended)).entries g ≡ entries_in blocks (or_empty (t g)).entries
     now = sym (ap (λ (m : Contents). m.entries g) stands.contents)
@@ -82,12 +85,15 @@ fits_run x a g (Delete key) fits = absurd fits
 -- .. and of other contents, of which the same is recovered, with the same entries where it sets entries
 fits_still : (x y : Contents) (a : List Batch) (g : ℕ) (c : Content) → replay y a ≡ replay x a → (set_key c ≡ None → y.entries g ≡ x.entries g) → Fits x a g c → Fits y a g c
 fits_still x y a g (Entries []) same entries fits = fits
-fits_still x y a g (Entries (e ∷ es)) same entries fits = (fits.0, record {
-  held = subst (λ (m : Contents). All (λ n. leaves a g n.0 ≡ true → Contains (m.entries g) n) (e ∷ es)) (sym same) fits.1.held;
-  covers = subst (λ (m : Contents). All (λ o. leaves a g o.0 ≡ true → (o.0 < e.0) ⊎ Contains (e ∷ es) o) (m.entries g)) (sym same) fits.1.covers;
-  touches = subst (λ (h : List Entry). All (λ o. leaves a g o.0 ≡ true → o.0 < e.0 → is_next_to h e.0 ≡ true) ((replay y a).entries g)) (sym (entries refl))
-      (subst (λ (m : Contents). All (λ o. leaves a g o.0 ≡ true → o.0 < e.0 → is_next_to (x.entries g) e.0 ≡ true) (m.entries g)) (sym same) fits.1.touches);
-})
+fits_still x y a g (Entries (e ∷ es)) same entries fits = (
+  fits.0,
+  record {
+    held = subst (λ (m : Contents). All (λ n. leaves a g n.0 ≡ true → Contains (m.entries g) n) (e ∷ es)) (sym same) fits.1.held;
+    covers = subst (λ (m : Contents). All (λ o. leaves a g o.0 ≡ true → (o.0 < e.0) ⊎ Contains (e ∷ es) o) (m.entries g)) (sym same) fits.1.covers;
+    touches = subst (λ (h : List Entry). All (λ o. leaves a g o.0 ≡ true → o.0 < e.0 → is_next_to h e.0 ≡ true) ((replay y a).entries g)) (sym (entries refl))
+        (subst (λ (m : Contents). All (λ o. leaves a g o.0 ≡ true → o.0 < e.0 → is_next_to (x.entries g) e.0 ≡ true) (m.entries g)) (sym same) fits.1.touches);
+  },
+)
 fits_still x y a g Clean same entries fits = fits
 fits_still x y a g (Compact index) same entries fits = fits
 fits_still x y a g (Put key value) same entries fits = λ left. ap (λ (m : Contents). m.value g key) same ∙ fits left
@@ -109,9 +115,6 @@ entries_stay x a g (Put key value) h fits apart = at (bytes_eq key group_mark_ke
     at true = refl
     at false = refl
 entries_stay x a g (Delete key) h fits apart = absurd fits
-
-
-
 
 abbrev pub apart_items : Item → Item → Type 0
 apart_items i j = i.group ≡ j.group → set_key i.content ≡ set_key j.content → ⊥

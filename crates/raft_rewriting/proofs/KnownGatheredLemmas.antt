@@ -112,6 +112,6 @@ ended_known blocks owed t id group parts part values batches g e some gathered i
     let there = fetched_known None t group (EntriesAt (flat_map (λ p. p) parts ++ part)) gathered.each.0.1 in
     let each = both_each (Each (KnowsNoOther t)) (open_group id bodies) (marked id End last ∷ []) (open_batches blocks t id group parts there) ((inl (λ k. refl), (inr there, gathered_items blocks None owed t values gathered.each.1)), tt) in
     let whole_is : whole (batches ++ marked id End last ∷ []) ≡ whole e.old ++ ended_group id bodies last =
-        ap whole (ap (λ bs. bs ++ marked id End last ∷ []) e.is ∙ append_assoc e.old (open_group id bodies) (marked id End last ∷ [])) ∙ whole-complete_group id e.old (ended_group id bodies last) e.apart (ended_of_group id bodies last) (ended_complete id bodies last (some_parts blocks group parts some)) in
+    ap whole (ap (λ bs. bs ++ marked id End last ∷ []) e.is ∙ append_assoc e.old (open_group id bodies) (marked id End last ∷ [])) ∙ whole-complete_group id e.old (ended_group id bodies last) e.apart (ended_of_group id bodies last) (ended_complete id bodies last (some_parts blocks group parts some)) in
     let now = sym (ap (λ (bs : List Batch). known_in bs g) whole_is ∙ fold-append (known_after g) false (whole e.old) (ended_group id bodies last)) ∙ is in
     ⊎_elim (λ old. inl (ap (λ (bs : List Batch). known_in bs g) (whole_open id bodies batches e) ∙ old)) inr (known_batches t g (known_in (whole e.old) g) (ended_group id bodies last) each now)

@@ -208,6 +208,6 @@ ended blocks numbered owed t q id group seq parts part values news s e some gath
     let stand = (all_again blocks x numbered owed t None seq one run_x s.appended_consecutive run_one may s.stand).1 in
     let from = subst (λ es. IsFetched None (or_empty (t group)).entries (flat_map (λ p. p) parts ++ es)) (sym (append-nil part)) (fetched_of None t group all gathered.each.0.1) in
     let low : AreItemsBelow (2 ^ 64 - 1) (marked id End (last_body blocks group part values)) =
-        (tt, (part_low blocks numbered owed t q group (flat_map (λ p. p) parts) part [] s from, subst (AreItemsBelow (2 ^ 64 - 1)) m.same_values (placed_low blocks m.set m.order))) in
+    (tt, (part_low blocks numbered owed t q group (flat_map (λ p. p) parts) part [] s from, subst (AreItemsBelow (2 ^ 64 - 1)) m.same_values (placed_low blocks m.set m.order))) in
     one_more blocks numbered owed owed t u q (marked id End (last_body blocks group part values)) s of.run low
     (subst (λ (y : Contents). TablesStandFor blocks y numbered owed u) (ap (after_batch x) one_same ∙ sym of.effect_is) (subst (TablesStandFor blocks (after_batch x (map (item_in blocks) one)) numbered owed) (sym m.moved) stand))

@@ -161,14 +161,16 @@ pub new_opened : (blocks : Blocks) (t : Tables) (q : Queues) (first bound id : �
     let next = record q { rewritten_since = q.rewritten_since ++ batch ∷ [] } in
     HasNewFiles blocks first bound old (new ++ batch ∷ []) t next × EndsInGroup id (open_group id (bodies ++ body ∷ [])) (new ++ batch ∷ [])
 new_opened blocks t q first bound id old new bodies body h high e =
-    let batch = marked id (next_mark bodies) body in
-    (record {
-      batches = more_batches q old new batch h.batches;
-      together = h.together;
-      old_ids = h.old_ids;
-      new_ids = λ other low. both_without other new (batch ∷ []) (h.new_ids other low) (marked_ids bound id other (next_mark bodies) body high low);
-      holds = subst (λ (y : Contents). HoldsFrom blocks first y t) (sym (after_open new id bodies body e)) h.holds;
-    }, ends_more id bodies new body e)
+    let batch = marked id (next_mark bodies) body in (
+      record {
+        batches = more_batches q old new batch h.batches;
+        together = h.together;
+        old_ids = h.old_ids;
+        new_ids = λ other low. both_without other new (batch ∷ []) (h.new_ids other low) (marked_ids bound id other (next_mark bodies) body high low);
+        holds = subst (λ (y : Contents). HoldsFrom blocks first y t) (sym (after_open new id bodies body e)) h.holds;
+      },
+      ends_more id bodies new body e,
+    )
 
 -- an end of the Rewrite queue's batches is one of them too
 pub new_run : (blocks : Blocks) (numbered : List FileBatch) (owed : Owed) (t : Tables) (q : Queues) (old new : List Batch) → StandForQueues blocks numbered owed t q → rewrites q ≡ old ++ new → HaveConsecutiveEntries old × HaveConsecutiveEntries new
@@ -201,7 +203,7 @@ new_ended blocks numbered owed t q first bound id group seq old new parts part v
     let run : HasConsecutiveEntries (effect new) = effect_consecutive new (new_run blocks numbered owed t q old new s h.batches).1 in
     let held = hold_all blocks first owed (effect new) t seq items one gathered.each (all_runs t items (tables_run blocks numbered owed t q s)) gathered.apart one_same given at h.holds in
     let is : effect (new ++ batch ∷ []) ≡ after_batch (effect new) (map (item_in blocks) one) =
-        after_ended new id bodies last e (some_bodies blocks group parts some) ∙ set_at_once blocks id group (effect new) parts part values run some of.all_run ∙ ap (after_batch (effect new)) (sym one_same) in
+    after_ended new id bodies last e (some_bodies blocks group parts some) ∙ set_at_once blocks id group (effect new) parts part values run some of.all_run ∙ ap (after_batch (effect new)) (sym one_same) in
     record {
       batches = more_batches q old new batch h.batches;
       together = h.together;
