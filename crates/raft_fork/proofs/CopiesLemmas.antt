@@ -1,8 +1,8 @@
 -- Files that are copied one after the other.
-use Rattle.std.proofs.Common.{◌≡◌, ◌≢◌, ◌∙◌, ℕ, List, [], ◌∷◌, ◌++◌, map, Some, None, is_some, IsSome, refl, ap, sym, subst, inl, inr, arith}
+use Rattle.std.proofs.Common.{◌≡◌, ◌≢◌, ◌⊎◌, ◌∙◌, ℕ, ◌+◌, ◌<◌, length, get_or, take, drop, List, [], ◌∷◌, ◌++◌, map, Some, None, is_some, IsSome, refl, ap, sym, subst, inl, inr, arith}
 use Rattle.std.specs.Prelude.{Contains}
 use Rattle.std.specs.List.{AllByRecursion}
-use Rattle.std.proofs.lemmas.List.{map-append}
+use Rattle.std.proofs.lemmas.List.{drop_more, map-append, take-append-drop, take_more}
 use Rattle.std.proofs.lemmas.List.Elements.{Contains-append_left}
 use Rattle.raft_env.specs.Directory.{Directory, HasFile, Path, file_at}
 use Rattle.raft_files.specs.Writer.{bytes_at, bytes_of}
@@ -11,7 +11,12 @@ use Rattle.raft_pipes.specs.Folder.{LeavesOthers}
 use Rattle.raft_pipes.specs.Numbered.{AreDistinct}
 use Rattle.raft_pipes.proofs.NamesInLemmas.{has_cases, has_later, none_before, stands_in}
 use Rattle.raft_pipes.proofs.QueueFilesLemmas.{all_back, all_front, all_push}
-use Rattle.raft_fork.specs.Fork.{AreCopied, CanBeCopied, Source, copies_in, copy_in}
+use Rattle.raft_base.specs.declared.errors.Fault.{Fault}
+use Rattle.raft_env.specs.Refusal.{IsRefusal, NoFewer, Refusals, added_count, no_refusals}
+use Rattle.raft_pipes.proofs.FilesLemmas.{refused_after}
+use Rattle.raft_fork.specs.Fork.{AreCopied, CanBeCopied, Source, copies_in, copy_in, source_of}
+use Rattle.raft_fork.specs.Refused.{IsCopyRefusal}
+use Rattle.raft_fork.specs.declared.source.SourceFile.{SourceFile}
 
 -- no copy stands before
 among_free : (target : Path) (files : List Source) (n : Directory) → AllByRecursion (λ f. file_at n (copy_in target f) ≡ None) files → (q : Path) → Contains (copies_in target files) q → file_at n q ≡ None
@@ -75,3 +80,26 @@ module _ (target : Path) (n : Directory) (front : List Source) (f : Source) (res
           let all : copies_in target (front ++ f ∷ []) ≡ copies_in target front ++ copy_in target f ∷ [] = map-append (copy_in target) front (f ∷ []) in
           only q (λ is. out (subst (λ paths. Contains paths q) (sym all) (subst (Contains (copies_in target front ++ copy_in target f ∷ [])) (sym is) (stands_in (copies_in target front) (copy_in target f) []))))
           ∙ others q (λ among. out (subst (λ paths. Contains paths q) (sym all) (Contains-append_left (copies_in target front) (copy_in target f ∷ []) q among)))
+
+-- the file at a place of a list
+module _ (files : List SourceFile) (i : ℕ) (item : SourceFile) (within : i < length files) (is : item ≡ get_or files i item) where
+  pub parts : map source_of files ≡ map source_of (take i files) ++ source_of item ∷ map source_of (drop (i + 1) files)
+  parts =
+      ap (map source_of) (sym (take-append-drop i files) ∙ ap (λ xs. take i files ++ xs) (drop_more files i item within ∙ ap (λ x. x ∷ drop (i + 1) files) (sym is)))
+      ∙ map-append source_of (take i files) (item ∷ drop (i + 1) files)
+
+  pub next_part : map source_of (take (i + 1) files) ≡ map source_of (take i files) ++ source_of item ∷ []
+  next_part = ap (map source_of) (take_more files i item within ∙ ap (λ x. take i files ++ x ∷ []) (sym is)) ∙ map-append source_of (take i files) (item ∷ [])
+
+-- a refused copy
+pub copy_refused : (target : Path) (front : List Source) (f : Source) (rest : List Source) (old mid new : Refusals) (e : Fault) → NoFewer (added_count old no_refusals) mid → (IsRefusal (copy_in target f) mid new e ⊎ IsRefusal f.1 mid new e) → IsCopyRefusal target (front ++ f ∷ rest) old new e
+copy_refused target front f rest old mid new e before (inl refused) = (
+  copy_in target f,
+  inl (subst (λ paths. Contains paths (copy_in target f)) (sym (map-append (copy_in target) front (f ∷ rest))) (stands_in (copies_in target front) (copy_in target f) (copies_in target rest))),
+  refused_after (copy_in target f) old mid new e before refused
+)
+copy_refused target front f rest old mid new e before (inr refused) = (
+  f.1,
+  inr (subst (λ paths. Contains paths f.1) (sym (map-append (λ (g : Source). g.1) front (f ∷ rest))) (stands_in (map (λ g. g.1) front) f.1 (map (λ g. g.1) rest))),
+  refused_after f.1 old mid new e before refused
+)

@@ -93,7 +93,10 @@ static REFUSED: [Refused; 14] = [
     Refused("recovery-threads = \"4\"", "recovery-threads"),
     Refused("format-version = 3", "format-version"),
     Refused("target-file-size = \"1.5GB\"", "target-file-size"),
-    Refused("purge-threshold = \"18446744073709551616\"", "purge-threshold"),
+    Refused(
+        "purge-threshold = \"18446744073709551616\"",
+        "purge-threshold",
+    ),
     Refused(
         "purge-rewrite-garbage-ratio = 0.6",
         "purge-rewrite-garbage-ratio",
@@ -170,7 +173,10 @@ static SANITIZED: [Sanitized; 4] = [
     Sanitized("dir = \"a\"\nspill-dir = \"a\"", Err("spill-dir is dir")),
 ];
 
-fn is_sanitized(config: &mut Config, wanted: &Result<(u64, usize, u64, usize), &'static str>) -> bool {
+fn is_sanitized(
+    config: &mut Config,
+    wanted: &Result<(u64, usize, u64, usize), &'static str>,
+) -> bool {
     match (config.sanitize(), wanted) {
         (Ok(()), Ok((block_size, threads, threshold, capacity))) => {
             config.recovery_read_block_size.0 == *block_size
