@@ -12,6 +12,9 @@ pub mod Recovering
 pub mod Rewritten
 pub mod Owed
 pub mod OwedMarks
+pub mod WrittenMarks
+pub mod GroupIds
+pub mod GroupsMet
 pub mod FirstFile
 pub mod FirstFiles
 pub mod MovedEntries
