@@ -1,5 +1,5 @@
 -- Ids of atomic groups, and the batches of one that is written.
-use Rattle.std.proofs.Common.{◌≡◌, ℕ, ◌+◌, ◌≤◌, ◌&&◌, ◌||◌, ◌⊎◌, inl, inr, ⊎_elim, eqb, Bool, true, false, cond, List, [], ◌∷◌, ◌++◌, append-nil, append_assoc, map, Option, Some, None, refl, sym, ◌∙◌, ap, arith}
+use Rattle.std.proofs.Common.{◌≡◌, ℕ, ◌+◌, ◌<◌, ◌≤◌, ◌==◌, ◌&&◌, ◌||◌, ◌⊎◌, inl, inr, ⊎_elim, eqb, Bool, true, false, cond, List, [], ◌∷◌, ◌++◌, append-nil, append_assoc, map, Option, Some, None, refl, sym, ◌∙◌, ap, arith}
 use Rattle.std.specs.List.{cons_option, list_all, list_any}
 use Rattle.std.specs.Str.{bytes_eq}
 use Rattle.std.proofs.lemmas.Bool.{false≢true}
@@ -9,12 +9,13 @@ use Rattle.std.proofs.lemmas.List.Folds.{list_all-append}
 use Rattle.raft_records.specs.Item.{Batch}
 use Rattle.raft_records.specs.Record.{Mark, mark_byte}
 use Rattle.raft_records.specs.Record.Mark.{Begin, Middle, End}
-use Rattle.raft_recovery.specs.Groups.{first_place, has_last, is_complete, is_of_group, mark_of, places_in}
+use Rattle.raft_recovery.specs.Groups.{GroupMark, first_place, has_last, is_complete, is_of_group, mark_of, place_by, places_in}
 use Rattle.raft_recovery.specs.Ids.{EndsInGroup, HasIdsBelow}
 use Rattle.raft_recovery.specs.Recovered.{effect}
 use Rattle.raft_recovery.specs.Together.{StandTogether}
 use Rattle.raft_recovery.proofs.GroupLemmas.{effect-open_group, no_first_is_incomplete, no_last_is_incomplete, none_of_others, places-append}
 use Rattle.raft_recovery.proofs.TogetherLemmas.{both_without, parts_without, together_group, unmarked_place}
+use Rattle.raft_tables.specs.GroupIds.{AreIdsBelow, IsBelow}
 use Rattle.raft_standing.proofs.KeyLemmas.{eq_self}
 use Rattle.raft_rewriting.specs.AtomicGroup.{ended_group, marked, next_mark, open_group}
 
@@ -23,6 +24,18 @@ begun id batches below = record { old = batches; is = sym (append-nil batches); 
 
 pub ids_unmarked : (bound : ℕ) (batches : List Batch) (b : Batch) → mark_of b ≡ None → HasIdsBelow bound batches → HasIdsBelow bound (batches ++ b ∷ [])
 ids_unmarked bound batches b none below = λ id from. both_without id batches (b ∷ []) (below id from) (unmarked_place id b none)
+
+-- ids that are below a bound batch by batch
+pub ids_read : (bound : ℕ) (batches : List Batch) → AreIdsBelow bound batches → HasIdsBelow bound batches
+ids_read bound [] each id from = refl
+ids_read bound (b ∷ bs) each id from = at (mark_of b) each.0 (ids_read bound bs each.1 id from)
+  where
+    not_same : (a c : ℕ) → a < bound → bound ≤ c → (a == c) ≡ false
+    not_same a c low high = grind (arith, nat_tests)
+
+    at : (m : Option GroupMark) → IsBelow bound m → places_in id bs ≡ [] → cons_option (place_by id m) (places_in id bs) ≡ []
+    at None low rest = rest
+    at (Some mark) low rest = ap (λ t. let none : Option (List ℕ) = None in cons_option (cond t (Some mark.place) none) (places_in id bs)) (not_same mark.id id low from) ∙ rest
 
 -- The batches of one group.
 

@@ -15,6 +15,7 @@ ghost use Rattle.raft_recovery.specs.Stands.{Queues};
 ghost use Rattle.raft_recovery.specs.Takes.{RewriteTakes};
 ghost use Rattle.raft_recovery.specs.Together.{StandTogether};
 ghost use Rattle.raft_tables.specs.Counters.{is_rewritten};
+ghost use Rattle.raft_tables.specs.GroupIds.{AreIdsBelow};
 ghost use Rattle.raft_tables.specs.Moving.{tables_moved};
 ghost use Rattle.raft_tables.specs.Owed.{Owed};
 ghost use Rattle.raft_tables.specs.Tables.{Tables, or_empty};
@@ -66,10 +67,12 @@ pub fn an_atomic_group_may_be_written()
         }) }
 {}
 
-/// Which ids the Rewrite queue has, and that the batches of each atomic group stand together in it:
-/// after a batch without a mark (`unmarked`) and after a whole group (`group`), and without the first
-/// batches (`fewer`).
+/// Which ids the Rewrite queue has, and that the batches of each atomic group stand together in it: as
+/// they were read (`read`), after a batch without a mark (`unmarked`) and after a whole group (`group`),
+/// and without the first batches (`fewer`). A new group has an id from the bound on (`begun`).
 pub fn ids_and_groups_of_the_rewrite_queue()
+    ensures read { (bound : ℕ) (batches : List Batch) → AreIdsBelow bound batches
+        → HasIdsBelow bound batches }
     ensures begun { (id : ℕ) (batches : List Batch) → HasIdsBelow id batches
         → EndsInGroup id [] batches }
     ensures unmarked { (bound : ℕ) (batches : List Batch) (batch : Batch)

@@ -1,4 +1,4 @@
-use Rattle.raft_rewriting.proofs.GroupIdLemmas.{begun, group_ids, group_together, ids_fewer, ids_unmarked, together_fewer}
+use Rattle.raft_rewriting.proofs.GroupIdLemmas.{begun, group_ids, group_together, ids_fewer, ids_read, ids_unmarked, together_fewer}
 use Rattle.raft_rewriting.proofs.groups.ids_and_groups_of_the_rewrite_queue.Goals as goal
 
 pub returns-clause-begun : goal.returns-clause-begun
@@ -12,3 +12,6 @@ returns-clause-group c = λ id batches bodies last below together. (group_ids id
 
 pub returns-clause-fewer : goal.returns-clause-fewer
 returns-clause-fewer c = λ bound front batches below together. (ids_fewer bound front batches below, together_fewer front batches together)
+
+pub returns-clause-read : goal.returns-clause-read
+returns-clause-read c = ids_read
