@@ -3,5 +3,6 @@ pub mod Contents
 pub mod Crash
 pub mod DropOld
 pub mod Held
+pub mod Log
 pub mod PurgeSteps
 pub mod Queues

@@ -1,4 +1,5 @@
 pub mod Blocks
+pub mod ByFile
 pub mod Completed
 pub mod FileList
 pub mod Files

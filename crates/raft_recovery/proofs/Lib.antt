@@ -24,3 +24,5 @@ pub mod ValueLemmas
 pub mod ReadLemmas
 pub mod TogetherLemmas
 pub mod TakesLemmas
+pub mod EachLemmas
+pub mod BoundLemmas

@@ -11,3 +11,4 @@ pub mod Change
 pub mod Program
 pub mod Together
 pub mod Takes
+pub mod Bounds

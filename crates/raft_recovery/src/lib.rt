@@ -1,6 +1,7 @@
 //! The laws of recovered contents.
 #![tactic(auto)]
 
+pub mod bound_laws;
 pub mod change;
 mod complete_groups;
 pub mod drop_append_laws;

@@ -15,8 +15,8 @@ use Rattle.raft_tables.specs.Owed.{Owed}
 use Rattle.raft_tables.specs.Tables.{Tables}
 use Rattle.raft_rewriting.specs.Rewriting.{MayAllBeWritten, MayWriteAgain}
 use Rattle.raft_records.specs.FileBatches.{FileBatch, batches_of}
-use Rattle.raft_rewriting.specs.Standing.{TablesStandFor}
-use Rattle.raft_rewriting.proofs.KeyLemmas.{in_rewrite}
+use Rattle.raft_standing.specs.Standing.{TablesStandFor}
+use Rattle.raft_standing.proofs.KeyLemmas.{in_rewrite}
 use Rattle.raft_rewriting.proofs.MarkedLemmas.{value_rewritten}
 use Rattle.raft_rewriting.proofs.RewrittenLemmas.{entries_rewritten}
 

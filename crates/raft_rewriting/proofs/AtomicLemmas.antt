@@ -14,7 +14,7 @@ use Rattle.raft_tables.specs.Owed.{Owed}
 use Rattle.raft_tables.specs.Tables.{Tables, or_empty}
 use Rattle.raft_rewriting.specs.Rewriting.{ArePart, entries_item, placed_entries_item}
 use Rattle.raft_records.specs.FileBatches.{FileBatch, batches_of}
-use Rattle.raft_rewriting.specs.Standing.{TablesStandFor}
+use Rattle.raft_standing.specs.Standing.{TablesStandFor}
 use Rattle.raft_rewriting.proofs.PartsLemmas.{moved_parts, parts_at_once}
 use Rattle.raft_rewriting.proofs.RewrittenLemmas.{entries_rewritten}
 

@@ -18,10 +18,10 @@ use Rattle.raft_tables.specs.Tables.{Tables, contents_in, or_empty}
 use Rattle.raft_rewriting.specs.DroppingOld.{AreRewrittenFrom, HoldsFrom, IsHeldFrom, IsLaterPart, IsRewrittenFrom, IsValueHeldFrom, IsValueRewrittenFrom}
 use Rattle.raft_tables.specs.Owed.{Marks, Owed}
 use Rattle.raft_records.specs.FileBatches.{FileBatch, batches_of}
-use Rattle.raft_rewriting.specs.Standing.{EntryStands, GroupStands, HasNoneBefore, HasNoneBehind, KeyStands, PlacedEntryStands, PlacedKeyStands, StandsInBlock, TablesStandFor, ends_leave, ends_leave_key}
-use Rattle.raft_rewriting.proofs.DropLemmas.{placed_of}
-use Rattle.raft_rewriting.proofs.EachLemmas.{all_of, each_contained, each_of, each_right}
-use Rattle.raft_rewriting.proofs.EndsLemmas.{from_none, pass-later}
+use Rattle.raft_standing.specs.Standing.{EntryStands, GroupStands, HasNoneBefore, HasNoneBehind, KeyStands, PlacedEntryStands, PlacedKeyStands, StandsInBlock, TablesStandFor, ends_leave, ends_leave_key}
+use Rattle.raft_standing.proofs.DropLemmas.{placed_of}
+use Rattle.raft_recovery.proofs.EachLemmas.{all_of, each_contained, each_of, each_right}
+use Rattle.raft_standing.proofs.EndsLemmas.{from_none, pass-later}
 
 -- an entry that stands is held, or taken by the Append queue
 held_or_taken : (first : ℕ) (left : ℕ → ℕ → Bool) (all : Bool) (marks : Marks) (held now : List Entry) (e : Entry) (block : Option FileBlockHandle) → ((n : ℕ) → left n e.0 ≡ false → all ≡ false) → IsHeldFrom first now e block → IsRewrittenFrom first block

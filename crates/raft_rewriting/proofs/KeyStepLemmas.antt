@@ -16,9 +16,10 @@ use Rattle.raft_tables.specs.Tables.{Tables, or_empty, tables_after}
 use Rattle.raft_tables.specs.Moving.{tables_moved_by, table_moved, value_moved}
 use Rattle.raft_tables.specs.Owed.{Marks, Owed, owed_after, with_marks, without_clean, without_compaction, without_delete}
 use Rattle.raft_records.specs.FileBatches.{FileBatch, batches_of, from_file}
-use Rattle.raft_rewriting.specs.Standing.{AreKeysPlacedFrom, KeysStand, MayMoveKey, KeyStands, ends_leave_key}
-use Rattle.raft_rewriting.proofs.EndsLemmas.{from_from, pass-push, pass_from}
-use Rattle.raft_rewriting.proofs.KeyLemmas.{after_items, clean_marked, delete_marked, eq_from_test, eq_self, front_dropped, in_append, in_rewrite, less_left, more_owed, moved, stored-moved}
+use Rattle.raft_standing.specs.Standing.{AreKeysPlacedFrom, KeysStand, KeyStands, ends_leave_key}
+use Rattle.raft_standing.proofs.EndsLemmas.{from_from, pass-push, pass_from}
+use Rattle.raft_standing.proofs.KeyLemmas.{after_items, clean_marked, delete_marked, eq_from_test, eq_self, front_dropped, in_append, in_rewrite, less_left, more_owed, moved, stored-moved}
+use Rattle.raft_rewriting.specs.Rewriting.{MayMoveKey}
 
 pub keys_written : (x : Contents) (appended : List FileBatch) (owed : Owed) (t : Tables) (blocks : Blocks) (seq : ℕ) (items : List PlacedItem) → KeysStand x appended owed t
     → KeysStand x (appended ++ (seq, map (item_in blocks) items) ∷ []) (owed_after (in_append seq) t items owed) (tables_after (in_append seq) t items)

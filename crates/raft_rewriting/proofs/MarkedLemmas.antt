@@ -26,14 +26,14 @@ use Rattle.raft_tables.specs.Moving.{table_moved, tables_moved_by, value_moved}
 use Rattle.raft_tables.specs.Table.{StoredValue, TableView, with_entries_at, with_key}
 use Rattle.raft_tables.specs.Tables.{Tables, contents_in, or_empty}
 use Rattle.raft_tables.specs.Owed.{Marks, Owed, with_marks, without_clean, without_compaction, without_delete}
-use Rattle.raft_rewriting.specs.Rewriting.{IsMarkIndex}
+use Rattle.raft_rewriting.specs.Rewriting.{IsMarkIndex, MayMoveKey}
 use Rattle.raft_records.specs.FileBatches.{FileBatch, batches_of, from_file}
-use Rattle.raft_rewriting.specs.Standing.{EntriesStand, EntryStands, GroupStands, KeyStands, KeysStand, MayMoveKey, PlacedEntryStands, StandsInBlock, TablesStandFor, ends_leave, ends_leave_key}
-use Rattle.raft_rewriting.proofs.DropLemmas.{placed_of, placed_run}
-use Rattle.raft_rewriting.proofs.EachLemmas.{all_of, each_contained, within}
-use Rattle.raft_rewriting.proofs.EndsLemmas.{from_none, pass-later}
-use Rattle.raft_rewriting.proofs.GroupLemmas.{group_clean_marked, group_compaction_marked, group_less}
-use Rattle.raft_rewriting.proofs.KeyLemmas.{eq_from_test, in_rewrite, set_by_append, stored-moved}
+use Rattle.raft_standing.specs.Standing.{EntriesStand, EntryStands, GroupStands, KeyStands, KeysStand, PlacedEntryStands, StandsInBlock, TablesStandFor, ends_leave, ends_leave_key}
+use Rattle.raft_standing.proofs.DropLemmas.{placed_of, placed_run}
+use Rattle.raft_recovery.proofs.EachLemmas.{all_of, each_contained, within}
+use Rattle.raft_standing.proofs.EndsLemmas.{from_none, pass-later}
+use Rattle.raft_standing.proofs.GroupLemmas.{group_clean_marked, group_compaction_marked, group_less}
+use Rattle.raft_standing.proofs.KeyLemmas.{eq_from_test, in_rewrite, set_by_append, stored-moved}
 use Rattle.raft_rewriting.proofs.KeyStepLemmas.{key_deleted, key_rewritten, keys_cleaned, keys_compacted}
 
 pub entries_of_cond : (b : Bool) (m n : Contents) (g : ℕ) → (cond b m n).entries g ≡ cond b (m.entries g) (n.entries g)

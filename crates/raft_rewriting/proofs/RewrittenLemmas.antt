@@ -27,14 +27,14 @@ use Rattle.raft_tables.specs.Moving.{table_moved, tables_moved_by, value_moved}
 use Rattle.raft_tables.specs.Table.{StoredValue, TableView, with_entries_at, with_key}
 use Rattle.raft_tables.specs.Tables.{Tables, contents_in, or_empty}
 use Rattle.raft_tables.specs.Owed.{Marks, Owed}
-use Rattle.raft_rewriting.specs.Rewriting.{ArePart, GetPlaces}
+use Rattle.raft_rewriting.specs.Rewriting.{ArePart, GetPlaces, MayMoveKey}
 use Rattle.raft_records.specs.FileBatches.{FileBatch, batches_of}
-use Rattle.raft_rewriting.specs.Standing.{EntriesStand, EntryStands, GroupStands, KeyStands, KeysStand, MayMoveKey, StandsInBlock, TablesStandFor, are_rewritten, ends_leave, ends_leave_key}
-use Rattle.raft_rewriting.proofs.DropLemmas.{mapped_length, placed_of, placed_run}
-use Rattle.raft_rewriting.proofs.EachLemmas.{all_of, consecutive_parts, each_contained, each_left, each_right, next_to, one_before, run_left, run_right, within}
-use Rattle.raft_rewriting.proofs.FitLemmas.{none_left_behind, rewritten_are_held, touching}
-use Rattle.raft_rewriting.proofs.KeyLemmas.{eq_from_test, eq_self, stored-moved}
-use Rattle.raft_rewriting.proofs.MovedLemmas.{group_moved}
+use Rattle.raft_standing.specs.Standing.{EntriesStand, EntryStands, GroupStands, KeyStands, KeysStand, StandsInBlock, TablesStandFor, are_rewritten, ends_leave, ends_leave_key}
+use Rattle.raft_standing.proofs.DropLemmas.{mapped_length, placed_of, placed_run}
+use Rattle.raft_recovery.proofs.EachLemmas.{all_of, consecutive_parts, each_contained, each_left, each_right, next_to, one_before, run_left, run_right, within}
+use Rattle.raft_standing.proofs.FitLemmas.{none_left_behind, rewritten_are_held, touching}
+use Rattle.raft_standing.proofs.KeyLemmas.{eq_from_test, eq_self, stored-moved}
+use Rattle.raft_standing.proofs.MovedLemmas.{group_moved}
 use Rattle.raft_rewriting.proofs.MovingLemmas.{middle_moves}
 
 -- a part of a group's entries fits the Rewrite queue

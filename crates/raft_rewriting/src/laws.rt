@@ -1,58 +1,28 @@
-//! What holds of the tables, the marks that are owed and both queues, step by step.
+//! What holds of the tables, the marks that are owed and both queues, step by step of a purge.
 ghost use Rattle.std.specs.Prelude.{◌≡◌, ◌≤◌, ◌++◌, ◌∷◌, ℕ, Bool, List, [], Option, true, false, None, Some, filter, flat_map, fold, is_some, map};
 ghost use Rattle.std.specs.List.{list_all, AllByRecursion as Each};
 ghost use Rattle.raft_base.specs.declared.pipe_log.FileId.{FileId};
 ghost use Rattle.raft_base.specs.declared.pipe_log.LogQueue.TheVariants.{Append, Rewrite};
-ghost use Rattle.raft_records.specs.Contents.{Contents, after_batch, after_batches, after_item, no_contents};
+ghost use Rattle.raft_records.specs.Contents.{Contents, after_batch, after_item};
 ghost use Rattle.raft_records.specs.declared.entry_index.EntryPlace.{EntryPlace};
-ghost use Rattle.raft_records.specs.Item.{Batch, Entry, Clean, Compact, Delete, Entries, Put, group_mark_key};
-ghost use Rattle.raft_records.specs.PlacedItem.{EntriesAt, Plain, PlacedItem, are_all_placed, is_placed_in_order, item_in};
+ghost use Rattle.raft_records.specs.Item.{Batch, Entry, Clean, Compact, Delete, Entries, Put};
+ghost use Rattle.raft_records.specs.PlacedItem.{EntriesAt, Plain, PlacedItem, are_all_placed, item_in};
 ghost use Rattle.raft_records.specs.Places.{Blocks, entries_in};
-ghost use Rattle.raft_records.specs.Validity.{IsValidBatch, are_consecutive_from};
+ghost use Rattle.raft_records.specs.Validity.{are_consecutive_from};
 ghost use Rattle.raft_recovery.specs.Consecutive.{HasConsecutiveEntries, HaveConsecutiveEntries, are_consecutive, content_is_consecutive};
 ghost use Rattle.raft_recovery.specs.Dropping.{HoldsLeft};
-ghost use Rattle.raft_recovery.specs.Recovered.{effect, items_of, recovered, replay};
+ghost use Rattle.raft_recovery.specs.Recovered.{effect, recovered, replay};
 ghost use Rattle.raft_recovery.specs.Rewriting.{ChangesNothing, EachChangesNothing};
 ghost use Rattle.raft_tables.specs.Moving.{tables_moved, tables_moved_by};
 ghost use Rattle.raft_tables.specs.MovedEntries.{may_move_from};
 ghost use Rattle.raft_tables.specs.FirstFiles.{first_of_tables};
 ghost use Rattle.raft_tables.specs.declared.memtables.MemTables.{MemTables};
-ghost use Rattle.raft_tables.specs.Leaving.{tables_left};
-ghost use Rattle.raft_tables.specs.Counters.{is_rewrite, is_rewritten};
-ghost use Rattle.raft_tables.specs.Recovering.{IsJoined};
-ghost use Rattle.raft_tables.specs.Rewritten.{AreWhole, PlacedBatch, are_batches_placed};
-ghost use Rattle.raft_tables.specs.Tables.{AreAllPlaced, Tables, contents_in, or_empty, tables_after, tables_of};
-ghost use Rattle.raft_rewriting.specs.Bounds.{AreItemsBelow, HasIndexesBelow};
+ghost use Rattle.raft_tables.specs.Tables.{AreAllPlaced, Tables, or_empty, tables_of};
 ghost use Rattle.raft_rewriting.specs.DroppingOld.{AreRewrittenFrom, HoldsFrom, IsLaterPart};
-ghost use Rattle.raft_rewriting.specs.Opening.{AreRewritten, ReplayStands};
-ghost use Rattle.raft_tables.specs.Owed.{Marks, Owed, no_marks, owed_after, owed_noted, with_marks, without_clean, without_compaction, without_delete};
-ghost use Rattle.raft_rewriting.specs.Rewriting.{AreIn, ArePart, IsFetched, IsMarkIndex, MayAllBeWritten, entries_item, placed_entries_item};
+ghost use Rattle.raft_tables.specs.Owed.{Marks, Owed, with_marks, without_clean, without_compaction, without_delete};
+ghost use Rattle.raft_rewriting.specs.Rewriting.{ArePart, IsFetched, IsMarkIndex, MayAllBeWritten, entries_item, placed_entries_item, MayMoveKey};
 ghost use Rattle.raft_records.specs.FileBatches.{FileBatch, batches_of, from_file};
-ghost use Rattle.raft_rewriting.specs.Standing.{AreEntriesPlacedFrom, AreInFileOrder, AreKeysPlacedFrom, EntryStands, MayMoveKey, OwesNothing, TablesStandFor};
-
-/// A valid batch that is written to the last file of the Append queue, and applied to the tables and
-/// the marks, keeps them standing.
-pub fn a_write_keeps_tables_standing()
-    ensures written { (blocks : Blocks) (x : Contents) (appended : List FileBatch) (owed : Owed)
-        (t : Tables) (seq : ℕ) (items : List PlacedItem) → HasConsecutiveEntries x
-        → HaveConsecutiveEntries (batches_of appended) → Each (λ b. b.0 ≤ seq) appended
-        → list_all (λ item. is_placed_in_order item.content) items ≡ true
-        → Each (λ item. AreIn seq item.content) items
-        → IsValidBatch (contents_in blocks t) (map (item_in blocks) items)
-        → TablesStandFor blocks x appended owed t
-        → TablesStandFor blocks x (appended ++ (seq, map (item_in blocks) items) ∷ [])
-        (owed_after (record { queue = Append; seq = seq }) t items owed)
-        (tables_after (record { queue = Append; seq = seq }) t items) }
-{}
-
-/// The marks that a valid batch leaves are those that its items note, whatever the tables hold: they
-/// leave no hole.
-pub fn a_valid_batch_notes_its_marks()
-    ensures noted { (blocks : Blocks) (id : FileId) (t : Tables) (items : List PlacedItem)
-        (owed : Owed) → list_all (λ item. is_placed_in_order item.content) items ≡ true
-        → IsValidBatch (contents_in blocks t) (map (item_in blocks) items)
-        → owed_after id t items owed ≡ owed_noted owed items }
-{}
+ghost use Rattle.raft_standing.specs.Standing.{AreEntriesPlacedFrom, AreInFileOrder, AreKeysPlacedFrom, EntryStands, OwesNothing, TablesStandFor};
 
 /// What is fetched of a group's entries that stand, up to a watermark in the Append queue (`up_to`) or
 /// all of the Rewrite queue (`rewritten`), is a part of them that may be written again.
@@ -172,30 +142,6 @@ pub fn a_dropped_front_keeps_tables_standing()
         → TablesStandFor blocks (effect rewritten) (from_file first appended) owed t }
 {}
 
-/// An opening gives tables that stand, whatever both queues hold: it begins with the tables of the
-/// Rewrite queue and no marks (`begun`), replays the Append queue's batches over them, file by file
-/// (`replayed`), and joins both (`joined`).
-pub fn an_opening_gives_standing_tables()
-    ensures begun { (blocks : Blocks) (x : Contents) (left : Tables) → HasConsecutiveEntries x
-        → contents_in blocks left ≡ x → AreRewritten left
-        → ReplayStands blocks x [] (λ _. no_marks) left (λ _. None) }
-    ensures replayed { (blocks : Blocks) (x : Contents) (appended : List FileBatch) (owed : Owed)
-        (left newer : Tables) (seq : ℕ) (items : List PlacedItem)
-        → Each (λ b. b.0 ≤ seq) appended
-        → list_all (λ item. is_placed_in_order item.content) items ≡ true
-        → Each (λ item. AreIn seq item.content) items
-        → ReplayStands blocks x appended owed left newer
-        → ReplayStands blocks x (appended ++ (seq, map (item_in blocks) items) ∷ [])
-        (owed_after (record { queue = Append; seq = seq }) newer items owed)
-        (tables_left left items)
-        (tables_after (record { queue = Append; seq = seq }) newer items) }
-    ensures joined { (blocks : Blocks) (x : Contents) (appended : List FileBatch) (owed : Owed)
-        (left newer joined : Tables) → IsJoined left newer joined
-        → contents_in blocks joined ≡ replay x (batches_of appended)
-        → ReplayStands blocks x appended owed left newer
-        → TablesStandFor blocks x appended owed joined }
-{}
-
 /// While all groups are written to new files of the Rewrite queue again, these hold what is placed in
 /// them: after all that a group has there was written (`entries`), and after a value (`value`).
 pub fn new_files_hold_what_is_placed_there()
@@ -229,19 +175,6 @@ pub fn dropped_old_files_keep_tables_standing()
         → TablesStandFor blocks x appended owed t → TablesStandFor blocks new appended owed t }
 {}
 
-/// What batches leave has no index at or past a bound of theirs (`below`), so that a compaction to
-/// 2^64 - 1 empties a group; and nothing at the key of the marks of atomic groups (`marks`), also
-/// where it is recovered (`recovered`), so that no batch of values begins with such a mark.
-pub fn batches_never_leave_these()
-    ensures below { (bound : ℕ) (batches : List Batch) → AreItemsBelow bound (items_of batches)
-        → HasIndexesBelow bound (after_batches no_contents batches) }
-    ensures marks { (batches : List Batch) (group : ℕ)
-        → (after_batches no_contents batches).value group group_mark_key ≡ None }
-    ensures recovered { (x : Contents) (appended : List Batch) (group : ℕ)
-        → x.value group group_mark_key ≡ None
-        → (replay x appended).value group group_mark_key ≡ None }
-{}
-
 /// Nothing is placed in the Append queue before its first file in which something stands, or before
 /// the number that this is at most.
 pub fn nothing_stands_before_the_first_file()
@@ -260,11 +193,4 @@ pub fn moved_tables_know_the_same_groups()
         (items : List PlacedItem)
         → list_all (λ item. are_all_placed holds item.content) items ≡ true
         → AreAllPlaced holds t → AreAllPlaced holds (tables_moved watermark id t items) }
-{}
-
-/// The tables of batches that stand in files of the Rewrite queue place all there.
-pub fn rewritten_batches_place_all_there()
-    ensures whole { (batches : List PlacedBatch) (m : MemTables) → AreWhole batches m
-        → list_all (λ b. is_rewrite b.0.queue) batches ≡ true
-        → are_batches_placed is_rewritten batches ≡ true → AreRewritten (tables_of m) }
 {}

@@ -1,0 +1,4 @@
+//! What holds of the tables, the marks that are owed and both queues between any two steps.
+#![tactic(auto)]
+
+pub mod laws;
