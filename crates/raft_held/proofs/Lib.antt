@@ -1,4 +1,5 @@
 pub mod ContentsLemmas
 pub mod StepsLemmas
+pub mod IndexedLemmas
 pub mod PurgeStepsLemmas
 pub mod DropOldLemmas
