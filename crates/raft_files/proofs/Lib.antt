@@ -26,6 +26,7 @@ pub mod ScanExtentLemmas
 pub mod ScanLemmas
 pub mod ScanPlacedLemmas
 pub mod SealedLemmas
+pub mod StandInLemmas
 pub mod WriterChangeLemmas
 pub mod WriterLemmas
 pub mod WriterPartLemmas

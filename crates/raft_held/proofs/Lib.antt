@@ -3,3 +3,6 @@ pub mod StepsLemmas
 pub mod IndexedLemmas
 pub mod PurgeStepsLemmas
 pub mod DropOldLemmas
+pub mod LogLemmas
+pub mod LogDropLemmas
+pub mod LogTakeLemmas

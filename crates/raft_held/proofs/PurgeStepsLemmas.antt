@@ -134,7 +134,7 @@ module _ (d : DualState) (folders : Folders) (m : Contents) (P : Queues → Type
   exact x = subst (λ l. HoldsQueues d folders (after_batches m l) [] P old) (take_nothing x.0) (subst (λ l. HoldsQueues d folders (after_batches m (take x.0 [])) l P old) (drop_nothing x.0) x.2)
 
   -- the front was dropped, or some of its first files
-  pub held_dropped : (d' : DualState) (P' : Queues → Type 0) (new : Directory) → HasDroppedUpToIn Append most d d' old new → ((q : Queues) (first stay : List Batch) → P q → q.older ++ q.appended ≡ first ++ stay → P' (drops stay q)) → HoldsContents d' folders m [] P' new
+  pub held_dropped : (d' : DualState) (P' : Queues → Type 0) (new : Directory) (done : HasDroppedUpToIn Append most d d' old new) → ((q : Queues) (stay : List Batch) → P q → q.older ++ q.appended ≡ dropped_batches done.0 d.append old ++ stay → P' (drops stay q)) → HoldsContents d' folders m [] P' new
   held_dropped d' P' new (count, few, done) more = ∥∥₁_elim held ∥∥₁_prop (λ x.
       let h = exact x in
       let q = h.queues in
@@ -147,7 +147,7 @@ module _ (d : DualState) (folders : Folders) (m : Contents) (P : Queues → Type
         has = have_both d' folders new (with_queue Append rest (batches_in q)) (batches_in (drops rest q)) (with_queue Append (synced_in q Append - length (gone d old most count few q m h.stands h.since_are c)) (synced_in q)) (synced_in (drops rest q))
             (same_rest d old most count few q m h.stands h.since_are c) (λ queue. let same = same_synced d old most count few q m h.stands h.since_are c queue in omega (arith, same))
             ((done.keeps folders (batches_in q) (synced_in q) h.has).1 rest (all_split d old most count few q m h.stands h.since_are c));
-        more = more q (gone d old most count few q m h.stands h.since_are c) rest h.more (split d old most count few q m h.stands h.since_are c ∙ append_assoc _ _ c.rest);
+        more = more q rest h.more (split d old most count few q m h.stands h.since_are c ∙ append_assoc _ _ c.rest);
       }))
 
   -- .. and a moment of that

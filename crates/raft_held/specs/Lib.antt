@@ -3,6 +3,7 @@ pub mod Contents
 pub mod Crash
 pub mod DropOld
 pub mod Held
+pub mod Kept
 pub mod Log
-pub mod PurgeSteps
 pub mod Queues
+pub mod Taking

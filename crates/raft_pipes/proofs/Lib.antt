@@ -1,5 +1,9 @@
 pub mod ApartLemmas
 pub mod BlocksLemmas
+pub mod ByFileCallsLemmas
+pub mod ByFileLemmas
+pub mod ByFileOpeningLemmas
+pub mod ByFileRotationLemmas
 pub mod CompletedLemmas
 pub mod FileListLemmas
 pub mod FilesLemmas

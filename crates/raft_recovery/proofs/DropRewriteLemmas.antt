@@ -10,7 +10,7 @@ use Rattle.std.proofs.lemmas.List.Sums.{fold-append}
 use Rattle.raft_records.specs.Item.{Entry, Item, Batch}
 use Rattle.raft_records.specs.Contents.{Contents, no_contents, after_batch, after_batches}
 use Rattle.raft_recovery.specs.Consecutive.{content_is_consecutive, HaveConsecutiveEntries}
-use Rattle.raft_recovery.specs.Dropping.{HoldsLeft, ShareNoGroup}
+use Rattle.raft_recovery.specs.Dropping.{HoldsLeft, IsLaterPart, ShareNoGroup}
 use Rattle.raft_recovery.specs.Groups.{GroupMark, batch_counts, is_complete, is_of_group, mark_counts, mark_of, place_by, places_in, whole}
 use Rattle.raft_recovery.specs.Recovered.{items_of, item_leaves_key, leaves, effect, recovered, replay}
 use Rattle.raft_recovery.proofs.AppendLemmas.{IsRun, after_changes, all_keep, kept, before-append, run_after_changes}
@@ -198,6 +198,17 @@ holds_with_more old new appended m share is_old is_new holds = record {
       (λ e there left. subst (λ es. Contains es e) (sym before.is) (Contains-append_right before.front ((effect new).entries g) e (there left))) (m.entries g) (holds.entries g);
   keys = λ g k value left is. value_both old new g k share ∙ set_later g k value (items_of (whole new)) ((effect old).value g k) (sym (value_later new g k) ∙ holds.keys g k value left is);
 }
+
+-- what later batches alone leave is the later part of what all leave
+pub later_part : (old new : List Batch) → ShareNoGroup old new → HaveConsecutiveEntries old → HaveConsecutiveEntries new → IsLaterPart (effect new) (effect (old ++ new))
+later_part old new share is_old is_new = record {
+  entries = λ g. let before = before_of old new g share is_old is_new in (before.front, before.is);
+  value = λ g k. by_value g k ((effect new).value g k) refl;
+}
+  where
+    by_value : (g : ℕ) (k : List ℕ) (v : Option (List ℕ)) → (effect new).value g k ≡ v → ((effect new).value g k ≡ None) ⊎ ((effect new).value g k ≡ (effect (old ++ new)).value g k)
+    by_value g k None is = inl is
+    by_value g k (Some value) is = inr (is ∙ sym (value_both old new g k share ∙ set_later g k value (items_of (whole new)) ((effect old).value g k) (sym (value_later new g k) ∙ is)))
 
 -- The last batches of one dropped group still stand.
 

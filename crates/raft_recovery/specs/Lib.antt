@@ -12,3 +12,4 @@ pub mod Program
 pub mod Together
 pub mod Takes
 pub mod Bounds
+pub mod Ids

@@ -4,7 +4,7 @@ ghost use Rattle.std.specs.List.{list_all};
 ghost use Rattle.raft_records.specs.Contents.{Contents};
 ghost use Rattle.raft_records.specs.Item.{Batch};
 ghost use Rattle.raft_recovery.specs.Consecutive.{HaveConsecutiveEntries};
-ghost use Rattle.raft_recovery.specs.Dropping.{HoldsLeft, ShareNoGroup};
+ghost use Rattle.raft_recovery.specs.Dropping.{HoldsLeft, IsLaterPart, ShareNoGroup};
 ghost use Rattle.raft_recovery.specs.Groups.{is_complete, is_of_group, places_in};
 ghost use Rattle.raft_recovery.specs.Recovered.{effect, recovered};
 
@@ -12,7 +12,8 @@ ghost use Rattle.raft_recovery.specs.Recovered.{effect, recovered};
 /// recovered and that the Append queue leaves alone (`dropped`). The new ones with some of the old
 /// before them hold it too (`more`): so the old ones may go file by file, and files that are
 /// dropped may still stand. No atomic group may have batches both among the old ones and among the
-/// new. The premise is exact: whatever is recovered of the new ones alone, they hold (`exact`).
+/// new. The premise is exact: whatever is recovered of the new ones alone, they hold (`exact`). And
+/// what they leave is the later part of what all leave (`later`).
 pub fn dropped_rewrite_files_change_nothing()
     ensures dropped { (old new appended : List Batch) → ShareNoGroup old new
         → HaveConsecutiveEntries old → HaveConsecutiveEntries new
@@ -25,6 +26,8 @@ pub fn dropped_rewrite_files_change_nothing()
     ensures exact { (new appended : List Batch) (m : Contents) → HaveConsecutiveEntries new
         → HaveConsecutiveEntries appended → recovered new appended ≡ m
         → HoldsLeft (effect new) appended m }
+    ensures later { (old new : List Batch) → ShareNoGroup old new → HaveConsecutiveEntries old
+        → HaveConsecutiveEntries new → IsLaterPart (effect new) (effect (old ++ new)) }
 {}
 
 /// Files may be dropped up to one that ends inside an atomic group. The rest of that group, which

@@ -11,11 +11,11 @@ use Rattle.raft_records.specs.declared.entry_index.EntryPlace.{EntryPlace}
 use Rattle.raft_records.specs.Contents.{Contents}
 use Rattle.raft_records.specs.Item.{Entry}
 use Rattle.raft_records.specs.Places.{Blocks, entry_in, entries_in}
-use Rattle.raft_recovery.specs.Dropping.{HoldsLeft}
+use Rattle.raft_recovery.specs.Dropping.{HoldsLeft, IsLaterPart}
 use Rattle.raft_recovery.specs.Recovered.{item_leaves, item_leaves_key, leaves, leaves_key, replay}
 use Rattle.raft_tables.specs.Table.{StoredValue}
 use Rattle.raft_tables.specs.Tables.{Tables, contents_in, or_empty}
-use Rattle.raft_rewriting.specs.DroppingOld.{AreRewrittenFrom, HoldsFrom, IsHeldFrom, IsLaterPart, IsRewrittenFrom, IsValueHeldFrom, IsValueRewrittenFrom}
+use Rattle.raft_rewriting.specs.DroppingOld.{AreRewrittenFrom, HoldsFrom, IsHeldFrom, IsRewrittenFrom, IsValueHeldFrom, IsValueRewrittenFrom}
 use Rattle.raft_tables.specs.Owed.{Marks, Owed}
 use Rattle.raft_records.specs.FileBatches.{FileBatch, batches_of}
 use Rattle.raft_standing.specs.Standing.{EntryStands, GroupStands, HasNoneBefore, HasNoneBehind, KeyStands, PlacedEntryStands, PlacedKeyStands, StandsInBlock, TablesStandFor, ends_leave, ends_leave_key}

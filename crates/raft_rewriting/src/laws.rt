@@ -10,7 +10,7 @@ ghost use Rattle.raft_records.specs.PlacedItem.{EntriesAt, Plain, PlacedItem, ar
 ghost use Rattle.raft_records.specs.Places.{Blocks, entries_in};
 ghost use Rattle.raft_records.specs.Validity.{are_consecutive_from};
 ghost use Rattle.raft_recovery.specs.Consecutive.{HasConsecutiveEntries, HaveConsecutiveEntries, are_consecutive, content_is_consecutive};
-ghost use Rattle.raft_recovery.specs.Dropping.{HoldsLeft};
+ghost use Rattle.raft_recovery.specs.Dropping.{HoldsLeft, IsLaterPart};
 ghost use Rattle.raft_recovery.specs.Recovered.{effect, recovered, replay};
 ghost use Rattle.raft_recovery.specs.Rewriting.{ChangesNothing, EachChangesNothing};
 ghost use Rattle.raft_tables.specs.Moving.{tables_moved, tables_moved_by};
@@ -18,7 +18,7 @@ ghost use Rattle.raft_tables.specs.MovedEntries.{may_move_from};
 ghost use Rattle.raft_tables.specs.FirstFiles.{first_of_tables};
 ghost use Rattle.raft_tables.specs.declared.memtables.MemTables.{MemTables};
 ghost use Rattle.raft_tables.specs.Tables.{AreAllPlaced, Tables, or_empty, tables_of};
-ghost use Rattle.raft_rewriting.specs.DroppingOld.{AreRewrittenFrom, HoldsFrom, IsLaterPart};
+ghost use Rattle.raft_rewriting.specs.DroppingOld.{AreRewrittenFrom, HoldsFrom};
 ghost use Rattle.raft_tables.specs.Owed.{Marks, Owed, with_marks, without_clean, without_compaction, without_delete};
 ghost use Rattle.raft_rewriting.specs.Rewriting.{ArePart, IsFetched, IsMarkIndex, MayAllBeWritten, entries_item, placed_entries_item, MayMoveKey};
 ghost use Rattle.raft_records.specs.FileBatches.{FileBatch, batches_of, from_file};

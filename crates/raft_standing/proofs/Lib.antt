@@ -10,3 +10,4 @@ pub mod NotedLemmas
 pub mod ReplayedLemmas
 pub mod OpeningLemmas
 pub mod WholeLemmas
+pub mod QueueLemmas

@@ -12,6 +12,8 @@ pub mod Recovering
 pub mod Rewritten
 pub mod Owed
 pub mod OwedMarks
+pub mod WrittenMarks
+pub mod GroupIds
 pub mod FirstFile
 pub mod FirstFiles
 pub mod MovedEntries

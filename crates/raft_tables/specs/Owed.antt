@@ -93,3 +93,7 @@ owed_noted_by owed item =
 
 abbrev pub owed_noted : Owed → List PlacedItem → Owed
 owed_noted owed items = fold owed_noted_by owed items
+
+-- without its clean, and without all else
+abbrev pub without_pending : Marks → Marks
+without_pending m = record { cleaned = m.cleaned; compacted = false; deleted = λ _. false }

@@ -3,6 +3,7 @@
 
 mod dropping;
 pub mod entries;
+pub mod group_ids;
 mod growing;
 mod joining;
 mod leaving;
@@ -17,9 +18,10 @@ pub mod stats;
 mod validity;
 
 pub use entries::EntryTable;
+pub use group_ids::GroupIds;
 pub use memtable::{KeyAndValue, MemTable};
 pub use memtables::MemTables;
 pub use owed::OwedMarks;
 pub use recovering::MemTableRecoverContext;
-pub use rewritten::RewrittenBatches;
+pub use rewritten::{GroupsMet, RewrittenBatches};
 pub use stats::GlobalStats;

@@ -1,4 +1,4 @@
-use Rattle.raft_recovery.proofs.DropRewriteLemmas.{dropped_old_batches, holds_with_more}
+use Rattle.raft_recovery.proofs.DropRewriteLemmas.{dropped_old_batches, holds_with_more, later_part}
 use Rattle.raft_recovery.proofs.ExactLemmas.{dropped_is_held}
 use Rattle.raft_recovery.proofs.drop_rewrite_laws.dropped_rewrite_files_change_nothing.Goals as goal
 
@@ -10,3 +10,6 @@ returns-clause-more c = holds_with_more
 
 pub returns-clause-exact : goal.returns-clause-exact
 returns-clause-exact c = dropped_is_held
+
+pub returns-clause-later : goal.returns-clause-later
+returns-clause-later c = later_part
