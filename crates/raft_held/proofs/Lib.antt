@@ -1,8 +1,8 @@
 pub mod ContentsLemmas
 pub mod StepsLemmas
-pub mod IndexedLemmas
 pub mod PurgeStepsLemmas
 pub mod DropOldLemmas
 pub mod LogLemmas
 pub mod LogDropLemmas
 pub mod LogTakeLemmas
+pub mod WriteLemmas
