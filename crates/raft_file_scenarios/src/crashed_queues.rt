@@ -27,7 +27,7 @@ struct Keys {
 }
 
 impl ReplayMachine for Keys {
-    ghost stands_for = { λ blocks earlier machine batches. Unit {0} };
+    ghost stands_for = { λ queue blocks earlier machine batches. Unit {0} };
 
     fn replay(&mut self, items: &mut Vec<LogItem>, file: FileId) -> Result<(), Fault> {
         for item in items.iter() {

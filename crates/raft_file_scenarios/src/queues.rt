@@ -104,7 +104,7 @@ fn cases() -> &'static [Case] {
 struct NoMachine {}
 
 impl ReplayMachine for NoMachine {
-    ghost stands_for = { λ blocks earlier machine batches. Unit {0} };
+    ghost stands_for = { λ queue blocks earlier machine batches. Unit {0} };
 
     fn replay(&mut self, _items: &mut Vec<LogItem>, _file: FileId) -> Result<(), Fault> {
         Ok(())

@@ -129,7 +129,7 @@ struct Counter {
 }
 
 impl ReplayMachine for Counter {
-    ghost stands_for = { λ blocks earlier machine batches. Unit {0} };
+    ghost stands_for = { λ queue blocks earlier machine batches. Unit {0} };
 
     fn replay(&mut self, _items: &mut Vec<LogItem>, _file: FileId) -> Result<(), Fault> {
         self.batches = self.batches.saturating_add(1);
