@@ -9,6 +9,7 @@ pub mod Durability
 pub mod Advance
 pub mod Opening
 pub mod Recovery
+pub mod Read
 pub mod Write
 pub mod Image
 pub mod Reads

@@ -17,3 +17,5 @@ pub mod RecoveringLemmas
 pub mod JoiningLemmas
 pub mod RewrittenLemmas
 pub mod OwedLemmas
+pub mod FirstFileLemmas
+pub mod WrittenLemmas

@@ -75,8 +75,8 @@ with_items batch (item ∷ items) = batch_of (batch.items ++ item ∷ items)
 pub record GetsMarks (t : Tables) (owed left : Owed) (old new : BatchView) : Type 0 where
   pub marks : List Item
   pub added : new ≡ with_items old marks
-  pub owed : AreOwed t owed marks
-  pub left : owed_left owed marks ≡ left
+  pub each : AreOwed t owed marks
+  pub rest : owed_left owed marks ≡ left
   pub ascending : IsStrictlySortedBy mark_cmp marks
 
 -- what is owed once each clean is written
