@@ -23,7 +23,7 @@ either_below : (bound : ℕ) (b : Bool) (new old : List Entry) → Each (λ e. e
 either_below bound true new old is_new is_old = is_new
 either_below bound false new old is_new is_old = is_old
 
-content_below : (bound group : ℕ) (content : Content) (m : Contents) → IsContentBelow bound content → HasIndexesBelow bound m → HasIndexesBelow bound (after_content group content m)
+pub content_below : (bound group : ℕ) (content : Content) (m : Contents) → IsContentBelow bound content → HasIndexesBelow bound m → HasIndexesBelow bound (after_content group content m)
 content_below bound group (Entries es) m is all g = either_below bound (g == group) (with_entries (m.entries group) es) (m.entries g) (below_with bound (m.entries group) es (all group) is) (all g)
 content_below bound group Clean m is all g = either_below bound (g == group) [] (m.entries g) tt (all g)
 content_below bound group (Compact index) m is all g = either_below bound (g == group) (filter (λ e. nat_le index e.0) (m.entries group)) (m.entries g) (each_filter (λ x. x.0 < bound) (λ x. nat_le index x.0) (m.entries group) (all group)) (all g)

@@ -18,10 +18,10 @@ no_first_places [] ys is = (refl, is)
 no_first_places (x ∷ xs) ys is = absurd cc
 
 -- no place in both parts
-parts_without : (id : ℕ) (xs ys : List Batch) → places_in id (xs ++ ys) ≡ [] → (places_in id xs ≡ []) × (places_in id ys ≡ [])
+pub parts_without : (id : ℕ) (xs ys : List Batch) → places_in id (xs ++ ys) ≡ [] → (places_in id xs ≡ []) × (places_in id ys ≡ [])
 parts_without id xs ys none = no_first_places (places_in id xs) (places_in id ys) (sym (places-append id xs ys) ∙ none)
 
-both_without : (id : ℕ) (xs ys : List Batch) → places_in id xs ≡ [] → places_in id ys ≡ [] → places_in id (xs ++ ys) ≡ []
+pub both_without : (id : ℕ) (xs ys : List Batch) → places_in id xs ≡ [] → places_in id ys ≡ [] → places_in id (xs ++ ys) ≡ []
 both_without id xs ys no_x no_y = places-append id xs ys ∙ ap (λ ps. ps ++ places_in id ys) no_x ∙ no_y
 
 -- Any first part of the old batches may be gone.
@@ -44,7 +44,7 @@ module _ (old new appended : List Batch) (together : StandTogether old) (apart :
 
 -- A batch without a mark follows.
 
-unmarked_place : (id : ℕ) (b : Batch) → mark_of b ≡ None → places_in id (b ∷ []) ≡ []
+pub unmarked_place : (id : ℕ) (b : Batch) → mark_of b ≡ None → places_in id (b ∷ []) ≡ []
 unmarked_place id b none = ap (λ (m : _). cons_option (place_by id m) []) none
 
 -- a list is cut at its end, or before its last element

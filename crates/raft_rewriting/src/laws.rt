@@ -20,22 +20,9 @@ ghost use Rattle.raft_tables.specs.declared.memtables.MemTables.{MemTables};
 ghost use Rattle.raft_tables.specs.Tables.{AreAllPlaced, Tables, or_empty, tables_of};
 ghost use Rattle.raft_rewriting.specs.DroppingOld.{AreRewrittenFrom, HoldsFrom};
 ghost use Rattle.raft_tables.specs.Owed.{Marks, Owed, with_marks, without_clean, without_compaction, without_delete};
-ghost use Rattle.raft_rewriting.specs.Rewriting.{ArePart, IsFetched, IsMarkIndex, MayAllBeWritten, entries_item, placed_entries_item, MayMoveKey};
+ghost use Rattle.raft_rewriting.specs.Rewriting.{ArePart, IsMarkIndex, MayAllBeWritten, entries_item, placed_entries_item, MayMoveKey};
 ghost use Rattle.raft_records.specs.FileBatches.{FileBatch, batches_of, from_file};
 ghost use Rattle.raft_standing.specs.Standing.{AreEntriesPlacedFrom, AreInFileOrder, AreKeysPlacedFrom, EntryStands, OwesNothing, TablesStandFor};
-
-/// What is fetched of a group's entries that stand, up to a watermark in the Append queue (`up_to`) or
-/// all of the Rewrite queue (`rewritten`), is a part of them that may be written again.
-pub fn fetched_entries_are_a_part()
-    ensures up_to { (blocks : Blocks) (watermark : ℕ) (left : ℕ → ℕ → Bool) (marks : Marks)
-        (held : List Entry) (es : List (ℕ × EntryPlace)) → AreInFileOrder 0 es
-        → Each (EntryStands blocks left marks held) es
-        → IsFetched es (filter (λ e. may_move_from (Some watermark) e.1) es) }
-    ensures rewritten { (blocks : Blocks) (left : ℕ → ℕ → Bool) (marks : Marks)
-        (held : List Entry) (es : List (ℕ × EntryPlace)) → AreInFileOrder 0 es
-        → Each (EntryStands blocks left marks held) es
-        → IsFetched es (filter (λ e. may_move_from None e.1) es) }
-{}
 
 /// What may be written to the Rewrite queue again: a part of a group's entries, behind those that
 /// stand there (`entries`), and the value of a key (`value`). It changes nothing of what is

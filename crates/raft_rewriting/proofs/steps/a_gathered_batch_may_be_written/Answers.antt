@@ -1,0 +1,8 @@
+use Rattle.raft_rewriting.proofs.StepLemmas.{gathered_takes, gathered_written}
+use Rattle.raft_rewriting.proofs.steps.a_gathered_batch_may_be_written.Goals as goal
+
+pub returns-clause-takes : goal.returns-clause-takes
+returns-clause-takes c = gathered_takes
+
+pub returns-clause-written : goal.returns-clause-written
+returns-clause-written c = gathered_written
