@@ -13,5 +13,6 @@ pub mod Queue
 pub mod QueueFiles
 pub mod PipeState
 pub mod Purge
+pub mod Read
 pub mod Rotation
 pub mod Written

@@ -12,5 +12,5 @@ pub mod rotation;
 pub use files::read_files;
 pub use log_folders::LogFolders;
 pub use pipe::{AppendFault, RotationFault, SinglePipe};
-pub use pipe_builder::settle_or_begin;
+pub use pipe_builder::{DEFAULT_FIRST_FILE_SEQ, settle_or_begin};
 pub use replay::{ReplayMachine, ReplayedLog};

@@ -76,7 +76,30 @@ gets w blocks (e ∷ es) [] same moves = no_cons (entry_in blocks e) (entries_in
 gets w blocks (e ∷ es) (n ∷ new) same moves =
     (ap (λ (x : Entry). x.0) (head_same (entry_in blocks n) (entry_in blocks e) (entries_in blocks new) (entries_in blocks es) same), moves.0, gets w blocks es new (tail_same (entry_in blocks n) (entry_in blocks e) (entries_in blocks new) (entries_in blocks es) same) moves.1)
 
-entries_again : (w : Option ℕ) (blocks : Blocks) (t : Tables) (g : ℕ) (e : ℕ × EntryPlace) (es : List (ℕ × EntryPlace)) (c : PlacedContent) → IsFetched w (or_empty (t g)).entries (e ∷ es) → content_in blocks c ≡ Entries (entries_in blocks (e ∷ es)) → is_placed_in_order c ≡ true → are_all_placed is_rewritten c ≡ true → MayWriteAgain w blocks t g c
+-- entries are given by their places
+abbrev pub is_given : PlacedContent → Bool
+is_given (EntriesAt entries) = true
+is_given (Plain (Entries entries)) = false
+is_given (Plain Clean) = true
+is_given (Plain (Compact index)) = true
+is_given (Plain (Put key value)) = true
+is_given (Plain (Delete key)) = true
+
+in_order_given : (c : PlacedContent) → is_placed_in_order c ≡ true → is_given c ≡ true
+in_order_given (EntriesAt entries) order = refl
+in_order_given (Plain (Entries entries)) order = order
+in_order_given (Plain Clean) order = refl
+in_order_given (Plain (Compact index)) order = refl
+in_order_given (Plain (Put key value)) order = refl
+in_order_given (Plain (Delete key)) order = refl
+
+pub all_given : (items : List PlacedItem) → list_all (λ item. is_placed_in_order item.content) items ≡ true → list_all (λ item. is_given item.content) items ≡ true
+all_given [] order = refl
+all_given (i ∷ items) order =
+    let orders = and_parts (is_placed_in_order i.content) (list_all (λ item. is_placed_in_order item.content) items) order in
+    ap (λ b. b && list_all (λ item. is_given item.content) items) (in_order_given i.content orders.0) ∙ all_given items orders.1
+
+entries_again : (w : Option ℕ) (blocks : Blocks) (t : Tables) (g : ℕ) (e : ℕ × EntryPlace) (es : List (ℕ × EntryPlace)) (c : PlacedContent) → IsFetched w (or_empty (t g)).entries (e ∷ es) → content_in blocks c ≡ Entries (entries_in blocks (e ∷ es)) → is_given c ≡ true → are_all_placed is_rewritten c ≡ true → MayWriteAgain w blocks t g c
 entries_again w blocks t g e es (EntriesAt []) from same order placed = absurd (no_cons (entry_in blocks e) (entries_in blocks es) (ap set_entries same))
 entries_again w blocks t g e es (EntriesAt (n ∷ ns)) from same order placed = record {
   pre = from.pre;
@@ -104,7 +127,7 @@ value_again w blocks t g k v (Plain (Put key value)) from same =
     subst (λ (j : List ℕ). MayMoveKey w t g j value) (sym (ap put_key same)) (subst (λ (u : List ℕ). MayMoveKey w t g k u) (sym (ap put_value same)) from)
 value_again w blocks t g k v (Plain (Delete key)) from same = absurd (unlike (Delete key) (Put k v) same (λ is. omega (arith, is)))
 
-pub may_again : (w : Option ℕ) (blocks : Blocks) (t : Tables) (g : ℕ) (d c : PlacedContent) → IsFetchedContent w t g d → content_in blocks c ≡ content_in blocks d → is_placed_in_order c ≡ true → are_all_placed is_rewritten c ≡ true → MayWriteAgain w blocks t g c
+pub may_again : (w : Option ℕ) (blocks : Blocks) (t : Tables) (g : ℕ) (d c : PlacedContent) → IsFetchedContent w t g d → content_in blocks c ≡ content_in blocks d → is_given c ≡ true → are_all_placed is_rewritten c ≡ true → MayWriteAgain w blocks t g c
 may_again w blocks t g (EntriesAt []) c from same order placed = absurd from
 may_again w blocks t g (EntriesAt (e ∷ es)) c from same order placed = entries_again w blocks t g e es c from same order placed
 may_again w blocks t g (Plain (Entries xs)) c from same order placed = absurd from
@@ -224,12 +247,12 @@ apart_too blocks n i (j ∷ items) same apart =
     (λ group key. apart.0 (sym (ap (λ (x : Item). x.group) same) ∙ group) (sym (same_key_set blocks n.content i.content (ap (λ (x : Item). x.content) same)) ∙ key), apart_too blocks n i items same apart.1)
 
 pub may_all : (w : Option ℕ) (id : FileId) (blocks : Blocks) (owed : Owed) (t : Tables) (items news : List PlacedItem) → Each (fetched_item w owed t) items → AreSetApart items → map (item_in blocks) news ≡ map (item_in blocks) items
-    → list_all (λ item. is_placed_in_order item.content) news ≡ true → list_all (λ item. are_all_placed is_rewritten item.content) news ≡ true → MayAllBeWritten w id blocks owed t news
+    → list_all (λ item. is_given item.content) news ≡ true → list_all (λ item. are_all_placed is_rewritten item.content) news ≡ true → MayAllBeWritten w id blocks owed t news
 may_all w id blocks owed t [] [] each apart same order placed = tt
 may_all w id blocks owed t [] (n ∷ news) each apart same order placed = absurd (no_cons (item_in blocks n) (map (item_in blocks) news) (sym same))
 may_all w id blocks owed t (i ∷ items) [] each apart same order placed = tt
 may_all w id blocks owed t (i ∷ items) (n ∷ news) each apart same order placed =
-    let orders = and_parts (is_placed_in_order n.content) (list_all (λ item. is_placed_in_order item.content) news) order in
+    let orders = and_parts (is_given n.content) (list_all (λ item. is_given item.content) news) order in
     let places = and_parts (are_all_placed is_rewritten n.content) (list_all (λ item. are_all_placed is_rewritten item.content) news) placed in
     let one = head_same (item_in blocks n) (item_in blocks i) (map (item_in blocks) news) (map (item_in blocks) items) same in
     let group : n.group ≡ i.group = ap (λ (x : Item). x.group) one in

@@ -43,7 +43,7 @@ use Rattle.raft_rewriting.specs.Rewriting.{IsMarkIndex}
 use Rattle.raft_rewriting.proofs.AgainLemmas.{all_again}
 use Rattle.raft_rewriting.proofs.FitsLemmas.{all_fit, are_apart, each_nothing, each_run, unmarked}
 use Rattle.raft_rewriting.proofs.MarkedLemmas.{clean_marked, compaction_marked, delete_marked}
-use Rattle.raft_rewriting.proofs.MatchLemmas.{may_all}
+use Rattle.raft_rewriting.proofs.MatchLemmas.{all_given, may_all}
 
 -- What both queues hold.
 
@@ -132,7 +132,7 @@ gathered_written blocks numbered owed t q watermark seq items news s gathered sa
     let fit = all_fit blocks x numbered owed t watermark items run_x s.appended_consecutive s.stand gathered.each in
     let run_b = subst (λ (b : Batch). list_all (λ (i : Item). content_is_consecutive i.content) b ≡ true) (sym same) (each_run x (batches_of numbered) (map (item_in blocks) items) fit) in
     let no_mark = subst (λ (b : Batch). mark_of b ≡ None) (sym same) (unmarked blocks x numbered owed t watermark items (no_mark_held q) s.stand gathered.each) in
-    let may = may_all watermark (in_rewrite seq) blocks owed t items news gathered.each gathered.apart same order placed in
+    let may = may_all watermark (in_rewrite seq) blocks owed t items news gathered.each gathered.apart same (all_given news order) placed in
     one_more blocks numbered owed owed t u q batch s run_b (placed_low blocks news order)
     (subst (λ (y : Contents). TablesStandFor blocks y numbered owed u) (sym (effect-unmarked (rewrites q) batch no_mark)) (all_again blocks x numbered owed t watermark seq news run_x s.appended_consecutive run_b may s.stand).1)
 
@@ -265,9 +265,9 @@ front_can blocks numbered owed t q first front s none none_rewritten nothing ent
     rest : List Batch
     rest = batches_of (from_file first numbered)
 
-same_rest : (front as bs : List Batch) → front ++ as ≡ front ++ bs → as ≡ bs
-same_rest [] as bs is = is
-same_rest (f ∷ front) as bs is = same_rest front as bs (let same = is in cc)
+same_rest : (front xs ys : List Batch) → front ++ xs ≡ front ++ ys → xs ≡ ys
+same_rest [] xs ys is = is
+same_rest (f ∷ front) xs ys is = same_rest front xs ys (let same = is in cc)
 
 entry_from : (least first : ℕ) (b : Option FileBlockHandle) → least ≤ first → IsEntryPlacedFrom first b → IsEntryPlacedFrom least b
 entry_from least first None low is = tt
