@@ -47,8 +47,7 @@ fn recover<F: FileSystem>(
     rewrite: &mut Keys,
 ) -> Result<(), Fault> {
     builder.scan()?;
-    builder.recover_queue(Append, append)?;
-    builder.recover_queue(Rewrite, rewrite)
+    builder.recover_in_order(append, rewrite)
 }
 
 // Opens both queues; what is read of each goes to its machine.

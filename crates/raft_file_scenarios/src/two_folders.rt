@@ -1,7 +1,7 @@
 //! Queues whose log files stand in both folders of the settings: which of them a recovery keeps, and when there is no opening.
 
 use crate::folders::{HEADER, store_in};
-use crate::two_queues::{PUT_1, PUT_2, are_cuts, read};
+use crate::two_queues::{PUT_1, PUT_2, Wanted, are_cuts, read_both};
 use raft_config::Config;
 use raft_env::{FileSystem, FsFault, Permission};
 use raft_memory::MemoryFileSystem;
@@ -87,11 +87,11 @@ static SCANS: [Scan; 8] = [
     },
 ];
 
-/// What an opening reads of the Append queue: its batches, the files that are cut, with their lengths and how much of them
-/// is kept, and the first file and the last one.
+/// What an opening reads of the Append queue: its batches, the files that are cut, with how much of them is kept, and the
+/// first file and the last one.
 struct Found {
     batches: u64,
-    cuts: &'static [(&'static str, usize, usize)],
+    cuts: &'static [Wanted],
     span: (u64, u64),
 }
 
@@ -126,7 +126,7 @@ static OPENED: [Opening; 4] = [
         stored: &[MAIN_1, SPILL_2],
         found: Ok(Found {
             batches: 2,
-            cuts: &[("more/0000000000000002.raftlog", 98, 97)],
+            cuts: &[(LogQueue::Append, 2, 97)],
             span: (1, 2),
         }),
         files: &[
@@ -257,13 +257,8 @@ fn settings(alloc: Global, folders: &(&str, &str)) -> Result<Config, AllocError>
 
 // Whether the scan found what the opening says.
 fn reads<F: FileSystem>(builder: &mut DualPipesBuilder<F>, found: &Found) -> Result<bool, Fault> {
-    let rewritten = read(builder, LogQueue::Rewrite)?;
-    let batches = read(builder, LogQueue::Append)?;
-    Ok(
-        rewritten == 0
-            && batches == found.batches
-            && are_cuts(builder.cuts()?.as_slice(), found.cuts),
-    )
+    let (batches, rewritten) = read_both(builder)?;
+    Ok(rewritten == 0 && batches == found.batches && are_cuts(builder.cuts(), found.cuts))
 }
 
 // The files after an opening that goes on after its scan, if it comes to what it says.

@@ -16,16 +16,21 @@ pub(super) const PUT_1: &[u8] =
 pub(super) const PUT_2: &[u8] =
     b"\x00\x00\x00\x00\x00\x00\x1c\x00\x00\x00\x00\x00\x00\x00\x00\x10\x01\x01\x03\x01\x01\x62\x01\x02\x19\xa7\xf1\xb0";
 
+/// A file that is cut, by its queue and number, and how much of it is kept.
+pub(super) type Wanted = (LogQueue, u64, usize);
+
 enum Step {
     Scan,
     /// The scan fails with this code.
     ScanRefused(u8),
     /// So many batches are read of the queue.
     Read(LogQueue, u64),
+    /// Both queues are read in order: so many batches of the Append queue, and of the Rewrite queue.
+    ReadBoth(u64, u64),
     /// Reading the queue fails with this code.
     ReadRefused(LogQueue, u8),
-    /// The files that are cut, with their lengths and how much of them is kept.
-    Cuts(&'static [(&'static str, usize, usize)]),
+    /// The files that are cut, by queue and number, with how much of them is kept.
+    Cuts(&'static [Wanted]),
 }
 
 /// Files and their bytes before the opening, its stages, the last file of each queue or the code with which the opening
@@ -84,11 +89,7 @@ static THREE_FILES: [Case; 2] = [
     Case {
         name: "one queue is unread",
         stored: &[APPEND_1, APPEND_2, REWRITE_1],
-        steps: &[
-            Step::Scan,
-            Step::Read(LogQueue::Append, 2),
-            Step::Cuts(&[("data/0000000000000002.raftlog", 98, 97)]),
-        ],
+        steps: &[Step::Scan, Step::Read(LogQueue::Append, 2), Step::Cuts(&[])],
         finished: Err(15),
         files: &[
             ("data/0000000000000001.raftlog", 97),
@@ -101,12 +102,8 @@ static THREE_FILES: [Case; 2] = [
         stored: &[APPEND_1, APPEND_2, REWRITE_1],
         steps: &[
             Step::Scan,
-            Step::Read(LogQueue::Rewrite, 1),
-            Step::Read(LogQueue::Append, 2),
-            Step::Cuts(&[
-                ("data/0000000000000002.raftlog", 98, 97),
-                ("data/0000000000000001.rewrite", 125, 97),
-            ]),
+            Step::ReadBoth(2, 1),
+            Step::Cuts(&[(LogQueue::Append, 2, 97), (LogQueue::Rewrite, 1, 97)]),
         ],
         finished: Ok((2, 1)),
         files: &[
@@ -138,19 +135,26 @@ impl ReplayMachine for Counter {
 }
 
 // How many batches are read of the queue.
-pub(super) fn read<F: FileSystem>(
-    builder: &mut DualPipesBuilder<F>,
-    queue: LogQueue,
-) -> Result<u64, Fault> {
+fn read<F: FileSystem>(builder: &mut DualPipesBuilder<F>, queue: LogQueue) -> Result<u64, Fault> {
     let mut machine = Counter { batches: 0 };
     builder.recover_queue(queue, &mut machine)?;
     Ok(machine.batches)
 }
 
-pub(super) fn are_cuts(cuts: &[Cut], wanted: &[(&str, usize, usize)]) -> bool {
+// How many batches are read of the Append queue, and of the Rewrite queue.
+pub(super) fn read_both<F: FileSystem>(
+    builder: &mut DualPipesBuilder<F>,
+) -> Result<(u64, u64), Fault> {
+    let mut appended = Counter { batches: 0 };
+    let mut rewritten = Counter { batches: 0 };
+    builder.recover_in_order(&mut appended, &mut rewritten)?;
+    Ok((appended.batches, rewritten.batches))
+}
+
+pub(super) fn are_cuts(cuts: &[Cut], wanted: &[Wanted]) -> bool {
     cuts.len() == wanted.len()
         && cuts.iter().zip(wanted.iter()).all(|(cut, wanted)| {
-            cut.path.as_str() == wanted.0 && cut.len == wanted.1 && cut.kept == wanted.2
+            cut.id.queue == wanted.0 && cut.id.seq == wanted.1 && cut.len == wanted.2
         })
 }
 
@@ -170,8 +174,9 @@ fn holds<F: FileSystem>(builder: &mut DualPipesBuilder<F>, step: &Step) -> Resul
         }
         Step::ScanRefused(code) => Ok(is_refused(builder.scan(), *code)),
         Step::Read(queue, batches) => Ok(read(builder, *queue)? == *batches),
+        Step::ReadBoth(appended, rewritten) => Ok(read_both(builder)? == (*appended, *rewritten)),
         Step::ReadRefused(queue, code) => Ok(is_refused(read(builder, *queue), *code)),
-        Step::Cuts(wanted) => Ok(are_cuts(builder.cuts()?.as_slice(), wanted)),
+        Step::Cuts(wanted) => Ok(are_cuts(builder.cuts(), wanted)),
     }
 }
 
