@@ -217,7 +217,7 @@ no_places_left [] ys is = is
 no_places_left (x ∷ xs) ys is = absurd cc
 
 -- the batches of a group that isn't complete change nothing before others that it has no batch in
-effect-cut : (id : ℕ) (front tail new : List Batch) → list_all (is_of_group id) tail ≡ true → is_complete (places_in id tail) ≡ false → ShareNoGroup (front ++ tail) new → effect (tail ++ new) ≡ effect new
+pub effect-cut : (id : ℕ) (front tail new : List Batch) → list_all (is_of_group id) tail ≡ true → is_complete (places_in id tail) ≡ false → ShareNoGroup (front ++ tail) new → effect (tail ++ new) ≡ effect new
 effect-cut id front tail new all incomplete share =
     ⊎_elim
     (λ none. ap (λ bs. effect (bs ++ new)) (no_batches id tail all (no_places_left (places_in id front) (places_in id tail) (sym (places-append id front tail) ∙ none))))

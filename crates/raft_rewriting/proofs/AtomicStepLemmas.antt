@@ -36,7 +36,7 @@ use Rattle.raft_rewriting.specs.AtomicGroup.{bodies_in, ended_group, last_body, 
 use Rattle.raft_rewriting.specs.Gathering.{IsGathered}
 use Rattle.raft_rewriting.specs.Rewriting.{IsFetched, entries_item, placed_entries_item}
 use Rattle.raft_rewriting.proofs.FitsLemmas.{Fits, all_fit, are_apart, each_nothing, each_run}
-use Rattle.raft_rewriting.proofs.GroupIdLemmas.{effect_open, ended_complete, ended_of_group, ends_more}
+use Rattle.raft_rewriting.proofs.GroupIdLemmas.{effect_open, ended_complete, ended_of_group, ends_more, more_is}
 use Rattle.raft_rewriting.proofs.PartsLemmas.{front_run, parts_at_once, rest_run}
 use Rattle.raft_rewriting.proofs.StepLemmas.{all_synced, held_below, held_run, one_more, rewrites, with_rewritten_batch}
 
@@ -100,10 +100,10 @@ next_of_map : {X Y : Type 0} (f : X → Y) (xs : List X) → next_mark (map f xs
 next_of_map f [] = refl
 next_of_map f (x ∷ xs) = refl
 
-pub after_open : (q : Queues) (id : ℕ) (bodies : List Batch) (body : Batch) → EndsInGroup id (open_group id bodies) (rewrites q) → effect (rewrites q ++ marked id (next_mark bodies) body ∷ []) ≡ effect (rewrites q)
-after_open q id bodies body e =
-    let more = ends_more id bodies (rewrites q) body e in
-    effect_open id (bodies ++ body ∷ []) (rewrites q ++ marked id (next_mark bodies) body ∷ []) more ∙ sym (effect_open id bodies (rewrites q) e)
+pub after_open : (batches : List Batch) (id : ℕ) (bodies : List Batch) (body : Batch) → EndsInGroup id (open_group id bodies) batches → effect (batches ++ marked id (next_mark bodies) body ∷ []) ≡ effect batches
+after_open batches id bodies body e =
+    let more : EndsInGroup id (open_group id (bodies ++ body ∷ [])) (batches ++ marked id (next_mark bodies) body ∷ []) = record { old = e.old; is = more_is id bodies batches body e; apart = e.apart } in
+    effect_open id (bodies ++ body ∷ []) (batches ++ marked id (next_mark bodies) body ∷ []) more ∙ sym (effect_open id bodies batches e)
 
 pub opened : (blocks : Blocks) (numbered : List FileBatch) (owed : Owed) (t : Tables) (q : Queues) (id group : ℕ) (parts : List (List (ℕ × EntryPlace))) (part rest : List (ℕ × EntryPlace)) → StandForQueues blocks numbered owed t q
     → EndsInGroup id (open_group id (bodies_in blocks group parts)) (rewrites q) → IsFetched None (or_empty (t group)).entries (flat_map (λ p. p) parts ++ (part ++ rest))
@@ -133,7 +133,7 @@ opened blocks numbered owed t q id group parts part rest s e from =
     mark = next_of_map body_of parts
 
     same : effect (rewrites q ++ batch ∷ []) ≡ effect (rewrites q)
-    same = subst (λ (m : Mark). effect (rewrites q ++ marked id m body ∷ []) ≡ effect (rewrites q)) mark (after_open q id bodies body e)
+    same = subst (λ (m : Mark). effect (rewrites q ++ marked id m body ∷ []) ≡ effect (rewrites q)) mark (after_open (rewrites q) id bodies body e)
 
     run : list_all (λ i. content_is_consecutive i.content) batch ≡ true
     run = ap (λ b. b && true) (part_run blocks numbered owed t q group (flat_map (λ p. p) parts) part rest s from)
@@ -189,11 +189,11 @@ set_at_once blocks id group x (p ∷ parts) part values run_x some run =
 -- The last batch of a group.
 
 -- what the last batch leaves of the Rewrite queue
-pub after_ended : (q : Queues) (id : ℕ) (bodies : List Batch) (last : Batch) → EndsInGroup id (open_group id bodies) (rewrites q) → (bodies ≡ [] → ⊥) → effect (rewrites q ++ marked id End last ∷ []) ≡ after_batches (effect (rewrites q)) (ended_group id bodies last)
-after_ended q id bodies last e some =
+pub after_ended : (batches : List Batch) (id : ℕ) (bodies : List Batch) (last : Batch) → EndsInGroup id (open_group id bodies) batches → (bodies ≡ [] → ⊥) → effect (batches ++ marked id End last ∷ []) ≡ after_batches (effect batches) (ended_group id bodies last)
+after_ended batches id bodies last e some =
     ap effect (ap (λ bs. bs ++ marked id End last ∷ []) e.is ∙ append_assoc e.old (open_group id bodies) (marked id End last ∷ []))
     ∙ effect-complete_group id e.old (ended_group id bodies last) e.apart (ended_of_group id bodies last) (ended_complete id bodies last some)
-    ∙ ap (λ (m : Contents). after_batches m (ended_group id bodies last)) (sym (effect_open id bodies (rewrites q) e))
+    ∙ ap (λ (m : Contents). after_batches m (ended_group id bodies last)) (sym (effect_open id bodies batches e))
 
 pub some_bodies : (blocks : Blocks) (group : ℕ) (parts : List (List (ℕ × EntryPlace))) → (parts ≡ [] → ⊥) → bodies_in blocks group parts ≡ [] → ⊥
 some_bodies blocks group [] some none = some refl
@@ -203,11 +203,11 @@ first_fits : (x : Contents) (a : List Batch) (g : ℕ) (es : List Entry) → Fit
 first_fits x a g [] fits = refl
 first_fits x a g (e ∷ es) fits = fits.0
 
-record Ended (blocks : Blocks) (numbered : List FileBatch) (owed : Owed) (t : Tables) (q : Queues) (id group : ℕ) (parts : List (List (ℕ × EntryPlace))) (part : List (ℕ × EntryPlace)) (values : List PlacedItem) : Type 0 where
-  run : list_all (λ i. content_is_consecutive i.content) (marked id End (last_body blocks group part values)) ≡ true
-  all_run : are_consecutive (entries_in blocks (flat_map (λ p. p) parts ++ part)) ≡ true
-  effect_is : effect (rewrites q ++ marked id End (last_body blocks group part values) ∷ []) ≡ after_batch (effect (rewrites q)) (map (item_in blocks) (set_by_parts group parts part values))
-  nothing : replay (after_batch (effect (rewrites q)) (map (item_in blocks) (set_by_parts group parts part values))) (batches_of numbered) ≡ replay (effect (rewrites q)) (batches_of numbered)
+pub record Ended (blocks : Blocks) (numbered : List FileBatch) (owed : Owed) (t : Tables) (q : Queues) (id group : ℕ) (parts : List (List (ℕ × EntryPlace))) (part : List (ℕ × EntryPlace)) (values : List PlacedItem) : Type 0 where
+  pub run : list_all (λ i. content_is_consecutive i.content) (marked id End (last_body blocks group part values)) ≡ true
+  pub all_run : are_consecutive (entries_in blocks (flat_map (λ p. p) parts ++ part)) ≡ true
+  pub effect_is : effect (rewrites q ++ marked id End (last_body blocks group part values) ∷ []) ≡ after_batch (effect (rewrites q)) (map (item_in blocks) (set_by_parts group parts part values))
+  pub nothing : replay (after_batch (effect (rewrites q)) (map (item_in blocks) (set_by_parts group parts part values))) (batches_of numbered) ≡ replay (effect (rewrites q)) (batches_of numbered)
 
 pub ended_of : (blocks : Blocks) (numbered : List FileBatch) (owed : Owed) (t : Tables) (q : Queues) (id group : ℕ) (parts : List (List (ℕ × EntryPlace))) (part : List (ℕ × EntryPlace)) (values : List PlacedItem) → StandForQueues blocks numbered owed t q
     → EndsInGroup id (open_group id (bodies_in blocks group parts)) (rewrites q) → (parts ≡ [] → ⊥) → IsGathered None owed t (set_by_parts group parts part values) → Ended blocks numbered owed t q id group parts part values
@@ -222,7 +222,7 @@ ended_of blocks numbered owed t q id group parts part values s e some gathered =
     record {
       run = ap (λ b. b && list_all (λ (i : Item). content_is_consecutive i.content) (map (item_in blocks) values)) part_is ∙ each_run x (batches_of numbered) (map (item_in blocks) values) fit.1;
       all_run = whole;
-      effect_is = after_ended q id (bodies_in blocks group parts) last e (some_bodies blocks group parts some) ∙ set_at_once blocks id group x parts part values run_x some whole;
+      effect_is = after_ended (rewrites q) id (bodies_in blocks group parts) last e (some_bodies blocks group parts some) ∙ set_at_once blocks id group x parts part values run_x some whole;
       nothing = each_changes_nothing x (batches_of numbered) (map (item_in blocks) items) (each_nothing x (batches_of numbered) (map (item_in blocks) items) run_x s.appended_consecutive fit (are_apart blocks items gathered.apart));
     }
 

@@ -126,9 +126,8 @@ effect_open id bodies batches e =
     ∙ effect-open_group id e.old (open_group id bodies) [] e.apart refl (open_of_group id bodies) (open_incomplete id bodies)
     ∙ ap effect (append-nil e.old)
 
+pub more_is : (id : ℕ) (bodies batches : List Batch) (body : Batch) (e : EndsInGroup id (open_group id bodies) batches) → batches ++ marked id (next_mark bodies) body ∷ [] ≡ e.old ++ open_group id (bodies ++ body ∷ [])
+more_is id bodies batches body e = ap (λ bs. bs ++ marked id (next_mark bodies) body ∷ []) e.is ∙ append_assoc e.old (open_group id bodies) (marked id (next_mark bodies) body ∷ []) ∙ ap (λ bs. e.old ++ bs) (sym (open_more id bodies body))
+
 pub ends_more : (id : ℕ) (bodies batches : List Batch) (body : Batch) → EndsInGroup id (open_group id bodies) batches → EndsInGroup id (open_group id (bodies ++ body ∷ [])) (batches ++ marked id (next_mark bodies) body ∷ [])
-ends_more id bodies batches body e = record {
-  old = e.old;
-  is = ap (λ bs. bs ++ marked id (next_mark bodies) body ∷ []) e.is ∙ append_assoc e.old (open_group id bodies) (marked id (next_mark bodies) body ∷ []) ∙ ap (λ bs. e.old ++ bs) (sym (open_more id bodies body));
-  apart = e.apart;
-}
+ends_more id bodies batches body e = record { old = e.old; is = more_is id bodies batches body e; apart = e.apart }

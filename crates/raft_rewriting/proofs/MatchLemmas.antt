@@ -20,6 +20,7 @@ use Rattle.raft_tables.specs.Moving.{table_moved, tables_moved, tables_moved_by,
 use Rattle.raft_tables.specs.Owed.{Owed}
 use Rattle.raft_tables.specs.Table.{TableView, with_key}
 use Rattle.raft_tables.specs.Tables.{Tables, or_empty}
+use Rattle.raft_standing.specs.Standing.{are_rewritten}
 use Rattle.raft_standing.proofs.KeyLemmas.{eq_from_test}
 use Rattle.raft_rewriting.specs.Gathering.{AreSetApart, IsFetchedContent, SetApart, key_set_by}
 use Rattle.raft_rewriting.specs.Rewriting.{ArePart, GetPlaces, IsFetched, MayAllBeWritten, MayMoveKey, MayWriteAgain}
@@ -36,14 +37,14 @@ tail_same x y xs ys is = cc
 pub no_cons : {X : Type 0} (x : X) (xs : List X) → [] ≡ x ∷ xs → ⊥
 no_cons x xs is = cc
 
-abbrev kind_of : Content → ℕ
+abbrev pub kind_of : Content → ℕ
 kind_of (Entries es) = 0
 kind_of Clean = 1
 kind_of (Compact index) = 2
 kind_of (Put key value) = 3
 kind_of (Delete key) = 4
 
-abbrev set_entries : Content → List Entry
+abbrev pub set_entries : Content → List Entry
 set_entries (Entries es) = es
 set_entries Clean = []
 set_entries (Compact index) = []
@@ -64,7 +65,7 @@ put_value (Compact index) = []
 put_value (Put key value) = value
 put_value (Delete key) = []
 
-unlike : (c d : Content) → c ≡ d → (kind_of c ≡ kind_of d → ⊥) → ⊥
+pub unlike : (c d : Content) → c ≡ d → (kind_of c ≡ kind_of d → ⊥) → ⊥
 unlike c d is other = other (ap kind_of is)
 
 -- The same bytes at other places.
@@ -99,19 +100,24 @@ all_given (i ∷ items) order =
     let orders = and_parts (is_placed_in_order i.content) (list_all (λ item. is_placed_in_order item.content) items) order in
     ap (λ b. b && list_all (λ item. is_given item.content) items) (in_order_given i.content orders.0) ∙ all_given items orders.1
 
-entries_again : (w : Option ℕ) (blocks : Blocks) (t : Tables) (g : ℕ) (e : ℕ × EntryPlace) (es : List (ℕ × EntryPlace)) (c : PlacedContent) → IsFetched w (or_empty (t g)).entries (e ∷ es) → content_in blocks c ≡ Entries (entries_in blocks (e ∷ es)) → is_given c ≡ true → are_all_placed is_rewritten c ≡ true → MayWriteAgain w blocks t g c
-entries_again w blocks t g e es (EntriesAt []) from same order placed = absurd (no_cons (entry_in blocks e) (entries_in blocks es) (ap set_entries same))
-entries_again w blocks t g e es (EntriesAt (n ∷ ns)) from same order placed = record {
+-- entries with the same bytes as those that were fetched are a part
+pub part_again : (w : Option ℕ) (blocks : Blocks) (t : Tables) (g : ℕ) (e : ℕ × EntryPlace) (es : List (ℕ × EntryPlace)) (n : ℕ × EntryPlace) (ns : List (ℕ × EntryPlace)) → IsFetched w (or_empty (t g)).entries (e ∷ es) → entries_in blocks (n ∷ ns) ≡ entries_in blocks (e ∷ es) → are_rewritten (n ∷ ns) ≡ true
+    → (part : ArePart w blocks (or_empty (t g)).entries (n ∷ ns)) × (w ≡ None → part.pre ≡ [])
+part_again w blocks t g e es n ns from same placed = (record {
   pre = from.pre;
   mid = e ∷ es;
   post = from.post;
   parts = from.parts;
   first = from.first;
   rest = from.rest;
-  places = gets w blocks (e ∷ es) (n ∷ ns) (ap set_entries same) from.moves;
-  bytes = ap set_entries same;
+  places = gets w blocks (e ∷ es) (n ∷ ns) same from.moves;
+  bytes = same;
   written = placed;
-}
+}, from.whole)
+
+entries_again : (w : Option ℕ) (blocks : Blocks) (t : Tables) (g : ℕ) (e : ℕ × EntryPlace) (es : List (ℕ × EntryPlace)) (c : PlacedContent) → IsFetched w (or_empty (t g)).entries (e ∷ es) → content_in blocks c ≡ Entries (entries_in blocks (e ∷ es)) → is_given c ≡ true → are_all_placed is_rewritten c ≡ true → MayWriteAgain w blocks t g c
+entries_again w blocks t g e es (EntriesAt []) from same order placed = absurd (no_cons (entry_in blocks e) (entries_in blocks es) (ap set_entries same))
+entries_again w blocks t g e es (EntriesAt (n ∷ ns)) from same order placed = (part_again w blocks t g e es n ns from (ap set_entries same) placed).0
 entries_again w blocks t g e es (Plain (Entries xs)) from same order placed = absurd (false≢true order)
 entries_again w blocks t g e es (Plain Clean) from same order placed = absurd (unlike Clean (Entries (entries_in blocks (e ∷ es))) same (λ is. omega (arith, is)))
 entries_again w blocks t g e es (Plain (Compact index)) from same order placed = absurd (unlike (Compact index) (Entries (entries_in blocks (e ∷ es))) same (λ is. omega (arith, is)))
@@ -236,12 +242,12 @@ fetched_still w id t item g (Plain (Delete key)) apart from = from
 abbrev pub fetched_item : Option ℕ → Owed → Tables → PlacedItem → Type 0
 fetched_item w owed t item = ((owed item.group).cleaned ≡ false) × IsFetchedContent w t item.group item.content
 
-each_still : (w : Option ℕ) (id : FileId) (owed : Owed) (t : Tables) (n : PlacedItem) (items : List PlacedItem) → Each (λ i. n.group ≡ i.group → key_set_by n.content ≡ key_set_by i.content → ⊥) items → Each (fetched_item w owed t) items → Each (fetched_item w owed (tables_moved_by w id t n)) items
+pub each_still : (w : Option ℕ) (id : FileId) (owed : Owed) (t : Tables) (n : PlacedItem) (items : List PlacedItem) → Each (λ i. n.group ≡ i.group → key_set_by n.content ≡ key_set_by i.content → ⊥) items → Each (fetched_item w owed t) items → Each (fetched_item w owed (tables_moved_by w id t n)) items
 each_still w id owed t n [] apart each = tt
 each_still w id owed t n (i ∷ items) apart each = ((each.0.0, fetched_still w id t n i.group i.content apart.0 each.0.1), each_still w id owed t n items apart.1 each.1)
 
 -- an item that stands for the same sets the same
-apart_too : (blocks : Blocks) (n i : PlacedItem) (items : List PlacedItem) → item_in blocks n ≡ item_in blocks i → Each (SetApart i) items → Each (λ j. n.group ≡ j.group → key_set_by n.content ≡ key_set_by j.content → ⊥) items
+pub apart_too : (blocks : Blocks) (n i : PlacedItem) (items : List PlacedItem) → item_in blocks n ≡ item_in blocks i → Each (SetApart i) items → Each (λ j. n.group ≡ j.group → key_set_by n.content ≡ key_set_by j.content → ⊥) items
 apart_too blocks n i [] same apart = tt
 apart_too blocks n i (j ∷ items) same apart =
     (λ group key. apart.0 (sym (ap (λ (x : Item). x.group) same) ∙ group) (sym (same_key_set blocks n.content i.content (ap (λ (x : Item). x.content) same)) ∙ key), apart_too blocks n i items same apart.1)

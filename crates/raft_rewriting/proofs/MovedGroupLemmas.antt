@@ -26,6 +26,7 @@ use Rattle.raft_tables.specs.Tables.{Tables, or_empty}
 use Rattle.raft_standing.specs.ForQueues.{StandForQueues}
 use Rattle.raft_standing.specs.Standing.{TablesStandFor, are_rewritten}
 use Rattle.raft_standing.proofs.KeyLemmas.{eq_from_test, in_rewrite}
+use Rattle.raft_standing.proofs.ReadLemmas.{placed_low}
 use Rattle.raft_rewriting.specs.AtomicGroup.{bodies_in, ended_group, last_body, marked, open_group, set_by_parts}
 use Rattle.raft_rewriting.specs.Gathering.{IsFetchedContent, IsGathered}
 use Rattle.raft_rewriting.specs.Rewriting.{IsFetched, entries_item, placed_entries_item}
@@ -35,7 +36,7 @@ use Rattle.raft_rewriting.proofs.FitsLemmas.{all_fit, each_run}
 use Rattle.raft_rewriting.proofs.GroupIdLemmas.{behind_first}
 use Rattle.raft_rewriting.proofs.MatchLemmas.{all_given, entries_of, head_same, is_given, may_all, no_cons, put_of, tail_same}
 use Rattle.raft_rewriting.proofs.PartsLemmas.{moved_parts}
-use Rattle.raft_rewriting.proofs.StepLemmas.{held_run, one_more, placed_low, rewrites, with_rewritten_batch}
+use Rattle.raft_rewriting.proofs.StepLemmas.{held_run, one_more, rewrites, with_rewritten_batch}
 
 -- a mark moves nothing
 mark_moves_nothing : (w : Option ℕ) (f : FileId) (u : Tables) (n : PlacedItem) (v : List ℕ) → n.content ≡ Plain (Put group_mark_key v) → tables_moved_by w f u n ≡ u

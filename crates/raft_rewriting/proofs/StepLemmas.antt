@@ -38,6 +38,7 @@ use Rattle.raft_standing.specs.Standing.{AreEntriesPlacedFrom, AreKeysPlacedFrom
 use Rattle.raft_standing.proofs.DropLemmas.{front_gone, front_may_go}
 use Rattle.raft_standing.proofs.GroupLemmas.{group_less}
 use Rattle.raft_standing.proofs.KeyLemmas.{in_rewrite}
+use Rattle.raft_standing.proofs.ReadLemmas.{placed_low}
 use Rattle.raft_rewriting.specs.Gathering.{IsGathered}
 use Rattle.raft_rewriting.specs.Rewriting.{IsMarkIndex}
 use Rattle.raft_rewriting.proofs.AgainLemmas.{all_again}
@@ -77,38 +78,6 @@ one_more blocks numbered owed owed' t u q batch s run below stands = record {
   where
     same : rewrites q ++ batch ∷ [] ≡ q.rewritten ++ (q.rewritten_since ++ batch ∷ [])
     same = append_assoc q.rewritten q.rewritten_since (batch ∷ [])
-
--- Items by places that are in order have no greatest index.
-
-lower : (a b : ℕ) → nat_lt a b ≡ true → a < b
-lower a b is = grind (arith, nat_tests)
-
-low_entries : (blocks : Blocks) (bound : ℕ) (es : List (ℕ × EntryPlace)) (k : ℕ) → are_consecutive_from k es ≡ true → k + length es ≤ bound → Each (λ e. e.0 < bound) (entries_in blocks es)
-low_entries blocks bound [] k run low = tt
-low_entries blocks bound (e ∷ es) k run low =
-    let parts = and_parts (e.0 == k) (are_consecutive_from (k + 1) es) run in
-    (let at = same_index e.0 k parts.0 in omega (arith, at, low), low_entries blocks bound es (k + 1) parts.1 (omega (arith, low)))
-  where
-    same_index : (a b : ℕ) → (a == b) ≡ true → a ≡ b
-    same_index a b is = grind (arith, nat_tests)
-
-content_low : (blocks : Blocks) (c : PlacedContent) → is_placed_in_order c ≡ true → IsContentBelow (2 ^ 64 - 1) (content_in blocks c)
-content_low blocks (EntriesAt []) order = tt
-content_low blocks (EntriesAt (e ∷ es)) order =
-    let parts = and_parts (are_consecutive_from e.0 (e ∷ es)) (nat_lt (e.0 + length (e ∷ es)) (2 ^ 64)) order in
-    let low = lower (e.0 + length (e ∷ es)) (2 ^ 64) parts.1 in
-    low_entries blocks (2 ^ 64 - 1) (e ∷ es) e.0 parts.0 (omega (arith, low))
-content_low blocks (Plain (Entries xs)) order = absurd (let clash = order in cc)
-content_low blocks (Plain Clean) order = tt
-content_low blocks (Plain (Compact index)) order = tt
-content_low blocks (Plain (Put key value)) order = tt
-content_low blocks (Plain (Delete key)) order = tt
-
-pub placed_low : (blocks : Blocks) (items : List PlacedItem) → list_all (λ item. is_placed_in_order item.content) items ≡ true → AreItemsBelow (2 ^ 64 - 1) (map (item_in blocks) items)
-placed_low blocks [] order = tt
-placed_low blocks (i ∷ items) order =
-    let parts = and_parts (is_placed_in_order i.content) (list_all (λ item. is_placed_in_order item.content) items) order in
-    (content_low blocks i.content parts.0, placed_low blocks items parts.1)
 
 -- A gathered batch.
 

@@ -1,5 +1,5 @@
 -- What a purge gathers from the tables, to write it to the Rewrite queue again.
-use Rattle.std.specs.Prelude.{◌≡◌, ℕ, false, List, [], ◌∷◌, Option, Some, None}
+use Rattle.std.specs.Prelude.{◌≡◌, ℕ, false, List, [], ◌∷◌, map, Option, Some, None}
 use Rattle.std.specs.List.{AllByRecursion as Each}
 use Rattle.raft_base.specs.declared.pipe_log.FileId.{FileId}
 use Rattle.raft_records.specs.Item.{Entries, Clean, Compact, Put, Delete}
@@ -44,3 +44,8 @@ pub record IsGathered (watermark : Option ℕ) (owed : Owed) (t : Tables) (items
   pub each : Each (λ item. ((owed item.group).cleaned ≡ false)
       × IsFetchedContent watermark t item.group item.content) items
   pub apart : AreSetApart items
+
+-- the values of a group as items
+abbrev pub value_items : ℕ → List (List ℕ × List ℕ) → List PlacedItem
+value_items group pairs =
+    map (λ p. record { group = group; content = Plain (Put p.0 p.1) }) pairs

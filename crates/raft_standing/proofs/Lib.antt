@@ -10,4 +10,5 @@ pub mod NotedLemmas
 pub mod ReplayedLemmas
 pub mod OpeningLemmas
 pub mod WholeLemmas
+pub mod ReadLemmas
 pub mod QueueLemmas

@@ -13,18 +13,22 @@ ghost use Rattle.raft_recovery.specs.Consecutive.{HaveConsecutiveEntries};
 ghost use Rattle.raft_recovery.specs.Recovered.{effect, items_of};
 ghost use Rattle.raft_recovery.specs.Stands.{Queues, synced_queues};
 ghost use Rattle.raft_tables.specs.Owed.{Owed, owed_noted};
+ghost use Rattle.raft_tables.specs.Rewritten.{PlacedBatch, are_placed_in_order, batches_in};
 ghost use Rattle.raft_tables.specs.Tables.{Tables, contents_in, or_empty, tables_after};
 ghost use Rattle.raft_standing.specs.ForQueues.{StandForQueues};
 ghost use Rattle.raft_standing.specs.Standing.{TablesStandFor};
 
 /// Tables that stand for what an opening read of both queues stand for them, all of which it synced
-/// (`opened`).
+/// (`opened`). What it read in order of the Rewrite queue has no greatest index (`below`).
 pub fn an_opening_gives_tables_that_stand_for_the_queues()
     ensures opened { (blocks : Blocks) (rewritten : List Batch) (numbered : List FileBatch)
         (owed : Owed) (t : Tables) → HaveConsecutiveEntries (batches_of numbered)
         → HaveConsecutiveEntries rewritten → AreItemsBelow (2 ^ 64 - 1) (items_of rewritten)
         → TablesStandFor blocks (effect rewritten) numbered owed t
         → StandForQueues blocks numbered owed t (synced_queues rewritten (batches_of numbered)) }
+    ensures below { (blocks : Blocks) (batches : List PlacedBatch)
+        → are_placed_in_order batches ≡ true
+        → AreItemsBelow (2 ^ 64 - 1) (items_of (batches_in blocks batches)) }
 {}
 
 /// What is done to the Append queue keeps the tables and the marks standing: a valid batch that is

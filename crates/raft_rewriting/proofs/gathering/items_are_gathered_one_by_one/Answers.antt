@@ -1,4 +1,5 @@
 use Rattle.raft_rewriting.proofs.GatherLemmas.{gathered_more}
+use Rattle.raft_rewriting.proofs.ValueLemmas.{values_gathered}
 use Rattle.raft_rewriting.proofs.gathering.items_are_gathered_one_by_one.Goals as goal
 
 pub returns-clause-none : goal.returns-clause-none
@@ -12,3 +13,6 @@ returns-clause-other_group c = λ item other no same key. no same
 
 pub returns-clause-other_key : goal.returns-clause-other_key
 returns-clause-other_key c = λ item other no same key. no key
+
+pub returns-clause-values : goal.returns-clause-values
+returns-clause-values c = values_gathered
