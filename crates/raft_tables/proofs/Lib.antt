@@ -19,3 +19,4 @@ pub mod RewrittenLemmas
 pub mod OwedLemmas
 pub mod FirstFileLemmas
 pub mod WrittenLemmas
+pub mod GroupIdsLemmas

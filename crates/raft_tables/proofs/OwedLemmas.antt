@@ -1,5 +1,5 @@
 -- Marks that are noted.
-use Rattle.std.proofs.Common.{◌≡◌, ℕ, ◌+◌, ◌==◌, ◌&&◌, ◌||◌, nat_lt, length, Bool, true, false, cond, List, [], ◌∷◌, Option, Some, None, Vec, is_some, unwrap_or, refl, sym, ◌∙◌, ap, arith}
+use Rattle.std.proofs.Common.{◌≡◌, ℕ, ◌+◌, ◌⊎◌, inl, inr, ◌==◌, ◌&&◌, ◌||◌, nat_lt, length, Bool, true, false, cond, List, [], ◌∷◌, Option, Some, None, Vec, is_some, unwrap_or, refl, sym, ◌∙◌, ap, arith}
 use Rattle.std.proofs.lemmas.Bool.{cases_Bool, cond-true, cond-false}
 use Rattle.std.proofs.lemmas.Grind.{common_steps}
 use Rattle.std.proofs.lemmas.Map.Text.{is_eq-slice_cmp}
@@ -18,9 +18,14 @@ use Rattle.std.specs.declared.cmp.Ordering.{Ordering}
 use Rattle.std.specs.declared.cmp.Ordering.TheVariants.{Less, Equal, Greater}
 use Rattle.raft_records.specs.declared.entry_index.EntryPlace.{EntryPlace}
 use Rattle.raft_records.specs.Item.{Content, Entries, Clean, Compact, Put, Delete}
+use Rattle.raft_records.specs.LogItem.{command_of, key_value_of, placed_content_of}
 use Rattle.raft_records.specs.PlacedItem.{EntriesAt, Plain}
+use Rattle.raft_records.specs.declared.log_item.Command.{Command}
+use Rattle.raft_records.specs.declared.log_item.KeyValue.{KeyValue}
+use Rattle.raft_records.specs.declared.log_item.LogItemContent.{LogItemContent}
+use Rattle.raft_records.specs.declared.log_item.LogItemContent.TheVariants.{Command as TheCommand, Kv}
 use Rattle.raft_records.specs.Validity.{are_in_order}
-use Rattle.raft_tables.specs.Owed.{Marks, Owed, clean_marks, marks_after, marks_noted, with_compaction, with_delete, with_marks}
+use Rattle.raft_tables.specs.Owed.{Marks, Owed, clean_marks, marks_after, marks_noted, no_marks, with_compaction, with_delete, with_marks}
 use Rattle.raft_tables.specs.OwedMarks.{is_key_of, leave_hole}
 use Rattle.raft_tables.specs.Span.{span_of}
 
@@ -173,3 +178,38 @@ plain_noted Clean es m = refl
 plain_noted (Compact index) es m = refl
 plain_noted (Put key value) es m = refl
 plain_noted (Delete key) es m = refl
+
+pub not_entries : {X : Type 0} (c : LogItemContent) (es : List (ℕ × X)) (m : Marks) → ((x : Command) × (c ≡ TheCommand x)) ⊎ ((x : KeyValue) × (c ≡ Kv x)) → marks_noted (placed_content_of c) m ≡ marks_after (placed_content_of c) es m
+not_entries c es m (inl (x, is)) = ap (λ d. marks_noted (placed_content_of d) m) is ∙ plain_noted (command_of x) es m ∙ sym (ap (λ d. marks_after (placed_content_of d) es m) is)
+not_entries c es m (inr (x, is)) = ap (λ d. marks_noted (placed_content_of d) m) is ∙ plain_noted (key_value_of x) es m ∙ sym (ap (λ d. marks_after (placed_content_of d) es m) is)
+
+-- nothing is owed
+
+none_in : (s : Groups) (group : ℕ) → set.btree_set_len s ≡ 0 → set.contains nat_cmp s group ≡ false
+none_in s group none = at (set.keys s) none
+  where
+    at : (ks : List ℕ) → length ks ≡ 0 → list_any (λ k. is_eq (nat_cmp group k)) ks ≡ false
+    at [] short = refl
+    at (k ∷ ks) short = absurd (omega arith)
+
+empty_set : (s : Groups) → ((group : ℕ) → set.contains nat_cmp s group ≡ false) → set.btree_set_len s ≡ 0
+empty_set s none = at (set.keys s) none
+  where
+    here : (k : ℕ) → is_eq (nat_cmp k k) ≡ true
+    here k = grind (arith, common_steps)
+
+    at : (ks : List ℕ) → ((group : ℕ) → list_any (λ k. is_eq (nat_cmp group k)) ks ≡ false) → length ks ≡ 0
+    at [] absent = refl
+    at (k ∷ ks) absent = absurd (let clash : true ≡ false = sym (ap (λ b. b || list_any (λ x. is_eq (nat_cmp k x)) ks) (here k)) ∙ absent k in cc)
+
+pub nothing_owed : (cleaned compacted : Groups) (deleted : Deleted) → set.btree_set_len cleaned ≡ 0 → set.btree_set_len compacted ≡ 0 → ((group : ℕ) (key : List ℕ) → (in_sets cleaned compacted deleted group).deleted key ≡ false)
+    → (group : ℕ) → in_sets cleaned compacted deleted group ≡ no_marks
+nothing_owed cleaned compacted deleted first second third group = λ i. record { cleaned = none_in cleaned group first i; compacted = none_in compacted group second i; deleted = λ key. third group key i }
+
+pub owes_nothing : (cleaned compacted : Groups) (deleted : Deleted) → ((group : ℕ) → in_sets cleaned compacted deleted group ≡ no_marks)
+    → (set.btree_set_len cleaned ≡ 0) × (set.btree_set_len compacted ≡ 0) × ((group : ℕ) (key : List ℕ) → (in_sets cleaned compacted deleted group).deleted key ≡ false)
+owes_nothing cleaned compacted deleted none = (
+  empty_set cleaned (λ group. ap (λ (m : Marks). m.cleaned) (none group)),
+  empty_set compacted (λ group. ap (λ (m : Marks). m.compacted) (none group)),
+  λ group key. ap (λ (m : Marks). m.deleted key) (none group),
+)

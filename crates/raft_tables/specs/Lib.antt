@@ -14,6 +14,7 @@ pub mod Owed
 pub mod OwedMarks
 pub mod WrittenMarks
 pub mod GroupIds
+pub mod GroupsMet
 pub mod FirstFile
 pub mod FirstFiles
 pub mod MovedEntries
