@@ -1,12 +1,11 @@
 -- Items that were gathered, in the Rewrite queue's contents: each changes nothing of what is recovered.
-use Rattle.std.proofs.Common.{◌≡◌, ℕ, ◌+◌, ◌<◌, ◌==◌, ◌&&◌, ◌⊎◌, Bool, true, false, cond, List, [], ◌∷◌, ◌++◌, append-nil, map, Option, Some, None, refl, sym, ◌∙◌, ap, subst}
+use Rattle.std.proofs.Common.{◌≡◌, ℕ, ◌<◌, ◌==◌, ◌&&◌, ◌⊎◌, Bool, true, false, cond, List, [], ◌∷◌, ◌++◌, map, Option, Some, None, refl, sym, ◌∙◌, ap, subst}
 use Rattle.std.specs.List.{All, Contains, AllByRecursion as Each, list_all}
 use Rattle.std.specs.Option.{option_map}
 use Rattle.std.specs.Str.{bytes_eq}
 use Rattle.std.specs.Cmp.Lexicographic.{bytes_decides}
 use Rattle.std.proofs.lemmas.List.{map-append}
-use Rattle.raft_records.specs.Contents.{Contents, after_batch, after_item, is_next_to, with_entries, with_value}
-use Rattle.raft_records.specs.declared.entry_index.EntryPlace.{EntryPlace}
+use Rattle.raft_records.specs.Contents.{Contents, after_item, is_next_to, with_entries, with_value}
 use Rattle.raft_records.specs.FileBatches.{FileBatch, batches_of}
 use Rattle.raft_records.specs.Item.{Batch, Content, Entry, Entries, Clean, Compact, Put, Delete, Item, group_mark_key}
 use Rattle.raft_records.specs.PlacedItem.{EntriesAt, Plain, PlacedContent, PlacedItem, content_in, item_in}
@@ -21,12 +20,12 @@ use Rattle.raft_recovery.proofs.MarkLemmas.{put_changes_nothing}
 use Rattle.raft_recovery.proofs.UnchangedLemmas.{rewriting_changes_nothing}
 use Rattle.raft_tables.specs.Owed.{Owed}
 use Rattle.raft_tables.specs.Table.{StoredValue}
-use Rattle.raft_tables.specs.Tables.{Tables, contents_in, or_empty}
+use Rattle.raft_tables.specs.Tables.{Tables, or_empty}
 use Rattle.raft_standing.specs.Standing.{EntryStands, TablesStandFor, ends_leave}
 use Rattle.raft_standing.proofs.KeyLemmas.{eq_from_test}
-use Rattle.raft_rewriting.specs.Gathering.{AreSetApart, IsFetchedContent, SetApart, key_set_by}
+use Rattle.raft_rewriting.specs.Gathering.{AreSetApart, IsFetchedContent, SetApart}
 use Rattle.raft_rewriting.proofs.MatchLemmas.{fetched_item, key_set, set_key}
-use Rattle.raft_rewriting.proofs.PartsLemmas.{front_run, item_run, rest_run}
+use Rattle.raft_rewriting.proofs.PartsLemmas.{front_run, rest_run}
 use Rattle.raft_rewriting.proofs.RewrittenLemmas.{part_fits}
 
 -- a change of a group that may be appended to the Rewrite queue
@@ -42,8 +41,11 @@ Fits x a g (Delete key) = ⊥
 pub fits_of : (blocks : Blocks) (x : Contents) (appended : List FileBatch) (owed : Owed) (t : Tables) (w : Option ℕ) (g : ℕ) (c : PlacedContent) → HasConsecutiveEntries x → HaveConsecutiveEntries (batches_of appended) → TablesStandFor blocks x appended owed t
     → IsFetchedContent w t g c → Fits x (batches_of appended) g (content_in blocks c)
 fits_of blocks x appended owed t w g (EntriesAt []) run_x run stands from = absurd from
-fits_of blocks x appended owed t w g (EntriesAt (e ∷ es)) run_x run stands from = (new_run, part_fits blocks x appended (owed g) g from.pre e es from.post (run_x g) run_parts (now ∙ ap (entries_in blocks) from.parts)
-    (subst (Each (EntryStands blocks (ends_leave appended g) (owed g) (x.entries g))) from.parts (stands.entries g).each) from.first from.rest)
+fits_of blocks x appended owed t w g (EntriesAt (e ∷ es)) run_x run stands from = (
+  new_run,
+  part_fits blocks x appended (owed g) g from.pre e es from.post (run_x g) run_parts (now ∙ ap (entries_in blocks) from.parts)
+      (subst (Each (EntryStands blocks (ends_leave appended g) (owed g) (x.entries g))) from.parts (stands.entries g).each) from.first from.rest,
+)
   where
     now : (replay x (batches_of appended)).entries g ≡ entries_in blocks (or_empty (t g)).entries
     now = sym (ap (λ (m : Contents). m.entries g) stands.contents)
@@ -82,12 +84,15 @@ fits_run x a g (Delete key) fits = absurd fits
 -- .. and of other contents, of which the same is recovered, with the same entries where it sets entries
 fits_still : (x y : Contents) (a : List Batch) (g : ℕ) (c : Content) → replay y a ≡ replay x a → (set_key c ≡ None → y.entries g ≡ x.entries g) → Fits x a g c → Fits y a g c
 fits_still x y a g (Entries []) same entries fits = fits
-fits_still x y a g (Entries (e ∷ es)) same entries fits = (fits.0, record {
-  held = subst (λ (m : Contents). All (λ n. leaves a g n.0 ≡ true → Contains (m.entries g) n) (e ∷ es)) (sym same) fits.1.held;
-  covers = subst (λ (m : Contents). All (λ o. leaves a g o.0 ≡ true → (o.0 < e.0) ⊎ Contains (e ∷ es) o) (m.entries g)) (sym same) fits.1.covers;
-  touches = subst (λ (h : List Entry). All (λ o. leaves a g o.0 ≡ true → o.0 < e.0 → is_next_to h e.0 ≡ true) ((replay y a).entries g)) (sym (entries refl))
-      (subst (λ (m : Contents). All (λ o. leaves a g o.0 ≡ true → o.0 < e.0 → is_next_to (x.entries g) e.0 ≡ true) (m.entries g)) (sym same) fits.1.touches);
-})
+fits_still x y a g (Entries (e ∷ es)) same entries fits = (
+  fits.0,
+  record {
+    held = subst (λ (m : Contents). All (λ n. leaves a g n.0 ≡ true → Contains (m.entries g) n) (e ∷ es)) (sym same) fits.1.held;
+    covers = subst (λ (m : Contents). All (λ o. leaves a g o.0 ≡ true → (o.0 < e.0) ⊎ Contains (e ∷ es) o) (m.entries g)) (sym same) fits.1.covers;
+    touches = subst (λ (h : List Entry). All (λ o. leaves a g o.0 ≡ true → o.0 < e.0 → is_next_to h e.0 ≡ true) ((replay y a).entries g)) (sym (entries refl))
+        (subst (λ (m : Contents). All (λ o. leaves a g o.0 ≡ true → o.0 < e.0 → is_next_to (x.entries g) e.0 ≡ true) (m.entries g)) (sym same) fits.1.touches);
+  },
+)
 fits_still x y a g Clean same entries fits = fits
 fits_still x y a g (Compact index) same entries fits = fits
 fits_still x y a g (Put key value) same entries fits = λ left. ap (λ (m : Contents). m.value g key) same ∙ fits left
@@ -109,9 +114,6 @@ entries_stay x a g (Put key value) h fits apart = at (bytes_eq key group_mark_ke
     at true = refl
     at false = refl
 entries_stay x a g (Delete key) h fits apart = absurd fits
-
-
-
 
 abbrev pub apart_items : Item → Item → Type 0
 apart_items i j = i.group ≡ j.group → set_key i.content ≡ set_key j.content → ⊥

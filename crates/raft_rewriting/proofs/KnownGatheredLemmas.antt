@@ -1,14 +1,12 @@
 -- What was gathered is of groups that the tables know.
-use Rattle.std.proofs.Common.{◌≡◌, ℕ, ◌==◌, ◌⊎◌, inl, inr, ⊎_elim, Bool, true, false, cond, List, [], ◌∷◌, ◌++◌, append-nil, append_assoc, fold, map, Option, Some, None, refl, sym, ◌∙◌, ap, subst, is_some}
+use Rattle.std.proofs.Common.{◌≡◌, ℕ, ◌==◌, ◌⊎◌, inl, inr, ⊎_elim, Bool, true, false, cond, List, [], ◌∷◌, ◌++◌, append-nil, append_assoc, fold, map, Option, Some, None, refl, sym, ◌∙◌, ap, is_some}
 use Rattle.std.specs.List.{AllByRecursion as Each, flat_map}
-use Rattle.std.specs.Option.{option_map}
 use Rattle.std.proofs.lemmas.List.Sums.{fold-append}
-use Rattle.raft_base.specs.declared.pipe_log.FileId.{FileId}
 use Rattle.raft_records.specs.declared.entry_index.EntryPlace.{EntryPlace}
-use Rattle.raft_records.specs.Item.{Batch, Content, Entries, Clean, Compact, Put, Delete, Item}
+use Rattle.raft_records.specs.Item.{Batch, Entries, Clean, Compact, Put, Delete, Item}
 use Rattle.raft_records.specs.PlacedItem.{EntriesAt, Plain, PlacedContent, PlacedItem, item_in}
-use Rattle.raft_records.specs.Places.{Blocks, entries_in}
-use Rattle.raft_records.specs.Record.Mark.{Begin, Middle, End}
+use Rattle.raft_records.specs.Places.{Blocks}
+use Rattle.raft_records.specs.Record.Mark.{Middle, End}
 use Rattle.raft_recovery.specs.Groups.{mark_of, whole}
 use Rattle.raft_recovery.specs.Ids.{EndsInGroup}
 use Rattle.raft_recovery.proofs.GroupLemmas.{whole-complete_group, whole-open_group, whole-unmarked}
@@ -19,7 +17,6 @@ use Rattle.raft_tables.specs.Tables.{Tables, or_empty}
 use Rattle.raft_standing.proofs.KeyLemmas.{eq_from_test}
 use Rattle.raft_rewriting.specs.AtomicGroup.{bodies_in, ended_group, last_body, marked, next_mark, open_group, set_by_parts}
 use Rattle.raft_rewriting.specs.Gathering.{IsFetchedContent, IsGathered}
-use Rattle.raft_rewriting.specs.Rewriting.{IsFetched, MayMoveKey, entries_item}
 use Rattle.raft_rewriting.proofs.GroupIdLemmas.{ended_complete, ended_of_group, more_is, open_incomplete, open_of_group}
 use Rattle.raft_rewriting.proofs.MatchLemmas.{fetched_item, no_cons}
 
@@ -112,6 +109,6 @@ ended_known blocks owed t id group parts part values batches g e some gathered i
     let there = fetched_known None t group (EntriesAt (flat_map (λ p. p) parts ++ part)) gathered.each.0.1 in
     let each = both_each (Each (KnowsNoOther t)) (open_group id bodies) (marked id End last ∷ []) (open_batches blocks t id group parts there) ((inl (λ k. refl), (inr there, gathered_items blocks None owed t values gathered.each.1)), tt) in
     let whole_is : whole (batches ++ marked id End last ∷ []) ≡ whole e.old ++ ended_group id bodies last =
-        ap whole (ap (λ bs. bs ++ marked id End last ∷ []) e.is ∙ append_assoc e.old (open_group id bodies) (marked id End last ∷ [])) ∙ whole-complete_group id e.old (ended_group id bodies last) e.apart (ended_of_group id bodies last) (ended_complete id bodies last (some_parts blocks group parts some)) in
+    ap whole (ap (λ bs. bs ++ marked id End last ∷ []) e.is ∙ append_assoc e.old (open_group id bodies) (marked id End last ∷ [])) ∙ whole-complete_group id e.old (ended_group id bodies last) e.apart (ended_of_group id bodies last) (ended_complete id bodies last (some_parts blocks group parts some)) in
     let now = sym (ap (λ (bs : List Batch). known_in bs g) whole_is ∙ fold-append (known_after g) false (whole e.old) (ended_group id bodies last)) ∙ is in
     ⊎_elim (λ old. inl (ap (λ (bs : List Batch). known_in bs g) (whole_open id bodies batches e) ∙ old)) inr (known_batches t g (known_in (whole e.old) g) (ended_group id bodies last) each now)

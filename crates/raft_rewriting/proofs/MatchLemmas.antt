@@ -1,21 +1,17 @@
 -- Items that stand for the same at other places, and items that set different things.
-use Rattle.std.proofs.Common.{◌≡◌, ℕ, ◌==◌, ◌&&◌, not, nat_le, Bool, true, false, cond, List, [], ◌∷◌, ◌++◌, map, fold, Option, Some, None, refl, sym, ◌∙◌, ap, subst, arith}
+use Rattle.std.proofs.Common.{◌≡◌, ℕ, ◌==◌, ◌&&◌, Bool, true, false, cond, List, [], ◌∷◌, map, Option, Some, None, refl, sym, ◌∙◌, ap, subst, arith}
 use Rattle.std.specs.List.{list_all, AllByRecursion as Each}
 use Rattle.std.specs.Option.{option_map}
-use Rattle.std.specs.Prelude.{unwrap_or}
 use Rattle.std.specs.Str.{bytes_eq}
 use Rattle.std.specs.Cmp.Lexicographic.{bytes_decides}
 use Rattle.std.proofs.lemmas.Bool.{and_parts, false≢true}
-use Rattle.raft_base.specs.declared.pipe_log.FileBlockHandle.{FileBlockHandle}
 use Rattle.raft_base.specs.declared.pipe_log.FileId.{FileId}
-use Rattle.raft_base.specs.declared.pipe_log.LogQueue.{LogQueue}
-use Rattle.raft_base.specs.declared.pipe_log.LogQueue.TheVariants.{Append, Rewrite}
 use Rattle.raft_records.specs.declared.entry_index.EntryPlace.{EntryPlace}
 use Rattle.raft_records.specs.Item.{Content, Entry, Entries, Clean, Compact, Put, Delete, Item, group_mark_key}
 use Rattle.raft_records.specs.PlacedItem.{PlacedContent, EntriesAt, Plain, PlacedItem, are_all_placed, content_in, is_placed_in_order, item_in}
 use Rattle.raft_records.specs.Places.{Blocks, entry_in, entries_in}
-use Rattle.raft_tables.specs.Counters.{is_rewrite, is_rewritten}
-use Rattle.raft_tables.specs.MovedEntries.{may_move, may_move_from}
+use Rattle.raft_tables.specs.Counters.{is_rewritten}
+use Rattle.raft_tables.specs.MovedEntries.{may_move_from}
 use Rattle.raft_tables.specs.Moving.{table_moved, tables_moved, tables_moved_by, value_moved}
 use Rattle.raft_tables.specs.Owed.{Owed}
 use Rattle.raft_tables.specs.Table.{TableView, with_key}
@@ -103,17 +99,20 @@ all_given (i ∷ items) order =
 -- entries with the same bytes as those that were fetched are a part
 pub part_again : (w : Option ℕ) (blocks : Blocks) (t : Tables) (g : ℕ) (e : ℕ × EntryPlace) (es : List (ℕ × EntryPlace)) (n : ℕ × EntryPlace) (ns : List (ℕ × EntryPlace)) → IsFetched w (or_empty (t g)).entries (e ∷ es) → entries_in blocks (n ∷ ns) ≡ entries_in blocks (e ∷ es) → are_rewritten (n ∷ ns) ≡ true
     → (part : ArePart w blocks (or_empty (t g)).entries (n ∷ ns)) × (w ≡ None → part.pre ≡ [])
-part_again w blocks t g e es n ns from same placed = (record {
-  pre = from.pre;
-  mid = e ∷ es;
-  post = from.post;
-  parts = from.parts;
-  first = from.first;
-  rest = from.rest;
-  places = gets w blocks (e ∷ es) (n ∷ ns) same from.moves;
-  bytes = same;
-  written = placed;
-}, from.whole)
+part_again w blocks t g e es n ns from same placed = (
+  record {
+    pre = from.pre;
+    mid = e ∷ es;
+    post = from.post;
+    parts = from.parts;
+    first = from.first;
+    rest = from.rest;
+    places = gets w blocks (e ∷ es) (n ∷ ns) same from.moves;
+    bytes = same;
+    written = placed;
+  },
+  from.whole,
+)
 
 entries_again : (w : Option ℕ) (blocks : Blocks) (t : Tables) (g : ℕ) (e : ℕ × EntryPlace) (es : List (ℕ × EntryPlace)) (c : PlacedContent) → IsFetched w (or_empty (t g)).entries (e ∷ es) → content_in blocks c ≡ Entries (entries_in blocks (e ∷ es)) → is_given c ≡ true → are_all_placed is_rewritten c ≡ true → MayWriteAgain w blocks t g c
 entries_again w blocks t g e es (EntriesAt []) from same order placed = absurd (no_cons (entry_in blocks e) (entries_in blocks es) (ap set_entries same))
@@ -262,8 +261,9 @@ may_all w id blocks owed t (i ∷ items) (n ∷ news) each apart same order plac
     let places = and_parts (are_all_placed is_rewritten n.content) (list_all (λ item. are_all_placed is_rewritten item.content) news) placed in
     let one = head_same (item_in blocks n) (item_in blocks i) (map (item_in blocks) news) (map (item_in blocks) items) same in
     let group : n.group ≡ i.group = ap (λ (x : Item). x.group) one in
-    let content : content_in blocks n.content ≡ content_in blocks i.content = ap (λ (x : Item). x.content) one in
-    (ap (λ (g : ℕ). (owed g).cleaned) group ∙ each.0.0,
+    let content : content_in blocks n.content ≡ content_in blocks i.content = ap (λ (x : Item). x.content) one in (
+      ap (λ (g : ℕ). (owed g).cleaned) group ∙ each.0.0,
       subst (λ (g : ℕ). MayWriteAgain w blocks t g n.content) (sym group) (may_again w blocks t i.group i.content n.content each.0.1 content orders.0 places.0),
       may_all w id blocks owed (tables_moved_by w id t n) items news (each_still w id owed t n items (apart_too blocks n i items one apart.0) each.1) apart.1
-      (tail_same (item_in blocks n) (item_in blocks i) (map (item_in blocks) news) (map (item_in blocks) items) same) orders.1 places.1)
+          (tail_same (item_in blocks n) (item_in blocks i) (map (item_in blocks) news) (map (item_in blocks) items) same) orders.1 places.1,
+    )

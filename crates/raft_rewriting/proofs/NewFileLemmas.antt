@@ -1,5 +1,5 @@
 -- New files of the Rewrite queue hold what is placed there, and old ones may go.
-use Rattle.std.proofs.Common.{◌≡◌, ℕ, ◌+◌, ◌<◌, ◌≤◌, ◌&&◌, ◌⊎◌, inl, inr, ⊎_elim, Bool, true, false, eqb, List, [], ◌∷◌, ◌++◌, append-nil, append_assoc, map, Option, Some, None, refl, sym, ◌∙◌, ap, subst, arith}
+use Rattle.std.proofs.Common.{◌≡◌, ℕ, ◌<◌, ◌≤◌, ◌&&◌, inl, inr, ⊎_elim, true, false, eqb, List, [], ◌∷◌, ◌++◌, append-nil, append_assoc, map, Option, Some, None, refl, sym, ◌∙◌, ap, subst, arith}
 use Rattle.std.specs.List.{Contains, AllByRecursion as Each, flat_map, list_all}
 use Rattle.std.specs.Prelude.{◌^◌, ◌-◌, nat_lt}
 use Rattle.std.proofs.lemmas.Bool.{and_parts, cases_Bool, false≢true}
@@ -7,10 +7,10 @@ use Rattle.std.proofs.lemmas.Bool.Decides.{nat_tests}
 use Rattle.std.proofs.lemmas.List.Elements.{Contains-append_right}
 use Rattle.raft_base.specs.declared.pipe_log.FileBlockHandle.{FileBlockHandle}
 use Rattle.raft_base.specs.declared.pipe_log.FileId.{FileId}
-use Rattle.raft_records.specs.Contents.{Contents, after_batch, after_batches, after_item, no_contents}
+use Rattle.raft_records.specs.Contents.{Contents, after_batch, after_item}
 use Rattle.raft_records.specs.declared.entry_index.EntryPlace.{EntryPlace}
 use Rattle.raft_records.specs.FileBatches.{FileBatch, batches_of}
-use Rattle.raft_records.specs.Item.{Batch, Content, Entries, Entry, Clean, Compact, Put, Delete, Item}
+use Rattle.raft_records.specs.Item.{Batch, Entries, Entry, Clean, Compact, Put, Delete, Item}
 use Rattle.raft_records.specs.PlacedItem.{EntriesAt, Plain, PlacedContent, PlacedItem, are_all_placed, content_in, is_placed_in_order, item_in}
 use Rattle.raft_records.specs.Places.{Blocks, entry_in, entries_in}
 use Rattle.raft_records.specs.Record.Mark.{End}
@@ -161,14 +161,16 @@ pub new_opened : (blocks : Blocks) (t : Tables) (q : Queues) (first bound id : �
     let next = record q { rewritten_since = q.rewritten_since ++ batch ∷ [] } in
     HasNewFiles blocks first bound old (new ++ batch ∷ []) t next × EndsInGroup id (open_group id (bodies ++ body ∷ [])) (new ++ batch ∷ [])
 new_opened blocks t q first bound id old new bodies body h high e =
-    let batch = marked id (next_mark bodies) body in
-    (record {
-      batches = more_batches q old new batch h.batches;
-      together = h.together;
-      old_ids = h.old_ids;
-      new_ids = λ other low. both_without other new (batch ∷ []) (h.new_ids other low) (marked_ids bound id other (next_mark bodies) body high low);
-      holds = subst (λ (y : Contents). HoldsFrom blocks first y t) (sym (after_open new id bodies body e)) h.holds;
-    }, ends_more id bodies new body e)
+    let batch = marked id (next_mark bodies) body in (
+      record {
+        batches = more_batches q old new batch h.batches;
+        together = h.together;
+        old_ids = h.old_ids;
+        new_ids = λ other low. both_without other new (batch ∷ []) (h.new_ids other low) (marked_ids bound id other (next_mark bodies) body high low);
+        holds = subst (λ (y : Contents). HoldsFrom blocks first y t) (sym (after_open new id bodies body e)) h.holds;
+      },
+      ends_more id bodies new body e,
+    )
 
 -- an end of the Rewrite queue's batches is one of them too
 pub new_run : (blocks : Blocks) (numbered : List FileBatch) (owed : Owed) (t : Tables) (q : Queues) (old new : List Batch) → StandForQueues blocks numbered owed t q → rewrites q ≡ old ++ new → HaveConsecutiveEntries old × HaveConsecutiveEntries new
@@ -201,7 +203,7 @@ new_ended blocks numbered owed t q first bound id group seq old new parts part v
     let run : HasConsecutiveEntries (effect new) = effect_consecutive new (new_run blocks numbered owed t q old new s h.batches).1 in
     let held = hold_all blocks first owed (effect new) t seq items one gathered.each (all_runs t items (tables_run blocks numbered owed t q s)) gathered.apart one_same given at h.holds in
     let is : effect (new ++ batch ∷ []) ≡ after_batch (effect new) (map (item_in blocks) one) =
-        after_ended new id bodies last e (some_bodies blocks group parts some) ∙ set_at_once blocks id group (effect new) parts part values run some of.all_run ∙ ap (after_batch (effect new)) (sym one_same) in
+    after_ended new id bodies last e (some_bodies blocks group parts some) ∙ set_at_once blocks id group (effect new) parts part values run some of.all_run ∙ ap (after_batch (effect new)) (sym one_same) in
     record {
       batches = more_batches q old new batch h.batches;
       together = h.together;

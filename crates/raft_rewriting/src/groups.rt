@@ -60,8 +60,10 @@ pub fn an_atomic_group_may_be_written()
         → list_all (λ item. are_all_placed is_rewritten item.content) news ≡ true
         → StandForQueues blocks numbered owed
         (tables_moved None (record { queue = Rewrite; seq = seq }) t news)
-        (record q { rewritten_since = q.rewritten_since
-        ++ marked id End (last_body blocks group part values) ∷ [] }) }
+        (record q {
+          rewritten_since = q.rewritten_since
+              ++ marked id End (last_body blocks group part values) ∷ [];
+        }) }
 {}
 
 /// Which ids the Rewrite queue has, and that the batches of each atomic group stand together in it:

@@ -61,8 +61,10 @@ pub fn new_files_hold_what_was_written()
         → HasNewFiles blocks first bound old
         (new ++ marked id End (last_body blocks group part values) ∷ [])
         (tables_moved None (record { queue = Rewrite; seq = seq }) t news)
-        (record q { rewritten_since = q.rewritten_since
-        ++ marked id End (last_body blocks group part values) ∷ [] }) }
+        (record q {
+          rewritten_since = q.rewritten_since
+              ++ marked id End (last_body blocks group part values) ∷ [];
+        }) }
 {}
 
 /// Old files of the Rewrite queue in which nothing stands may be dropped where the new ones hold what

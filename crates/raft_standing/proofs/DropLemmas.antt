@@ -1,6 +1,6 @@
 -- A front of the Append queue that may be dropped.
-use Rattle.std.proofs.Common.{◌≡◌, ℕ, ◌+◌, ◌<◌, ◌≤◌, ◌&&◌, ◌⊎◌, inl, inr, Bool, true, false, eqb, List, [], ◌∷◌, ◌++◌, length, Option, Some, None, suc, refl, sym, ◌∙◌, ap, subst, ⊎_elim, arith}
-use Rattle.std.specs.List.{All, Contains, AllByRecursion as Each, list_all}
+use Rattle.std.proofs.Common.{◌≡◌, ℕ, ◌+◌, ◌<◌, ◌≤◌, ◌&&◌, Bool, true, false, eqb, List, [], ◌∷◌, ◌++◌, length, Option, Some, None, suc, refl, sym, ◌∙◌, ap, subst, ⊎_elim, arith}
+use Rattle.std.specs.List.{All, Contains, AllByRecursion as Each}
 use Rattle.std.specs.Option.{option_map}
 use Rattle.std.specs.Prelude.{unwrap_or}
 use Rattle.std.proofs.lemmas.Bool.{and_parts, cases_Bool, false≢true}
@@ -20,12 +20,11 @@ use Rattle.raft_recovery.proofs.ContentsLemmas.{effect_consecutive, replay_conse
 use Rattle.raft_recovery.proofs.DropFrontLemmas.{recovered-without}
 use Rattle.raft_tables.specs.Counters.{is_rewrite, is_rewritten}
 use Rattle.raft_tables.specs.Tables.{Tables, contents_in, or_empty}
-use Rattle.raft_tables.specs.Owed.{Marks, Owed, no_marks}
+use Rattle.raft_tables.specs.Owed.{Marks, Owed}
 use Rattle.raft_records.specs.FileBatches.{FileBatch, batches_of, from_file}
 use Rattle.raft_standing.specs.Standing.{AreEntriesPlacedFrom, AreKeysPlacedFrom, EntryStands, GroupStands, HasNoneBefore, HasNoneBehind, IsEntryPlacedFrom, OwesNothing, PlacedEntryStands, StandsInBlock, TablesStandFor, are_rewritten, ends_leave, ends_leave_key}
-use Rattle.raft_recovery.proofs.EachLemmas.{all_of, each_contained, each_of, within}
+use Rattle.raft_recovery.proofs.EachLemmas.{all_of, each_contained, within}
 use Rattle.raft_standing.proofs.EndsLemmas.{from_from, pass-later}
-use Rattle.raft_standing.proofs.FitLemmas.{in_append_queue}
 use Rattle.raft_standing.proofs.GroupLemmas.{group_dropped}
 use Rattle.raft_standing.proofs.KeyLemmas.{front_dropped, held_without}
 

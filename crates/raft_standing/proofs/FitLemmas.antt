@@ -1,6 +1,6 @@
 -- What is rewritten from the Append queue fits the Rewrite queue.
-use Rattle.std.proofs.Common.{◌≡◌, ℕ, ◌+◌, ◌<◌, ◌≤◌, ◌⊎◌, inl, inr, Bool, true, false, List, [], ◌∷◌, ◌++◌, map, Option, Some, None, refl, sym, ◌∙◌, ap, subst, ⊎_elim, arith}
-use Rattle.std.specs.List.{All, Contains, AllByRecursion as Each, list_all}
+use Rattle.std.proofs.Common.{◌≡◌, ℕ, ◌<◌, ◌≤◌, ◌⊎◌, inl, Bool, true, false, List, [], ◌∷◌, ◌++◌, Option, Some, None, sym, ◌∙◌, ap, subst, ⊎_elim, arith}
+use Rattle.std.specs.List.{Contains, AllByRecursion as Each}
 use Rattle.std.specs.Option.{option_map}
 use Rattle.std.specs.Prelude.{unwrap_or, nat_lt}
 use Rattle.std.proofs.lemmas.Bool.{and_parts, cases_Bool, false≢true, leb-true}
@@ -14,16 +14,14 @@ use Rattle.raft_records.specs.declared.entry_index.EntryPlace.{EntryPlace}
 use Rattle.raft_records.specs.Item.{Entry}
 use Rattle.raft_records.specs.Contents.{Contents, is_next_to}
 use Rattle.raft_records.specs.Places.{Blocks, entry_in, entries_in}
-use Rattle.raft_records.specs.Validity.{are_consecutive_from}
 use Rattle.raft_recovery.specs.Consecutive.{are_consecutive}
 use Rattle.raft_recovery.specs.Recovered.{item_leaves, leaves, replay}
 use Rattle.raft_recovery.specs.Rewriting.{FitsRewrite}
-use Rattle.raft_recovery.proofs.AscendingLemmas.{Contains-head}
 use Rattle.raft_tables.specs.Counters.{is_rewrite, is_rewritten}
 use Rattle.raft_tables.specs.Owed.{Marks}
-use Rattle.raft_records.specs.FileBatches.{FileBatch, batches_of, from_file}
+use Rattle.raft_records.specs.FileBatches.{FileBatch, batches_of}
 use Rattle.raft_standing.specs.Standing.{EntryStands, PlacedEntryStands, StandsInBlock, are_rewritten, ends_leave}
-use Rattle.raft_recovery.proofs.EachLemmas.{all_of, each_contained, each_left, each_map, each_right, next_to, one_before, within}
+use Rattle.raft_recovery.proofs.EachLemmas.{all_of, each_contained, each_left, each_right, next_to, one_before, within}
 use Rattle.raft_standing.proofs.EndsLemmas.{from_none, pass-later}
 
 -- what an entry in the Rewrite queue is

@@ -1,6 +1,6 @@
 -- What is true of one group's entries, step by step.
-use Rattle.std.proofs.Common.{◌≡◌, ℕ, ◌+◌, ◌<◌, ◌≤◌, ◌&&◌, ◌⊎◌, inl, inr, Bool, true, false, cond, List, [], ◌∷◌, ◌++◌, length, map, filter, Option, Some, None, refl, sym, ◌∙◌, ap, subst, ⊎_elim, arith}
-use Rattle.std.specs.List.{All, Contains, AllByRecursion as Each, list_all}
+use Rattle.std.proofs.Common.{◌≡◌, ℕ, ◌+◌, ◌<◌, ◌≤◌, ◌&&◌, ◌⊎◌, Bool, true, false, cond, List, [], ◌∷◌, ◌++◌, length, filter, Option, Some, None, refl, sym, ◌∙◌, ap, subst, ⊎_elim, arith}
+use Rattle.std.specs.List.{Contains, AllByRecursion as Each}
 use Rattle.std.specs.Option.{option_map}
 use Rattle.std.specs.Prelude.{unwrap_or, nat_le, nat_lt}
 use Rattle.std.proofs.lemmas.Bool.{and_parts, cases_Bool, false≢true, leb-true, le-leb}
@@ -13,14 +13,14 @@ use Rattle.raft_records.specs.FileBatches.{IsInFile}
 use Rattle.raft_records.specs.declared.entry_index.EntryPlace.{EntryPlace}
 use Rattle.raft_records.specs.Item.{Entry}
 use Rattle.raft_records.specs.Contents.{entries_below, is_next_to, with_entries}
-use Rattle.raft_records.specs.Places.{Blocks, entry_in, entries_in}
+use Rattle.raft_records.specs.Places.{Blocks, entry_in}
 use Rattle.raft_records.specs.Validity.{are_consecutive_from}
 use Rattle.raft_recovery.proofs.AscendingLemmas.{Contains-filter, Contains-unfilter}
 use Rattle.raft_recovery.proofs.KeptLemmas.{filter_no, filter_yes, kept_none}
 use Rattle.raft_tables.specs.Counters.{is_rewrite, is_rewritten}
 use Rattle.raft_tables.specs.Owed.{Marks}
 use Rattle.raft_standing.specs.Standing.{AreInFileOrder, EntryStands, GroupStands, HasNoneBefore, HasNoneBehind, IsEntryPlacedFrom, PlacedEntryStands, StandsInBlock, are_rewritten, rank_in, rank_of}
-use Rattle.raft_recovery.proofs.EachLemmas.{consecutive_parts, each_append, each_contained, each_filter, each_left, each_map, each_of, each_right, within}
+use Rattle.raft_recovery.proofs.EachLemmas.{consecutive_parts, each_append, each_contained, each_filter, each_map, each_of, within}
 
 -- ranks
 

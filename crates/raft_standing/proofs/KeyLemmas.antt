@@ -9,12 +9,12 @@ use Rattle.std.proofs.lemmas.Grind.{common_steps}
 use Rattle.raft_base.specs.declared.pipe_log.FileId.{FileId}
 use Rattle.raft_base.specs.declared.pipe_log.LogQueue.TheVariants.{Append, Rewrite}
 use Rattle.raft_records.specs.declared.entry_index.EntryPlace.{EntryPlace}
-use Rattle.raft_records.specs.Item.{Content, Entries, Clean, Compact, Put, Delete, Item, group_mark_key}
+use Rattle.raft_records.specs.Item.{Entries, Clean, Compact, Put, Delete, group_mark_key}
 use Rattle.raft_records.specs.PlacedItem.{PlacedContent, EntriesAt, Plain, PlacedItem, content_in, item_in}
 use Rattle.raft_records.specs.Places.{Blocks}
 use Rattle.raft_records.specs.Validity.{are_in_order}
 use Rattle.raft_recovery.specs.Recovered.{content_leaves_key, item_leaves_key}
-use Rattle.raft_tables.specs.Table.{StoredValue, TableView, with_key}
+use Rattle.raft_tables.specs.Table.{StoredValue, TableView}
 use Rattle.raft_tables.specs.Tables.{Tables, or_empty, table_after, tables_after, tables_after_item}
 use Rattle.raft_tables.specs.MovedEntries.{may_move}
 use Rattle.raft_tables.specs.Moving.{table_moved, value_moved}

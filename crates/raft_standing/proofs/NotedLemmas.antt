@@ -1,8 +1,8 @@
 -- The marks of a valid batch are the same whatever the tables hold.
-use Rattle.std.proofs.Common.{◌≡◌, ℕ, ◌+◌, ◌≤◌, ◌==◌, ◌&&◌, ◌⊎◌, Bool, true, false, cond, List, [], ◌∷◌, length, map, Option, None, refl, sym, ◌∙◌, ap, subst, ⊎_elim, arith}
+use Rattle.std.proofs.Common.{◌≡◌, ℕ, ◌+◌, ◌≤◌, ◌&&◌, true, false, cond, List, [], ◌∷◌, length, map, None, refl, sym, ◌∙◌, ap, subst, ⊎_elim, arith}
 use Rattle.std.specs.List.{list_all}
 use Rattle.std.specs.Prelude.{nat_le, nat_lt}
-use Rattle.std.proofs.lemmas.Bool.{and_parts, false≢true, leb-true}
+use Rattle.std.proofs.lemmas.Bool.{and_parts, leb-true}
 use Rattle.std.proofs.lemmas.Bool.Decides.{nat_tests}
 use Rattle.raft_base.specs.declared.pipe_log.FileId.{FileId}
 use Rattle.raft_records.specs.declared.entry_index.EntryPlace.{EntryPlace}
@@ -10,7 +10,7 @@ use Rattle.raft_records.specs.Contents.{is_next_to}
 use Rattle.raft_records.specs.Item.{Entry, Entries, Clean, Compact, Put, Delete}
 use Rattle.raft_records.specs.PlacedItem.{PlacedContent, EntriesAt, Plain, PlacedItem, content_in, item_in, is_placed_in_order}
 use Rattle.raft_records.specs.Places.{Blocks, entries_in}
-use Rattle.raft_records.specs.Validity.{are_in_order, batch_refusal, content_refusal, entries_refusal}
+use Rattle.raft_records.specs.Validity.{batch_refusal, content_refusal, entries_refusal}
 use Rattle.raft_recovery.proofs.ContentsLemmas.{valid_first}
 use Rattle.raft_tables.specs.Owed.{Marks, Owed, leaves_hole, marks_after, marks_noted, owed_after, owed_after_item, owed_noted, owed_noted_by, with_compaction, with_marks}
 use Rattle.raft_tables.specs.Tables.{Tables, contents_in, or_empty, tables_after_item}

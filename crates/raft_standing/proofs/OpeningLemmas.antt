@@ -1,17 +1,16 @@
 -- What holds of an opening's tables, batch by batch.
-use Rattle.std.proofs.Common.{◌≡◌, ℕ, ◌+◌, ◌<◌, ◌≤◌, ◌==◌, ◌&&◌, Bool, true, false, cond, List, [], ◌∷◌, ◌++◌, length, map, filter, Option, Some, None, refl, sym, ◌∙◌, ap, subst, arith}
-use Rattle.std.specs.List.{Contains, AllByRecursion as Each, list_all}
+use Rattle.std.proofs.Common.{◌≡◌, ℕ, ◌+◌, ◌≤◌, ◌==◌, ◌&&◌, Bool, true, false, cond, List, [], ◌∷◌, ◌++◌, length, map, filter, Option, Some, None, refl, sym, ◌∙◌, ap, subst}
+use Rattle.std.specs.List.{AllByRecursion as Each, list_all}
 use Rattle.std.specs.Option.{option_map, option_or}
 use Rattle.std.specs.Prelude.{nat_le, nat_lt}
 use Rattle.std.specs.Str.{bytes_eq}
 use Rattle.std.proofs.lemmas.Bool.{and_parts, false≢true}
 use Rattle.raft_base.specs.declared.pipe_log.LogQueue.{LogQueue}
 use Rattle.raft_base.specs.declared.pipe_log.LogQueue.TheVariants.{Append, Rewrite}
-use Rattle.raft_records.specs.declared.entry_index.EntryPlace.{EntryPlace}
 use Rattle.raft_records.specs.Contents.{Contents, entries_below, with_entries}
 use Rattle.raft_records.specs.Item.{Batch, Entry, Entries, Clean, Compact, Put, Delete, group_mark_key}
 use Rattle.raft_records.specs.PlacedItem.{PlacedContent, EntriesAt, Plain, PlacedItem, content_in, item_in, is_placed_in_order}
-use Rattle.raft_records.specs.Places.{Blocks, entry_in, entries_in}
+use Rattle.raft_records.specs.Places.{Blocks, entry_in}
 use Rattle.raft_records.specs.Validity.{are_consecutive_from, are_in_order}
 use Rattle.raft_recovery.specs.Consecutive.{HasConsecutiveEntries}
 use Rattle.raft_recovery.specs.Recovered.{content_leaves, content_leaves_key, item_leaves, item_leaves_key, replay}
@@ -27,7 +26,7 @@ use Rattle.raft_records.specs.FileBatches.{AreInFile, FileBatch, batches_of}
 use Rattle.raft_standing.specs.Standing.{EntryStands, GroupStands, KeyStands, PlacedKeyStands, TablesStandFor, ends_leave, ends_leave_key, rank_of}
 use Rattle.raft_recovery.proofs.EachLemmas.{each_map}
 use Rattle.raft_standing.proofs.EndsLemmas.{pass-push}
-use Rattle.raft_standing.proofs.KeyLemmas.{after_item, both_less, cleaned_by, eq_from_test, hole_cleaned, in_append, le_self, left_after, less_left, set_now, stays_less, stored-after, stored_after}
+use Rattle.raft_standing.proofs.KeyLemmas.{both_less, cleaned_by, eq_from_test, hole_cleaned, in_append, le_self, left_after, less_left, set_now, stays_less, stored-after, stored_after}
 use Rattle.raft_standing.proofs.ReplayedLemmas.{replayed_clean, replayed_compaction, replayed_end, replayed_entries, replayed_less, replayed_none}
 use Rattle.raft_standing.proofs.TotalLemmas.{past_all}
 use Rattle.raft_standing.proofs.WrittenLemmas.{bounded_rank, entries_of_either, filtered, leave_after, not_below, same_either, still_bounded}

@@ -1,5 +1,5 @@
 -- What holds of the tables and the marks, in terms of both queues.
-use Rattle.std.proofs.Common.{◌≡◌, ℕ, ◌≤◌, Bool, true, false, List, [], ◌∷◌, ◌++◌, append-nil, append_assoc, map, length, Option, Some, None, refl, sym, ◌∙◌, ap, subst, arith}
+use Rattle.std.proofs.Common.{◌≡◌, ℕ, ◌≤◌, Bool, true, List, [], ◌∷◌, ◌++◌, append-nil, append_assoc, map, Option, Some, None, refl, sym, ◌∙◌, ap, subst, arith}
 use Rattle.std.specs.List.{Contains, AllByRecursion as Each, list_all}
 use Rattle.std.specs.Prelude.{◌^◌, ◌-◌}
 use Rattle.std.proofs.lemmas.List.{map-append}
@@ -23,7 +23,7 @@ use Rattle.raft_tables.specs.Owed.{Marks, Owed, owed_noted}
 use Rattle.raft_tables.specs.Table.{StoredValue}
 use Rattle.raft_tables.specs.Tables.{Tables, contents_in, or_empty, tables_after}
 use Rattle.raft_standing.specs.ForQueues.{StandForQueues}
-use Rattle.raft_standing.specs.Standing.{EntryStands, GroupStands, HasNoneBefore, KeyStands, PlacedEntryStands, PlacedKeyStands, StandsInBlock, TablesStandFor, ends_leave, ends_leave_key}
+use Rattle.raft_standing.specs.Standing.{EntryStands, HasNoneBefore, KeyStands, PlacedEntryStands, PlacedKeyStands, StandsInBlock, TablesStandFor, ends_leave, ends_leave_key}
 use Rattle.raft_standing.proofs.KeyLemmas.{in_append}
 use Rattle.raft_standing.proofs.NotedLemmas.{valid_noted}
 use Rattle.raft_standing.proofs.TotalLemmas.{written}

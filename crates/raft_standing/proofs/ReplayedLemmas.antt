@@ -1,9 +1,8 @@
 -- What is true of one group while an opening replays the Append queue.
-use Rattle.std.proofs.Common.{◌≡◌, ℕ, ◌+◌, ◌<◌, ◌≤◌, ◌&&◌, ◌⊎◌, inl, inr, Bool, true, false, cond, eqb, List, [], ◌∷◌, ◌++◌, length, map, filter, Option, Some, None, refl, sym, ◌∙◌, ap, subst, ⊎_elim, arith}
-use Rattle.std.specs.List.{Contains, AllByRecursion as Each, list_all}
-use Rattle.std.specs.Option.{option_map}
-use Rattle.std.specs.Prelude.{unwrap_or, nat_le, nat_lt}
-use Rattle.std.proofs.lemmas.Bool.{and_parts, cases_Bool, false≢true, leb-true, le-leb}
+use Rattle.std.proofs.Common.{◌≡◌, ℕ, ◌+◌, ◌<◌, ◌≤◌, ◌&&◌, ◌⊎◌, inl, inr, Bool, true, false, cond, eqb, List, [], ◌∷◌, ◌++◌, length, filter, refl, sym, ◌∙◌, ap, subst, ⊎_elim, arith}
+use Rattle.std.specs.List.{Contains, AllByRecursion as Each}
+use Rattle.std.specs.Prelude.{nat_le, nat_lt}
+use Rattle.std.proofs.lemmas.Bool.{and_parts, cases_Bool, false≢true, leb-true}
 use Rattle.std.proofs.lemmas.Bool.Decides.{nat_tests}
 use Rattle.raft_base.specs.declared.pipe_log.LogQueue.TheVariants.{Append}
 use Rattle.raft_records.specs.FileBatches.{IsInFile}
@@ -18,11 +17,10 @@ use Rattle.raft_recovery.proofs.KeptLemmas.{filter_no, filter_yes}
 use Rattle.raft_tables.specs.Counters.{is_rewritten}
 use Rattle.raft_standing.specs.Opening.{GroupReplayed, IsAllLeft, IsLeftBelow}
 use Rattle.raft_tables.specs.Owed.{Marks, leaves_hole}
-use Rattle.raft_standing.specs.Standing.{AreInFileOrder, EntryStands, GroupStands, HasNoneBefore, HasNoneBehind, are_rewritten, rank_of}
+use Rattle.raft_standing.specs.Standing.{AreInFileOrder, EntryStands, GroupStands, HasNoneBefore, HasNoneBehind, rank_of}
 use Rattle.raft_standing.proofs.DropLemmas.{placed_of, placed_run}
 use Rattle.raft_recovery.proofs.EachLemmas.{consecutive_parts, each_append, each_contained, each_filter, each_map, each_of, next_to, within}
-use Rattle.raft_standing.proofs.FitLemmas.{rewritten_are_held}
-use Rattle.raft_standing.proofs.GroupLemmas.{all_from, entry_less, in_not_rewritten, in_rank, in_stands, none_behind_appended, nothing_below, order_append, order_filter, order_lower, order_same, rewritten-append, rewritten_rank}
+use Rattle.raft_standing.proofs.GroupLemmas.{all_from, entry_less, in_not_rewritten, in_rank, in_stands, none_behind_appended, nothing_below, order_append, order_filter, order_lower, order_same, rewritten-append}
 use Rattle.raft_standing.proofs.MovedLemmas.{contains_in, no_rank, stands_there}
 use Rattle.raft_standing.proofs.WrittenLemmas.{placed_next}
 

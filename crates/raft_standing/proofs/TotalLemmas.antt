@@ -1,13 +1,13 @@
 -- What holds of the tables, the marks that are owed and both queues, step by step.
-use Rattle.std.proofs.Common.{◌≡◌, ℕ, ◌+◌, ◌<◌, ◌≤◌, ◌==◌, ◌&&◌, Bool, true, false, cond, List, [], ◌∷◌, ◌++◌, length, map, filter, Option, Some, None, refl, sym, ◌∙◌, ap, subst, arith}
-use Rattle.std.specs.List.{All, Contains, AllByRecursion as Each, list_all}
+use Rattle.std.proofs.Common.{◌≡◌, ℕ, ◌≤◌, Bool, true, false, cond, List, [], ◌∷◌, ◌++◌, map, refl, sym, ◌∙◌, ap, subst, arith}
+use Rattle.std.specs.List.{AllByRecursion as Each, list_all}
 use Rattle.std.specs.Prelude.{nat_le}
-use Rattle.std.proofs.lemmas.Bool.{false≢true, cases_Bool}
+use Rattle.std.proofs.lemmas.Bool.{false≢true}
 use Rattle.std.proofs.lemmas.Bool.Decides.{nat_tests}
 use Rattle.std.proofs.lemmas.List.{map-append}
 use Rattle.raft_base.specs.declared.pipe_log.LogQueue.TheVariants.{Append}
 use Rattle.raft_records.specs.Contents.{Contents, after_batch}
-use Rattle.raft_records.specs.Item.{Batch, Entry, Item}
+use Rattle.raft_records.specs.Item.{Batch, Item}
 use Rattle.raft_records.specs.PlacedItem.{PlacedItem, item_in, is_placed_in_order}
 use Rattle.raft_records.specs.Places.{Blocks}
 use Rattle.raft_records.specs.Validity.{IsValidBatch}

@@ -1,5 +1,5 @@
 -- The tables of the Rewrite queue's batches place all in that queue.
-use Rattle.std.proofs.Common.{◌≡◌, ℕ, ◌==◌, ◌&&◌, Bool, true, false, cond, List, [], ◌∷◌, filter, fold, Option, Some, None, refl, sym, ◌∙◌, ap, subst}
+use Rattle.std.proofs.Common.{◌≡◌, ℕ, ◌==◌, ◌&&◌, Bool, true, false, cond, List, [], ◌∷◌, filter, Option, Some, None, refl, sym, ◌∙◌, ap, subst}
 use Rattle.std.specs.List.{AllByRecursion as Each, list_all}
 use Rattle.std.specs.Str.{bytes_eq}
 use Rattle.std.proofs.lemmas.Bool.{and_parts}
@@ -13,7 +13,7 @@ use Rattle.raft_tables.specs.Table.{StoredValue}
 use Rattle.raft_tables.specs.Tables.{Tables, or_empty, table_after, tables_after, tables_after_item, tables_of}
 use Rattle.raft_tables.specs.declared.memtables.MemTables.{MemTables}
 use Rattle.raft_standing.specs.Opening.{AreRewritten, IsRewrittenValue}
-use Rattle.raft_standing.proofs.KeyLemmas.{eq_from_test, stored-after, stored_after}
+use Rattle.raft_standing.proofs.KeyLemmas.{stored-after, stored_after}
 
 stored_rewritten : (id : FileId) (k : List ℕ) (c : PlacedContent) (s : Option StoredValue) → is_rewrite id.queue ≡ true → IsRewrittenValue s → IsRewrittenValue (stored_after id k c s)
 stored_rewritten id k (EntriesAt entries) s is there = there

@@ -1,10 +1,10 @@
 -- What is true of the entries after a batch was written to the Append queue and applied.
-use Rattle.std.proofs.Common.{◌≡◌, ℕ, ◌+◌, ◌<◌, ◌≤◌, ◌==◌, ◌&&◌, ◌⊎◌, inl, inr, Bool, true, false, cond, eqb, List, [], ◌∷◌, ◌++◌, length, map, filter, Option, Some, None, suc, refl, sym, ◌∙◌, ap, subst, ⊎_elim, arith}
-use Rattle.std.specs.List.{All, Contains, AllByRecursion as Each, list_all, list_any}
+use Rattle.std.proofs.Common.{◌≡◌, ℕ, ◌+◌, ◌≤◌, ◌==◌, ◌&&◌, ◌⊎◌, inl, inr, Bool, true, false, cond, List, [], ◌∷◌, length, map, filter, Option, Some, None, suc, refl, sym, ◌∙◌, ap, subst, ⊎_elim, arith}
+use Rattle.std.specs.List.{AllByRecursion as Each, list_all, list_any}
 use Rattle.std.specs.Option.{option_map}
 use Rattle.std.specs.Str.{bytes_eq}
 use Rattle.std.specs.Prelude.{unwrap_or, nat_le, nat_lt}
-use Rattle.std.proofs.lemmas.Bool.{and_parts, cases_Bool, false≢true, leb-true}
+use Rattle.std.proofs.lemmas.Bool.{and_parts, false≢true, leb-true}
 use Rattle.std.proofs.lemmas.Bool.Decides.{nat_tests}
 use Rattle.raft_base.specs.declared.errors.Fault.{Fault}
 use Rattle.raft_base.specs.declared.pipe_log.FileBlockHandle.{FileBlockHandle}
@@ -12,16 +12,15 @@ use Rattle.raft_base.specs.declared.pipe_log.LogQueue.{LogQueue}
 use Rattle.raft_base.specs.declared.pipe_log.LogQueue.TheVariants.{Append, Rewrite}
 use Rattle.raft_records.specs.FileBatches.{AreInFile}
 use Rattle.raft_records.specs.declared.entry_index.EntryPlace.{EntryPlace}
-use Rattle.raft_records.specs.Contents.{Contents, after_batch, is_next_to, with_entries}
-use Rattle.raft_records.specs.Item.{Batch, Entry, Entries, Clean, Compact, Put, Delete, Item, group_mark_key}
+use Rattle.raft_records.specs.Contents.{Contents, is_next_to, with_entries}
+use Rattle.raft_records.specs.Item.{Entry, Entries, Clean, Compact, Put, Delete, Item, group_mark_key}
 use Rattle.raft_records.specs.PlacedItem.{PlacedContent, EntriesAt, Plain, PlacedItem, content_in, item_in, is_placed_in_order}
 use Rattle.raft_records.specs.Places.{Blocks, entry_in, entries_in}
-use Rattle.raft_records.specs.Validity.{are_consecutive_from, are_in_order, batch_refusal, content_refusal, entries_refusal, fits_behind}
-use Rattle.raft_recovery.specs.Consecutive.{HasConsecutiveEntries, HaveConsecutiveEntries, are_consecutive}
+use Rattle.raft_records.specs.Validity.{are_consecutive_from, batch_refusal, content_refusal, entries_refusal, fits_behind}
+use Rattle.raft_recovery.specs.Consecutive.{HasConsecutiveEntries, HaveConsecutiveEntries}
 use Rattle.raft_recovery.specs.Recovered.{content_leaves, item_leaves}
 use Rattle.raft_recovery.proofs.ContentsLemmas.{after_batches_consecutive, consecutive_one, valid_first, valid_is_consecutive}
-use Rattle.raft_tables.specs.Counters.{is_rewrite, is_rewritten}
-use Rattle.raft_tables.specs.Table.{TableView, with_entries_at, with_key}
+use Rattle.raft_tables.specs.Table.{TableView, with_entries_at}
 use Rattle.raft_tables.specs.Tables.{Tables, contents_in, or_empty, table_after, tables_after, tables_after_item}
 use Rattle.raft_tables.proofs.ContentsLemmas.{contents_after_item, entries-delete}
 use Rattle.raft_tables.specs.Owed.{Marks, Owed, leaves_hole, marks_after, owed_after, owed_after_item}

@@ -1,6 +1,5 @@
 -- What holds of the tables, the marks that are owed and both queues between any two steps.
-use Rattle.std.specs.Prelude.{◌≡◌, ℕ, ◌+◌, ◌<◌, ◌≤◌, nat_le, Bool, true, false, List, [], ◌∷◌, length, map, filter, Option, Some, None, option_map, unwrap_or, Contains}
-use Rattle.raft_base.specs.declared.pipe_log.FileId.{FileId}
+use Rattle.std.specs.Prelude.{◌≡◌, ℕ, ◌+◌, ◌<◌, ◌≤◌, Bool, true, false, List, [], ◌∷◌, length, Option, Some, None, option_map, unwrap_or, Contains}
 use Rattle.raft_base.specs.declared.pipe_log.LogQueue.{LogQueue}
 use Rattle.raft_base.specs.declared.pipe_log.LogQueue.TheVariants.{Append, Rewrite}
 use Rattle.std.specs.List.{list_all, AllByRecursion as Each}
