@@ -1,12 +1,11 @@
 -- A batch of items that are written to the Rewrite queue again.
-use Rattle.std.proofs.Common.{◌≡◌, ℕ, ◌&&◌, Bool, true, false, List, [], ◌∷◌, map, Option, refl, sym, ◌∙◌, ap, subst}
+use Rattle.std.proofs.Common.{◌≡◌, ℕ, ◌&&◌, true, false, List, [], ◌∷◌, map, Option, ap}
 use Rattle.std.specs.List.{list_all}
 use Rattle.std.proofs.lemmas.Bool.{and_parts}
-use Rattle.raft_base.specs.declared.pipe_log.FileId.{FileId}
 use Rattle.raft_records.specs.Contents.{Contents, after_batch, after_item}
-use Rattle.raft_records.specs.Item.{Batch, Entries, Clean, Compact, Put, Delete, Item}
+use Rattle.raft_records.specs.Item.{Entries, Clean, Compact, Put, Delete}
 use Rattle.raft_records.specs.PlacedItem.{PlacedContent, EntriesAt, Plain, PlacedItem, content_in, item_in}
-use Rattle.raft_records.specs.Places.{Blocks, entries_in}
+use Rattle.raft_records.specs.Places.{Blocks}
 use Rattle.raft_recovery.specs.Consecutive.{HasConsecutiveEntries, HaveConsecutiveEntries, content_is_consecutive}
 use Rattle.raft_recovery.specs.Rewriting.{ChangesNothing, EachChangesNothing}
 use Rattle.raft_recovery.proofs.ContentsLemmas.{after_batches_consecutive, consecutive_one}

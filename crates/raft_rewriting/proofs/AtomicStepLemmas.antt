@@ -1,31 +1,27 @@
 -- The batches of an atomic group, in which a purge writes all that a group has in the Rewrite queue again.
-use Rattle.std.proofs.Common.{◌≡◌, ℕ, ◌+◌, ◌<◌, ◌==◌, ◌&&◌, Bool, true, false, cond, List, [], ◌∷◌, ◌++◌, append-nil, append_assoc, fold, map, Option, Some, None, refl, sym, ◌∙◌, ap, subst}
+use Rattle.std.proofs.Common.{◌≡◌, ℕ, ◌<◌, ◌&&◌, true, List, [], ◌∷◌, ◌++◌, append-nil, append_assoc, fold, map, None, refl, sym, ◌∙◌, ap, subst}
 use Rattle.std.specs.List.{Contains, AllByRecursion as Each, flat_map, list_all}
 use Rattle.std.specs.Prelude.{◌^◌, ◌-◌}
-use Rattle.std.proofs.lemmas.Bool.{and_parts, false≢true}
 use Rattle.std.proofs.lemmas.List.{map-append}
-use Rattle.std.proofs.lemmas.List.Folds.{list_all-append}
 use Rattle.std.proofs.lemmas.List.Sums.{fold-append}
-use Rattle.raft_base.specs.declared.pipe_log.FileId.{FileId}
 use Rattle.raft_records.specs.Contents.{Contents, after_batch, after_batches, after_item}
 use Rattle.raft_records.specs.declared.entry_index.EntryPlace.{EntryPlace}
 use Rattle.raft_records.specs.FileBatches.{FileBatch, batches_of}
-use Rattle.raft_records.specs.Item.{Batch, Entries, Entry, Item, Put, group_mark_key}
-use Rattle.raft_records.specs.PlacedItem.{EntriesAt, Plain, PlacedContent, PlacedItem, are_all_placed, content_in, is_placed_in_order, item_in}
+use Rattle.raft_records.specs.Item.{Batch, Entries, Entry, Item}
+use Rattle.raft_records.specs.PlacedItem.{PlacedItem, item_in}
 use Rattle.raft_records.specs.Places.{Blocks, entry_in, entries_in}
-use Rattle.raft_records.specs.Record.{Mark, mark_byte, mark_item}
-use Rattle.raft_records.specs.Record.Mark.{Begin, Middle, End}
-use Rattle.raft_recovery.specs.Bounds.{AreItemsBelow, HasIndexesBelow}
-use Rattle.raft_recovery.specs.Consecutive.{HasConsecutiveEntries, HaveConsecutiveEntries, are_consecutive, content_is_consecutive}
+use Rattle.raft_records.specs.Record.{Mark}
+use Rattle.raft_records.specs.Record.Mark.{Middle, End}
+use Rattle.raft_recovery.specs.Bounds.{AreItemsBelow}
+use Rattle.raft_recovery.specs.Consecutive.{HasConsecutiveEntries, are_consecutive, content_is_consecutive}
 use Rattle.raft_recovery.specs.Ids.{EndsInGroup}
-use Rattle.raft_recovery.specs.Recovered.{effect, items_of, replay}
+use Rattle.raft_recovery.specs.Recovered.{effect, replay}
 use Rattle.raft_recovery.specs.Stands.{Queues}
 use Rattle.raft_recovery.specs.Takes.{RewriteTakes}
 use Rattle.raft_recovery.proofs.ContentsLemmas.{consecutive_one, replay_consecutive}
-use Rattle.raft_recovery.proofs.EachLemmas.{each_contained, each_left, each_map, each_of, each_right}
+use Rattle.raft_recovery.proofs.EachLemmas.{each_contained, each_left, each_map, each_right}
 use Rattle.raft_recovery.proofs.GroupLemmas.{effect-complete_group}
 use Rattle.raft_recovery.proofs.MarkLemmas.{each_changes_nothing}
-use Rattle.raft_tables.specs.Counters.{is_rewritten}
 use Rattle.raft_tables.specs.MovedEntries.{may_move_from}
 use Rattle.raft_tables.specs.Owed.{Owed}
 use Rattle.raft_tables.specs.Tables.{Tables, or_empty}
@@ -34,11 +30,11 @@ use Rattle.raft_standing.specs.Standing.{EntryStands, TablesStandFor, are_rewrit
 use Rattle.raft_standing.proofs.FitLemmas.{rewritten_are_held}
 use Rattle.raft_rewriting.specs.AtomicGroup.{bodies_in, ended_group, last_body, marked, next_mark, open_group, set_by_parts}
 use Rattle.raft_rewriting.specs.Gathering.{IsGathered}
-use Rattle.raft_rewriting.specs.Rewriting.{IsFetched, entries_item, placed_entries_item}
+use Rattle.raft_rewriting.specs.Rewriting.{IsFetched, entries_item}
 use Rattle.raft_rewriting.proofs.FitsLemmas.{Fits, all_fit, are_apart, each_nothing, each_run}
 use Rattle.raft_rewriting.proofs.GroupIdLemmas.{effect_open, ended_complete, ended_of_group, ends_more, more_is}
 use Rattle.raft_rewriting.proofs.PartsLemmas.{front_run, parts_at_once, rest_run}
-use Rattle.raft_rewriting.proofs.StepLemmas.{all_synced, held_below, held_run, one_more, rewrites, with_rewritten_batch}
+use Rattle.raft_rewriting.proofs.StepLemmas.{all_synced, held_below, held_run, one_more, rewrites}
 
 -- A part of what was fetched of the Rewrite queue.
 

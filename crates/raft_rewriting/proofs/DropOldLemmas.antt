@@ -1,24 +1,23 @@
 -- Old files of the Rewrite queue that may be dropped.
-use Rattle.std.proofs.Common.{◌≡◌, ℕ, ◌+◌, ◌<◌, ◌≤◌, ◌⊎◌, inl, inr, Bool, true, false, List, [], ◌∷◌, ◌++◌, length, Option, Some, None, refl, sym, ◌∙◌, ap, subst, ⊎_elim, arith}
-use Rattle.std.specs.List.{All, Contains, AllByRecursion as Each}
+use Rattle.std.proofs.Common.{◌≡◌, ℕ, ◌+◌, ◌<◌, ◌≤◌, ◌⊎◌, Bool, true, false, List, [], ◌∷◌, ◌++◌, length, Option, Some, None, refl, sym, ◌∙◌, ap, subst, ⊎_elim, arith}
+use Rattle.std.specs.List.{Contains}
 use Rattle.std.specs.Option.{option_map}
 use Rattle.std.proofs.lemmas.Bool.{false≢true}
-use Rattle.std.proofs.lemmas.List.Elements.{Contains-append_right}
 use Rattle.raft_base.specs.declared.pipe_log.FileBlockHandle.{FileBlockHandle}
 use Rattle.raft_base.specs.declared.pipe_log.LogQueue.{LogQueue}
 use Rattle.raft_base.specs.declared.pipe_log.LogQueue.TheVariants.{Append, Rewrite}
 use Rattle.raft_records.specs.declared.entry_index.EntryPlace.{EntryPlace}
 use Rattle.raft_records.specs.Contents.{Contents}
 use Rattle.raft_records.specs.Item.{Entry}
-use Rattle.raft_records.specs.Places.{Blocks, entry_in, entries_in}
+use Rattle.raft_records.specs.Places.{Blocks, entry_in}
 use Rattle.raft_recovery.specs.Dropping.{HoldsLeft, IsLaterPart}
 use Rattle.raft_recovery.specs.Recovered.{item_leaves, item_leaves_key, leaves, leaves_key, replay}
 use Rattle.raft_tables.specs.Table.{StoredValue}
-use Rattle.raft_tables.specs.Tables.{Tables, contents_in, or_empty}
+use Rattle.raft_tables.specs.Tables.{Tables, or_empty}
 use Rattle.raft_rewriting.specs.DroppingOld.{AreRewrittenFrom, HoldsFrom, IsHeldFrom, IsRewrittenFrom, IsValueHeldFrom, IsValueRewrittenFrom}
 use Rattle.raft_tables.specs.Owed.{Marks, Owed}
 use Rattle.raft_records.specs.FileBatches.{FileBatch, batches_of}
-use Rattle.raft_standing.specs.Standing.{EntryStands, GroupStands, HasNoneBefore, HasNoneBehind, KeyStands, PlacedEntryStands, PlacedKeyStands, StandsInBlock, TablesStandFor, ends_leave, ends_leave_key}
+use Rattle.raft_standing.specs.Standing.{EntryStands, HasNoneBefore, HasNoneBehind, KeyStands, PlacedEntryStands, PlacedKeyStands, StandsInBlock, TablesStandFor, ends_leave, ends_leave_key}
 use Rattle.raft_standing.proofs.DropLemmas.{placed_of}
 use Rattle.raft_recovery.proofs.EachLemmas.{all_of, each_contained, each_of, each_right}
 use Rattle.raft_standing.proofs.EndsLemmas.{from_none, pass-later}

@@ -1,12 +1,11 @@
 -- Items that were gathered, in the Rewrite queue's contents: each changes nothing of what is recovered.
-use Rattle.std.proofs.Common.{◌≡◌, ℕ, ◌+◌, ◌<◌, ◌==◌, ◌&&◌, ◌⊎◌, Bool, true, false, cond, List, [], ◌∷◌, ◌++◌, append-nil, map, Option, Some, None, refl, sym, ◌∙◌, ap, subst}
+use Rattle.std.proofs.Common.{◌≡◌, ℕ, ◌<◌, ◌==◌, ◌&&◌, ◌⊎◌, Bool, true, false, cond, List, [], ◌∷◌, ◌++◌, map, Option, Some, None, refl, sym, ◌∙◌, ap, subst}
 use Rattle.std.specs.List.{All, Contains, AllByRecursion as Each, list_all}
 use Rattle.std.specs.Option.{option_map}
 use Rattle.std.specs.Str.{bytes_eq}
 use Rattle.std.specs.Cmp.Lexicographic.{bytes_decides}
 use Rattle.std.proofs.lemmas.List.{map-append}
-use Rattle.raft_records.specs.Contents.{Contents, after_batch, after_item, is_next_to, with_entries, with_value}
-use Rattle.raft_records.specs.declared.entry_index.EntryPlace.{EntryPlace}
+use Rattle.raft_records.specs.Contents.{Contents, after_item, is_next_to, with_entries, with_value}
 use Rattle.raft_records.specs.FileBatches.{FileBatch, batches_of}
 use Rattle.raft_records.specs.Item.{Batch, Content, Entry, Entries, Clean, Compact, Put, Delete, Item, group_mark_key}
 use Rattle.raft_records.specs.PlacedItem.{EntriesAt, Plain, PlacedContent, PlacedItem, content_in, item_in}
@@ -21,12 +20,12 @@ use Rattle.raft_recovery.proofs.MarkLemmas.{put_changes_nothing}
 use Rattle.raft_recovery.proofs.UnchangedLemmas.{rewriting_changes_nothing}
 use Rattle.raft_tables.specs.Owed.{Owed}
 use Rattle.raft_tables.specs.Table.{StoredValue}
-use Rattle.raft_tables.specs.Tables.{Tables, contents_in, or_empty}
+use Rattle.raft_tables.specs.Tables.{Tables, or_empty}
 use Rattle.raft_standing.specs.Standing.{EntryStands, TablesStandFor, ends_leave}
 use Rattle.raft_standing.proofs.KeyLemmas.{eq_from_test}
-use Rattle.raft_rewriting.specs.Gathering.{AreSetApart, IsFetchedContent, SetApart, key_set_by}
+use Rattle.raft_rewriting.specs.Gathering.{AreSetApart, IsFetchedContent, SetApart}
 use Rattle.raft_rewriting.proofs.MatchLemmas.{fetched_item, key_set, set_key}
-use Rattle.raft_rewriting.proofs.PartsLemmas.{front_run, item_run, rest_run}
+use Rattle.raft_rewriting.proofs.PartsLemmas.{front_run, rest_run}
 use Rattle.raft_rewriting.proofs.RewrittenLemmas.{part_fits}
 
 -- a change of a group that may be appended to the Rewrite queue

@@ -1,5 +1,5 @@
 -- What was gathered, item by item, and what is left of a group once a part of it was written.
-use Rattle.std.proofs.Common.{◌≡◌, ℕ, ◌==◌, ◌&&◌, not, nat_le, Bool, true, false, cond, List, [], ◌∷◌, ◌++◌, append-nil, append_assoc, map, fold, Option, Some, None, refl, sym, ◌∙◌, ap, subst}
+use Rattle.std.proofs.Common.{◌≡◌, ℕ, ◌&&◌, not, nat_le, true, false, cond, List, [], ◌∷◌, ◌++◌, append_assoc, map, Option, Some, None, refl, sym, ◌∙◌, ap, subst}
 use Rattle.std.specs.List.{list_all, AllByRecursion as Each}
 use Rattle.std.specs.Option.{option_map}
 use Rattle.std.specs.Prelude.{unwrap_or}
@@ -13,12 +13,11 @@ use Rattle.raft_base.specs.declared.pipe_log.LogQueue.TheVariants.{Append, Rewri
 use Rattle.raft_records.specs.Contents.{Contents}
 use Rattle.raft_records.specs.declared.entry_index.EntryPlace.{EntryPlace}
 use Rattle.raft_records.specs.FileBatches.{FileBatch, batches_of}
-use Rattle.raft_records.specs.Item.{Entries, Entry, Item}
-use Rattle.raft_records.specs.PlacedItem.{EntriesAt, PlacedContent, PlacedItem, are_all_placed, content_in, is_placed_in_order, item_in}
-use Rattle.raft_records.specs.Places.{Blocks, entry_in, entries_in}
+use Rattle.raft_records.specs.Item.{Item}
+use Rattle.raft_records.specs.PlacedItem.{EntriesAt, PlacedContent, PlacedItem, are_all_placed, is_placed_in_order, item_in}
+use Rattle.raft_records.specs.Places.{Blocks, entries_in}
 use Rattle.raft_records.specs.Validity.{are_consecutive_from}
 use Rattle.raft_recovery.specs.Consecutive.{HasConsecutiveEntries, HaveConsecutiveEntries, are_consecutive}
-use Rattle.raft_recovery.specs.Recovered.{replay}
 use Rattle.raft_recovery.proofs.ContentsLemmas.{replay_consecutive}
 use Rattle.raft_recovery.proofs.EachLemmas.{each_append, each_left, each_map, each_right}
 use Rattle.raft_tables.specs.Counters.{is_rewrite, is_rewritten}
@@ -26,11 +25,11 @@ use Rattle.raft_tables.specs.MovedEntries.{entries_moved, may_move, may_move_fro
 use Rattle.raft_tables.specs.Moving.{table_moved, tables_moved, tables_moved_by}
 use Rattle.raft_tables.specs.Owed.{Owed}
 use Rattle.raft_tables.specs.Table.{TableView}
-use Rattle.raft_tables.specs.Tables.{Tables, contents_in, or_empty}
+use Rattle.raft_tables.specs.Tables.{Tables, or_empty}
 use Rattle.raft_standing.specs.Standing.{TablesStandFor, are_rewritten}
 use Rattle.raft_standing.proofs.DropLemmas.{placed_run}
 use Rattle.raft_standing.proofs.KeyLemmas.{eq_self}
-use Rattle.raft_rewriting.specs.Gathering.{AreSetApart, IsFetchedContent, IsGathered, SetApart, key_set_by}
+use Rattle.raft_rewriting.specs.Gathering.{AreSetApart, IsFetchedContent, IsGathered, SetApart}
 use Rattle.raft_rewriting.specs.Rewriting.{IsFetched, placed_entries_item}
 use Rattle.raft_rewriting.proofs.MatchLemmas.{entries_of, fetched_item, gets, group_left, head_same, no_cons, tail_same}
 use Rattle.raft_rewriting.proofs.MovingLemmas.{middle_moves}

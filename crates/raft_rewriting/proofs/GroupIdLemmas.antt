@@ -1,19 +1,18 @@
 -- Ids of atomic groups, and the batches of one that is written.
-use Rattle.std.proofs.Common.{◌≡◌, ℕ, ◌+◌, ◌<◌, ◌≤◌, ◌==◌, ◌&&◌, ◌||◌, ◌⊎◌, inl, inr, ⊎_elim, eqb, Bool, true, false, cond, List, [], ◌∷◌, ◌++◌, append-nil, append_assoc, map, Option, Some, None, refl, sym, ◌∙◌, ap, subst, arith}
+use Rattle.std.proofs.Common.{◌≡◌, ℕ, ◌+◌, ◌≤◌, ◌&&◌, ◌||◌, ◌⊎◌, inl, inr, ⊎_elim, eqb, Bool, true, false, cond, List, [], ◌∷◌, ◌++◌, append-nil, append_assoc, map, Option, Some, None, refl, sym, ◌∙◌, ap, arith}
 use Rattle.std.specs.List.{cons_option, list_all, list_any}
 use Rattle.std.specs.Str.{bytes_eq}
-use Rattle.std.proofs.lemmas.Bool.{and_parts, cases_Bool, eqb-true, false≢true}
+use Rattle.std.proofs.lemmas.Bool.{false≢true}
 use Rattle.std.proofs.lemmas.Bool.Decides.{nat_tests}
 use Rattle.std.proofs.lemmas.List.{map-append}
 use Rattle.std.proofs.lemmas.List.Folds.{list_all-append}
 use Rattle.raft_records.specs.Item.{Batch}
 use Rattle.raft_records.specs.Record.{Mark, mark_byte}
 use Rattle.raft_records.specs.Record.Mark.{Begin, Middle, End}
-use Rattle.raft_recovery.specs.Dropping.{ShareNoGroup}
-use Rattle.raft_recovery.specs.Groups.{first_place, has_last, is_complete, is_of_group, last_place, mark_of, places_in}
+use Rattle.raft_recovery.specs.Groups.{first_place, has_last, is_complete, is_of_group, mark_of, places_in}
 use Rattle.raft_recovery.specs.Ids.{EndsInGroup, HasIdsBelow}
 use Rattle.raft_recovery.specs.Recovered.{effect}
-use Rattle.raft_recovery.specs.Together.{IsCut, StandTogether}
+use Rattle.raft_recovery.specs.Together.{StandTogether}
 use Rattle.raft_recovery.proofs.GroupLemmas.{effect-open_group, no_first_is_incomplete, no_last_is_incomplete, none_of_others, places-append}
 use Rattle.raft_recovery.proofs.TogetherLemmas.{both_without, parts_without, together_group, unmarked_place}
 use Rattle.raft_standing.proofs.KeyLemmas.{eq_self}

@@ -1,23 +1,19 @@
 -- What is true of the keys of all groups, step by step.
-use Rattle.std.proofs.Common.{◌≡◌, ℕ, ◌==◌, ◌&&◌, Bool, true, false, cond, List, [], ◌∷◌, ◌++◌, Option, None, Some, map, refl, sym, ◌∙◌, ap, subst}
+use Rattle.std.proofs.Common.{◌≡◌, ℕ, ◌==◌, Bool, true, false, cond, List, [], ◌∷◌, ◌++◌, Option, None, map, refl, sym, ◌∙◌, ap, subst}
 use Rattle.std.specs.List.{list_all}
-use Rattle.std.specs.Option.{option_map}
-use Rattle.std.specs.Str.{bytes_eq}
 use Rattle.std.specs.Cmp.Lexicographic.{bytes_decides}
-use Rattle.raft_base.specs.declared.pipe_log.FileId.{FileId}
 use Rattle.raft_records.specs.Contents.{Contents, after_item}
-use Rattle.raft_records.specs.Item.{Clean, Compact, Content, Delete, Put, Item, group_mark_key}
+use Rattle.raft_records.specs.Item.{Clean, Compact, Content, Delete, Put}
 use Rattle.raft_records.specs.PlacedItem.{Plain, PlacedItem, item_in}
 use Rattle.raft_records.specs.Places.{Blocks}
 use Rattle.raft_recovery.specs.Recovered.{item_leaves_key, items_of}
 use Rattle.raft_recovery.proofs.KeyLemmas.{value_after_content, value-after_item}
-use Rattle.raft_tables.specs.Table.{StoredValue}
 use Rattle.raft_tables.specs.Tables.{Tables, or_empty, tables_after}
-use Rattle.raft_tables.specs.Moving.{tables_moved_by, table_moved, value_moved}
+use Rattle.raft_tables.specs.Moving.{tables_moved_by, table_moved}
 use Rattle.raft_tables.specs.Owed.{Marks, Owed, owed_after, with_marks, without_clean, without_compaction, without_delete}
 use Rattle.raft_records.specs.FileBatches.{FileBatch, batches_of, from_file}
 use Rattle.raft_standing.specs.Standing.{AreKeysPlacedFrom, KeysStand, KeyStands, ends_leave_key}
-use Rattle.raft_standing.proofs.EndsLemmas.{from_from, pass-push, pass_from}
+use Rattle.raft_standing.proofs.EndsLemmas.{from_from, pass-push}
 use Rattle.raft_standing.proofs.KeyLemmas.{after_items, clean_marked, delete_marked, eq_from_test, eq_self, front_dropped, in_append, in_rewrite, less_left, more_owed, moved, stored-moved}
 use Rattle.raft_rewriting.specs.Rewriting.{MayMoveKey}
 

@@ -1,14 +1,12 @@
 -- What was gathered is of groups that the tables know.
-use Rattle.std.proofs.Common.{◌≡◌, ℕ, ◌==◌, ◌⊎◌, inl, inr, ⊎_elim, Bool, true, false, cond, List, [], ◌∷◌, ◌++◌, append-nil, append_assoc, fold, map, Option, Some, None, refl, sym, ◌∙◌, ap, subst, is_some}
+use Rattle.std.proofs.Common.{◌≡◌, ℕ, ◌==◌, ◌⊎◌, inl, inr, ⊎_elim, Bool, true, false, cond, List, [], ◌∷◌, ◌++◌, append-nil, append_assoc, fold, map, Option, Some, None, refl, sym, ◌∙◌, ap, is_some}
 use Rattle.std.specs.List.{AllByRecursion as Each, flat_map}
-use Rattle.std.specs.Option.{option_map}
 use Rattle.std.proofs.lemmas.List.Sums.{fold-append}
-use Rattle.raft_base.specs.declared.pipe_log.FileId.{FileId}
 use Rattle.raft_records.specs.declared.entry_index.EntryPlace.{EntryPlace}
-use Rattle.raft_records.specs.Item.{Batch, Content, Entries, Clean, Compact, Put, Delete, Item}
+use Rattle.raft_records.specs.Item.{Batch, Entries, Clean, Compact, Put, Delete, Item}
 use Rattle.raft_records.specs.PlacedItem.{EntriesAt, Plain, PlacedContent, PlacedItem, item_in}
-use Rattle.raft_records.specs.Places.{Blocks, entries_in}
-use Rattle.raft_records.specs.Record.Mark.{Begin, Middle, End}
+use Rattle.raft_records.specs.Places.{Blocks}
+use Rattle.raft_records.specs.Record.Mark.{Middle, End}
 use Rattle.raft_recovery.specs.Groups.{mark_of, whole}
 use Rattle.raft_recovery.specs.Ids.{EndsInGroup}
 use Rattle.raft_recovery.proofs.GroupLemmas.{whole-complete_group, whole-open_group, whole-unmarked}
@@ -19,7 +17,6 @@ use Rattle.raft_tables.specs.Tables.{Tables, or_empty}
 use Rattle.raft_standing.proofs.KeyLemmas.{eq_from_test}
 use Rattle.raft_rewriting.specs.AtomicGroup.{bodies_in, ended_group, last_body, marked, next_mark, open_group, set_by_parts}
 use Rattle.raft_rewriting.specs.Gathering.{IsFetchedContent, IsGathered}
-use Rattle.raft_rewriting.specs.Rewriting.{IsFetched, MayMoveKey, entries_item}
 use Rattle.raft_rewriting.proofs.GroupIdLemmas.{ended_complete, ended_of_group, more_is, open_incomplete, open_of_group}
 use Rattle.raft_rewriting.proofs.MatchLemmas.{fetched_item, no_cons}
 

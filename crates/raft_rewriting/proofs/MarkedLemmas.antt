@@ -1,34 +1,34 @@
 -- Marks that are written to the Rewrite queue, and values that are written there again.
-use Rattle.std.proofs.Common.{◌≡◌, ℕ, ◌+◌, ◌<◌, ◌≤◌, ◌==◌, ◌&&◌, ◌⊎◌, inl, inr, Bool, true, false, cond, eqb, List, [], ◌∷◌, ◌++◌, length, map, filter, Option, Some, None, suc, refl, sym, ◌∙◌, ap, subst, ⊎_elim, arith}
-use Rattle.std.specs.List.{All, Contains, AllByRecursion as Each, list_all}
+use Rattle.std.proofs.Common.{◌≡◌, ℕ, ◌≤◌, ◌==◌, Bool, true, false, cond, List, [], ◌∷◌, filter, Option, Some, None, refl, sym, ◌∙◌, ap, subst, arith}
+use Rattle.std.specs.List.{Contains}
 use Rattle.std.specs.Option.{option_map}
-use Rattle.std.specs.Prelude.{unwrap_or, nat_le}
+use Rattle.std.specs.Prelude.{nat_le}
 use Rattle.std.specs.Str.{bytes_eq}
 use Rattle.std.specs.Cmp.Lexicographic.{bytes_decides}
-use Rattle.std.proofs.lemmas.Bool.{and_parts, false≢true}
+use Rattle.std.proofs.lemmas.Bool.{false≢true}
 use Rattle.raft_base.specs.declared.pipe_log.FileBlockHandle.{FileBlockHandle}
 use Rattle.raft_base.specs.declared.pipe_log.LogQueue.{LogQueue}
 use Rattle.raft_base.specs.declared.pipe_log.LogQueue.TheVariants.{Append, Rewrite}
 use Rattle.raft_records.specs.declared.entry_index.EntryPlace.{EntryPlace}
 use Rattle.raft_records.specs.Contents.{Contents, after_item, with_value}
-use Rattle.raft_records.specs.Item.{Batch, Entry, Entries, Clean, Compact, Delete, Put, Item, Content, group_mark_key}
-use Rattle.raft_records.specs.PlacedItem.{EntriesAt, Plain, PlacedItem}
+use Rattle.raft_records.specs.Item.{Entry, Clean, Compact, Delete, Put, group_mark_key}
+use Rattle.raft_records.specs.PlacedItem.{Plain}
 use Rattle.raft_records.specs.Places.{Blocks, entry_in, entries_in}
 use Rattle.raft_records.specs.Validity.{are_consecutive_from}
-use Rattle.raft_recovery.specs.Consecutive.{HasConsecutiveEntries, HaveConsecutiveEntries, are_consecutive}
+use Rattle.raft_recovery.specs.Consecutive.{HasConsecutiveEntries, HaveConsecutiveEntries}
 use Rattle.raft_recovery.specs.Recovered.{item_leaves, item_leaves_key, leaves, leaves_key, replay}
-use Rattle.raft_recovery.specs.Rewriting.{ChangesNothing, IsSetByAppend}
+use Rattle.raft_recovery.specs.Rewriting.{ChangesNothing}
 use Rattle.raft_recovery.proofs.ContentsLemmas.{replay_consecutive}
 use Rattle.raft_recovery.proofs.MarkLemmas.{contents_ext, deleted_changes_nothing, put_changes_nothing}
 use Rattle.raft_recovery.proofs.UnchangedLemmas.{clean_changes_nothing, compaction_changes_nothing}
 use Rattle.raft_tables.specs.MovedEntries.{may_move}
 use Rattle.raft_tables.specs.Moving.{table_moved, tables_moved_by, value_moved}
-use Rattle.raft_tables.specs.Table.{StoredValue, TableView, with_entries_at, with_key}
+use Rattle.raft_tables.specs.Table.{StoredValue, TableView, with_key}
 use Rattle.raft_tables.specs.Tables.{Tables, contents_in, or_empty}
 use Rattle.raft_tables.specs.Owed.{Marks, Owed, with_marks, without_clean, without_compaction, without_delete}
 use Rattle.raft_rewriting.specs.Rewriting.{IsMarkIndex, MayMoveKey}
-use Rattle.raft_records.specs.FileBatches.{FileBatch, batches_of, from_file}
-use Rattle.raft_standing.specs.Standing.{EntriesStand, EntryStands, GroupStands, KeyStands, KeysStand, PlacedEntryStands, StandsInBlock, TablesStandFor, ends_leave, ends_leave_key}
+use Rattle.raft_records.specs.FileBatches.{FileBatch, batches_of}
+use Rattle.raft_standing.specs.Standing.{EntriesStand, EntryStands, GroupStands, PlacedEntryStands, StandsInBlock, TablesStandFor, ends_leave, ends_leave_key}
 use Rattle.raft_standing.proofs.DropLemmas.{placed_of, placed_run}
 use Rattle.raft_recovery.proofs.EachLemmas.{all_of, each_contained, within}
 use Rattle.raft_standing.proofs.EndsLemmas.{from_none, pass-later}

@@ -1,21 +1,17 @@
 -- Items that stand for the same at other places, and items that set different things.
-use Rattle.std.proofs.Common.{◌≡◌, ℕ, ◌==◌, ◌&&◌, not, nat_le, Bool, true, false, cond, List, [], ◌∷◌, ◌++◌, map, fold, Option, Some, None, refl, sym, ◌∙◌, ap, subst, arith}
+use Rattle.std.proofs.Common.{◌≡◌, ℕ, ◌==◌, ◌&&◌, Bool, true, false, cond, List, [], ◌∷◌, map, Option, Some, None, refl, sym, ◌∙◌, ap, subst, arith}
 use Rattle.std.specs.List.{list_all, AllByRecursion as Each}
 use Rattle.std.specs.Option.{option_map}
-use Rattle.std.specs.Prelude.{unwrap_or}
 use Rattle.std.specs.Str.{bytes_eq}
 use Rattle.std.specs.Cmp.Lexicographic.{bytes_decides}
 use Rattle.std.proofs.lemmas.Bool.{and_parts, false≢true}
-use Rattle.raft_base.specs.declared.pipe_log.FileBlockHandle.{FileBlockHandle}
 use Rattle.raft_base.specs.declared.pipe_log.FileId.{FileId}
-use Rattle.raft_base.specs.declared.pipe_log.LogQueue.{LogQueue}
-use Rattle.raft_base.specs.declared.pipe_log.LogQueue.TheVariants.{Append, Rewrite}
 use Rattle.raft_records.specs.declared.entry_index.EntryPlace.{EntryPlace}
 use Rattle.raft_records.specs.Item.{Content, Entry, Entries, Clean, Compact, Put, Delete, Item, group_mark_key}
 use Rattle.raft_records.specs.PlacedItem.{PlacedContent, EntriesAt, Plain, PlacedItem, are_all_placed, content_in, is_placed_in_order, item_in}
 use Rattle.raft_records.specs.Places.{Blocks, entry_in, entries_in}
-use Rattle.raft_tables.specs.Counters.{is_rewrite, is_rewritten}
-use Rattle.raft_tables.specs.MovedEntries.{may_move, may_move_from}
+use Rattle.raft_tables.specs.Counters.{is_rewritten}
+use Rattle.raft_tables.specs.MovedEntries.{may_move_from}
 use Rattle.raft_tables.specs.Moving.{table_moved, tables_moved, tables_moved_by, value_moved}
 use Rattle.raft_tables.specs.Owed.{Owed}
 use Rattle.raft_tables.specs.Table.{TableView, with_key}

@@ -1,6 +1,6 @@
 -- Once an atomic group is ended, all that it holds gets its new places.
-use Rattle.std.proofs.Common.{◌≡◌, ℕ, ◌==◌, ◌&&◌, Bool, true, false, cond, List, [], ◌∷◌, ◌++◌, append-nil, append_assoc, map, Option, Some, None, refl, sym, ◌∙◌, ap, subst}
-use Rattle.std.specs.List.{AllByRecursion as Each, flat_map, list_all}
+use Rattle.std.proofs.Common.{◌≡◌, ℕ, ◌==◌, ◌&&◌, Bool, true, false, cond, List, [], ◌∷◌, ◌++◌, append-nil, append_assoc, map, Option, None, refl, sym, ◌∙◌, ap, subst}
+use Rattle.std.specs.List.{flat_map, list_all}
 use Rattle.std.specs.Prelude.{◌^◌, ◌-◌}
 use Rattle.std.proofs.lemmas.Bool.{and_parts}
 use Rattle.std.proofs.lemmas.List.{map-append}
@@ -9,8 +9,8 @@ use Rattle.raft_base.specs.declared.pipe_log.FileId.{FileId}
 use Rattle.raft_records.specs.Contents.{Contents, after_batch}
 use Rattle.raft_records.specs.declared.entry_index.EntryPlace.{EntryPlace}
 use Rattle.raft_records.specs.FileBatches.{FileBatch, batches_of}
-use Rattle.raft_records.specs.Item.{Batch, Entries, Entry, Item, Put, group_mark_key}
-use Rattle.raft_records.specs.PlacedItem.{EntriesAt, Plain, PlacedContent, PlacedItem, are_all_placed, content_in, is_placed_in_order, item_in}
+use Rattle.raft_records.specs.Item.{Batch, Entry, Item, Put, group_mark_key}
+use Rattle.raft_records.specs.PlacedItem.{EntriesAt, Plain, PlacedContent, PlacedItem, are_all_placed, is_placed_in_order, item_in}
 use Rattle.raft_records.specs.Places.{Blocks, entry_in, entries_in}
 use Rattle.raft_records.specs.Record.{Mark, mark_byte, mark_item}
 use Rattle.raft_records.specs.Record.Mark.{Begin, Middle, End}

@@ -1,39 +1,36 @@
 -- Entries and values that are written to the Rewrite queue again.
-use Rattle.std.proofs.Common.{◌≡◌, ℕ, ◌+◌, ◌<◌, ◌≤◌, ◌==◌, ◌&&◌, ◌⊎◌, inl, inr, Bool, true, false, cond, eqb, List, [], ◌∷◌, ◌++◌, length, map, Option, Some, None, suc, refl, sym, ◌∙◌, ap, subst, ⊎_elim, arith}
-use Rattle.std.specs.List.{All, Contains, AllByRecursion as Each, list_all}
+use Rattle.std.proofs.Common.{◌≡◌, ℕ, ◌+◌, ◌<◌, ◌==◌, ◌&&◌, ◌⊎◌, inl, inr, Bool, true, false, cond, eqb, List, [], ◌∷◌, ◌++◌, length, Option, Some, None, refl, sym, ◌∙◌, ap, subst, ⊎_elim, arith}
+use Rattle.std.specs.List.{Contains, AllByRecursion as Each}
 use Rattle.std.specs.Option.{option_map}
-use Rattle.std.specs.Prelude.{unwrap_or}
-use Rattle.std.specs.Str.{bytes_eq}
 use Rattle.std.proofs.lemmas.Bool.{and_parts, false≢true}
 use Rattle.std.proofs.lemmas.List.{map-append}
 use Rattle.std.proofs.lemmas.List.Elements.{Contains-append_cases, Contains-append_left, Contains-append_right}
-use Rattle.raft_base.specs.declared.pipe_log.FileBlockHandle.{FileBlockHandle}
 use Rattle.raft_base.specs.declared.pipe_log.FileId.{FileId}
 use Rattle.raft_records.specs.declared.entry_index.EntryPlace.{EntryPlace}
-use Rattle.raft_records.specs.Contents.{Contents, after_item, is_next_to, with_entries, with_value}
-use Rattle.raft_records.specs.Item.{Batch, Entry, Entries, Put, Item, group_mark_key}
-use Rattle.raft_records.specs.PlacedItem.{EntriesAt, Plain, PlacedItem}
+use Rattle.raft_records.specs.Contents.{Contents, after_item, is_next_to, with_entries}
+use Rattle.raft_records.specs.Item.{Entry, Entries, Item}
+use Rattle.raft_records.specs.PlacedItem.{EntriesAt}
 use Rattle.raft_records.specs.Places.{Blocks, entry_in, entries_in}
 use Rattle.raft_records.specs.Validity.{are_consecutive_from}
 use Rattle.raft_recovery.specs.Consecutive.{HasConsecutiveEntries, HaveConsecutiveEntries, are_consecutive}
-use Rattle.raft_recovery.specs.Recovered.{leaves, leaves_key, replay}
+use Rattle.raft_recovery.specs.Recovered.{leaves, replay}
 use Rattle.raft_recovery.specs.Rewriting.{ChangesNothing, FitsRewrite}
 use Rattle.raft_recovery.proofs.ContentsLemmas.{replay_consecutive}
-use Rattle.raft_recovery.proofs.MarkLemmas.{contents_ext, put_changes_nothing}
+use Rattle.raft_recovery.proofs.MarkLemmas.{contents_ext}
 use Rattle.raft_recovery.proofs.UnchangedLemmas.{rewriting_changes_nothing}
-use Rattle.raft_tables.specs.Counters.{is_rewrite, is_rewritten}
-use Rattle.raft_tables.specs.MovedEntries.{entries_moved, may_move}
-use Rattle.raft_tables.specs.Moving.{table_moved, tables_moved_by, value_moved}
-use Rattle.raft_tables.specs.Table.{StoredValue, TableView, with_entries_at, with_key}
+use Rattle.raft_tables.specs.Counters.{is_rewritten}
+use Rattle.raft_tables.specs.MovedEntries.{entries_moved}
+use Rattle.raft_tables.specs.Moving.{table_moved, tables_moved_by}
+use Rattle.raft_tables.specs.Table.{StoredValue, TableView}
 use Rattle.raft_tables.specs.Tables.{Tables, contents_in, or_empty}
 use Rattle.raft_tables.specs.Owed.{Marks, Owed}
-use Rattle.raft_rewriting.specs.Rewriting.{ArePart, GetPlaces, MayMoveKey}
+use Rattle.raft_rewriting.specs.Rewriting.{ArePart, GetPlaces}
 use Rattle.raft_records.specs.FileBatches.{FileBatch, batches_of}
-use Rattle.raft_standing.specs.Standing.{EntriesStand, EntryStands, GroupStands, KeyStands, KeysStand, StandsInBlock, TablesStandFor, are_rewritten, ends_leave, ends_leave_key}
-use Rattle.raft_standing.proofs.DropLemmas.{mapped_length, placed_of, placed_run}
-use Rattle.raft_recovery.proofs.EachLemmas.{all_of, consecutive_parts, each_contained, each_left, each_right, next_to, one_before, run_left, run_right, within}
+use Rattle.raft_standing.specs.Standing.{EntriesStand, EntryStands, GroupStands, KeyStands, KeysStand, TablesStandFor, are_rewritten, ends_leave, ends_leave_key}
+use Rattle.raft_standing.proofs.DropLemmas.{placed_of, placed_run}
+use Rattle.raft_recovery.proofs.EachLemmas.{all_of, consecutive_parts, each_contained, each_left, each_right, run_left, run_right, within}
 use Rattle.raft_standing.proofs.FitLemmas.{none_left_behind, rewritten_are_held, touching}
-use Rattle.raft_standing.proofs.KeyLemmas.{eq_from_test, eq_self, stored-moved}
+use Rattle.raft_standing.proofs.KeyLemmas.{eq_from_test, eq_self}
 use Rattle.raft_standing.proofs.MovedLemmas.{group_moved}
 use Rattle.raft_rewriting.proofs.MovingLemmas.{middle_moves}
 

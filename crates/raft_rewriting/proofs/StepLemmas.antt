@@ -1,9 +1,7 @@
 -- Batches that a purge writes to the Rewrite queue, and fronts of the Append queue that it drops.
-use Rattle.std.proofs.Common.{◌≡◌, ℕ, ◌+◌, ◌<◌, ◌≤◌, ◌==◌, ◌&&◌, Bool, true, false, cond, List, [], ◌∷◌, ◌++◌, append-nil, append_assoc, length, map, Option, Some, None, refl, sym, ◌∙◌, ap, subst, arith}
+use Rattle.std.proofs.Common.{◌≡◌, ℕ, ◌<◌, ◌≤◌, ◌&&◌, Bool, true, false, cond, List, [], ◌∷◌, ◌++◌, append-nil, append_assoc, map, Option, Some, None, refl, sym, ◌∙◌, ap, subst, arith}
 use Rattle.std.specs.List.{AllByRecursion as Each, list_all}
-use Rattle.std.specs.Prelude.{◌^◌, ◌-◌, nat_le, nat_lt, filter, is_some}
-use Rattle.std.proofs.lemmas.Bool.{and_parts}
-use Rattle.std.proofs.lemmas.Bool.Decides.{nat_tests}
+use Rattle.std.specs.Prelude.{◌^◌, ◌-◌, filter, is_some}
 use Rattle.raft_base.specs.declared.pipe_log.LogQueue.{LogQueue}
 use Rattle.raft_base.specs.declared.pipe_log.LogQueue.TheVariants.{Append, Rewrite}
 use Rattle.raft_base.specs.declared.pipe_log.FileBlockHandle.{FileBlockHandle}
@@ -11,13 +9,12 @@ use Rattle.raft_records.specs.Contents.{Contents, after_batch, after_item}
 use Rattle.raft_records.specs.declared.entry_index.EntryPlace.{EntryPlace}
 use Rattle.raft_records.specs.FileBatches.{FileBatch, batches_of, from_file}
 use Rattle.raft_records.specs.Item.{Batch, Content, Entry, Entries, Clean, Compact, Put, Delete, Item, group_mark_key}
-use Rattle.raft_records.specs.PlacedItem.{EntriesAt, Plain, PlacedContent, PlacedItem, are_all_placed, content_in, is_placed_in_order, item_in}
-use Rattle.raft_records.specs.Places.{Blocks, entry_in, entries_in}
-use Rattle.raft_records.specs.Validity.{are_consecutive_from, are_in_order}
+use Rattle.raft_records.specs.PlacedItem.{PlacedItem, are_all_placed, is_placed_in_order, item_in}
+use Rattle.raft_records.specs.Places.{Blocks}
 use Rattle.raft_recovery.specs.Bounds.{AreItemsBelow, HasIndexesBelow, IsContentBelow}
 use Rattle.raft_recovery.specs.Consecutive.{HasConsecutiveEntries, HaveConsecutiveEntries, content_is_consecutive}
 use Rattle.raft_recovery.specs.Groups.{batch_counts, mark_of, whole}
-use Rattle.raft_recovery.specs.Recovered.{effect, items_of, recovered, replay}
+use Rattle.raft_recovery.specs.Recovered.{effect, items_of, recovered}
 use Rattle.raft_recovery.specs.Rewriting.{ChangesNothing, EachChangesNothing}
 use Rattle.raft_recovery.specs.Stands.{Queues}
 use Rattle.raft_recovery.specs.Takes.{CanDropFront, RewriteTakes}
@@ -30,7 +27,7 @@ use Rattle.raft_recovery.proofs.TakesLemmas.{takes_unmarked}
 use Rattle.raft_tables.specs.Counters.{is_rewritten}
 use Rattle.raft_tables.specs.Moving.{tables_moved}
 use Rattle.raft_tables.specs.Owed.{Marks, Owed, without_pending}
-use Rattle.raft_tables.specs.Table.{StoredValue, TableView}
+use Rattle.raft_tables.specs.Table.{StoredValue}
 use Rattle.raft_tables.specs.Tables.{Tables, or_empty}
 use Rattle.raft_tables.specs.WrittenMarks.{AreOwed, IsOwed, mark_index, owed_again, owed_left, owed_left_by}
 use Rattle.raft_standing.specs.ForQueues.{StandForQueues}
@@ -89,6 +86,9 @@ gathered_takes blocks numbered owed t q watermark items s none gathered =
     let fit = all_fit blocks x numbered owed t watermark items run_x s.appended_consecutive s.stand gathered.each in
     takes_unmarked q batch (consecutive_one batch (each_run x (batches_of numbered) batch fit)) (unmarked blocks x numbered owed t watermark items (no_mark_held q) s.stand gathered.each)
     (subst (λ (bs : List Batch). EachChangesNothing x bs batch) (all_synced blocks numbered owed t q s none) (each_nothing x (batches_of numbered) batch run_x s.appended_consecutive fit (are_apart blocks items gathered.apart)))
+
+pub gathered_unmarked : (blocks : Blocks) (numbered : List FileBatch) (owed : Owed) (t : Tables) (q : Queues) (watermark : Option ℕ) (items : List PlacedItem) → StandForQueues blocks numbered owed t q → IsGathered watermark owed t items → mark_of (map (item_in blocks) items) ≡ None
+gathered_unmarked blocks numbered owed t q watermark items s gathered = unmarked blocks (effect (rewrites q)) numbered owed t watermark items (no_mark_held q) s.stand gathered.each
 
 pub gathered_written : (blocks : Blocks) (numbered : List FileBatch) (owed : Owed) (t : Tables) (q : Queues) (watermark : Option ℕ) (seq : ℕ) (items news : List PlacedItem) → StandForQueues blocks numbered owed t q → IsGathered watermark owed t items
     → map (item_in blocks) news ≡ map (item_in blocks) items → list_all (λ item. is_placed_in_order item.content) news ≡ true → list_all (λ item. are_all_placed is_rewritten item.content) news ≡ true

@@ -2,7 +2,7 @@
 use Rattle.std.specs.Prelude.{ℕ, List, [], ◌∷◌, ◌++◌, map}
 use Rattle.std.specs.List.{flat_map}
 use Rattle.raft_records.specs.declared.entry_index.EntryPlace.{EntryPlace}
-use Rattle.raft_records.specs.Item.{Batch, Item}
+use Rattle.raft_records.specs.Item.{Batch}
 use Rattle.raft_records.specs.PlacedItem.{PlacedItem, item_in}
 use Rattle.raft_records.specs.Places.{Blocks, entries_in}
 use Rattle.raft_records.specs.Record.{Mark, mark_item}

@@ -1,7 +1,6 @@
 -- What a purge gathers from the tables, to write it to the Rewrite queue again.
 use Rattle.std.specs.Prelude.{◌≡◌, ℕ, false, List, [], ◌∷◌, map, Option, Some, None}
 use Rattle.std.specs.List.{AllByRecursion as Each}
-use Rattle.raft_base.specs.declared.pipe_log.FileId.{FileId}
 use Rattle.raft_records.specs.Item.{Entries, Clean, Compact, Put, Delete}
 use Rattle.raft_records.specs.PlacedItem.{PlacedContent, EntriesAt, Plain, PlacedItem}
 use Rattle.raft_tables.specs.Owed.{Owed}

@@ -1,11 +1,12 @@
 //! What holds of the tables and the marks, in terms of both queues, step by step of a purge.
-ghost use Rattle.std.specs.Prelude.{◌≡◌, ◌≤◌, ◌+◌, ◌++◌, ◌∷◌, ℕ, List, [], Option, true, map};
+ghost use Rattle.std.specs.Prelude.{◌≡◌, ◌≤◌, ◌+◌, ◌++◌, ◌∷◌, ℕ, List, [], Option, None, true, map};
 ghost use Rattle.std.specs.List.{list_all};
 ghost use Rattle.raft_base.specs.declared.pipe_log.LogQueue.TheVariants.{Rewrite};
 ghost use Rattle.raft_records.specs.FileBatches.{FileBatch, batches_of, from_file};
 ghost use Rattle.raft_records.specs.Item.{Batch, Item};
 ghost use Rattle.raft_records.specs.PlacedItem.{PlacedItem, are_all_placed, is_placed_in_order, item_in};
 ghost use Rattle.raft_records.specs.Places.{Blocks};
+ghost use Rattle.raft_recovery.specs.Groups.{mark_of};
 ghost use Rattle.raft_recovery.specs.Stands.{Queues};
 ghost use Rattle.raft_recovery.specs.Takes.{CanDropFront, RewriteTakes};
 ghost use Rattle.raft_tables.specs.Counters.{is_rewritten};
@@ -18,7 +19,8 @@ ghost use Rattle.raft_standing.specs.Standing.{AreEntriesPlacedFrom, AreKeysPlac
 ghost use Rattle.raft_rewriting.specs.Gathering.{IsGathered};
 
 /// What was gathered may be written in one batch: the Rewrite queue takes it (`takes`), and where it
-/// stands there and got its new places, the tables stand (`written`).
+/// stands there and got its new places, the tables stand (`written`). It doesn't begin with the mark of
+/// an atomic group (`unmarked`).
 pub fn a_gathered_batch_may_be_written()
     ensures takes { (blocks : Blocks) (numbered : List FileBatch) (owed : Owed) (t : Tables)
         (q : Queues) (watermark : Option ℕ) (items : List PlacedItem)
@@ -33,6 +35,10 @@ pub fn a_gathered_batch_may_be_written()
         → StandForQueues blocks numbered owed
         (tables_moved watermark (record { queue = Rewrite; seq = seq }) t news)
         (record q { rewritten_since = q.rewritten_since ++ map (item_in blocks) news ∷ [] }) }
+    ensures unmarked { (blocks : Blocks) (numbered : List FileBatch) (owed : Owed) (t : Tables)
+        (q : Queues) (watermark : Option ℕ) (items : List PlacedItem)
+        → StandForQueues blocks numbered owed t q → IsGathered watermark owed t items
+        → mark_of (map (item_in blocks) items) ≡ None }
 {}
 
 /// Marks that are owed may be written in one batch: the Rewrite queue takes it (`takes`), and where it

@@ -12,3 +12,4 @@ pub mod OpeningLemmas
 pub mod WholeLemmas
 pub mod ReadLemmas
 pub mod QueueLemmas
+pub mod PlacedLemmas
