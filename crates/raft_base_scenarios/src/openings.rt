@@ -145,7 +145,8 @@ fn opened(alloc: Global, queues: &Queues, stats: &mut GlobalStats) -> Result<Mem
     rewrite(alloc, &mut tables, queues.0, stats)?;
     let mut context = MemTableRecoverContext::new(tables);
     replay(alloc, &mut context, queues.1, stats)?;
-    Ok(context.join(stats)?)
+    let (tables, _) = context.join(stats)?;
+    Ok(tables)
 }
 
 impl Row for Opening {

@@ -163,12 +163,15 @@ pub fn dropped_old_files_keep_tables_standing()
 {}
 
 /// Nothing is placed in the Append queue before its first file in which something stands, or before
-/// the number that this is at most.
+/// the number that this is at most (`first`); so it is of the Rewrite queue (`rewritten`).
 pub fn nothing_stands_before_the_first_file()
     ensures first { (at_most : ℕ) (m : MemTables)
         → AreEntriesPlacedFrom (first_of_tables Append at_most m) (tables_of m)
         × AreKeysPlacedFrom (first_of_tables Append at_most m) (tables_of m)
         × (first_of_tables Append at_most m ≤ at_most) }
+    ensures rewritten { (at_most : ℕ) (m : MemTables)
+        → AreRewrittenFrom (first_of_tables Rewrite at_most m) (tables_of m)
+        × (first_of_tables Rewrite at_most m ≤ at_most) }
 {}
 
 /// Of tables in which items got their new places the same groups are known (`known`), and what is

@@ -1,6 +1,5 @@
 -- Marks that are noted.
-use Rattle.std.proofs.Common.{◌≡◌, ℕ, ◌+◌, ◌⊎◌, inl, inr, ◌==◌, ◌&&◌, ◌||◌, nat_lt, length, Bool, true, false, cond, List, [], ◌∷◌, Option, Some, None, Vec, is_some, unwrap_or, refl, sym, ◌∙◌, ap, arith}
-use Rattle.std.proofs.lemmas.Bool.{cases_Bool, cond-true, cond-false}
+use Rattle.std.proofs.Common.{◌≡◌, ℕ, ◌+◌, ◌⊎◌, inl, inr, ◌==◌, ◌&&◌, ◌||◌, nat_lt, length, Bool, true, false, cond, List, [], ◌∷◌, Option, Some, None, Vec, unwrap_or, refl, sym, ◌∙◌, ap, arith}
 use Rattle.std.proofs.lemmas.Grind.{common_steps}
 use Rattle.std.proofs.lemmas.Map.Text.{is_eq-slice_cmp}
 use Rattle.std.specs.BTreeMap as tree

@@ -1,5 +1,5 @@
 -- The first file of a queue in which something stands: entries.
-use Rattle.std.specs.Prelude.{◌≡◌, ℕ, suc, zero, min, Bool, true, false, nat_le, List, fold, Option, Some, None, option_map, unwrap_or, slice_get, Contains}
+use Rattle.std.specs.Prelude.{◌≡◌, ℕ, suc, zero, min, Bool, true, false, nat_le, List, fold, Some, option_map, unwrap_or, slice_get, Contains}
 use Rattle.raft_base.specs.declared.pipe_log.FileBlockHandle.{FileBlockHandle}
 use Rattle.raft_base.specs.declared.pipe_log.FileId.{FileId}
 use Rattle.raft_base.specs.declared.pipe_log.LogQueue.{LogQueue}

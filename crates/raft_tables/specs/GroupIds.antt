@@ -1,9 +1,9 @@
 -- Numbers of atomic groups: those that were met, and whether the batches of each group stand together.
-use Rattle.std.specs.Prelude.{◌≡◌, ℕ, ◌+◌, ◌<◌, ◌^◌, ◌==◌, ◌&&◌, ◌||◌, not, max, nat_le, Bool, true, false, List, [], ◌∷◌, fold, Option, Some, None, option_map, unwrap_or}
+use Rattle.std.specs.Prelude.{ℕ, ◌+◌, ◌<◌, ◌^◌, ◌==◌, ◌&&◌, ◌||◌, not, max, nat_le, Bool, true, false, List, [], ◌∷◌, Option, Some, None, unwrap_or}
 use Rattle.std.specs.List.{AllByRecursion as Each}
 use Rattle.std.specs.Str.{bytes_eq}
 use Rattle.raft_records.specs.Item.{Batch}
-use Rattle.raft_recovery.specs.Groups.{GroupMark, first_place, has_id, mark_of}
+use Rattle.raft_recovery.specs.Groups.{GroupMark, first_place, mark_of}
 use Rattle.raft_tables.specs.declared.group_ids.GroupIds.{GroupIds}
 
 -- every number that was met or given is below this one

@@ -5,7 +5,7 @@ use Rattle.std.specs.List.Sorted.{IsStrictlySortedBy}
 use Rattle.std.specs.Ordering.{nat_cmp, ordering_then}
 use Rattle.std.specs.declared.cmp.Ordering.{Ordering}
 use Rattle.raft_records.specs.Batch.{BatchView, batch_of}
-use Rattle.raft_records.specs.Item.{Batch, Content, Item, Entries, Clean, Compact, Put, Delete}
+use Rattle.raft_records.specs.Item.{Content, Item, Entries, Clean, Compact, Put, Delete}
 use Rattle.raft_tables.specs.Owed.{Marks, Owed, with_marks, without_clean, without_compaction, without_delete}
 use Rattle.raft_tables.specs.Table.{TableView}
 use Rattle.raft_tables.specs.Tables.{Tables, or_empty}
