@@ -5,3 +5,4 @@ pub mod DropOldLemmas
 pub mod LogLemmas
 pub mod LogDropLemmas
 pub mod LogTakeLemmas
+pub mod WriteLemmas

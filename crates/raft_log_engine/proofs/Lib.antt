@@ -14,6 +14,7 @@ pub mod OpeningLemmas
 pub mod RecoveryLemmas
 pub mod PlacedLemmas
 pub mod HeldLemmas
+pub mod IndexedLemmas
 pub mod CacheLemmas
 pub mod FaultLemmas
 pub mod NumberedLemmas

@@ -3,11 +3,13 @@ pub mod Attempt
 pub mod Batches
 pub mod Cause
 pub mod Engine
+pub mod Indexed
 pub mod Group
 pub mod Durability
 pub mod Advance
 pub mod Opening
 pub mod Recovery
+pub mod Read
 pub mod Write
 pub mod Image
 pub mod Reads
