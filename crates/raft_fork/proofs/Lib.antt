@@ -1,6 +1,0 @@
-pub mod CopiesLemmas
-pub mod ForkLemmas
-pub mod PlacesLemmas
-pub mod ReadsLemmas
-pub mod RefusedLemmas
-pub mod StepsLemmas

@@ -1,2 +1,0 @@
-pub mod Fork
-pub mod Refused
