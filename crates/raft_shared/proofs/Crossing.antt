@@ -32,7 +32,6 @@ use Rattle.raft_shared.specs.contracts.shared.Shared as shared
 history_send : (A : RattleType) → IsSend A → IsSend (history.the_row A)
 history_send A a = owning_send (history.the_type A) (search sendable, tt) (λ d. tt) (λ k x w. tt)
 
-
 config_parts : AllSend (shape config.the_type).fields
 config_parts = (search (sendable, items.crosses, maps.crosses) depth 20, (search (sendable, items.crosses, maps.crosses) depth 20, (search (sendable, items.crosses, maps.crosses) depth 20, (search (sendable, items.crosses, maps.crosses) depth 20, (search (sendable, items.crosses, maps.crosses) depth 20, (search (sendable, items.crosses, maps.crosses) depth 20, (search (sendable, items.crosses, maps.crosses) depth 20, (search (sendable, items.crosses, maps.crosses) depth 20, (search (sendable, items.crosses, maps.crosses) depth 20, (search (sendable, items.crosses, maps.crosses) depth 20, (search (sendable, items.crosses, maps.crosses) depth 20, (search (sendable, items.crosses, maps.crosses) depth 20, (search (sendable, items.crosses, maps.crosses) depth 20, (search (sendable, items.crosses, maps.crosses) depth 20, (search (sendable, items.crosses, maps.crosses) depth 20, tt)))))))))))))))
 
@@ -137,16 +136,52 @@ module _ (F H R W : RattleType) (g : Ghosts F.Denot H.Denot R.Denot W.Denot) whe
   pipes_send w = view_send (pipes.TheInside.the_row F H R W g) _ _ _ _ (recorded_send _ _ _ (pipes.TheInside.the_type F H R W g).to_one (struct_send (shape (pipes.TheInside.the_type F H R W g)) (pipes_parts w)))
 
   engine_parts : IsSend F → IsSend W → AllSend (shape (engine.the_type F H R W g)).fields
-  engine_parts f w = (search (sendable, items.crosses) depth 20, (config_field_send, (f, (pipes_send w, (tables_field_send, (stats_send,
-      (search (sendable, items.crosses) depth 20, (search (sendable, items.crosses, item_send) depth 20, (search sendable, (search (sendable, history_send, batch_send) depth 20,
-      (search (sendable, history_send, batch_send) depth 20, (search (sendable, history_send, batch_send) depth 20, (search (sendable, history_send) depth 20, tt)))))))))))))
+  engine_parts f w = (
+    search (sendable, items.crosses) depth 20,
+    (
+      config_field_send,
+      (
+        f,
+        (
+          pipes_send w,
+          (
+            tables_field_send,
+            (
+              stats_send,
+              (
+                search (sendable, items.crosses) depth 20,
+                (
+                  search (sendable, items.crosses, item_send) depth 20,
+                  (
+                    search sendable,
+                    (
+                      search (sendable, history_send, batch_send) depth 20,
+                      (search (sendable, history_send, batch_send) depth 20, (search (sendable, history_send, batch_send) depth 20, (search (sendable, history_send) depth 20, tt))),
+                    ),
+                  ),
+                ),
+              ),
+            ),
+          ),
+        ),
+      ),
+    ),
+  )
 
   pub engine_send : IsSend F → IsSend W → IsSend (engine.the_row F H R W g)
   engine_send f w = recorded_send _ _ _ (engine.the_type F H R W g).to_one (struct_send (shape (engine.the_type F H R W g)) (engine_parts f w))
 
   shared_parts : IsSend F → IsSend W → AllSend (shape (shared.the_type F H R W g)).fields
-  shared_parts f w = (search (sendable, items.crosses) depth 20, (struct_send (shape (engine.the_type F H R W g)) (engine_parts f w), (search (sendable, items.crosses, recorded_call_send) depth 20,
-      (search sendable, (search sendable, (history_send (engine.the_row F H R W g) (engine_send f w), tt))))))
+  shared_parts f w = (
+    search (sendable, items.crosses) depth 20,
+    (
+      struct_send (shape (engine.the_type F H R W g)) (engine_parts f w),
+      (
+        search (sendable, items.crosses, recorded_call_send) depth 20,
+        (search sendable, (search sendable, (history_send (engine.the_row F H R W g) (engine_send f w), tt))),
+      ),
+    ),
+  )
 
   pub shared_send : IsSend F → IsSend W → IsSend (shared.the_row F H R W g)
   shared_send f w = recorded_send _ _ _ (shared.the_type F H R W g).to_one (struct_send (shape (shared.the_type F H R W g)) (shared_parts f w))

@@ -64,5 +64,5 @@ calls_of seat number [] = []
 calls_of seat number (event ∷ later) =
     if event.seat == seat
     then record { number = number; asked = event.asked; answer = event.answer }
-        ∷ calls_of seat (suc number) later
+    ∷ calls_of seat (suc number) later
     else calls_of seat (suc number) later

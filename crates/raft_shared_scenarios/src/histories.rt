@@ -1,6 +1,8 @@
 //! Calls of seats at a shared engine, what each is told, and whether the history can be finished.
 
-use raft_log_engine::{Choice, Config, Engine, Fault, Fresh, FsCall, IoKind, LogBatch, MemoryFileSystem};
+use raft_log_engine::{
+    Choice, Config, Engine, Fault, Fresh, FsCall, IoKind, LogBatch, MemoryFileSystem,
+};
 use raft_records::EntryIndex;
 use raft_shared::{Receipt, Reply, Seat, Shared};
 use std::alloc::Global;
@@ -16,7 +18,7 @@ enum Ask {
     Sync,
 }
 
-#[derive(PartialEq)]
+#[derive(Clone, Copy, PartialEq)]
 enum Told {
     Size,
     Done,
@@ -121,13 +123,13 @@ static CASES: [Case; 6] = [
     },
 ];
 
-fn ask(
+fn make_call(
     alloc: Global,
     shared: &mut Shared<MemoryFileSystem>,
     seat: &mut Seat,
-    ask: &Ask,
+    call: &Ask,
 ) -> Result<Receipt, Fault> {
-    match ask {
+    match call {
         Ask::Put(group, key, value) => {
             let mut batch = LogBatch::new(alloc);
             batch.put(*group, key.to_vec(alloc)?, value.to_vec(alloc)?)?;
@@ -177,7 +179,7 @@ fn opened(alloc: Global, case: &Case) -> Result<Shared<MemoryFileSystem>, Fault>
     if case.refuses {
         engine.refuse(FsCall::Sync, 1, IoKind::Other)?;
     }
-    Ok(Shared::new(alloc, engine, case.limit)?)
+    Shared::new(alloc, engine, case.limit).map_err(|refused| refused.fault)
 }
 
 // Asks what the rows say, and answers how many were recorded, where each is told what its row says.
@@ -189,7 +191,7 @@ fn asked(
 ) -> Option<usize> {
     let mut number = 0;
     for (seat, call, told) in rows {
-        match ask(alloc, shared, &mut seats[*seat], call) {
+        match make_call(alloc, shared, &mut seats[*seat], call) {
             Ok(receipt) => {
                 if receipt.number != number || !is_told(told, &receipt.reply) {
                     return None;
@@ -260,7 +262,7 @@ fn a_seat_of_another(rt: HostRuntime) -> Result<(), Fail> {
         let mut other = opened(alloc, &CASES[0])?;
         let mut mine = one.seat()?;
         let mut theirs = other.seat()?;
-        ask(alloc, &mut one, &mut mine, &Ask::Put(1, b"k", b"v"))?;
+        make_call(alloc, &mut one, &mut mine, &Ask::Put(1, b"k", b"v"))?;
         let mut batch = LogBatch::new(alloc);
         batch.put(1, b"k".to_vec(alloc)?, value.to_vec(alloc)?)?;
         other.write(&mut theirs, &mut batch, false)?;

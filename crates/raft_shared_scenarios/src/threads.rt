@@ -75,7 +75,10 @@ fn two_seats_one_history(rt: HostRuntime) -> Result<(), Fail> {
             assert!(rt; matches!(receipt.reply, Reply::Size(Ok(_))));
         }
     }
-    let finished = shared.into_inner().finish(seats).map_err(|unfinished| unfinished.fault)?;
+    let finished = shared
+        .into_inner()
+        .finish(seats)
+        .map_err(|unfinished| unfinished.fault)?;
     assert_eq!(rt; finished.trail.len(), 20);
     for (number, seat) in told.iter().enumerate() {
         for place in seat {

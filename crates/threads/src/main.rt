@@ -2,7 +2,9 @@
 //! are the history, and the engine holds what it says.
 #![tactic(auto)]
 
-use raft_log_engine::{Choice, Config, Engine, Fault, FileSystem, Fresh, LogBatch, MemoryFileSystem};
+use raft_log_engine::{
+    Choice, Config, Engine, Fault, FileSystem, Fresh, LogBatch, MemoryFileSystem,
+};
 use raft_shared::{Receipt, Reply, Seat, Shared};
 use std::alloc::Global;
 use std::sync::{Arc, Mutex, Wait};
@@ -10,14 +12,18 @@ use std::thread;
 use std::thread::{JoinHandle, Threads};
 
 const THREADS: usize = 4;
+
 const PUTS: u8 = 10;
 
 type Together<F> = Arc<Mutex<Shared<F>>, Global>;
 
 fn main(rt: HostRuntime) -> Result<(), anyhow::Error> {
     let alloc = rt.alloc();
-    let engine = Engine::open_in_order(alloc, Config::fresh(alloc), MemoryFileSystem::new(alloc))
-        .map_err(|refused| refused.fault)?;
+    let engine = Engine::open_in_order(
+        alloc,
+        Config::fresh(alloc),
+        MemoryFileSystem::new(alloc),
+    ).map_err(|refused| refused.fault)?;
     let mut shared = Shared::new(alloc, engine, 100).map_err(|refused| refused.fault)?;
     let mut seats = Vec::new(alloc);
     for _ in 0..THREADS {
@@ -37,10 +43,17 @@ fn main(rt: HostRuntime) -> Result<(), anyhow::Error> {
         println!(rt; "a thread still has the engine")?;
         return Ok(());
     };
-    let finished = shared.into_inner().finish(seats).map_err(|unfinished| unfinished.fault)?;
+    let finished = shared
+        .into_inner()
+        .finish(seats)
+        .map_err(|unfinished| unfinished.fault)?;
     let mut engine = finished.engine;
     let image = engine.image()?;
-    println!(rt; "{} calls in one history, {} groups", finished.trail.len(), image.groups.len())?;
+    println!(rt;
+        "{} calls in one history, {} groups",
+        finished.trail.len(),
+        image.groups.len()
+    )?;
     Ok(())
 }
 
