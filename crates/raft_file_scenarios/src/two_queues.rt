@@ -135,7 +135,10 @@ impl ReplayMachine for Counter {
 }
 
 // How many batches are read of the queue.
-fn read<F: FileSystem>(builder: &mut DualPipesBuilder<F>, queue: LogQueue) -> Result<u64, Fault> {
+pub(super) fn read<F: FileSystem>(
+    builder: &mut DualPipesBuilder<F>,
+    queue: LogQueue,
+) -> Result<u64, Fault> {
     let mut machine = Counter { batches: 0 };
     builder.recover_queue(queue, &mut machine)?;
     Ok(machine.batches)
