@@ -1,7 +1,7 @@
 -- An engine may go to another thread, and so may a shared one and its seats.
 use denote.RattleType.{RattleType}
 use denote.Struct.Declared.{shape}
-use denote.Param.Send.{enum_send, IsSend, IsSync, AllSend, AllSync, sendable, owning_send, recorded_send, struct_send, view_send}
+use denote.Param.Send.{IsSend, AllSend, sendable, owning_send, recorded_send, struct_send, view_send}
 use Rattle.std.proofs.Crossing as items
 use Rattle.std.proofs.MapsCrossing as maps
 use Rattle.raft_env.specs.declared.env.FileSystem.{Ghosts}

@@ -1,5 +1,5 @@
 -- What there was of an engine when it was shared.
-use Rattle.std.specs.Prelude.{◌≡◌, ℕ, ◌+◌, ◌-◌, ◌^◌, ◌≤◌, min, Bool, false, List, [], ◌∷◌}
+use Rattle.std.specs.Prelude.{◌+◌, ◌-◌, ◌^◌, ◌≤◌, min, Bool, false, List, [], ◌∷◌}
 use Rattle.raft_records.specs.Contents.{Contents, no_contents}
 use Rattle.raft_env.specs.Refusal.{Refusals, no_refusals}
 use Rattle.raft_env.specs.declared.env.FileSystem.{Ghosts}

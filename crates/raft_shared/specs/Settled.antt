@@ -1,5 +1,5 @@
 -- Seats whose receipts are the calls of a history, each once.
-use Rattle.std.specs.Prelude.{◌≡◌, ℕ, suc, ◌==◌, Bool, true, false, List, [], ◌∷◌, map, if◌then◌else◌}
+use Rattle.std.specs.Prelude.{◌≡◌, ℕ, suc, ◌==◌, List, [], ◌∷◌, if◌then◌else◌}
 use Rattle.std.specs.List.{All}
 use Rattle.raft_shared.specs.History.{Event}
 use Rattle.raft_shared.specs.Shared.{receipts_of}

@@ -4,9 +4,9 @@ use Rattle.std.specs.declared.alloc.Global.{Global}
 use Rattle.raft_base.specs.declared.errors.Fault.{Fault}
 use Rattle.raft_env.specs.Refusal.{Refusals}
 use Rattle.raft_env.specs.declared.env.FileSystem.{Ghosts}
-use Rattle.raft_records.specs.Contents.{Contents, first_index_of, last_index_of}
+use Rattle.raft_records.specs.Contents.{Contents}
 use Rattle.raft_records.specs.Item.{Batch}
-use Rattle.raft_log_engine.specs.Engine.{contents_of, has_failed}
+use Rattle.raft_log_engine.specs.Engine.{has_failed}
 use Rattle.raft_log_engine.specs.declared.engine.Engine.{Engine}
 use Rattle.raft_shared.specs.Begun.{contents_in, failed_in, refusals_in}
 use Rattle.raft_shared.specs.Calls.{IsGet, IsSync, IsWrite}

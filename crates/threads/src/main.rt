@@ -1,15 +1,13 @@
-//! Four threads share an engine, each with a seat of its own: puts, syncs and reads. Then the receipts of the seats
+//! Four threads share an engine, each with a seat of its own: puts, reads and a sync. Then the receipts of the seats
 //! are the history, and the engine holds what it says.
 #![tactic(auto)]
 
-use raft_log_engine::{
-    Choice, Config, Engine, Fault, FileSystem, Fresh, LogBatch, MemoryFileSystem,
-};
-use raft_shared::{Receipt, Reply, Seat, Shared};
+use raft_log_engine::{Config, Engine, Fault, FileSystem, Fresh, LogBatch, MemoryFileSystem};
+use raft_shared::{Reply, Seat, Shared};
 use std::alloc::Global;
 use std::sync::{Arc, Mutex, Wait};
 use std::thread;
-use std::thread::{JoinHandle, Threads};
+use std::thread::JoinHandle;
 
 const THREADS: usize = 4;
 
@@ -57,7 +55,7 @@ fn main(rt: HostRuntime) -> Result<(), anyhow::Error> {
     Ok(())
 }
 
-// Puts keys of a group of the seat's own, and reads each of them.
+// Puts keys of a group of the seat's own, and reads each of them: it is as it was put, since no other seat has this group.
 fn work<F: FileSystem, R: Wait>(
     rt: &R,
     alloc: Global,
@@ -69,7 +67,11 @@ fn work<F: FileSystem, R: Wait>(
         let mut batch = LogBatch::new(alloc);
         batch.put(group, vec![in alloc; key]?, vec![in alloc; key, key]?)?;
         together.lock(rt).write(&mut seat, &mut batch, false)?;
-        together.lock(rt).get(&mut seat, group, &[key])?;
+        let read = together.lock(rt).get(&mut seat, group, &[key])?;
+        match read.reply {
+            Reply::Value(Ok(Some(value))) if value.as_slice() == [key, key] => {}
+            _ => return Err(Fault::WrongIndex),
+        }
     }
     together.lock(rt).sync(&mut seat)?;
     Ok(seat)

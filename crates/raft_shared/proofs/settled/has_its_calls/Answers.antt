@@ -1,4 +1,4 @@
-use Rattle.std.proofs.Common.{◌≡◌, ◌≤◌, ◌∙◌, ap, arith, length, sym}
+use Rattle.std.proofs.Common.{◌≤◌, arith, length, sym}
 use Rattle.raft_shared.proofs.SettledLemmas.{settled_at_end}
 use Rattle.raft_shared.proofs.settled.has_its_calls.Goals as goal
 

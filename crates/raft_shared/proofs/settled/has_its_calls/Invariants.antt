@@ -1,4 +1,4 @@
-use Rattle.std.proofs.Common.{◌≡◌, ◌≤◌, length}
+use Rattle.std.proofs.Common.{◌≤◌, length}
 use Rattle.raft_shared.proofs.SettledLemmas.{IsSameLeft}
 use Rattle.raft_shared.proofs.settled.has_its_calls.Given as goal
 
