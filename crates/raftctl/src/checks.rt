@@ -53,8 +53,7 @@ fn status_of(alloc: Global, found: &QueueFiles, mode: RecoveryMode) -> Result<St
     if found.is_doubled() {
         return Ok(Status::WouldFail);
     }
-    let (_, checks) = found.checks.split_at(found.passed);
-    for (planned, check) in found.plan(alloc, mode)?.iter().zip(checks) {
+    for (planned, check) in found.plan(alloc, mode)?.iter().zip(found.kept_checks()) {
         status = worse(status, status_of_file(*planned, check));
     }
     Ok(status)
@@ -101,12 +100,11 @@ fn planned_at(plan: &[Planned], place: usize) -> &'static str {
 
 // What stands between a file and the one before it in its queue.
 fn add_gap(found: &QueueFiles, place: usize, out: &mut Output) -> Result<(), Fault> {
-    let (before, rest) = found.checks.split_at(place.min(found.checks.len()));
-    let (Some(before), Some(check)) = (before.last(), rest.first()) else {
+    let (Some(before), Some(check)) = (found.number_before(place), found.checks.get(place)) else {
         return Ok(());
     };
     let queue = ("queue", Word::Text(queue_name(found.queue)));
-    let next = before.id.seq.saturating_add(1);
+    let next = before.saturating_add(1);
     if check.id.seq < next {
         out.named(&[queue, ("doubled", Word::Number(check.id.seq))])?;
     } else if check.id.seq > next {

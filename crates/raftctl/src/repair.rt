@@ -39,8 +39,7 @@ fn keep_cuts<F: FileSystem>(
 ) -> Result<(), Fault> {
     let found = inspect(alloc, files, options, queue)?;
     let plan = found.plan(alloc, options.mode)?;
-    let (_, kept) = found.files.split_at(found.passed);
-    let (_, checks) = found.checks.split_at(found.passed);
+    let (kept, checks) = (found.kept_files(), found.kept_checks());
     // Nothing is kept of a log that can't be opened.
     if plan.contains(&Planned::Fail) {
         return Ok(());
