@@ -75,20 +75,32 @@ fn add_queue(alloc: Global, found: &QueueFiles, out: &mut Output) -> Result<(), 
     let any = found.plan(alloc, RecoveryMode::TolerateAnyCorruption)?;
     for (place, (file, check)) in found.files.iter().zip(&found.checks).enumerate() {
         add_gap(found, place, out)?;
-        match place.checked_sub(found.passed) {
-            None => add_file(file, check, None, out)?,
-            Some(kept) => {
-                let plans = [
-                    planned_at(&absolute, kept),
-                    planned_at(&tail, kept),
-                    planned_at(&any, kept),
-                ];
-                add_file(file, check, Some(plans), out)?;
-            }
-        }
+        let plans = match place.checked_sub(found.passed) {
+            None => PASSED_OVER,
+            Some(kept) => Plans {
+                absolute: planned_at(&absolute, kept),
+                tail: planned_at(&tail, kept),
+                any: planned_at(&any, kept),
+            },
+        };
+        add_file(file, check, plans, out)?;
     }
     Ok(())
 }
+
+/// What an opening in each mode does with a file.
+#[derive(Clone, Copy)]
+struct Plans {
+    absolute: &'static str,
+    tail: &'static str,
+    any: &'static str,
+}
+
+const PASSED_OVER: Plans = Plans {
+    absolute: "pass",
+    tail: "pass",
+    any: "pass",
+};
 
 fn planned_at(plan: &[Planned], place: usize) -> &'static str {
     match plan.get(place) {
@@ -120,10 +132,9 @@ fn add_gap(found: &QueueFiles, place: usize, out: &mut Output) -> Result<(), Fau
 fn add_file(
     file: &LogFile,
     check: &FileCheck,
-    plans: Option<[&'static str; 3]>,
+    plans: Plans,
     out: &mut Output,
 ) -> Result<(), Fault> {
-    let [absolute, tail, any] = plans.unwrap_or(["pass", "pass", "pass"]);
     out.named(&[
         ("file", Word::Bytes(file.path.as_bytes())),
         ("version", Word::Text(version_name(check))),
@@ -131,9 +142,9 @@ fn add_file(
         ("read", Word::Number(check.end as u64)),
         ("size", Word::Number(check.len as u64)),
         ("rest", Word::Text(rest_name(check))),
-        ("absolute", Word::Text(absolute)),
-        ("tail", Word::Text(tail)),
-        ("any", Word::Text(any)),
+        ("absolute", Word::Text(plans.absolute)),
+        ("tail", Word::Text(plans.tail)),
+        ("any", Word::Text(plans.any)),
     ])?;
     Ok(())
 }

@@ -88,10 +88,16 @@ pub(crate) fn scan<F: FileSystem>(
     bounds: &Bounds,
     out: &mut Output,
 ) -> Result<bool, Fault> {
-    for (key, value) in scanned(alloc, engine, group, bounds)? {
-        out.line(&[("key", Word::Bytes(&key)), ("value", Word::Bytes(&value))])?;
+    for pair in &scanned(alloc, engine, group, bounds)? {
+        add_pair(pair, out)?;
     }
     Ok(true)
+}
+
+fn add_pair(pair: &Pair, out: &mut Output) -> Result<(), Fault> {
+    let (key, value) = pair;
+    out.line(&[("key", Word::Bytes(key)), ("value", Word::Bytes(value))])?;
+    Ok(())
 }
 
 fn scanned<F: FileSystem>(

@@ -66,10 +66,20 @@ fn keep_cut<F: FileSystem>(
     if let Err(fault) = write_file(files, kept.as_str(), &bytes) {
         return Err(fault.with_path(alloc, kept.as_str()));
     }
+    add_cut(file.path.as_str(), kept.as_str(), end, bytes.len(), out)
+}
+
+fn add_cut<'a>(
+    path: &'a str,
+    kept: &'a str,
+    end: usize,
+    len: usize,
+    out: &mut Output,
+) -> Result<(), Fault> {
     out.named(&[
-        ("file", Word::Bytes(file.path.as_bytes())),
+        ("file", Word::Bytes(path.as_bytes())),
         ("cut", Word::Number(end as u64)),
-        ("bytes", Word::Number(bytes.len() as u64)),
+        ("bytes", Word::Number(len as u64)),
         ("kept", Word::Bytes(kept.as_bytes())),
     ])?;
     Ok(())
