@@ -107,12 +107,15 @@ fn put_lines<F: FileSystem>(
             continue;
         }
         let Some(tab) = line.iter().position(|byte| *byte == b'\t') else {
-            return Err(anyhow!("line {}: no tab between a key and a value", place + 1));
+            return Err(anyhow!(
+                "line {}: no tab between a key and a value",
+                place.saturating_add(1)
+            ));
         };
         let (key, value) = line.split_at(tab);
         let value = value.get(1..).unwrap_or(&[]);
         if let Err(fault) = write(alloc, engine, group, Change::Put(key, value), false) {
-            return Err(anyhow!("line {}: {fault}", place + 1));
+            return Err(anyhow!("line {}: {fault}", place.saturating_add(1)));
         }
     }
     if sync {

@@ -53,8 +53,7 @@ fn status_of(alloc: Global, found: &QueueFiles, mode: RecoveryMode) -> Result<St
     if found.is_doubled() {
         return Ok(Status::WouldFail);
     }
-    let (_, checks) = found.checks.split_at(found.passed);
-    for (planned, check) in found.plan(alloc, mode)?.iter().zip(checks) {
+    for (planned, check) in found.plan(alloc, mode)?.iter().zip(found.kept_checks()) {
         status = worse(status, status_of_file(*planned, check));
     }
     Ok(status)
@@ -76,20 +75,32 @@ fn add_queue(alloc: Global, found: &QueueFiles, out: &mut Output) -> Result<(), 
     let any = found.plan(alloc, RecoveryMode::TolerateAnyCorruption)?;
     for (place, (file, check)) in found.files.iter().zip(&found.checks).enumerate() {
         add_gap(found, place, out)?;
-        match place.checked_sub(found.passed) {
-            None => add_file(file, check, None, out)?,
-            Some(kept) => {
-                let plans = [
-                    planned_at(&absolute, kept),
-                    planned_at(&tail, kept),
-                    planned_at(&any, kept),
-                ];
-                add_file(file, check, Some(plans), out)?;
-            }
-        }
+        let plans = match place.checked_sub(found.passed) {
+            None => PASSED_OVER,
+            Some(kept) => Plans {
+                absolute: planned_at(&absolute, kept),
+                tail: planned_at(&tail, kept),
+                any: planned_at(&any, kept),
+            },
+        };
+        add_file(file, check, plans, out)?;
     }
     Ok(())
 }
+
+/// What an opening in each mode does with a file.
+#[derive(Clone, Copy)]
+struct Plans {
+    absolute: &'static str,
+    tail: &'static str,
+    any: &'static str,
+}
+
+const PASSED_OVER: Plans = Plans {
+    absolute: "pass",
+    tail: "pass",
+    any: "pass",
+};
 
 fn planned_at(plan: &[Planned], place: usize) -> &'static str {
     match plan.get(place) {
@@ -101,12 +112,11 @@ fn planned_at(plan: &[Planned], place: usize) -> &'static str {
 
 // What stands between a file and the one before it in its queue.
 fn add_gap(found: &QueueFiles, place: usize, out: &mut Output) -> Result<(), Fault> {
-    let (before, rest) = found.checks.split_at(place.min(found.checks.len()));
-    let (Some(before), Some(check)) = (before.last(), rest.first()) else {
+    let (Some(before), Some(check)) = (found.number_before(place), found.checks.get(place)) else {
         return Ok(());
     };
     let queue = ("queue", Word::Text(queue_name(found.queue)));
-    let next = before.id.seq.saturating_add(1);
+    let next = before.saturating_add(1);
     if check.id.seq < next {
         out.named(&[queue, ("doubled", Word::Number(check.id.seq))])?;
     } else if check.id.seq > next {
@@ -122,10 +132,9 @@ fn add_gap(found: &QueueFiles, place: usize, out: &mut Output) -> Result<(), Fau
 fn add_file(
     file: &LogFile,
     check: &FileCheck,
-    plans: Option<[&'static str; 3]>,
+    plans: Plans,
     out: &mut Output,
 ) -> Result<(), Fault> {
-    let [absolute, tail, any] = plans.unwrap_or(["pass", "pass", "pass"]);
     out.named(&[
         ("file", Word::Bytes(file.path.as_bytes())),
         ("version", Word::Text(version_name(check))),
@@ -133,9 +142,9 @@ fn add_file(
         ("read", Word::Number(check.end as u64)),
         ("size", Word::Number(check.len as u64)),
         ("rest", Word::Text(rest_name(check))),
-        ("absolute", Word::Text(absolute)),
-        ("tail", Word::Text(tail)),
-        ("any", Word::Text(any)),
+        ("absolute", Word::Text(plans.absolute)),
+        ("tail", Word::Text(plans.tail)),
+        ("any", Word::Text(plans.any)),
     ])?;
     Ok(())
 }

@@ -1,4 +1,5 @@
 //! Keys and values in any bytes: as text, as digits, of a file or of standard input.
+ghost use Rattle.std.specs.Prelude.{◌<◌, IfSome};
 
 use anyhow::{Result, anyhow, bail};
 use std::alloc::Global;
@@ -44,21 +45,21 @@ fn file(rt: &HostRuntime, path: &str) -> Result<Vec<u8>> {
 
 fn digits(alloc: Global, word: &str) -> Result<Vec<u8>> {
     let mut bytes = Vec::new(alloc);
-    let mut rest = word.as_bytes();
-    while let [high, low, others @ ..] = rest {
+    for pair in word.as_bytes().chunks(2) {
+        let [high, low] = pair else {
+            return Err(anyhow!("{word}: a digit is missing"));
+        };
         let (Some(high), Some(low)) = (digit(*high), digit(*low)) else {
             bail!("{word}: no hexadecimal digits");
         };
         bytes.push(high * 16 + low)?;
-        rest = others;
-    }
-    if !rest.is_empty() {
-        return Err(anyhow!("{word}: a digit is missing"));
     }
     Ok(bytes)
 }
 
-fn digit(byte: u8) -> Option<u8> {
+fn digit(byte: u8) -> Option<u8>
+    ensures { IfSome result (λ value. value < 16) }
+{
     match byte {
         b'0'..=b'9' => Some(byte - b'0'),
         b'a'..=b'f' => Some(byte - b'a' + 10),

@@ -63,17 +63,30 @@ fn add_files<F: FileSystem>(
 }
 
 impl QueueFiles {
-    /// What an opening in a mode does with each file that it doesn't pass over.
+    /// The files that an opening doesn't pass over.
+    pub(crate) fn kept_files(&self) -> &[LogFile] {
+        self.files.get(self.passed..).unwrap_or(&[])
+    }
+
+    /// What can be read of each of them.
+    pub(crate) fn kept_checks(&self) -> &[FileCheck] {
+        self.checks.get(self.passed..).unwrap_or(&[])
+    }
+
+    /// What an opening in a mode does with each of them.
     pub(crate) fn plan(&self, alloc: Global, mode: RecoveryMode) -> Result<Vec<Planned>, Fault> {
-        let (_, kept) = self.checks.split_at(self.passed);
-        plan_opening(alloc, mode, kept)
+        plan_opening(alloc, mode, self.kept_checks())
+    }
+
+    /// The number of the file before the one at a place.
+    pub(crate) fn number_before(&self, place: usize) -> Option<u64> {
+        Some(self.checks.get(place.checked_sub(1)?)?.id.seq)
     }
 
     /// Whether an opening refuses two files of one number.
     pub(crate) fn is_doubled(&self) -> bool {
-        let (passed, kept) = self.checks.split_at(self.passed);
-        match (passed.last(), kept.first()) {
-            (Some(before), Some(first)) => before.id.seq == first.id.seq,
+        match (self.number_before(self.passed), self.kept_checks().first()) {
+            (Some(before), Some(first)) => before == first.id.seq,
             _ => false,
         }
     }
@@ -85,13 +98,18 @@ impl QueueFiles {
         mode: RecoveryMode,
     ) -> Result<Option<(&str, usize)>, Fault> {
         let plan = self.plan(alloc, mode)?;
-        let (_, files) = self.files.split_at(self.passed);
-        let (_, checks) = self.checks.split_at(self.passed);
-        for ((planned, file), check) in plan.iter().zip(files).zip(checks) {
+        for (place, planned) in plan.iter().enumerate() {
             if *planned == Planned::Fail {
-                return Ok(Some((file.path.as_str(), check.end)));
+                return Ok(self.place_of(place));
             }
         }
         Ok(None)
+    }
+
+    // The path of a kept file, and where its reading ends.
+    fn place_of(&self, place: usize) -> Option<(&str, usize)> {
+        let file = self.kept_files().get(place)?;
+        let check = self.kept_checks().get(place)?;
+        Some((file.path.as_str(), check.end))
     }
 }

@@ -161,7 +161,7 @@ fn add_item<F: FileSystem>(
     }
 }
 
-fn add_command(front: [Field<'_>; 4], command: Command, out: &mut Output) -> Result<(), Fault> {
+fn add_command(front: [Field<'static>; 4], command: Command, out: &mut Output) -> Result<(), Fault> {
     let [queue, file, offset, group] = front;
     match command {
         Command::Clean => out.line(&[queue, file, offset, group, kind("clean")])?,
@@ -173,7 +173,7 @@ fn add_command(front: [Field<'_>; 4], command: Command, out: &mut Output) -> Res
     Ok(())
 }
 
-fn add_pair(front: [Field<'_>; 4], pair: &KeyValue, out: &mut Output) -> Result<(), Fault> {
+fn add_pair(front: [Field<'static>; 4], pair: &KeyValue, out: &mut Output) -> Result<(), Fault> {
     let [queue, file, offset, group] = front;
     match pair {
         KeyValue::Put { key, value } => out.line(&[
@@ -198,7 +198,7 @@ fn add_entry<F: FileSystem>(
     alloc: Global,
     image: &mut F,
     paths: &[PathOf],
-    front: [Field<'_>; 4],
+    front: [Field<'static>; 4],
     entry: &EntryIndex,
     out: &mut Output,
 ) -> Result<(), Fault> {

@@ -5,7 +5,7 @@ use crate::output::{Output, Word};
 use crate::request::Range;
 use anyhow::Result;
 use raft_log_engine::{Engine, Fault, FileSystem};
-use std::alloc::Global;
+use std::alloc::{AllocError, Global};
 
 /// A range of keys in bytes.
 #[derive(Drop)]
@@ -88,10 +88,16 @@ pub(crate) fn scan<F: FileSystem>(
     bounds: &Bounds,
     out: &mut Output,
 ) -> Result<bool, Fault> {
-    for (key, value) in scanned(alloc, engine, group, bounds)? {
-        out.line(&[("key", Word::Bytes(&key)), ("value", Word::Bytes(&value))])?;
+    for pair in &scanned(alloc, engine, group, bounds)? {
+        add_pair(pair, out)?;
     }
     Ok(true)
+}
+
+fn add_pair(pair: &Pair, out: &mut Output) -> Result<(), Fault> {
+    let (key, value) = pair;
+    out.line(&[("key", Word::Bytes(key)), ("value", Word::Bytes(value))])?;
+    Ok(())
 }
 
 fn scanned<F: FileSystem>(
@@ -99,28 +105,52 @@ fn scanned<F: FileSystem>(
     engine: &Engine<F>,
     group: u64,
     bounds: &Bounds,
-) -> Result<Vec<(Vec<u8>, Vec<u8>)>, Fault> {
+) -> Result<Vec<Pair>, Fault> {
     let from = bounds.from.as_ref().map(|key| key.as_slice());
     let to = bounds.to.as_ref().map(|key| key.as_slice());
-    let mut pairs = Vec::new(alloc);
-    let mut kept = Ok(());
-    let mut keep = |key: &[u8], value: &[u8]| {
-        if pairs.len() as u64 >= bounds.limit {
-            return false;
-        }
-        kept = add_pair(alloc, &mut pairs, key, value);
-        kept.is_ok()
+    let mut copies = Copies {
+        alloc,
+        pairs: Vec::new(alloc),
+        limit: bounds.limit,
+        is_whole: true,
     };
-    engine.scan_raw_messages(group, from, to, bounds.reverse, &mut keep)?;
-    kept?;
-    Ok(pairs)
+    engine.scan_raw_messages(
+        group,
+        from,
+        to,
+        bounds.reverse,
+        &mut |key: &[u8], value: &[u8]| copies.keep(key, value),
+    )?;
+    if copies.is_whole {
+        Ok(copies.pairs)
+    } else {
+        Err(Fault::Memory)
+    }
 }
 
-fn add_pair(
+/// A key and its value.
+type Pair = (Vec<u8>, Vec<u8>);
+
+#[derive(Drop)]
+struct Copies {
     alloc: Global,
-    pairs: &mut Vec<(Vec<u8>, Vec<u8>)>,
-    key: &[u8],
-    value: &[u8],
-) -> Result<(), Fault> {
-    Ok(pairs.push((key.to_vec(alloc)?, value.to_vec(alloc)?))?)
+    pairs: Vec<Pair>,
+    limit: u64,
+    is_whole: bool,
+}
+
+impl Copies {
+    // Whether the scan goes on.
+    fn keep(&mut self, key: &[u8], value: &[u8]) -> bool {
+        if self.pairs.len() as u64 >= self.limit {
+            return false;
+        }
+        self.is_whole = push(self.alloc, key, value, &mut self.pairs).is_ok();
+        self.is_whole
+    }
+}
+
+fn push(alloc: Global, key: &[u8], value: &[u8], pairs: &mut Vec<Pair>) -> Result<(), AllocError> {
+    pairs.push((key.to_vec(alloc)?, value.to_vec(alloc)?))?;
+    Ok(())
 }

@@ -39,8 +39,7 @@ fn keep_cuts<F: FileSystem>(
 ) -> Result<(), Fault> {
     let found = inspect(alloc, files, options, queue)?;
     let plan = found.plan(alloc, options.mode)?;
-    let (_, kept) = found.files.split_at(found.passed);
-    let (_, checks) = found.checks.split_at(found.passed);
+    let (kept, checks) = (found.kept_files(), found.kept_checks());
     // Nothing is kept of a log that can't be opened.
     if plan.contains(&Planned::Fail) {
         return Ok(());
@@ -67,10 +66,20 @@ fn keep_cut<F: FileSystem>(
     if let Err(fault) = write_file(files, kept.as_str(), &bytes) {
         return Err(fault.with_path(alloc, kept.as_str()));
     }
+    add_cut(file.path.as_str(), kept.as_str(), end, bytes.len(), out)
+}
+
+fn add_cut<'a>(
+    path: &'a str,
+    kept: &'a str,
+    end: usize,
+    len: usize,
+    out: &mut Output,
+) -> Result<(), Fault> {
     out.named(&[
-        ("file", Word::Bytes(file.path.as_bytes())),
+        ("file", Word::Bytes(path.as_bytes())),
         ("cut", Word::Number(end as u64)),
-        ("bytes", Word::Number(bytes.len() as u64)),
+        ("bytes", Word::Number(len as u64)),
         ("kept", Word::Bytes(kept.as_bytes())),
     ])?;
     Ok(())

@@ -73,8 +73,11 @@ fn add_queue(
         sizes.files = sizes.files.saturating_add(1);
         sizes.bytes = sizes.bytes.saturating_add(check.len as u64);
     }
-    let (_, kept) = found.checks.split_at(found.passed);
-    for (planned, check) in found.plan(alloc, options.mode)?.iter().zip(kept) {
+    for (planned, check) in found
+        .plan(alloc, options.mode)?
+        .iter()
+        .zip(found.kept_checks())
+    {
         if let Planned::Cut(end) = planned {
             let cut = check.len.saturating_sub(*end) as u64;
             if check.zeros {
