@@ -161,7 +161,11 @@ fn add_item<F: FileSystem>(
     }
 }
 
-fn add_command(front: [Field<'static>; 4], command: Command, out: &mut Output) -> Result<(), Fault> {
+fn add_command(
+    front: [Field<'static>; 4],
+    command: Command,
+    out: &mut Output,
+) -> Result<(), Fault> {
     let [queue, file, offset, group] = front;
     match command {
         Command::Clean => out.line(&[queue, file, offset, group, kind("clean")])?,
