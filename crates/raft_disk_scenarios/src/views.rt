@@ -59,12 +59,12 @@ fn looks(rt: HostRuntime, folder: &str) -> Result<[bool; 3], Fail> {
     make(&rt, folder)?;
     let first = sees_the_log(rt, folder, false)?;
     set_writable(&rt, folder, false)?;
-    let second = sees_the_log(rt, folder, false);
+    let second = sees_the_log(rt, folder, false)?;
     set_writable(&rt, folder, true)?;
     let writer = DiskFileSystem::open(rt, folder)?;
-    let third = sees_the_log(rt, folder, true);
+    let third = sees_the_log(rt, folder, true)?;
     drop(writer);
-    Ok([first, second?, third?])
+    Ok([first, second, third])
 }
 
 #[test]
@@ -84,25 +84,26 @@ fn fault_of(rt: HostRuntime, place: &str) -> Result<String, Fail> {
     }
 }
 
+// Whether looks at a file, at nothing and at an empty name say so, and make nothing.
+fn fail_so(rt: HostRuntime, folder: &str) -> Result<[bool; 4], Fail> {
+    make(&rt, folder)?;
+    let file = format!(in rt.alloc(); "{folder}/log")?;
+    let missing = format!(in rt.alloc(); "{folder}/missing")?;
+    let in_place = format!(in rt.alloc(); "{file}: a file stands in the folder's place")?;
+    let nowhere = format!(in rt.alloc(); "{missing}: No such file or directory")?;
+    Ok([
+        fault_of(rt, file.as_str())? == in_place,
+        fault_of(rt, missing.as_str())?.starts_with(nowhere.as_str()),
+        fault_of(rt, "")?.as_str() == "a folder has no empty name",
+        !fs::exists(&rt, missing.as_str())?,
+    ])
+}
+
 #[test]
 fn looks_at_no_folder_fail(rt: HostRuntime) -> Result<(), Fail> {
     let folder = temp_folder(&rt, "no-looks")?;
-    let file = format!(in rt.alloc(); "{folder}/log")?;
-    let missing = format!(in rt.alloc(); "{folder}/missing")?;
-    let made = make(&rt, folder.as_str());
-    let said = (
-        fault_of(rt, file.as_str()),
-        fault_of(rt, missing.as_str()),
-        fault_of(rt, ""),
-    );
-    let stands = fs::exists(&rt, missing.as_str());
+    let failed = fail_so(rt, folder.as_str());
     let removed = fs::remove_dir_all(&rt, folder.as_str());
-    made?;
-    let wanted = format!(in rt.alloc(); "{file}: a file stands in the folder's place")?;
-    assert_eq!(rt; said.0?, wanted);
-    let wanted = format!(in rt.alloc(); "{missing}: No such file or directory")?;
-    assert!(rt; said.1?.starts_with(wanted.as_str()));
-    assert_eq!(rt; said.2?.as_str(), "a folder has no empty name");
-    assert!(rt; !stands?);
+    assert_eq!(rt; failed?, [true, true, true, true]);
     Ok(removed?)
 }
