@@ -19,6 +19,7 @@ use Rattle.raft_tables.specs.contracts.entries.EntryTable as entries
 use Rattle.raft_records.specs.contracts.log_batch.LogBatch as batch
 use Rattle.raft_tables.specs.contracts.memtables.MemTables as tables
 use Rattle.raft_tables.specs.contracts.memtable.MemTable as table
+use Rattle.raft_tables.specs.contracts.owed.OwedMarks as owed
 use Rattle.raft_tables.specs.contracts.stats.GlobalStats as stats
 use Rattle.raft_log_engine.specs.contracts.engine.Engine as engine
 use Rattle.raft_base.specs.contracts.errors.Fault as fault
@@ -86,6 +87,12 @@ tables_parts = (search (sendable, items.crosses) depth 20, (search (sendable, it
 tables_field_send : IsSend (tables.the_field).row
 tables_field_send = struct_send (shape tables.the_type) tables_parts
 
+owed_parts : AllSend (shape owed.the_type).fields
+owed_parts = (search (sendable, items.crosses) depth 20, (search (sendable, items.crosses, maps.crosses) depth 20, (search (sendable, items.crosses, maps.crosses) depth 20, (search (sendable, items.crosses, maps.crosses) depth 20, tt))))
+
+owed_send : IsSend (owed.the_field).row
+owed_send = struct_send (shape owed.the_type) owed_parts
+
 stats_send : IsSend (stats.the_field).row
 stats_send = search (sendable, items.crosses) depth 20
 
@@ -149,14 +156,20 @@ module _ (F H R W : RattleType) (g : Ghosts F.Denot H.Denot R.Denot W.Denot) whe
             (
               stats_send,
               (
-                search (sendable, items.crosses) depth 20,
+                owed_send,
                 (
-                  search (sendable, items.crosses, item_send) depth 20,
+                  search sendable,
                   (
-                    search sendable,
+                    search (sendable, items.crosses) depth 20,
                     (
-                      search (sendable, history_send, batch_send) depth 20,
-                      (search (sendable, history_send, batch_send) depth 20, (search (sendable, history_send, batch_send) depth 20, (search (sendable, history_send) depth 20, tt))),
+                      search (sendable, items.crosses, item_send) depth 20,
+                      (
+                        search sendable,
+                        (
+                          search (sendable, history_send, batch_send) depth 20,
+                          (search (sendable, history_send, batch_send) depth 20, (search (sendable, history_send, batch_send) depth 20, (search (sendable, history_send) depth 20, tt))),
+                        ),
+                      ),
                     ),
                   ),
                 ),

@@ -8,7 +8,7 @@ use Rattle.raft_env.specs.declared.env.FileSystem.{Ghosts}
 use Rattle.raft_pipes.specs.Queue.{IsFileRefusalIn}
 use Rattle.raft_log_engine.specs.Advance.{Advances, state_of}
 use Rattle.raft_log_engine.specs.Cause.{IsWriteRefusal, StandsUnless}
-use Rattle.raft_log_engine.specs.Crash.{pending_of, written_batch}
+use Rattle.raft_held.specs.Crash.{pending_of, written_batch}
 use Rattle.raft_log_engine.specs.Durability.{ChangesNoFile, HasRefused, HasWritten, StaysFailed, accepted_by, covered_by}
 use Rattle.raft_log_engine.specs.Engine.{answer_now, answered_of, contents_of, directory_of, folders_of, has_failed, queue_of, refusals_of}
 use Rattle.raft_log_engine.specs.declared.engine.Engine.{Engine}
