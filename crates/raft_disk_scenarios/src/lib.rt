@@ -10,5 +10,3 @@ mod crashes;
 mod openings;
 #[cfg(test)]
 mod temp;
-#[cfg(test)]
-mod views;

@@ -20,16 +20,13 @@ pub(crate) fn load<F: FileSystem>(
     rt: &HostRuntime,
     engine: &mut Engine<F>,
     load: Load,
-    quiet: bool,
-) -> Result<()> {
+) -> Result<bool> {
     let start = Instant::now(rt)?;
     for number in 0..load.count {
-        put_next(rt, engine, number, load, quiet)?;
+        put_next(rt, engine, number, load)?;
     }
-    if quiet {
-        return Ok(());
-    }
-    report(rt, start, load)
+    report(rt, start, load)?;
+    Ok(true)
 }
 
 fn put_next<F: FileSystem>(
@@ -37,7 +34,6 @@ fn put_next<F: FileSystem>(
     engine: &mut Engine<F>,
     number: u64,
     load: Load,
-    quiet: bool,
 ) -> Result<()> {
     let nth = number.saturating_add(1);
     let sync = load.sync_each > 0 && (nth % load.sync_each == 0 || nth == load.count);
@@ -47,7 +43,7 @@ fn put_next<F: FileSystem>(
     if sync {
         println!(rt; "synced {number}")?;
     }
-    if nth % PROGRESS == 0 && !quiet {
+    if nth % PROGRESS == 0 {
         eprintln!(rt; "{nth} of {}", load.count)?;
     }
     Ok(())
@@ -59,7 +55,7 @@ fn put<F: FileSystem>(
     number: u64,
     size: u64,
     sync: bool,
-) -> Result<(), Fault> {
+) -> Result<bool, Fault> {
     let key = key_of(alloc, number)?;
     let value = value_of(alloc, number, size)?;
     write(alloc, engine, GROUP, Change::Put(&key, &value), sync)
@@ -101,7 +97,7 @@ pub(crate) fn verify<F: FileSystem>(
         ("after a gap", after),
         ("wrong", wrong),
     ] {
-        out.named(&[(name, Word::Number(count))])?;
+        out.line(&[Word::Text(name), Word::Number(count)])?;
     }
     Ok(after == 0 && wrong == 0)
 }
