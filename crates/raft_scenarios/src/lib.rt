@@ -16,6 +16,8 @@ mod opening;
 #[cfg(test)]
 mod program;
 #[cfg(test)]
+mod purges;
+#[cfg(test)]
 mod queues;
 #[cfg(test)]
 mod reads;
