@@ -1,4 +1,4 @@
-//! When a purge rewrites, what it rewrites, and which files it may drop, as rules over counts and numbers of files.
+//! When a purge rewrites, and what it rewrites, as rules over counts and numbers of files.
 #![tactic(auto)]
 
 mod group_choice;

@@ -10,8 +10,8 @@ pub struct QueueUse {
     pub bytes: u64,
 }
 
-/// The entries that were ever placed in the Rewrite queue, and how many of them have left their places since; both
-/// counted from the last reset.
+/// The entries that were placed in the Rewrite queue, and how many of them have left their places since; a reset takes
+/// the second number from the first.
 #[derive(Clone, Copy, Debug, PartialEq, Eq)]
 pub struct RewrittenEntries {
     pub rewritten: u64,
