@@ -12,18 +12,17 @@ use Rattle.raft_config.specs.Folders.{Folders}
 use Rattle.raft_pipes.specs.Folder.{readable_of}
 use Rattle.raft_pipes.specs.Numbered.{in_queue}
 use Rattle.raft_pipes.specs.Pipe.{IsRecordOf}
-use Rattle.raft_pipes.specs.PipeState.{PipeState, files_from}
+use Rattle.raft_pipes.specs.PipeState.{files_from}
 use Rattle.raft_pipes.specs.Purge.{dropped_batches}
-use Rattle.raft_pipes.specs.Queue.{RecoversPrefixOf}
-use Rattle.raft_queues.specs.Dual.{DualState, HasAppendedIn, HasBoth, HasSyncedIn, KeepsBothAppending, RecoversBoth, pipe_of}
-use Rattle.raft_queues.specs.DualPurge.{BothRestHave, HasDroppedUpToIn, KeepsBothRest, with_queue}
+use Rattle.raft_queues.specs.Dual.{DualState, HasAppendedIn, HasSyncedIn, KeepsBothAppending}
+use Rattle.raft_queues.specs.DualPurge.{HasDroppedUpToIn, KeepsBothRest, with_queue}
 use Rattle.raft_records.specs.Contents.{Contents, after_batches}
 use Rattle.raft_records.specs.Item.{Batch}
 use Rattle.raft_recovery.specs.Recovered.{recovered}
 use Rattle.raft_recovery.specs.Stands.{Queues, Stands}
 use Rattle.raft_recovery.proofs.StandsLemmas.{all_rewritten, found_prefix, stands_front_dropped, stands_older_gone, stands_rewritten, stands_rewritten_synced}
 use Rattle.raft_held.specs.Crash.{KeepsContents, RecoversContents}
-use Rattle.raft_held.specs.Held.{HasQueues, HoldsContents, HoldsQueues, RecoversQueues, appends, batches_in, drops, synced_in, syncs}
+use Rattle.raft_held.specs.Held.{HoldsContents, HoldsQueues, appends, batches_in, drops, synced_in, syncs}
 use Rattle.raft_recovery.specs.Takes.{CanDropFront, RewriteTakes}
 use Rattle.raft_held.proofs.StepsLemmas.{drop_nothing, have_both, recover_both, queues_appended, queues_appending, queues_synced, some_none, take_nothing}
 
