@@ -9,9 +9,11 @@ mod opening;
 mod places;
 mod refusals;
 mod told;
+mod view;
 
 pub use disk::Disk;
 pub use folder::{Folder, FolderFile};
 pub use image::Image;
 pub use mirror::{DiskHandle, DiskReader, DiskWriter, Mirror};
 pub use opening::{DiskFileSystem, OpenFault};
+pub use view::{FolderView, image_of};

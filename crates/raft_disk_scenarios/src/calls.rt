@@ -156,12 +156,13 @@ const TRUNCATE: &[Row] = &[
     (Step::Create("later"), Some(IoKind::Other), "later", None),
 ];
 
+/// Room ahead is a wish: where it is refused, all goes on.
 const ALLOCATE: &[Row] = &[
     (Step::Writer("a"), None, "a", Some(b"kept")),
     (Step::Delete("z"), None, "z", None),
     (Step::Lose("a"), None, "a", None),
     (Step::Allocate(0, 9), Some(IoKind::NotFound), "a", None),
-    (Step::Create("later"), Some(IoKind::Other), "later", None),
+    (Step::Create("later"), None, "later", Some(b"")),
 ];
 
 const SYNC: &[Row] = &[

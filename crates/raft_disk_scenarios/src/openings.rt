@@ -38,7 +38,7 @@ const CASES: [Case; 6] = [
         made: &[Made::File("f")],
         opened: "/f",
         named: "/f",
-        text: "File exists",
+        text: "a file stands in the folder's place",
     },
     Case {
         made: &[Made::File("f")],
@@ -56,7 +56,7 @@ const CASES: [Case; 6] = [
         made: &[Made::Folder("LOCK"), Made::File("f")],
         opened: "",
         named: "",
-        text: "Is a directory",
+        text: "its lock cannot be opened: Is a directory",
     },
     Case {
         made: &[Made::File("f"), Made::Link("f", "g")],
@@ -176,7 +176,7 @@ fn read_only(rt: HostRuntime, folder: &str) -> Result<Option<String>, Fail> {
 #[test]
 fn a_folder_has_to_be_writable(rt: HostRuntime) -> Result<(), Fail> {
     let folder = temp_folder(&rt, "read-only")?;
-    let wanted = format!(in rt.alloc(); "{folder}: Permission denied")?;
+    let wanted = format!(in rt.alloc(); "{folder}: its lock cannot be opened: Permission denied")?;
     let said = read_only(rt, folder.as_str());
     let removed = fs::remove_dir_all(&rt, folder.as_str());
     assert!(rt; said?.is_none_or(|fault| fault.starts_with(wanted.as_str())));

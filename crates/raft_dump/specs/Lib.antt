@@ -1,0 +1,4 @@
+pub mod Check
+pub mod Dump
+pub mod Items
+pub mod LogFiles

@@ -1,0 +1,16 @@
+//! What log files hold, item by item, and what can be read of a file: for tools that look at a log.
+#![tactic(auto)]
+
+mod build;
+mod check;
+mod dumping;
+mod files;
+mod item_reader;
+mod plan;
+
+pub use build::{build_file_reader, build_file_writer};
+pub use check::{FileCheck, check_file};
+pub use dumping::dump_with_file_system;
+pub use files::{LogFile, log_file, log_files};
+pub use item_reader::{LogItemReader, RecordPlace};
+pub use plan::{Planned, passed_over, plan_opening};
