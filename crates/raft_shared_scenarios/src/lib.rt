@@ -1,0 +1,7 @@
+//! Tests of a shared engine: its history, and threads over one engine.
+#![tactic(auto)]
+
+#[cfg(test)]
+mod histories;
+#[cfg(test)]
+mod threads;
