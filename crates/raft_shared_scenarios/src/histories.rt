@@ -8,7 +8,7 @@ use raft_shared::{Receipt, Reply, Seat, Shared};
 use std::alloc::Global;
 use std::test::Fail;
 
-enum Ask {
+pub(crate) enum Ask {
     Put(u64, &'static [u8], &'static [u8]),
     /// Entries of group 1 with these indexes, each without bytes.
     Entries(&'static [u64]),
@@ -123,7 +123,7 @@ static CASES: [Case; 6] = [
     },
 ];
 
-fn make_call(
+pub(crate) fn make_call(
     alloc: Global,
     shared: &mut Shared<MemoryFileSystem>,
     seat: &mut Seat,
@@ -173,13 +173,18 @@ fn is_told(told: &Told, reply: &Reply) -> bool {
     }
 }
 
-fn opened(alloc: Global, case: &Case) -> Result<Shared<MemoryFileSystem>, Fault> {
+/// Shares an engine over files in memory, whose first sync fails where that is asked for.
+pub(crate) fn open(
+    alloc: Global,
+    refuses: bool,
+    limit: usize,
+) -> Result<Shared<MemoryFileSystem>, Fault> {
     let files = MemoryFileSystem::new(alloc);
     let mut engine = Engine::open_in_order(alloc, Config::fresh(alloc), files)?;
-    if case.refuses {
+    if refuses {
         engine.refuse(FsCall::Sync, 1, IoKind::Other)?;
     }
-    Shared::new(alloc, engine, case.limit).map_err(|refused| refused.fault)
+    Shared::new(alloc, engine, limit).map_err(|refused| refused.fault)
 }
 
 // Asks what the rows say, and answers how many were recorded, where each is told what its row says.
@@ -210,7 +215,7 @@ fn asked(
 
 // Whether the case comes to what it says.
 fn holds(alloc: Global, case: &Case) -> Result<bool, Fault> {
-    let mut shared = opened(alloc, case)?;
+    let mut shared = open(alloc, case.refuses, case.limit)?;
     let mut seats = Vec::new(alloc);
     for _ in 0..2 {
         seats.push(shared.seat()?)?;
@@ -258,8 +263,8 @@ fn histories(rt: HostRuntime) -> Result<(), Fail> {
 fn a_seat_of_another(rt: HostRuntime) -> Result<(), Fail> {
     let alloc = rt.alloc();
     for (value, refused) in [(b"v", false), (b"w", true)] {
-        let mut one = opened(alloc, &CASES[0])?;
-        let mut other = opened(alloc, &CASES[0])?;
+        let mut one = open(alloc, false, 20)?;
+        let mut other = open(alloc, false, 20)?;
         let mut mine = one.seat()?;
         let mut theirs = other.seat()?;
         make_call(alloc, &mut one, &mut mine, &Ask::Put(1, b"k", b"v"))?;

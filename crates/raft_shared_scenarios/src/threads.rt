@@ -84,7 +84,7 @@ fn two_seats_one_history(rt: HostRuntime) -> Result<(), Fail> {
         for place in seat {
             let recorded = &finished.trail[*place];
             assert_eq!(rt; recorded.seat, number);
-            assert!(rt; matches!(recorded.call, Call::Write(_, false)));
+            assert!(rt; matches!(&*recorded.call, Call::Write(_, false)));
         }
     }
     Ok(())
