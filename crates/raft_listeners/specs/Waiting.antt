@@ -1,8 +1,12 @@
 -- Files of a queue, and how many of their records wait for the tables.
-use Rattle.std.specs.Prelude.{◌≡◌, ℕ, suc, ◌+◌, ◌-◌, ◌^◌, ◌<◌, max, nat_le, nat_lt, ◌==◌, ◌&&◌, ◌||◌, Bool, true, List, [], ◌∷◌, ◌++◌, length, drop, Option, slice_index, if◌then◌else◌}
+use Rattle.std.specs.Prelude.{◌≡◌, ℕ, suc, ◌+◌, ◌-◌, ◌^◌, ◌<◌, max, nat_le, nat_lt, ◌==◌, ◌&&◌, ◌||◌, Bool, true, false, List, [], ◌∷◌, ◌++◌, length, drop, Option, slice_index, if◌then◌else◌}
 use Rattle.std.specs.List.{All, AllWithin, slice_set}
 use Rattle.std.specs.Option.{MatchOption}
 use Rattle.std.specs.VecDeque.{deque_len, deque_capacity}
+use Rattle.raft_base.specs.declared.pipe_log.LogQueue.{LogQueue}
+use Rattle.raft_base.specs.declared.pipe_log.LogQueue.TheVariants.{Append, Rewrite}
+use Rattle.raft_listeners.specs.declared.listener.Event.{Event}
+use Rattle.raft_listeners.specs.declared.listener.Event.TheVariants as event
 use Rattle.raft_listeners.specs.declared.hook.PurgeHook.{PurgeHook}
 
 -- files whose numbers follow one another from the first on, and of each how many of its records were
@@ -72,3 +76,28 @@ abbrev pub IsFirstWaiting : Waiting → Option ℕ → Type 0
 IsFirstWaiting files found = MatchOption found (All (λ n. n ≡ 0) files.counts) (λ seq.
     (is_held files seq ≡ true) × (0 < waiting_at files seq)
     × AllWithin (λ n. n ≡ 0) files.counts 0 (seq - files.first))
+
+-- only what is told of the Append queue counts
+abbrev pub where_append : LogQueue → Waiting → Waiting → Waiting
+where_append Append new old = new
+where_append Rewrite new old = old
+
+-- what a hook with room makes of what it is told: what is out of order changes nothing
+abbrev pub after_event : Waiting → Event → Waiting
+after_event files (event.NewLogFile id) =
+    where_append id.queue (if can_follow files id.seq then with_file files id.seq else files) files
+after_event files (event.Append block) = where_append block.id.queue (if can_raise files block.id.seq
+    then with_count files block.id.seq (suc (waiting_at files block.id.seq)) else files) files
+after_event files (event.Apply id) = where_append id.queue (if can_lower files id.seq
+    then with_count files id.seq (waiting_at files id.seq - 1) else files) files
+after_event files (event.Purge id) =
+    where_append id.queue (if can_drop files id.seq then without_files files id.seq else files) files
+
+-- of a new file, for which the hook needs room
+abbrev pub is_new_file : Event → Bool
+is_new_file (event.NewLogFile id) = true
+is_new_file told = false
+
+-- a purge that keeps this file and all behind it keeps each file with a record that waits
+abbrev pub KeepsWaiting : Waiting → ℕ → Type 0
+KeepsWaiting files seq = (one : ℕ) → is_held files one ≡ true → one < seq → waiting_at files one ≡ 0

@@ -2,7 +2,7 @@
 ghost use Rattle.std.specs.Prelude.{◌≡◌, ◌⊎◌, ◌↔◌, ◌+◌, ◌-◌, ◌^◌, ◌<◌, ◌≤◌, [], true, false, length, drop, OnOk, OnErr, IfErr, MatchOption};
 ghost use Rattle.std.specs.VecDeque.{deque_len, deque_capacity};
 
-use crate::listener::EventListener;
+use crate::listener::{Event, EventListener};
 use raft_base::{Fault, FileBlockHandle, FileId, FileSeq, LogQueue};
 use raft_records::Fresh;
 use std::alloc::Global;
@@ -21,7 +21,7 @@ pub struct PurgeHook {
 }
 
 impl PurgeHook {
-    ghost use Rattle.raft_listeners.specs.Waiting.{HasRoom, IsFirstWaiting, can_drop, can_follow, can_lower, can_raise, is_held, waiting_at, waiting_of, with_count, with_file, without_files};
+    ghost use Rattle.raft_listeners.specs.Waiting.{HasRoom, IsFirstWaiting, after_event, can_drop, can_follow, can_lower, can_raise, is_held, is_new_file, waiting_at, waiting_of, with_count, with_file, without_files};
 
     /// A hook that holds no files. It takes no memory.
     pub fn new(alloc: Global) -> PurgeHook
@@ -150,6 +150,19 @@ impl PurgeHook {
         self.first += count as u64;
     }
 
+    /// What it is told as a listener.
+    pub fn hear(&mut self, event: Event)
+        ensures value { HasRoom self.old ⊎ (is_new_file event ≡ false)
+            → waiting_of self.new ≡ after_event (waiting_of self.old) event }
+    {
+        match event {
+            Event::NewLogFile(file_id) => self.post_new_log_file(file_id),
+            Event::Append(handle) => self.on_append_log_file(handle),
+            Event::Apply(file_id) => self.post_apply_memtables(file_id),
+            Event::Purge(file_id) => self.post_purge(file_id),
+        }
+    }
+
     /// The least of its files with a record that waits.
     pub fn first_waiting(&self) -> Option<FileSeq>
         ensures value { IsFirstWaiting (waiting_of self.now) result }
@@ -175,33 +188,49 @@ impl Fresh for PurgeHook {
 
 // Only what it is told of the Append queue counts, and what is out of order changes nothing.
 impl EventListener for PurgeHook {
-    ghost use Rattle.raft_listeners.specs.Waiting.{waiting_of};
+    ghost use Rattle.raft_listeners.specs.Waiting.{HasRoom, IsFirstWaiting, after_event, waiting_of};
+    ghost use Rattle.raft_listeners.specs.declared.listener.Event.TheVariants as event;
 
-    fn post_new_log_file(&mut self, file_id: FileId) {
+    fn post_new_log_file(&mut self, file_id: FileId)
+        ensures value { HasRoom self.old → waiting_of self.new
+            ≡ after_event (waiting_of self.old) (event.NewLogFile file_id) }
+    {
         if file_id.queue == LogQueue::Append {
             let _ = self.new_log_file(file_id.seq);
         }
     }
 
-    fn on_append_log_file(&mut self, handle: FileBlockHandle) {
+    fn on_append_log_file(&mut self, handle: FileBlockHandle)
+        ensures value { waiting_of self.new
+            ≡ after_event (waiting_of self.old) (event.Append handle) }
+    {
         if handle.id.queue == LogQueue::Append {
             let _ = self.append_log_file(handle.id.seq);
         }
     }
 
-    fn post_apply_memtables(&mut self, file_id: FileId) {
+    fn post_apply_memtables(&mut self, file_id: FileId)
+        ensures value { waiting_of self.new
+            ≡ after_event (waiting_of self.old) (event.Apply file_id) }
+    {
         if file_id.queue == LogQueue::Append {
             let _ = self.applied(file_id.seq);
         }
     }
 
-    fn post_purge(&mut self, file_id: FileId) {
+    fn post_purge(&mut self, file_id: FileId)
+        ensures value { waiting_of self.new
+            ≡ after_event (waiting_of self.old) (event.Purge file_id) }
+    {
         if file_id.queue == LogQueue::Append {
             let _ = self.purged(file_id.seq);
         }
     }
 
-    fn first_file_not_ready_for_purge(&self, queue: LogQueue) -> Option<FileSeq> {
+    fn first_file_not_ready_for_purge(&self, queue: LogQueue) -> Option<FileSeq>
+        ensures append { queue ≡ LogQueue.Append → IsFirstWaiting (waiting_of self.now) result }
+        ensures rewrite { queue ≡ LogQueue.Rewrite → result ≡ None }
+    {
         if queue == LogQueue::Append {
             self.first_waiting()
         } else {

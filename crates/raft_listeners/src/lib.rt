@@ -3,6 +3,8 @@
 
 mod hook;
 mod listener;
+mod listeners;
 
 pub use hook::PurgeHook;
 pub use listener::{Event, EventListener};
+pub use listeners::Listeners;

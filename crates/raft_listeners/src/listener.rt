@@ -4,7 +4,7 @@ use raft_base::{FileBlockHandle, FileId, FileSeq, LogQueue};
 
 /// Whoever is told of what happens to the log files of both queues, in the order in which it
 /// happens. By itself each of these calls does nothing, and no file is kept from a purge.
-pub trait EventListener {
+pub trait EventListener: Drop {
     /// The file is the last one of its queue from now on. At an opening each file that is read is
     /// told of once, those of the Append queue first, by their numbers.
     fn post_new_log_file(&mut self, _file_id: FileId) {}

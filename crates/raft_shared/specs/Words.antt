@@ -1,7 +1,9 @@
 -- Calls, replies and receipts, in the words of a history.
 use Rattle.std.specs.Arc.{arc_value}
+use Rattle.std.specs.declared.alloc.Global.{Global}
+use Rattle.std.specs.declared.sync.Arc.{Arc}
 use Rattle.std.specs.String.{string_bytes}
-use Rattle.std.specs.Prelude.{ℕ, suc, List, [], ◌∷◌, ◌==◌, Result, Ok, Err, option_map, if◌then◌else◌}
+use Rattle.std.specs.Prelude.{ℕ, suc, List, [], ◌∷◌, ◌==◌, Result, Ok, Err, Vec, option_map, if◌then◌else◌}
 use Rattle.raft_base.specs.Fault.{fault_code}
 use Rattle.raft_base.specs.declared.errors.Fault.{Fault}
 use Rattle.raft_base.specs.declared.errors.Fault.TheVariants as fault
@@ -37,6 +39,10 @@ abbrev pub answer_by : {T X : Type 0} → (T → X) → Result T Fault → Resul
 answer_by of (Ok x) = Ok (of x)
 answer_by of (Err e) = Err (without_path (reason_of e))
 
+-- a value that the history, the seat and the caller share
+abbrev pub shared_bytes : Arc (Vec ℕ Global) Global → List ℕ
+shared_bytes value = (arc_value value).items
+
 abbrev pub asked_of : Call → Asked
 asked_of (call.Write batch sync) = Write batch.items sync
 asked_of call.Sync = Sync
@@ -47,7 +53,7 @@ asked_of (call.Last group) = Last group
 abbrev pub answer_of : Reply → Answer
 answer_of (reply.Size size) = Size (reply_by (λ n. n) size)
 answer_of (reply.Done done) = Done (reply_by (λ _. tt) done)
-answer_of (reply.Value value) = Value (reply_by (option_map (λ v. (arc_value v).items)) value)
+answer_of (reply.Value value) = Value (reply_by (option_map shared_bytes) value)
 answer_of (reply.Index index) = Index index
 
 abbrev pub event_of : Recorded → Event

@@ -1,7 +1,6 @@
 //! Calls of a shared engine, and what they were answered.
 ghost use Rattle.std.specs.Prelude.{◌≡◌, IfOk, IfErr, option_map};
-ghost use Rattle.std.specs.Arc.{arc_value};
-ghost use Rattle.raft_shared.specs.Words.{answer_by, reason_of, without_path};
+ghost use Rattle.raft_shared.specs.Words.{answer_by, reason_of, shared_bytes, without_path};
 
 use raft_log_engine::{Fault, LogBatch};
 use std::alloc::Global;
@@ -80,7 +79,7 @@ impl Reply {
         value: &Result<Option<SharedBytes>, Fault>,
     ) -> Result<Reply, Fault>
         ensures ok { IfOk result (λ reply. answer_of reply
-            ≡ Value (answer_by (option_map (λ v. (arc_value v).items)) value.now)) }
+            ≡ Value (answer_by (option_map shared_bytes) value.now)) }
         ensures cause { IfErr result (λ fault. fault ≡ Fault.Memory) }
     {
         Ok(Reply::Value(match value {
@@ -96,7 +95,7 @@ pub(crate) fn shared_value(
     alloc: Global,
     value: Result<Option<Vec<u8>>, Fault>,
 ) -> Result<Result<Option<SharedBytes>, Fault>, Fault>
-    ensures ok { IfOk result (λ shared. answer_by (option_map (λ v. (arc_value v).items)) shared
+    ensures ok { IfOk result (λ shared. answer_by (option_map shared_bytes) shared
         ≡ answer_by (option_map (λ v. v.items)) value) }
     ensures cause { IfErr result (λ fault. fault ≡ Fault.Memory) }
 {

@@ -3,7 +3,7 @@ ghost use Rattle.std.specs.Prelude.{◌≡◌, ◌↔◌, map, option_map, IsTru
 ghost use Rattle.std.specs.Arc.{arc_value};
 ghost use Rattle.raft_shared.specs.Settled.{AreSettled, seats_with};
 ghost use Rattle.raft_shared.specs.Shared.{receipts_of};
-ghost use Rattle.raft_shared.specs.Words.{answer_of, asked_of, calls_of, event_of, reason_of};
+ghost use Rattle.raft_shared.specs.Words.{answer_of, asked_of, calls_of, event_of, reason_of, shared_bytes};
 
 use crate::call::{Call, Receipt, Recorded, Reply, SharedBytes};
 use crate::seat::Seat;
@@ -100,8 +100,8 @@ fn is_same_reply(a: &Reply, b: &Reply) -> bool
 }
 
 fn is_same_value(a: &Option<SharedBytes>, b: &Option<SharedBytes>) -> bool
-    ensures value { IsTrue result ↔ (option_map (λ v. (arc_value v).items) a.now
-        ≡ option_map (λ v. (arc_value v).items) b.now) }
+    ensures value { IsTrue result ↔ (option_map shared_bytes a.now
+        ≡ option_map shared_bytes b.now) }
 {
     match (a, b) {
         (Some(value), Some(other)) => value.as_slice() == other.as_slice(),
