@@ -69,7 +69,7 @@ fn work<F: FileSystem, R: Wait>(
         together.lock(rt).write(&mut seat, &mut batch, false)?;
         let read = together.lock(rt).get(&mut seat, group, &[key])?;
         match read.reply {
-            Reply::Value(Ok(Some(value))) if value.as_slice() == [key, key] => {}
+            Reply::Value(Ok(Some(value))) if value.as_slice() == [key, key].as_slice() => {}
             _ => return Err(Fault::WrongIndex),
         }
     }
