@@ -9,6 +9,7 @@ mod files;
 mod log;
 mod measure;
 mod parts;
+mod shared;
 mod system;
 mod workload;
 
@@ -25,6 +26,9 @@ fn main(rt: HostRuntime) -> Result<()> {
         [] => run_all(&rt),
         [word, folder, rest @ ..] if word.as_str() == "disk" => {
             disk::run_in(rt, folder.as_str(), amount(rest)?)
+        }
+        [word, folder, rest @ ..] if word.as_str() == "threads" => {
+            shared::run_threads_in(&rt, rt, folder.as_str(), amount(rest)?)
         }
         [name, rest @ ..] => run_named(&rt, name.as_str(), amount(rest)?),
     }
@@ -52,9 +56,12 @@ fn amount(words: &[String]) -> Result<Amount> {
 }
 
 fn run_named<R: Host>(rt: &R, name: &str, amount: Amount) -> Result<()> {
+    if name == "shared" {
+        return shared::run(rt, amount);
+    }
     match Workload::named(name) {
         Some(workload) => workload.run(rt, amount),
-        None => bail!("usage: raftbench [WORKLOAD [COUNT [SIZE]] | disk FOLDER [COUNT [SIZE]]]"),
+        None => bail!("usage: raftbench [WORKLOAD | disk FOLDER | threads FOLDER] [COUNT [SIZE]]"),
     }
 }
 
@@ -62,5 +69,5 @@ fn run_all<R: Host>(rt: &R) -> Result<()> {
     for workload in &Workload::ALL {
         workload.run(rt, SMALL)?;
     }
-    Ok(())
+    shared::run(rt, SMALL)
 }

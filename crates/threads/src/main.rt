@@ -59,20 +59,31 @@ fn main(rt: HostRuntime) -> Result<(), anyhow::Error> {
 fn work<F: FileSystem, R: Wait>(
     rt: &R,
     alloc: Global,
-    together: &Together<F>,
+    together: &Mutex<Shared<F>>,
     mut seat: Seat,
 ) -> Result<Seat, Fault> {
     let group = seat.number() as u64;
     for key in 0..PUTS {
-        let mut batch = LogBatch::new(alloc);
-        batch.put(group, vec![in alloc; key]?, vec![in alloc; key, key]?)?;
+        let mut batch = batch_of(alloc, group, key)?;
         together.lock(rt).write(&mut seat, &mut batch, false)?;
         let read = together.lock(rt).get(&mut seat, group, &[key])?;
-        match read.reply {
-            Reply::Value(Ok(Some(value))) if value.as_slice() == [key, key].as_slice() => {}
-            _ => return Err(Fault::WrongIndex),
+        if !is_value(&read.reply, &[key, key]) {
+            return Err(Fault::WrongIndex);
         }
     }
     together.lock(rt).sync(&mut seat)?;
     Ok(seat)
+}
+
+fn batch_of(alloc: Global, group: u64, key: u8) -> Result<LogBatch, Fault> {
+    let mut batch = LogBatch::new(alloc);
+    batch.put(group, vec![in alloc; key]?, vec![in alloc; key, key]?)?;
+    Ok(batch)
+}
+
+fn is_value(reply: &Reply, wanted: &[u8]) -> bool {
+    match reply {
+        Reply::Value(Ok(Some(value))) => value.as_slice() == wanted,
+        _ => false,
+    }
 }
