@@ -1,4 +1,4 @@
-use Rattle.std.proofs.Common.{◌≡◌, ◌+◌, ◌≤◌, drop, length}
+use Rattle.std.proofs.Common.{◌≡◌, ◌+◌, drop, length}
 use Rattle.raft_listeners.proofs.hook.PurgeHook.drop_first.Given as goal
 
 abbrev pub invariant-loop : goal.invariant-loop
