@@ -9,7 +9,6 @@ mod files;
 mod log;
 mod measure;
 mod parts;
-mod shared;
 mod system;
 mod workload;
 
@@ -26,9 +25,6 @@ fn main(rt: HostRuntime) -> Result<()> {
         [] => run_all(&rt),
         [word, folder, rest @ ..] if word.as_str() == "disk" => {
             disk::run_in(rt, folder.as_str(), amount(rest)?)
-        }
-        [word, folder, rest @ ..] if word.as_str() == "threads" => {
-            shared::run_threads_in(&rt, rt, folder.as_str(), amount(rest)?)
         }
         [name, rest @ ..] => run_named(&rt, name.as_str(), amount(rest)?),
     }
@@ -56,12 +52,9 @@ fn amount(words: &[String]) -> Result<Amount> {
 }
 
 fn run_named<R: Host>(rt: &R, name: &str, amount: Amount) -> Result<()> {
-    if name == "shared" {
-        return shared::run(rt, amount);
-    }
     match Workload::named(name) {
         Some(workload) => workload.run(rt, amount),
-        None => bail!("usage: raftbench [WORKLOAD | disk FOLDER | threads FOLDER] [COUNT [SIZE]]"),
+        None => bail!("usage: raftbench [WORKLOAD [COUNT [SIZE]] | disk FOLDER [COUNT [SIZE]]]"),
     }
 }
 
@@ -69,5 +62,5 @@ fn run_all<R: Host>(rt: &R) -> Result<()> {
     for workload in &Workload::ALL {
         workload.run(rt, SMALL)?;
     }
-    shared::run(rt, SMALL)
+    Ok(())
 }

@@ -46,12 +46,6 @@ pub(crate) struct Taken {
     faults: Option<u64>,
 }
 
-impl Taken {
-    pub(crate) fn micros(self) -> u64 {
-        self.micros
-    }
-}
-
 /// Whose length the blocks of the ceiling have that a part is held against.
 #[derive(Clone, Copy)]
 pub(crate) enum Against {
