@@ -1,6 +1,6 @@
 -- What chunks of batches reach, and what they leave that were applied apart.
-use Rattle.std.proofs.Common.{◌≡◌, ◌⊎◌, ℕ, ◌+◌, Bool, true, false, cond, eqb, leb, ltb, min, max, not, nat_le, nat_lt, ◌&&◌, ◌||◌, List, [], ◌∷◌, ◌++◌, length, map, filter, fold, Option, Some, None, refl, sym, ◌∙◌, ap, subst, inl, inr, arith, append_assoc}
-use Rattle.std.specs.List.{list_all, AllByRecursion as Each}
+use Rattle.std.proofs.Common.{◌≡◌, ◌⊎◌, ℕ, ◌+◌, Bool, true, false, cond, eqb, leb, min, max, not, nat_le, nat_lt, ◌&&◌, ◌||◌, List, [], ◌∷◌, ◌++◌, length, filter, fold, Option, Some, None, refl, sym, ◌∙◌, ap, subst, inl, inr, arith, append_assoc}
+use Rattle.std.specs.List.{list_all}
 use Rattle.std.specs.Option.{is_some}
 use Rattle.std.specs.Str.{bytes_eq}
 use Rattle.std.proofs.lemmas.Bool.{false≢true, cases_Bool, and_parts}
@@ -14,10 +14,10 @@ use Rattle.raft_records.specs.Contents.{Contents, no_contents, with_entries, aft
 use Rattle.raft_chunks.specs.Chunks.{Starts, Reach, no_reach, starts_then, reach_then, reach_by, reach_after, reach_in, starts_leave, reach_leaves, starts_replace, merged_entries, deleted_by, deleted_after, deleted_in}
 use Rattle.raft_recovery.specs.Consecutive.{HaveConsecutiveEntries, content_is_consecutive}
 use Rattle.raft_recovery.specs.Recovered.{items_of, content_leaves, item_leaves, leaves, leaves_key, item_leaves_key, content_leaves_key, replay}
-use Rattle.raft_recovery.proofs.ListLemmas.{AreRun, Runs, put_on, with_entries-run, runs_left}
-use Rattle.raft_recovery.proofs.AppendLemmas.{EntryChange, Stay, Place, Empty, Cut, IsRun, Apart, after_change, after_changes, kept, all_keep, run_after_changes, kept-cons, apart_from_nothing}
+use Rattle.raft_recovery.proofs.ListLemmas.{AreRun, with_entries-run, runs_left}
+use Rattle.raft_recovery.proofs.AppendLemmas.{EntryChange, Stay, Place, Empty, Cut, Apart, after_change, after_changes, kept, run_after_changes}
 use Rattle.raft_recovery.proofs.EntryLemmas.{content_change, change_in, changes_of, entries-after_batches, kept-leaves, runs_of_items, no_entries_run}
-use Rattle.raft_recovery.proofs.FrontLemmas.{apart_new, put_on-next, each_run_right}
+use Rattle.raft_recovery.proofs.FrontLemmas.{apart_new, put_on-next}
 use Rattle.raft_recovery.proofs.KeyLemmas.{value-after_batches, value_after, value_after_item, value_after_content, items_leave}
 use Rattle.raft_chunks.proofs.ReachLemmas.{end_after, drops, changes_in_two}
 

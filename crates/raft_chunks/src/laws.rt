@@ -13,7 +13,8 @@ ghost use Rattle.raft_recovery.specs.Recovered.{leaves, leaves_key, replay};
 pub fn reaches_of_chunks_join()
     ensures reach { (group : ℕ) (older newer : List Batch) → reach_in group (older ++ newer)
         ≡ reach_then (reach_in group older) (reach_in group newer) }
-    ensures associative { (a b c : Reach) → reach_then (reach_then a b) c ≡ reach_then a (reach_then b c) }
+    ensures associative { (a b c : Reach)
+        → reach_then (reach_then a b) c ≡ reach_then a (reach_then b c) }
     ensures neutral { (a : Reach) → (reach_then a no_reach ≡ a) × (reach_then no_reach a ≡ a) }
     ensures left { (group index : ℕ) (batches : List Batch)
         → leaves batches group index ≡ reach_leaves (reach_in group batches) index }
