@@ -107,13 +107,13 @@ const KEEP: Planned = Planned::Keep;
 
 const CUT: Planned = Planned::Cut(89);
 
-static PLANS: [(RecoveryMode, [Planned; 3]); 3] = [
-    (RecoveryMode::AbsoluteConsistency, [FAIL, KEEP, FAIL]),
-    (RecoveryMode::TolerateTailCorruption, [FAIL, KEEP, CUT]),
-    (RecoveryMode::TolerateAnyCorruption, [CUT, KEEP, CUT]),
+static PLANS: [(RecoveryMode, &[Planned]); 3] = [
+    (RecoveryMode::AbsoluteConsistency, &[FAIL, KEEP, FAIL]),
+    (RecoveryMode::TolerateTailCorruption, &[FAIL, KEEP, CUT]),
+    (RecoveryMode::TolerateAnyCorruption, &[CUT, KEEP, CUT]),
 ];
 
-fn is_planned(alloc: Global, mode: RecoveryMode, planned: &[Planned; 3]) -> Result<bool, Fault> {
+fn is_planned(alloc: Global, mode: RecoveryMode, planned: &[Planned]) -> Result<bool, Fault> {
     let mut fs = filled(alloc, &QUEUE)?;
     let checks = checks_of(alloc, &mut fs)?;
     let passed = passed_over(&checks);
@@ -121,7 +121,7 @@ fn is_planned(alloc: Global, mode: RecoveryMode, planned: &[Planned; 3]) -> Resu
         return Ok(false);
     };
     let plan = plan_opening(alloc, mode, kept)?;
-    Ok(passed == 1 && plan.as_slice() == planned.as_slice())
+    Ok(passed == 1 && plan.as_slice() == planned)
 }
 
 #[test]
