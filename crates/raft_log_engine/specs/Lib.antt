@@ -8,6 +8,7 @@ pub mod Group
 pub mod Durability
 pub mod Advance
 pub mod Opening
+pub mod Purge
 pub mod Recovery
 pub mod Read
 pub mod Write
