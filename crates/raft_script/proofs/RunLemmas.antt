@@ -25,7 +25,7 @@ use Rattle.raft_log_engine.specs.Engine.{contents_of, has_failed, queue_of, refu
 use Rattle.raft_log_engine.specs.declared.engine.Engine.{Engine}
 use Rattle.raft_held.specs.Contents.{known_from}
 use Rattle.raft_held.specs.Crash.{written_batch}
-use Rattle.raft_script.specs.Run.{accepted_of, AreAnswers, AreSteady, FailsAt, FailsBy, IsFailing, IsFailurePlace, Refuses, StorageRefusalsRoseBy, batch_of_acts, batches_after, batches_after_all, io_count, io_in, is_io, IsAnswer, FailsInPurge, IsCompactRefusal, IsEngineRefusal, IsGetRefusal, IsPurgeAnswer, IsPurgeCause, IsOutOfNumbers, IsSteadyBy, IsStorageOrMemory, IsTextRefusal, IsUnbuilt, IsGiven, IsWritten, IsWriteRefusal, compaction_in, items_of_act, of_both}
+use Rattle.raft_script.specs.Run.{accepted_of, AreAnswers, AreSteady, FailsAt, FailsBy, IsFailing, IsFailurePlace, Refuses, StorageRefusalsRoseBy, batch_of_acts, batches_after, batches_after_all, io_count, io_in, is_io, IsAnswer, FailsInPurge, IsCompactRefusal, IsEngineRefusal, IsGetRefusal, IsPurgeAnswer, IsPurgeCause, IsPurgeRefusal, IsOutOfNumbers, IsSteadyBy, IsStorageOrMemory, IsTextRefusal, IsUnbuilt, IsGiven, IsWritten, IsWriteRefusal, compaction_in, items_of_act, of_both}
 use Rattle.raft_log_engine.specs.Reads.{IsEntryAnswer, IsEntryRefusalAt, IsGroupList, compact_count, entry_of}
 use Rattle.raft_script.specs.Entry.{IsTextOf, index_of}
 use Rattle.raft_script.specs.declared.text_entry.TextEntry.{TextEntry}
@@ -234,7 +234,8 @@ module _ (failed fails : Bool) (folders : Folders) (append rewrite : PipeState) 
   pub purge_answered : IsPurgeAnswer result
   purge_answered = by_result result told cause
     where
-      by_fault : (e : Fault) → IsCaused e → IsCompactRefusal e
+      by_fault : (e : Fault) → IsCaused e → IsPurgeRefusal e
+      by_fault (fault.InvalidArgument text) h = tt
       by_fault (fault.Io kind path) h = tt
       by_fault fault.TryAgain h = tt
       by_fault fault.Memory h = tt
@@ -244,7 +245,7 @@ module _ (failed fails : Bool) (folders : Folders) (append rewrite : PipeState) 
       by_result : (r : Result ℕ Fault) → ((r ≡ Err fault.Failed) ↔ (failed ≡ true)) → IfErr r (λ e. failed ≡ false → IsCaused e) → IsPurgeAnswer r
       by_result (Ok count) told cause = tt
       by_result (Err e) told cause = elim (cases_Bool failed) [
-        | inl gone ↦ let e_is : e ≡ fault.Failed = same_err (Err e) refl (told.1 gone) in subst IsCompactRefusal (sym e_is) tt
+        | inl gone ↦ let e_is : e ≡ fault.Failed = same_err (Err e) refl (told.1 gone) in subst IsPurgeRefusal (sym e_is) tt
         | inr stands ↦ by_fault e (cause stands)
       ]
 
@@ -274,10 +275,11 @@ module _ (failed fails : Bool) (folders : Folders) (append rewrite : PipeState) 
   }
     where
       by_fault : (e : Fault) → IsCaused e → fails ≡ true → IsPurgeCause e
+      by_fault (fault.InvalidArgument text) h dies = absurd (let clash = sym dies ∙ h in cc)
       by_fault (fault.Io kind path) h dies = tt
       by_fault fault.Memory h dies = tt
       by_fault fault.TryAgain h dies = tt
-      by_fault fault.Range h dies = absurd (let clash = sym dies ∙ h.1 in cc)
+      by_fault fault.Range h dies = absurd (let clash = sym dies ∙ h in cc)
       by_fault _ h dies = absurd h
 
       by_result : (r : Result ℕ Fault) → ((r ≡ Err fault.Failed) ↔ (failed ≡ true)) → IfErr r (λ e. failed ≡ false → IsCaused e) → IfOk r (λ _. fails ≡ false) → failed ≡ false → fails ≡ true → IsErrAnd r IsPurgeCause

@@ -234,15 +234,20 @@ IsEngineRefusal fault.Memory = Unit {0}
 IsEngineRefusal fault.Failed = Unit {0}
 IsEngineRefusal _ = ⊥
 
--- .. a compaction or a purge also since no number is left for a next log file, or for want of space
+-- .. a compaction also since no number is left for a next log file, or for want of space
 abbrev pub IsCompactRefusal : Fault → Type 0
 IsCompactRefusal fault.Range = Unit {0}
 IsCompactRefusal fault.TryAgain = Unit {0}
 IsCompactRefusal e = IsEngineRefusal e
 
+-- .. a purge for these too, or since a key of the engine's own stands in the log
+abbrev pub IsPurgeRefusal : Fault → Type 0
+IsPurgeRefusal (fault.InvalidArgument text) = Unit {0}
+IsPurgeRefusal e = IsCompactRefusal e
+
 -- a purge is answered so: of how many files went nothing is said
 abbrev pub IsPurgeAnswer : Result ℕ Fault → Type 0
-IsPurgeAnswer answer = MatchResult answer (λ _. Unit {0}) IsCompactRefusal
+IsPurgeAnswer answer = MatchResult answer (λ _. Unit {0}) IsPurgeRefusal
 
 abbrev pub IsGetRefusal : Fault → Type 0
 IsGetRefusal fault.Memory = Unit {0}
