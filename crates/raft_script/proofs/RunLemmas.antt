@@ -226,9 +226,9 @@ compaction_fails P R Q failed fails folders p old new result ok told still cause
     caused (Err e) ok cause alive dies = by_fault e (cause alive) dies
 
 -- a purge
-module _ (failed fails : Bool) (folders : Folders) (append rewrite : PipeState) (old new : Refusals) (result : Result ℕ Fault) (told : (result ≡ Err fault.Failed) ↔ (failed ≡ true)) (cause : IfErr result (λ e. failed ≡ false → purges.IsPurgeRefusal folders append rewrite fails old new e)) where
+module _ (failed fails : Bool) (folders : Folders) (old new : Refusals) (result : Result ℕ Fault) (told : (result ≡ Err fault.Failed) ↔ (failed ≡ true)) (cause : IfErr result (λ e. failed ≡ false → purges.IsPurgeRefusal folders fails old new e)) where
   abbrev IsCaused : Fault → Type 0
-  IsCaused e = purges.IsPurgeRefusal folders append rewrite fails old new e
+  IsCaused e = purges.IsPurgeRefusal folders fails old new e
 
   -- is answered so
   pub purge_answered : IsPurgeAnswer result
