@@ -1,6 +1,13 @@
 -- What purges leave of the queues.
-use Rattle.std.specs.Prelude.{◌≡◌, ℕ, suc, ◌+◌, ◌<◌, ◌≤◌, Bool, true, Option, MatchOption}
+use Rattle.std.specs.Prelude.{◌≡◌, ◌⊎◌, ℕ, suc, ◌+◌, ◌<◌, ◌≤◌, Bool, true, false, Option, MatchOption}
+use Rattle.raft_base.specs.Fault.{fault_code}
+use Rattle.raft_base.specs.declared.errors.Fault.{Fault}
+use Rattle.raft_base.specs.declared.errors.Fault.TheVariants as fault
+use Rattle.raft_config.specs.Folders.{Folders}
+use Rattle.raft_env.specs.Refusal.{Refusals, StorageRefusalsRose}
 use Rattle.raft_pipes.specs.PipeState.{PipeState, last_seq}
+use Rattle.raft_pipes.specs.Queue.{IsRefusalIn}
+use Rattle.raft_purge.specs.Steps.{IsLog, LogState, LogValue}
 use Rattle.raft_log_engine.specs.declared.engine.purge_kind.Purge.{Purge}
 use Rattle.raft_log_engine.specs.declared.engine.purge_kind.Purge.TheVariants.{RewriteAppend, RewriteRewrite, DropStale}
 
@@ -31,3 +38,22 @@ HasPurged RewriteRewrite together append rewrite append' rewrite' =
     together ≡ true → rewrite'.first ≡ suc (last_seq rewrite)
 HasPurged DropStale together append rewrite append' rewrite' =
     last_seq append' ≡ suc (last_seq append)
+
+-- what is to be written again has no record, or is a key of the engine's own
+abbrev pub IsUnfit : Fault → Type 0
+IsUnfit e = (e ≡ fault.Range) ⊎ (e ≡ fault.Gap) ⊎ (fault_code e ≡ 1)
+
+-- why a purge of a log in these folders fails: by a call on its files or for lack of memory. It fails no
+-- engine where no number is left for a next log file, or what is to be written again has no record, or
+-- is a key of the engine's own; and it fails one for want of space, after which it is to be tried again
+abbrev pub IsPurgeRefusal : Folders → Bool → Refusals → Refusals → Fault → Type 0
+IsPurgeRefusal folders fails old new fault.Range = fails ≡ false
+IsPurgeRefusal folders fails old new fault.Gap = fails ≡ false
+IsPurgeRefusal folders fails old new (fault.InvalidArgument text) = fails ≡ false
+IsPurgeRefusal folders fails old new fault.TryAgain =
+    StorageRefusalsRose old new × (fails ≡ true)
+IsPurgeRefusal folders fails old new e = IsRefusalIn folders old new e
+
+-- some log is so
+abbrev pub IsOfSome : LogState → Type 0
+IsOfSome s = ∥ ((v : LogValue) × IsLog s v) ∥₁
