@@ -1,6 +1,5 @@
 -- What purges leave of the queues.
-use Rattle.std.specs.Prelude.{◌≡◌, ◌⊎◌, ℕ, suc, ◌+◌, ◌<◌, ◌≤◌, Bool, true, false, Option, MatchOption}
-use Rattle.raft_base.specs.Fault.{fault_code}
+use Rattle.std.specs.Prelude.{◌≡◌, ℕ, suc, ◌+◌, ◌<◌, ◌≤◌, Bool, true, false, Option, MatchOption}
 use Rattle.raft_base.specs.declared.errors.Fault.{Fault}
 use Rattle.raft_base.specs.declared.errors.Fault.TheVariants as fault
 use Rattle.raft_config.specs.Folders.{Folders}
@@ -39,9 +38,15 @@ HasPurged RewriteRewrite together append rewrite append' rewrite' =
 HasPurged DropStale together append rewrite append' rewrite' =
     last_seq append' ≡ suc (last_seq append)
 
--- what is to be written again has no record, or is a key of the engine's own
+-- a fault of what is to be written again: it has no record, or is a key of the engine's own
+abbrev pub is_unfit : Fault → Bool
+is_unfit fault.Range = true
+is_unfit fault.Gap = true
+is_unfit (fault.InvalidArgument text) = true
+is_unfit _ = false
+
 abbrev pub IsUnfit : Fault → Type 0
-IsUnfit e = (e ≡ fault.Range) ⊎ (e ≡ fault.Gap) ⊎ (fault_code e ≡ 1)
+IsUnfit e = is_unfit e ≡ true
 
 -- why a purge of a log in these folders fails: by a call on its files or for lack of memory. It fails no
 -- engine where no number is left for a next log file, or what is to be written again has no record, or
