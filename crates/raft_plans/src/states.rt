@@ -292,29 +292,34 @@ pub const OPERATIONS: [Plan; 15] = [
 
 /// Operations on the same keys and entries, with each purge of them: keys that are put again, deleted and cleaned,
 /// entries that are written again and compacted, what was rewritten once rewritten again, and what was removed since.
-pub const PURGES: [Plan; 20] = [
+pub const PURGES: [Plan; 14] = [
     Plan::Write(
         &[Change::Put(1, b"a", &[1; 900]), Change::Put(2, b"c", &[1])],
         false,
     ),
-    Plan::Write(&[Change::Entries(3, 1, 5, b"x")], true),
+    Plan::Write(
+        &[Change::Entries(3, 1, 5, b"x"), Change::Put(1, b"b", &[2])],
+        true,
+    ),
     Plan::RewriteAppend(None, Some(1)),
-    Plan::Write(&[Change::Put(1, b"b", &[2; 9])], false),
     Plan::RewriteAppend(None, None),
-    Plan::Write(&[Change::Put(1, b"a", &[3])], false),
-    Plan::Write(&[Change::Delete(1, b"b"), Change::Clean(2)], true),
-    Plan::Write(&[Change::Entries(3, 4, 6, b"y")], false),
+    Plan::Write(
+        &[
+            Change::Put(1, b"a", &[3]),
+            Change::Delete(1, b"b"),
+            Change::Clean(2),
+            Change::Entries(3, 4, 6, b"y"),
+        ],
+        true,
+    ),
     Plan::RewriteAppend(Some(2), Some(2)),
     Plan::CompactTo(3, 3),
     Plan::RewriteRewrite,
     Plan::Write(&[Change::Put(2, b"d", &[4; 900])], false),
     Plan::PurgeStale,
-    Plan::Get(1, b"a"),
     Plan::Write(&[Change::Delete(1, b"a")], false),
     Plan::RewriteAppend(None, None),
-    Plan::RewriteRewrite,
     Plan::Entry(3, 3),
-    Plan::Write(&[Change::Clean(3)], false),
     Plan::PurgeStale,
 ];
 

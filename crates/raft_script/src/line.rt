@@ -184,10 +184,15 @@ fn parse_asked<'a>(verb: &[u8], rest: &'a [u8]) -> Option<Line<'a>>
 fn parse_span<'a>(rest: &[u8]) -> Option<Line<'a>>
     ensures value { option_map asked_of result ≡ option_and_then span_by (words_in rest.now) }
 {
-    match split_word(rest)? {
-        (b"append", []) => Some(Line::Span(LogQueue::Append)),
-        (b"rewrite", []) => Some(Line::Span(LogQueue::Rewrite)),
-        _ => None,
+    let (word, rest) = split_word(rest)?;
+    if word == b"append".as_slice() {
+        ends(rest)?;
+        Some(Line::Span(LogQueue::Append))
+    } else if word == b"rewrite".as_slice() {
+        ends(rest)?;
+        Some(Line::Span(LogQueue::Rewrite))
+    } else {
+        None
     }
 }
 
@@ -195,11 +200,18 @@ fn parse_rewrite<'a>(rest: &[u8]) -> Option<Call<'a>>
     ensures value { option_map asked_of_call result ≡ option_and_then rewrite_by
         (words_in rest.now) }
 {
-    match split_word(rest)? {
-        (b"append", []) => Some(Call::RewriteAppend),
-        (b"rewrite", []) => Some(Call::RewriteRewrite),
-        (b"stale", []) => Some(Call::PurgeStale),
-        _ => None,
+    let (word, rest) = split_word(rest)?;
+    if word == b"append".as_slice() {
+        ends(rest)?;
+        Some(Call::RewriteAppend)
+    } else if word == b"rewrite".as_slice() {
+        ends(rest)?;
+        Some(Call::RewriteRewrite)
+    } else if word == b"stale".as_slice() {
+        ends(rest)?;
+        Some(Call::PurgeStale)
+    } else {
+        None
     }
 }
 

@@ -194,14 +194,19 @@ fn refuse_one(
     Ok(shown.refused)
 }
 
-fn refuse_each(rt: &impl Abort, alloc: Global, plans: &[Plan]) -> Result<(), Fail> {
+fn refuse_each(
+    rt: &impl Abort,
+    alloc: Global,
+    plans: &[Plan],
+    kinds: &[IoKind],
+) -> Result<(), Fail> {
     let ops = ops_of(alloc, plans)?;
     let wanted = answered(rt, alloc, &ops)?;
     for call in CALLS {
-        for kind in KINDS {
+        for kind in kinds {
             let mut met = true;
             for nth in 1..MAX_CALLS {
-                met = met && refuse_one(rt, alloc, &ops, &wanted, call, nth, kind)?;
+                met = met && refuse_one(rt, alloc, &ops, &wanted, call, nth, *kind)?;
             }
             assert!(rt; !met);
         }
@@ -211,10 +216,15 @@ fn refuse_each(rt: &impl Abort, alloc: Global, plans: &[Plan]) -> Result<(), Fai
 
 #[test]
 fn each_call_may_be_refused(rt: HostRuntime) -> Result<(), Fail> {
-    refuse_each(&rt, rt.alloc(), &OPERATIONS)
+    refuse_each(&rt, rt.alloc(), &OPERATIONS, &KINDS)
 }
 
 #[test]
 fn each_call_of_purges_may_be_refused(rt: HostRuntime) -> Result<(), Fail> {
-    refuse_each(&rt, rt.alloc(), &PURGES)
+    refuse_each(&rt, rt.alloc(), &PURGES, &[IoKind::Other])
+}
+
+#[test]
+fn each_call_of_purges_may_find_no_space(rt: HostRuntime) -> Result<(), Fail> {
+    refuse_each(&rt, rt.alloc(), &PURGES, &[IoKind::NoSpace])
 }
