@@ -248,7 +248,7 @@ pub fn is_allowed(
 }
 
 /// No more log files than this come of the operations, also where one of them finds no space and goes on to a next one.
-pub const MAX_FILES: usize = 32;
+pub const MAX_FILES: usize = 16;
 
 /// A log file is full once it has 1 KB.
 pub fn settings(alloc: Global) -> Result<Config, AllocError> {
@@ -323,10 +323,9 @@ pub const PURGES: [Plan; 14] = [
     Plan::PurgeStale,
 ];
 
-/// Entries that take five batches of the Rewrite queue, which are written there one after the other as an atomic group.
-pub const REWRITTEN_IN_PARTS: [Plan; 4] = [
-    Plan::Write(&[Change::LongEntries(3, 1, 7, b'x', 70_000)], true),
+/// Entries that take three batches of the Rewrite queue, which are written there one after the other as an atomic group.
+pub const REWRITTEN_IN_PARTS: [Plan; 3] = [
+    Plan::Write(&[Change::LongEntries(3, 1, 6, b'x', 70_000)], true),
     Plan::RewriteAppend(None, None),
-    Plan::RewriteRewrite,
     Plan::RewriteRewrite,
 ];
