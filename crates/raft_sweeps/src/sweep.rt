@@ -111,7 +111,7 @@ fn an_interrupted_group_is_left_out(rt: HostRuntime) -> Result<(), Fail> {
         &rt,
         rt.alloc(),
         &REWRITTEN_IN_PARTS,
-        2,
+        0,
         MIN_CHANGES_IN_PARTS,
     )
 }
