@@ -1,20 +1,15 @@
 -- What purges leave of the queues.
-use Rattle.std.specs.Prelude.{◌≡◌, ℕ, suc, ◌+◌, ◌<◌, ◌≤◌, Bool, true, false, Option, MatchOption}
+use Rattle.std.specs.Prelude.{◌≡◌, ℕ, suc, ◌+◌, Bool, true, false}
 use Rattle.raft_base.specs.declared.errors.Fault.{Fault}
 use Rattle.raft_base.specs.declared.errors.Fault.TheVariants as fault
 use Rattle.raft_config.specs.Folders.{Folders}
 use Rattle.raft_env.specs.Refusal.{Refusals, StorageRefusalsRose}
 use Rattle.raft_pipes.specs.PipeState.{PipeState, last_seq}
 use Rattle.raft_pipes.specs.Queue.{IsRefusalIn}
+use Rattle.raft_purge.specs.Scope.{IsWhole}
 use Rattle.raft_purge.specs.Steps.{IsLog, LogState, LogValue}
 use Rattle.raft_log_engine.specs.declared.engine.purge_kind.Purge.{Purge}
 use Rattle.raft_log_engine.specs.declared.engine.purge_kind.Purge.TheVariants.{RewriteAppend, RewriteRewrite, DropStale}
-
--- a rewriting with this watermark that ends after this step goes up to the last file, and through all
--- steps
-abbrev pub IsWhole : Option ℕ → Option ℕ → ℕ → Type 0
-IsWhole watermark step last =
-    MatchOption watermark (Unit {0}) (λ w. last ≤ w) × MatchOption step (Unit {0}) (λ s. 2 < s)
 
 -- a queue has one file, with this number
 abbrev pub IsEmptiedTo : ℕ → PipeState → Type 0
@@ -31,8 +26,7 @@ HasFreed DropStale append rewrite append' rewrite' count = append.first + count 
 -- what a purge leaves of both queues, where the batches of atomic groups stand together or don't
 abbrev pub HasPurged : Purge → Bool → PipeState → PipeState → PipeState → PipeState → Type 0
 HasPurged (RewriteAppend scope) together append rewrite append' rewrite' =
-    IsWhole scope.watermark scope.step (last_seq append)
-    → IsEmptiedTo (suc (last_seq append)) append'
+    IsWhole scope (last_seq append) → IsEmptiedTo (suc (last_seq append)) append'
 HasPurged RewriteRewrite together append rewrite append' rewrite' =
     together ≡ true → rewrite'.first ≡ suc (last_seq rewrite)
 HasPurged DropStale together append rewrite append' rewrite' =

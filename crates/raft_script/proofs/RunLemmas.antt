@@ -226,7 +226,7 @@ compaction_fails P R Q failed fails folders p old new result ok told still cause
     caused (Err e) ok cause alive dies = by_fault e (cause alive) dies
 
 -- a purge
-module _ (failed fails : Bool) (folders : Folders) (old new : Refusals) (result : Result ℕ Fault) (told : (result ≡ Err fault.Failed) ↔ (failed ≡ true)) (cause : IfErr result (λ e. failed ≡ false → purges.IsPurgeRefusal folders fails old new e)) where
+module _ (failed fails : Bool) (folders : Folders) (old new : Refusals) (result : Result ℕ Fault) (told : (result ≡ Err fault.Failed) ↔ (failed ≡ true)) (cause : failed ≡ false → IfErr result (purges.IsPurgeRefusal folders fails old new)) where
   abbrev IsCaused : Fault → Type 0
   IsCaused e = purges.IsPurgeRefusal folders fails old new e
 
@@ -242,7 +242,7 @@ module _ (failed fails : Bool) (folders : Folders) (old new : Refusals) (result 
       by_fault fault.Range h = tt
       by_fault _ h = absurd h
 
-      by_result : (r : Result ℕ Fault) → ((r ≡ Err fault.Failed) ↔ (failed ≡ true)) → IfErr r (λ e. failed ≡ false → IsCaused e) → IsPurgeAnswer r
+      by_result : (r : Result ℕ Fault) → ((r ≡ Err fault.Failed) ↔ (failed ≡ true)) → (failed ≡ false → IfErr r IsCaused) → IsPurgeAnswer r
       by_result (Ok count) told cause = tt
       by_result (Err e) told cause = elim (cases_Bool failed) [
         | inl gone ↦ let e_is : e ≡ fault.Failed = same_err (Err e) refl (told.1 gone) in subst IsPurgeRefusal (sym e_is) tt
@@ -253,7 +253,7 @@ module _ (failed fails : Bool) (folders : Folders) (old new : Refusals) (result 
   pub purge_rose : is_io result ≡ true → StorageRefusalsRose old new
   purge_rose io = by_result result told cause io
     where
-      by_result : (r : Result ℕ Fault) → ((r ≡ Err fault.Failed) ↔ (failed ≡ true)) → IfErr r (λ e. failed ≡ false → IsCaused e) → is_io r ≡ true → StorageRefusalsRose old new
+      by_result : (r : Result ℕ Fault) → ((r ≡ Err fault.Failed) ↔ (failed ≡ true)) → (failed ≡ false → IfErr r IsCaused) → is_io r ≡ true → StorageRefusalsRose old new
       by_result (Ok count) told cause io = absurd cc
       by_result (Err (fault.Io kind path)) told cause io = elim (cases_Bool failed) [
         | inl gone ↦ absurd (let clash = told.1 gone in cc)
@@ -282,7 +282,7 @@ module _ (failed fails : Bool) (folders : Folders) (old new : Refusals) (result 
       by_fault fault.Range h dies = absurd (let clash = sym dies ∙ h in cc)
       by_fault _ h dies = absurd h
 
-      by_result : (r : Result ℕ Fault) → ((r ≡ Err fault.Failed) ↔ (failed ≡ true)) → IfErr r (λ e. failed ≡ false → IsCaused e) → IfOk r (λ _. fails ≡ false) → failed ≡ false → fails ≡ true → IsErrAnd r IsPurgeCause
+      by_result : (r : Result ℕ Fault) → ((r ≡ Err fault.Failed) ↔ (failed ≡ true)) → (failed ≡ false → IfErr r IsCaused) → IfOk r (λ _. fails ≡ false) → failed ≡ false → fails ≡ true → IsErrAnd r IsPurgeCause
       by_result (Ok count) told cause ok alive dies = absurd (let clash = sym dies ∙ ok in cc)
       by_result (Err e) told cause ok alive dies = by_fault e (cause alive) dies
 
