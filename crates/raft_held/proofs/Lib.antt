@@ -4,5 +4,6 @@ pub mod PurgeStepsLemmas
 pub mod DropOldLemmas
 pub mod LogLemmas
 pub mod LogDropLemmas
+pub mod RenewalLemmas
 pub mod LogTakeLemmas
 pub mod WriteLemmas
