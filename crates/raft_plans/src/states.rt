@@ -323,9 +323,9 @@ pub const PURGES: [Plan; 14] = [
     Plan::PurgeStale,
 ];
 
-/// Entries that take three batches of the Rewrite queue, which are written there one after the other as an atomic group.
+/// Entries that take two batches of the Rewrite queue, which are written there one after the other as an atomic group.
 pub const REWRITTEN_IN_PARTS: [Plan; 3] = [
-    Plan::Write(&[Change::LongEntries(3, 1, 6, b'x', 70_000)], true),
+    Plan::Write(&[Change::LongEntries(3, 1, 3, b'x', 66_000)], true),
     Plan::RewriteAppend(None, None),
     Plan::RewriteRewrite,
 ];

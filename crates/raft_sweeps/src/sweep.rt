@@ -19,8 +19,8 @@ const MIN_CHANGES: u64 = 31;
 /// Four of the opening of each queue, and of each of four purges a sync, and a next file at least.
 const MIN_CHANGES_OF_PURGES: u64 = 28;
 
-/// .. and three batches of a group, each in a file of its own.
-const MIN_CHANGES_IN_PARTS: u64 = 30;
+/// .. and two batches of a group, each in a file of its own.
+const MIN_CHANGES_IN_PARTS: u64 = 25;
 
 // Where the engine stands after it: a purge may have been refused then.
 fn leaves_standing(outcome: &Outcome) -> bool {
