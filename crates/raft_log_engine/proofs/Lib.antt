@@ -16,7 +16,6 @@ pub mod PlacedLemmas
 pub mod PurgeLemmas
 pub mod HeldLemmas
 pub mod IndexedLemmas
-pub mod CacheLemmas
 pub mod FaultLemmas
 pub mod NumberedLemmas
 pub mod ImageLemmas
