@@ -6,4 +6,5 @@ pub mod LogLemmas
 pub mod LogDropLemmas
 pub mod RenewalLemmas
 pub mod LogTakeLemmas
+pub mod LogOldLemmas
 pub mod WriteLemmas
