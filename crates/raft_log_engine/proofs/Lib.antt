@@ -13,6 +13,7 @@ pub mod GroupRunLemmas
 pub mod OpeningLemmas
 pub mod RecoveryLemmas
 pub mod PlacedLemmas
+pub mod PurgeFaultLemmas
 pub mod PurgeLemmas
 pub mod HeldLemmas
 pub mod IndexedLemmas
