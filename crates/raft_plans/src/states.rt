@@ -323,7 +323,7 @@ pub const PURGES: [Plan; 14] = [
     Plan::PurgeStale,
 ];
 
-/// Entries that take two batches of the Rewrite queue, which are written there one after the other as an atomic group.
+/// Entries of one group that are too many for one batch where they are rewritten first.
 pub const REWRITTEN_IN_PARTS: [Plan; 3] = [
     Plan::Write(&[Change::LongEntries(3, 1, 3, b'x', 66_000)], true),
     Plan::RewriteAppend(None, None),

@@ -228,6 +228,14 @@ nothing_follows x None e = cc
 nothing_follows x (Some []) e = refl
 nothing_follows x (Some (word ∷ words)) e = cc
 
+-- where a text begins with this word, that asks for one thing where nothing follows
+pub begins_to : {T : Type 0} (asked : List (List ℕ) → Option T) (x : T) (text word rest code : List ℕ) → BeginsWith text word rest → word ≡ code → ((words : List (List ℕ)) → asked (code ∷ words) ≡ if_last x words) → option_and_then asked (words_in text) ≡ option_and_then (if_last x) (words_in rest)
+begins_to asked x text word rest code begins is same = ap (option_and_then asked) begins ∙ ap (λ w. option_and_then asked (option_map (λ words. w ∷ words) (words_in rest))) is ∙ by_words (words_in rest)
+  where
+    by_words : (found : Option (List (List ℕ))) → option_and_then asked (option_map (λ words. code ∷ words) found) ≡ option_and_then (if_last x) found
+    by_words None = refl
+    by_words (Some words) = same words
+
 pub asked_groups : (verb : List ℕ) (found : Option (List (List ℕ))) → verb ≡ codes "groups" → option_and_then (λ words. parsed_words (verb ∷ words)) found ≡ option_and_then (if_last Groups) found
 asked_groups verb found e = ap (λ v. option_and_then (λ words. parsed_words (v ∷ words)) found) e
 

@@ -240,6 +240,7 @@ module _ (failed fails : Bool) (folders : Folders) (old new : Refusals) (result 
       by_fault fault.TryAgain h = tt
       by_fault fault.Memory h = tt
       by_fault fault.Range h = tt
+      by_fault fault.Gap h = tt
       by_fault _ h = absurd h
 
       by_result : (r : Result ℕ Fault) → ((r ≡ Err fault.Failed) ↔ (failed ≡ true)) → (failed ≡ false → IfErr r IsCaused) → IsPurgeAnswer r
@@ -280,6 +281,7 @@ module _ (failed fails : Bool) (folders : Folders) (old new : Refusals) (result 
       by_fault fault.Memory h dies = tt
       by_fault fault.TryAgain h dies = tt
       by_fault fault.Range h dies = absurd (let clash = sym dies ∙ h in cc)
+      by_fault fault.Gap h dies = absurd (let clash = sym dies ∙ h in cc)
       by_fault _ h dies = absurd h
 
       by_result : (r : Result ℕ Fault) → ((r ≡ Err fault.Failed) ↔ (failed ≡ true)) → (failed ≡ false → IfErr r IsCaused) → IfOk r (λ _. fails ≡ false) → failed ≡ false → fails ≡ true → IsErrAnd r IsPurgeCause

@@ -121,21 +121,21 @@ abbrev pub get_by : List (List ℕ) → Option Asked
 get_by (group ∷ key ∷ words) = option_and_then (λ g. if_last (Get g key) words) (number_in group)
 get_by _ = None
 
--- span append, span rewrite
-abbrev pub span_by : List (List ℕ) → Option Asked
-span_by [] = None
-span_by (word ∷ words) =
-    if bytes_eq word (codes "append") then if_last (Span Append) words
-    else if bytes_eq word (codes "rewrite") then if_last (Span Rewrite) words
+-- append, rewrite
+abbrev pub queue_by : List (List ℕ) → Option LogQueue
+queue_by [] = None
+queue_by (word ∷ words) =
+    if bytes_eq word (codes "append") then if_last Append words
+    else if bytes_eq word (codes "rewrite") then if_last Rewrite words
     else None
 
--- rewrite append, rewrite rewrite, rewrite stale
-abbrev pub rewrite_by : List (List ℕ) → Option Asked
+-- append, rewrite, stale
+abbrev pub rewrite_by : List (List ℕ) → Option Call
 rewrite_by [] = None
 rewrite_by (word ∷ words) =
-    if bytes_eq word (codes "append") then if_last RewriteAppend words
-    else if bytes_eq word (codes "rewrite") then if_last RewriteRewrite words
-    else if bytes_eq word (codes "stale") then if_last PurgeStale words
+    if bytes_eq word (codes "append") then if_last call.RewriteAppend words
+    else if bytes_eq word (codes "rewrite") then if_last call.RewriteRewrite words
+    else if bytes_eq word (codes "stale") then if_last call.PurgeStale words
     else None
 
 -- torn KEPT FILL, where FILL is a byte
@@ -154,6 +154,22 @@ left_by (word ∷ words) =
     else if bytes_eq word (codes "torn") then torn_by words
     else None
 
+-- what a call asks for
+abbrev pub asked_of_call : Call → Asked
+asked_of_call (call.Put group key value sync) = Put group key.now value.now sync
+asked_of_call (call.Delete group key sync) = Delete group key.now sync
+asked_of_call (call.Get group key) = Get group key.now
+asked_of_call (call.Entries group first last word sync) =
+    Entries group (indexed_words first last word.now) sync
+asked_of_call (call.Clean group sync) = Clean group sync
+asked_of_call (call.Compact group index) = Compact group index
+asked_of_call (call.Entry group index) = Entry group index
+asked_of_call call.Groups = Groups
+asked_of_call call.Sync = Sync
+asked_of_call call.RewriteAppend = RewriteAppend
+asked_of_call call.RewriteRewrite = RewriteRewrite
+asked_of_call call.PurgeStale = PurgeStale
+
 -- what words ask for, by the first of them
 abbrev pub parsed_words : List (List ℕ) → Option Asked
 parsed_words [] = None
@@ -169,8 +185,8 @@ parsed_words (verb ∷ words) =
     else if bytes_eq verb (codes "groups") then if_last Groups words
     else if bytes_eq verb (codes "range") then option_map Range (number_by words)
     else if bytes_eq verb (codes "scan") then option_map Scan (number_by words)
-    else if bytes_eq verb (codes "span") then span_by words
-    else if bytes_eq verb (codes "rewrite") then rewrite_by words
+    else if bytes_eq verb (codes "span") then option_map Span (queue_by words)
+    else if bytes_eq verb (codes "rewrite") then option_map asked_of_call (rewrite_by words)
     else if bytes_eq verb (codes "reopen") then if_last Reopen words
     else if bytes_eq verb (codes "crash") then option_map Crash (left_by words)
     else None
@@ -180,22 +196,6 @@ abbrev pub asked_in : List ℕ → Option Asked
 asked_in [] = Some Nothing
 asked_in (c ∷ cs) = if c == 35 then Some Nothing else option_and_then parsed_words (words_in
     (c ∷ cs))
-
--- the same of a call that was parsed
-abbrev pub asked_of_call : Call → Asked
-asked_of_call (call.Put group key value sync) = Put group key.now value.now sync
-asked_of_call (call.Delete group key sync) = Delete group key.now sync
-asked_of_call (call.Get group key) = Get group key.now
-asked_of_call (call.Entries group first last word sync) =
-    Entries group (indexed_words first last word.now) sync
-asked_of_call (call.Clean group sync) = Clean group sync
-asked_of_call (call.Compact group index) = Compact group index
-asked_of_call (call.Entry group index) = Entry group index
-asked_of_call call.Groups = Groups
-asked_of_call call.Sync = Sync
-asked_of_call call.RewriteAppend = RewriteAppend
-asked_of_call call.RewriteRewrite = RewriteRewrite
-asked_of_call call.PurgeStale = PurgeStale
 
 -- .. and of a line
 abbrev pub asked_of : Line → Asked

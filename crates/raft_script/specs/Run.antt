@@ -243,6 +243,7 @@ IsCompactRefusal e = IsEngineRefusal e
 -- .. a purge for these too, or since a key of the engine's own stands in the log
 abbrev pub IsPurgeRefusal : Fault → Type 0
 IsPurgeRefusal (fault.InvalidArgument text) = Unit {0}
+IsPurgeRefusal fault.Gap = Unit {0}
 IsPurgeRefusal e = IsCompactRefusal e
 
 -- a purge is answered so: of how many files went nothing is said

@@ -1,7 +1,7 @@
 //! A line of the program's input.
 ghost use Rattle.std.specs.Prelude.{◌≡◌, ◌==◌, ◌≤◌, List, ℕ, length, None, Some, [], ◌∷◌, IfOk, MatchOption, option_map, option_and_then};
 ghost use Rattle.std.specs.List.{position_or_len};
-ghost use Rattle.raft_script.specs.Line.{Crash, BeginsWith, HasNoWord, if_last, parsed_words, asked_in, asked_of, asked_of_call, clean_by, compact_by, delete_by, entries_by, entry_by, get_by, is_word, left_by, number_by, number_in, numbers_by, put_by, rewrite_by, span_by, sync_by, torn_by, words_by, words_in};
+ghost use Rattle.raft_script.specs.Line.{Crash, BeginsWith, HasNoWord, if_last, parsed_words, asked_in, asked_of, asked_of_call, clean_by, compact_by, delete_by, entries_by, entry_by, get_by, is_word, left_by, number_by, number_in, numbers_by, put_by, queue_by, rewrite_by, sync_by, torn_by, words_by, words_in};
 
 use crate::operation::{Act, Op};
 use crate::text_entry::entries_between;
@@ -167,7 +167,7 @@ fn parse_asked<'a>(verb: &[u8], rest: &'a [u8]) -> Option<Line<'a>>
     } else if verb == b"scan".as_slice() {
         Some(Line::Scan(parse_last_number(rest)?))
     } else if verb == b"span".as_slice() {
-        parse_span(rest)
+        Some(Line::Span(parse_queue(rest)?))
     } else if verb == b"rewrite".as_slice() {
         Some(Line::Call(parse_rewrite(rest)?))
     } else if verb == b"reopen".as_slice() {
@@ -180,25 +180,23 @@ fn parse_asked<'a>(verb: &[u8], rest: &'a [u8]) -> Option<Line<'a>>
     }
 }
 
-// The queue whose files are asked for.
-fn parse_span<'a>(rest: &[u8]) -> Option<Line<'a>>
-    ensures value { option_map asked_of result ≡ option_and_then span_by (words_in rest.now) }
+fn parse_queue(rest: &[u8]) -> Option<LogQueue>
+    ensures value { result ≡ option_and_then queue_by (words_in rest.now) }
 {
     let (word, rest) = split_word(rest)?;
     if word == b"append".as_slice() {
         ends(rest)?;
-        Some(Line::Span(LogQueue::Append))
+        Some(LogQueue::Append)
     } else if word == b"rewrite".as_slice() {
         ends(rest)?;
-        Some(Line::Span(LogQueue::Rewrite))
+        Some(LogQueue::Rewrite)
     } else {
         None
     }
 }
 
 fn parse_rewrite<'a>(rest: &[u8]) -> Option<Call<'a>>
-    ensures value { option_map asked_of_call result ≡ option_and_then rewrite_by
-        (words_in rest.now) }
+    ensures value { result ≡ option_and_then rewrite_by (words_in rest.now) }
 {
     let (word, rest) = split_word(rest)?;
     if word == b"append".as_slice() {

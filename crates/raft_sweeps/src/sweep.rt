@@ -106,7 +106,7 @@ fn every_stop_of_purges_finds_what_may_be_found(rt: HostRuntime) -> Result<(), F
 }
 
 #[test]
-fn an_interrupted_group_is_left_out(rt: HostRuntime) -> Result<(), Fail> {
+fn an_interrupted_rewriting_is_left_out(rt: HostRuntime) -> Result<(), Fail> {
     stop_each(
         &rt,
         rt.alloc(),
