@@ -4,5 +4,7 @@ pub mod PurgeStepsLemmas
 pub mod DropOldLemmas
 pub mod LogLemmas
 pub mod LogDropLemmas
+pub mod RenewalLemmas
 pub mod LogTakeLemmas
+pub mod LogOldLemmas
 pub mod WriteLemmas

@@ -3,7 +3,9 @@ pub mod Contents
 pub mod Crash
 pub mod DropOld
 pub mod Held
+pub mod Index
 pub mod Kept
 pub mod Log
 pub mod Queues
+pub mod Renewal
 pub mod Taking

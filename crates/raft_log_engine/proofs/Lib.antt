@@ -13,10 +13,10 @@ pub mod GroupRunLemmas
 pub mod OpeningLemmas
 pub mod RecoveryLemmas
 pub mod PlacedLemmas
+pub mod PurgeFaultLemmas
 pub mod PurgeLemmas
 pub mod HeldLemmas
 pub mod IndexedLemmas
-pub mod CacheLemmas
 pub mod FaultLemmas
 pub mod NumberedLemmas
 pub mod ImageLemmas

@@ -7,7 +7,9 @@ pub mod Indexed
 pub mod Group
 pub mod Durability
 pub mod Advance
+pub mod Need
 pub mod Opening
+pub mod Purge
 pub mod Recovery
 pub mod Read
 pub mod Write

@@ -10,6 +10,8 @@ pub enum Change {
     Delete(u64, &'static [u8]),
     /// Entries of a group with the indexes from the first to the last and this word.
     Entries(u64, u64, u64, &'static [u8]),
+    /// .. and a word of so many times this byte.
+    LongEntries(u64, u64, u64, u8, usize),
     Clean(u64),
     Compact(u64, u64),
 }
@@ -26,6 +28,9 @@ pub enum Plan {
     First(u64),
     Last(u64),
     Groups,
+    RewriteAppend(Option<u64>, Option<u64>),
+    RewriteRewrite,
+    PurgeStale,
 }
 
 /// What a crash is to leave of a log file.
@@ -47,6 +52,8 @@ pub enum Answer {
     Entry(u64, &'static [u8]),
     Index(Option<u64>),
     Groups(&'static [u64]),
+    /// So many log files went.
+    Dropped(usize),
     /// It fails with this code.
     Fails(u8),
 }
@@ -59,6 +66,10 @@ fn act_of(alloc: Global, change: &Change) -> Result<Act, AllocError> {
         Change::Delete(group, key) => Ok(Act::Delete(*group, key.to_vec(alloc)?)),
         Change::Entries(group, first, last, word) => {
             Ok(Act::Entries(*group, entries_of(alloc, *first, *last, word)?))
+        }
+        Change::LongEntries(group, first, last, byte, len) => {
+            let word = vec![in alloc; *byte; *len]?;
+            Ok(Act::Entries(*group, entries_of(alloc, *first, *last, &word)?))
         }
         Change::Clean(group) => Ok(Act::Clean(*group)),
         Change::Compact(group, index) => Ok(Act::Compact(*group, *index)),
@@ -109,6 +120,9 @@ fn op_of(alloc: Global, plan: &Plan) -> Result<Op, AllocError> {
         Plan::First(group) => Ok(Op::First(*group)),
         Plan::Last(group) => Ok(Op::Last(*group)),
         Plan::Groups => Ok(Op::Groups),
+        Plan::RewriteAppend(watermark, step) => Ok(Op::RewriteAppend(*watermark, *step)),
+        Plan::RewriteRewrite => Ok(Op::RewriteRewrite),
+        Plan::PurgeStale => Ok(Op::PurgeStale),
     }
 }
 
@@ -149,6 +163,7 @@ pub fn fault_of(outcome: &Outcome) -> Option<&Fault> {
         Outcome::Entry(answer) => answer.as_ref().err(),
         Outcome::Index(_) => None,
         Outcome::Groups(answer) => answer.as_ref().err(),
+        Outcome::Dropped(answer) => answer.as_ref().err(),
     }
 }
 
@@ -178,6 +193,7 @@ fn is_answer(outcome: &Outcome, answer: &Answer) -> bool {
         }
         (Outcome::Index(index), Answer::Index(wanted)) => *index == *wanted,
         (Outcome::Groups(Ok(groups)), Answer::Groups(wanted)) => groups.as_slice() == *wanted,
+        (Outcome::Dropped(Ok(count)), Answer::Dropped(wanted)) => *count == *wanted,
         (_, Answer::Fails(code)) => match fault_of(outcome) {
             Some(fault) => fault.code() == *code,
             None => false,

@@ -161,6 +161,8 @@ pub fn after(state: State, op: &Op) -> State {
         }
         Op::CompactTo(group, index) => state = compacted(state, *group, *index),
         Op::Sync | Op::Get(_, _) | Op::Entry(_, _) | Op::First(_) | Op::Last(_) | Op::Groups => {}
+        // A purge changes nothing.
+        Op::RewriteAppend(_, _) | Op::RewriteRewrite | Op::PurgeStale => {}
     }
     state
 }
@@ -204,6 +206,7 @@ pub fn is_done(outcome: &Outcome) -> bool {
         Outcome::Entry(answer) => answer.is_ok(),
         Outcome::Index(_) => true,
         Outcome::Groups(answer) => answer.is_ok(),
+        Outcome::Dropped(answer) => answer.is_ok(),
     }
 }
 
@@ -217,7 +220,7 @@ fn covers(op: &Op) -> bool {
     match op {
         Op::Write(_, sync) => *sync,
         Op::WriteGroup(parts) => parts.iter().any(|part| part.1),
-        Op::Sync => true,
+        Op::Sync | Op::RewriteAppend(_, _) | Op::RewriteRewrite | Op::PurgeStale => true,
         _ => false,
     }
 }
@@ -245,7 +248,7 @@ pub fn is_allowed(
 }
 
 /// No more log files than this come of the operations, also where one of them finds no space and goes on to a next one.
-pub const MAX_FILES: usize = 6;
+pub const MAX_FILES: usize = 16;
 
 /// A log file is full once it has 1 KB.
 pub fn settings(alloc: Global) -> Result<Config, AllocError> {
@@ -285,4 +288,44 @@ pub const OPERATIONS: [Plan; 15] = [
     Plan::CompactTo(3, 2),
     Plan::Entry(3, 2),
     Plan::Write(&[Change::Clean(2), Change::Compact(3, 4)], false),
+];
+
+/// Operations on the same keys and entries, with each purge of them: keys that are put again, deleted and cleaned,
+/// entries that are written again and compacted, what was rewritten once rewritten again, and what was removed since.
+pub const PURGES: [Plan; 14] = [
+    Plan::Write(
+        &[Change::Put(1, b"a", &[1; 900]), Change::Put(2, b"c", &[1])],
+        false,
+    ),
+    Plan::Write(
+        &[Change::Entries(3, 1, 5, b"x"), Change::Put(1, b"b", &[2])],
+        true,
+    ),
+    Plan::RewriteAppend(None, Some(1)),
+    Plan::RewriteAppend(None, None),
+    Plan::Write(
+        &[
+            Change::Put(1, b"a", &[3]),
+            Change::Delete(1, b"b"),
+            Change::Clean(2),
+            Change::Entries(3, 4, 6, b"y"),
+        ],
+        true,
+    ),
+    Plan::RewriteAppend(Some(2), Some(2)),
+    Plan::CompactTo(3, 3),
+    Plan::RewriteRewrite,
+    Plan::Write(&[Change::Put(2, b"d", &[4; 900])], false),
+    Plan::PurgeStale,
+    Plan::Write(&[Change::Delete(1, b"a")], false),
+    Plan::RewriteAppend(None, None),
+    Plan::Entry(3, 3),
+    Plan::PurgeStale,
+];
+
+/// Entries that take two batches of the Rewrite queue, which are written there one after the other as an atomic group.
+pub const REWRITTEN_IN_PARTS: [Plan; 3] = [
+    Plan::Write(&[Change::LongEntries(3, 1, 3, b'x', 66_000)], true),
+    Plan::RewriteAppend(None, None),
+    Plan::RewriteRewrite,
 ];

@@ -283,7 +283,7 @@ item_moved first w id t item is placed all = record { entries = λ g. at_entries
     at_key g k true = value_placed first w id item.content (t item.group) k is (all.keys item.group)
     at_key g k false = all.keys g k
 
-items_moved : (first : ℕ) (w : Option ℕ) (id : FileId) (t : Tables) (items : List PlacedItem) → IsBefore first id → Each (λ item. ContentBefore first item.content) items → AreRewrittenBefore first t → AreRewrittenBefore first (tables_moved w id t items)
+pub items_moved : (first : ℕ) (w : Option ℕ) (id : FileId) (t : Tables) (items : List PlacedItem) → IsBefore first id → Each (λ item. ContentBefore first item.content) items → AreRewrittenBefore first t → AreRewrittenBefore first (tables_moved w id t items)
 items_moved first w id t [] is placed all = all
 items_moved first w id t (item ∷ items) is placed all = items_moved first w id (tables_moved_by w id t item) items is placed.1 (item_moved first w id t item is placed.0 all)
 

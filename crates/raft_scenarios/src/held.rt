@@ -1,6 +1,6 @@
 //! Files in memory, or an engine over them.
 
-use crate::stored::{Stored, are_stored, settings_in, settings_with, store_all};
+use crate::stored::{Stored, are_stored, settings_in, settings_to, settings_with, store_all};
 use raft_env::{FileSystem, IoKind};
 use raft_log_engine::{Config, Engine, RecoveryMode, Refused};
 use raft_memory::{FsCall, MemoryFileSystem};
@@ -124,6 +124,17 @@ impl<F: Faulty> Held<F> {
     /// Opens the files, which an engine gives up first: whether there was memory for the settings.
     pub(crate) fn open(&mut self, alloc: Global, mode: RecoveryMode) -> bool {
         match settings_in(alloc, mode) {
+            Ok(config) => {
+                self.open_with(alloc, config);
+                true
+            }
+            Err(_) => false,
+        }
+    }
+
+    /// .. where a log file is full at so many KB.
+    pub(crate) fn open_to(&mut self, alloc: Global, size: u64) -> bool {
+        match settings_to(alloc, size) {
             Ok(config) => {
                 self.open_with(alloc, config);
                 true

@@ -1,91 +1,257 @@
-//! A purge of what is stale in front of the log.
+//! Purges: which files of both queues are there then, and what is found of the log.
 
-use raft_log_engine::{Config, Engine, FileSystem, Fresh, LogBatch};
-use raft_memory::MemoryFileSystem;
-use raft_records::{Fault, LogQueue, ReadableSize};
-use std::alloc::Global;
+use crate::held::Failing;
+use crate::rows::{Rows, each_holds};
+use crate::stories::{Step, Story};
+use raft_env::IoKind;
+use raft_memory::FsCall;
+use raft_plans::{Answer, Change, Left, Plan};
 use std::test::Fail;
 
-/// What a purge answered, which files the Append queue had then, and how long the key's value was.
-#[derive(Clone, Copy, Debug, PartialEq, Eq)]
-struct Purged {
-    dropped: usize,
-    span: (u64, u64),
-    value: Option<usize>,
-}
+/// Three files of the Append queue, with a key in each.
+const KEY_IN_EACH: &[Step] = &[
+    Step::Open,
+    Step::Run(
+        &[
+            Plan::Write(&[Change::Put(1, b"a", &[1; 1000])], false),
+            Plan::Write(&[Change::Put(1, b"b", &[2; 1000])], false),
+            Plan::Write(&[Change::Put(2, b"c", &[3; 1000])], false),
+        ],
+        &[],
+    ),
+    Step::Span(1, 3),
+];
 
-const KEY: &[u8] = b"k";
+/// Ten entries, which stand in the Rewrite queue alone.
+const TEN_ENTRIES: &[Step] = &[
+    Step::Open,
+    Step::Run(
+        &[
+            Plan::Write(&[Change::Entries(3, 1, 10, b"x")], true),
+            Plan::RewriteAppend(None, None),
+        ],
+        &[],
+    ),
+];
 
-// Two values of 600 bytes and more fill a file of 1 KB.
-fn settings(alloc: Global) -> Config {
-    let mut config = Config::fresh(alloc);
-    config.target_file_size = ReadableSize::kb(1);
-    config
-}
+/// .. of 70,000 bytes each, where a log file is full at 256 KB.
+const TEN_LONG_ENTRIES: &[Step] = &[
+    Step::OpenTo(256),
+    Step::Run(
+        &[
+            Plan::Write(&[Change::LongEntries(3, 1, 10, b'x', 69_998)], true),
+            Plan::RewriteAppend(None, None),
+        ],
+        &[],
+    ),
+];
 
-fn put<F: FileSystem>(alloc: Global, engine: &mut Engine<F>, len: usize) -> Result<(), Fault> {
-    let mut batch = LogBatch::new(alloc);
-    batch.put(1, KEY.to_vec(alloc)?, vec![in alloc; b'v'; len]?)?;
-    engine.write(&mut batch, false)?;
-    Ok(())
-}
+/// After entries 5 and 6 in place of what followed, a compaction leaves none.
+const COMPACTED: &[Step] = &[Step::Run(
+    &[
+        Plan::Write(&[Change::Entries(3, 5, 6, b"y")], false),
+        Plan::CompactTo(3, 7),
+    ],
+    &[],
+)];
 
-fn delete<F: FileSystem>(alloc: Global, engine: &mut Engine<F>) -> Result<(), Fault> {
-    let mut batch = LogBatch::new(alloc);
-    batch.delete(1, KEY.to_vec(alloc)?)?;
-    engine.write(&mut batch, false)?;
-    Ok(())
-}
+const REWRITE_APPEND: &[Step] = &[Step::Run(&[Plan::RewriteAppend(None, None)], &[])];
 
-fn value_len<F: FileSystem>(engine: &Engine<F>) -> Result<Option<usize>, Fault> {
-    Ok(engine.get(1, KEY)?.map(|value| value.len()))
-}
+const REWRITE_REWRITE: &[Step] = &[Step::Run(&[Plan::RewriteRewrite], &[])];
 
-fn purge<F: FileSystem>(engine: &mut Engine<F>) -> Result<Purged, Fault> {
-    let dropped = engine.purge_stale_front()?;
-    Ok(Purged {
-        dropped,
-        span: engine.file_span(LogQueue::Append),
-        value: value_len(engine)?,
-    })
-}
+/// A group without entries takes any.
+const NONE_BUT_NEW_ONES: &[Step] = &[
+    Step::Run(
+        &[Plan::First(3), Plan::Last(3)],
+        &[Answer::Index(None), Answer::Index(None)],
+    ),
+    Step::Run(
+        &[Plan::Write(&[Change::Entries(3, 2, 3, b"z")], false)],
+        &[],
+    ),
+    Step::Run(
+        &[Plan::First(3), Plan::Last(3), Plan::Entry(3, 3)],
+        &[
+            Answer::Index(Some(2)),
+            Answer::Index(Some(3)),
+            Answer::Entry(3, b"z"),
+        ],
+    ),
+];
 
-// Purges behind five values of one key, behind its deletion, and where nothing came since; and what the log has when it
-// is opened again.
-fn purges<F: FileSystem + Drop>(
-    alloc: Global,
-    files: F,
-) -> Result<([Purged; 3], Option<usize>), Fault> {
-    let mut engine = Engine::open_in_order(alloc, settings(alloc), files)?;
-    for len in 600..605 {
-        put(alloc, &mut engine, len)?;
-    }
-    let overwritten = purge(&mut engine)?;
-    delete(alloc, &mut engine)?;
-    let deleted = purge(&mut engine)?;
-    let again = purge(&mut engine)?;
-    let engine = engine.reopen()?;
-    Ok(([overwritten, deleted, again], value_len(&engine)?))
-}
+static SPANS: [Story; 4] = [
+    Story {
+        name: "a rewriting of Append that ends after its second step, and a whole one",
+        parts: &[
+            KEY_IN_EACH,
+            &[
+                Step::Run(&[Plan::RewriteAppend(None, Some(2))], &[Answer::Dropped(0)]),
+                Step::Span(1, 4),
+                Step::Run(&[Plan::RewriteAppend(None, None)], &[Answer::Dropped(4)]),
+                Step::Span(5, 5),
+                Step::Reopen,
+                Step::Span(5, 5),
+                Step::Run(
+                    &[Plan::Get(1, b"a"), Plan::Get(1, b"b"), Plan::Get(2, b"c")],
+                    &[
+                        Answer::Value(Some(&[1; 1000])),
+                        Answer::Value(Some(&[2; 1000])),
+                        Answer::Value(Some(&[3; 1000])),
+                    ],
+                ),
+            ],
+        ],
+    },
+    Story {
+        name: "a purge of what is stale in a new log",
+        parts: &[&[
+            Step::Open,
+            Step::Run(&[Plan::PurgeStale], &[Answer::Dropped(1)]),
+            Step::Span(2, 2),
+            Step::RewriteSpan(2, 2),
+        ]],
+    },
+    Story {
+        name: "a purge of what is stale behind one put",
+        parts: &[&[
+            Step::Open,
+            Step::Run(
+                &[
+                    Plan::Write(&[Change::Put(1, b"a", &[1])], false),
+                    Plan::PurgeStale,
+                ],
+                &[Answer::Size(28), Answer::Dropped(0)],
+            ),
+            Step::Span(1, 2),
+            Step::RewriteSpan(2, 2),
+        ]],
+    },
+    Story {
+        name: "long entries of which a compaction spares the last ones",
+        parts: &[
+            TEN_LONG_ENTRIES,
+            REWRITE_REWRITE,
+            &[
+                Step::Run(&[Plan::CompactTo(3, 7)], &[Answer::Count(6)]),
+                Step::Run(&[Plan::PurgeStale], &[]),
+                Step::Reopen,
+                Step::Run(
+                    &[Plan::First(3), Plan::Last(3)],
+                    &[Answer::Index(Some(7)), Answer::Index(Some(10))],
+                ),
+            ],
+        ],
+    },
+];
 
 #[test]
-fn stale_files_in_front_are_dropped(rt: HostRuntime) -> Result<(), Fail> {
-    let found = purges(rt.alloc(), MemoryFileSystem::new(rt.alloc()))?;
-    let overwritten = Purged {
-        dropped: 2,
-        span: (3, 4),
-        value: Some(604),
-    };
-    let deleted = Purged {
-        dropped: 2,
-        span: (5, 5),
-        value: None,
-    };
-    let again = Purged {
-        dropped: 1,
-        span: (6, 6),
-        value: None,
-    };
-    assert_eq!(rt; found, ([overwritten, deleted, again], None));
-    Ok(())
+fn purges_leave_these_files(rt: HostRuntime) -> Result<(), Fail> {
+    each_holds(&rt, Rows::Stories(&SPANS))
+}
+
+static KEPT: [Story; 5] = [
+    Story {
+        name: "a deleted key stays deleted",
+        parts: &[
+            &[
+                Step::Open,
+                Step::Run(
+                    &[
+                        Plan::Write(&[Change::Put(1, b"a", b"v")], false),
+                        Plan::RewriteAppend(None, None),
+                        Plan::Write(&[Change::Put(1, b"a", b"v")], false),
+                        Plan::Write(&[Change::Delete(1, b"a")], false),
+                    ],
+                    &[],
+                ),
+            ],
+            REWRITE_APPEND,
+            &[
+                Step::Reopen,
+                Step::Run(&[Plan::Get(1, b"a")], &[Answer::Value(None)]),
+            ],
+        ],
+    },
+    Story {
+        name: "a compacted group stays empty",
+        parts: &[
+            TEN_ENTRIES,
+            COMPACTED,
+            REWRITE_APPEND,
+            &[Step::Reopen],
+            NONE_BUT_NEW_ONES,
+        ],
+    },
+    Story {
+        name: "a rewriting keeps what a compaction spares",
+        parts: &[
+            TEN_ENTRIES,
+            &[Step::Run(&[Plan::CompactTo(3, 5)], &[Answer::Count(4)])],
+            REWRITE_REWRITE,
+            &[
+                Step::GiveUp,
+                Step::Crash(Left::Synced),
+                Step::Open,
+                Step::Run(
+                    &[Plan::First(3), Plan::Last(3)],
+                    &[Answer::Index(Some(5)), Answer::Index(Some(10))],
+                ),
+            ],
+        ],
+    },
+    Story {
+        name: "a gap after a compaction",
+        parts: &[
+            TEN_ENTRIES,
+            COMPACTED,
+            &[
+                Step::Reopen,
+                Step::Run(&[Plan::First(3)], &[Answer::Index(None)]),
+                Step::Run(
+                    &[Plan::Write(&[Change::Entries(3, 9, 10, b"z")], false)],
+                    &[],
+                ),
+                Step::Reopen,
+                Step::Run(
+                    &[Plan::First(3), Plan::Last(3), Plan::Entry(3, 9)],
+                    &[
+                        Answer::Index(Some(9)),
+                        Answer::Index(Some(10)),
+                        Answer::Entry(9, b"z"),
+                    ],
+                ),
+            ],
+        ],
+    },
+    Story {
+        name: "a refused delete keeps later files",
+        parts: &[&[
+            Step::Open,
+            Step::Run(
+                &[
+                    Plan::Write(&[Change::LongEntries(3, 1, 10, b'x', 198)], false),
+                    Plan::Write(&[Change::LongEntries(3, 11, 15, b'x', 297)], false),
+                    Plan::Write(&[Change::LongEntries(3, 2, 3, b'x', 598)], false),
+                ],
+                &[],
+            ),
+            Step::Span(1, 3),
+            Step::Fail(Failing::Nth(FsCall::Delete, 2, IoKind::Other)),
+            Step::Run(&[Plan::RewriteAppend(None, None)], &[Answer::Fails(3)]),
+            Step::Failed(false),
+            Step::Span(2, 4),
+            Step::Run(&[Plan::RewriteAppend(None, None)], &[Answer::Dropped(3)]),
+            Step::Span(5, 5),
+            Step::Reopen,
+            Step::Run(
+                &[Plan::First(3), Plan::Last(3)],
+                &[Answer::Index(Some(1)), Answer::Index(Some(3))],
+            ),
+        ]],
+    },
+];
+
+#[test]
+fn purges_keep_what_the_log_holds(rt: HostRuntime) -> Result<(), Fail> {
+    each_holds(&rt, Rows::Stories(&KEPT))
 }

@@ -3,6 +3,7 @@
 use raft_env::{FileSystem, FsFault, Permission};
 use raft_log_engine::{Config, RecoveryMode};
 use raft_plans::settings;
+use raft_records::ReadableSize;
 use std::alloc::{AllocError, Global};
 
 pub(crate) const HEADER_1: &[u8] =
@@ -118,6 +119,13 @@ pub(crate) fn store_all<F: FileSystem>(
 pub(crate) fn settings_in(alloc: Global, mode: RecoveryMode) -> Result<Config, AllocError> {
     let mut config = settings(alloc)?;
     config.recovery_mode = mode;
+    Ok(config)
+}
+
+/// The same where a log file is full at so many KB.
+pub(crate) fn settings_to(alloc: Global, size: u64) -> Result<Config, AllocError> {
+    let mut config = settings(alloc)?;
+    config.target_file_size = ReadableSize(size.saturating_mul(1024));
     Ok(config)
 }
 

@@ -17,6 +17,8 @@ use std::alloc::Global;
 pub(crate) enum Step {
     /// Opens the files, which an engine gives up first.
     Open,
+    /// .. where a log file is full at so many KB.
+    OpenTo(u64),
     /// .. of both folders.
     OpenBoth,
     /// Makes these files.
@@ -42,8 +44,10 @@ pub(crate) enum Step {
     /// The operations before it again.
     Again,
     Failed(bool),
-    /// The numbers of the first and the last log file.
+    /// The numbers of the first and the last log file of the Append queue.
     Span(u64, u64),
+    /// .. and of the Rewrite queue.
+    RewriteSpan(u64, u64),
     Path(&'static str),
     Fetch(Fetch),
     Scan(Scan),
@@ -124,6 +128,7 @@ fn is_answered<F: FileSystem>(
         Step::Run(plans, answers) => matches!(runs(alloc, engine, plans, answers), Ok(true)),
         Step::Failed(wanted) => engine.failed() == *wanted,
         Step::Span(first, last) => engine.file_span(LogQueue::Append) == (*first, *last),
+        Step::RewriteSpan(first, last) => engine.file_span(LogQueue::Rewrite) == (*first, *last),
         Step::Path(path) => engine.path() == *path,
         Step::Fetch(fetch) => fetches(alloc, engine, fetch),
         Step::Scan(scan) => is_handed_over(alloc, engine, scan),
@@ -174,6 +179,7 @@ fn gives_up<F: Faulty>(held: &mut Held<F>) -> bool {
 fn holds<F: Faulty>(alloc: Global, held: &mut Held<F>, batch: &mut LogBatch, step: &Step) -> bool {
     match step {
         Step::Open => opens(alloc, held),
+        Step::OpenTo(size) => held.open_to(alloc, *size) && held.code().is_none(),
         Step::OpenBoth => opens_both(alloc, held),
         Step::Spill(files) => store(alloc, held, files).is_some(),
         Step::Close(code) => closes(held, *code),

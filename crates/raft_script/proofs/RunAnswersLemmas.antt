@@ -1,6 +1,6 @@
 -- The moments of operations on an engine, divided by its answers.
-use Rattle.std.proofs.Common.{◌≡◌, ◌⊎◌, ◌∙◌, ℕ, Bool, true, false, List, [], ◌∷◌, ◌++◌, append_assoc, refl, sym, subst, ap, arith, inl, inr}
-use Rattle.std.specs.Prelude.{Result, Err, if◌then◌else◌}
+use Rattle.std.proofs.Common.{◌≡◌, ◌⊎◌, ◌∙◌, ℕ, Bool, true, false, List, [], ◌∷◌, ◌++◌, append-nil, append_assoc, refl, sym, subst, ap, arith, inl, inr}
+use Rattle.std.specs.Prelude.{IfOk, Result, Ok, Err, is_ok, if◌then◌else◌}
 use Rattle.std.proofs.lemmas.Bool.{cases_Bool}
 use Rattle.raft_base.specs.declared.errors.Fault.{Fault}
 use Rattle.raft_base.specs.declared.errors.Fault.TheVariants as fault
@@ -22,7 +22,7 @@ use Rattle.raft_script.specs.Run.{IsFailing, IsGiven, IsUnnoted, MayBeInFlight, 
 use Rattle.raft_script.specs.declared.operation.Op.{Op}
 use Rattle.raft_script.specs.declared.operation.Op.TheVariants.{CompactTo}
 use Rattle.raft_script.specs.declared.operation.Outcome.{Outcome}
-use Rattle.raft_script.specs.declared.operation.Outcome.TheVariants.{Count}
+use Rattle.raft_script.specs.declared.operation.Outcome.TheVariants.{Count, Dropped}
 use Rattle.raft_script.proofs.DurabilityLemmas.{compaction_progress}
 
 -- operations after others
@@ -133,6 +133,31 @@ module _ {F H R W : Type 0} {g : Ghosts F H R W} (old new : Engine F H R W g) (g
           ]
         ];
       }
+
+-- what a purge has done
+module _ {F H R W : Type 0} {g : Ghosts F H R W} (old new : Engine F H R W g) (op : Op) (result : Result ℕ Fault) where
+  pub does_purge : MayBeInFlight (contents_of old) op [] → IsGiven (has_failed old) (contents_of old) op [] → Progresses (accepted_of (contents_of old) op (Dropped result)) (is_covering op (Dropped result)) [] (durability_of old) (durability_of new)
+      → HoldsThroughout (moments_of old) (moments_of new) (directory_of new) (LeavesAllowed (folders_of old) (durable_of old) (unsynced_of old)) → answered_of new ≡ answer_now [] new ∷ answered_of old → (has_failed old ≡ true → StaysFailed old new) → Does op (Dropped result) old new
+  does_purge may_be is_given progress moments noted stays = record {
+    flight = [];
+    may_be = may_be;
+    given = [];
+    is_given = is_given;
+    progress = progress;
+    answers = inr (record {
+      noted = noted;
+      moments = λ alive. in_flight old op [] (moments_of new) (directory_of new) may_be (subst (λ (l : List Batch). HoldsThroughout (moments_of old) (moments_of new) (directory_of new) (LeavesAllowed (folders_of old) (durable_of old) l)) (sym (append-nil (unsynced_of old))) moments);
+      rests = λ failed. (stays failed).moments;
+    });
+  }
+
+-- one that is answered leaves the engine standing
+pub purge_stands : (result : Result ℕ Fault) (d d' : Durability) → Progresses [] (is_ok result) [] d d' → IfOk result (λ _. d'.failed ≡ false)
+purge_stands (Ok count) d d' (inl rests) = absurd (let clash : true ≡ false = rests.covers_none in cc)
+purge_stands (Ok count) d d' (inr (inl added)) = added.stands
+purge_stands (Ok count) d d' (inr (inr (inl synced))) = synced.stands
+purge_stands (Ok count) d d' (inr (inr (inr fails))) = absurd (let clash : true ≡ false = fails.covers_none in cc)
+purge_stands (Err e) d d' progress = tt
 
 -- an engine that isn't asked only read
 pub read_same : {F H R W : Type 0} {g : Ghosts F H R W} (e : Engine F H R W g) → HasOnlyRead e e

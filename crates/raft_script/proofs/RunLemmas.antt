@@ -17,6 +17,7 @@ use Rattle.raft_base.specs.declared.errors.Fault.TheVariants as fault
 use Rattle.raft_base.specs.declared.errors.IoKind.{IoKind}
 use Rattle.std.specs.declared.alloc.Global.{Global}
 use Rattle.raft_log_engine.specs.Cause as engine
+use Rattle.raft_log_engine.specs.Purge as purges
 use Rattle.raft_pipes.specs.PipeState.{PipeState}
 use Rattle.raft_pipes.specs.Queue.{IsRefusalIn}
 use Rattle.raft_log_engine.specs.Durability.{HasWritten}
@@ -24,17 +25,17 @@ use Rattle.raft_log_engine.specs.Engine.{contents_of, has_failed, queue_of, refu
 use Rattle.raft_log_engine.specs.declared.engine.Engine.{Engine}
 use Rattle.raft_held.specs.Contents.{known_from}
 use Rattle.raft_held.specs.Crash.{written_batch}
-use Rattle.raft_script.specs.Run.{accepted_of, AreAnswers, AreSteady, FailsAt, FailsBy, IsFailing, IsFailurePlace, Refuses, StorageRefusalsRoseBy, batch_of_acts, batches_after, batches_after_all, io_count, io_in, is_io, IsAnswer, IsCompactRefusal, IsEngineRefusal, IsGetRefusal, IsOutOfNumbers, IsSteadyBy, IsStorageOrMemory, IsTextRefusal, IsUnbuilt, IsGiven, IsWritten, IsWriteRefusal, compaction_in, items_of_act, of_both}
+use Rattle.raft_script.specs.Run.{accepted_of, AreAnswers, AreSteady, FailsAt, FailsBy, IsFailing, IsFailurePlace, Refuses, StorageRefusalsRoseBy, batch_of_acts, batches_after, batches_after_all, io_count, io_in, is_io, IsAnswer, FailsInPurge, IsCompactRefusal, IsEngineRefusal, IsGetRefusal, IsPurgeAnswer, IsPurgeCause, IsPurgeRefusal, IsOutOfNumbers, IsSteadyBy, IsStorageOrMemory, IsTextRefusal, IsUnbuilt, IsGiven, IsWritten, IsWriteRefusal, compaction_in, items_of_act, of_both}
 use Rattle.raft_log_engine.specs.Reads.{IsEntryAnswer, IsEntryRefusalAt, IsGroupList, compact_count, entry_of}
 use Rattle.raft_script.specs.Entry.{IsTextOf, index_of}
 use Rattle.raft_script.specs.declared.text_entry.TextEntry.{TextEntry}
 use Rattle.raft_script.specs.declared.operation.Act.{Act}
 use Rattle.raft_script.specs.declared.operation.Op.{Op}
 use Rattle.raft_script.specs.declared.operation.Op.TheVariants as operation
-use Rattle.raft_script.specs.declared.operation.Op.TheVariants.{Write, WriteGroup, Sync, Get, CompactTo, First, Last}
+use Rattle.raft_script.specs.declared.operation.Op.TheVariants.{Write, WriteGroup, Sync, Get, CompactTo, First, Last, RewriteAppend, RewriteRewrite, PurgeStale}
 use Rattle.raft_script.specs.declared.operation.Outcome.{Outcome}
 use Rattle.raft_script.specs.declared.operation.Outcome.TheVariants as reply
-use Rattle.raft_script.specs.declared.operation.Outcome.TheVariants.{Size, Sizes, Done, Value, Count, Index}
+use Rattle.raft_script.specs.declared.operation.Outcome.TheVariants.{Size, Sizes, Done, Value, Count, Index, Dropped}
 use Rattle.raft_config.specs.Folders.{Folders}
 
 -- items before others, where there are both
@@ -224,6 +225,67 @@ compaction_fails P R Q failed fails folders p old new result ok told still cause
     caused (Ok count) ok cause alive dies = absurd (let clash = sym dies ∙ ok.0 in cc)
     caused (Err e) ok cause alive dies = by_fault e (cause alive) dies
 
+-- a purge
+module _ (failed fails : Bool) (folders : Folders) (old new : Refusals) (result : Result ℕ Fault) (told : (result ≡ Err fault.Failed) ↔ (failed ≡ true)) (cause : failed ≡ false → IfErr result (purges.IsPurgeRefusal folders fails old new)) where
+  abbrev IsCaused : Fault → Type 0
+  IsCaused e = purges.IsPurgeRefusal folders fails old new e
+
+  -- is answered so
+  pub purge_answered : IsPurgeAnswer result
+  purge_answered = by_result result told cause
+    where
+      by_fault : (e : Fault) → IsCaused e → IsPurgeRefusal e
+      by_fault (fault.InvalidArgument text) h = tt
+      by_fault (fault.Io kind path) h = tt
+      by_fault fault.TryAgain h = tt
+      by_fault fault.Memory h = tt
+      by_fault fault.Range h = tt
+      by_fault _ h = absurd h
+
+      by_result : (r : Result ℕ Fault) → ((r ≡ Err fault.Failed) ↔ (failed ≡ true)) → (failed ≡ false → IfErr r IsCaused) → IsPurgeAnswer r
+      by_result (Ok count) told cause = tt
+      by_result (Err e) told cause = elim (cases_Bool failed) [
+        | inl gone ↦ let e_is : e ≡ fault.Failed = same_err (Err e) refl (told.1 gone) in subst IsPurgeRefusal (sym e_is) tt
+        | inr stands ↦ by_fault e (cause stands)
+      ]
+
+  -- that storage fails is counted
+  pub purge_rose : is_io result ≡ true → StorageRefusalsRose old new
+  purge_rose io = by_result result told cause io
+    where
+      by_result : (r : Result ℕ Fault) → ((r ≡ Err fault.Failed) ↔ (failed ≡ true)) → (failed ≡ false → IfErr r IsCaused) → is_io r ≡ true → StorageRefusalsRose old new
+      by_result (Ok count) told cause io = absurd cc
+      by_result (Err (fault.Io kind path)) told cause io = elim (cases_Bool failed) [
+        | inl gone ↦ absurd (let clash = told.1 gone in cc)
+        | inr stands ↦ (cause stands).0
+      ]
+      by_result (Err fault.TryAgain) told cause io = elim (cases_Bool failed) [
+        | inl gone ↦ absurd (let clash = told.1 gone in cc)
+        | inr stands ↦ (cause stands).0
+      ]
+      by_result (Err _) told cause io = absurd cc
+
+  -- it fails an engine by storage, for lack of memory or for want of space alone
+  pub purge_fails : IfOk result (λ _. fails ≡ false) → (failed ≡ true → fails ≡ true) → FailsInPurge failed result fails
+  purge_fails ok still = record {
+    still = still;
+    only_failed = told.0;
+    refused = λ gone. inl (told.1 gone);
+    cause = by_result result told cause ok;
+  }
+    where
+      by_fault : (e : Fault) → IsCaused e → fails ≡ true → IsPurgeCause e
+      by_fault (fault.InvalidArgument text) h dies = absurd (let clash = sym dies ∙ h in cc)
+      by_fault (fault.Io kind path) h dies = tt
+      by_fault fault.Memory h dies = tt
+      by_fault fault.TryAgain h dies = tt
+      by_fault fault.Range h dies = absurd (let clash = sym dies ∙ h in cc)
+      by_fault _ h dies = absurd h
+
+      by_result : (r : Result ℕ Fault) → ((r ≡ Err fault.Failed) ↔ (failed ≡ true)) → (failed ≡ false → IfErr r IsCaused) → IfOk r (λ _. fails ≡ false) → failed ≡ false → fails ≡ true → IsErrAnd r IsPurgeCause
+      by_result (Ok count) told cause ok alive dies = absurd (let clash = sym dies ∙ ok in cc)
+      by_result (Err e) told cause ok alive dies = by_fault e (cause alive) dies
+
 -- .. and so are the groups
 pub groups_answered : (m n : Contents) (known is_known : ℕ → Bool) (failed : Bool) (same : failed ≡ false → m ≡ n) (same_known : failed ≡ false → known ≡ is_known) (result : Result (Vec ℕ Global) Fault) → IfOk result (λ groups. IsGroupList n is_known groups.items) → ((result ≡ Err fault.Failed) ↔ (failed ≡ true)) → IfErr result (λ e. (e ≡ fault.Failed) ⊎ (e ≡ fault.Memory))
     → MatchResult result (λ groups. IsGroupList m known groups.items) IsGetRefusal
@@ -261,6 +323,9 @@ module _ (m n : Contents) (op : Op) (failed : Bool) (same : failed ≡ false →
       by_op (First group) is = is
       by_op (Last group) is = is
       by_op operation.Groups is = is
+      by_op (RewriteAppend watermark step) is = is
+      by_op RewriteRewrite is = is
+      by_op PurgeStale is = is
       by_op (CompactTo group index) is = elim (cases_Bool failed) [
         | inl gone ↦ is ∙ ap (λ (b : Bool). if b then [] else written_batch (compaction_in m group index)) gone ∙ sym (ap (λ (b : Bool). if b then [] else written_batch (compaction_in n group index)) gone)
         | inr stands ↦ is ∙ ap (λ (c : Contents). if failed then [] else written_batch (compaction_in c group index)) (same stands)
@@ -329,6 +394,9 @@ still_by (operation.Entry group index) (reply.Entry answer) fails is = is.0.stil
 still_by (First group) (Index index) fails is = is
 still_by (Last group) (Index index) fails is = is
 still_by operation.Groups (reply.Groups answer) fails is = is.0.still refl
+still_by (RewriteAppend watermark step) (Dropped answer) fails is = is.still refl
+still_by RewriteRewrite (Dropped answer) fails is = is.still refl
+still_by PurgeStale (Dropped answer) fails is = is.still refl
 still_by _ _ fails is = absurd is
 
 pub still_failing : (op : Op) (outcome : Outcome) (failed fails : Bool) → IsFailing failed op outcome fails → failed ≡ true → fails ≡ true

@@ -4,6 +4,8 @@ use Rattle.std.specs.List.{list_all, onto_first, position, position_or_len, slic
 use Rattle.std.specs.Char.{is_ascii_graphic}
 use Rattle.std.specs.Str.{all_ascii_digits, bytes_eq}
 use Rattle.std.specs.Str.Parse.{digits_value}
+use Rattle.raft_base.specs.declared.pipe_log.LogQueue.{LogQueue}
+use Rattle.raft_base.specs.declared.pipe_log.LogQueue.TheVariants.{Append, Rewrite}
 use Rattle.raft_script.specs.Entry.{indexed_word, indexed_words}
 use Rattle.raft_script.specs.declared.program.Ended.{Ended}
 use Rattle.raft_script.specs.declared.program.Ended.TheVariants as ended
@@ -31,8 +33,11 @@ pub data Asked : Type 0 where
   Groups : Asked
   Range : (group : ℕ) → Asked
   Scan : (group : ℕ) → Asked
-  Span : Asked
+  Span : (queue : LogQueue) → Asked
   Sync : Asked
+  RewriteAppend : Asked
+  RewriteRewrite : Asked
+  PurgeStale : Asked
   Reopen : Asked
   Crash : (left : CrashChoice) → Asked
 
@@ -116,10 +121,22 @@ abbrev pub get_by : List (List ℕ) → Option Asked
 get_by (group ∷ key ∷ words) = option_and_then (λ g. if_last (Get g key) words) (number_in group)
 get_by _ = None
 
--- span append
+-- span append, span rewrite
 abbrev pub span_by : List (List ℕ) → Option Asked
 span_by [] = None
-span_by (word ∷ words) = if bytes_eq word (codes "append") then if_last Span words else None
+span_by (word ∷ words) =
+    if bytes_eq word (codes "append") then if_last (Span Append) words
+    else if bytes_eq word (codes "rewrite") then if_last (Span Rewrite) words
+    else None
+
+-- rewrite append, rewrite rewrite, rewrite stale
+abbrev pub rewrite_by : List (List ℕ) → Option Asked
+rewrite_by [] = None
+rewrite_by (word ∷ words) =
+    if bytes_eq word (codes "append") then if_last RewriteAppend words
+    else if bytes_eq word (codes "rewrite") then if_last RewriteRewrite words
+    else if bytes_eq word (codes "stale") then if_last PurgeStale words
+    else None
 
 -- torn KEPT FILL, where FILL is a byte
 abbrev pub torn_by : List (List ℕ) → Option CrashChoice
@@ -153,6 +170,7 @@ parsed_words (verb ∷ words) =
     else if bytes_eq verb (codes "range") then option_map Range (number_by words)
     else if bytes_eq verb (codes "scan") then option_map Scan (number_by words)
     else if bytes_eq verb (codes "span") then span_by words
+    else if bytes_eq verb (codes "rewrite") then rewrite_by words
     else if bytes_eq verb (codes "reopen") then if_last Reopen words
     else if bytes_eq verb (codes "crash") then option_map Crash (left_by words)
     else None
@@ -175,6 +193,9 @@ asked_of_call (call.Compact group index) = Compact group index
 asked_of_call (call.Entry group index) = Entry group index
 asked_of_call call.Groups = Groups
 asked_of_call call.Sync = Sync
+asked_of_call call.RewriteAppend = RewriteAppend
+asked_of_call call.RewriteRewrite = RewriteRewrite
+asked_of_call call.PurgeStale = PurgeStale
 
 -- .. and of a line
 abbrev pub asked_of : Line → Asked
@@ -182,7 +203,7 @@ asked_of line.Nothing = Nothing
 asked_of (line.Call call) = asked_of_call call
 asked_of (line.Range group) = Range group
 asked_of (line.Scan group) = Scan group
-asked_of line.Span = Span
+asked_of (line.Span queue) = Span queue
 asked_of line.Reopen = Reopen
 asked_of (line.Crash left) = Crash left
 
@@ -204,6 +225,9 @@ asked_by_op (op.Get group key) = Some (Get group key.items)
 asked_by_op (op.CompactTo group index) = Some (Compact group index)
 asked_by_op (op.Entry group index) = Some (Entry group index)
 asked_by_op op.Groups = Some Groups
+asked_by_op (op.RewriteAppend None None) = Some RewriteAppend
+asked_by_op op.RewriteRewrite = Some RewriteRewrite
+asked_by_op op.PurgeStale = Some PurgeStale
 asked_by_op _ = None
 
 -- no word begins the text

@@ -8,7 +8,6 @@ use Rattle.raft_env.specs.declared.env.FileSystem.{Ghosts}
 use Rattle.raft_log_engine.specs.declared.engine.Engine.{Engine}
 use Rattle.raft_log_engine.specs.Engine.{begun_of, contents_of, directory_of, folders_of, has_failed, is_known_in, refusals_of}
 use Rattle.raft_log_engine.specs.Opening.{IsNewIn}
-use Rattle.raft_base.specs.declared.pipe_log.LogQueue.TheVariants.{Append}
 use Rattle.raft_config.specs.Folders.{Folders}
 use Rattle.raft_pipes.specs.Folder.{IsQueueSpan}
 use Rattle.raft_records.specs.Contents.{Contents, after_batches, no_contents}
@@ -84,9 +83,9 @@ module _ {F H R W : Type 0} {g : Ghosts F H R W} where
   AnswersAsked (Range group) (answer.Range range) old new =
       (new ≡ old) × (has_failed old ≡ false → range ≡ range_of ((contents_of old).entries group))
   AnswersAsked (Scan group) (answer.Pairs result) old new = (new ≡ old) × IsScanAnswer old group result
-  AnswersAsked Span (answer.Span span) old new =
+  AnswersAsked (Span queue) (answer.Span span) old new =
       (new ≡ old)
-      × (has_failed old ≡ false → IsQueueSpan Append (folders_of old) (directory_of old) span)
+      × (has_failed old ≡ false → IsQueueSpan queue (folders_of old) (directory_of old) span)
   AnswersAsked asked (answer.Outcome outcome) old new = IsAnswered asked outcome old new
   AnswersAsked asked _ old new = ⊥
 

@@ -22,10 +22,10 @@ use Rattle.raft_script.specs.declared.operation.Act.{Act}
 use Rattle.raft_script.specs.declared.operation.Act.TheVariants as act
 use Rattle.raft_script.specs.declared.operation.Op.{Op}
 use Rattle.raft_script.specs.declared.operation.Op.TheVariants as operation
-use Rattle.raft_script.specs.declared.operation.Op.TheVariants.{Write, WriteGroup, Sync, Get, CompactTo, First, Last}
+use Rattle.raft_script.specs.declared.operation.Op.TheVariants.{Write, WriteGroup, Sync, Get, CompactTo, First, Last, RewriteAppend, RewriteRewrite, PurgeStale}
 use Rattle.raft_script.specs.declared.operation.Outcome.{Outcome}
 use Rattle.raft_script.specs.declared.operation.Outcome.TheVariants as reply
-use Rattle.raft_script.specs.declared.operation.Outcome.TheVariants.{Size, Sizes, Done, Value, Count, Index}
+use Rattle.raft_script.specs.declared.operation.Outcome.TheVariants.{Size, Sizes, Done, Value, Count, Index, Dropped}
 
 -- entries as one item, and nothing for none
 abbrev pub entries_items : ℕ → List Entry → Batch
@@ -109,12 +109,15 @@ batches_after_all m batches (op ∷ ops) (outcome ∷ outcomes) =
     batches_after_all m (batches_after m batches op outcome) ops outcomes
 batches_after_all m batches _ _ = batches
 
--- the operation made sure of all that was accepted up to it: a sync that was answered, or a write
--- or a group that asked for one
+-- the operation made sure of all that was accepted up to it: a sync or a purge that was answered, or a
+-- write or a group that asked for one
 abbrev pub is_covering : Op → Outcome → Bool
 is_covering (Write acts sync) (Size (Ok len)) = sync
 is_covering (WriteGroup parts) (Sizes (Ok answers)) = list_any (λ part. part.1) parts.items
 is_covering Sync (Done (Ok x)) = true
+is_covering (RewriteAppend watermark step) (Dropped (Ok count)) = true
+is_covering RewriteRewrite (Dropped (Ok count)) = true
+is_covering PurgeStale (Dropped (Ok count)) = true
 is_covering _ _ = false
 
 -- what may have been written in part, or whole, when a crash came in the operation
@@ -138,6 +141,9 @@ IsUnasked (operation.Entry group index) = ⊥
 IsUnasked (First group) = Unit {0}
 IsUnasked (Last group) = Unit {0}
 IsUnasked operation.Groups = Unit {0}
+IsUnasked (RewriteAppend watermark step) = ⊥
+IsUnasked RewriteRewrite = ⊥
+IsUnasked PurgeStale = ⊥
 
 -- no batch of these acts could be built: one of them can't be done, there was no memory, or they
 -- have too many bytes of entries
@@ -234,6 +240,15 @@ IsCompactRefusal fault.Range = Unit {0}
 IsCompactRefusal fault.TryAgain = Unit {0}
 IsCompactRefusal e = IsEngineRefusal e
 
+-- .. a purge for these too, or since a key of the engine's own stands in the log
+abbrev pub IsPurgeRefusal : Fault → Type 0
+IsPurgeRefusal (fault.InvalidArgument text) = Unit {0}
+IsPurgeRefusal e = IsCompactRefusal e
+
+-- a purge is answered so: of how many files went nothing is said
+abbrev pub IsPurgeAnswer : Result ℕ Fault → Type 0
+IsPurgeAnswer answer = MatchResult answer (λ _. Unit {0}) IsPurgeRefusal
+
 abbrev pub IsGetRefusal : Fault → Type 0
 IsGetRefusal fault.Memory = Unit {0}
 IsGetRefusal fault.Failed = Unit {0}
@@ -265,6 +280,9 @@ IsAnswer failed m known (Last group) (Index index) =
     failed ≡ false → index ≡ last_index_of (m.entries group)
 IsAnswer failed m known operation.Groups (reply.Groups answer) =
     MatchResult answer (λ groups. IsGroupList m known groups.items) IsGetRefusal
+IsAnswer failed m known (RewriteAppend watermark step) (Dropped answer) = IsPurgeAnswer answer
+IsAnswer failed m known RewriteRewrite (Dropped answer) = IsPurgeAnswer answer
+IsAnswer failed m known PurgeStale (Dropped answer) = IsPurgeAnswer answer
 IsAnswer failed m known _ _ = ⊥
 
 -- whether an engine that had failed or not has failed after an operation, where it fails in the one
@@ -306,6 +324,7 @@ is_refused_by_storage (Count answer) = is_io answer
 is_refused_by_storage (reply.Entry answer) = is_io answer
 is_refused_by_storage (Index index) = false
 is_refused_by_storage (reply.Groups answer) = is_io answer
+is_refused_by_storage (Dropped answer) = is_io answer
 
 -- how many of an operation's answers storage refused: of a group those of its batches
 abbrev pub io_in : Outcome → ℕ
@@ -334,17 +353,30 @@ IsStorageOrMemory (fault.Io kind path) = Unit {0}
 IsStorageOrMemory fault.Memory = Unit {0}
 IsStorageOrMemory _ = ⊥
 
+-- .. or for want of space
+abbrev pub IsPurgeCause : Fault → Type 0
+IsPurgeCause fault.TryAgain = Unit {0}
+IsPurgeCause e = IsStorageOrMemory e
+
 -- an engine answers so and fails, or doesn't; an answer that isn't the engine's is one of the
 -- others
-pub record FailsBy {T : Type 0} (failed : Bool) (answer : Result T Fault) (fails : Bool)
-    (Other : Fault → Type 0) : Type 0 where
+pub record FailsFor {T : Type 0} (IsCause : Fault → Type 0) (failed : Bool) (answer : Result T Fault)
+    (fails : Bool) (Other : Fault → Type 0) : Type 0 where
   -- it stays failed
   pub still : failed ≡ true → fails ≡ true
   -- a failure is told where there was one, and nowhere else
   pub only_failed : answer ≡ Err fault.Failed → failed ≡ true
   pub refused : failed ≡ true → (answer ≡ Err fault.Failed) ⊎ IsErrAnd answer Other
-  -- it fails by storage or for lack of memory alone
-  pub cause : failed ≡ false → fails ≡ true → IsErrAnd answer IsStorageOrMemory
+  -- it fails for such a cause alone
+  pub cause : failed ≡ false → fails ≡ true → IsErrAnd answer IsCause
+
+-- .. by storage or for lack of memory
+abbrev pub FailsBy : {T : Type 0} → Bool → Result T Fault → Bool → (Fault → Type 0) → Type 0
+FailsBy failed answer fails Other = FailsFor IsStorageOrMemory failed answer fails Other
+
+-- .. in a purge
+abbrev pub FailsInPurge : Bool → Result ℕ Fault → Bool → Type 0
+FailsInPurge failed answer fails = FailsFor IsPurgeCause failed answer fails (λ _. ⊥)
 
 -- .. and has failed or not as before
 abbrev pub IsSteadyBy : {T : Type 0} → Bool → Result T Fault → Bool → Type 0
@@ -366,6 +398,10 @@ IsFailing failed (operation.Entry group index) (reply.Entry answer) fails =
 IsFailing failed (First group) (Index index) fails = fails ≡ failed
 IsFailing failed (Last group) (Index index) fails = fails ≡ failed
 IsFailing failed operation.Groups (reply.Groups answer) fails = IsSteadyBy failed answer fails
+IsFailing failed (RewriteAppend watermark step) (Dropped answer) fails =
+    FailsInPurge failed answer fails
+IsFailing failed RewriteRewrite (Dropped answer) fails = FailsInPurge failed answer fails
+IsFailing failed PurgeStale (Dropped answer) fails = FailsInPurge failed answer fails
 IsFailing failed _ _ fails = ⊥
 
 -- each of the operations leaves the engine as it found it, failed or standing

@@ -51,6 +51,7 @@ fn print_outcome<W: Write>(output: &mut W, outcome: &Outcome) -> io::Result<()> 
             output.write_all(b"\n")
         }
         Outcome::Count(Ok(count)) => writeln!(output, "dropped {count}"),
+        Outcome::Dropped(Ok(count)) => writeln!(output, "dropped {count}"),
         Outcome::Entry(Ok(Some(entry))) => print_entry(output, entry),
         Outcome::Index(Some(index)) => writeln!(output, "index {index}"),
         Outcome::Groups(Ok(groups)) => print_groups(output, groups),
@@ -60,7 +61,8 @@ fn print_outcome<W: Write>(output: &mut W, outcome: &Outcome) -> io::Result<()> 
         | Outcome::Value(Err(fault))
         | Outcome::Count(Err(fault))
         | Outcome::Entry(Err(fault))
-        | Outcome::Groups(Err(fault)) => print_fault(output, fault),
+        | Outcome::Groups(Err(fault))
+        | Outcome::Dropped(Err(fault)) => print_fault(output, fault),
     }
 }
 

@@ -1,10 +1,11 @@
 //! A line of the program's input.
 ghost use Rattle.std.specs.Prelude.{◌≡◌, ◌==◌, ◌≤◌, List, ℕ, length, None, Some, [], ◌∷◌, IfOk, MatchOption, option_map, option_and_then};
 ghost use Rattle.std.specs.List.{position_or_len};
-ghost use Rattle.raft_script.specs.Line.{Crash, BeginsWith, HasNoWord, if_last, parsed_words, asked_in, asked_of, asked_of_call, clean_by, compact_by, delete_by, entries_by, entry_by, get_by, is_word, left_by, number_by, number_in, numbers_by, put_by, span_by, sync_by, torn_by, words_by, words_in};
+ghost use Rattle.raft_script.specs.Line.{Crash, BeginsWith, HasNoWord, if_last, parsed_words, asked_in, asked_of, asked_of_call, clean_by, compact_by, delete_by, entries_by, entry_by, get_by, is_word, left_by, number_by, number_in, numbers_by, put_by, rewrite_by, span_by, sync_by, torn_by, words_by, words_in};
 
 use crate::operation::{Act, Op};
 use crate::text_entry::entries_between;
+use raft_records::LogQueue;
 use std::alloc::{AllocError, Global};
 
 /// What a line asks for.
@@ -17,8 +18,8 @@ pub(crate) enum Line<'a> {
     Range(u64),
     /// A group's keys and values.
     Scan(u64),
-    /// The numbers of the first and of the last log file.
-    Span,
+    /// The numbers of the first and of the last log file of a queue.
+    Span(LogQueue),
     Reopen,
     Crash(CrashChoice),
 }
@@ -62,6 +63,12 @@ pub(crate) enum Call<'a> {
     },
     Groups,
     Sync,
+    /// All that stands in the Append queue is written again.
+    RewriteAppend,
+    /// All that stands in the Rewrite queue is written again.
+    RewriteRewrite,
+    /// Files in front in which nothing stands go.
+    PurgeStale,
 }
 
 impl Call<'_> {
@@ -103,6 +110,9 @@ impl Call<'_> {
             Call::Entry { group, index } => Ok(Op::Entry(*group, *index)),
             Call::Groups => Ok(Op::Groups),
             Call::Sync => Ok(Op::Sync),
+            Call::RewriteAppend => Ok(Op::RewriteAppend(None, None)),
+            Call::RewriteRewrite => Ok(Op::RewriteRewrite),
+            Call::PurgeStale => Ok(Op::PurgeStale),
         }
     }
 }
@@ -158,6 +168,8 @@ fn parse_asked<'a>(verb: &[u8], rest: &'a [u8]) -> Option<Line<'a>>
         Some(Line::Scan(parse_last_number(rest)?))
     } else if verb == b"span".as_slice() {
         parse_span(rest)
+    } else if verb == b"rewrite".as_slice() {
+        Some(Line::Call(parse_rewrite(rest)?))
     } else if verb == b"reopen".as_slice() {
         ends(rest)?;
         Some(Line::Reopen)
@@ -168,13 +180,38 @@ fn parse_asked<'a>(verb: &[u8], rest: &'a [u8]) -> Option<Line<'a>>
     }
 }
 
-// The queue whose files are asked for: there is one.
+// The queue whose files are asked for.
 fn parse_span<'a>(rest: &[u8]) -> Option<Line<'a>>
     ensures value { option_map asked_of result ≡ option_and_then span_by (words_in rest.now) }
 {
-    match split_word(rest)? {
-        (b"append", []) => Some(Line::Span),
-        _ => None,
+    let (word, rest) = split_word(rest)?;
+    if word == b"append".as_slice() {
+        ends(rest)?;
+        Some(Line::Span(LogQueue::Append))
+    } else if word == b"rewrite".as_slice() {
+        ends(rest)?;
+        Some(Line::Span(LogQueue::Rewrite))
+    } else {
+        None
+    }
+}
+
+fn parse_rewrite<'a>(rest: &[u8]) -> Option<Call<'a>>
+    ensures value { option_map asked_of_call result ≡ option_and_then rewrite_by
+        (words_in rest.now) }
+{
+    let (word, rest) = split_word(rest)?;
+    if word == b"append".as_slice() {
+        ends(rest)?;
+        Some(Call::RewriteAppend)
+    } else if word == b"rewrite".as_slice() {
+        ends(rest)?;
+        Some(Call::RewriteRewrite)
+    } else if word == b"stale".as_slice() {
+        ends(rest)?;
+        Some(Call::PurgeStale)
+    } else {
+        None
     }
 }
 

@@ -2,7 +2,7 @@
 
 use crate::text_entry::TextEntry;
 use raft_log_engine::Image;
-use raft_records::Fault;
+use raft_records::{Fault, FileSeq};
 
 /// A change of one group.
 #[derive(Debug, PartialEq, Eq, Drop)]
@@ -35,6 +35,12 @@ pub enum Op {
     Last(u64),
     /// The groups that the engine knows.
     Groups,
+    /// What stands in the Append queue up to a watermark is written again, ending after a step.
+    RewriteAppend(Option<FileSeq>, Option<u64>),
+    /// All that stands in the Rewrite queue is written again.
+    RewriteRewrite,
+    /// Files in front in which nothing stands go.
+    PurgeStale,
 }
 
 /// What an operation was answered: a write with the length of its record.
@@ -51,6 +57,8 @@ pub enum Outcome {
     /// Of an engine that had failed it says nothing.
     Index(Option<u64>),
     Groups(Result<Vec<u64>, Fault>),
+    /// How many log files went.
+    Dropped(Result<usize, Fault>),
 }
 
 /// What a trial showed.

@@ -18,7 +18,7 @@ use raft_env::FileSystem;
 use raft_log_engine::laws::crash_leaves_contents;
 use raft_log_engine::{Config, Engine, Refused};
 use raft_memory::{Choice, MemoryFileSystem};
-use raft_records::{Fault, Fresh, LogQueue, ReadableSize};
+use raft_records::{Fault, Fresh, ReadableSize};
 use std::alloc::{AllocError, Global};
 use std::io;
 use std::io::{BufRead, BufReader, BufWriter, Read, Write};
@@ -179,8 +179,8 @@ fn answer_asked(
             *engine = Some(opened);
             Ok(Answer::Pairs(pairs))
         }
-        Line::Span => {
-            let span = opened.file_span(LogQueue::Append);
+        Line::Span(queue) => {
+            let span = opened.file_span(*queue);
             *engine = Some(opened);
             Ok(Answer::Span(span))
         }

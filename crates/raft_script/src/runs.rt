@@ -28,8 +28,8 @@ pub(crate) struct RunReport {
 /// Does the operations in order, each with its outcome. Where there is no memory for the list of outcomes, the engine
 /// is not asked.
 ///
-/// The engine notes what there was each time that it answered a write, a compaction or a sync, and what that call was
-/// to write. A crash after one note and up to the next leaves, if its damage is detectable, a prefix of the batches
+/// The engine notes what there was each time that it answered a write, a compaction, a sync or a purge, and what that
+/// call was to write. A crash after one note and up to the next leaves, if its damage is detectable, a prefix of the batches
 /// accepted before that operation, or all of them and a prefix of its own batches (of a group of any choice of them,
 /// in order), with every one that an answered sync covered before it. Once the operation is answered and the engine
 /// stands, a crash leaves a prefix of what was accepted by then, with every covered write. Each answer says whether
@@ -126,6 +126,11 @@ pub(crate) fn step<F: FileSystem>(alloc: Global, engine: &mut Engine<F>, op: &Op
         Op::First(group) => Outcome::Index(engine.first_index(*group)),
         Op::Last(group) => Outcome::Index(engine.last_index(*group)),
         Op::Groups => Outcome::Groups(engine.raft_groups()),
+        Op::RewriteAppend(watermark, step) => {
+            Outcome::Dropped(engine.must_rewrite_append_queue(*watermark, *step))
+        }
+        Op::RewriteRewrite => Outcome::Dropped(engine.must_rewrite_rewrite_queue()),
+        Op::PurgeStale => Outcome::Dropped(engine.must_purge_all_stale()),
     }
 }
 

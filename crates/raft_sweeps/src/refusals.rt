@@ -4,8 +4,8 @@ use raft_env::{FileSystem, IoKind};
 use raft_log_engine::Engine;
 use raft_memory::{FsCall, MemoryFileSystem};
 use raft_plans::{
-    EMPTY, Left, MAX_FILES, OPERATIONS, State, after, choices_of, count_below, fault_of,
-    first_refused, is_allowed, is_done, ops_of, settings, state_of, value_of,
+    EMPTY, Left, MAX_FILES, OPERATIONS, PURGES, Plan, State, after, choices_of, count_below,
+    fault_of, first_refused, is_allowed, is_done, ops_of, settings, state_of, value_of,
 };
 use raft_records::Fault;
 use raft_script::{Op, Outcome, run};
@@ -13,7 +13,7 @@ use std::alloc::Global;
 use std::process::Abort;
 use std::test::Fail;
 
-const MAX_CALLS: u64 = 100;
+const MAX_CALLS: u64 = 400;
 
 const CALLS: [FsCall; 16] = [
     FsCall::Create,
@@ -81,9 +81,11 @@ fn found_in<F: FileSystem + Drop>(alloc: Global, files: F) -> Result<State, Fail
     }
 }
 
+// Where a purge finds no space, it is to be tried again.
 fn is_refusal(fault: &Fault, kind: IoKind) -> bool {
     match fault {
         Fault::Io(by, _) => *by == kind,
+        Fault::TryAgain => kind == IoKind::NoSpace,
         _ => false,
     }
 }
@@ -126,13 +128,16 @@ fn are_answers(rt: &impl Abort, ops: &[Op], outcomes: &[Outcome], kind: IoKind) 
     refused
 }
 
-// Up to the first failed one the outcomes are those that were wanted.
+// Up to the first failed one the outcomes are those that were wanted, but for how many files went, which goes by how
+// many were begun.
 fn begin_as_wanted(rt: &impl Abort, outcomes: &[Outcome], wanted: &[Outcome]) {
     for (outcome, wanted) in outcomes.iter().zip(wanted.iter()) {
         if !is_done(outcome) {
             return;
         }
-        assert_eq!(rt; *outcome, *wanted);
+        if !matches!(outcome, Outcome::Dropped(_)) {
+            assert_eq!(rt; *outcome, *wanted);
+        }
     }
 }
 
@@ -189,19 +194,37 @@ fn refuse_one(
     Ok(shown.refused)
 }
 
-#[test]
-fn each_call_may_be_refused(rt: HostRuntime) -> Result<(), Fail> {
-    let alloc = rt.alloc();
-    let ops = ops_of(alloc, &OPERATIONS)?;
-    let wanted = answered(&rt, alloc, &ops)?;
+fn refuse_each(
+    rt: &impl Abort,
+    alloc: Global,
+    plans: &[Plan],
+    kinds: &[IoKind],
+) -> Result<(), Fail> {
+    let ops = ops_of(alloc, plans)?;
+    let wanted = answered(rt, alloc, &ops)?;
     for call in CALLS {
-        for kind in KINDS {
+        for kind in kinds {
             let mut met = true;
             for nth in 1..MAX_CALLS {
-                met = met && refuse_one(&rt, alloc, &ops, &wanted, call, nth, kind)?;
+                met = met && refuse_one(rt, alloc, &ops, &wanted, call, nth, *kind)?;
             }
             assert!(rt; !met);
         }
     }
     Ok(())
+}
+
+#[test]
+fn each_call_may_be_refused(rt: HostRuntime) -> Result<(), Fail> {
+    refuse_each(&rt, rt.alloc(), &OPERATIONS, &KINDS)
+}
+
+#[test]
+fn each_call_of_purges_may_be_refused(rt: HostRuntime) -> Result<(), Fail> {
+    refuse_each(&rt, rt.alloc(), &PURGES, &[IoKind::Other])
+}
+
+#[test]
+fn each_call_of_purges_may_find_no_space(rt: HostRuntime) -> Result<(), Fail> {
+    refuse_each(&rt, rt.alloc(), &PURGES, &[IoKind::NoSpace])
 }

@@ -9,6 +9,7 @@ mod files;
 mod log;
 mod measure;
 mod parts;
+mod purges;
 mod system;
 mod workload;
 

@@ -6,6 +6,7 @@ use crate::entries::{
 };
 use crate::log::{Key, get_each, key_of, keys_of};
 use crate::measure::{Against, Host, Measure, Report, Stopwatch, micros_since};
+use crate::purges::{Purge, compact_each, kept_of};
 use crate::workload::{GROUPS, Load};
 use anyhow::Result;
 use raft_env::FileSystem;
@@ -24,6 +25,11 @@ pub(crate) enum Part {
     Entry,
     EntryInOrder,
     Fetch,
+    /// Each group is compacted to its last entries.
+    Compact,
+    RewriteAppend,
+    RewriteRewrite,
+    PurgeStale,
 }
 
 impl Part {
@@ -34,6 +40,10 @@ impl Part {
             Part::Entry => "  entry",
             Part::EntryInOrder => "  entry-in-order",
             Part::Fetch => "  fetch",
+            Part::Compact => "  compact",
+            Part::RewriteAppend => "  rewrite-append",
+            Part::RewriteRewrite => "  rewrite-rewrite",
+            Part::PurgeStale => "  purge-stale",
         }
     }
 }
@@ -52,6 +62,9 @@ enum Data {
     Keys(Vec<Key>),
     Entries(Vec<Place>),
     Fetches(Vec<Place>),
+    /// So many entries of each group stay.
+    Compactions(u64),
+    Purge(Purge),
 }
 
 /// Does a part and reports what it took. Answers the bytes of records, the keys or entries found, or the checksum of
@@ -86,6 +99,16 @@ fn run_timed<R: Host, F: FileSystem>(
             figure.saturating_mul(load.size as u64),
             Against::Values,
         ),
+        Part::Compact => (figure, 0, Against::Records),
+        // What stays of the entries is written again.
+        Part::RewriteAppend | Part::RewriteRewrite | Part::PurgeStale => {
+            let count = kept_of(load).saturating_mul(GROUPS);
+            (
+                count,
+                count.saturating_mul(load.size as u64),
+                Against::Records,
+            )
+        }
     };
     report.parts.push(Measure {
         name: part.name(load),
@@ -111,6 +134,10 @@ fn data_of<F: FileSystem>(
         Part::Entry => Ok(Data::Entries(places_of(alloc, engine, load.count)?)),
         Part::EntryInOrder => Ok(Data::Entries(places_in_order(alloc, engine)?)),
         Part::Fetch => Ok(Data::Fetches(places_of(alloc, engine, load.count)?)),
+        Part::Compact => Ok(Data::Compactions(kept_of(load))),
+        Part::RewriteAppend => Ok(Data::Purge(Purge::RewriteAppend)),
+        Part::RewriteRewrite => Ok(Data::Purge(Purge::RewriteRewrite)),
+        Part::PurgeStale => Ok(Data::Purge(Purge::Stale)),
     }
 }
 
@@ -174,6 +201,8 @@ fn perform<R: Host, F: FileSystem>(
         Data::Keys(keys) => Ok((get_each(engine, keys, false)?.0, None)),
         Data::Entries(places) => Ok((read_each(engine, places)?, None)),
         Data::Fetches(places) => Ok((fetch_each(rt.alloc(), engine, places)?, None)),
+        Data::Compactions(kept) => Ok((compact_each(engine, *kept)?, None)),
+        Data::Purge(purge) => Ok((purge.run(engine)?, None)),
     }
 }
 

@@ -5,6 +5,7 @@ use crate::entries::append_entry_fetch;
 use crate::files::append;
 use crate::log::put_get_reopen;
 use crate::measure::{Against, Host, Report};
+use crate::purges::append_compact_purge;
 use anyhow::Result;
 use raft_env::FileSystem;
 use raft_memory::MemoryFileSystem;
@@ -33,6 +34,8 @@ enum Kind {
     PutsInNoOrder,
     /// So many bytes of entries a batch, and one entry at the least.
     Entries(u64),
+    /// Entries, one a batch, and then purges.
+    Purges,
 }
 
 /// Its name, what it does, after how many operations it syncs (0: never), and the size at which a log file is full.
@@ -67,7 +70,7 @@ const BLOCK_SIZE: usize = 65536;
 pub(crate) const ONE_FILE: u64 = 1 << 40;
 
 impl Workload {
-    pub(crate) const ALL: [Workload; 11] = [
+    pub(crate) const ALL: [Workload; 12] = [
         Workload("crc", Kind::Blocks, 0, ONE_FILE),
         Workload("put", Kind::Puts(u64::MAX), 0, ONE_FILE),
         Workload("put-sync", Kind::Puts(u64::MAX), 1, ONE_FILE),
@@ -77,6 +80,7 @@ impl Workload {
         Workload("append-sync", Kind::Entries(0), 1, ONE_FILE),
         Workload("append-batch", Kind::Entries(1 << 20), 0, ONE_FILE),
         Workload("append-files", Kind::Entries(0), 0, 2 << 20),
+        Workload("purge", Kind::Purges, 0, 16 << 20),
         Workload("fs-append", Kind::File, 0, ONE_FILE),
         Workload("fs-sync", Kind::File, 1, ONE_FILE),
     ];
@@ -123,6 +127,7 @@ fn run_over<R: Host, F: FileSystem + Drop>(rt: &R, kind: Kind, files: F, load: L
         }
         Kind::Puts(_) | Kind::PutsInNoOrder => Some(put_get_reopen(rt, &mut report, files, load)?),
         Kind::Entries(_) => Some(append_entry_fetch(rt, &mut report, files, load)?),
+        Kind::Purges => Some(append_compact_purge(rt, &mut report, files, load)?),
     };
     report.note_memory(rt);
     if let Some(len) = len {

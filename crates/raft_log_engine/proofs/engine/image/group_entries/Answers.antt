@@ -7,7 +7,8 @@ use Rattle.raft_records.specs.Item.{Entry}
 use Rattle.raft_records.specs.Places.{bytes_in, entries_in}
 use Rattle.raft_tables.specs.Table.{table_of}
 use Rattle.raft_log_engine.specs.Image.{entries_of}
-use Rattle.raft_log_engine.specs.Reads.{IsReadableIn, entries_between}
+use Rattle.raft_entry_blocks.specs.Cache.{IsReadableIn}
+use Rattle.raft_log_engine.specs.Reads.{entries_between}
 use Rattle.raft_queues.specs.Dual.{both_blocks_now}
 use Rattle.raft_records.specs.ItemBatch.{is_readable_at}
 use Rattle.raft_log_engine.proofs.FaultLemmas.{dual_refusal_since, no_fewer_then}

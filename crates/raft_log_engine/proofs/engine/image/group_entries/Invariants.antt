@@ -4,7 +4,8 @@ use Rattle.raft_env.specs.Refusal.{NoFewer}
 use Rattle.raft_records.specs.Places.{entries_in}
 use Rattle.raft_tables.specs.Table.{table_of}
 use Rattle.raft_log_engine.specs.Image.{entries_of}
-use Rattle.raft_log_engine.specs.Reads.{HoldsBlockIn, entries_between}
+use Rattle.raft_entry_blocks.specs.Cache.{HoldsBlockIn}
+use Rattle.raft_log_engine.specs.Reads.{entries_between}
 use Rattle.raft_queues.specs.Dual.{both_blocks_now}
 use Rattle.raft_log_engine.proofs.engine.image.group_entries.Given as goal
 

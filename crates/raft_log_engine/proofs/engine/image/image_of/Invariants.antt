@@ -2,7 +2,7 @@ use Rattle.std.proofs.Common.{drop}
 use Rattle.raft_env.specs.Moments.{OnlyReads}
 use Rattle.raft_env.specs.Refusal.{NoFewer}
 use Rattle.raft_tables.specs.Tables.{contents_in, tables_of}
-use Rattle.raft_log_engine.specs.Reads.{HoldsBlockIn}
+use Rattle.raft_entry_blocks.specs.Cache.{HoldsBlockIn}
 use Rattle.raft_queues.specs.Dual.{both_blocks_now}
 use Rattle.raft_log_engine.proofs.ImageLemmas.{IsBuilding}
 use Rattle.raft_log_engine.proofs.engine.image.image_of.Given as goal

@@ -1,7 +1,7 @@
 use Rattle.std.proofs.Common.{subst, sym}
 use Rattle.raft_held.specs.Contents.{Holds}
 use Rattle.raft_log_engine.specs.Engine.{contents_of, is_known_in}
-use Rattle.raft_log_engine.specs.Reads.{HoldsBlockIn}
+use Rattle.raft_entry_blocks.specs.Cache.{HoldsBlockIn}
 use Rattle.raft_log_engine.proofs.HeldLemmas.{completed_still, left_still, queues_still}
 use Rattle.raft_log_engine.proofs.engine.faults.Engine+MemoryFileSystem.stop_at.Goals as goal
 
