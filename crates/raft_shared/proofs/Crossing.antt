@@ -20,6 +20,7 @@ use Rattle.raft_records.specs.contracts.log_batch.LogBatch as batch
 use Rattle.raft_tables.specs.contracts.memtables.MemTables as tables
 use Rattle.raft_tables.specs.contracts.memtable.MemTable as table
 use Rattle.raft_tables.specs.contracts.owed.OwedMarks as owed
+use Rattle.raft_tables.specs.contracts.rewritten.GroupsMet as groups
 use Rattle.raft_tables.specs.contracts.stats.GlobalStats as stats
 use Rattle.raft_log_engine.specs.contracts.engine.Engine as engine
 use Rattle.raft_base.specs.contracts.errors.Fault as fault
@@ -114,6 +115,9 @@ owed_send = struct_send (shape owed.the_type) owed_parts
 stats_send : IsSend (stats.the_field).row
 stats_send = search (sendable, items.crosses) depth 20
 
+groups_send : IsSend (groups.the_field).row
+groups_send = search (sendable, items.crosses) depth 20
+
 pub fault_send : IsSend (fault.the_field).row
 fault_send = search (sendable, items.crosses, maps.crosses) depth 20
 
@@ -164,43 +168,7 @@ module _ (F H R W : RattleType) (g : Ghosts F.Denot H.Denot R.Denot W.Denot) whe
   pipes_send w = view_send (pipes.TheInside.the_row F H R W g) _ _ _ _ (recorded_send _ _ _ (pipes.TheInside.the_type F H R W g).to_one (struct_send (shape (pipes.TheInside.the_type F H R W g)) (pipes_parts w)))
 
   engine_parts : IsSend F → IsSend W → AllSend (shape (engine.the_type F H R W g)).fields
-  engine_parts f w = (
-    search (sendable, items.crosses) depth 20,
-    (
-      config_field_send,
-      (
-        f,
-        (
-          pipes_send w,
-          (
-            tables_field_send,
-            (
-              stats_send,
-              (
-                owed_send,
-                (
-                  search sendable,
-                  (
-                    search (sendable, items.crosses) depth 20,
-                    (
-                      search (sendable, items.crosses, item_send) depth 20,
-                      (
-                        search sendable,
-                        (
-                          search (sendable, history_send, batch_send) depth 20,
-                          (search (sendable, history_send, batch_send) depth 20, (search (sendable, history_send, batch_send) depth 20, (search (sendable, history_send) depth 20, tt))),
-                        ),
-                      ),
-                    ),
-                  ),
-                ),
-              ),
-            ),
-          ),
-        ),
-      ),
-    ),
-  )
+  engine_parts f w = (search (sendable, items.crosses) depth 20, (config_field_send, (f, (pipes_send w, (tables_field_send, (stats_send, (owed_send, (groups_send, (search sendable, (search (sendable, items.crosses) depth 20, (search (sendable, items.crosses, item_send) depth 20, (search sendable, (search (sendable, history_send, batch_send) depth 20, (search (sendable, history_send, batch_send) depth 20, (search (sendable, history_send, batch_send) depth 20, (search (sendable, history_send) depth 20, tt))))))))))))))))
 
   pub engine_send : IsSend F → IsSend W → IsSend (engine.the_row F H R W g)
   engine_send f w = recorded_send _ _ _ (engine.the_type F H R W g).to_one (struct_send (shape (engine.the_type F H R W g)) (engine_parts f w))
