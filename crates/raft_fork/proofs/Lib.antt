@@ -1,0 +1,6 @@
+pub mod CopiesLemmas
+pub mod ForkLemmas
+pub mod PlacesLemmas
+pub mod ReadsLemmas
+pub mod RefusedLemmas
+pub mod StepsLemmas
