@@ -14,7 +14,7 @@ use Rattle.raft_pipes.proofs.QueueFilesLemmas.{all_back, all_front, all_push}
 use Rattle.raft_base.specs.declared.errors.Fault.{Fault}
 use Rattle.raft_env.specs.Refusal.{IsRefusal, NoFewer, Refusals, added_count, no_refusals}
 use Rattle.raft_pipes.proofs.FilesLemmas.{refused_after}
-use Rattle.raft_fork.specs.Fork.{AreCopied, CanBeCopied, Source, copies_in, copy_in, source_of}
+use Rattle.raft_fork.specs.Fork.{AreBeingCopied, AreCopied, CanBeCopied, Source, copies_in, copy_in, source_of}
 use Rattle.raft_fork.specs.Refused.{IsCopyRefusal}
 use Rattle.raft_fork.specs.declared.source.SourceFile.{SourceFile}
 
@@ -56,9 +56,6 @@ module _ (target : Path) (n : Directory) (front : List Source) (f : Source) (res
     pub copy_free : file_at mid (copy_in target f) ≡ None
     copy_free = others (copy_in target f) apart_from_front ∙ free_copies (copy_in target f) copy_among
 
-    pub others_all : (m : Directory) → LeavesOthers (copy_in target f) mid m → LeavesAllBut (copies_in target (front ++ f ∷ rest)) n m
-    others_all m only = λ q out. only q (λ is. out (subst (Contains (copies_in target (front ++ f ∷ rest))) (sym is) copy_among)) ∙ others q (λ among. out (in_front q among))
-
     module _ (after : Directory) (only : LeavesOthers (copy_in target f) mid after) where
       durable_stays : (path : Path) (bytes : List ℕ) → path ≢ copy_in target f → IsDurable path bytes mid → IsDurable path bytes after
       durable_stays path bytes apart durable = record { file = durable.file; stands = only path apart ∙ durable.stands; now = durable.now; synced = durable.synced; unchanged = durable.unchanged }
@@ -80,6 +77,15 @@ module _ (target : Path) (n : Directory) (front : List Source) (f : Source) (res
           let all : copies_in target (front ++ f ∷ []) ≡ copies_in target front ++ copy_in target f ∷ [] = map-append (copy_in target) front (f ∷ []) in
           only q (λ is. out (subst (λ paths. Contains paths q) (sym all) (subst (Contains (copies_in target front ++ copy_in target f ∷ [])) (sym is) (stands_in (copies_in target front) (copy_in target f) []))))
           ∙ others q (λ among. out (subst (λ paths. Contains paths q) (sym all) (Contains-append_left (copies_in target front) (copy_in target f ∷ []) q among)))
+
+
+      -- while its copy is made
+      pub moment_next : AreCopied target front n mid → AreBeingCopied target (front ++ f ∷ rest) n after
+      moment_next copied = record { done = front; rest = f ∷ rest; is = refl; copied = earlier front (λ q among. among) copied; others = others_next }
+
+-- before and after all copies
+pub none_being_copied : (target : Path) (files : List Source) (n : Directory) → AreBeingCopied target files n n
+none_being_copied target files n = record { done = []; rest = files; is = refl; copied = tt; others = λ q out. refl }
 
 -- the file at a place of a list
 module _ (files : List SourceFile) (i : ℕ) (item : SourceFile) (within : i < length files) (is : item ≡ get_or files i item) where

@@ -1,4 +1,5 @@
 pub mod CopiesLemmas
+pub mod FoldersLemmas
 pub mod ForkLemmas
 pub mod PlacesLemmas
 pub mod ReadsLemmas

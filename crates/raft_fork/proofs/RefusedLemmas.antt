@@ -2,6 +2,8 @@
 use Rattle.std.proofs.Common.{◌≡◌, ◌⊎◌, ◌∙◌, ℕ, zero, suc, ◌<◌, ◌≤◌, ◌==◌, IsSome, length, map, List, [], ◌∷◌, Bool, true, false, Some, None, refl, ap, sym, subst, inl, inr, arith}
 use Rattle.std.specs.Prelude.{Contains}
 use Rattle.std.specs.List.{AllByRecursion}
+use Rattle.std.proofs.lemmas.List.{map-append}
+use Rattle.std.proofs.lemmas.List.Elements.{Contains-append_cases}
 use Rattle.raft_base.specs.declared.errors.Fault.{Fault}
 use Rattle.raft_base.specs.declared.errors.Fault.TheVariants as fault
 use Rattle.raft_base.specs.declared.pipe_log.LogQueue.{LogQueue}
@@ -20,8 +22,8 @@ use Rattle.raft_pipes.proofs.PlacesLemmas.{here_first, none_stands, one_of}
 use Rattle.raft_pipes.proofs.QueueFilesLemmas.{no_file}
 use Rattle.raft_pipes.proofs.SingleLemmas.{single_numbered}
 use Rattle.raft_pipes.specs.Numbered.{AreNumbered, StandAlone}
-use Rattle.raft_fork.specs.Fork.{IsFree, HasNoLogIn, Source, all_sources_in, copies_in, copy_in, sources_of, standing}
-use Rattle.raft_fork.specs.Refused.{HasLogIn, IsCopyRefusal, IsFolderRefusal, IsForkRefusal, IsInFolder, IsInOneOf, IsSettingsRefusal, IsSourceRefusal, IsTargetRefusal}
+use Rattle.raft_fork.specs.Fork.{IsFree, Source, all_sources_in, copies_in, copy_in, sources_in, standing}
+use Rattle.raft_fork.specs.Refused.{HasLogIn, IsCopyRefusal, IsFolderRefusal, IsForkRefusal, IsInFolder, IsInOneOf, IsInvalid, IsSettingsRefusal, IsSourceRefusal, IsTargetRefusal, fork_contradiction}
 use Rattle.raft_fork.proofs.PlacesLemmas.{numbered, single_same}
 
 -- no log file stands where none is kept
@@ -88,23 +90,76 @@ source_refused queue folders n old mid new (fault.Io kind text) fewer (rose, inl
 source_refused queue folders n old mid new (fault.Io kind text) fewer (rose, inr (path, (folder, among, log), names)) = (omega (arith, fewer.0, rose), (path, (folder, among, inr log), names))
 source_refused queue folders n old mid new _ fewer refused = refused
 
+-- a source file is in one of the folders, and its copy in the target
+module _ (target : Path) (there : List Path) (n : Directory) (path : Path) where
+  source_place : (queue : LogQueue) (files : List (ℕ × Path)) → AllByRecursion (IsKept queue n there) files → Contains (map (λ (f : Source). f.1) (map (numbered queue) files)) path → IsInOneOf there path
+  source_place queue [] kept among = absurd (omega (arith, among.1))
+  source_place queue (f ∷ files) kept among = elim (has_cases f.1 path (map (λ (f : Source). f.1) (map (numbered queue) files)) among) [
+    | inl is ↦ (let at = kept.0.1.0 in (at.0, at.1, inr (in_queue queue f.0, kept.0.0, sym is ∙ at.2)))
+    | inr more ↦ source_place queue files kept.1 more
+  ]
+
+  target_place : (queue : LogQueue) (files : List (ℕ × Path)) → AllByRecursion (IsKept queue n there) files → Contains (copies_in target (map (numbered queue) files)) path → IsInFolder target path
+  target_place queue [] kept among = absurd (omega (arith, among.1))
+  target_place queue (f ∷ files) kept among = elim (has_cases (path_of target (in_queue queue f.0)) path (copies_in target (map (numbered queue) files)) among) [
+    | inl is ↦ inr (in_queue queue f.0, kept.0.0, sym is)
+    | inr more ↦ target_place queue files kept.1 more
+  ]
+
+  among_both : (name : Source → Path) → Contains (map name (all_sources_in there n)) path → Contains (map name (sources_in Append there n)) path ⊎ Contains (map name (sources_in Rewrite there n)) path
+  among_both name among = Contains-append_cases (map name (sources_in Append there n)) (map name (sources_in Rewrite there n)) path
+      (subst (λ paths. Contains paths path) (map-append name (sources_in Append there n) (sources_in Rewrite there n)) among)
+
+  in_target : IsInFolder target path → IsInOneOf (target ∷ there) path
+  in_target place = (target, here_first target there, place)
+
+  in_source : IsInOneOf there path → IsInOneOf (target ∷ there) path
+  in_source place = (place.0, has_later target place.0 there place.1, place.2)
+
+  pub place_of_copy : (Contains (copies_in target (all_sources_in there n)) path ⊎ Contains (map (λ (f : Source). f.1) (all_sources_in there n)) path) → IsInOneOf (target ∷ there) path
+  place_of_copy (inl copy) = elim (among_both (copy_in target) copy) [
+    | inl append ↦ in_target (target_place Append (kept_files there Append n) (kept_all Append n there) append)
+    | inr rewrite ↦ in_target (target_place Rewrite (kept_files there Rewrite n) (kept_all Rewrite n there) rewrite)
+  ]
+  place_of_copy (inr source) = elim (among_both (λ (f : Source). f.1) source) [
+    | inl append ↦ in_source (source_place Append (kept_files there Append n) (kept_all Append n there) append)
+    | inr rewrite ↦ in_source (source_place Rewrite (kept_files there Rewrite n) (kept_all Rewrite n there) rewrite)
+  ]
+
 -- refusals of a fork
 module _ (c : Config) (target : Path) (n : Directory) (old new : Refusals) where
+  -- settings without fault leave the target and the source to be refused
+  as_valid : fork_contradiction c ≡ None → (text : List ℕ) → IsInvalid None (standing (folders_in c) n) target n text → IsInvalid (fork_contradiction c) (standing (folders_in c) n) target n text
+  as_valid none text invalid = subst (λ o. IsInvalid o (standing (folders_in c) n) target n text) (sym none) invalid
+
   pub fork_settings : (e : Fault) → IsSettingsRefusal c e → IsForkRefusal c target n old new e
-  fork_settings (fault.InvalidArgument text) refused = inl refused
-  fork_settings _ refused = refused
+  fork_settings (fault.InvalidArgument text) refused = subst (λ o. IsInvalid o (standing (folders_in c) n) target n text.now) (sym refused) refl
+  fork_settings fault.Memory refused = tt
+  fork_settings _ refused = absurd refused
 
   pub fork_memory : (e : Fault) → e ≡ fault.Memory → IsForkRefusal c target n old new e
   fork_memory e is = subst (IsForkRefusal c target n old new) (sym is) tt
 
-  pub fork_target : (e : Fault) → IsTargetRefusal target n old new e → IsForkRefusal c target n old new e
-  fork_target (fault.InvalidArgument text) (inl file) = inr (inl file)
-  fork_target (fault.InvalidArgument text) (inr log) = inr (inr (inl log))
-  fork_target (fault.Io kind text) refused = (refused.0, (target, (target, here_first target (standing (folders_in c) n), inl refl), refused.1))
-  fork_target _ refused = refused
+  pub fork_target : (e : Fault) → fork_contradiction c ≡ None → IsTargetRefusal target n old new e → IsForkRefusal c target n old new e
+  fork_target (fault.InvalidArgument text) none (inl file) = as_valid none text.now (inl file)
+  fork_target (fault.InvalidArgument text) none (inr log) = as_valid none text.now (inr (inl log))
+  fork_target (fault.Io kind text) none refused = (refused.0, (target, (target, here_first target (standing (folders_in c) n), inl refl), refused.1))
+  fork_target fault.Memory none refused = tt
+  fork_target _ none refused = absurd refused
 
-  pub fork_source : (m : Directory) (mid : Refusals) (e : Fault) → LeavesAll n m → NoFewer old mid → IsSourceRefusal (standing (folders_in c) n) m mid new e → IsForkRefusal c target n old new e
-  fork_source m mid (fault.InvalidArgument text) same fewer refused = inr (inr (inr (refused.0, (λ single. refused.1 (single_same (standing (folders_in c) n) refused.0 m n (λ path. sym (same path)) single)))))
-  fork_source m mid (fault.Io kind text) same fewer refused =
+  pub fork_source : (m : Directory) (mid : Refusals) (e : Fault) → fork_contradiction c ≡ None → IsFree target n → LeavesAll n m → NoFewer old mid → IsSourceRefusal (standing (folders_in c) n) m mid new e → IsForkRefusal c target n old new e
+  fork_source m mid (fault.InvalidArgument text) none free same fewer refused =
+      as_valid none text.now (inr (inr (free, (refused.0, (λ single. refused.1 (single_same (standing (folders_in c) n) refused.0 m n (λ path. sym (same path)) single))))))
+  fork_source m mid (fault.Io kind text) none free same fewer refused =
       (omega (arith, fewer.0, refused.0), (refused.1.0, (refused.1.1.0, has_later target refused.1.1.0 (standing (folders_in c) n) refused.1.1.1, refused.1.1.2), refused.1.2))
-  fork_source m mid _ same fewer refused = refused
+  fork_source m mid fault.Memory none free same fewer refused = tt
+  fork_source m mid _ none free same fewer refused = absurd refused
+
+  -- a refused copy, of a file in one of the source's folders
+  pub fork_copy : (m : Directory) (mid : Refusals) (e : Fault) → LeavesAll n m → NoFewer old mid → IsCopyRefusal target (all_sources_in (standing (folders_in c) n) m) mid new e → IsForkRefusal c target n old new e
+  fork_copy m mid e same fewer refused = by_fault e (place_of_copy target (standing (folders_in c) n) m refused.0 refused.1.0) refused.1.1
+    where
+      by_fault : (e : Fault) → IsInOneOf (target ∷ standing (folders_in c) n) refused.0 → IsRefusal refused.0 mid new e → IsForkRefusal c target n old new e
+      by_fault (fault.Io kind text) place at = (omega (arith, fewer.0, at.0), (refused.0, place, at.1))
+      by_fault fault.Memory place at = tt
+      by_fault _ place at = absurd at

@@ -1,16 +1,17 @@
 -- What a fork of log files is.
-use Rattle.std.specs.Prelude.{◌≡◌, ◌++◌, List, [], ◌∷◌, Option, Some, None, map}
+use Rattle.std.specs.Prelude.{◌≡◌, ◌⊎◌, ◌++◌, ◌||◌, true, List, [], ◌∷◌, Option, Some, None, map, take}
 use Rattle.std.specs.List.{AllByRecursion, filter}
 use Rattle.std.specs.String.{string_bytes}
 use Rattle.raft_base.specs.declared.pipe_log.FileId.{FileId}
 use Rattle.raft_base.specs.declared.pipe_log.LogQueue.{LogQueue}
 use Rattle.raft_base.specs.declared.pipe_log.LogQueue.TheVariants.{Append, Rewrite}
-use Rattle.raft_env.specs.Directory.{Directory, HasFile, Path, file_at}
+use Rattle.raft_env.specs.Directory.{Directory, HasFile, Path, file_at, is_on_way}
 use Rattle.raft_files.specs.Writer.{bytes_at}
 use Rattle.raft_config.specs.Folders.{Folders, all_of}
 use Rattle.raft_pipes.specs.Files.{IsDurable, LeavesAllBut}
 use Rattle.raft_pipes.specs.Folder.{IsLogPathIn}
 use Rattle.raft_pipes.specs.Numbered.{AreDistinct, AreSingle, in_queue, kept_files, path_of}
+use Rattle.raft_pipes.specs.Queue.{LeavesAll}
 use Rattle.raft_fork.specs.declared.source.SourceFile.{SourceFile}
 
 -- a source file: what it is called by, and where it stands
@@ -61,12 +62,38 @@ pub record IsFree (target : Path) (n : Directory) : Type 0 where
   pub folder : HasFile n target → ⊥
   pub logs : HasNoLogIn target n
 
+-- the target is a folder, and but for it and those on the way to it the folders are as before
+pub record HasMadeFolder (target : Path) (old new : Directory) : Type 0 where
+  pub made : new.is_folder target ≡ true
+  pub kept : (q : Path) → old.is_folder q ≡ true → new.is_folder q ≡ true
+  pub only : (q : Path) → new.is_folder q ≡ true
+      → (is_on_way q target || old.is_folder q) ≡ true
+
 -- the target has copies of the folders' log files and no others, and all else is as before
 pub record IsForkOf (folders : Folders) (target : Path) (old new : Directory) : Type 0 where
   pub free : IsFree target old
   pub single : (queue : LogQueue) → AreSingle (standing folders old) queue old
   pub copied : AreCopied target (sources_of folders old) old new
   pub others : LeavesAllBut (copies_in target (sources_of folders old)) old new
+  pub folder : HasMadeFolder target old new
+
+-- a moment of copying: these files are copied, and of the rest the first may be on its way
+pub record AreBeingCopied (target : Path) (files : List Source) (old n : Directory) : Type 0 where
+  pub done : List Source
+  pub rest : List Source
+  pub is : files ≡ done ++ rest
+  pub copied : AreCopied target done old n
+  pub others : LeavesAllBut (copies_in target (done ++ take 1 rest)) old n
+
+-- .. of the folders' log files, to a target that was free
+pub record IsPartOfFork (folders : Folders) (target : Path) (old n : Directory) : Type 0 where
+  pub free : IsFree target old
+  pub single : (queue : LogQueue) → AreSingle (standing folders old) queue old
+  pub files : AreBeingCopied target (sources_of folders old) old n
+
+-- a moment of a fork: no file has changed, or some are copied
+abbrev pub IsForking : Folders → Path → Directory → Directory → Type 0
+IsForking folders target old n = LeavesAll old n ⊎ IsPartOfFork folders target old n
 
 -- the files can be copied one by one: each stands, no copy does, and no two have one place
 pub record CanBeCopied (target : Path) (files : List Source) (n : Directory) : Type 0 where

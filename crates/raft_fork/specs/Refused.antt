@@ -12,7 +12,7 @@ use Rattle.raft_config.specs.declared.config.RecoveryMode.{RecoveryMode}
 use Rattle.raft_config.specs.declared.config.RecoveryMode.TheVariants.{AbsoluteConsistency, TolerateTailCorruption, TolerateAnyCorruption}
 use Rattle.raft_pipes.specs.Folder.{IsLogPathIn}
 use Rattle.raft_pipes.specs.Numbered.{AreSingle}
-use Rattle.raft_fork.specs.Fork.{Source, copies_in, sources_of, standing}
+use Rattle.raft_fork.specs.Fork.{IsFree, Source, copies_in, standing}
 
 abbrev pub tolerates_all : RecoveryMode → Bool
 tolerates_all TolerateAnyCorruption = true
@@ -71,12 +71,18 @@ IsCopyRefusal target files old new e = (path : Path)
     × (Contains (copies_in target files) path ⊎ Contains (map (λ f. f.1) files) path)
     × IsRefusal path old new e
 
--- a fork is refused for its settings, for a target that isn't free, for its source, or by a call on
--- a file, which the fault names
+-- which argument is refused: settings for the first thing that is wrong with them; else a target
+-- that isn't free; else a source in both of whose folders a number that would be kept stands
+abbrev pub IsInvalid : Option (List ℕ) → List Path → Path → Directory → List ℕ → Type 0
+IsInvalid (Some reason) there target n text = text ≡ reason
+IsInvalid None there target n text = HasFile n target ⊎ HasLogIn target n
+    ⊎ (IsFree target n × ((queue : LogQueue) × (AreSingle there queue n → ⊥)))
+
+-- a fork is refused for an argument, by a call on a file or a folder, which the fault names, or for
+-- lack of memory
 abbrev pub IsForkRefusal : Config → Path → Directory → Refusals → Refusals → Fault → Type 0
 IsForkRefusal c target n old new (fault.InvalidArgument text) =
-    (fork_contradiction c ≡ Some text.now) ⊎ HasFile n target ⊎ HasLogIn target n
-    ⊎ ((queue : LogQueue) × (AreSingle (standing (folders_in c) n) queue n → ⊥))
+    IsInvalid (fork_contradiction c) (standing (folders_in c) n) target n text.now
 IsForkRefusal c target n old new (fault.Io kind text) = StorageRefusalsRose old new
     × ((path : Path) × IsInOneOf (target ∷ standing (folders_in c) n) path × NamesFile path text)
 IsForkRefusal c target n old new fault.Memory = Unit {0}

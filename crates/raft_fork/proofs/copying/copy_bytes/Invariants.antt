@@ -18,6 +18,7 @@ invariant-loop-at g l =
       within : l.at ≤ l.size;
       stands : HasFile (f.directory l.file_system) l.to;
       copied : bytes_at l.to (f.directory l.file_system) ≡ take l.at bytes;
+      folders : (f.directory l.file_system).is_folder ≡ (f.directory l.fn.file_system).is_folder;
       room : 0 < length l.buffer;
       counts : NoFewer (added_count (f.refusals_of l.fn.file_system) no_refusals) (f.refusals_of l.file_system);
       moments : HoldsThroughout (f.moments l.fn.file_system) (f.moments l.file_system) (f.directory l.file_system) (LeavesOthers l.to (f.directory l.fn.file_system));
