@@ -1,10 +1,13 @@
 -- Files that are copied one after the other.
-use Rattle.std.proofs.Common.{◌≡◌, ◌≢◌, ◌⊎◌, ◌∙◌, ℕ, ◌+◌, ◌<◌, length, get_or, take, drop, List, [], ◌∷◌, ◌++◌, map, Some, None, is_some, IsSome, refl, ap, sym, subst, inl, inr, arith}
+use Rattle.std.proofs.Common.{◌≡◌, ◌≢◌, ◌⊎◌, ◌∙◌, ℕ, ◌+◌, ◌<◌, length, get_or, take, drop, List, [], ◌∷◌, ◌++◌, map, Option, Some, None, is_some, IsSome, refl, ap, sym, subst, inl, inr, arith, append_assoc}
 use Rattle.std.specs.Prelude.{Contains}
 use Rattle.std.specs.List.{AllByRecursion}
 use Rattle.std.proofs.lemmas.List.{drop_more, map-append, take-append-drop, take_more}
 use Rattle.std.proofs.lemmas.List.Elements.{Contains-append_left}
 use Rattle.raft_env.specs.Directory.{Directory, HasFile, Path, file_at}
+use Rattle.raft_env.specs.Outcomes.{File}
+use Rattle.raft_env.specs.Moments.{HoldsThroughout}
+use Rattle.raft_env.proofs.MomentsLemmas.{passes_then, passes_weaker}
 use Rattle.raft_files.specs.Writer.{bytes_at, bytes_of}
 use Rattle.raft_pipes.specs.Files.{IsDurable, LeavesAllBut}
 use Rattle.raft_pipes.specs.Folder.{LeavesOthers}
@@ -44,7 +47,7 @@ module _ (target : Path) (n : Directory) (front : List Source) (f : Source) (res
   source_stood = (all_back (λ g. HasFile n g.1) front (f ∷ rest) can.stand).0
 
   no_source_among : (files : List Source) → ((q : Path) → Contains (copies_in target files) q → Contains (copies_in target (front ++ f ∷ rest)) q) → Contains (copies_in target files) f.1 → ⊥
-  no_source_among files within among = let stood = source_stood in let none = free_copies f.1 (within f.1 among) in (let no : IsSome None = subst (λ o. IsSome o) none stood in absurd cc)
+  no_source_among files within among = let stood = source_stood in let none = free_copies f.1 (within f.1 among) in (let no : IsSome {T = File} None = subst (λ (o : Option File). IsSome o) none stood in absurd cc)
 
   module _ (mid : Directory) (others : LeavesAllBut (copies_in target front) n mid) where
     same_source : file_at mid f.1 ≡ file_at n f.1
@@ -83,7 +86,24 @@ module _ (target : Path) (n : Directory) (front : List Source) (f : Source) (res
       pub moment_next : AreCopied target front n mid → AreBeingCopied target (front ++ f ∷ rest) n after
       moment_next copied = record { done = front; rest = f ∷ rest; is = refl; copied = earlier front (λ q among. among) copied; others = others_next }
 
--- before and after all copies
+    -- the moments of one more copy
+    pub moments_next : (all : List Source) → all ≡ front ++ f ∷ rest → AreCopied target front n mid → (path : Path) → path ≡ copy_in target f → (old between new : List Directory) (after : Directory)
+        → HoldsThroughout old between mid (AreBeingCopied target all n) → HoldsThroughout between new after (LeavesOthers path mid) → HoldsThroughout old new after (AreBeingCopied target all n)
+    moments_next all is copied path path_is old between new after earlier later =
+        passes_then (AreBeingCopied target all n) old between new mid after earlier
+        (passes_weaker (LeavesOthers path mid) (AreBeingCopied target all n) between new after (λ m only. subst (λ fs. AreBeingCopied target fs n m) (sym is) (moment_next m (subst (λ p. LeavesOthers p mid m) path_is only) copied)) later)
+
+-- what has been copied, or is on its way, is some of the files
+among_started : (target : Path) (done rest : List Source) (q : Path) → Contains (copies_in target (done ++ take 1 rest)) q → Contains (copies_in target (done ++ rest)) q
+among_started target done [] q among = among
+among_started target done (f ∷ rest) q among =
+    let all : copies_in target (done ++ f ∷ []) ++ copies_in target rest ≡ copies_in target (done ++ f ∷ rest) = sym (map-append (copy_in target) (done ++ f ∷ []) rest) ∙ ap (copies_in target) (append_assoc done (f ∷ []) rest) in
+    subst (λ paths. Contains paths q) all (Contains-append_left (copies_in target (done ++ f ∷ [])) (copies_in target rest) q among)
+
+pub others_of : (target : Path) (files : List Source) (old n : Directory) → AreBeingCopied target files old n → LeavesAllBut (copies_in target files) old n
+others_of target files old n being = λ q out. being.others q (λ among. out (subst (λ fs. Contains (copies_in target fs) q) (sym being.is) (among_started target being.done being.rest q among)))
+
+-- before all copies
 pub none_being_copied : (target : Path) (files : List Source) (n : Directory) → AreBeingCopied target files n n
 none_being_copied target files n = record { done = []; rest = files; is = refl; copied = tt; others = λ q out. refl }
 
@@ -98,14 +118,21 @@ module _ (files : List SourceFile) (i : ℕ) (item : SourceFile) (within : i < l
   next_part = ap (map source_of) (take_more files i item within ∙ ap (λ x. take i files ++ x ∷ []) (sym is)) ∙ map-append source_of (take i files) (item ∷ [])
 
 -- a refused copy
-pub copy_refused : (target : Path) (front : List Source) (f : Source) (rest : List Source) (old mid new : Refusals) (e : Fault) → NoFewer (added_count old no_refusals) mid → (IsRefusal (copy_in target f) mid new e ⊎ IsRefusal f.1 mid new e) → IsCopyRefusal target (front ++ f ∷ rest) old new e
-copy_refused target front f rest old mid new e before (inl refused) = (
-  copy_in target f,
-  inl (subst (λ paths. Contains paths (copy_in target f)) (sym (map-append (copy_in target) front (f ∷ rest))) (stands_in (copies_in target front) (copy_in target f) (copies_in target rest))),
-  refused_after (copy_in target f) old mid new e before refused
-)
-copy_refused target front f rest old mid new e before (inr refused) = (
-  f.1,
-  inr (subst (λ paths. Contains paths f.1) (sym (map-append (λ (g : Source). g.1) front (f ∷ rest))) (stands_in (map (λ g. g.1) front) f.1 (map (λ g. g.1) rest))),
-  refused_after f.1 old mid new e before refused
-)
+module _ (target : Path) (front : List Source) (f : Source) (rest : List Source) (all : List Source) (is : all ≡ front ++ f ∷ rest) (old mid new : Refusals) (before : NoFewer (added_count old no_refusals) mid) where
+  at_copy : (e : Fault) → IsRefusal (copy_in target f) mid new e → IsCopyRefusal target all old new e
+  at_copy e refused = subst (λ fs. IsCopyRefusal target fs old new e) (sym is) (inr (
+    copy_in target f,
+    inl (subst (λ paths. Contains paths (copy_in target f)) (sym (map-append (copy_in target) front (f ∷ rest))) (stands_in (copies_in target front) (copy_in target f) (copies_in target rest))),
+    refused_after (copy_in target f) old mid new e before refused
+  ))
+
+  at_source : (e : Fault) → IsRefusal f.1 mid new e → IsCopyRefusal target all old new e
+  at_source e refused = subst (λ fs. IsCopyRefusal target fs old new e) (sym is) (inr (
+    f.1,
+    inr (subst (λ paths. Contains paths f.1) (sym (map-append (λ (g : Source). g.1) front (f ∷ rest))) (stands_in (map (λ (g : Source). g.1) front) f.1 (map (λ (g : Source). g.1) rest))),
+    refused_after f.1 old mid new e before refused
+  ))
+
+  pub copy_refused : (e : Fault) (to from : Path) → to ≡ copy_in target f → from ≡ f.1 → (IsRefusal to mid new e ⊎ IsRefusal from mid new e) → IsCopyRefusal target all old new e
+  copy_refused e to from to_is from_is (inl refused) = at_copy e (subst (λ p. IsRefusal p mid new e) to_is refused)
+  copy_refused e to from to_is from_is (inr refused) = at_source e (subst (λ p. IsRefusal p mid new e) from_is refused)

@@ -1,10 +1,10 @@
 -- Folders that a fork makes, and those that it leaves.
-use Rattle.std.proofs.Common.{◌≡◌, ◌∙◌, Bool, true, false, cond, Option, Some, None, [], is_some, refl, ap, sym}
+use Rattle.std.proofs.Common.{◌≡◌, ◌∙◌, Bool, true, Option, Some, None, is_some, refl, ap, sym}
 use Rattle.std.specs.Prelude.{◌||◌}
 use Rattle.std.proofs.lemmas.Bool.{or_right}
 use Rattle.std.proofs.lemmas.Slice.Eq.{bytes_eq-Decides}
-use Rattle.raft_env.specs.Directory.{Directory, Path, after_create, after_folder, file_at, folder_made, is_on_way, update_at, update_file, with_file}
-use Rattle.raft_env.specs.Outcomes.{File, synced_file}
+use Rattle.raft_env.specs.Directory.{Directory, Path, after_folder, file_at, folder_made, is_on_way, update_at, update_file}
+use Rattle.raft_env.specs.Outcomes.{File}
 use Rattle.raft_fork.specs.Fork.{HasMadeFolder}
 
 on_its_way : (target : Path) → is_on_way target target ≡ true
@@ -36,17 +36,10 @@ module _ (target : Path) (old : Directory) where
         only = λ q there. made.only q (sym (at q) ∙ there);
       }
 
--- calls on files change no folder
-pub created_folders : (path : Path) (n : Directory) → (after_create path n).is_folder ≡ n.is_folder
-created_folders path n = by_found (is_some (file_at n path))
+-- a change of a file changes no folder
+pub updated_folders : (path : Path) (f : File → File) (old new : Directory) → new ≡ update_file path f old → new.is_folder ≡ old.is_folder
+updated_folders path f old new is = ap (λ (n : Directory). n.is_folder) is ∙ by_file (file_at old path)
   where
-    by_found : (found : Bool) → (cond found n (with_file path (synced_file []) n)).is_folder ≡ n.is_folder
-    by_found true = refl
-    by_found false = refl
-
-pub updated_folders : (path : Path) (f : File → File) (n : Directory) → (update_file path f n).is_folder ≡ n.is_folder
-updated_folders path f n = by_file (file_at n path)
-  where
-    by_file : (found : Option File) → (update_at path f found n).is_folder ≡ n.is_folder
+    by_file : (found : Option File) → (update_at path f found old).is_folder ≡ old.is_folder
     by_file None = refl
     by_file (Some file) = refl

@@ -1,5 +1,5 @@
 -- Refusals of the parts of a fork are refusals of the fork.
-use Rattle.std.proofs.Common.{◌≡◌, ◌⊎◌, ◌∙◌, ℕ, zero, suc, ◌<◌, ◌≤◌, ◌==◌, IsSome, length, map, List, [], ◌∷◌, Bool, true, false, Some, None, refl, ap, sym, subst, inl, inr, arith}
+use Rattle.std.proofs.Common.{◌≡◌, ◌⊎◌, ◌∙◌, ℕ, zero, suc, ◌<◌, ◌≤◌, IsSome, length, map, List, [], ◌∷◌, Some, None, refl, ap, sym, subst, inl, inr, arith}
 use Rattle.std.specs.Prelude.{Contains}
 use Rattle.std.specs.List.{AllByRecursion}
 use Rattle.std.proofs.lemmas.List.{map-append}
@@ -18,6 +18,7 @@ use Rattle.raft_pipes.specs.Numbered.{AreSingle, end_of_numbers, in_queue, kept_
 use Rattle.raft_pipes.specs.Queue.{IsFindRefusalIn, LeavesAll}
 use Rattle.raft_pipes.proofs.KeptLemmas.{IsKept, kept_all}
 use Rattle.raft_pipes.proofs.NamesInLemmas.{has_cases, has_later}
+use Rattle.raft_pipes.proofs.NumberedLemmas.{kept-numbered}
 use Rattle.raft_pipes.proofs.PlacesLemmas.{here_first, none_stands, one_of}
 use Rattle.raft_pipes.proofs.QueueFilesLemmas.{no_file}
 use Rattle.raft_pipes.proofs.SingleLemmas.{single_numbered}
@@ -43,6 +44,17 @@ none_kept folder queue n empty seq short =
     by_place first are (inl low) = are.above seq (omega (arith, low)) short
     by_place first are (inr high) = are.none refl seq high
 
+-- none is kept where no folder is
+pub none_without : (queue : LogQueue) (n : Directory) → kept_files [] queue n ≡ []
+none_without queue n = kept-numbered (paths_of [] queue n) 0 [] (record { run = tt; hole = λ k is. refl; above = λ k low high. refl; none = λ is k low. refl; fits = omega arith })
+
+pub single_without : (queue : LogQueue) (n : Directory) → AreSingle [] queue n
+single_without queue n = subst (StandAlone (paths_of [] queue n)) (sym (none_without queue n)) tt
+
+pub single_both : (there : List Path) (n : Directory) → AreSingle there Append n → AreSingle there Rewrite n → (queue : LogQueue) → AreSingle there queue n
+single_both there n append rewrite Append = append
+single_both there n append rewrite Rewrite = rewrite
+
 pub is_free : (target : Path) (n m : Directory) → LeavesAll n m → (HasFile n target → ⊥) → kept_files (target ∷ []) Append m ≡ [] → kept_files (target ∷ []) Rewrite m ≡ [] → IsFree target n
 is_free target n m same folder append rewrite = record { folder = folder; logs = λ path log. sym (same path) ∙ ap (file_at m) log.2 ∙ by_queue log.0.queue log.0.seq log.1 }
   where
@@ -51,18 +63,14 @@ is_free target n m same folder append rewrite = record { folder = folder; logs =
     by_queue Rewrite seq short = none_kept target Rewrite m rewrite seq short
 
 -- one stands where one is kept
-has_log_at : (folder : Path) (queue : LogQueue) (n : Directory) (files : List (ℕ × Path)) → AllByRecursion (IsKept queue n (folder ∷ [])) files → (length files == 0) ≡ false → HasLogIn folder n
-has_log_at folder queue n [] kept some = absurd cc
+has_log_at : (folder : Path) (queue : LogQueue) (n : Directory) (files : List (ℕ × Path)) → AllByRecursion (IsKept queue n (folder ∷ [])) files → 0 < length files → HasLogIn folder n
+has_log_at folder queue n [] kept some = absurd (omega (arith, some))
 has_log_at folder queue n (f ∷ files) kept some =
     let at = kept.0.1.0 in
     (f.1, (in_queue queue f.0, kept.0.0, at.2 ∙ ap (λ g. path_of g (in_queue queue f.0)) (sym (one_of folder at.0 at.1))), kept.0.1.1)
 
-pub has_log : (folder : Path) (queue : LogQueue) (n : Directory) → (length (kept_files (folder ∷ []) queue n) == 0) ≡ false → HasLogIn folder n
-has_log folder queue n some = has_log_at folder queue n (kept_files (folder ∷ []) queue n) (kept_all queue n (folder ∷ [])) some
-
-pub no_length : {A : Type 0} (xs : List A) → (length xs == 0) ≡ true → xs ≡ []
-no_length [] is = refl
-no_length (x ∷ xs) is = absurd cc
+pub has_log : (folder : Path) (queue : LogQueue) (n : Directory) (files : List (ℕ × Path)) → files ≡ kept_files (folder ∷ []) queue n → 0 < length files → HasLogIn folder n
+has_log folder queue n files are some = has_log_at folder queue n files (subst (AllByRecursion (IsKept queue n (folder ∷ []))) (sym are) (kept_all queue n (folder ∷ []))) some
 
 -- refusals of the target
 target_refused : (target : Path) (n : Directory) (old new : Refusals) (e : Fault) → IsRefusal target old new e → IsTargetRefusal target n old new e
@@ -157,7 +165,8 @@ module _ (c : Config) (target : Path) (n : Directory) (old new : Refusals) where
 
   -- a refused copy, of a file in one of the source's folders
   pub fork_copy : (m : Directory) (mid : Refusals) (e : Fault) → LeavesAll n m → NoFewer old mid → IsCopyRefusal target (all_sources_in (standing (folders_in c) n) m) mid new e → IsForkRefusal c target n old new e
-  fork_copy m mid e same fewer refused = by_fault e (place_of_copy target (standing (folders_in c) n) m refused.0 refused.1.0) refused.1.1
+  fork_copy m mid e same fewer (inl wanting) = fork_memory e wanting
+  fork_copy m mid e same fewer (inr refused) = by_fault e (place_of_copy target (standing (folders_in c) n) m refused.0 refused.1) refused.2
     where
       by_fault : (e : Fault) → IsInOneOf (target ∷ standing (folders_in c) n) refused.0 → IsRefusal refused.0 mid new e → IsForkRefusal c target n old new e
       by_fault (fault.Io kind text) place at = (omega (arith, fewer.0, at.0), (refused.0, place, at.1))

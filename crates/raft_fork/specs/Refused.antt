@@ -65,11 +65,11 @@ IsSourceRefusal there n old new (fault.Io kind text) = StorageRefusalsRose old n
 IsSourceRefusal there n old new fault.Memory = Unit {0}
 IsSourceRefusal there n old new _ = ⊥
 
--- a call on a source file or on its copy fails
+-- memory is wanting, or a call on a source file or on its copy fails
 abbrev pub IsCopyRefusal : Path → List Source → Refusals → Refusals → Fault → Type 0
-IsCopyRefusal target files old new e = (path : Path)
+IsCopyRefusal target files old new e = (e ≡ fault.Memory) ⊎ ((path : Path)
     × (Contains (copies_in target files) path ⊎ Contains (map (λ f. f.1) files) path)
-    × IsRefusal path old new e
+    × IsRefusal path old new e)
 
 -- which argument is refused: settings for the first thing that is wrong with them; else a target
 -- that isn't free; else a source in both of whose folders a number that would be kept stands

@@ -10,15 +10,15 @@ use Rattle.raft_fork.proofs.copying.copy_files.Given as goal
 abbrev pub invariant-loop-file : goal.invariant-loop-file
 invariant-loop-file g l =
     let f = g.F.FileSystem in
-    let done = map source_of (take l.file-index l.fn.files.now) in
+    let done = map source_of (take l.file-index l.fn.files) in
     let old = f.directory l.fn.file_system in
     let mid = f.directory l.file_system in
     record {
       room : 0 < length l.buffer.items;
-      copies : map string_bytes l.copied.items ≡ copies_in l.fn.target.now done;
-      copied : AreCopied l.fn.target.now done old mid;
-      others : LeavesAllBut (copies_in l.fn.target.now done) old mid;
+      copies : map string_bytes l.copied.items ≡ copies_in l.fn.target done;
+      copied : AreCopied l.fn.target done old mid;
+      others : LeavesAllBut (copies_in l.fn.target done) old mid;
       folders : mid.is_folder ≡ old.is_folder;
       counts : NoFewer (added_count (f.refusals_of l.fn.file_system) no_refusals) (f.refusals_of l.file_system);
-      moments : HoldsThroughout (f.moments l.fn.file_system) (f.moments l.file_system) mid (AreBeingCopied l.fn.target.now (map source_of l.fn.files.now) old);
+      moments : HoldsThroughout (f.moments l.fn.file_system) (f.moments l.file_system) mid (AreBeingCopied l.fn.target (map source_of l.fn.files) old);
     }
