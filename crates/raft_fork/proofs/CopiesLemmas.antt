@@ -136,3 +136,7 @@ module _ (target : Path) (front : List Source) (f : Source) (rest : List Source)
   pub copy_refused : (e : Fault) (to from : Path) → to ≡ copy_in target f → from ≡ f.1 → (IsRefusal to mid new e ⊎ IsRefusal from mid new e) → IsCopyRefusal target all old new e
   copy_refused e to from to_is from_is (inl refused) = at_copy e (subst (λ p. IsRefusal p mid new e) to_is refused)
   copy_refused e to from to_is from_is (inr refused) = at_source e (subst (λ p. IsRefusal p mid new e) from_is refused)
+
+-- counts of one call after another
+pub counts_then : (old mid new : Refusals) → NoFewer (added_count old no_refusals) mid → NoFewer (added_count mid no_refusals) new → NoFewer (added_count old no_refusals) new
+counts_then old mid new before after = (omega (arith, before.0, after.0), omega (arith, before.1, after.1))

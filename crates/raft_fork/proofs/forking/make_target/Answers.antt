@@ -1,16 +1,19 @@
-use Rattle.std.proofs.Common.{rules, ◌≡◌, ◌∷◌, [], map, None, IfErr, IfOk, OnOk, ℕ, ◌+◌, ◌-◌, ◌*◌, ◌<◌, ◌≤◌, length, ◌/◌, ◌%◌, Bool, true, false, nat_eq, nat_lt, List, ◌++◌, slice_index_or, slice_set, bit_and, bit_or, Fits, w8, w32, w64, Bor, MutBor}
-use Rattle.std.specs.String.{string_bytes}
-use Rattle.raft_env.specs.Directory.{HasFile}
-use Rattle.raft_env.specs.Moments.{HoldsThroughout, OnlyReads}
-use Rattle.raft_env.specs.Refusal.{IsRefusal, NoFewer, added_count, no_refusals}
-use Rattle.raft_config.specs.Folders.{folders_in}
-use Rattle.raft_pipes.specs.Files.{LeavesAllBut}
+use Rattle.std.proofs.Common.{◌≡◌, [], ◌∷◌, Ok, Err, OnOk, subst}
+use Rattle.std.specs.Prelude.{Result}
+use Rattle.raft_base.specs.declared.pipe_log.LogQueue.TheVariants.{Rewrite}
 use Rattle.raft_pipes.specs.Numbered.{kept_files}
-use Rattle.raft_pipes.specs.Queue.{LeavesAll}
-use Rattle.raft_fork.specs.Fork.{IsForkOf, IsFree, copies_in, sources_of}
-use Rattle.raft_fork.specs.Refused.{HasLogIn, IsForkRefusal, IsFolderRefusal, IsSettingsRefusal, IsTargetRefusal, fork_contradiction}
+use Rattle.raft_fork.proofs.RefusedLemmas.{is_free}
 use Rattle.raft_fork.proofs.forking.make_target.Goals as goal
 
--- src/forking.rt:90:1
+on_ok : {T E : Type 0} (P Q : Type 0) (r : Result T E) → (P → Q) → OnOk r P → OnOk r Q
+on_ok P Q (Ok x) weaker holds = weaker holds
+on_ok P Q (Err e) weaker holds = tt
+
 pub returns-clause-ok : goal.returns-clause-ok
-returns-clause-ok g c = ?
+returns-clause-ok g c =
+    let target = c.args.target.now in
+    let n = g.F.FileSystem.directory c.args.file_system.now in
+    let mid = g.F.FileSystem.directory c.make_folder.new.file_system in
+    on_ok _ _ c.refuse_logs-2.result
+    (λ none. is_free target n mid c.make_folder.ensures.others c.in_ok-make_folder.ensures.ok c.in_ok-refuse_logs.ensures.none (subst (λ m. kept_files (target ∷ []) Rewrite m ≡ []) c.in_ok-refuse_logs.ensures.unchanged.0 none))
+    c.refuse_logs-2.ensures.none
