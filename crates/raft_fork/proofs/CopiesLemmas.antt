@@ -1,5 +1,5 @@
 -- Files that are copied one after the other.
-use Rattle.std.proofs.Common.{◌≡◌, ◌≢◌, ◌⊎◌, ◌∙◌, ℕ, ◌+◌, ◌<◌, length, get_or, take, drop, List, [], ◌∷◌, ◌++◌, map, Option, Some, None, is_some, IsSome, refl, ap, sym, subst, inl, inr, arith, append_assoc}
+use Rattle.std.proofs.Common.{◌≡◌, ◌≢◌, ◌⊎◌, ◌∙◌, ℕ, ◌+◌, ◌<◌, length, get_or, take, drop, List, [], ◌∷◌, ◌++◌, map, Option, None, IsSome, refl, ap, sym, subst, inl, inr, arith, append_assoc}
 use Rattle.std.specs.Prelude.{Contains}
 use Rattle.std.specs.List.{AllByRecursion}
 use Rattle.std.proofs.lemmas.List.{drop_more, map-append, take-append-drop, take_more}
@@ -13,7 +13,7 @@ use Rattle.raft_pipes.specs.Files.{IsDurable, LeavesAllBut}
 use Rattle.raft_pipes.specs.Folder.{LeavesOthers}
 use Rattle.raft_pipes.specs.Numbered.{AreDistinct}
 use Rattle.raft_pipes.proofs.NamesInLemmas.{has_cases, has_later, none_before, stands_in}
-use Rattle.raft_pipes.proofs.QueueFilesLemmas.{all_back, all_front, all_push}
+use Rattle.raft_pipes.proofs.QueueFilesLemmas.{all_back, all_push}
 use Rattle.raft_base.specs.declared.errors.Fault.{Fault}
 use Rattle.raft_env.specs.Refusal.{IsRefusal, NoFewer, Refusals, added_count, no_refusals}
 use Rattle.raft_pipes.proofs.FilesLemmas.{refused_after}
@@ -67,7 +67,7 @@ module _ (target : Path) (n : Directory) (front : List Source) (f : Source) (res
       earlier [] within copied = tt
       earlier (g ∷ files) within copied = (
         durable_stays (copy_in target g) (bytes_at g.1 n) (λ is. apart_from_front (subst (Contains (copies_in target front)) is (within (copy_in target g) (stands_in [] (copy_in target g) (copies_in target files))))) copied.0,
-        earlier files (λ q among. within q (has_later (copy_in target g) q (copies_in target files) among)) copied.1
+        earlier files (λ q among. within q (has_later (copy_in target g) q (copies_in target files) among)) copied.1,
       )
 
       pub copied_next : AreCopied target front n mid → IsDurable (copy_in target f) (bytes_at f.1 mid) after → AreCopied target (front ++ f ∷ []) n after
@@ -80,7 +80,6 @@ module _ (target : Path) (n : Directory) (front : List Source) (f : Source) (res
           let all : copies_in target (front ++ f ∷ []) ≡ copies_in target front ++ copy_in target f ∷ [] = map-append (copy_in target) front (f ∷ []) in
           only q (λ is. out (subst (λ paths. Contains paths q) (sym all) (subst (Contains (copies_in target front ++ copy_in target f ∷ [])) (sym is) (stands_in (copies_in target front) (copy_in target f) []))))
           ∙ others q (λ among. out (subst (λ paths. Contains paths q) (sym all) (Contains-append_left (copies_in target front) (copy_in target f ∷ []) q among)))
-
 
       -- while its copy is made
       pub moment_next : AreCopied target front n mid → AreBeingCopied target (front ++ f ∷ rest) n after
@@ -123,14 +122,14 @@ module _ (target : Path) (front : List Source) (f : Source) (rest : List Source)
   at_copy e refused = subst (λ fs. IsCopyRefusal target fs old new e) (sym is) (inr (
     copy_in target f,
     inl (subst (λ paths. Contains paths (copy_in target f)) (sym (map-append (copy_in target) front (f ∷ rest))) (stands_in (copies_in target front) (copy_in target f) (copies_in target rest))),
-    refused_after (copy_in target f) old mid new e before refused
+    refused_after (copy_in target f) old mid new e before refused,
   ))
 
   at_source : (e : Fault) → IsRefusal f.1 mid new e → IsCopyRefusal target all old new e
   at_source e refused = subst (λ fs. IsCopyRefusal target fs old new e) (sym is) (inr (
     f.1,
     inr (subst (λ paths. Contains paths f.1) (sym (map-append (λ (g : Source). g.1) front (f ∷ rest))) (stands_in (map (λ (g : Source). g.1) front) f.1 (map (λ (g : Source). g.1) rest))),
-    refused_after f.1 old mid new e before refused
+    refused_after f.1 old mid new e before refused,
   ))
 
   pub copy_refused : (e : Fault) (to from : Path) → to ≡ copy_in target f → from ≡ f.1 → (IsRefusal to mid new e ⊎ IsRefusal from mid new e) → IsCopyRefusal target all old new e

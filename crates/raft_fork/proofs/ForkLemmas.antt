@@ -1,13 +1,11 @@
 -- A fork, by its parts.
-use Rattle.std.proofs.Common.{◌≡◌, ◌∙◌, List, [], ◌∷◌, Some, None, ap, sym, subst, inl, inr}
+use Rattle.std.proofs.Common.{◌≡◌, ◌∙◌, List, [], ◌∷◌, ap, sym, subst, inl, inr}
 use Rattle.std.specs.Prelude.{Contains}
-use Rattle.raft_base.specs.declared.errors.Fault.{Fault}
-use Rattle.raft_base.specs.declared.errors.Fault.TheVariants as fault
 use Rattle.raft_base.specs.declared.pipe_log.LogQueue.{LogQueue}
-use Rattle.raft_env.specs.Directory.{Directory, Path, file_at}
+use Rattle.raft_env.specs.Directory.{Directory, Path}
 use Rattle.raft_env.specs.Moments.{HoldsThroughout}
 use Rattle.raft_env.proofs.MomentsLemmas.{passes_then, passes_weaker}
-use Rattle.raft_files.specs.Writer.{bytes_at, bytes_of}
+use Rattle.raft_files.specs.Writer.{bytes_of}
 use Rattle.raft_config.specs.Folders.{Folders}
 use Rattle.raft_pipes.specs.Files.{IsDurable, LeavesAllBut}
 use Rattle.raft_pipes.specs.Queue.{LeavesAll}

@@ -1,22 +1,21 @@
 -- Where the source's files stand, and that their copies have places of their own.
-use Rattle.std.proofs.Common.{◌≡◌, ◌≢◌, ◌⊎◌, ◌∙◌, ℕ, zero, suc, ◌+◌, ◌<◌, ◌≤◌, List, [], ◌∷◌, ◌++◌, length, map, Some, None, is_some, IsSome, refl, ap, sym, subst, inl, inr, arith, true, false}
+use Rattle.std.proofs.Common.{◌≡◌, ◌⊎◌, ◌∙◌, ℕ, suc, ◌+◌, ◌<◌, ◌≤◌, List, [], ◌∷◌, ◌++◌, length, map, None, is_some, refl, ap, sym, subst, inl, inr, arith}
 use Rattle.std.specs.Prelude.{Contains}
 use Rattle.std.specs.List.{AllByRecursion}
-use Rattle.std.proofs.lemmas.List.{map-append, length-map}
+use Rattle.std.proofs.lemmas.List.{map-append}
 use Rattle.std.proofs.lemmas.List.Elements.{Contains-append_cases}
 use Rattle.raft_base.specs.declared.pipe_log.FileId.{FileId}
 use Rattle.raft_base.specs.declared.pipe_log.LogQueue.{LogQueue}
 use Rattle.raft_base.specs.declared.pipe_log.LogQueue.TheVariants.{Append, Rewrite}
 use Rattle.raft_env.specs.Directory.{Directory, HasFile, Path, file_at}
-use Rattle.raft_pipes.specs.Folder.{IsLogPathIn}
 use Rattle.raft_pipes.specs.Queue.{LeavesAll}
-use Rattle.raft_pipes.specs.Numbered.{AreDistinct, AreNumbered, AreSingle, IsRun, end_of_numbers, in_queue, kept_files, path_of, paths_of}
+use Rattle.raft_pipes.specs.Numbered.{AreDistinct, AreSingle, IsRun, end_of_numbers, in_queue, kept_files, path_of, paths_of}
 use Rattle.raft_pipes.proofs.ApartLemmas.{one_apart}
 use Rattle.raft_pipes.proofs.KeptLemmas.{IsKept, kept_all, kept_files-beside}
 use Rattle.raft_pipes.proofs.NamesInLemmas.{has_cases}
 use Rattle.raft_pipes.proofs.PlacesLemmas.{here_first, paths_of-same}
 use Rattle.raft_pipes.proofs.SingleLemmas.{single_numbered}
-use Rattle.raft_fork.specs.Fork.{CanBeCopied, HasNoLogIn, IsFree, Source, all_sources_in, copies_in, copy_in, sources_in}
+use Rattle.raft_fork.specs.Fork.{CanBeCopied, HasNoLogIn, Source, all_sources_in, copies_in, copy_in, sources_in}
 
 -- the path in a folder tells a file
 same_id : (target : Path) (a b : FileId) → a.seq < end_of_numbers → b.seq < end_of_numbers → path_of target a ≡ path_of target b → a ≡ b
@@ -55,7 +54,7 @@ run_distinct : (target : Path) (queue : LogQueue) (here : ℕ → List Path) (ne
 run_distinct target queue here next [] run fits = tt
 run_distinct target queue here next (f ∷ files) run fits = (
   none_beside target queue here (in_queue queue f.0) (suc next) files run.2 (omega arith) (omega (arith, run.0)) (inr (inl (omega (arith, run.0)))),
-  run_distinct target queue here (suc next) files run.2 (omega arith)
+  run_distinct target queue here (suc next) files run.2 (omega arith),
 )
 
 distinct_both : (xs ys : List Path) → AreDistinct xs → AreDistinct ys → ((p : Path) → Contains xs p → Contains ys p → ⊥) → AreDistinct (xs ++ ys)
@@ -65,7 +64,7 @@ distinct_both (x ∷ xs) ys first second apart = (
     | inl here ↦ first.0 here
     | inr there ↦ apart x (here_first x xs) there
   ]),
-  distinct_both xs ys first.1 second (λ p here there. apart p (later_of x p xs here) there)
+  distinct_both xs ys first.1 second (λ p here there. apart p (later_of x p xs here) there),
 )
   where
     later_of : (y p : Path) (zs : List Path) → Contains zs p → Contains (y ∷ zs) p

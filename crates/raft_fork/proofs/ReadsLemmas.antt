@@ -1,12 +1,12 @@
 -- What can be read of a fork.
-use Rattle.std.proofs.Common.{◌≡◌, ◌⊎◌, ◌∙◌, ℕ, zero, suc, ◌+◌, ◌<◌, ◌≤◌, Bool, List, [], ◌∷◌, ◌++◌, length, map, Option, Some, None, is_some, IsSome, refl, ap, sym, subst, inl, inr, arith, true, false, cond}
+use Rattle.std.proofs.Common.{◌≡◌, ◌⊎◌, ◌∙◌, ℕ, suc, ◌+◌, ◌<◌, ◌≤◌, List, [], ◌∷◌, ◌++◌, length, map, None, is_some, IsSome, refl, ap, sym, subst, inl, inr, arith, true, false}
 use Rattle.std.specs.Prelude.{Contains}
-use Rattle.std.specs.List.{AllByRecursion, filter, flat_map}
+use Rattle.std.specs.List.{filter}
 use Rattle.std.proofs.lemmas.List.{map-append, length-map}
 use Rattle.std.proofs.lemmas.List.Elements.{Contains-append_cases}
 use Rattle.raft_base.specs.declared.pipe_log.LogQueue.{LogQueue}
 use Rattle.raft_base.specs.declared.pipe_log.LogQueue.TheVariants.{Append, Rewrite}
-use Rattle.raft_env.specs.Directory.{Directory, HasFile, Path, file_at}
+use Rattle.raft_env.specs.Directory.{Directory, Path, file_at}
 use Rattle.raft_files.specs.Scan.{readable_batches}
 use Rattle.raft_files.specs.Writer.{bytes_at, bytes_of}
 use Rattle.raft_config.specs.Folders.{Folders, all_of}
@@ -17,10 +17,10 @@ use Rattle.raft_pipes.proofs.FolderLemmas.{folder_apart}
 use Rattle.raft_pipes.proofs.NamesInLemmas.{has_cases, has_later}
 use Rattle.raft_pipes.proofs.NumberedLemmas.{kept-numbered}
 use Rattle.raft_pipes.proofs.PlacesLemmas.{here_first}
-use Rattle.raft_pipes.proofs.QueueFilesLemmas.{all_back, all_front, no_file}
+use Rattle.raft_pipes.proofs.QueueFilesLemmas.{all_back, all_front}
 use Rattle.raft_pipes.proofs.SingleLemmas.{run_alone, single_numbered}
 use Rattle.raft_pipes.proofs.TakenLemmas.{one_free}
-use Rattle.raft_fork.specs.Fork.{AreCopied, IsForkOf, Source, all_sources_in, copies_in, copy_in, sources_in, sources_of, standing}
+use Rattle.raft_fork.specs.Fork.{AreCopied, IsForkOf, Source, copies_in, copy_in, sources_in, sources_of, standing}
 use Rattle.raft_fork.proofs.PlacesLemmas.{IsBeside, append_not_rewrite, none_beside, numbered, rewrite_not_append}
 
 -- a copy has the path of a log file
@@ -51,7 +51,7 @@ module _ (target : Path) (queue : LogQueue) (n m : Directory) where
   run_copied here next (f ∷ files) run copied = (
     run.0,
     subst (λ k. paths_of (target ∷ []) queue m k ≡ path_of target (in_queue queue f.0) ∷ []) run.0 (one_there f.0 (ap is_some copied.0.stands)),
-    run_copied here (suc next) files run.2 copied.1
+    run_copied here (suc next) files run.2 copied.1,
   )
 
   reads_copied : (files : List (ℕ × Path)) → AreCopied target (map (numbered queue) files) n m → readable_of queue m (map (to_copy target queue) files) ≡ readable_of queue n files
@@ -77,9 +77,9 @@ module _ (source : Folders) (target : Path) (n m : Directory) (fork : IsForkOf s
       → Contains (copies_in target (sources_of source n)) (path_of target (in_queue queue k)) → ⊥
   apart_of queue k short outside among = elim (Contains-append_cases (copies_in target (sources_in Append (standing source n) n)) (copies_in target (sources_in Rewrite (standing source n) n)) (path_of target (in_queue queue k))
       (subst (λ paths. Contains paths (path_of target (in_queue queue k))) (map-append (copy_in target) (sources_in Append (standing source n) n) (sources_in Rewrite (standing source n) n)) among)) [
-    | inl here ↦ beside_of queue Append k short (append_beside queue outside) here
-    | inr here ↦ beside_of queue Rewrite k short (rewrite_beside queue outside) here
-  ]
+        | inl here ↦ beside_of queue Append k short (append_beside queue outside) here
+        | inr here ↦ beside_of queue Rewrite k short (rewrite_beside queue outside) here
+      ]
     where
       append_beside : (q : LogQueue) → ((k < (numbers q).0) ⊎ ((numbers q).0 + length (kept_files (standing source n) q n) ≤ k)) → IsBeside Append (numbers Append).0 (length (kept_files (standing source n) Append n)) (in_queue q k)
       append_beside Append out = inr out

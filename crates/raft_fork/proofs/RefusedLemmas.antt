@@ -1,5 +1,5 @@
 -- Refusals of the parts of a fork are refusals of the fork.
-use Rattle.std.proofs.Common.{◌≡◌, ◌⊎◌, ◌∙◌, ℕ, zero, suc, ◌<◌, ◌≤◌, IsSome, length, map, List, [], ◌∷◌, Some, None, refl, ap, sym, subst, inl, inr, arith}
+use Rattle.std.proofs.Common.{◌≡◌, ◌⊎◌, ◌∙◌, ℕ, zero, suc, ◌<◌, ◌≤◌, IsSome, length, map, List, [], ◌∷◌, None, refl, ap, sym, subst, inl, inr, arith}
 use Rattle.std.specs.Prelude.{Contains}
 use Rattle.std.specs.List.{AllByRecursion}
 use Rattle.std.proofs.lemmas.List.{map-append}
@@ -9,11 +9,10 @@ use Rattle.raft_base.specs.declared.errors.Fault.TheVariants as fault
 use Rattle.raft_base.specs.declared.pipe_log.LogQueue.{LogQueue}
 use Rattle.raft_base.specs.declared.pipe_log.LogQueue.TheVariants.{Append, Rewrite}
 use Rattle.raft_env.specs.Directory.{Directory, HasFile, Path, file_at}
-use Rattle.raft_env.specs.Refusal.{IsRefusal, NoFewer, Refusals, added_count, no_refusals}
+use Rattle.raft_env.specs.Refusal.{IsRefusal, NoFewer, Refusals}
 use Rattle.raft_config.specs.Folders.{Folders, all_of, folders_in}
 use Rattle.raft_config.specs.declared.config.Config.{Config}
 use Rattle.raft_pipes.specs.FileList.{IsListRefusal}
-use Rattle.raft_pipes.specs.Folder.{IsLogPathIn}
 use Rattle.raft_pipes.specs.Numbered.{AreSingle, end_of_numbers, in_queue, kept_files, path_of, paths_of}
 use Rattle.raft_pipes.specs.Queue.{IsFindRefusalIn, LeavesAll}
 use Rattle.raft_pipes.proofs.KeptLemmas.{IsKept, kept_all}

@@ -9,7 +9,7 @@ use Rattle.raft_config.specs.Folders.{folders_in}
 use Rattle.raft_config.specs.Sanitized.{contradiction}
 use Rattle.raft_config.specs.declared.config.Config.{Config}
 use Rattle.raft_config.specs.declared.config.RecoveryMode.{RecoveryMode}
-use Rattle.raft_config.specs.declared.config.RecoveryMode.TheVariants.{AbsoluteConsistency, TolerateTailCorruption, TolerateAnyCorruption}
+use Rattle.raft_config.specs.declared.config.RecoveryMode.TheVariants.{TolerateAnyCorruption}
 use Rattle.raft_pipes.specs.Folder.{IsLogPathIn}
 use Rattle.raft_pipes.specs.Numbered.{AreSingle}
 use Rattle.raft_fork.specs.Fork.{IsFree, Source, copies_in, standing}

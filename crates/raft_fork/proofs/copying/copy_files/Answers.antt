@@ -1,6 +1,6 @@
-use Rattle.std.proofs.Common.{◌≡◌, ◌∙◌, ◌+◌, ◌++◌, ◌≤◌, List, [], ◌∷◌, None, length, map, take, drop, ap, refl, sym, subst, inl, arith}
+use Rattle.std.proofs.Common.{◌≡◌, ◌∙◌, ◌+◌, ◌++◌, [], ◌∷◌, None, length, map, take, drop, ap, refl, sym, subst, inl, arith}
 use Rattle.std.specs.String.{string_bytes}
-use Rattle.std.proofs.lemmas.List.{map-append, take_all}
+use Rattle.std.proofs.lemmas.List.{length-append, length-take, map-append, take_all}
 use Rattle.std.proofs.lemmas.Result.{err_from_is_err_and}
 use Rattle.raft_env.specs.Directory.{HasFile, file_at}
 use Rattle.raft_env.proofs.MomentsLemmas.{passes_none}
@@ -8,7 +8,7 @@ use Rattle.raft_files.specs.Writer.{bytes_at}
 use Rattle.raft_pipes.specs.Files.{IsDurable, LeavesAllBut}
 use Rattle.raft_pipes.specs.Folder.{LeavesOthers}
 use Rattle.raft_fork.proofs.CopiesLemmas.{copied_next, copy_free, copy_refused, counts_then, moments_next, next_part, none_being_copied, others_next, parts, source_stands}
-use Rattle.raft_fork.specs.Fork.{AreBeingCopied, AreCopied, CanBeCopied, Source, copies_in, copy_in, source_of}
+use Rattle.raft_fork.specs.Fork.{AreBeingCopied, AreCopied, CanBeCopied, copies_in, copy_in, source_of}
 use Rattle.raft_fork.proofs.copying.copy_files.Goals as goal
 
 pub returns-in_err-buffer-clause-refused : goal.returns-in_err-buffer-clause-refused
@@ -159,14 +159,15 @@ loop-file-preserved g c =
     let to_is : c.as_str-in-loop-file.result.now ≡ copy_in target (source_of item) = c.as_str-in-loop-file.ensures.value ∙ c.in_ok-path.ensures.ok in
     let after = f.directory c.copy_file.new.file_system in
     let only : LeavesOthers (copy_in target (source_of item)) mid after = subst (λ path. LeavesOthers path mid after) to_is c.copy_file.ensures.any_moment.here in
+    let written = c.copy_file.new.buffer in
     let next : map source_of (take (i + 1) files) ≡ front ++ source_of item ∷ [] = next_part files i item (omega (arith, c.loop-file-test.true)) c.file-item.is in
     let durable : IsDurable (copy_in target (source_of item)) (bytes_at (string_bytes item.path) mid) after = rw (sym to_is, sym c.as_str.ensures.value) c.in_ok-copy_file.ensures.ok in
     let paths : map string_bytes c.push.new.self.items ≡ copies_in target (front ++ source_of item ∷ []) =
-        ap (map string_bytes) c.in_ok-push.ensures.items ∙ map-append string_bytes c.loop-file.copied.items (c.in_ok-path.path ∷ [])
-        ∙ ap (λ xs. xs ++ string_bytes c.in_ok-path.path ∷ []) so_far.copies ∙ ap (λ path. copies_in target front ++ path ∷ []) c.in_ok-path.ensures.ok
-        ∙ sym (map-append (copy_in target) front (source_of item ∷ [])) in
+    ap (map string_bytes) c.in_ok-push.ensures.items ∙ map-append string_bytes c.loop-file.copied.items (c.in_ok-path.path ∷ [])
+    ∙ ap (λ xs. xs ++ string_bytes c.in_ok-path.path ∷ []) so_far.copies ∙ ap (λ path. copies_in target front ++ path ∷ []) c.in_ok-path.ensures.ok
+    ∙ sym (map-append (copy_in target) front (source_of item ∷ [])) in
     record {
-      room = omega (arith, so_far.room, c.copy_file.auto.buffer, ap length c.deref_mut.ensures.value);
+      room = omega (arith, so_far.room, c.copy_file.auto.buffer, ap length c.deref_mut.ensures.value, c.loop-file.buffer.ok, length-take c.loop-file.buffer.len (written ++ drop (length written) c.loop-file.buffer.items), length-append written (drop (length written) c.loop-file.buffer.items));
       copies = paths ∙ ap (copies_in target) (sym next);
       copied = subst (λ fs. AreCopied target fs n after) (sym next) (copied_next target n front (source_of item) rest can mid so_far.others after only so_far.copied durable);
       others = subst (λ fs. LeavesAllBut (copies_in target fs) n after) (sym next) (others_next target n front (source_of item) rest can mid so_far.others after only);

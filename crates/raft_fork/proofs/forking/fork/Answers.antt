@@ -2,8 +2,7 @@ use Rattle.std.proofs.Common.{◌≡◌, ◌∙◌, map, ap, sym, subst, arith}
 use Rattle.std.proofs.lemmas.Result.{err_from_is_err_and}
 use Rattle.raft_env.specs.Directory.{Directory}
 use Rattle.raft_config.specs.Folders.{folders_in}
-use Rattle.raft_pipes.specs.Files.{LeavesAllBut}
-use Rattle.raft_fork.specs.Fork.{AreBeingCopied, AreCopied, CanBeCopied, all_sources_in, all_there, copies_in, source_of, standing}
+use Rattle.raft_fork.specs.Fork.{CanBeCopied, all_sources_in, all_there, copies_in, source_of, standing}
 use Rattle.raft_fork.specs.Refused.{IsCopyRefusal, IsSourceRefusal}
 use Rattle.raft_fork.proofs.CopiesLemmas.{others_of}
 use Rattle.raft_fork.proofs.ForkLemmas.{copies_before, is_fork, moments_before, nothing_copied, ready}

@@ -1,6 +1,7 @@
-use Rattle.std.proofs.Common.{◌≡◌, ◌∙◌, ◌++◌, [], map, ap, sym, subst, arith}
+use Rattle.std.proofs.Common.{◌∙◌, ◌++◌, [], map, ap, sym, subst, arith}
 use Rattle.std.proofs.lemmas.Result.{err_from_is_err_and}
 use Rattle.raft_base.specs.declared.pipe_log.LogQueue.TheVariants.{Append, Rewrite}
+use Rattle.raft_config.specs.Folders.{all_of}
 use Rattle.raft_pipes.specs.Numbered.{AreSingle, kept_files}
 use Rattle.raft_fork.specs.Fork.{all_sources_in, all_there, source_of}
 use Rattle.raft_fork.specs.Refused.{IsSourceRefusal}
@@ -50,5 +51,5 @@ returns-in_err-add_queue-2-clause-refused g c =
 pub returns-clause-single : goal.returns-clause-single
 returns-clause-single g c = λ queue.
     let n = g.F.FileSystem.directory c.args.file_system.now in
-    let rewrite = rw c.in_ok-add_queue.ensures.unchanged.0 at c.in_ok-add_queue-2.ensures.single in
-    subst (λ folders. AreSingle (all_there folders) queue n) (sym c.in-Some.is) (single_both _ n c.in_ok-add_queue.ensures.single rewrite queue)
+    let rewrite = subst (λ m. AreSingle (all_of c.in-Some.folders) Rewrite m) c.in_ok-add_queue.ensures.unchanged.0 c.in_ok-add_queue-2.ensures.single in
+    subst (λ folders. AreSingle (all_there folders) queue n) (sym c.in-Some.is) (single_both (all_of c.in-Some.folders) n c.in_ok-add_queue.ensures.single rewrite queue)
