@@ -10,6 +10,8 @@ use Rattle.raft_env.specs.Directory.{Directory, Path, file_at}
 use Rattle.raft_files.specs.Scan.{readable_batches}
 use Rattle.raft_files.specs.Writer.{bytes_at, bytes_of}
 use Rattle.raft_config.specs.Folders.{Folders, all_of}
+use Rattle.raft_recovery.specs.Recovered.{recovered}
+use Rattle.raft_held.specs.Contents.{contents_at, known_at, recovered_groups}
 use Rattle.raft_pipes.specs.Files.{IsDurable}
 use Rattle.raft_pipes.specs.Folder.{AreClear, readable_of, readable_queue}
 use Rattle.raft_pipes.specs.Numbered.{AreNumbered, AreSingle, IsRun, StandAlone, end_of_numbers, has_file, in_queue, kept_files, path_of, paths_of}
@@ -124,3 +126,14 @@ module _ (source : Folders) (target : Path) (n m : Directory) (fork : IsForkOf s
   fork_reads stand queue =
       ap (readable_of queue m) (kept_of_fork queue) ∙ reads_copied target queue n m (kept_files (standing source n) queue n) (copied_of queue)
       ∙ ap (λ folders. readable_of queue n (kept_files folders queue n)) (all_stand (all_of source) stand)
+
+  module _ (stand : (folder : Path) → Contains (all_of source) folder → n.is_folder folder ≡ true) where
+    pub fork_contents : contents_at (record { main = target; spill = None }) m ≡ contents_at source n
+    fork_contents =
+        ap (λ rewrite. recovered rewrite (readable_queue Append (record { main = target; spill = None }) m)) (fork_reads stand Rewrite)
+        ∙ ap (recovered (readable_queue Rewrite source n)) (fork_reads stand Append)
+
+    pub fork_known : (group : ℕ) → known_at (record { main = target; spill = None }) m group ≡ known_at source n group
+    fork_known group =
+        ap (λ rewrite. recovered_groups rewrite (readable_queue Append (record { main = target; spill = None }) m) group) (fork_reads stand Rewrite)
+        ∙ ap (λ append. recovered_groups (readable_queue Rewrite source n) append group) (fork_reads stand Append)
