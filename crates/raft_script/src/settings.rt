@@ -1,6 +1,5 @@
 //! The settings of the program's engine: its own, and over them what the first lines set.
-ghost use Rattle.std.specs.Prelude.{◌≡◌, ◌++◌, ◌∷◌, [], not, false, None, Some, IfErr, IfOk, OnErr, OnOk, option_map};
-ghost use Rattle.raft_base.specs.declared.errors.Fault.TheVariants.{Memory};
+ghost use Rattle.std.specs.Prelude.{◌≡◌, ◌++◌, ◌∷◌, [], not, false, true, None, IfErr, IfOk, IfSome, OnOk, option_map};
 ghost use Rattle.raft_script.specs.Settings.{AreOwn, IsSetRefusal, SetsOwn, text_set, were_read};
 
 use raft_config::Config;
@@ -49,10 +48,10 @@ impl Settings {
     /// Makes settings of the lines, the first time. It fails as `InvalidArgument` where they set no such settings; else
     /// as `Memory`.
     pub(crate) fn read(&mut self, alloc: Global) -> Result<(), Fault>
-        ensures ok { OnOk result (were_read self.new ≡ Bool.true) }
+        ensures ok { OnOk result (were_read self.new ≡ true) }
         ensures value { self.old.config ≡ None → OnOk result
             (IfSome self.new.config (SetsOwn self.old.lines.items)) }
-        ensures once { were_read self.old ≡ Bool.true → self.new ≡ self.old }
+        ensures once { were_read self.old ≡ true → self.new ≡ self.old }
         ensures refused { IfErr result (IsSetRefusal self.old.lines.items) }
     {
         if self.config.is_none() {
