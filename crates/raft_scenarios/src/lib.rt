@@ -30,8 +30,6 @@ mod rows;
 #[cfg(test)]
 mod scans;
 #[cfg(test)]
-mod settings;
-#[cfg(test)]
 mod spilled;
 #[cfg(test)]
 mod stored;

@@ -4,4 +4,3 @@ pub mod Entry
 pub mod Trial
 pub mod Line
 pub mod Program
-pub mod Settings
