@@ -12,6 +12,7 @@ use Rattle.raft_pipes.specs.Files.{IsDurable, LeavesAllBut}
 use Rattle.raft_pipes.specs.Folder.{IsLogPathIn}
 use Rattle.raft_pipes.specs.Numbered.{AreDistinct, AreSingle, in_queue, kept_files, path_of}
 use Rattle.raft_pipes.specs.Queue.{LeavesAll}
+use Rattle.raft_fork.specs.declared.forking.CopyDetails.{CopyDetails}
 use Rattle.raft_fork.specs.declared.source.SourceFile.{SourceFile}
 
 -- a source file: what it is called by, and where it stands
@@ -100,3 +101,7 @@ pub record CanBeCopied (target : Path) (files : List Source) (n : Directory) : T
   pub stand : AllByRecursion (λ f. HasFile n f.1) files
   pub free : AllByRecursion (λ f. file_at n (copy_in target f) ≡ None) files
   pub apart : AreDistinct (copies_in target files)
+
+-- nothing was copied
+abbrev pub HasNone : CopyDetails → Type 0
+HasNone details = (details.copied.items ≡ []) × (details.symlinked.items ≡ [])

@@ -2,7 +2,7 @@
 
 use crate::rows::{Row, each_holds};
 use raft_config::Config;
-use raft_records::{Fault, Fresh};
+use raft_records::{Fault, Fresh, ReadableSize};
 use raft_settings::{read, with_text, write};
 use std::alloc::Global;
 use std::test::Fail;
@@ -199,9 +199,17 @@ fn is_used(config: &Config, wanted: &Used) -> bool {
     config.recovery_read_block_size.0 == *block_size
         && config.recovery_threads == *threads
         && config.rewrite_threshold().0 == *threshold
-        && config.prefill_limit.map(|limit| limit.0) == *limit
+        && is_limit(config.prefill_limit, *limit)
         && config.recycle_capacity() == *spare
         && config.prefill_capacity() == *ahead
+}
+
+fn is_limit(given: Option<ReadableSize>, wanted: Option<u64>) -> bool {
+    match (given, wanted) {
+        (Some(size), Some(wanted)) => size.0 == wanted,
+        (None, None) => true,
+        _ => false,
+    }
 }
 
 impl Row for Sanitized {
