@@ -100,8 +100,8 @@ module _ (known left after : Option (List ℕ)) (line : List ℕ) (number : ℕ)
               found.0,
               found.1,
               same ∙ ap (first_bad asked number) found.2
-              ∙ ap (λ (b : Bool). cond b (Some number) (first_bad (asked || asks line) (number + 1) others)) good
-              ∙ ap (λ (a : Bool). first_bad a (number + 1) others) (sym then_is),
+                  ∙ ap (λ (b : Bool). cond b (Some number) (first_bad (asked || asks line) (number + 1) others)) good
+                  ∙ ap (λ (a : Bool). first_bad a (number + 1) others) (sym then_is),
             )
 
     -- it ends there

@@ -312,11 +312,7 @@ fn crashed(
 }
 
 // How many files stand in the folders of the settings.
-fn count_files<F: FileSystem>(
-    alloc: Global,
-    config: &Config,
-    files: &mut F,
-) -> Result<usize, Fault>
+fn count_files<F: FileSystem>(alloc: Global, config: &Config, files: &mut F) -> Result<usize, Fault>
     ensures unchanged { F.directory files.new ≡ F.directory files.old }
 {
     let count = count_in(alloc, config.dir.as_str(), files)?;
