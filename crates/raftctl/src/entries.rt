@@ -65,11 +65,11 @@ pub(crate) fn append<F: FileSystem>(
     alloc: Global,
     engine: &mut Engine<F>,
     group: u64,
-    values: &[&str],
+    values: &[Vec<u8>],
     at: Option<u64>,
     sync: bool,
     out: &mut Output,
-) -> Result<bool, Fault> {
+) -> Result<(), Fault> {
     let next = engine
         .last_index(group)
         .map_or(1, |last| last.saturating_add(1));
@@ -77,15 +77,15 @@ pub(crate) fn append<F: FileSystem>(
     let entries = entries_from(alloc, first, values)?;
     write(alloc, engine, group, Change::Append(&entries), sync)?;
     let last = engine.last_index(group).unwrap_or(first);
-    out.line(&[Word::Number(first), Word::Number(last)])?;
-    Ok(true)
+    out.line(&[("first", Word::Number(first)), ("last", Word::Number(last))])?;
+    Ok(())
 }
 
-fn entries_from(alloc: Global, first: u64, values: &[&str]) -> Result<Vec<Entry>, Fault> {
+fn entries_from(alloc: Global, first: u64, values: &[Vec<u8>]) -> Result<Vec<Entry>, Fault> {
     let mut entries = Vec::new(alloc);
     for (place, value) in values.iter().enumerate() {
         let index = first.saturating_add(place as u64);
-        entries.push(Entry::new(alloc, index, value.as_bytes())?)?;
+        entries.push(Entry::new(alloc, index, value)?)?;
     }
     Ok(entries)
 }
@@ -98,29 +98,34 @@ pub(crate) fn get<F: FileSystem>(
     out: &mut Output,
 ) -> Result<bool, Fault> {
     match engine.get_entry::<Entry>(group, index)? {
-        Some(entry) => out.line(&[Word::Bytes(entry.value())])?,
+        Some(entry) => out.line(&[("value", Word::Bytes(entry.value()))])?,
         None => return Ok(false),
     }
     Ok(true)
 }
 
-/// Adds a line for each entry from the first index to the last.
+/// Adds a line for each entry from the first index to the last, as many as the limit.
 pub(crate) fn list<F: FileSystem>(
     alloc: Global,
     engine: &mut Engine<F>,
     group: u64,
     from: Option<u64>,
     to: Option<u64>,
+    limit: Option<u64>,
     out: &mut Output,
 ) -> Result<bool, Fault> {
     let begin = from.or(engine.first_index(group)).unwrap_or(0);
     let end = to
         .or(engine.last_index(group))
-        .map_or(begin, |last| last.saturating_add(1));
+        .map_or(begin, |last| last.saturating_add(1))
+        .min(begin.saturating_add(limit.unwrap_or(u64::MAX)));
     let mut entries = Vec::new(alloc);
     engine.fetch_entries_to::<Entry>(group, begin, end, None, &mut entries)?;
     for entry in &entries {
-        out.line(&[Word::Number(entry.index), Word::Bytes(entry.value())])?;
+        out.line(&[
+            ("index", Word::Number(entry.index)),
+            ("value", Word::Bytes(entry.value())),
+        ])?;
     }
     Ok(true)
 }
@@ -132,18 +137,18 @@ pub(crate) fn compact<F: FileSystem>(
     index: u64,
     sync: bool,
     out: &mut Output,
-) -> Result<bool, Fault> {
+) -> Result<(), Fault> {
     let count = engine.compact_to(group, index)?;
     if sync {
         engine.sync()?;
     }
-    out.line(&[Word::Number(count)])?;
-    Ok(true)
+    out.line(&[("dropped", Word::Number(count))])?;
+    Ok(())
 }
 
 pub(crate) fn groups<F: FileSystem>(engine: &Engine<F>, out: &mut Output) -> Result<bool, Fault> {
     for group in engine.raft_groups()? {
-        out.line(&[Word::Number(group)])?;
+        out.line(&[("group", Word::Number(group))])?;
     }
     Ok(true)
 }

@@ -3,28 +3,33 @@
 
 mod arguments;
 mod changes;
+mod checks;
 mod entries;
+mod forms;
+mod input;
+mod inspection;
+mod items;
 mod keys;
+mod look;
 mod numbered;
+mod opening;
 mod output;
+mod repair;
 mod request;
 mod stat;
+mod status;
 
 use anyhow::{Result, anyhow, bail};
 use arguments::parse;
-use changes::{Change, write};
+use changes::carry_out;
 use clap::Error;
 use output::Output;
 use raft_disk::DiskFileSystem;
-use raft_log_engine::{Config, Engine, Fault, FileSystem, Fresh};
+use raft_log_engine::{Fault, FileSystem};
 use request::{Request, Verb};
-use std::alloc::Global;
+use status::Status;
 use std::env;
 use std::process::ExitCode;
-
-/// The status where what was asked for isn't there: no such key or entry, or a gap among numbered
-/// keys.
-const ABSENT: u8 = 3;
 
 fn main(rt: HostRuntime) -> ExitCode {
     let words = match words(&rt) {
@@ -33,8 +38,7 @@ fn main(rt: HostRuntime) -> ExitCode {
     };
     match parse(rt.alloc(), words.as_slice()) {
         Ok(request) => match run(rt, &request) {
-            Ok(true) => ExitCode::SUCCESS,
-            Ok(false) => ExitCode::from(ABSENT),
+            Ok(status) => ExitCode::from(status.code()),
             Err(error) => failed(&rt, &error),
         },
         Err(error) => misused(&rt, &error),
@@ -62,7 +66,10 @@ fn misused(rt: &HostRuntime, error: &Error) -> ExitCode {
     }
 }
 
-fn run(rt: HostRuntime, request: &Request<'_>) -> Result<bool> {
+fn run(rt: HostRuntime, request: &Request<'_>) -> Result<Status> {
+    if let Verb::Look(look) = &request.verb {
+        return look::look(rt, request, *look);
+    }
     match DiskFileSystem::open(rt, request.folder) {
         Ok(files) => answer(&rt, files, request),
         Err(fault) => bail!("{fault}"),
@@ -74,78 +81,20 @@ fn failure(what: &str, fault: &Fault) -> anyhow::Error {
     anyhow!("{what}: {fault}")
 }
 
-// Says whether what was asked for is there.
-fn answer<F: FileSystem + Drop>(rt: &HostRuntime, files: F, request: &Request<'_>) -> Result<bool> {
-    if let Verb::Stat = request.verb {
-        return stat::stat(rt, files);
-    }
-    let mut engine = open(rt.alloc(), files)?;
-    let is_there = act(rt, &mut engine, request)?;
-    if request.sync {
-        close(engine)?;
-    }
-    Ok(is_there)
-}
-
-fn open<F: FileSystem + Drop>(alloc: Global, files: F) -> Result<Engine<F>> {
-    match Engine::open_in_order(alloc, Config::fresh(alloc), files) {
-        Ok(engine) => Ok(engine),
-        Err(refused) => Err(failure("the log cannot be opened", &refused.fault)),
-    }
-}
-
-fn close<F: FileSystem + Drop>(engine: Engine<F>) -> Result<()> {
-    match engine.close() {
-        Ok(_) => Ok(()),
-        Err(refused) => Err(failure("the log cannot be closed", &refused.fault)),
-    }
-}
-
-fn act<F: FileSystem>(
+fn answer<F: FileSystem + Drop>(
     rt: &HostRuntime,
-    engine: &mut Engine<F>,
+    files: F,
     request: &Request<'_>,
-) -> Result<bool> {
-    if let Verb::Load(load) = &request.verb {
-        return numbered::load(rt, engine, *load);
+) -> Result<Status> {
+    if let Verb::Repair = request.verb {
+        return repair::repair(rt, files, &request.options);
     }
-    let mut out = Output::new(rt.alloc());
-    match command(rt.alloc(), engine, request, &mut out) {
-        Ok(is_there) => {
-            out.print(rt)?;
-            Ok(is_there)
-        }
-        Err(fault) => Err(failure(request.verb.failure(), &fault)),
+    let mut engine = opening::open(rt.alloc(), files, &request.options)?;
+    let mut out = Output::new(rt.alloc(), &request.options);
+    carry_out(rt, &mut engine, request, &mut out)?;
+    out.print(rt)?;
+    if request.sync {
+        opening::close(engine)?;
     }
-}
-
-fn command<F: FileSystem>(
-    alloc: Global,
-    engine: &mut Engine<F>,
-    request: &Request<'_>,
-    out: &mut Output,
-) -> Result<bool, Fault> {
-    let sync = request.sync;
-    match &request.verb {
-        Verb::Put(group, key, value) => {
-            let change = Change::Put(key.as_bytes(), value.as_bytes());
-            write(alloc, engine, *group, change, sync)
-        }
-        Verb::Get(group, key) => keys::get(engine, *group, key, out),
-        Verb::Delete(group, key) => {
-            write(alloc, engine, *group, Change::Delete(key.as_bytes()), sync)
-        }
-        Verb::List(group) => keys::list(engine, *group, out),
-        Verb::Append(group, values, at) => {
-            entries::append(alloc, engine, *group, values, *at, sync, out)
-        }
-        Verb::Entry(group, index) => entries::get(engine, *group, *index, out),
-        Verb::Entries(group, from, to) => { entries::list(alloc, engine, *group, *from, *to, out) }
-        Verb::Compact(group, index) => entries::compact(engine, *group, *index, sync, out),
-        Verb::Clean(group) => write(alloc, engine, *group, Change::Clean, sync),
-        Verb::Groups => entries::groups(engine, out),
-        Verb::Verify(load) => numbered::verify(alloc, engine, *load, out),
-        // Done before.
-        Verb::Load(_) | Verb::Stat => Ok(true),
-    }
+    Ok(Status::Done)
 }

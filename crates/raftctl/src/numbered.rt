@@ -20,13 +20,16 @@ pub(crate) fn load<F: FileSystem>(
     rt: &HostRuntime,
     engine: &mut Engine<F>,
     load: Load,
-) -> Result<bool> {
+    quiet: bool,
+) -> Result<()> {
     let start = Instant::now(rt)?;
     for number in 0..load.count {
-        put_next(rt, engine, number, load)?;
+        put_next(rt, engine, number, load, quiet)?;
     }
-    report(rt, start, load)?;
-    Ok(true)
+    if quiet {
+        return Ok(());
+    }
+    report(rt, start, load)
 }
 
 fn put_next<F: FileSystem>(
@@ -34,6 +37,7 @@ fn put_next<F: FileSystem>(
     engine: &mut Engine<F>,
     number: u64,
     load: Load,
+    quiet: bool,
 ) -> Result<()> {
     let nth = number.saturating_add(1);
     let sync = load.sync_each > 0 && (nth % load.sync_each == 0 || nth == load.count);
@@ -43,7 +47,7 @@ fn put_next<F: FileSystem>(
     if sync {
         println!(rt; "synced {number}")?;
     }
-    if nth % PROGRESS == 0 {
+    if nth % PROGRESS == 0 && !quiet {
         eprintln!(rt; "{nth} of {}", load.count)?;
     }
     Ok(())
@@ -55,7 +59,7 @@ fn put<F: FileSystem>(
     number: u64,
     size: u64,
     sync: bool,
-) -> Result<bool, Fault> {
+) -> Result<(), Fault> {
     let key = key_of(alloc, number)?;
     let value = value_of(alloc, number, size)?;
     write(alloc, engine, GROUP, Change::Put(&key, &value), sync)
@@ -97,7 +101,7 @@ pub(crate) fn verify<F: FileSystem>(
         ("after a gap", after),
         ("wrong", wrong),
     ] {
-        out.line(&[Word::Text(name), Word::Number(count)])?;
+        out.named(&[(name, Word::Number(count))])?;
     }
     Ok(after == 0 && wrong == 0)
 }

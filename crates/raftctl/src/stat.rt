@@ -1,45 +1,96 @@
 //! What a folder holds.
 
+use crate::failure;
+use crate::inspection::{QueueFiles, inspect};
+use crate::opening::open;
 use crate::output::{Output, Word};
-use crate::{failure, open};
-use anyhow::{Result, bail};
-use raft_log_engine::{Engine, Fault, FileSystem, FsFault, GroupImage, Image, Permission};
+use crate::request::Options;
+use crate::status::Status;
+use anyhow::Result;
+use raft_dump::Planned;
+use raft_log_engine::{Fault, FileSystem, GroupImage, Image};
+use raft_records::LogQueue;
 use std::alloc::Global;
 
-/// Prints how much the folder holds, and how many bytes the opening cut from its files.
-pub(crate) fn stat<F: FileSystem + Drop>(rt: &HostRuntime, mut files: F) -> Result<bool> {
-    let found = measured(&mut files)?;
-    let (image, left) = opened(rt.alloc(), files)?;
-    let mut out = Output::new(rt.alloc());
-    add_image(&image, found, left, &mut out)?;
-    out.print(rt)?;
-    Ok(true)
+/// The log files, their bytes, and of these the ones that an opening would cut off: broken ones, and zeros that were
+/// made ahead.
+#[derive(Clone, Copy)]
+struct Sizes {
+    files: u64,
+    bytes: u64,
+    cut: u64,
+    zeros: u64,
 }
 
-// What the log holds, and how much the folder holds once it was opened.
-fn opened<F: FileSystem + Drop>(alloc: Global, files: F) -> Result<(Image, Sizes)> {
-    let mut engine = open(alloc, files)?;
-    let image = image_of(&mut engine)?;
-    let left = measured(&mut engine.give_up())?;
-    Ok((image, left))
-}
-
-fn image_of<F: FileSystem>(engine: &mut Engine<F>) -> Result<Image> {
-    match engine.image() {
-        Ok(image) => Ok(image),
-        Err(fault) => Err(failure("the log cannot be read", &fault)),
-    }
-}
-
-fn add_image(image: &Image, found: Sizes, left: Sizes, out: &mut Output) -> Result<(), Fault> {
-    add_totals(image, found, left, out)?;
+/// Adds how much the log holds, and how many bytes an opening would cut from its files.
+pub(crate) fn stat<F: FileSystem + Drop>(
+    alloc: Global,
+    mut files: F,
+    options: &Options<'_>,
+    out: &mut Output,
+) -> Result<Status> {
+    let sizes = match measure(alloc, &mut files, options) {
+        Ok(sizes) => sizes,
+        Err(fault) => return Err(failure("the log cannot be measured", &fault)),
+    };
+    let mut engine = open(alloc, files, options)?;
+    let image = match engine.image() {
+        Ok(image) => image,
+        Err(fault) => return Err(failure("the log cannot be read", &fault)),
+    };
+    add_totals(&image, sizes, out)?;
     for held in &image.groups {
         add_group(held, out)?;
+    }
+    Ok(Status::Done)
+}
+
+fn measure<F: FileSystem>(
+    alloc: Global,
+    files: &mut F,
+    options: &Options<'_>,
+) -> Result<Sizes, Fault> {
+    let mut sizes = Sizes {
+        files: 0,
+        bytes: 0,
+        cut: 0,
+        zeros: 0,
+    };
+    for queue in [LogQueue::Append, LogQueue::Rewrite] {
+        let found = inspect(alloc, files, options, queue)?;
+        add_queue(alloc, &found, options, &mut sizes)?;
+    }
+    Ok(sizes)
+}
+
+fn add_queue(
+    alloc: Global,
+    found: &QueueFiles,
+    options: &Options<'_>,
+    sizes: &mut Sizes,
+) -> Result<(), Fault> {
+    for check in &found.checks {
+        sizes.files = sizes.files.saturating_add(1);
+        sizes.bytes = sizes.bytes.saturating_add(check.len as u64);
+    }
+    for (planned, check) in found
+        .plan(alloc, options.mode)?
+        .iter()
+        .zip(found.kept_checks())
+    {
+        if let Planned::Cut(end) = planned {
+            let cut = check.len.saturating_sub(*end) as u64;
+            if check.zeros {
+                sizes.zeros = sizes.zeros.saturating_add(cut);
+            } else {
+                sizes.cut = sizes.cut.saturating_add(cut);
+            }
+        }
     }
     Ok(())
 }
 
-fn add_totals(image: &Image, found: Sizes, left: Sizes, out: &mut Output) -> Result<(), Fault> {
+fn add_totals(image: &Image, sizes: Sizes, out: &mut Output) -> Result<()> {
     let mut keys = 0u64;
     let mut entries = 0u64;
     for held in &image.groups {
@@ -47,65 +98,27 @@ fn add_totals(image: &Image, found: Sizes, left: Sizes, out: &mut Output) -> Res
         entries = entries.saturating_add(held.entries.len() as u64);
     }
     for (name, count) in [
-        ("files", left.files),
-        ("bytes", left.bytes),
+        ("files", sizes.files),
+        ("bytes", sizes.bytes),
         ("groups", image.groups.len() as u64),
         ("keys", keys),
         ("entries", entries),
-        ("cut", found.bytes.saturating_sub(left.bytes)),
+        ("cut", sizes.cut),
+        ("zeros", sizes.zeros),
     ] {
-        out.line(&[Word::Text(name), Word::Number(count)])?;
+        out.named(&[(name, Word::Number(count))])?;
     }
     Ok(())
 }
 
 // The group's keys, and the first and the last index of its entries.
-fn add_group(held: &GroupImage, out: &mut Output) -> Result<(), Fault> {
-    let keys = [
-        Word::Text("group"),
-        Word::Number(held.group),
-        Word::Text("keys"),
-        Word::Number(held.pairs.len() as u64),
-    ];
+fn add_group(held: &GroupImage, out: &mut Output) -> Result<()> {
+    let group = ("group", Word::Number(held.group));
+    let keys = ("keys", Word::Number(held.pairs.len() as u64));
     let (Some(first), Some(last)) = (held.entries.first(), held.entries.last()) else {
-        return Ok(out.line(&keys)?);
+        return Ok(out.named(&[group, keys])?);
     };
-    let [group, number, name, count] = keys;
-    out.line(&[
-        group,
-        number,
-        name,
-        count,
-        Word::Text("first"),
-        Word::Number(first.0),
-        Word::Text("last"),
-        Word::Number(last.0),
-    ])?;
-    Ok(())
-}
-
-#[derive(Clone, Copy)]
-struct Sizes {
-    files: u64,
-    bytes: u64,
-}
-
-fn measured<F: FileSystem>(files: &mut F) -> Result<Sizes> {
-    match measure(files) {
-        Ok(sizes) => Ok(sizes),
-        Err(fault) => bail!("the files cannot be listed: {fault:?}"),
-    }
-}
-
-// The files of the log's folder and their bytes.
-fn measure<F: FileSystem>(files: &mut F) -> Result<Sizes, FsFault> {
-    let names = files.list("")?;
-    let mut sizes = Sizes { files: 0, bytes: 0 };
-    for name in &names {
-        let handle = files.open(name.as_str(), Permission::ReadOnly)?;
-        let size = files.file_size(&handle)?;
-        sizes.files = sizes.files.saturating_add(1);
-        sizes.bytes = sizes.bytes.saturating_add(size as u64);
-    }
-    Ok(sizes)
+    let first = ("first", Word::Number(first.0));
+    let last = ("last", Word::Number(last.0));
+    Ok(out.named(&[group, keys, first, last])?)
 }
