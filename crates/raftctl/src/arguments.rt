@@ -1,10 +1,10 @@
 //! The command line.
 
-use crate::forms::{FORMS, Form, Kind, OPTIONS, Word};
-use crate::opening::mode_named;
-use crate::request::{Load, Look, Options, Range, Request, Verb};
+use crate::forms::{FORMS, Form, Kind, OPTIONS, STATUSES, Word};
+use crate::request::{Indexes, Load, Look, Options, Range, Request, Verb};
 use clap::error::ErrorKind;
 use clap::{Arg, ArgAction, ArgMatches, Command, Error, value_parser};
+use raft_inspect::mode_named;
 use raft_log_engine::{ReadableSize, RecoveryMode};
 use std::alloc::{AllocError, Global};
 
@@ -111,14 +111,19 @@ fn read_look<'a>(name: &str, matches: &ArgMatches<'a>) -> Option<Look<'a>> {
         "verify" => Some(Look::Verify(read_load(matches)?)),
         "dump" => Some(Look::Dump(matches.get_str("FILE"))),
         "check" => Some(Look::Check),
+        "picture" => Some(Look::Picture),
         _ => None,
     }
 }
 
 fn read_entries<'a>(matches: &ArgMatches<'a>) -> Option<Look<'a>> {
     let group = matches.get_one("GROUP")?;
-    let (from, to) = (matches.get_one("FROM"), matches.get_one("TO"));
-    Some(Look::Entries(group, from, to, matches.get_one("limit")))
+    let indexes = Indexes {
+        from: matches.get_one("FROM"),
+        to: matches.get_one("TO"),
+        limit: matches.get_one("limit"),
+    };
+    Some(Look::Entries(group, indexes))
 }
 
 fn read_range<'a>(matches: &ArgMatches<'a>) -> Range<'a> {
@@ -151,6 +156,7 @@ fn command<'a>(alloc: Global) -> Result<Command<'a>, AllocError> {
     Command::new(alloc, "raftctl")
         .version(VERSION)
         .about("Does one command on a log in a folder")
+        .after_help(STATUSES)
         .subcommand_required(true)
         .arg(argument(alloc, folder))?
         .subcommands(subcommands)

@@ -1,14 +1,18 @@
-//! What the commands write: each one batch.
+//! What the commands write.
 
 use crate::entries::{self, Entry};
-use crate::input::{bytes_of, file_or_input};
+use crate::input::{Pair, Spelling, bytes_of, file_or_input, read_lines};
 use crate::output::Output;
+use crate::progress::Progress;
 use crate::request::{Request, Verb};
 use crate::{failure, numbered};
-use anyhow::{Result, anyhow};
+use anyhow::Result;
 use raft_log_engine::{Engine, Fault, FileSystem, LogBatch};
 use raft_records::Command;
 use std::alloc::Global;
+
+/// A batch takes so many bytes of keys and values, or one pair that has more.
+const BATCH_BYTES: usize = 1024 * 1024;
 
 /// What is changed of a group.
 #[derive(Clone, Copy)]
@@ -27,40 +31,54 @@ pub(crate) fn carry_out<F: FileSystem>(
     request: &Request<'_>,
     out: &mut Output,
 ) -> Result<()> {
-    let hex = request.options.hex;
-    let changed = match &request.verb {
+    let (alloc, hex, sync) = (rt.alloc(), request.options.hex, request.sync);
+    match &request.verb {
         Verb::Put(group, key, value) => {
             let key = bytes_of(rt, key, hex)?;
             let value = bytes_of(rt, value, hex)?;
-            let change = Change::Put(&key, &value);
-            write(rt.alloc(), engine, *group, change, request.sync)
+            let done = write(alloc, engine, *group, Change::Put(&key, &value), sync);
+            or_failure("the key cannot be put", done)
         }
         Verb::Lines(group, path) => {
             let text = file_or_input(rt, path)?;
-            put_lines(rt.alloc(), engine, *group, &text, request.sync)?;
-            Ok(())
+            let pairs = read_lines(alloc, &text, spelling_of(request))?;
+            put_all(*rt, engine, *group, pairs, request)
         }
         Verb::Delete(group, key) => {
             let key = bytes_of(rt, key, hex)?;
-            write(
-                rt.alloc(),
-                engine,
-                *group,
-                Change::Delete(&key),
-                request.sync,
-            )
+            let done = write(alloc, engine, *group, Change::Delete(&key), sync);
+            or_failure("the key cannot be deleted", done)
         }
         Verb::Append(group, values, at) => {
             let values = values_of(rt, values, hex)?;
-            entries::append(rt.alloc(), engine, *group, &values, *at, request.sync, out)
+            entries::append(alloc, engine, *group, &values, *at, sync, out)
         }
-        Verb::Compact(group, index) => entries::compact(engine, *group, *index, request.sync, out),
-        Verb::Clean(group) => write(rt.alloc(), engine, *group, Change::Clean, request.sync),
-        Verb::Load(load) => numbered::load(rt, engine, *load, request.options.quiet).map(Ok)?,
+        Verb::Compact(group, index) => entries::compact(engine, *group, *index, sync, out),
+        Verb::Clean(group) => {
+            let done = write(alloc, engine, *group, Change::Clean, sync);
+            or_failure("the group cannot be cleaned", done)
+        }
+        Verb::Load(load) => numbered::load(rt, engine, *load, request.options.quiet),
         // Done before.
         Verb::Repair | Verb::Look(_) => Ok(()),
-    };
-    changed.map_err(|fault| failure(request.verb.failure(), &fault))
+    }
+}
+
+fn or_failure(what: &str, done: Result<(), Fault>) -> Result<()> {
+    match done {
+        Ok(()) => Ok(()),
+        Err(fault) => Err(failure(what, &fault)),
+    }
+}
+
+fn spelling_of(request: &Request<'_>) -> Spelling {
+    if request.options.json {
+        Spelling::Json
+    } else if request.options.hex {
+        Spelling::Digits
+    } else {
+        Spelling::Text
+    }
 }
 
 fn values_of(rt: &HostRuntime, words: &[&str], hex: bool) -> Result<Vec<Vec<u8>>> {
@@ -94,34 +112,50 @@ fn fill(alloc: Global, batch: &mut LogBatch, group: u64, change: Change<'_>) -> 
     }
 }
 
-// Each line in a batch of its own, and one sync at the end.
-fn put_lines<F: FileSystem>(
-    alloc: Global,
+// Writes all pairs, or none where one of them may not be put.
+fn put_all<F: FileSystem>(
+    rt: HostRuntime,
     engine: &mut Engine<F>,
     group: u64,
-    text: &[u8],
-    sync: bool,
+    pairs: Vec<Pair>,
+    request: &Request<'_>,
 ) -> Result<()> {
-    for (place, line) in text.split(|byte| *byte == b'\n').enumerate() {
-        if line.is_empty() {
-            continue;
+    let mut batches = match batches_of(rt.alloc(), group, pairs) {
+        Ok(batches) => batches,
+        Err(fault) => return Err(failure("the lines cannot be put", &fault)),
+    };
+    let mut progress = Progress::new(rt, request.options.quiet)?;
+    let count = batches.len() as u64;
+    let mut written = 0u64;
+    for batch in &mut batches {
+        progress.at("batches written", written, count)?;
+        if let Err(fault) = engine.write(batch, false) {
+            return Err(failure("the lines cannot be put", &fault));
         }
-        let Some(tab) = line.iter().position(|byte| *byte == b'\t') else {
-            return Err(anyhow!(
-                "line {}: no tab between a key and a value",
-                place.saturating_add(1)
-            ));
-        };
-        let (key, value) = line.split_at(tab);
-        let value = value.get(1..).unwrap_or(&[]);
-        if let Err(fault) = write(alloc, engine, group, Change::Put(key, value), false) {
-            return Err(anyhow!("line {}: {fault}", place.saturating_add(1)));
-        }
+        written = written.saturating_add(1);
     }
-    if sync {
+    if request.sync {
         if let Err(fault) = engine.sync() {
             return Err(failure("the lines cannot be synced", &fault));
         }
     }
     Ok(())
+}
+
+fn batches_of(alloc: Global, group: u64, pairs: Vec<Pair>) -> Result<Vec<LogBatch>, Fault> {
+    let mut batches = Vec::new(alloc);
+    let mut batch = LogBatch::new(alloc);
+    let mut room = BATCH_BYTES;
+    for (key, value) in pairs {
+        let len = key.len().saturating_add(value.len());
+        if len > room && !batch.is_empty() {
+            batches.push(batch)?;
+            batch = LogBatch::new(alloc);
+            room = BATCH_BYTES;
+        }
+        batch.put(group, key, value)?;
+        room = room.saturating_sub(len);
+    }
+    batches.push(batch)?;
+    Ok(batches)
 }

@@ -29,6 +29,18 @@ pub(crate) enum Kind {
     Flag,
 }
 
+/// With what the program ends.
+pub(crate) const STATUSES: &str = "\
+Statuses:
+  0  done; of check: an opening in --mode would lose nothing
+  1  a call failed; standard error says which, and where
+  2  the command line can't be read
+  3  get, entry: no such key or entry; verify: a key after a gap, or with another value
+  4  check: an opening would cut something off; dump: a file can't be read on
+  5  check: an opening would fail
+
+`raftctl help COMMAND` has an example of each command.";
+
 /// The words that each command takes.
 pub(crate) const OPTIONS: [Word; 6] = [
     Word(
@@ -67,7 +79,7 @@ const SIZE: Word = Word("SIZE", Kind::Number, "The bytes of each value");
 
 const LIMIT: Word = Word("limit", Kind::Named, "Prints so many lines at most");
 
-pub(crate) const FORMS: [Form; 18] = [
+pub(crate) const FORMS: [Form; 19] = [
     Form {
         name: "put",
         about: "Puts a value at a key of a group, and syncs it",
@@ -213,6 +225,12 @@ pub(crate) const FORMS: [Form; 18] = [
         about: "Prints a line for each file: what can be read, and what an opening in each mode would do; status 4 where one in --mode would cut something off, 5 where it would fail",
         words: &[],
         example: "Example: raftctl log check --mode absolute",
+    },
+    Form {
+        name: "picture",
+        about: "Prints a picture in SVG: the files to scale, and what the index refers to of each",
+        words: &[],
+        example: "Example: raftctl log picture > log.svg",
     },
     Form {
         name: "repair",

@@ -1,13 +1,14 @@
 //! Reads of keys.
 
+use crate::failure;
 use crate::input::bytes_of;
-use crate::output::{Output, Word};
+use crate::output::Output;
 use crate::request::Range;
-use anyhow::Result;
+use anyhow::{Error, Result};
+use raft_inspect::Word;
 use raft_log_engine::{Engine, Fault, FileSystem};
-use std::alloc::{AllocError, Global};
 
-/// A range of keys in bytes.
+/// A range of keys in bytes, and how many of them at most.
 #[derive(Drop)]
 pub(crate) struct Bounds {
     from: Option<Vec<u8>>,
@@ -33,124 +34,154 @@ impl Bounds {
             reverse: range.reverse,
         })
     }
+
+    // All keys, so many at most.
+    fn all(limit: u64) -> Bounds {
+        Bounds {
+            from: None,
+            to: None,
+            limit,
+            reverse: false,
+        }
+    }
 }
 
-/// Adds the value at the key, and says whether there is one.
+/// What is shown of a key.
+#[derive(Clone, Copy)]
+pub(crate) enum Shown {
+    /// The key and its value.
+    Pairs,
+    /// The group, the key and the length of its value.
+    Lengths,
+}
+
+/// Prints the value at the key, and says whether there is one.
 pub(crate) fn get<F: FileSystem>(
     engine: &Engine<F>,
     group: u64,
     key: &[u8],
     out: &mut Output,
-) -> Result<bool, Fault> {
-    match engine.get(group, key)? {
-        Some(value) => out.line(&[("value", Word::Bytes(&value))])?,
-        None => return Ok(false),
+) -> Result<bool> {
+    match engine.get(group, key) {
+        Ok(Some(value)) => {
+            out.line(&[("value", Word::Bytes(&value))])?;
+            Ok(true)
+        }
+        Ok(None) => Ok(false),
+        Err(fault) => Err(failure("the key cannot be read", &fault)),
     }
-    Ok(true)
 }
 
-/// Adds a line for each key of the group, or of all groups, as many as the limit.
+/// Prints a line for each key of the group, or of all groups, so many at most.
 pub(crate) fn list<F: FileSystem>(
-    engine: &mut Engine<F>,
+    engine: &Engine<F>,
     group: Option<u64>,
     limit: Option<u64>,
     out: &mut Output,
-) -> Result<bool, Fault> {
+) -> Result<bool> {
     let mut left = limit.unwrap_or(u64::MAX);
-    for held in &engine.image()?.groups {
-        if group.is_none() || group == Some(held.group) {
-            for (key, value) in &held.pairs {
-                if left == 0 {
-                    return Ok(true);
-                }
-                left -= 1;
-                add_key(held.group, key, value, out)?;
-            }
+    let groups = match engine.raft_groups() {
+        Ok(groups) => groups,
+        Err(fault) => return Err(failure("the groups cannot be listed", &fault)),
+    };
+    for each in groups {
+        if group.is_none_or(|group| group == each) {
+            let shown = show(engine, each, &Bounds::all(left), Shown::Lengths, out)?;
+            left = left.saturating_sub(shown);
         }
     }
     Ok(true)
 }
 
-fn add_key(group: u64, key: &[u8], value: &[u8], out: &mut Output) -> Result<(), Fault> {
-    out.line(&[
-        ("group", Word::Number(group)),
-        ("key", Word::Bytes(key)),
-        ("length", Word::Number(value.len() as u64)),
-    ])?;
-    Ok(())
-}
-
-/// Adds a line for each key in the range: itself and its value.
+/// Prints a line for each key of a group in the range.
 pub(crate) fn scan<F: FileSystem>(
-    alloc: Global,
     engine: &Engine<F>,
     group: u64,
     bounds: &Bounds,
+    shown: Shown,
     out: &mut Output,
-) -> Result<bool, Fault> {
-    for pair in &scanned(alloc, engine, group, bounds)? {
-        add_pair(pair, out)?;
-    }
+) -> Result<bool> {
+    show(engine, group, bounds, shown, out)?;
     Ok(true)
 }
 
-fn add_pair(pair: &Pair, out: &mut Output) -> Result<(), Fault> {
-    let (key, value) = pair;
-    out.line(&[("key", Word::Bytes(key)), ("value", Word::Bytes(value))])?;
-    Ok(())
-}
-
-fn scanned<F: FileSystem>(
-    alloc: Global,
+// How many lines were printed.
+fn show<F: FileSystem>(
     engine: &Engine<F>,
     group: u64,
     bounds: &Bounds,
-) -> Result<Vec<Pair>, Fault> {
+    shown: Shown,
+    out: &mut Output,
+) -> Result<u64> {
     let from = bounds.from.as_ref().map(|key| key.as_slice());
     let to = bounds.to.as_ref().map(|key| key.as_slice());
-    let mut copies = Copies {
-        alloc,
-        pairs: Vec::new(alloc),
+    let mut printer = Printer {
+        group,
+        shown,
         limit: bounds.limit,
-        is_whole: true,
+        count: 0,
+        failed: None,
     };
-    engine.scan_raw_messages(
+    if bounds.limit == 0 {
+        return Ok(0);
+    }
+    let scanned = engine.scan_raw_messages(
         group,
         from,
         to,
         bounds.reverse,
-        &mut |key: &[u8], value: &[u8]| copies.keep(key, value),
-    )?;
-    if copies.is_whole {
-        Ok(copies.pairs)
-    } else {
-        Err(Fault::Memory)
+        &mut |key: &[u8], value: &[u8]| printer.print(key, value, out),
+    );
+    if let Err(fault) = scanned {
+        return Err(failure("the keys cannot be read", &fault));
+    }
+    match printer.failed {
+        Some(error) => Err(error),
+        None => Ok(printer.count),
     }
 }
 
-/// A key and its value.
-type Pair = (Vec<u8>, Vec<u8>);
-
+/// Prints keys, up to a limit or an error.
 #[derive(Drop)]
-struct Copies {
-    alloc: Global,
-    pairs: Vec<Pair>,
+struct Printer {
+    group: u64,
+    shown: Shown,
     limit: u64,
-    is_whole: bool,
+    count: u64,
+    failed: Option<Error>,
 }
 
-impl Copies {
+impl Printer {
     // Whether the scan goes on.
-    fn keep(&mut self, key: &[u8], value: &[u8]) -> bool {
-        if self.pairs.len() as u64 >= self.limit {
-            return false;
+    fn print(&mut self, key: &[u8], value: &[u8], out: &mut Output) -> bool {
+        self.count = self.count.saturating_add(1);
+        match self.add(key, value, out) {
+            Ok(()) => self.count < self.limit,
+            Err(error) => {
+                self.failed = Some(error);
+                false
+            }
         }
-        self.is_whole = push(self.alloc, key, value, &mut self.pairs).is_ok();
-        self.is_whole
+    }
+
+    fn add(&self, key: &[u8], value: &[u8], out: &mut Output) -> Result<()> {
+        match self.shown {
+            Shown::Pairs => out.line(&[("key", Word::Bytes(key)), ("value", Word::Bytes(value))]),
+            Shown::Lengths => out.line(&[
+                ("group", Word::Number(self.group)),
+                ("key", Word::Bytes(key)),
+                ("length", Word::Number(value.len() as u64)),
+            ]),
+        }
     }
 }
 
-fn push(alloc: Global, key: &[u8], value: &[u8], pairs: &mut Vec<Pair>) -> Result<(), AllocError> {
-    pairs.push((key.to_vec(alloc)?, value.to_vec(alloc)?))?;
-    Ok(())
+/// How many keys a group has.
+pub(crate) fn count<F: FileSystem>(engine: &Engine<F>, group: u64) -> Result<u64, Fault> {
+    let mut count = 0u64;
+    engine.scan_raw_messages(group, None, None, false, &mut |_: &[u8], _: &[u8]| {
+        count = count.saturating_add(1);
+        true
+    })?;
+    Ok(count)
 }

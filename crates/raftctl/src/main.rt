@@ -3,17 +3,17 @@
 
 mod arguments;
 mod changes;
-mod checks;
 mod entries;
+mod files;
+mod folder;
 mod forms;
 mod input;
-mod inspection;
-mod items;
 mod keys;
 mod look;
 mod numbered;
 mod opening;
 mod output;
+mod progress;
 mod repair;
 mod request;
 mod stat;
@@ -86,13 +86,13 @@ fn answer<F: FileSystem + Drop>(
     files: F,
     request: &Request<'_>,
 ) -> Result<Status> {
+    let mut out = Output::new(*rt, &request.options);
     if let Verb::Repair = request.verb {
-        return repair::repair(rt, files, &request.options);
+        return repair::repair(rt.alloc(), files, &request.options, &mut out);
     }
     let mut engine = opening::open(rt.alloc(), files, &request.options)?;
-    let mut out = Output::new(rt.alloc(), &request.options);
     carry_out(rt, &mut engine, request, &mut out)?;
-    out.print(rt)?;
+    out.print()?;
     if request.sync {
         opening::close(engine)?;
     }

@@ -2,17 +2,16 @@
 
 use crate::changes::{Change, write};
 use crate::failure;
-use crate::output::{Output, Word};
+use crate::output::Output;
+use crate::progress::Progress;
 use crate::request::Load;
 use anyhow::Result;
+use raft_inspect::Word;
 use raft_log_engine::{Engine, Fault, FileSystem};
 use std::alloc::{AllocError, Global};
 use std::time::Instant;
 
 const GROUP: u64 = 1;
-
-/// After how many keys progress is printed.
-const PROGRESS: u64 = 100_000;
 
 /// Puts the keys, syncs after so many of them and at the end, or never for 0, and prints the last
 /// key that each sync covers.
@@ -23,8 +22,10 @@ pub(crate) fn load<F: FileSystem>(
     quiet: bool,
 ) -> Result<()> {
     let start = Instant::now(rt)?;
+    let mut progress = Progress::new(*rt, quiet)?;
     for number in 0..load.count {
-        put_next(rt, engine, number, load, quiet)?;
+        progress.at("keys", number, load.count)?;
+        put_next(rt, engine, number, load)?;
     }
     if quiet {
         return Ok(());
@@ -37,7 +38,6 @@ fn put_next<F: FileSystem>(
     engine: &mut Engine<F>,
     number: u64,
     load: Load,
-    quiet: bool,
 ) -> Result<()> {
     let nth = number.saturating_add(1);
     let sync = load.sync_each > 0 && (nth % load.sync_each == 0 || nth == load.count);
@@ -46,9 +46,6 @@ fn put_next<F: FileSystem>(
     }
     if sync {
         println!(rt; "synced {number}")?;
-    }
-    if nth % PROGRESS == 0 && !quiet {
-        eprintln!(rt; "{nth} of {}", load.count)?;
     }
     Ok(())
 }
@@ -80,20 +77,24 @@ fn report(rt: &HostRuntime, start: Instant, load: Load) -> Result<()> {
 /// Counts the keys that stand from 0 on, and those after the first that is missing or has another
 /// value; whether there are none of these.
 pub(crate) fn verify<F: FileSystem>(
-    alloc: Global,
+    rt: &HostRuntime,
     engine: &Engine<F>,
     load: Load,
+    quiet: bool,
     out: &mut Output,
-) -> Result<bool, Fault> {
+) -> Result<bool> {
+    let mut progress = Progress::new(*rt, quiet)?;
     let mut standing = 0u64;
     let mut after = 0u64;
     let mut wrong = 0u64;
     for number in 0..load.count {
-        match find(alloc, engine, number, load.size)? {
-            Found::Right if standing == number => standing = standing.saturating_add(1),
-            Found::Right => after = after.saturating_add(1),
-            Found::Wrong => wrong = wrong.saturating_add(1),
-            Found::Nothing => {}
+        progress.at("keys", number, load.count)?;
+        match find(rt.alloc(), engine, number, load.size) {
+            Ok(Found::Right) if standing == number => standing = standing.saturating_add(1),
+            Ok(Found::Right) => after = after.saturating_add(1),
+            Ok(Found::Wrong) => wrong = wrong.saturating_add(1),
+            Ok(Found::Nothing) => {}
+            Err(fault) => return Err(failure("the keys cannot be read", &fault)),
         }
     }
     for (name, count) in [

@@ -1,28 +1,12 @@
 //! Opens the log of files, and says of one that can't be opened where it is broken.
 
 use crate::failure;
-use crate::inspection::inspect;
 use crate::request::Options;
 use anyhow::{Result, anyhow};
+use raft_inspect::{inspect, mode_name};
 use raft_log_engine::{Config, Engine, Fault, FileSystem, Fresh, RecoveryMode, Refused};
 use raft_records::LogQueue;
 use std::alloc::{AllocError, Global};
-
-const MODES: [(RecoveryMode, &str); 3] = [
-    (RecoveryMode::AbsoluteConsistency, "absolute"),
-    (RecoveryMode::TolerateTailCorruption, "tail"),
-    (RecoveryMode::TolerateAnyCorruption, "any"),
-];
-
-/// The mode of this name.
-pub(crate) fn mode_named(word: &str) -> Option<RecoveryMode> {
-    for (mode, name) in MODES {
-        if name == word {
-            return Some(mode);
-        }
-    }
-    None
-}
 
 pub(crate) fn open<F: FileSystem + Drop>(
     alloc: Global,
@@ -72,23 +56,31 @@ fn refusal<F: FileSystem + Drop>(
     failure("the log cannot be opened", &fault)
 }
 
-// The first place at which the opening fails, and the mode in which it would not.
-fn broken<F: FileSystem>(
+/// The first place at which an opening fails, and the first mode in which it wouldn't.
+pub(crate) fn broken<F: FileSystem>(
     alloc: Global,
     files: &mut F,
     options: &Options<'_>,
 ) -> Result<Option<String>, Fault> {
+    let folders = options.folders(alloc)?;
     for queue in [LogQueue::Append, LogQueue::Rewrite] {
-        let found = inspect(alloc, files, options, queue)?;
-        if let Some((path, end)) = found.failing(alloc, options.mode)? {
-            let any = RecoveryMode::TolerateAnyCorruption;
-            let advice = match found.failing(alloc, any)? {
-                None => ", and `--mode any` would cut it off",
-                Some(_) => "",
-            };
-            let said = format!(in alloc; "corruption in {path} at {end}{advice}")?;
-            return Ok(Some(said));
+        let found = inspect(alloc, files, &folders, queue)?;
+        let Some((path, end)) = found.failing(alloc, options.mode)? else {
+            continue;
+        };
+        for mode in [
+            RecoveryMode::TolerateTailCorruption,
+            RecoveryMode::TolerateAnyCorruption,
+        ] {
+            if found.failing(alloc, mode)?.is_none() {
+                let mode = mode_name(mode);
+                let said = format!(in alloc;
+                    "corruption in {path} at {end}; `--mode {mode}` would cut it off and go on")?;
+                return Ok(Some(said));
+            }
         }
+        let said = format!(in alloc; "{path} at {end} can be read on in no mode")?;
+        return Ok(Some(said));
     }
     Ok(None)
 }

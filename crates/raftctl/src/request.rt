@@ -1,6 +1,7 @@
 //! What the program is asked to do.
 
 use raft_log_engine::{ReadableSize, RecoveryMode};
+use std::alloc::{AllocError, Global};
 
 #[derive(Drop)]
 pub(crate) struct Request<'a> {
@@ -51,14 +52,22 @@ pub(crate) enum Look<'a> {
     List(Option<u64>, Option<u64>),
     Scan(u64, Range<'a>),
     Entry(u64, u64),
-    /// The first and the last index, and how many at most.
-    Entries(u64, Option<u64>, Option<u64>, Option<u64>),
+    Entries(u64, Indexes),
     Groups,
     Stat,
     Verify(Load),
     /// Of one file, or of all.
     Dump(Option<&'a str>),
     Check,
+    Picture,
+}
+
+/// The first and the last index of entries, and how many at most.
+#[derive(Clone, Copy)]
+pub(crate) struct Indexes {
+    pub from: Option<u64>,
+    pub to: Option<u64>,
+    pub limit: Option<u64>,
 }
 
 /// Keys from one on, before another, how many at most, and whether from the last on.
@@ -99,32 +108,13 @@ impl<'a> Request<'a> {
     }
 }
 
-impl<'a> Verb<'a> {
-    /// What is said where it fails.
-    pub(crate) fn failure(&self) -> &'static str {
-        match self {
-            Verb::Put(..) | Verb::Lines(..) => "the key cannot be put",
-            Verb::Delete(..) => "the key cannot be deleted",
-            Verb::Append(..) => "the entries cannot be appended",
-            Verb::Compact(..) => "the group cannot be compacted",
-            Verb::Clean(..) => "the group cannot be cleaned",
-            Verb::Load(..) => "the keys cannot be loaded",
-            Verb::Repair => "the log cannot be repaired",
-            Verb::Look(look) => look.failure(),
+impl<'a> Options<'a> {
+    /// The folders whose log files are read, by their paths from the first one.
+    pub(crate) fn folders(&self, alloc: Global) -> Result<Vec<&'a str>, AllocError> {
+        let mut folders = vec![in alloc; ""]?;
+        if let Some(spill) = self.spill {
+            folders.push(spill)?;
         }
-    }
-}
-
-impl<'a> Look<'a> {
-    pub(crate) fn failure(&self) -> &'static str {
-        match self {
-            Look::Get(..) => "the key cannot be read",
-            Look::List(..) | Look::Scan(..) | Look::Verify(..) => "the keys cannot be read",
-            Look::Entry(..) | Look::Entries(..) => "the entries cannot be read",
-            Look::Groups => "the groups cannot be listed",
-            Look::Stat => "the log cannot be measured",
-            Look::Dump(..) => "the items cannot be read",
-            Look::Check => "the files cannot be checked",
-        }
+        Ok(folders)
     }
 }

@@ -1,28 +1,35 @@
-//! What a folder holds.
+//! What a folder holds, in numbers.
 
 use crate::failure;
-use crate::inspection::{QueueFiles, inspect};
+use crate::keys::count;
 use crate::opening::open;
-use crate::output::{Output, Word};
+use crate::output::Output;
 use crate::request::Options;
 use crate::status::Status;
 use anyhow::Result;
-use raft_dump::Planned;
-use raft_log_engine::{Fault, FileSystem, GroupImage, Image};
+use raft_inspect::{Outlook, Word, inspect};
+use raft_log_engine::{Engine, Fault, FileSystem};
 use raft_records::LogQueue;
 use std::alloc::Global;
 
-/// The log files, their bytes, and of these the ones that an opening would cut off: broken ones, and zeros that were
-/// made ahead.
+/// The log files, their bytes, and what of these an opening would cut off.
 #[derive(Clone, Copy)]
 struct Sizes {
     files: u64,
     bytes: u64,
-    cut: u64,
-    zeros: u64,
+    outlook: Outlook,
 }
 
-/// Adds how much the log holds, and how many bytes an opening would cut from its files.
+/// What a group holds.
+#[derive(Clone, Copy)]
+struct Held {
+    group: u64,
+    keys: u64,
+    /// The first and the last index of its entries.
+    span: Option<(u64, u64)>,
+}
+
+/// Prints how much the log holds, how many bytes an opening would cut from its files, and a line for each group.
 pub(crate) fn stat<F: FileSystem + Drop>(
     alloc: Global,
     mut files: F,
@@ -33,14 +40,14 @@ pub(crate) fn stat<F: FileSystem + Drop>(
         Ok(sizes) => sizes,
         Err(fault) => return Err(failure("the log cannot be measured", &fault)),
     };
-    let mut engine = open(alloc, files, options)?;
-    let image = match engine.image() {
-        Ok(image) => image,
+    let engine = open(alloc, files, options)?;
+    let held = match held_of(alloc, &engine) {
+        Ok(held) => held,
         Err(fault) => return Err(failure("the log cannot be read", &fault)),
     };
-    add_totals(&image, sizes, out)?;
-    for held in &image.groups {
-        add_group(held, out)?;
+    add_totals(&held, sizes, out)?;
+    for group in &held {
+        add_group(*group, out)?;
     }
     Ok(Status::Done)
 }
@@ -50,75 +57,72 @@ fn measure<F: FileSystem>(
     files: &mut F,
     options: &Options<'_>,
 ) -> Result<Sizes, Fault> {
+    let folders = options.folders(alloc)?;
     let mut sizes = Sizes {
         files: 0,
         bytes: 0,
-        cut: 0,
-        zeros: 0,
+        outlook: Outlook::new(),
     };
     for queue in [LogQueue::Append, LogQueue::Rewrite] {
-        let found = inspect(alloc, files, options, queue)?;
-        add_queue(alloc, &found, options, &mut sizes)?;
+        let found = inspect(alloc, files, &folders, queue)?;
+        sizes.outlook.add_queue(alloc, &found, options.mode)?;
+        for check in &found.checks {
+            sizes.files = sizes.files.saturating_add(1);
+            sizes.bytes = sizes.bytes.saturating_add(check.len as u64);
+        }
     }
     Ok(sizes)
 }
 
-fn add_queue(
-    alloc: Global,
-    found: &QueueFiles,
-    options: &Options<'_>,
-    sizes: &mut Sizes,
-) -> Result<(), Fault> {
-    for check in &found.checks {
-        sizes.files = sizes.files.saturating_add(1);
-        sizes.bytes = sizes.bytes.saturating_add(check.len as u64);
+fn held_of<F: FileSystem>(alloc: Global, engine: &Engine<F>) -> Result<Vec<Held>, Fault> {
+    let mut held = Vec::new(alloc);
+    for group in engine.raft_groups()? {
+        let span = match (engine.first_index(group), engine.last_index(group)) {
+            (Some(first), Some(last)) => Some((first, last)),
+            _ => None,
+        };
+        held.push(Held {
+            group,
+            keys: count(engine, group)?,
+            span,
+        })?;
     }
-    for (planned, check) in found
-        .plan(alloc, options.mode)?
-        .iter()
-        .zip(found.kept_checks())
-    {
-        if let Planned::Cut(end) = planned {
-            let cut = check.len.saturating_sub(*end) as u64;
-            if check.zeros {
-                sizes.zeros = sizes.zeros.saturating_add(cut);
-            } else {
-                sizes.cut = sizes.cut.saturating_add(cut);
-            }
-        }
-    }
-    Ok(())
+    Ok(held)
 }
 
-fn add_totals(image: &Image, sizes: Sizes, out: &mut Output) -> Result<()> {
+fn add_totals(held: &[Held], sizes: Sizes, out: &mut Output) -> Result<()> {
     let mut keys = 0u64;
     let mut entries = 0u64;
-    for held in &image.groups {
-        keys = keys.saturating_add(held.pairs.len() as u64);
-        entries = entries.saturating_add(held.entries.len() as u64);
+    for group in held {
+        keys = keys.saturating_add(group.keys);
+        if let Some((first, last)) = group.span {
+            entries = entries.saturating_add(last.saturating_sub(first).saturating_add(1));
+        }
     }
     for (name, count) in [
         ("files", sizes.files),
         ("bytes", sizes.bytes),
-        ("groups", image.groups.len() as u64),
+        ("groups", held.len() as u64),
         ("keys", keys),
         ("entries", entries),
-        ("cut", sizes.cut),
-        ("zeros", sizes.zeros),
+        ("cut", sizes.outlook.bytes),
+        ("zeros", sizes.outlook.zeros),
     ] {
         out.named(&[(name, Word::Number(count))])?;
     }
     Ok(())
 }
 
-// The group's keys, and the first and the last index of its entries.
-fn add_group(held: &GroupImage, out: &mut Output) -> Result<()> {
+fn add_group(held: Held, out: &mut Output) -> Result<()> {
     let group = ("group", Word::Number(held.group));
-    let keys = ("keys", Word::Number(held.pairs.len() as u64));
-    let (Some(first), Some(last)) = (held.entries.first(), held.entries.last()) else {
-        return Ok(out.named(&[group, keys])?);
-    };
-    let first = ("first", Word::Number(first.0));
-    let last = ("last", Word::Number(last.0));
-    Ok(out.named(&[group, keys, first, last])?)
+    let keys = ("keys", Word::Number(held.keys));
+    match held.span {
+        None => out.named(&[group, keys]),
+        Some((first, last)) => out.named(&[
+            group,
+            keys,
+            ("first", Word::Number(first)),
+            ("last", Word::Number(last)),
+        ]),
+    }
 }

@@ -1,46 +1,52 @@
-//! What can be read of each log file, and what an opening would do with it.
+//! The log files of a queue, and what can be read of them.
+ghost use Rattle.raft_env.specs.Moments.{OnlyReads};
 
-use crate::request::Options;
 use raft_dump::{FileCheck, LogFile, Planned, check_file, log_files, passed_over, plan_opening};
-use raft_log_engine::{Fault, FileSystem, FsFault, RecoveryMode};
-use raft_records::LogQueue;
-use std::alloc::Global;
+use raft_config::RecoveryMode;
+use raft_env::FileSystem;
+use raft_records::{Fault, LogQueue};
+use std::alloc::{AllocError, Global};
 
-/// The files of one queue, by number.
+/// The log files of one queue, by number, and what can be read of each.
 #[derive(Drop)]
-pub(crate) struct QueueFiles {
+pub struct QueueFiles {
     pub queue: LogQueue,
     pub files: Vec<LogFile>,
-    /// What can be read of each of them.
     pub checks: Vec<FileCheck>,
     /// How many of them an opening passes over, since a number is missing behind them.
     pub passed: usize,
 }
 
-/// Reads all log files of a queue in the folder, and in the second one where the options name one.
-pub(crate) fn inspect<F: FileSystem>(
+/// Reads the log files of a queue in these folders.
+pub fn inspect<F: FileSystem>(
     alloc: Global,
     file_system: &mut F,
-    options: &Options<'_>,
+    folders: &[&str],
     queue: LogQueue,
-) -> Result<QueueFiles, Fault> {
+) -> Result<QueueFiles, Fault>
+    ensures unchanged { OnlyReads F.directory F.moments file_system.old file_system.new }
+{
     let mut files = Vec::new(alloc);
-    add_files(alloc, file_system, "", queue, &mut files)?;
-    if let Some(spill) = options.spill {
-        add_files(alloc, file_system, spill, queue, &mut files)?;
+    for folder in folders {
+        add_files(alloc, file_system, folder, queue, &mut files)?;
     }
-    files.sort_by_key(|file| file.id.seq)?;
+    QueueFiles::sort(&mut files)?;
+    let checks = checks_of(alloc, file_system, &files)?;
+    Ok(QueueFiles::new(queue, files, checks))
+}
+
+fn checks_of<F: FileSystem>(
+    alloc: Global,
+    file_system: &mut F,
+    files: &[LogFile],
+) -> Result<Vec<FileCheck>, Fault>
+    ensures unchanged { OnlyReads F.directory F.moments file_system.old file_system.new }
+{
     let mut checks = Vec::new(alloc);
-    for file in &files {
+    for file in files {
         checks.push(check_file(alloc, file, file_system)?)?;
     }
-    let passed = passed_over(&checks);
-    Ok(QueueFiles {
-        queue,
-        files,
-        checks,
-        passed,
-    })
+    Ok(checks)
 }
 
 fn add_files<F: FileSystem>(
@@ -49,7 +55,9 @@ fn add_files<F: FileSystem>(
     folder: &str,
     queue: LogQueue,
     files: &mut Vec<LogFile>,
-) -> Result<(), Fault> {
+) -> Result<(), Fault>
+    ensures unchanged { OnlyReads F.directory F.moments file_system.old file_system.new }
+{
     let names = match file_system.list(folder) {
         Ok(names) => names,
         Err(fault) => return Err(fault.with_path(alloc, folder)),
@@ -63,36 +71,52 @@ fn add_files<F: FileSystem>(
 }
 
 impl QueueFiles {
+    /// Puts files of one queue in the order of their numbers.
+    pub fn sort(files: &mut Vec<LogFile>) -> Result<(), AllocError> {
+        files.sort_by_key(|file| file.id.seq)
+    }
+
+    /// Of files by number, and what can be read of each.
+    pub fn new(queue: LogQueue, files: Vec<LogFile>, checks: Vec<FileCheck>) -> QueueFiles {
+        let passed = passed_over(&checks);
+        QueueFiles {
+            queue,
+            files,
+            checks,
+            passed,
+        }
+    }
+
     /// The files that an opening doesn't pass over.
-    pub(crate) fn kept_files(&self) -> &[LogFile] {
+    pub fn kept_files(&self) -> &[LogFile] {
         self.files.get(self.passed..).unwrap_or(&[])
     }
 
     /// What can be read of each of them.
-    pub(crate) fn kept_checks(&self) -> &[FileCheck] {
+    pub fn kept_checks(&self) -> &[FileCheck] {
         self.checks.get(self.passed..).unwrap_or(&[])
     }
 
     /// What an opening in a mode does with each of them.
-    pub(crate) fn plan(&self, alloc: Global, mode: RecoveryMode) -> Result<Vec<Planned>, Fault> {
+    pub fn plan(&self, alloc: Global, mode: RecoveryMode) -> Result<Vec<Planned>, Fault> {
         plan_opening(alloc, mode, self.kept_checks())
     }
 
     /// The number of the file before the one at a place.
-    pub(crate) fn number_before(&self, place: usize) -> Option<u64> {
+    pub fn number_before(&self, place: usize) -> Option<u64> {
         Some(self.checks.get(place.checked_sub(1)?)?.id.seq)
     }
 
-    /// Whether an opening refuses two files of one number.
-    pub(crate) fn is_doubled(&self) -> bool {
+    /// Whether an opening finds two files of the number of the first one that it keeps, and fails.
+    pub fn is_doubled(&self) -> bool {
         match (self.number_before(self.passed), self.kept_checks().first()) {
             (Some(before), Some(first)) => before == first.id.seq,
             _ => false,
         }
     }
 
-    /// The first file at which an opening in a mode fails, and where.
-    pub(crate) fn failing(
+    /// The first file at which an opening in a mode fails, and where its reading ends.
+    pub fn failing(
         &self,
         alloc: Global,
         mode: RecoveryMode,

@@ -1,0 +1,219 @@
+//! How many bytes of each log file the index of an opening still refers to, by group.
+ghost use Rattle.raft_env.specs.Moments.{OnlyReads};
+
+use crate::queue_files::QueueFiles;
+use raft_dump::{LogFile, LogItemReader, RecordPlace};
+use raft_env::FileSystem;
+use raft_records::{Fault, FileId, LogItem, LogQueue};
+use raft_tables::{GlobalStats, MemTable, MemTableRecoverContext, MemTables, RewrittenBatches};
+use std::alloc::{AllocError, Global};
+
+/// A log file, and the bytes that are referred to of it by group, in the groups' order.
+#[derive(Drop)]
+pub struct FileUsage {
+    pub id: FileId,
+    pub path: String,
+    pub len: u64,
+    pub groups: Vec<(u64, u64)>,
+}
+
+/// The files of a queue that an opening keeps, by number.
+#[derive(Drop)]
+pub struct QueueUsage {
+    pub queue: LogQueue,
+    pub files: Vec<FileUsage>,
+}
+
+/// What an opening that tolerates broken bytes refers to of the files of both queues.
+pub fn measure<F: FileSystem>(
+    alloc: Global,
+    file_system: &mut F,
+    rewrite: &QueueFiles,
+    append: &QueueFiles,
+) -> Result<(QueueUsage, QueueUsage), Fault> {
+    let tables = tables_of(alloc, file_system, rewrite, append)?;
+    let mut rewrite = QueueUsage::new(alloc, rewrite)?;
+    let mut append = QueueUsage::new(alloc, append)?;
+    for group in tables.groups()? {
+        if let Some(table) = tables.table(group) {
+            rewrite.add_table(alloc, group, table)?;
+            append.add_table(alloc, group, table)?;
+        }
+    }
+    Ok((rewrite, append))
+}
+
+// The tables as an opening makes them.
+fn tables_of<F: FileSystem>(
+    alloc: Global,
+    file_system: &mut F,
+    rewrite: &QueueFiles,
+    append: &QueueFiles,
+) -> Result<MemTables, Fault> {
+    let mut stats = GlobalStats::new();
+    let mut batches = RewrittenBatches::new(alloc);
+    let mut reader = BatchReader::new(alloc, rewrite.kept_files())?;
+    for _ in 0..u64::MAX {
+        match reader.next(file_system)? {
+            Some((items, id)) => batches.push(items, id)?,
+            None => break,
+        }
+    }
+    let mut context = MemTableRecoverContext::new(batches.into_tables(&mut stats)?);
+    let mut reader = BatchReader::new(alloc, append.kept_files())?;
+    for _ in 0..u64::MAX {
+        match reader.next(file_system)? {
+            Some((mut items, id)) => context.replay_append(&mut items, id, &mut stats)?,
+            None => break,
+        }
+    }
+    let (tables, _) = context.join(&mut stats)?;
+    Ok(tables)
+}
+
+/// Reads files batch by batch; each file to where it is broken.
+#[derive(Drop)]
+struct BatchReader<F: FileSystem> {
+    alloc: Global,
+    items: LogItemReader<F>,
+    /// The first item of the next batch, and its place.
+    ahead: Option<(LogItem, Option<RecordPlace>)>,
+}
+
+impl<F: FileSystem> BatchReader<F> {
+    fn new(alloc: Global, files: &[LogFile]) -> Result<BatchReader<F>, Fault> {
+        let mut named = Vec::new(alloc);
+        for file in files {
+            let path = file.path.clone()?;
+            named.push(LogFile { id: file.id, path })?;
+        }
+        Ok(BatchReader {
+            alloc,
+            items: LogItemReader::new(alloc, named),
+            ahead: None,
+        })
+    }
+
+    // The items of the next record, and its file.
+    fn next(&mut self, file_system: &mut F) -> Result<Option<(Vec<LogItem>, FileId)>, Fault> {
+        let first = match self.ahead.take() {
+            Some(first) => Some(first),
+            None => self.next_item(file_system)?,
+        };
+        let Some((item, Some(place))) = first else {
+            return Ok(None);
+        };
+        let mut items = Vec::new(self.alloc);
+        items.push(item)?;
+        for _ in 0..u64::MAX {
+            match self.next_item(file_system)? {
+                Some((item, at)) if at == Some(place) => items.push(item)?,
+                other => {
+                    self.ahead = other;
+                    break;
+                }
+            }
+        }
+        Ok(Some((items, place.id)))
+    }
+
+    // The next item of a file that can be read.
+    fn next_item(
+        &mut self,
+        file_system: &mut F,
+    ) -> Result<Option<(LogItem, Option<RecordPlace>)>, Fault> {
+        for _ in 0..u64::MAX {
+            match self.items.next(file_system) {
+                Some(Ok(item)) => return Ok(Some((item, self.items.place()))),
+                Some(Err(Fault::Corruption)) => {}
+                Some(Err(fault)) => return Err(fault),
+                None => return Ok(None),
+            }
+        }
+        Ok(None)
+    }
+}
+
+impl QueueUsage {
+    // Of the files that an opening keeps, before anything refers to them.
+    fn new(alloc: Global, found: &QueueFiles) -> Result<QueueUsage, AllocError> {
+        let mut files = Vec::new(alloc);
+        for (file, check) in found.kept_files().iter().zip(found.kept_checks()) {
+            files.push(FileUsage {
+                id: file.id,
+                path: file.path.clone()?,
+                len: check.len as u64,
+                groups: Vec::new(alloc),
+            })?;
+        }
+        Ok(QueueUsage {
+            queue: found.queue,
+            files,
+        })
+    }
+
+    // Adds what the table of a group refers to.
+    fn add_table(&mut self, alloc: Global, group: u64, table: &MemTable) -> Result<(), AllocError> {
+        if let (Some(first), Some(last)) = (table.first_index(), table.last_index()) {
+            for index in first..=last {
+                self.add_entry(group, table, index)?;
+            }
+        }
+        for (key, value) in table.pairs(alloc)? {
+            if let Some(id) = table.place(&key) {
+                let len = key.len().saturating_add(value.len());
+                self.add(id, group, len as u64)?;
+            }
+        }
+        Ok(())
+    }
+
+    fn add_entry(&mut self, group: u64, table: &MemTable, index: u64) -> Result<(), AllocError> {
+        let Some(place) = table.entry(index) else {
+            return Ok(());
+        };
+        match place.block {
+            Some(block) => self.add(block.id, group, u64::from(place.len)),
+            None => Ok(()),
+        }
+    }
+
+    // Adds bytes of a file, where it is one of the queue. Groups come in their order.
+    fn add(&mut self, id: FileId, group: u64, len: u64) -> Result<(), AllocError> {
+        if id.queue != self.queue {
+            return Ok(());
+        }
+        let Some(first) = self.files.first().map(|file| file.id.seq) else {
+            return Ok(());
+        };
+        let Ok(place) = usize::try_from(id.seq.saturating_sub(first)) else {
+            return Ok(());
+        };
+        match self.files.get_mut(place) {
+            Some(file) => file.add(group, len),
+            None => Ok(()),
+        }
+    }
+}
+
+impl FileUsage {
+    fn add(&mut self, group: u64, len: u64) -> Result<(), AllocError> {
+        if let Some((last, bytes)) = self.groups.last_mut() {
+            if *last == group {
+                *bytes = bytes.saturating_add(len);
+                return Ok(());
+            }
+        }
+        self.groups.push((group, len))?;
+        Ok(())
+    }
+
+    /// How many bytes are referred to.
+    pub fn referred(&self) -> u64 {
+        let mut sum = 0u64;
+        for (_, bytes) in &self.groups {
+            sum = sum.saturating_add(*bytes);
+        }
+        sum
+    }
+}

@@ -1,0 +1,148 @@
+//! A folder that is looked at: its log files, one by one or all in memory.
+
+use crate::progress::Progress;
+use crate::request::Options;
+use anyhow::{Result, bail};
+use raft_disk::{FolderView, image_of};
+use raft_dump::{LogFile, check_file, log_files};
+use raft_inspect::QueueFiles;
+use raft_log_engine::MemoryFileSystem;
+use raft_records::LogQueue;
+use std::alloc::{AllocError, Global};
+
+/// A look at a folder, which can't change it, and the names of its files.
+#[derive(Drop)]
+pub(crate) struct Folder {
+    alloc: Global,
+    view: FolderView,
+    /// The second folder, where the options name one.
+    spill: Option<String>,
+    pub files: Vec<LogFile>,
+    /// The names of files that are no log's.
+    pub others: Vec<String>,
+}
+
+impl Folder {
+    /// It fails where there is no folder.
+    pub(crate) fn open(rt: HostRuntime, path: &str, options: &Options<'_>) -> Result<Folder> {
+        let alloc = rt.alloc();
+        let view = match FolderView::open(rt, path) {
+            Ok(view) => view,
+            Err(fault) => bail!("{fault}"),
+        };
+        if view.is_in_use() && !options.quiet {
+            eprintln!(rt; "raftctl: {path} is open already, and what is read of it may change")?;
+        }
+        let mut folder = Folder {
+            alloc,
+            view,
+            spill: None,
+            files: Vec::new(alloc),
+            others: Vec::new(alloc),
+        };
+        folder.add("")?;
+        if let Some(spill) = options.spill {
+            folder.add(spill)?;
+            folder.spill = Some(String::from_str(alloc, spill)?);
+        }
+        Ok(folder)
+    }
+
+    fn add(&mut self, folder: &str) -> Result<()> {
+        let names = match self.view.names(folder) {
+            Ok(names) => names,
+            Err(fault) => bail!("{fault}"),
+        };
+        for name in names {
+            self.add_name(folder, name)?;
+        }
+        Ok(())
+    }
+
+    fn add_name(&mut self, folder: &str, name: String) -> Result<()> {
+        let one = vec![in self.alloc; name]?;
+        let found = match log_files(self.alloc, folder, &one) {
+            Ok(found) => found,
+            Err(fault) => bail!("{fault}"),
+        };
+        if found.is_empty() {
+            for name in one {
+                self.others.push(name)?;
+            }
+            return Ok(());
+        }
+        for file in found {
+            self.files.push(file)?;
+        }
+        Ok(())
+    }
+
+    fn read(&self, path: &str) -> Result<Vec<u8>> {
+        match self.view.read(path) {
+            Ok(bytes) => Ok(bytes),
+            Err(fault) => bail!("{fault}"),
+        }
+    }
+
+    fn folders(&self) -> Result<Vec<String>, AllocError> {
+        let mut folders = Vec::new(self.alloc);
+        if let Some(spill) = &self.spill {
+            folders.push(spill.clone()?)?;
+        }
+        Ok(folders)
+    }
+
+    fn files_in_memory(&self, files: Vec<(String, Vec<u8>)>) -> Result<MemoryFileSystem> {
+        match image_of(self.alloc, files, self.folders()?) {
+            Ok(image) => Ok(image),
+            Err(fault) => bail!("{fault}"),
+        }
+    }
+
+    /// One file in memory.
+    pub(crate) fn image_of_file(&self, file: &LogFile) -> Result<MemoryFileSystem> {
+        let path = file.path.clone()?;
+        let bytes = self.read(path.as_str())?;
+        self.files_in_memory(vec![in self.alloc; (path, bytes)]?)
+    }
+
+    /// All log files in memory.
+    pub(crate) fn image(&self, progress: &mut Progress) -> Result<MemoryFileSystem> {
+        let mut files = Vec::new(self.alloc);
+        for (place, file) in self.files.iter().enumerate() {
+            progress.at("files read", place as u64, self.files.len() as u64)?;
+            let path = file.path.clone()?;
+            let bytes = self.read(path.as_str())?;
+            files.push((path, bytes))?;
+        }
+        self.files_in_memory(files)
+    }
+
+    /// The log files of a queue, by number.
+    pub(crate) fn files_of(&self, queue: LogQueue) -> Result<Vec<LogFile>, AllocError> {
+        let mut files = Vec::new(self.alloc);
+        for file in &self.files {
+            if file.id.queue == queue {
+                let path = file.path.clone()?;
+                files.push(LogFile { id: file.id, path })?;
+            }
+        }
+        QueueFiles::sort(&mut files)?;
+        Ok(files)
+    }
+
+    /// The log files of a queue, and what can be read of each; one at a time is in memory.
+    pub(crate) fn inspect(&self, queue: LogQueue, progress: &mut Progress) -> Result<QueueFiles> {
+        let files = self.files_of(queue)?;
+        let mut checks = Vec::new(self.alloc);
+        for (place, file) in files.iter().enumerate() {
+            progress.at("files checked", place as u64, files.len() as u64)?;
+            let mut image = self.image_of_file(file)?;
+            match check_file(self.alloc, file, &mut image) {
+                Ok(check) => checks.push(check)?,
+                Err(fault) => bail!("{fault}"),
+            }
+        }
+        Ok(QueueFiles::new(queue, files, checks))
+    }
+}
