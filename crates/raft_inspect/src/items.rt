@@ -109,17 +109,26 @@ fn add_entry<F: FileSystem>(
     entry: &EntryIndex,
     lines: &mut Lines,
 ) -> Result<(), Fault> {
-    let [queue, file, offset, group] = front;
     let bytes = entry_bytes(alloc, file_system, reader, entry)?;
+    add_value(front, entry.index, &bytes, lines)
+}
+
+fn add_value<'a>(
+    front: [Field<'a>; 4],
+    index: u64,
+    value: &'a [u8],
+    lines: &mut Lines,
+) -> Result<(), Fault> {
+    let [queue, file, offset, group] = front;
     lines.line(&[
         queue,
         file,
         offset,
         group,
         kind("entry"),
-        ("index", Word::Number(entry.index)),
-        ("length", Word::Number(u64::from(entry.entry_len))),
-        ("value", Word::Bytes(&bytes)),
+        ("index", Word::Number(index)),
+        ("length", Word::Number(value.len() as u64)),
+        ("value", Word::Bytes(value)),
     ])?;
     Ok(())
 }

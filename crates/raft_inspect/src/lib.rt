@@ -17,7 +17,7 @@ pub use cuts::{Cut, cuts_of, keep_cut};
 pub use items::{add_fault, add_item};
 pub use lines::{Field, Lines, Word};
 pub use outlook::Outlook;
-pub use picture::picture;
+pub use picture::draw;
 pub use queue_files::{QueueFiles, inspect};
 pub use report::{add_queue, mode_name, mode_named, queue_name};
 pub use spelling::{Misspelled, read_digits, read_text};

@@ -30,7 +30,7 @@ const OTHERS: &str = "#777777";
 const UNREFERRED: &str = "#e4e4e4";
 
 /// The picture in SVG, under a title. Both rows have one scale.
-pub fn picture(
+pub fn draw(
     alloc: Global,
     title: &str,
     rewrite: &QueueUsage,
@@ -89,21 +89,30 @@ fn largest_groups(
 // The bytes of each group, of a list by group.
 fn summed(alloc: Global, all: &[GroupBytes]) -> Result<Vec<GroupBytes>, AllocError> {
     let mut groups: Vec<GroupBytes> = Vec::new(alloc);
+    let mut last: Option<GroupBytes> = None;
     for (group, bytes) in all {
-        match groups.last_mut() {
-            Some((last, sum)) if *last == *group => *sum = sum.saturating_add(*bytes),
-            _ => groups.push((*group, *bytes))?,
-        }
+        last = match last {
+            Some((same, sum)) if same == *group => Some((same, sum.saturating_add(*bytes))),
+            Some(done) => {
+                groups.push(done)?;
+                Some((*group, *bytes))
+            }
+            None => Some((*group, *bytes)),
+        };
+    }
+    if let Some(done) = last {
+        groups.push(done)?;
     }
     Ok(groups)
 }
 
 fn color_of(groups: &[GroupBytes], group: u64) -> &'static str {
-    let place = groups.iter().position(|(other, _)| *other == group);
-    match place.and_then(|place| COLORS.get(place)) {
-        Some(color) => color,
-        None => OTHERS,
+    for ((other, _), color) in groups.iter().zip(&COLORS) {
+        if *other == group {
+            return color;
+        }
     }
+    OTHERS
 }
 
 fn add_row(

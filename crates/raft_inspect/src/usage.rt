@@ -71,13 +71,20 @@ fn tables_of<F: FileSystem>(
     Ok(tables)
 }
 
+/// An item and the record that it stands in.
+#[derive(Drop)]
+struct Placed {
+    item: LogItem,
+    place: RecordPlace,
+}
+
 /// Reads files batch by batch; each file to where it is broken.
 #[derive(Drop)]
 struct BatchReader<F: FileSystem> {
     alloc: Global,
     items: LogItemReader<F>,
-    /// The first item of the next batch, and its place.
-    ahead: Option<(LogItem, Option<RecordPlace>)>,
+    /// The first item of the next batch.
+    ahead: Option<Placed>,
 }
 
 impl<F: FileSystem> BatchReader<F> {
@@ -100,34 +107,48 @@ impl<F: FileSystem> BatchReader<F> {
             Some(first) => Some(first),
             None => self.next_item(file_system)?,
         };
-        let Some((item, Some(place))) = first else {
-            return Ok(None);
-        };
+        match first {
+            Some(first) => Ok(Some(self.batch_from(first, file_system)?)),
+            None => Ok(None),
+        }
+    }
+
+    // The items of the record of this first one.
+    fn batch_from(
+        &mut self,
+        first: Placed,
+        file_system: &mut F,
+    ) -> Result<(Vec<LogItem>, FileId), Fault> {
+        let Placed { item, place } = first;
         let mut items = Vec::new(self.alloc);
         items.push(item)?;
         for _ in 0..u64::MAX {
-            match self.next_item(file_system)? {
-                Some((item, at)) if at == Some(place) => items.push(item)?,
-                other => {
-                    self.ahead = other;
-                    break;
-                }
+            let Some(next) = self.next_item(file_system)? else {
+                break;
+            };
+            if next.place != place {
+                self.ahead = Some(next);
+                break;
             }
+            items.push(next.item)?;
         }
-        Ok(Some((items, place.id)))
+        Ok((items, place.id))
     }
 
     // The next item of a file that can be read.
-    fn next_item(
-        &mut self,
-        file_system: &mut F,
-    ) -> Result<Option<(LogItem, Option<RecordPlace>)>, Fault> {
+    fn next_item(&mut self, file_system: &mut F) -> Result<Option<Placed>, Fault> {
         for _ in 0..u64::MAX {
-            match self.items.next(file_system) {
-                Some(Ok(item)) => return Ok(Some((item, self.items.place()))),
-                Some(Err(Fault::Corruption)) => {}
-                Some(Err(fault)) => return Err(fault),
-                None => return Ok(None),
+            let Some(next) = self.items.next(file_system) else {
+                break;
+            };
+            match next {
+                Ok(item) => {
+                    if let Some(place) = self.items.place() {
+                        return Ok(Some(Placed { item, place }));
+                    }
+                }
+                Err(Fault::Corruption) => {}
+                Err(fault) => return Err(fault),
             }
         }
         Ok(None)
@@ -198,13 +219,13 @@ impl QueueUsage {
 
 impl FileUsage {
     fn add(&mut self, group: u64, len: u64) -> Result<(), AllocError> {
-        if let Some((last, bytes)) = self.groups.last_mut() {
-            if *last == group {
-                *bytes = bytes.saturating_add(len);
-                return Ok(());
-            }
+        let is_last = self.groups.last().is_some_and(|(last, _)| *last == group);
+        if !is_last {
+            self.groups.push((group, 0))?;
         }
-        self.groups.push((group, len))?;
+        if let Some((_, bytes)) = self.groups.last_mut() {
+            *bytes = bytes.saturating_add(len);
+        }
         Ok(())
     }
 

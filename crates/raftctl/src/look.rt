@@ -8,7 +8,7 @@ use crate::request::{Look, Options, Request};
 use crate::status::Status;
 use crate::{entries, failure, files, input, keys, numbered, opening, stat};
 use anyhow::{Result, anyhow};
-use raft_inspect::{inspect, measure, picture};
+use raft_inspect::{draw, inspect, measure};
 use raft_log_engine::{Engine, Fault, FileSystem};
 use raft_records::LogQueue;
 use std::alloc::Global;
@@ -41,12 +41,12 @@ fn show<F: FileSystem + Drop>(
 ) -> Result<Status> {
     match look {
         Look::Stat => stat::stat(rt.alloc(), image, &request.options, out),
-        Look::Picture => draw(rt, &mut image, request),
+        Look::Picture => print_picture(rt, &mut image, request),
         _ => read(rt, image, &request.options, look, out),
     }
 }
 
-fn draw<F: FileSystem>(
+fn print_picture<F: FileSystem>(
     rt: &HostRuntime,
     image: &mut F,
     request: &Request<'_>,
@@ -75,7 +75,7 @@ fn drawn<F: FileSystem>(
     let rewrite = inspect(alloc, image, &folders, LogQueue::Rewrite)?;
     let append = inspect(alloc, image, &folders, LogQueue::Append)?;
     let (rewrite, append) = measure(alloc, image, &rewrite, &append)?;
-    Ok(Ok(picture(alloc, request.folder, &rewrite, &append)?))
+    Ok(Ok(draw(alloc, request.folder, &rewrite, &append)?))
 }
 
 // What an engine finds in the files.
