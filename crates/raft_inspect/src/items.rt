@@ -113,10 +113,10 @@ fn add_entry<F: FileSystem>(
     add_value(front, entry.index, &bytes, lines)
 }
 
-fn add_value<'a>(
-    front: [Field<'a>; 4],
+fn add_value(
+    front: [Field<'static>; 4],
     index: u64,
-    value: &'a [u8],
+    value: &[u8],
     lines: &mut Lines,
 ) -> Result<(), Fault> {
     let [queue, file, offset, group] = front;

@@ -21,4 +21,4 @@ pub use picture::draw;
 pub use queue_files::{QueueFiles, inspect};
 pub use report::{add_queue, mode_name, mode_named, queue_name};
 pub use spelling::{Misspelled, read_digits, read_text};
-pub use usage::{QueueUsage, measure};
+pub use usage::{FileUsage, GroupUsage, LogUsage, QueueUsage, measure};

@@ -2,12 +2,12 @@
 
 use crate::report::queue_name;
 use crate::svg::{Area, Svg, share, size_text};
-use crate::usage::{FileUsage, QueueUsage};
+use crate::usage::{FileUsage, GroupUsage, LogUsage, QueueUsage};
 use std::alloc::{AllocError, Global};
 
 /// The size of the picture, and where its rows begin, in pixels.
 const WIDTH: u64 = 1200;
-const HEIGHT: u64 = 520;
+const HEIGHT: u64 = 470;
 
 /// Lengths in hundredths of a pixel.
 const LEFT: u64 = 4_000;
@@ -30,18 +30,13 @@ const OTHERS: &str = "#777777";
 const UNREFERRED: &str = "#e4e4e4";
 
 /// The picture in SVG, under a title. Both rows have one scale.
-pub fn draw(
-    alloc: Global,
-    title: &str,
-    rewrite: &QueueUsage,
-    append: &QueueUsage,
-) -> Result<String, AllocError> {
-    let groups = largest_groups(alloc, rewrite, append)?;
-    let whole = total(append).max(total(rewrite));
+pub fn draw(alloc: Global, title: &str, usage: &LogUsage) -> Result<String, AllocError> {
+    let groups = largest_groups(alloc, &usage.groups)?;
+    let whole = total(&usage.append).max(total(&usage.rewrite));
     let mut svg = Svg::new(alloc, WIDTH, HEIGHT)?;
     svg.label(LEFT, 3_000, "start", title)?;
-    add_row(alloc, &mut svg, append, FIRST_ROW, whole, &groups)?;
-    add_row(alloc, &mut svg, rewrite, SECOND_ROW, whole, &groups)?;
+    add_row(alloc, &mut svg, &usage.append, FIRST_ROW, whole, &groups)?;
+    add_row(alloc, &mut svg, &usage.rewrite, SECOND_ROW, whole, &groups)?;
     add_legend(alloc, &mut svg, &groups)?;
     svg.end()
 }
@@ -62,53 +57,17 @@ fn referred(queue: &QueueUsage) -> u64 {
     sum
 }
 
-/// A group, and the bytes that are referred to of it.
-type GroupBytes = (u64, u64);
-
 // The ten groups of which most bytes are referred to, the greatest first.
-fn largest_groups(
-    alloc: Global,
-    rewrite: &QueueUsage,
-    append: &QueueUsage,
-) -> Result<Vec<GroupBytes>, AllocError> {
-    let mut all: Vec<GroupBytes> = Vec::new(alloc);
-    for queue in [rewrite, append] {
-        for file in &queue.files {
-            for part in &file.groups {
-                all.push(*part)?;
-            }
-        }
-    }
-    all.sort()?;
-    let mut groups = summed(alloc, &all)?;
-    groups.sort_by_key(|(_, bytes)| u64::MAX - *bytes)?;
+fn largest_groups(alloc: Global, all: &[GroupUsage]) -> Result<Vec<GroupUsage>, AllocError> {
+    let mut groups = all.to_vec(alloc)?;
+    groups.sort_by_key(|group| u64::MAX - group.bytes)?;
     groups.truncate(COLORS.len());
     Ok(groups)
 }
 
-// The bytes of each group, of a list by group.
-fn summed(alloc: Global, all: &[GroupBytes]) -> Result<Vec<GroupBytes>, AllocError> {
-    let mut groups: Vec<GroupBytes> = Vec::new(alloc);
-    let mut last: Option<GroupBytes> = None;
-    for (group, bytes) in all {
-        last = match last {
-            Some((same, sum)) if same == *group => Some((same, sum.saturating_add(*bytes))),
-            Some(done) => {
-                groups.push(done)?;
-                Some((*group, *bytes))
-            }
-            None => Some((*group, *bytes)),
-        };
-    }
-    if let Some(done) = last {
-        groups.push(done)?;
-    }
-    Ok(groups)
-}
-
-fn color_of(groups: &[GroupBytes], group: u64) -> &'static str {
-    for ((other, _), color) in groups.iter().zip(&COLORS) {
-        if *other == group {
+fn color_of(groups: &[GroupUsage], group: u64) -> &'static str {
+    for (other, color) in groups.iter().zip(&COLORS) {
+        if other.group == group {
             return color;
         }
     }
@@ -121,10 +80,10 @@ fn add_row(
     queue: &QueueUsage,
     y: u64,
     whole: u64,
-    groups: &[GroupBytes],
+    groups: &[GroupUsage],
 ) -> Result<(), AllocError> {
     let title = row_title(alloc, queue)?;
-    svg.label(LEFT, y - 800, "start", title.as_str())?;
+    svg.label(LEFT, y.saturating_sub(800), "start", title.as_str())?;
     let mut begin = 0u64;
     for file in &queue.files {
         let end = begin.saturating_add(file.len);
@@ -162,7 +121,7 @@ fn add_file(
     svg: &mut Svg,
     file: &FileUsage,
     area: Area,
-    groups: &[GroupBytes],
+    groups: &[GroupUsage],
 ) -> Result<(), AllocError> {
     let told = file_text(alloc, file)?;
     svg.rect(area, UNREFERRED, told.as_str())?;
@@ -188,7 +147,7 @@ fn add_groups(
     svg: &mut Svg,
     file: &FileUsage,
     area: Area,
-    groups: &[GroupBytes],
+    groups: &[GroupUsage],
 ) -> Result<(), AllocError> {
     let bottom = area.y.saturating_add(area.height);
     let mut below = 0u64;
@@ -214,16 +173,23 @@ fn add_groups(
     Ok(())
 }
 
-fn add_legend(alloc: Global, svg: &mut Svg, groups: &[GroupBytes]) -> Result<(), AllocError> {
+fn add_legend(alloc: Global, svg: &mut Svg, groups: &[GroupUsage]) -> Result<(), AllocError> {
     let mut place = 0u64;
-    for ((group, bytes), color) in groups.iter().zip(&COLORS) {
-        let size = size_text(alloc, *bytes)?;
-        let text = format!(in alloc; "group {group}: {size}")?;
+    for (group, color) in groups.iter().zip(&COLORS) {
+        let text = group_text(alloc, group)?;
         add_key(svg, place, color, text.as_str())?;
         place = place.saturating_add(1);
     }
     add_key(svg, 10, OTHERS, "other groups")?;
     add_key(svg, 11, UNREFERRED, "nothing refers to it")
+}
+
+fn group_text(alloc: Global, usage: &GroupUsage) -> Result<String, AllocError> {
+    let (group, size) = (usage.group, size_text(alloc, usage.bytes)?);
+    match usage.span {
+        Some((first, last)) => format!(in alloc; "group {group}: {size}, entries {first} to {last}"),
+        None => format!(in alloc; "group {group}: {size}"),
+    }
 }
 
 // Four signs stand in a row of the legend.

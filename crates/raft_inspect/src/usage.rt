@@ -24,23 +24,42 @@ pub struct QueueUsage {
     pub files: Vec<FileUsage>,
 }
 
+/// A group: how many bytes are referred to of it, its keys, and the first and the last index of its entries.
+#[derive(Clone, Copy, Debug, PartialEq, Eq)]
+pub struct GroupUsage {
+    pub group: u64,
+    pub bytes: u64,
+    pub keys: u64,
+    pub span: Option<(u64, u64)>,
+}
+
+/// What is referred to of both queues, and of each group, in the groups' order.
+#[derive(Drop)]
+pub struct LogUsage {
+    pub rewrite: QueueUsage,
+    pub append: QueueUsage,
+    pub groups: Vec<GroupUsage>,
+}
+
 /// What an opening that tolerates broken bytes refers to of the files of both queues.
 pub fn measure<F: FileSystem>(
     alloc: Global,
     file_system: &mut F,
     rewrite: &QueueFiles,
     append: &QueueFiles,
-) -> Result<(QueueUsage, QueueUsage), Fault> {
+) -> Result<LogUsage, Fault> {
     let tables = tables_of(alloc, file_system, rewrite, append)?;
-    let mut rewrite = QueueUsage::new(alloc, rewrite)?;
-    let mut append = QueueUsage::new(alloc, append)?;
+    let mut usage = LogUsage {
+        rewrite: QueueUsage::new(alloc, rewrite)?,
+        append: QueueUsage::new(alloc, append)?,
+        groups: Vec::new(alloc),
+    };
     for group in tables.groups()? {
         if let Some(table) = tables.table(group) {
-            rewrite.add_table(alloc, group, table)?;
-            append.add_table(alloc, group, table)?;
+            usage.add_table(alloc, group, table)?;
         }
     }
-    Ok((rewrite, append))
+    Ok(usage)
 }
 
 // The tables as an opening makes them.
@@ -173,37 +192,8 @@ impl QueueUsage {
         })
     }
 
-    // Adds what the table of a group refers to.
-    fn add_table(&mut self, alloc: Global, group: u64, table: &MemTable) -> Result<(), AllocError> {
-        if let (Some(first), Some(last)) = (table.first_index(), table.last_index()) {
-            for index in first..=last {
-                self.add_entry(group, table, index)?;
-            }
-        }
-        for (key, value) in table.pairs(alloc)? {
-            if let Some(id) = table.place(&key) {
-                let len = key.len().saturating_add(value.len());
-                self.add(id, group, len as u64)?;
-            }
-        }
-        Ok(())
-    }
-
-    fn add_entry(&mut self, group: u64, table: &MemTable, index: u64) -> Result<(), AllocError> {
-        let Some(place) = table.entry(index) else {
-            return Ok(());
-        };
-        match place.block {
-            Some(block) => self.add(block.id, group, u64::from(place.len)),
-            None => Ok(()),
-        }
-    }
-
-    // Adds bytes of a file, where it is one of the queue. Groups come in their order.
+    // Adds bytes of a file, where it is one of these. Groups come in their order.
     fn add(&mut self, id: FileId, group: u64, len: u64) -> Result<(), AllocError> {
-        if id.queue != self.queue {
-            return Ok(());
-        }
         let Some(first) = self.files.first().map(|file| file.id.seq) else {
             return Ok(());
         };
@@ -215,6 +205,59 @@ impl QueueUsage {
             None => Ok(()),
         }
     }
+}
+
+impl LogUsage {
+    // Adds what the table of a group refers to.
+    fn add_table(&mut self, alloc: Global, group: u64, table: &MemTable) -> Result<(), AllocError> {
+        let mut held = GroupUsage {
+            group,
+            bytes: 0,
+            keys: 0,
+            span: span_of(table),
+        };
+        if let Some((first, last)) = held.span {
+            for index in first..=last {
+                self.add_entry(table, index, &mut held)?;
+            }
+        }
+        for (key, value) in table.pairs_between(alloc, None, None)? {
+            held.keys = held.keys.saturating_add(1);
+            if let Some(id) = table.place(key) {
+                let len = key.len().saturating_add(value.len());
+                self.add(id, len as u64, &mut held)?;
+            }
+        }
+        self.groups.push(held)?;
+        Ok(())
+    }
+
+    fn add_entry(
+        &mut self,
+        table: &MemTable,
+        index: u64,
+        held: &mut GroupUsage,
+    ) -> Result<(), AllocError> {
+        let Some(place) = table.entry(index) else {
+            return Ok(());
+        };
+        match place.block {
+            Some(block) => self.add(block.id, u64::from(place.len), held),
+            None => Ok(()),
+        }
+    }
+
+    fn add(&mut self, id: FileId, len: u64, held: &mut GroupUsage) -> Result<(), AllocError> {
+        held.bytes = held.bytes.saturating_add(len);
+        match id.queue {
+            LogQueue::Rewrite => self.rewrite.add(id, held.group, len),
+            LogQueue::Append => self.append.add(id, held.group, len),
+        }
+    }
+}
+
+fn span_of(table: &MemTable) -> Option<(u64, u64)> {
+    Some((table.first_index()?, table.last_index()?))
 }
 
 impl FileUsage {

@@ -12,11 +12,22 @@ const VERSION: &str = "0.4.2";
 
 /// Reads the words of a command line, the program's name first.
 pub(crate) fn parse<'a>(alloc: Global, words: &'a [String]) -> Result<Request<'a>, Error> {
+    if let Some(word) = words.get(2) {
+        if !is_known(word.as_str()) {
+            let text = format!(in alloc; "no command `{word}`; `raftctl --help` lists them")?;
+            return Err(command(alloc)?.error(ErrorKind::InvalidSubcommand, text.as_str())?);
+        }
+    }
     let matches = command(alloc)?.try_get_matches_from(words)?;
     match read_request(alloc, &matches)? {
         Some(request) => Ok(request),
         None => Err(Error::from(AllocError)),
     }
+}
+
+// Whether a word behind the folder is a command, or none was wanted there.
+fn is_known(word: &str) -> bool {
+    word.starts_with('-') || word == "help" || FORMS.iter().any(|form| form.name == word)
 }
 
 // `None` only for a command line that `command` refuses.

@@ -5,8 +5,8 @@ use crate::request::Options;
 use anyhow::{Result, bail};
 use raft_disk::{FolderView, image_of};
 use raft_dump::{LogFile, check_file, log_files};
-use raft_inspect::QueueFiles;
-use raft_log_engine::MemoryFileSystem;
+use raft_inspect::{Cut, QueueFiles, cuts_of};
+use raft_log_engine::{Fault, FileSystem, MemoryFileSystem, RecoveryMode};
 use raft_records::LogQueue;
 use std::alloc::{AllocError, Global};
 
@@ -145,4 +145,48 @@ impl Folder {
         }
         Ok(QueueFiles::new(queue, files, checks))
     }
+
+    /// What an opening in a mode cuts off of the files of a queue; it reads those alone that it may cut.
+    pub(crate) fn cuts<F: FileSystem>(
+        &self,
+        image: &mut F,
+        queue: LogQueue,
+        mode: RecoveryMode,
+    ) -> Result<Vec<Cut>> {
+        let files = self.files_that_may_be_cut(queue, mode)?;
+        match cuts_in(self.alloc, image, queue, files, mode) {
+            Ok(cuts) => Ok(cuts),
+            Err(fault) => bail!("{fault}"),
+        }
+    }
+
+    fn files_that_may_be_cut(
+        &self,
+        queue: LogQueue,
+        mode: RecoveryMode,
+    ) -> Result<Vec<LogFile>, AllocError> {
+        let mut files = self.files_of(queue)?;
+        match mode {
+            RecoveryMode::AbsoluteConsistency => Ok(Vec::new(self.alloc)),
+            RecoveryMode::TolerateTailCorruption => match files.pop() {
+                Some(last) => vec![in self.alloc; last],
+                None => Ok(files),
+            },
+            RecoveryMode::TolerateAnyCorruption => Ok(files),
+        }
+    }
+}
+
+fn cuts_in<F: FileSystem>(
+    alloc: Global,
+    image: &mut F,
+    queue: LogQueue,
+    files: Vec<LogFile>,
+    mode: RecoveryMode,
+) -> Result<Vec<Cut>, Fault> {
+    let mut checks = Vec::new(alloc);
+    for file in &files {
+        checks.push(check_file(alloc, file, image)?)?;
+    }
+    cuts_of(alloc, &QueueFiles::new(queue, files, checks), mode)
 }

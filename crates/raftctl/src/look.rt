@@ -22,8 +22,9 @@ pub(crate) fn look(rt: HostRuntime, request: &Request<'_>, look: Look<'_>) -> Re
         Look::Check => files::check(rt.alloc(), &folder, options, &mut progress, &mut out)?,
         Look::Dump(name) => files::dump(rt.alloc(), &folder, name, &mut progress, &mut out)?,
         _ => {
-            let image = folder.image(&mut progress)?;
+            let mut image = folder.image(&mut progress)?;
             progress.begin("the log is being opened in memory")?;
+            note_cuts(&rt, &folder, &mut image, options)?;
             show(&rt, image, request, look, &mut out)?
         }
     };
@@ -74,8 +75,8 @@ fn drawn<F: FileSystem>(
     let folders = options.folders(alloc)?;
     let rewrite = inspect(alloc, image, &folders, LogQueue::Rewrite)?;
     let append = inspect(alloc, image, &folders, LogQueue::Append)?;
-    let (rewrite, append) = measure(alloc, image, &rewrite, &append)?;
-    Ok(Ok(draw(alloc, request.folder, &rewrite, &append)?))
+    let usage = measure(alloc, image, &rewrite, &append)?;
+    Ok(Ok(draw(alloc, request.folder, &usage)?))
 }
 
 // What an engine finds in the files.
@@ -105,4 +106,27 @@ fn read<F: FileSystem + Drop>(
         Look::Stat | Look::Dump(_) | Look::Check | Look::Picture => true,
     };
     Ok(if found { Status::Done } else { Status::Absent })
+}
+
+// Says what of the files an opening leaves out, where it doesn't fail.
+fn note_cuts<F: FileSystem>(
+    rt: &HostRuntime,
+    folder: &Folder,
+    image: &mut F,
+    options: &Options<'_>,
+) -> Result<()> {
+    if options.quiet {
+        return Ok(());
+    }
+    for queue in [LogQueue::Rewrite, LogQueue::Append] {
+        for cut in folder.cuts(image, queue, options.mode)? {
+            eprintln!(rt;
+                "raftctl: {} is broken at {}: the {} bytes from there on are left out",
+                cut.path,
+                cut.offset,
+                cut.len
+            )?;
+        }
+    }
+    Ok(())
 }

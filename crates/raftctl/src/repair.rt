@@ -37,7 +37,8 @@ pub(crate) fn repair<F: FileSystem + Drop>(
     Ok(Status::Done)
 }
 
-fn all_cuts<F: FileSystem>(
+/// What an opening in the mode of the options cuts off of all files; nothing where it fails.
+pub(crate) fn all_cuts<F: FileSystem>(
     alloc: Global,
     files: &mut F,
     options: &Options<'_>,
