@@ -51,7 +51,8 @@ fn read_request<'a>(alloc: Global, matches: &ArgMatches<'a>) -> Result<Option<Re
 }
 
 fn read_options<'a>(alloc: Global, matches: &ArgMatches<'a>) -> Result<Options<'a>, Error> {
-    let mode = match matches.get_str("mode") {
+    let named = matches.get_str("mode");
+    let mode = match named {
         None => RecoveryMode::TolerateTailCorruption,
         Some(word) => match mode_named(word) {
             Some(mode) => mode,
@@ -68,6 +69,9 @@ fn read_options<'a>(alloc: Global, matches: &ArgMatches<'a>) -> Result<Options<'
     Ok(Options {
         spill: matches.get_str("spill"),
         mode,
+        mode_is_named: named.is_some(),
+        settings: matches.get_str("settings"),
+        base: None,
         target,
         json: matches.get_flag("json"),
         hex: matches.get_flag("hex"),
@@ -94,6 +98,8 @@ fn read_verb<'a>(name: &str, matches: &ArgMatches<'a>) -> Option<Verb<'a>> {
     match name {
         "load" => return Some(Verb::Load(read_load(matches)?)),
         "repair" => return Some(Verb::Repair),
+        "settings" => return Some(Verb::Settings),
+        "fork" => return Some(Verb::Fork(matches.get_str("TARGET")?)),
         _ => {}
     }
     if let Some(look) = read_look(name, matches) {

@@ -60,7 +60,7 @@ pub(crate) fn carry_out<F: FileSystem>(
         }
         Verb::Load(load) => numbered::load(rt, engine, *load, request.options.quiet),
         // Done before.
-        Verb::Repair | Verb::Look(_) => Ok(()),
+        Verb::Repair | Verb::Settings | Verb::Fork(_) | Verb::Look(_) => Ok(()),
     }
 }
 

@@ -42,7 +42,12 @@ Statuses:
 `raftctl help COMMAND` has an example of each command.";
 
 /// The words that each command takes.
-pub(crate) const OPTIONS: [Word; 6] = [
+pub(crate) const OPTIONS: [Word; 7] = [
+    Word(
+        "settings",
+        Kind::NamedText,
+        "A file of settings in TOML; else FOLDER/raftlog.toml where that stands",
+    ),
     Word(
         "spill",
         Kind::NamedText,
@@ -79,7 +84,7 @@ const SIZE: Word = Word("SIZE", Kind::Number, "The bytes of each value");
 
 const LIMIT: Word = Word("limit", Kind::Named, "Prints so many lines at most");
 
-pub(crate) const FORMS: [Form; 19] = [
+pub(crate) const FORMS: [Form; 21] = [
     Form {
         name: "put",
         about: "Puts a value at a key of a group, and syncs it",
@@ -237,6 +242,22 @@ pub(crate) const FORMS: [Form; 19] = [
         about: "Opens the log in --mode, and keeps what that cuts off in files beside",
         words: &[],
         example: "Example: raftctl log repair --mode any",
+    },
+    Form {
+        name: "settings",
+        about: "Prints the settings in force, in TOML",
+        words: &[],
+        example: "Example: raftctl log settings --target 64MB > log.toml",
+    },
+    Form {
+        name: "fork",
+        about: "Copies the log files that an opening keeps into a folder, and syncs them",
+        words: &[Word(
+            "TARGET",
+            Kind::Text,
+            "The folder of the copy, which is made where it is missing; it may hold no log file",
+        )],
+        example: "Example: raftctl log fork copy",
     },
     Form {
         name: "load",

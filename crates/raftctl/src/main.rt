@@ -6,6 +6,7 @@ mod changes;
 mod entries;
 mod files;
 mod folder;
+mod fork;
 mod forms;
 mod input;
 mod keys;
@@ -16,6 +17,7 @@ mod output;
 mod progress;
 mod repair;
 mod request;
+mod settings;
 mod stat;
 mod status;
 
@@ -23,10 +25,13 @@ use anyhow::{Result, anyhow, bail};
 use arguments::parse;
 use changes::carry_out;
 use clap::Error;
-use output::Output;
+use fork::fork_folder;
+use output::{Output, print_bytes};
+use progress::Progress;
 use raft_disk::DiskFileSystem;
 use raft_log_engine::{Fault, FileSystem};
 use request::{Request, Verb};
+use settings::{settings_of, text_of};
 use status::Status;
 use std::env;
 use std::process::ExitCode;
@@ -37,7 +42,7 @@ fn main(rt: HostRuntime) -> ExitCode {
         Err(error) => return failed(&rt, &error),
     };
     match parse(rt.alloc(), words.as_slice()) {
-        Ok(request) => match run(rt, &request) {
+        Ok(request) => match run(rt, request) {
             Ok(status) => ExitCode::from(status.code()),
             Err(error) => failed(&rt, &error),
         },
@@ -66,10 +71,35 @@ fn misused(rt: &HostRuntime, error: &Error) -> ExitCode {
     }
 }
 
-fn run(rt: HostRuntime, request: &Request<'_>) -> Result<Status> {
-    if let Verb::Look(look) = &request.verb {
-        return look::look(rt, request, *look);
+fn run(rt: HostRuntime, request: Request<'_>) -> Result<Status> {
+    let base = settings_of(&rt, request.folder, request.options.settings)?;
+    let request = request.over(&base);
+    match &request.verb {
+        Verb::Look(look) => look::look(rt, &request, *look),
+        Verb::Settings => print_settings(&rt, &request),
+        Verb::Fork(target) => copy(rt, &request, target),
+        _ => change(rt, &request),
     }
+}
+
+fn print_settings(rt: &HostRuntime, request: &Request<'_>) -> Result<Status> {
+    let config = opening::config(rt.alloc(), &request.options)?;
+    print_bytes(rt, text_of(rt.alloc(), config)?.as_bytes())?;
+    Ok(Status::Done)
+}
+
+fn copy(rt: HostRuntime, request: &Request<'_>, target: &str) -> Result<Status> {
+    let options = &request.options;
+    let config = opening::config(rt.alloc(), options)?;
+    let mut progress = Progress::new(rt, options.quiet)?;
+    let mut out = Output::new(rt, options);
+    let folder = request.folder;
+    fork_folder(rt, folder, target, &config, &mut progress, &mut out)?;
+    out.print()?;
+    Ok(Status::Done)
+}
+
+fn change(rt: HostRuntime, request: &Request<'_>) -> Result<Status> {
     match DiskFileSystem::open(rt, request.folder) {
         Ok(files) => answer(&rt, files, request),
         Err(fault) => bail!("{fault}"),

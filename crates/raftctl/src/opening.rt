@@ -26,8 +26,12 @@ pub(crate) fn close<F: FileSystem + Drop>(engine: Engine<F>) -> Result<()> {
     }
 }
 
-fn config(alloc: Global, options: &Options<'_>) -> Result<Config, AllocError> {
-    let mut config = Config::fresh(alloc);
+/// The settings in force: what the options name, over those of the file.
+pub(crate) fn config(alloc: Global, options: &Options<'_>) -> Result<Config, AllocError> {
+    let mut config = match options.base {
+        Some(base) => copied(base)?,
+        None => Config::fresh(alloc),
+    };
     config.recovery_mode = options.mode;
     if let Some(spill) = options.spill {
         config.spill_dir = Some(String::from_str(alloc, spill)?);
@@ -36,6 +40,13 @@ fn config(alloc: Global, options: &Options<'_>) -> Result<Config, AllocError> {
         config.target_file_size = target;
     }
     Ok(config)
+}
+
+fn copied(config: &Config) -> Result<Config, AllocError> {
+    match config.clone() {
+        Ok(config) => Ok(config),
+        Err(_) => Err(AllocError),
+    }
 }
 
 // What couldn't be opened, and where it is broken.

@@ -1,6 +1,6 @@
 //! What the program is asked to do.
 
-use raft_log_engine::{ReadableSize, RecoveryMode};
+use raft_log_engine::{Config, ReadableSize, RecoveryMode};
 use std::alloc::{AllocError, Global};
 
 #[derive(Drop)]
@@ -18,8 +18,14 @@ pub(crate) struct Options<'a> {
     /// A second folder, by its path from the first one, whose log files are read too.
     pub spill: Option<&'a str>,
     pub mode: RecoveryMode,
+    /// Whether a word named the mode.
+    pub mode_is_named: bool,
     /// The size at which a log file is full.
     pub target: Option<ReadableSize>,
+    /// The file of the settings.
+    pub settings: Option<&'a str>,
+    /// The settings over which the other words are laid, once they were read.
+    pub base: Option<&'a Config>,
     /// Each line is printed as an object.
     pub json: bool,
     /// Keys and values are read and printed as hexadecimal digits.
@@ -41,6 +47,10 @@ pub(crate) enum Verb<'a> {
     Clean(u64),
     Load(Load),
     Repair,
+    /// The settings in force.
+    Settings,
+    /// The folder of the copy.
+    Fork(&'a str),
     Look(Look<'a>),
 }
 
@@ -108,7 +118,32 @@ impl<'a> Request<'a> {
     }
 }
 
+impl<'a> Request<'a> {
+    /// The same over these settings.
+    pub(crate) fn over(self, settings: &'a Config) -> Request<'a> {
+        Request {
+            folder: self.folder,
+            options: self.options.over(settings),
+            verb: self.verb,
+            sync: self.sync,
+        }
+    }
+}
+
 impl<'a> Options<'a> {
+    // What no word names is that of the settings.
+    fn over(self, settings: &'a Config) -> Options<'a> {
+        let mut options = self;
+        options.base = Some(settings);
+        if !self.mode_is_named {
+            options.mode = settings.recovery_mode;
+        }
+        if let (None, Some(spill)) = (self.spill, &settings.spill_dir) {
+            options.spill = Some(spill.as_str());
+        }
+        options
+    }
+
     /// The folders whose log files are read, by their paths from the first one.
     pub(crate) fn folders(&self, alloc: Global) -> Result<Vec<&'a str>, AllocError> {
         let mut folders = vec![in alloc; ""]?;
