@@ -50,12 +50,7 @@ pub(crate) fn fork_folder(
 }
 
 // Decides by the names of the files alone which are copied.
-fn plan(
-    rt: HostRuntime,
-    source: &FolderView,
-    target: &str,
-    config: &Config,
-) -> Result<Vec<Copy>> {
+fn plan(rt: HostRuntime, source: &FolderView, target: &str, config: &Config) -> Result<Vec<Copy>> {
     let alloc = rt.alloc();
     let mut files = Vec::new(alloc);
     let mut folders = vec![in alloc; String::from_str(alloc, SOURCE)?]?;
