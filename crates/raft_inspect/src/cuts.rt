@@ -9,7 +9,7 @@ use raft_records::{Fault, FileBlockHandle, FileId};
 use std::alloc::Global;
 
 /// The bytes from a place on that an opening cuts off of a log file.
-#[derive(Debug, Drop)]
+#[derive(Drop)]
 pub struct Cut {
     pub id: FileId,
     pub path: String,

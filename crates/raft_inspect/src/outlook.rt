@@ -7,7 +7,7 @@ use raft_records::Fault;
 use std::alloc::Global;
 
 /// What an opening in a mode would do with the files of a queue, or of both.
-#[derive(Clone, Copy, Debug, PartialEq, Eq)]
+#[derive(Clone, Copy)]
 pub struct Outlook {
     /// Whether it fails.
     pub fails: bool,

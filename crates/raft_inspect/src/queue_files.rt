@@ -1,5 +1,9 @@
 //! The log files of a queue, and what can be read of them.
+ghost use Rattle.std.specs.Prelude.{◌≡◌, IfErr, IfOk, drop};
+ghost use Rattle.raft_base.specs.declared.errors.Fault.TheVariants.{Memory};
 ghost use Rattle.raft_env.specs.Moments.{OnlyReads};
+ghost use Rattle.raft_dump.specs.Check.{plan_of};
+ghost use Rattle.raft_inspect.specs.Checks.{AreChecksOf};
 
 use raft_dump::{FileCheck, LogFile, Planned, check_file, log_files, passed_over, plan_opening};
 use raft_config::RecoveryMode;
@@ -24,6 +28,9 @@ pub fn inspect<F: FileSystem>(
     folders: &[&str],
     queue: LogQueue,
 ) -> Result<QueueFiles, Fault>
+    ensures queue { IfOk result (λ found. found.queue ≡ queue) }
+    ensures value { IfOk result (λ found. AreChecksOf (F.directory file_system.old)
+        found.files.items found.checks.items) }
     ensures unchanged { OnlyReads F.directory F.moments file_system.old file_system.new }
 {
     let mut files = Vec::new(alloc);
@@ -40,11 +47,15 @@ fn checks_of<F: FileSystem>(
     file_system: &mut F,
     files: &[LogFile],
 ) -> Result<Vec<FileCheck>, Fault>
+    ensures value { IfOk result (λ checks.
+        AreChecksOf (F.directory file_system.old) files.now checks.items) }
     ensures unchanged { OnlyReads F.directory F.moments file_system.old file_system.new }
 {
     let mut checks = Vec::new(alloc);
-    for file in files {
+    let mut left = files;
+    'files: while let Some((file, rest)) = left.split_first() {
         checks.push(check_file(alloc, file, file_system)?)?;
+        left = rest;
     }
     Ok(checks)
 }
@@ -77,7 +88,11 @@ impl QueueFiles {
     }
 
     /// Of files by number, and what can be read of each.
-    pub fn new(queue: LogQueue, files: Vec<LogFile>, checks: Vec<FileCheck>) -> QueueFiles {
+    pub fn new(queue: LogQueue, files: Vec<LogFile>, checks: Vec<FileCheck>) -> QueueFiles
+        ensures queue { result.queue ≡ queue }
+        ensures files { result.files ≡ files }
+        ensures checks { result.checks ≡ checks }
+    {
         let passed = passed_over(&checks);
         QueueFiles {
             queue,
@@ -93,12 +108,18 @@ impl QueueFiles {
     }
 
     /// What can be read of each of them.
-    pub fn kept_checks(&self) -> &[FileCheck] {
+    pub fn kept_checks(&self) -> &[FileCheck]
+        ensures value { result.now ≡ drop self.now.passed self.now.checks.items }
+    {
         self.checks.get(self.passed..).unwrap_or(&[])
     }
 
     /// What an opening in a mode does with each of them.
-    pub fn plan(&self, alloc: Global, mode: RecoveryMode) -> Result<Vec<Planned>, Fault> {
+    pub fn plan(&self, alloc: Global, mode: RecoveryMode) -> Result<Vec<Planned>, Fault>
+        ensures value { IfOk result (λ plan. plan.items
+            ≡ plan_of mode (drop self.now.passed self.now.checks.items)) }
+        ensures memory { IfErr result (λ e. e ≡ Memory) }
+    {
         plan_opening(alloc, mode, self.kept_checks())
     }
 

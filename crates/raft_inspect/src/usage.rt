@@ -25,7 +25,7 @@ pub struct QueueUsage {
 }
 
 /// A group: how many bytes are referred to of it, its keys, and the first and the last index of its entries.
-#[derive(Clone, Copy, Debug, PartialEq, Eq)]
+#[derive(Clone, Copy)]
 pub struct GroupUsage {
     pub group: u64,
     pub bytes: u64,

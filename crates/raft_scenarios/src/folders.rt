@@ -88,6 +88,16 @@ pub(crate) struct Opening(
     pub(crate) &'static [Stored],
 );
 
+impl Opening {
+    /// How many files it cuts or begins anew, or none where it fails.
+    pub(crate) fn cuts(&self) -> Option<usize> {
+        match self.1 {
+            Ok(_) => Some(self.2.len()),
+            Err(_) => None,
+        }
+    }
+}
+
 /// Files, and what openings of them come to.
 pub(crate) struct Folder {
     pub(crate) name: &'static str,
@@ -356,11 +366,13 @@ fn holds<F: Faulty>(
     let Some(count) = held.store(alloc, files) else {
         return false;
     };
+    let is_foretold = held.foretells(alloc, &["raft"], *mode, opening.cuts());
     let is_opened = comes_to(alloc, held, *mode, wanted);
     put_back(held, closes);
     let made = made_by(opening, files);
     let count = count.saturating_add(made.len());
-    is_opened
+    is_foretold
+        && is_opened
         && held.stores(alloc, files, changed, count)
         && held.stores(alloc, made, &[], count)
         && (wanted.is_err() || comes_to(alloc, held, TAIL, wanted))

@@ -1,6 +1,6 @@
 //! Files in memory, or an engine over them.
 
-use crate::stored::{Stored, are_stored, settings_in, settings_with, store_all};
+use crate::stored::{Stored, are_stored, foretold_in, settings_in, settings_with, store_all};
 use raft_env::{FileSystem, IoKind};
 use raft_log_engine::{Config, Engine, RecoveryMode, Refused};
 use raft_memory::{FsCall, MemoryFileSystem};
@@ -219,6 +219,22 @@ impl<F: Faulty> Held<F> {
         match store_all(alloc, self.files()?, stored) {
             Ok(count) => Some(count),
             Err(_) => None,
+        }
+    }
+
+    /// Whether a look at the files of these folders tells that an opening fails, or else that it changes so many.
+    pub(crate) fn foretells(
+        &mut self,
+        alloc: Global,
+        folders: &[&str],
+        mode: RecoveryMode,
+        wanted: Option<usize>,
+    ) -> bool {
+        match self.files() {
+            Some(files) => {
+                matches!(foretold_in(alloc, files, folders, mode), Ok(told) if told == wanted)
+            }
+            None => false,
         }
     }
 

@@ -274,11 +274,13 @@ fn holds<F: Faulty>(alloc: Global, held: &mut Held<F>, row: &Spilled, opening: &
     let Some((main, spilled)) = store(alloc, held, row.files) else {
         return false;
     };
+    let is_foretold = held.foretells(alloc, &["raft", SPILL], *mode, opening.cuts());
     let is_opened = held.open_with_spill(alloc, *mode, SPILL) && has_come_to(held, wanted);
     put_back(held, true);
     let made = made_by(row, opening);
     let count = main.saturating_add(made.len());
-    is_opened
+    is_foretold
+        && is_opened
         && held.stores(alloc, row.files, changed, count)
         && held.stores(alloc, made, &[], count)
         && has_spilled(held, spilled)

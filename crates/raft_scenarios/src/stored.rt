@@ -1,8 +1,11 @@
 //! Files of a log's folder as their bytes, part by part.
 
+use raft_dump::Planned;
 use raft_env::{FileSystem, FsFault, Permission};
+use raft_inspect::inspect;
 use raft_log_engine::{Config, RecoveryMode};
 use raft_plans::settings;
+use raft_records::{Fault, LogQueue};
 use std::alloc::{AllocError, Global};
 
 pub(crate) const HEADER_1: &[u8] =
@@ -113,6 +116,29 @@ pub(crate) fn store_all<F: FileSystem>(
         store(alloc, files, path, parts)?;
     }
     Ok(files.list("raft")?.len())
+}
+
+/// How many log files of these folders an opening would cut or begin anew, or none where it would fail.
+pub(crate) fn foretold_in<F: FileSystem>(
+    alloc: Global,
+    files: &mut F,
+    folders: &[&str],
+    mode: RecoveryMode,
+) -> Result<Option<usize>, Fault> {
+    let mut count = 0usize;
+    for queue in [LogQueue::Rewrite, LogQueue::Append] {
+        let found = inspect(alloc, files, folders, queue)?;
+        let plan = found.plan(alloc, mode)?;
+        if found.is_doubled() || plan.contains(&Planned::Fail) {
+            return Ok(None);
+        }
+        for planned in plan {
+            if planned != Planned::Keep {
+                count = count.saturating_add(1);
+            }
+        }
+    }
+    Ok(Some(count))
 }
 
 pub(crate) fn settings_in(alloc: Global, mode: RecoveryMode) -> Result<Config, AllocError> {
