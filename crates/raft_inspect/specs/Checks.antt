@@ -1,5 +1,5 @@
 -- What can be read of the log files of a queue.
-use Rattle.std.specs.Prelude.{ℕ, List, [], ◌∷◌, ⊤, ⊥, ◌×◌}
+use Rattle.std.specs.Prelude.{List, [], ◌∷◌, ⊤}
 use Rattle.std.specs.String.{string_bytes}
 use Rattle.raft_env.specs.Directory.{Directory}
 use Rattle.raft_files.specs.Writer.{bytes_at}

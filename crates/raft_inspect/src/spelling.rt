@@ -1,5 +1,5 @@
 //! Reads bytes as `Lines` spells them.
-ghost use Rattle.std.specs.Prelude.{◌<◌, IfSome};
+ghost use Rattle.std.specs.Prelude.{◌<◌, ◌≤◌, IfSome, length};
 
 use std::alloc::{AllocError, AllocFailed, Global};
 use thiserror::Error;
@@ -47,22 +47,30 @@ pub fn read_text(alloc: Global, text: &[u8]) -> Result<Vec<u8>, Misspelled> {
     let mut bytes = Vec::new(alloc);
     let mut left = text;
     'bytes: while let Some((sign, rest)) = left.split_first() {
-        let (byte, rest) = if *sign == b'\\' {
-            match spelled(rest) {
-                Some(told) => told,
-                None => return Err(Misspelled::NoEscape),
-            }
-        } else {
-            (*sign, rest)
+        let Some((byte, after)) = told(*sign, rest) else {
+            return Err(Misspelled::NoEscape);
         };
         bytes.push(byte)?;
-        left = rest;
+        left = after;
     }
     Ok(bytes)
 }
 
+// The byte that a sign tells, or begins to tell, and what stands after it.
+fn told(sign: u8, rest: &[u8]) -> Option<(u8, &[u8])>
+    ensures rest { IfSome result (λ r. length r.1.now ≤ length rest.now) }
+{
+    if sign == b'\\' {
+        spelled(rest)
+    } else {
+        Some((sign, rest))
+    }
+}
+
 // The byte that is told behind `\`, and what stands after it.
-fn spelled(text: &[u8]) -> Option<(u8, &[u8])> {
+fn spelled(text: &[u8]) -> Option<(u8, &[u8])>
+    ensures rest { IfSome result (λ r. length r.1.now ≤ length text.now) }
+{
     let (sign, rest) = text.split_first()?;
     match *sign {
         b't' => Some((b'\t', rest)),

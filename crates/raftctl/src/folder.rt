@@ -169,7 +169,7 @@ impl Folder {
         match mode {
             RecoveryMode::AbsoluteConsistency => Ok(Vec::new(self.alloc)),
             RecoveryMode::TolerateTailCorruption => match files.pop() {
-                Some(last) => vec![in self.alloc; last],
+                Some(last) => Ok(vec![in self.alloc; last]?),
                 None => Ok(files),
             },
             RecoveryMode::TolerateAnyCorruption => Ok(files),
