@@ -41,11 +41,7 @@ pub fn cuts_of(alloc: Global, found: &QueueFiles, mode: RecoveryMode) -> Result<
     if plan.contains(&Planned::Fail) || found.is_doubled() {
         return Ok(cuts);
     }
-    for ((planned, file), check) in plan
-        .iter()
-        .zip(found.kept_files())
-        .zip(found.kept_checks())
-    {
+    for ((planned, file), check) in plan.iter().zip(found.kept_files()).zip(found.kept_checks()) {
         match planned {
             Planned::Cut(offset) if !check.zeros => cuts.push(Cut {
                 id: file.id,
@@ -61,11 +57,7 @@ pub fn cuts_of(alloc: Global, found: &QueueFiles, mode: RecoveryMode) -> Result<
 }
 
 /// Copies the bytes that are cut off into the file beside, and syncs it.
-pub fn keep_cut<F: FileSystem>(
-    alloc: Global,
-    file_system: &mut F,
-    cut: &Cut,
-) -> Result<(), Fault> {
+pub fn keep_cut<F: FileSystem>(alloc: Global, file_system: &mut F, cut: &Cut) -> Result<(), Fault> {
     let bytes = bytes_of(alloc, file_system, cut)?;
     match write_file(file_system, cut.kept.as_str(), &bytes) {
         Ok(()) => Ok(()),
@@ -93,11 +85,7 @@ fn bytes_of<F: FileSystem>(
     }
 }
 
-fn write_file<F: FileSystem>(
-    file_system: &mut F,
-    path: &str,
-    bytes: &[u8],
-) -> Result<(), FsFault> {
+fn write_file<F: FileSystem>(file_system: &mut F, path: &str, bytes: &[u8]) -> Result<(), FsFault> {
     let handle = file_system.create(path)?;
     let mut writer = file_system.new_writer(&handle)?;
     file_system.write(&mut writer, 0, bytes)?;

@@ -21,7 +21,12 @@ pub fn add_item<F: FileSystem>(
     lines: &mut Lines,
 ) -> Result<(), Fault> {
     let [queue, file, offset] = place_fields(place);
-    let front = [queue, file, offset, ("group", Word::Number(item.raft_group_id))];
+    let front = [
+        queue,
+        file,
+        offset,
+        ("group", Word::Number(item.raft_group_id)),
+    ];
     match &item.content {
         LogItemContent::EntryIndexes(entries) => {
             for entry in entries {
@@ -54,7 +59,11 @@ pub fn add_fault(
 // Where an item stands.
 fn place_fields(place: Option<RecordPlace>) -> [Field<'static>; 3] {
     let (queue, number, offset) = match place {
-        Some(place) => (queue_name(place.id.queue), place.id.seq, place.offset as u64),
+        Some(place) => (
+            queue_name(place.id.queue),
+            place.id.seq,
+            place.offset as u64,
+        ),
         None => ("", 0, 0),
     };
     [

@@ -7,14 +7,20 @@ use std::alloc::{AllocError, Global};
 
 /// The size of the picture, and where its rows begin, in pixels.
 const WIDTH: u64 = 1200;
+
 const HEIGHT: u64 = 470;
 
 /// Lengths in hundredths of a pixel.
 const LEFT: u64 = 4_000;
+
 const ROW_WIDTH: u64 = 112_000;
+
 const ROW_HEIGHT: u64 = 8_000;
+
 const FIRST_ROW: u64 = 7_500;
+
 const SECOND_ROW: u64 = 22_500;
+
 const LEGEND: u64 = 37_500;
 
 /// A file that is narrower has no number under it.
@@ -27,6 +33,7 @@ const COLORS: [&str; 10] = [
 ];
 
 const OTHERS: &str = "#777777";
+
 const UNREFERRED: &str = "#e4e4e4";
 
 /// The picture in SVG, under a title. Both rows have one scale.
@@ -137,7 +144,10 @@ fn add_file(
 }
 
 fn file_text(alloc: Global, file: &FileUsage) -> Result<String, AllocError> {
-    let (all, used) = (size_text(alloc, file.len)?, size_text(alloc, file.referred())?);
+    let (all, used) = (
+        size_text(alloc, file.len)?,
+        size_text(alloc, file.referred())?,
+    );
     format!(in alloc; "{}: {all}, the index refers to {used}", file.path)
 }
 
@@ -187,7 +197,9 @@ fn add_legend(alloc: Global, svg: &mut Svg, groups: &[GroupUsage]) -> Result<(),
 fn group_text(alloc: Global, usage: &GroupUsage) -> Result<String, AllocError> {
     let (group, size) = (usage.group, size_text(alloc, usage.bytes)?);
     match usage.span {
-        Some((first, last)) => format!(in alloc; "group {group}: {size}, entries {first} to {last}"),
+        Some((first, last)) => format!(in alloc;
+            "group {group}: {size}, entries {first} to {last}"
+        ),
         None => format!(in alloc; "group {group}: {size}"),
     }
 }
@@ -203,5 +215,10 @@ fn add_key(svg: &mut Svg, place: u64, color: &str, text: &str) -> Result<(), All
         height: 1_600,
     };
     svg.rect(area, color, text)?;
-    svg.label(x.saturating_add(2_400), y.saturating_add(1_300), "start", text)
+    svg.label(
+        x.saturating_add(2_400),
+        y.saturating_add(1_300),
+        "start",
+        text,
+    )
 }

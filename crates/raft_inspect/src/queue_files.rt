@@ -5,8 +5,8 @@ ghost use Rattle.raft_env.specs.Moments.{OnlyReads};
 ghost use Rattle.raft_dump.specs.Check.{plan_of};
 ghost use Rattle.raft_inspect.specs.Checks.{AreChecksOf};
 
-use raft_dump::{FileCheck, LogFile, Planned, check_file, log_files, passed_over, plan_opening};
 use raft_config::RecoveryMode;
+use raft_dump::{FileCheck, LogFile, Planned, check_file, log_files, passed_over, plan_opening};
 use raft_env::FileSystem;
 use raft_records::{Fault, LogQueue};
 use std::alloc::{AllocError, Global};

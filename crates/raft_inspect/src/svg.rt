@@ -54,8 +54,7 @@ impl Svg {
         self.length("y", area.y)?;
         self.length("width", area.width)?;
         self.length("height", area.height)?;
-        self.text
-            .push_str(" fill=\"none\" stroke=\"#555555\" stroke-width=\"0.5\"/>\n")
+        self.text.push_str(" fill=\"none\" stroke=\"#555555\" stroke-width=\"0.5\"/>\n")
     }
 
     /// A text that begins at a place; `anchor` is `start`, `middle` or `end`.

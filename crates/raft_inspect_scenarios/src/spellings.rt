@@ -15,17 +15,17 @@ static ROWS: [Spelled; 8] = [
     Spelled(b"a\tb\n\r", r"a\tb\n\r", "6109620a0d", r#""a\tb\n\u000d""#),
     Spelled(b"\"'\\", r#"\"\'\\"#, "22275c", r#""\"'\\""#),
     Spelled(b"\xc3\xa9", r"\xc3\xa9", "c3a9", "\"\u{e9}\""),
-    Spelled(b"\0\x1f ~\x7f", r"\x00\x1f ~\x7f", "001f207e7f", "\"\\u0000\\u001f ~\x7f\""),
+    Spelled(
+        b"\0\x1f ~\x7f",
+        r"\x00\x1f ~\x7f",
+        "001f207e7f",
+        "\"\\u0000\\u001f ~\x7f\"",
+    ),
     Spelled(b"\x80\xff", r"\x80\xff", "80ff", r#"{"hex":"80ff"}"#),
 ];
 
 // A line of one word.
-fn line_of(
-    alloc: Global,
-    bytes: &[u8],
-    json: bool,
-    hex: bool,
-) -> Result<Lines, AllocError> {
+fn line_of(alloc: Global, bytes: &[u8], json: bool, hex: bool) -> Result<Lines, AllocError> {
     let mut lines = Lines::new(alloc, json, hex);
     lines.line(&[("value", Word::Bytes(bytes))])?;
     Ok(lines)
@@ -44,9 +44,16 @@ fn is_line(lines: &Lines, front: &str, text: &str, end: &str) -> bool {
 
 fn is_spelled(alloc: Global, row: &Spelled) -> Result<bool, AllocError> {
     let Spelled(bytes, text, digits, json) = row;
-    Ok(is_line(&line_of(alloc, bytes, false, false)?, "", text, "\n")
-        && is_line(&line_of(alloc, bytes, false, true)?, "", digits, "\n")
-        && is_line(&line_of(alloc, bytes, true, false)?, "{\"value\":", json, "}\n"))
+    Ok(
+        is_line(&line_of(alloc, bytes, false, false)?, "", text, "\n")
+            && is_line(&line_of(alloc, bytes, false, true)?, "", digits, "\n")
+            && is_line(
+                &line_of(alloc, bytes, true, false)?,
+                "{\"value\":",
+                json,
+                "}\n",
+            ),
+    )
 }
 
 fn is_read(read: &Result<Vec<u8>, Misspelled>, bytes: &[u8]) -> bool {

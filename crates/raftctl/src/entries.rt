@@ -159,8 +159,13 @@ fn list_page<F: FileSystem>(
     out: &mut Output,
 ) -> Result<usize> {
     let mut entries = Vec::new(alloc);
-    let fetched =
-        engine.fetch_entries_to::<Entry>(group, begin, end, Some(PAGE_BYTES), &mut entries);
+    let fetched = engine.fetch_entries_to::<Entry>(
+        group,
+        begin,
+        end,
+        Some(PAGE_BYTES),
+        &mut entries,
+    );
     if let Err(fault) = fetched {
         return Err(failure("the entries cannot be read", &fault));
     }

@@ -4,9 +4,8 @@ use anyhow::{Result, anyhow, bail};
 use raft_inspect::{read_digits, read_text};
 use serde_json::Value;
 use std::alloc::Global;
-use std::fs;
 use std::io::{Input, Read};
-use std::str;
+use std::{fs, str};
 
 /// The bytes that a word stands for: those of the file after `@`, those of standard input for `-`, else the word
 /// itself, or what its hexadecimal digits tell.

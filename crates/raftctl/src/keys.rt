@@ -179,9 +179,15 @@ impl Printer {
 /// How many keys a group has.
 pub(crate) fn count<F: FileSystem>(engine: &Engine<F>, group: u64) -> Result<u64, Fault> {
     let mut count = 0u64;
-    engine.scan_raw_messages(group, None, None, false, &mut |_: &[u8], _: &[u8]| {
-        count = count.saturating_add(1);
-        true
-    })?;
+    engine.scan_raw_messages(
+        group,
+        None,
+        None,
+        false,
+        &mut |_: &[u8], _: &[u8]| {
+            count = count.saturating_add(1);
+            true
+        },
+    )?;
     Ok(count)
 }

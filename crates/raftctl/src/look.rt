@@ -122,9 +122,7 @@ fn note_cuts<F: FileSystem>(
         for cut in folder.cuts(image, queue, options.mode)? {
             eprintln!(rt;
                 "raftctl: {} is broken at {}: the {} bytes from there on are left out",
-                cut.path,
-                cut.offset,
-                cut.len
+                cut.path, cut.offset, cut.len
             )?;
         }
     }

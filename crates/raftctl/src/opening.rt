@@ -75,7 +75,8 @@ pub(crate) fn broken<F: FileSystem>(
             if found.failing(alloc, mode)?.is_none() {
                 let mode = mode_name(mode);
                 let said = format!(in alloc;
-                    "corruption in {path} at {end}; `--mode {mode}` would cut it off and go on")?;
+                    "corruption in {path} at {end}; `--mode {mode}` would cut it off and go on"
+                )?;
                 return Ok(Some(said));
             }
         }
