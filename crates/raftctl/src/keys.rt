@@ -3,22 +3,21 @@
 use crate::failure;
 use crate::input::bytes_of;
 use crate::output::Output;
-use crate::request::Range;
+use crate::request::{Options, Range};
 use anyhow::{Error, Result};
 use raft_inspect::Word;
 use raft_log_engine::{Engine, Fault, FileSystem};
 
-/// A range of keys in bytes, and how many of them at most.
+/// A range of keys in bytes.
 #[derive(Drop)]
-pub(crate) struct Bounds {
+struct Bounds {
     from: Option<Vec<u8>>,
     to: Option<Vec<u8>>,
-    limit: u64,
     reverse: bool,
 }
 
 impl Bounds {
-    pub(crate) fn read(rt: &HostRuntime, range: Range<'_>, hex: bool) -> Result<Bounds> {
+    fn read(rt: &HostRuntime, range: Range<'_>, hex: bool) -> Result<Bounds> {
         let from = match range.from {
             Some(key) => Some(bytes_of(rt, key, hex)?),
             None => None,
@@ -30,17 +29,14 @@ impl Bounds {
         Ok(Bounds {
             from,
             to,
-            limit: range.limit.unwrap_or(u64::MAX),
             reverse: range.reverse,
         })
     }
 
-    // All keys, so many at most.
-    fn all(limit: u64) -> Bounds {
+    fn all() -> Bounds {
         Bounds {
             from: None,
             to: None,
-            limit,
             reverse: false,
         }
     }
@@ -48,7 +44,7 @@ impl Bounds {
 
 /// What is shown of a key.
 #[derive(Clone, Copy)]
-pub(crate) enum Shown {
+enum Shown {
     /// The key and its value.
     Pairs,
     /// The group, the key and the length of its value.
@@ -74,104 +70,120 @@ pub(crate) fn get<F: FileSystem>(
 
 /// Prints a line for each key of the group, or of all groups, so many at most.
 pub(crate) fn list<F: FileSystem>(
+    rt: &HostRuntime,
     engine: &Engine<F>,
     group: Option<u64>,
     limit: Option<u64>,
-    out: &mut Output,
+    options: &Options<'_>,
 ) -> Result<bool> {
-    let mut left = limit.unwrap_or(u64::MAX);
     let groups = match engine.raft_groups() {
         Ok(groups) => groups,
         Err(fault) => return Err(failure("the groups cannot be listed", &fault)),
     };
+    let bounds = Bounds::all();
+    let mut printer = Printer::new(rt, options, Shown::Lengths, limit);
     for each in groups {
         if group.is_none_or(|group| group == each) {
-            let shown = show(engine, each, &Bounds::all(left), Shown::Lengths, out)?;
-            left = left.saturating_sub(shown);
+            printer.group = each;
+            show(engine, &bounds, &mut printer)?;
         }
     }
-    Ok(true)
+    printer.end()
 }
 
-/// Prints a line for each key of a group in the range.
+/// Prints a line for each key of a group in the range, so many at most.
 pub(crate) fn scan<F: FileSystem>(
+    rt: &HostRuntime,
     engine: &Engine<F>,
     group: u64,
-    bounds: &Bounds,
-    shown: Shown,
-    out: &mut Output,
+    range: Range<'_>,
+    options: &Options<'_>,
 ) -> Result<bool> {
-    show(engine, group, bounds, shown, out)?;
-    Ok(true)
+    let bounds = Bounds::read(rt, range, options.hex)?;
+    let mut printer = Printer::new(rt, options, Shown::Pairs, range.limit);
+    printer.group = group;
+    show(engine, &bounds, &mut printer)?;
+    printer.end()
 }
 
-// How many lines were printed.
-fn show<F: FileSystem>(
-    engine: &Engine<F>,
-    group: u64,
-    bounds: &Bounds,
-    shown: Shown,
-    out: &mut Output,
-) -> Result<u64> {
+// Prints the keys of the printer's group.
+fn show<F: FileSystem>(engine: &Engine<F>, bounds: &Bounds, printer: &mut Printer) -> Result<()> {
+    if printer.left == 0 {
+        return Ok(());
+    }
     let from = bounds.from.as_ref().map(|key| key.as_slice());
     let to = bounds.to.as_ref().map(|key| key.as_slice());
-    let mut printer = Printer {
-        group,
-        shown,
-        limit: bounds.limit,
-        count: 0,
-        failed: None,
-    };
-    if bounds.limit == 0 {
-        return Ok(0);
-    }
     let scanned = engine.scan_raw_messages(
-        group,
+        printer.group,
         from,
         to,
         bounds.reverse,
-        &mut |key: &[u8], value: &[u8]| printer.print(key, value, out),
+        &mut |key: &[u8], value: &[u8]| printer.print(key, value),
     );
-    if let Err(fault) = scanned {
-        return Err(failure("the keys cannot be read", &fault));
-    }
-    match printer.failed {
-        Some(error) => Err(error),
-        None => Ok(printer.count),
+    match scanned {
+        Ok(()) => Ok(()),
+        Err(fault) => Err(failure("the keys cannot be read", &fault)),
     }
 }
 
 /// Prints keys, up to a limit or an error.
 #[derive(Drop)]
 struct Printer {
+    out: Output,
     group: u64,
     shown: Shown,
-    limit: u64,
-    count: u64,
+    /// How many lines may still be printed.
+    left: u64,
     failed: Option<Error>,
 }
 
 impl Printer {
+    fn new(rt: &HostRuntime, options: &Options<'_>, shown: Shown, limit: Option<u64>) -> Printer {
+        Printer {
+            out: Output::new(*rt, options),
+            group: 0,
+            shown,
+            left: limit.unwrap_or(u64::MAX),
+            failed: None,
+        }
+    }
+
     // Whether the scan goes on.
-    fn print(&mut self, key: &[u8], value: &[u8], out: &mut Output) -> bool {
-        self.count = self.count.saturating_add(1);
-        match self.add(key, value, out) {
-            Ok(()) => self.count < self.limit,
+    fn print(&mut self, key: &[u8], value: &[u8]) -> bool {
+        self.left = self.left.saturating_sub(1);
+        match self.add(key, value) {
+            Ok(()) => self.left > 0,
             Err(error) => {
+                self.left = 0;
                 self.failed = Some(error);
                 false
             }
         }
     }
 
-    fn add(&self, key: &[u8], value: &[u8], out: &mut Output) -> Result<()> {
+    fn add(&mut self, key: &[u8], value: &[u8]) -> Result<()> {
         match self.shown {
-            Shown::Pairs => out.line(&[("key", Word::Bytes(key)), ("value", Word::Bytes(value))]),
-            Shown::Lengths => out.line(&[
+            Shown::Pairs => self
+                .out
+                .line(&[("key", Word::Bytes(key)), ("value", Word::Bytes(value))]),
+            Shown::Lengths => self.out.line(&[
                 ("group", Word::Number(self.group)),
                 ("key", Word::Bytes(key)),
                 ("length", Word::Number(value.len() as u64)),
             ]),
+        }
+    }
+
+    fn end(self) -> Result<bool> {
+        let Printer {
+            mut out, failed, ..
+        } = self;
+        match failed {
+            Some(error) => Err(error),
+            None => {
+                out.print()?;
+                Ok(true)
+            }
         }
     }
 }

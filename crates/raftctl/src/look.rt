@@ -93,11 +93,8 @@ fn read<F: FileSystem + Drop>(
             let key = input::bytes_of(rt, key, options.hex)?;
             keys::get(&engine, group, &key, out)?
         }
-        Look::Scan(group, range) => {
-            let bounds = keys::Bounds::read(rt, range, options.hex)?;
-            keys::scan(&engine, group, &bounds, keys::Shown::Pairs, out)?
-        }
-        Look::List(group, limit) => keys::list(&engine, group, limit, out)?,
+        Look::Scan(group, range) => keys::scan(rt, &engine, group, range, options)?,
+        Look::List(group, limit) => keys::list(rt, &engine, group, limit, options)?,
         Look::Entry(group, index) => entries::get(&mut engine, group, index, out)?,
         Look::Entries(group, range) => entries::list(rt.alloc(), &mut engine, group, range, out)?,
         Look::Groups => entries::groups(&engine, out)?,
