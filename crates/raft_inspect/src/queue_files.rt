@@ -28,7 +28,7 @@ pub fn inspect<F: FileSystem>(
     folders: &[&str],
     queue: LogQueue,
 ) -> Result<QueueFiles, Fault>
-    ensures queue { IfOk result (λ found. found.queue ≡ queue) }
+    ensures found { IfOk result (λ found. found.queue ≡ queue) }
     ensures value { IfOk result (λ found. AreChecksOf (F.directory file_system.old)
         found.files.items found.checks.items) }
     ensures unchanged { OnlyReads F.directory F.moments file_system.old file_system.new }
@@ -89,9 +89,8 @@ impl QueueFiles {
 
     /// Of files by number, and what can be read of each.
     pub fn new(queue: LogQueue, files: Vec<LogFile>, checks: Vec<FileCheck>) -> QueueFiles
-        ensures queue { result.queue ≡ queue }
-        ensures files { result.files ≡ files }
-        ensures checks { result.checks ≡ checks }
+        ensures found { (result.queue ≡ queue) × (result.files ≡ files) }
+        ensures read { result.checks ≡ checks }
     {
         let passed = passed_over(&checks);
         QueueFiles {

@@ -58,7 +58,7 @@ pub fn read_text(alloc: Global, text: &[u8]) -> Result<Vec<u8>, Misspelled> {
 
 // The byte that a sign tells, or begins to tell, and what stands after it.
 fn told(sign: u8, rest: &[u8]) -> Option<(u8, &[u8])>
-    ensures rest { IfSome result (λ r. length r.1.now ≤ length rest.now) }
+    ensures within { IfSome result (λ r. length r.1.now ≤ length rest.now) }
 {
     if sign == b'\\' {
         spelled(rest)
@@ -69,7 +69,7 @@ fn told(sign: u8, rest: &[u8]) -> Option<(u8, &[u8])>
 
 // The byte that is told behind `\`, and what stands after it.
 fn spelled(text: &[u8]) -> Option<(u8, &[u8])>
-    ensures rest { IfSome result (λ r. length r.1.now ≤ length text.now) }
+    ensures within { IfSome result (λ r. length r.1.now ≤ length text.now) }
 {
     let (sign, rest) = text.split_first()?;
     match *sign {
@@ -92,7 +92,7 @@ fn byte_of(high: u8, low: u8) -> Option<u8> {
 }
 
 fn value_of(digit: u8) -> Option<u8>
-    ensures { IfSome result (λ value. value < 16) }
+    ensures value { IfSome result (λ value. value < 16) }
 {
     match digit {
         b'0'..=b'9' => Some(digit - b'0'),

@@ -97,7 +97,7 @@ impl Svg {
 
 /// The part of a width that a part of a whole takes.
 pub(crate) fn share(part: u64, whole: u64, width: u64) -> u64
-    ensures bound { result ≤ width }
+    ensures within { result ≤ width }
 {
     let taken = u128::from(part) * u128::from(width) / u128::from(whole.max(1));
     u64::try_from(taken).unwrap_or(width).min(width)

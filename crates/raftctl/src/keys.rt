@@ -163,9 +163,10 @@ impl Printer {
 
     fn add(&mut self, key: &[u8], value: &[u8]) -> Result<()> {
         match self.shown {
-            Shown::Pairs => self
-                .out
-                .line(&[("key", Word::Bytes(key)), ("value", Word::Bytes(value))]),
+            Shown::Pairs => self.out.line(&[
+                ("key", Word::Bytes(key)),
+                ("value", Word::Bytes(value)),
+            ]),
             Shown::Lengths => self.out.line(&[
                 ("group", Word::Number(self.group)),
                 ("key", Word::Bytes(key)),
@@ -176,7 +177,9 @@ impl Printer {
 
     fn end(self) -> Result<bool> {
         let Printer {
-            mut out, failed, ..
+            mut out,
+            failed,
+            ..
         } = self;
         match failed {
             Some(error) => Err(error),
