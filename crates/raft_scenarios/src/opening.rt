@@ -114,7 +114,7 @@ static CASES: [Folder; 16] = [
     Folder {
         name: "a whole log, absolute",
         files: &[(LOG, WHOLE)],
-        openings: &[Opening(ABSOLUTE, Ok(WITH_PUT), &[(LOG, WHOLE)])],
+        openings: &[Opening(ABSOLUTE, Ok(WITH_PUT), &[])],
     },
     Folder {
         name: "entries",

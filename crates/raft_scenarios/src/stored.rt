@@ -118,8 +118,27 @@ pub(crate) fn store_all<F: FileSystem>(
     Ok(files.list("raft")?.len())
 }
 
-/// How many log files of these folders an opening would cut or begin anew, or none where it would fail.
+/// How many log files of these folders an opening would cut or begin anew, or none where it would fail: also where a
+/// file is in a folder's place. An opening makes a folder that is missing.
 pub(crate) fn foretold_in<F: FileSystem>(
+    alloc: Global,
+    files: &mut F,
+    folders: &[&str],
+    mode: RecoveryMode,
+) -> Result<Option<usize>, Fault> {
+    let mut found = Vec::new(alloc);
+    for folder in folders {
+        if files.is_file(folder) {
+            return Ok(None);
+        }
+        if files.is_dir(folder) {
+            found.push(*folder)?;
+        }
+    }
+    cuts_in(alloc, files, &found, mode)
+}
+
+fn cuts_in<F: FileSystem>(
     alloc: Global,
     files: &mut F,
     folders: &[&str],
