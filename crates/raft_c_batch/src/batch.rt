@@ -7,7 +7,7 @@
 //! | 5 | drops the entries below an index | the index |
 //!
 //! A key, a value and an entry have their length before them. Each number takes eight bytes, the greatest first.
-ghost use Rattle.std.specs.Prelude.{◌≡◌, ◌++◌, Some, map, option_map, IfOk, IfErr, OnOk};
+ghost use Rattle.std.specs.Prelude.{◌≡◌, ◌++◌, [], ◌∷◌, Some, map, option_map, IfOk, IfErr, OnOk};
 ghost use Rattle.raft_base.specs.declared.errors.Fault.TheVariants.{Memory};
 ghost use Rattle.raft_c_batch.specs.declared.batch.BatchFault.TheVariants.{Refused};
 ghost use Rattle.raft_c_batch.specs.Batch.{IsBatchRefusal, read_batch, stored_of, take_compact, take_content, take_delete, take_each, take_entries, take_entry, take_item, take_part, take_put, with_item_taken, with_taken};
@@ -115,6 +115,12 @@ fn add_compact<'a>(
     Ok(rest)
 }
 
+fn push_entry(entries: &mut Vec<Entry>, entry: Entry) -> Result<(), AllocError>
+    ensures ok { OnOk result (entries.new.items ≡ entries.old.items ++ entry ∷ []) }
+{
+    Ok(entries.push(entry)?)
+}
+
 // So many entries.
 fn take_each(alloc: Global, count: u64, bytes: &[u8]) -> Result<(Vec<Entry>, &[u8]), BatchFault>
     ensures ok { IfOk result (λ r. take_each count bytes.now
@@ -125,9 +131,7 @@ fn take_each(alloc: Global, count: u64, bytes: &[u8]) -> Result<(Vec<Entry>, &[u
     let mut rest = bytes;
     for _ in 0..count {
         let (entry, tail) = take_entry(alloc, rest)?;
-        if entries.push(entry).is_err() {
-            return Err(BatchFault::Refused(Fault::Memory));
-        }
+        push_entry(&mut entries, entry)?;
         rest = tail;
     }
     Ok((entries, rest))

@@ -89,6 +89,7 @@ impl Orders {
     }
 
     // Gives an order, which has these bytes.
+    #[tactic(auto, using(crate::proofs::OrderLemmas::written_with))]
     fn give(
         &mut self,
         order: &Call,
@@ -102,15 +103,17 @@ impl Orders {
         ensures err { OnErr result (self.new.told.items ≡ self.old.told.items) }
         ensures found { self.new.found.items ≡ self.old.found.items }
     {
-        if let Some(out) = self.out {
-            if put(&mut self.buffer, kind, number, first, second).is_err() {
-                return Err(FsFault::Memory);
-            }
-            if !io::write_all(out, &self.buffer) {
-                return Err(FsFault::Io(IoKind::Other));
-            }
-            self.written = self.written.with(&NotedBytes::of(&self.buffer));
+        let Some(out) = self.out else {
+            self.told = self.told.with(order);
+            return Ok(());
+        };
+        if put(&mut self.buffer, kind, number, first, second).is_err() {
+            return Err(FsFault::Memory);
         }
+        if !io::write_all(out, &self.buffer) {
+            return Err(FsFault::Io(IoKind::Other));
+        }
+        self.written = self.written.with(&NotedBytes::of(&self.buffer));
         self.told = self.told.with(order);
         Ok(())
     }
