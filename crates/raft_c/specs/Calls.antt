@@ -28,6 +28,9 @@ answered false bytes = None
 abbrev pub max_of : ℕ → Option ℕ
 max_of size = if nat_eq size 0 then None else Some size
 
+abbrev pub fetch_of : ℕ → ℕ → ℕ → ℕ → Fetch
+fetch_of group begin end max = record { group = group; begin = begin; end = end; max_size = max }
+
 -- a group without entries and keys answers nothing, another one its entries between the bounds
 pub record IsFetchAnswer (fetch : Fetch) (m : Contents) (answer : List ℕ) : Type 0 where
   pub without : IsWithout m fetch.group → answer ≡ []

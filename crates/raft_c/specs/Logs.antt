@@ -27,7 +27,7 @@ WaitsAfter change _ _ = ⊥
 
 -- the code 0 is given to a caller that carried the orders out, and nothing has changed since
 pub record IsGiven (carried_out : Bool) (old new : Log) : Type 0 where
-  pub carried_out : carried_out ≡ true
+  pub all : carried_out ≡ true
   pub waited : old.standing ≡ Waiting (pos 0)
   pub settled : new.standing ≡ Settled
   pub state : new.state ≡ old.state

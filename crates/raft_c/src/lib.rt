@@ -3,6 +3,7 @@
 #![tactic(auto)]
 
 ghost use Rattle.std.specs.Prelude.{◌≡◌, None, IsSome};
+ghost use Rattle.raft_c.specs.Calls.{fetch_of};
 ghost use Rattle.raft_c.specs.Logs.{HasRead, HasSettled, IsCopied, WaitsAfter};
 
 mod answer;
@@ -100,7 +101,7 @@ pub extern "C" fn raft_c_close(alloc: Global, handle: &mut Handle)
 fn change(alloc: Global, handle: &mut Handle, change: Change<'_>)
     requires { IsSome handle.old.value }
     ensures some { IsSome handle.new.value }
-    ensures waits { WaitsAfter change handle.old.value handle.new.value }
+    ensures waits { WaitsAfter change.entry handle.old.value handle.new.value }
 {
     let mut log = std::mem::replace(handle, Handle::none()).into_box(alloc);
     log.change(change);
@@ -112,7 +113,7 @@ fn change(alloc: Global, handle: &mut Handle, change: Change<'_>)
 pub extern "C" fn raft_c_write(alloc: Global, handle: &mut Handle, batch: &[u8], sync: bool)
     requires { IsSome handle.old.value }
     ensures some { IsSome handle.new.value }
-    ensures waits { WaitsAfter (Change.Write batch sync) handle.old.value handle.new.value }
+    ensures waits { WaitsAfter (Change.Write batch.entry sync) handle.old.value handle.new.value }
 {
     change(alloc, handle, Change::Write(batch, sync));
 }
@@ -170,7 +171,7 @@ fn read(
 ) -> i32
     requires { IsSome handle.old.value }
     ensures some { IsSome handle.new.value }
-    ensures value { HasRead query result handle.old.value handle.new.value }
+    ensures value { HasRead query.entry result handle.old.value handle.new.value }
     ensures copied { IsCopied handle.new.value out.old out.new len.new }
 {
     let mut log = std::mem::replace(handle, Handle::none()).into_box(alloc);
@@ -192,7 +193,7 @@ pub extern "C" fn raft_c_get(
 ) -> i32
     requires { IsSome handle.old.value }
     ensures some { IsSome handle.new.value }
-    ensures value { HasRead (Query.Get group key) result handle.old.value handle.new.value }
+    ensures value { HasRead (Query.Get group key.entry) result handle.old.value handle.new.value }
     ensures copied { IsCopied handle.new.value out.old out.new len.new }
 {
     read(alloc, handle, Query::Get(group, key), out, len)
@@ -231,8 +232,8 @@ pub extern "C" fn raft_c_fetch(
 ) -> i32
     requires { IsSome handle.old.value }
     ensures some { IsSome handle.new.value }
-    ensures value { let fetch = record { group = group; begin = begin; end = end; max_size = max_size } in
-        HasRead (Query.Fetch fetch) result handle.old.value handle.new.value }
+    ensures value { HasRead (Query.Fetch (fetch_of group begin end max_size)) result
+        handle.old.value handle.new.value }
     ensures copied { IsCopied handle.new.value out.old out.new len.new }
 {
     let fetch = Fetch {

@@ -117,7 +117,7 @@ impl Log {
     /// Carries a change out. Its code waits for its orders.
     pub(crate) fn change(&mut self, change: Change<'_>)
         ensures ok { self.old.standing ≡ Settled → self.new.standing ≡ Waiting (pos 0)
-            → IsChangedBy change self.old.state self.new.state self.new.answer }
+            → IsChangedBy change.entry self.old.state self.new.state self.new.answer }
     {
         if self.standing != Standing::Settled {
             return;
@@ -160,7 +160,7 @@ impl Log {
 
     /// Reads, and tells a code.
     pub(crate) fn read(&mut self, query: Query<'_>) -> i32
-        ensures value { IsRead query result self.old self.new }
+        ensures value { IsRead query.entry result self.old self.new }
     {
         if self.standing != Standing::Settled {
             return FAILED;
@@ -195,7 +195,7 @@ fn change_over<F: FileSystem>(
     change: Change<'_>,
     answer: &mut Answer,
 ) -> i32
-    ensures ok { result ≡ pos 0 → HasChanged change log.old.engine log.new.engine answer.new }
+    ensures ok { result ≡ pos 0 → HasChanged change.entry log.old.engine log.new.engine answer.new }
 {
     let done = match log.change(change, answer) {
         Ok(()) => Ok(true),
@@ -205,8 +205,8 @@ fn change_over<F: FileSystem>(
 }
 
 fn read_over<F: FileSystem>(log: &mut OpenLog<F>, query: Query<'_>, answer: &mut Answer) -> i32
-    ensures found { result ≡ pos 0 → HasAnswered query log.old.engine answer.new true }
-    ensures absent { result ≡ pos 20 → HasAnswered query log.old.engine answer.new false }
+    ensures found { result ≡ pos 0 → HasAnswered query.entry log.old.engine answer.new true }
+    ensures absent { result ≡ pos 20 → HasAnswered query.entry log.old.engine answer.new false }
 {
     let done = log.read(query, answer);
     answer.code(done)

@@ -172,7 +172,7 @@ impl<F: FileSystem> OpenLog<F> {
 
     /// Carries a change out.
     pub(crate) fn change(&mut self, change: Change<'_>, answer: &mut Answer) -> Result<(), Fault>
-        ensures ok { OnOk result (HasChanged change self.old.engine self.new.engine answer.new) }
+        ensures ok { OnOk result (HasChanged change.entry self.old.engine self.new.engine answer.new) }
         ensures err { OnErr result (has_failed self.new.engine ≡ false
             → contents_of self.new.engine ≡ contents_of self.old.engine) }
     {
@@ -292,7 +292,7 @@ impl<F: FileSystem> OpenLog<F> {
 
     /// Reads. Answers whether what was asked for is there.
     pub(crate) fn read(&mut self, query: Query<'_>, answer: &mut Answer) -> Result<bool, Fault>
-        ensures value { IfOk result (HasAnswered query self.old.engine answer.new) }
+        ensures value { IfOk result (HasAnswered query.entry self.old.engine answer.new) }
         ensures unchanged { contents_of self.new.engine ≡ contents_of self.old.engine }
     {
         match query {

@@ -1,5 +1,6 @@
 -- Batches as bytes. Each number takes eight bytes, the greatest first.
 use Rattle.std.specs.Prelude.{◌≡◌, ◌<◌, ◌^◌, ◌⊎◌, ℕ, zero, suc, ◌==◌, List, [], ◌∷◌, ◌++◌, length, Option, Some, None, option_map, option_and_then, if◌then◌else◌}
+use Rattle.std.specs.List.{AllByRecursion}
 use Rattle.raft_base.specs.Fault.{fault_code}
 use Rattle.raft_base.specs.declared.errors.Fault.TheVariants as fault
 use Rattle.raft_codec.specs.Number.{u64_bytes, take_u64}
@@ -119,9 +120,25 @@ read_batch bytes = option_and_then (λ n. option_and_then all_items (take_items 
 
 -- What can be written so.
 
--- numbers are below 2^64, and an entry begins with its index
+-- an entry begins with its index
 abbrev pub IsGivenEntry : Entry → Type 0
-IsGivenEntry e = (length e.1 < 2 ^ 64) × ∥ ((value : List ℕ) × (e.0 < 2 ^ 64) × (e.1 ≡ u64_bytes e.0 ++ value)) ∥₁
+IsGivenEntry e = (length e.1 < 2 ^ 64) × (index_in e.1 ≡ Some e.0)
+
+-- numbers are below 2^64, and entries aren't none
+abbrev pub IsGivenContent : Content → Type 0
+IsGivenContent (Put key value) = (length key < 2 ^ 64) × (length value < 2 ^ 64)
+IsGivenContent (Delete key) = length key < 2 ^ 64
+IsGivenContent (Entries []) = ⊥
+IsGivenContent (Entries (e ∷ es)) =
+    (length (e ∷ es) < 2 ^ 64) × AllByRecursion IsGivenEntry (e ∷ es)
+IsGivenContent Clean = Unit {0}
+IsGivenContent (Compact index) = index < 2 ^ 64
+
+abbrev pub IsGivenItem : Item → Type 0
+IsGivenItem item = (item.group < 2 ^ 64) × IsGivenContent item.content
+
+abbrev pub IsGivenBatch : Batch → Type 0
+IsGivenBatch items = (length items < 2 ^ 64) × AllByRecursion IsGivenItem items
 
 -- Reading on.
 

@@ -3,6 +3,8 @@
 
 mod batch;
 mod entry;
+mod laws;
 
 pub use batch::{BatchFault, add_items};
 pub use entry::Entry;
+pub use laws::batch_round_trip;
