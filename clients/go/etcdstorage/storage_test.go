@@ -5,6 +5,7 @@ import (
 	"io/ioutil"
 	"log"
 	"math"
+	"os"
 	"path/filepath"
 	"testing"
 
@@ -26,6 +27,7 @@ type node struct {
 	applied []string
 	index   uint64
 	conf    pb.ConfState
+	kills   int
 }
 
 const group = 9
@@ -104,105 +106,196 @@ func (n *node) turn(t *testing.T) (messages []pb.Message) {
 	return
 }
 
-func TestThreeNodes(t *testing.T) {
+// Three nodes, one of which may be down.
+type cluster struct {
+	t        *testing.T
+	nodes    map[uint64]*node
+	down     uint64
+	proposed []string
+}
+
+func newCluster(t *testing.T) *cluster {
 	var peers []raft.Peer
-	nodes := map[uint64]*node{}
+	c := &cluster{t: t, nodes: map[uint64]*node{}}
 	for id := uint64(1); id <= 3; id++ {
 		peers = append(peers, raft.Peer{ID: id})
-		nodes[id] = &node{id: id, folder: filepath.Join(t.TempDir(), fmt.Sprint("node-", id))}
+		c.nodes[id] = &node{id: id, folder: filepath.Join(t.TempDir(), fmt.Sprint("node-", id))}
 	}
-	for _, n := range nodes {
+	for _, n := range c.nodes {
 		n.open(t, peers)
 	}
-	down := uint64(0)
-	exchange := func(ticks int) {
-		for i := 0; i < ticks; i++ {
+	return c
+}
+
+// Ticks, and hands messages over until there are none.
+func (c *cluster) exchange(ticks int) {
+	for i := 0; i < ticks; i++ {
+		for id := uint64(1); id <= 3; id++ {
+			if id != c.down {
+				c.nodes[id].raw.Tick()
+			}
+		}
+		for again := true; again; {
+			again = false
 			for id := uint64(1); id <= 3; id++ {
-				if id != down {
-					nodes[id].raw.Tick()
+				if id == c.down {
+					continue
 				}
-			}
-			for again := true; again; {
-				again = false
-				for id := uint64(1); id <= 3; id++ {
-					if id == down {
-						continue
-					}
-					for _, message := range nodes[id].turn(t) {
-						again = true
-						if to := message.To; to != down {
-							nodes[to].raw.Step(message)
-						}
+				for _, message := range c.nodes[id].turn(c.t) {
+					again = true
+					if to := message.To; to != c.down {
+						c.nodes[to].raw.Step(message)
 					}
 				}
 			}
 		}
 	}
-	leader := func() *node {
-		for i := 0; i < 50; i++ {
-			exchange(5)
-			for id, n := range nodes {
-				if id != down && n.raw.Status().RaftState == raft.StateLeader {
-					return n
-				}
+}
+
+func (c *cluster) leader() *node {
+	for i := 0; i < 50; i++ {
+		for id, n := range c.nodes {
+			if id != c.down && n.raw.Status().RaftState == raft.StateLeader {
+				return n
 			}
 		}
-		t.Fatal("no leader")
-		return nil
+		c.exchange(5)
 	}
-	var proposed []string
-	propose := func(count int) {
-		for i := 0; i < count; i++ {
-			text := fmt.Sprintf("command %d of some length, so that several log files are begun", len(proposed))
-			if err := leader().raw.Propose([]byte(text)); err != nil {
-				t.Fatal(err)
+	c.t.Fatal("no leader")
+	return nil
+}
+
+// Proposes so many commands, twenty at a time.
+func (c *cluster) propose(count int) {
+	for i := 0; i < count; i += 20 {
+		leader := c.leader()
+		for k := i; k < i+20 && k < count; k++ {
+			text := fmt.Sprintf("command %d of some length, so that several log files are begun", len(c.proposed))
+			if err := leader.raw.Propose([]byte(text)); err != nil {
+				c.t.Fatal(err)
 			}
-			proposed = append(proposed, text)
-			exchange(1)
+			c.proposed = append(c.proposed, text)
 		}
-		exchange(3)
+		c.exchange(1)
 	}
-	check := func(n *node) {
-		t.Helper()
-		if fmt.Sprint(n.applied) != fmt.Sprint(proposed) {
-			t.Fatalf("node %d applied %d of %d", n.id, len(n.applied), len(proposed))
+	c.exchange(3)
+}
+
+// Each node that is up applied all that was proposed, and their logs are equal where they have entries.
+func (c *cluster) check() {
+	c.t.Helper()
+	var kept [][]pb.Entry
+	first, last := uint64(0), uint64(math.MaxUint64)
+	for id, n := range c.nodes {
+		if id == c.down {
+			continue
+		}
+		if fmt.Sprint(n.applied) != fmt.Sprint(c.proposed) {
+			c.t.Fatalf("node %d applied %d of %d", n.id, len(n.applied), len(c.proposed))
+		}
+		from, _ := n.storage.FirstIndex()
+		to, _ := n.storage.LastIndex()
+		if from > first {
+			first = from
+		}
+		if to < last {
+			last = to
 		}
 	}
-	propose(100)
-	for _, n := range nodes {
-		check(n)
+	for id, n := range c.nodes {
+		if id == c.down || first > last {
+			continue
+		}
+		entries, err := n.storage.Entries(first, last+1, math.MaxUint64)
+		if err != nil {
+			c.t.Fatal(err)
+		}
+		kept = append(kept, entries)
 	}
-	// A node is killed: its log isn't synced further, and what was opened is let go by a close at the end of the process.
-	// Here it is closed, so that its folder can be opened again.
-	down = leader().id%3 + 1
-	if err := nodes[down].log.Close(); err != nil {
+	for _, entries := range kept {
+		if fmt.Sprint(entries) != fmt.Sprint(kept[0]) {
+			c.t.Fatal("logs differ")
+		}
+	}
+}
+
+// Takes a node down with a close, or as a kill does: what is found again is what stands in the files at this moment.
+func (c *cluster) stop(id uint64, kill bool) {
+	n := c.nodes[id]
+	c.down = id
+	if kill {
+		n.kills++
+		copied := fmt.Sprint(n.folder, "-", n.kills)
+		copyFolder(c.t, n.folder, copied)
+		defer func(old string) { n.folder = copied; os.RemoveAll(old) }(n.folder)
+	}
+	if err := n.log.Close(); err != nil {
+		c.t.Fatal(err)
+	}
+}
+
+func (c *cluster) start(id uint64) {
+	c.nodes[id].open(c.t, nil)
+	c.down = 0
+}
+
+func copyFolder(t *testing.T, from, to string) {
+	files, err := ioutil.ReadDir(from)
+	if err == nil {
+		err = os.MkdirAll(to, 0777)
+	}
+	for _, file := range files {
+		var data []byte
+		if err == nil {
+			data, err = ioutil.ReadFile(filepath.Join(from, file.Name()))
+		}
+		if err == nil {
+			err = ioutil.WriteFile(filepath.Join(to, file.Name()), data, 0666)
+		}
+	}
+	if err != nil {
 		t.Fatal(err)
 	}
-	propose(100)
-	// The others drop their entries, so that it needs a snapshot.
-	for id, n := range nodes {
-		if id != down {
-			if err := n.storage.Compact(n.index, n.conf, n.state()); err != nil {
-				t.Fatal(err)
+}
+
+// Ten thousand commands, while each node is stopped once, one of them needs a snapshot, and one is killed twelve times.
+func TestThreeNodes(t *testing.T) {
+	c := newCluster(t)
+	c.propose(2000)
+	c.check()
+	for id := uint64(1); id <= 3; id++ {
+		c.stop(id, false)
+		c.propose(1000)
+		if id == 1 {
+			// The others drop their entries, so that it needs a snapshot.
+			for other, n := range c.nodes {
+				if other == id {
+					continue
+				}
+				if err := n.storage.Compact(n.index, n.conf, n.state()); err != nil {
+					t.Fatal(err)
+				}
+				if _, err := n.log.PurgeStaleFront(); err != nil {
+					t.Fatal(err)
+				}
 			}
 		}
+		c.start(id)
+		c.propose(500)
+		c.check()
 	}
-	nodes[down].open(t, nil)
-	down = 0
-	propose(50)
-	for _, n := range nodes {
-		check(n)
+	for i := 0; i < 12; i++ {
+		c.propose(150)
+		c.stop(2, true)
+		c.propose(100)
+		c.start(2)
+		c.propose(50)
+		c.check()
 	}
-	// All are opened again, and find what they applied.
-	for _, n := range nodes {
-		if err := n.log.Close(); err != nil {
-			t.Fatal(err)
-		}
-		n.open(t, nil)
+	if len(c.proposed) < 10000 {
+		t.Fatal(len(c.proposed))
 	}
-	propose(20)
-	for _, n := range nodes {
-		check(n)
+	for _, n := range c.nodes {
 		if err := n.log.Close(); err != nil {
 			t.Fatal(err)
 		}
