@@ -20,12 +20,11 @@ static raftlog *open_at(const char *folder) {
     return log;
 }
 
-static void calls(raftlog *log) {
+/* Values at keys */
+static void keys(raftlog *log) {
     raftlog_batch *batch = raftlog_batch_new();
     raftlog_bytes bytes = {0};
-    char text[200];
     CHECK(batch);
-    /* keys */
     CHECK(raftlog_batch_is_empty(batch));
     CHECK(raftlog_batch_put(batch, 1, "a", 1, "first", 5) == 0);
     CHECK(raftlog_batch_put(batch, 1, "b", 1, NULL, 0) == 0);
@@ -42,7 +41,13 @@ static void calls(raftlog *log) {
     CHECK(raftlog_write(log, batch, false) == 0);
     CHECK(raftlog_get(log, 3, "big", 3, &bytes) == 0 && bytes.len == 100000 && !memcmp(bytes.data, big, 100000));
     free(big);
-    /* a scan */
+    raftlog_bytes_free(&bytes);
+    raftlog_batch_free(batch);
+}
+
+/* Scans of keys */
+static void scans(raftlog *log) {
+    raftlog_bytes bytes = {0};
     raftlog_slice key, value, from = {(const uint8_t *)"b", 1};
     size_t at = 0;
     CHECK(raftlog_scan(log, 1, NULL, NULL, false, 0, &bytes) == 0);
@@ -55,7 +60,15 @@ static void calls(raftlog *log) {
     CHECK(raftlog_scan(log, 1, NULL, &from, true, 1, &bytes) == 0);
     at = 0;
     CHECK(raftlog_next_pair(&bytes, &at, &key, &value) && *key.data == 'a' && !raftlog_next_pair(&bytes, &at, &key, &value));
-    /* entries */
+    raftlog_bytes_free(&bytes);
+}
+
+/* Entries */
+static void entry_calls(raftlog *log) {
+    raftlog_batch *batch = raftlog_batch_new();
+    raftlog_bytes bytes = {0};
+    size_t at;
+    char text[200];
     uint64_t index, count;
     CHECK(raftlog_first_index(log, 7, &index) == RAFTLOG_ABSENT);
     raftlog_entry entries[10], entry;
@@ -84,9 +97,17 @@ static void calls(raftlog *log) {
     CHECK(raftlog_first_index(log, 7, &index) == 0 && index == 8);
     CHECK(raftlog_batch_compact(batch, 7, 10) == 0 && raftlog_write(log, batch, false) == 0);
     CHECK(raftlog_first_index(log, 7, &index) == 0 && index == 10);
-    /* a gap changes nothing */
-    entries[0].index = 100;
-    CHECK(raftlog_batch_entries(batch, 7, entries, 1) == 0 && raftlog_batch_put(batch, 1, "d", 1, "x", 1) == 0);
+    raftlog_bytes_free(&bytes);
+    raftlog_batch_free(batch);
+}
+
+/* Batches that are refused change nothing */
+static void refusals(raftlog *log) {
+    raftlog_batch *batch = raftlog_batch_new();
+    raftlog_bytes bytes = {0};
+    char text[200];
+    raftlog_entry entry = {100, (const uint8_t *)"entry", 5};
+    CHECK(raftlog_batch_entries(batch, 7, &entry, 1) == 0 && raftlog_batch_put(batch, 1, "d", 1, "x", 1) == 0);
     CHECK(raftlog_write(log, batch, true) == RAFTLOG_GAP && !raftlog_batch_is_empty(batch));
     raftlog_batch_clear(batch);
     CHECK(raftlog_get(log, 1, "d", 1, &bytes) == RAFTLOG_ABSENT);
@@ -99,7 +120,15 @@ static void calls(raftlog *log) {
     CHECK(raftlog_message(log, text, sizeof text) > 0 && strstr(text, "no batch"));
     CHECK(raftlog_write(log, batch, true) == 0);
     CHECK(raftlog_write_bytes(log, "\0\0\0\0\0\0\0\0", 8, true) == 0);
-    /* groups */
+    raftlog_bytes_free(&bytes);
+    raftlog_batch_free(batch);
+}
+
+/* Groups */
+static void groups(raftlog *log) {
+    raftlog_batch *batch = raftlog_batch_new();
+    raftlog_bytes bytes = {0};
+    size_t at;
     uint64_t group, sum = 0;
     CHECK(raftlog_batch_clean(batch, 3) == 0 && raftlog_write(log, batch, true) == 0);
     CHECK(raftlog_groups(log, &bytes) == 0);
@@ -107,7 +136,14 @@ static void calls(raftlog *log) {
     CHECK(sum == 17);
     CHECK(raftlog_sync(log) == 0);
     raftlog_bytes_free(&bytes);
-    /* bad arguments: an error, and nothing is lost */
+    raftlog_batch_free(batch);
+}
+
+/* Bad arguments: an error, and nothing is lost */
+static void bad_arguments(raftlog *log) {
+    raftlog_batch *batch = raftlog_batch_new();
+    raftlog_bytes bytes = {0};
+    uint64_t index, count;
     CHECK(raftlog_batch_put(batch, 1, NULL, 1, "x", 1) == RAFTLOG_INVALID);
     CHECK(raftlog_batch_put(batch, 1, "k", 1, NULL, 1) == RAFTLOG_INVALID);
     CHECK(raftlog_batch_entries(batch, 1, NULL, 1) == RAFTLOG_INVALID);
@@ -123,6 +159,15 @@ static void calls(raftlog *log) {
     CHECK(raftlog_last_index(log, 7, &index) == 0 && index == 14);
     raftlog_bytes_free(&bytes);
     raftlog_batch_free(batch);
+}
+
+static void calls(raftlog *log) {
+    keys(log);
+    scans(log);
+    entry_calls(log);
+    refusals(log);
+    groups(log);
+    bad_arguments(log);
 }
 
 static void *put_many(void *of) {
