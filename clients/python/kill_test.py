@@ -1,5 +1,6 @@
 """Kills a process that writes with syncs, some times, and finds each answered write again."""
 import os
+import random
 import signal
 import subprocess
 import sys
@@ -25,9 +26,10 @@ def main(rounds):
         path, answered = os.path.join(folder, "log"), 0
         for _ in range(rounds):
             child = subprocess.Popen([sys.executable, __file__, "write", path], stdout=subprocess.PIPE)
-            time.sleep(0.4)
+            first = child.stdout.readline()
+            time.sleep(random.uniform(0.05, 0.4))
             child.send_signal(signal.SIGKILL)
-            lines = child.stdout.read().split(b"\n")[:-1]
+            lines = (first + child.stdout.read()).split(b"\n")[:-1]
             child.wait()
             answered = max([answered] + [int(line) for line in lines])
             with raftlog.Engine(path) as log:
