@@ -56,7 +56,7 @@ module _ (R Z : RattleType) (laws : Laws Z) (g : Ghosts Z.Denot) where
     -- its parts: an address in a block, with what a box there owns, and the allocator
     pub take_apart : K → (d : Raw.Denot) (vs : List Val)
         → ((b o : ℕ) (h : Val) → d.at ≡ block_ptr b o → vs ≡ two (vptr b o) h ∷ [] → Good (layout Z) h
-          → Seq K 𝓛 (‵ (holds d.alloc (block_ptr b o) d.value) ∷ ‵ (Z.own_val d.alloc (h ∷ [])) ∷ Γ) G)
+        → Seq K 𝓛 (‵ (holds d.alloc (block_ptr b o) d.value) ∷ ‵ (Z.own_val d.alloc (h ∷ [])) ∷ Γ) G)
         → Seq K 𝓛 (‵ (Raw.own_val d vs) ∷ Γ) G
     take_apart t d vs then =
         fsplit t $ fpick t (λ parts. let hs : List Val = parts.1.0 in
@@ -66,20 +66,20 @@ module _ (R Z : RattleType) (laws : Laws Z) (g : Ghosts Z.Denot) where
         move t (1 ∷ []) $ drop t $ move t (1 ∷ []) $
         in_a_block t d.at (λ p. holds d.alloc p d.value) (none_at_null 𝓛 d.alloc d.value) (λ b o place.
         then b o h place
-          (whole ∙ (λ i. vstruct (of_list (address i ++ (stored i ++ []))) ∷ [])
-            ∙ ap (λ p. two (ptr_val p) h ∷ []) place)
-          fits)))))
+        (whole ∙ (λ i. vstruct (of_list (address i ++ (stored i ++ []))) ∷ [])
+        ∙ ap (λ p. two (ptr_val p) h ∷ []) place)
+        fits)))))
 
     -- .. and back
     pub put_together : K → (b o : ℕ) (h : Val) (a : Z.Denot) (x : R.Denot)
         → Step K 𝓛 (‵ (Raw.own_val (record { at = block_ptr b o; alloc = a; value = x }) (two (vptr b o) h ∷ [])) ∷ Γ) G
-          (‵ (holds a (block_ptr b o) x) ∷ ‵ (Z.own_val a (h ∷ [])) ∷ Γ) G
+        (‵ (holds a (block_ptr b o) x) ∷ ‵ (Z.own_val a (h ∷ [])) ∷ Γ) G
     put_together t b o h a x = step (λ rest.
         let whole : Val = two (vptr b o) h in let address : Val = vptr b o in
         nothing t $ move t (2 ∷ 0 ∷ []) $ fjoin t $
         feq_i t (List Val) (address ∷ []) (address ∷ []) refl $ fjoin t $
         feq_i t (List Val) (whole ∷ []) (whole ∷ []) refl $ fjoin t $
         fpack t (Valss (RawPtr ∷ Z ∷ []))
-          (within (shape (raw_box.the_type R Z g)) (block_ptr b o, (a, tt)) (whole ∷ []))
-          (address ∷ [], (h ∷ [], tt)) $
+        (within (shape (raw_box.the_type R Z g)) (block_ptr b o, (a, tt)) (whole ∷ []))
+        (address ∷ [], (h ∷ [], tt)) $
         fjoin t $ rest)

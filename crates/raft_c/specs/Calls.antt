@@ -61,7 +61,8 @@ module _ {F H R W : Type 0} {g : Ghosts F H R W} where
     pub advance : Advances [] true [] (state_of old) (state_of new)
 
   -- the entries below an index are gone, and the first number tells how many they were
-  pub record IsCompacted (group index : ℕ) (old new : Engine F H R W g) (answer : Answer) : Type 0 where
+  pub record IsCompacted (group index : ℕ) (old new : Engine F H R W g) (answer : Answer)
+      : Type 0 where
     pub count : answer.numbers.0 ≡ compact_count index ((contents_of old).entries group)
     pub contents : contents_of new ≡ after_batch (contents_of old)
         (compact_batch group index ((contents_of old).entries group))

@@ -43,7 +43,8 @@ abbrev pub HasSettled : Bool → ℤ → Option Log → Option Log → Type 0
 HasSettled carried_out code (Some old) (Some new) = IsSettled carried_out code old new
 HasSettled carried_out code _ _ = ⊥
 
--- a query is answered, by 0 where what it asked for is there and by 20 where not, only while no order waits
+-- a query is answered, by 0 where what it asked for is there and by 20 where not, only while no
+-- order waits
 pub record IsRead (q : Query) (code : ℤ) (old new : Log) : Type 0 where
   pub found :
       code ≡ pos 0 → (old.standing ≡ Settled) × IsAnsweredBy q true old.state new.state new.answer

@@ -24,8 +24,8 @@ impl Answer {
         }
     }
 
-    /// The code of a call: 0 where it was done, 20 where something is absent, else that of its fault,
-    /// whose text is kept.
+    /// The code of a call: 0 where it was done, 20 where something is absent, else that of its
+    /// fault, whose text is kept.
     #[tactic(auto, using(crate::proofs::CodeLemmas::fault_codes))]
     pub(crate) fn code(&mut self, done: Result<bool, Fault>) -> i32
         ensures ok { result ≡ pos 0 → (done ≡ Ok true) × (self.new ≡ self.old) }

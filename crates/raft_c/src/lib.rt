@@ -1,5 +1,5 @@
-//! The engine for C, by a handle. `raftlog.c` calls these functions, one at a time for a handle; `raftlog.h`, beside it,
-//! says what each call does.
+//! The engine for C, by a handle. `clients/c/raftlog.c` calls these functions, one at a time for a
+//! handle; `raftlog.h`, beside it, says what each call does.
 #![tactic(auto)]
 
 ghost use Rattle.std.specs.Prelude.{◌≡◌, None, IsSome};
@@ -74,8 +74,8 @@ fn add(alloc: Global, handle: &mut Handle, path: &[u8], found: Found<'_>) -> i32
     code
 }
 
-/// Opens the log over what was found, with settings that are given as text. From then on its orders go to a descriptor;
-/// below 0 none is written.
+/// Opens the log over what was found, with settings that are given as text. From then on its orders
+/// go to a descriptor; below 0 none is written.
 #[unsafe(no_mangle)]
 pub extern "C" fn raft_c_open(alloc: Global, handle: &mut Handle, out: i32, settings: &[u8])
     requires { IsSome handle.old.value }
@@ -138,7 +138,8 @@ pub extern "C" fn raft_c_compact_to(alloc: Global, handle: &mut Handle, group: u
     change(alloc, handle, Change::CompactTo(group, index));
 }
 
-/// Deletes the log files in front in which nothing stands any more. The first number is how many they were.
+/// Deletes the log files in front in which nothing stands any more. The first number is how many they
+/// were.
 #[unsafe(no_mangle)]
 pub extern "C" fn raft_c_purge_stale_front(alloc: Global, handle: &mut Handle)
     requires { IsSome handle.old.value }
@@ -148,7 +149,8 @@ pub extern "C" fn raft_c_purge_stale_front(alloc: Global, handle: &mut Handle)
     change(alloc, handle, Change::PurgeStaleFront);
 }
 
-/// The code of the last call that changes something, given to a caller that says whether it carried all its orders out.
+/// The code of the last call that changes something, given to a caller that says whether it carried
+/// all its orders out.
 #[unsafe(no_mangle)]
 pub extern "C" fn raft_c_settle(alloc: Global, handle: &mut Handle, carried_out: bool) -> i32
     requires { IsSome handle.old.value }
@@ -162,13 +164,7 @@ pub extern "C" fn raft_c_settle(alloc: Global, handle: &mut Handle, carried_out:
 }
 
 // Reads, and copies the bytes of the answer as far as there is room for them.
-fn read(
-    alloc: Global,
-    handle: &mut Handle,
-    query: Query<'_>,
-    out: &mut [u8],
-    len: &mut u64,
-) -> i32
+fn read(alloc: Global, handle: &mut Handle, query: Query<'_>, out: &mut [u8], len: &mut u64) -> i32
     requires { IsSome handle.old.value }
     ensures some { IsSome handle.new.value }
     ensures value { HasRead query.entry result handle.old.value handle.new.value }
@@ -217,8 +213,8 @@ pub extern "C" fn raft_c_get_entry(
     read(alloc, handle, Query::Entry(group, index), out, len)
 }
 
-/// A group's entries from one index up to the one before another, each with its length before it. They take at most
-/// `max_size` bytes without these, but one at least; 0 is no bound.
+/// A group's entries from one index up to the one before another, each with its length before it.
+/// They take at most `max_size` bytes without these, but one at least; 0 is no bound.
 #[unsafe(no_mangle)]
 pub extern "C" fn raft_c_fetch(
     alloc: Global,

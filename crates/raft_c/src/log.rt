@@ -1,5 +1,5 @@
-//! A log behind a handle. Its calls that change something give orders, and are answered once the caller has carried
-//! these out.
+//! A log behind a handle. Its calls that change something give orders, and are answered once the
+//! caller has carried these out.
 ghost use Rattle.std.specs.Prelude.{◌≡◌, false, length, pos, take, true};
 ghost use Rattle.raft_c.specs.Calls.{HasAnswered, HasChanged};
 ghost use Rattle.raft_c.specs.Logs.{IsChangedBy, IsRead, IsSettled};
@@ -84,7 +84,8 @@ impl Log {
         }
     }
 
-    /// Opens the log over what was found, with these settings. Its orders go to a descriptor; below 0 none are written.
+    /// Opens the log over what was found, with these settings. Its orders go to a descriptor; below 0
+    /// none are written.
     pub(crate) fn open(&mut self, out: i32, settings: &[u8]) {
         let code = match std::mem::replace(&mut self.state, State::Ended) {
             State::Loading(loading) => self.open_over(loading, out, settings),
@@ -190,11 +191,7 @@ impl Log {
     }
 }
 
-fn change_over<F: FileSystem>(
-    log: &mut OpenLog<F>,
-    change: Change<'_>,
-    answer: &mut Answer,
-) -> i32
+fn change_over<F: FileSystem>(log: &mut OpenLog<F>, change: Change<'_>, answer: &mut Answer) -> i32
     ensures ok { result ≡ pos 0 → HasChanged change.entry log.old.engine log.new.engine answer.new }
 {
     let done = match log.change(change, answer) {

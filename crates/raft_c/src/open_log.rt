@@ -151,7 +151,8 @@ impl<F: FileSystem> OpenLog<F> {
     }
 
     fn compact_to(&mut self, group: u64, index: u64, answer: &mut Answer) -> Result<(), Fault>
-        ensures ok { OnOk result (IsCompacted group index self.old.engine self.new.engine answer.new) }
+        ensures ok { OnOk result (IsCompacted group index self.old.engine self.new.engine
+            answer.new) }
         ensures err { OnErr result (has_failed self.new.engine ≡ false
             → contents_of self.new.engine ≡ contents_of self.old.engine) }
     {
@@ -172,7 +173,8 @@ impl<F: FileSystem> OpenLog<F> {
 
     /// Carries a change out.
     pub(crate) fn change(&mut self, change: Change<'_>, answer: &mut Answer) -> Result<(), Fault>
-        ensures ok { OnOk result (HasChanged change.entry self.old.engine self.new.engine answer.new) }
+        ensures ok { OnOk result (HasChanged change.entry self.old.engine self.new.engine
+            answer.new) }
         ensures err { OnErr result (has_failed self.new.engine ≡ false
             → contents_of self.new.engine ≡ contents_of self.old.engine) }
     {
@@ -273,6 +275,7 @@ impl<F: FileSystem> OpenLog<F> {
         Ok(true)
     }
 
+    #[tactic(auto, using(crate::proofs::CallLemmas::no_last))]
     fn span(&self, group: u64, answer: &mut Answer) -> Result<bool, Fault>
         ensures value { IfOk result (IsSpanAnswer
             ((contents_of self.now.engine).entries group) answer.new.numbers) }

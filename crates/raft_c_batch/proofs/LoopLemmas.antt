@@ -117,7 +117,7 @@ pub item_refused : (e : BatchFault) (xs ys : Batch) (count left : ℕ) (bytes re
     → IsBatchRefusal (take_item now) e → IsBatchRefusal (read_batch bytes) e
 item_refused Malformed xs ys count left bytes rest now some counted read none =
     let gone : take_items count rest ≡ None = before_none xs (take_items count rest)
-        (sym read ∙ ap (option_map (before ys)) (items_none left now some none)) in
+    (sym read ∙ ap (option_map (before ys)) (items_none left now some none)) in
     rw (counted, gone) refl
 item_refused (Refused f) xs ys count left bytes rest now some counted read is = is
 

@@ -182,6 +182,7 @@ batch_written bytes items are taken =
     let same = all_taken r items all in
     let split = subst (AreItemsSplit n.0 n.1) same (items_split n.0 n.1 r number.1.1 read) in
     let sized : bytes ≡ u64_bytes (length items) ++ n.1 = subst (λ (len : ℕ). bytes ≡ u64_bytes len ++ n.1) (sym split.0) number.1.0 in
-    let rest : n.1 ≡ items_bytes items = split.2.0 ∙ append-nil (items_bytes items) in
-    (sized ∙ ap (λ (b : List ℕ). u64_bytes (length items) ++ b) rest,
-      (subst (λ (len : ℕ). len < 2 ^ 64) (sym split.0) number.0, split.1))))
+    let rest : n.1 ≡ items_bytes items = split.2.0 ∙ append-nil (items_bytes items) in (
+      sized ∙ ap (λ (b : List ℕ). u64_bytes (length items) ++ b) rest,
+      (subst (λ (len : ℕ). len < 2 ^ 64) (sym split.0) number.0, split.1),
+    )))

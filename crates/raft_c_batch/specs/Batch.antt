@@ -80,7 +80,7 @@ take_each (suc n) bytes = option_and_then
 abbrev pub take_entries : List ℕ → Option (Content × List ℕ)
 take_entries bytes = option_and_then
     (λ n. if n.0 == 0 then None
-      else option_map (λ es. (Entries es.0, es.1)) (take_each n.0 n.1))
+    else option_map (λ es. (Entries es.0, es.1)) (take_each n.0 n.1))
     (take_u64 bytes)
 
 abbrev pub take_compact : List ℕ → Option (Content × List ℕ)
@@ -98,8 +98,8 @@ take_content kind bytes =
 abbrev pub take_item : List ℕ → Option (Item × List ℕ)
 take_item bytes = option_and_then
     (λ kind. option_and_then
-      (λ group. option_map (λ c. (record { group = group.0; content = c.0 }, c.1)) (take_content kind.0 group.1))
-      (take_u64 kind.1))
+    (λ group. option_map (λ c. (record { group = group.0; content = c.0 }, c.1)) (take_content kind.0 group.1))
+    (take_u64 kind.1))
     (take_byte bytes)
 
 -- so many items, and the rest

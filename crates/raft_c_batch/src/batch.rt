@@ -1,4 +1,5 @@
-//! Batches read from bytes: how many items there are, and of each a byte that says what it does, its group, and
+//! Batches read from bytes: how many items there are, and of each a byte that says what it does, its
+//! group, and
 //!
 //! | 1 | puts a value | the key, the value |
 //! | 2 | deletes a key | the key |
@@ -6,7 +7,8 @@
 //! | 4 | cleans the group | |
 //! | 5 | drops the entries below an index | the index |
 //!
-//! A key, a value and an entry have their length before them. Each number takes eight bytes, the greatest first.
+//! A key, a value and an entry have their length before them. Each number takes eight bytes, the
+//! greatest first.
 ghost use Rattle.std.specs.Prelude.{◌≡◌, ◌++◌, [], ◌∷◌, Some, map, option_map, IfOk, IfErr, OnOk};
 ghost use Rattle.raft_base.specs.declared.errors.Fault.TheVariants.{Memory};
 ghost use Rattle.raft_c_batch.specs.declared.batch.BatchFault.TheVariants.{Refused};

@@ -7,7 +7,8 @@ use Rattle.raft_disk.specs.declared.told.Call.TheVariants as call
 -- a byte that says what is to be done, a number, the lengths of two parts, and the parts
 abbrev pub order_of : ℕ → ℕ → List ℕ → List ℕ → List ℕ
 order_of kind number first second =
-    kind ∷ u64_bytes number ++ u64_bytes (length first) ++ u64_bytes (length second) ++ first ++ second
+    kind ∷ u64_bytes number ++ u64_bytes (length first) ++ u64_bytes (length second)
+    ++ first ++ second
 
 -- the first part is the path
 abbrev pub order_bytes : Call → List ℕ
