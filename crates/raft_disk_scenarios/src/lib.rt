@@ -10,3 +10,5 @@ mod crashes;
 mod openings;
 #[cfg(test)]
 mod temp;
+#[cfg(test)]
+mod views;

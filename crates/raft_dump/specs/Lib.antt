@@ -1,3 +1,4 @@
+pub mod Build
 pub mod Check
 pub mod Dump
 pub mod Items

@@ -1,7 +1,7 @@
 //! What an opening would do with the files of a queue.
-ghost use Rattle.std.specs.Prelude.{◌≡◌, ◌≤◌, IfErr, IfOk, drop, length};
+ghost use Rattle.std.specs.Prelude.{◌≡◌, ◌==◌, suc, IfErr, IfOk};
 ghost use Rattle.raft_base.specs.declared.errors.Fault.TheVariants.{Memory};
-ghost use Rattle.raft_dump.specs.Check.{plan_of, planned_stop};
+ghost use Rattle.raft_dump.specs.Check.{AreLastToRise, numbers_of, plan_of, planned_stop};
 ghost use Rattle.raft_config.specs.Recovery.{tolerates_corruption};
 
 use crate::check::FileCheck;
@@ -51,13 +51,19 @@ fn plan_file(is_tolerant: bool, check: &FileCheck) -> Planned
 /// How many of these files, which are by number, stand before the last ones whose numbers rise by one: an opening
 /// passes them over.
 pub fn passed_over(checks: &[FileCheck]) -> usize
-    ensures within { result ≤ length checks.now }
+    ensures value { AreLastToRise (numbers_of checks.now) result }
 {
     let mut passed = 0;
     for place in 1..checks.len() {
-        if checks[place - 1].id.seq.checked_add(1) != Some(checks[place].id.seq) {
+        if !is_next(checks[place - 1].id.seq, checks[place].id.seq) {
             passed = place;
         }
     }
     passed
+}
+
+fn is_next(before: u64, after: u64) -> bool
+    ensures value { result ≡ (after == suc before) }
+{
+    before < after && after - before == 1
 }

@@ -1,7 +1,7 @@
 -- An engine may go to another thread, and so may a shared one and its seats.
 use denote.RattleType.{RattleType}
 use denote.Struct.Declared.{shape}
-use denote.Param.Send.{IsSend, AllSend, sendable, owning_send, recorded_send, struct_send, view_send}
+use denote.Param.Send.{IsSend, IsSync, AllSend, AllSync, sendable, owning_send, recorded_send, recorded_sync, struct_send, struct_sync, view_send, view_sync}
 use Rattle.std.proofs.Crossing as items
 use Rattle.std.proofs.MapsCrossing as maps
 use Rattle.raft_env.specs.declared.env.FileSystem.{Ghosts}
@@ -63,6 +63,24 @@ item_field_send = struct_send (shape item.the_type) item_parts
 batch_send : IsSend batch.the_row
 batch_send = view_send batch.TheInside.the_row _ _ _ _ (search (sendable, items.crosses, item_send) depth 20)
 
+index_sync : IsSync (index.the_field).row
+index_sync = search sendable depth 20
+
+key_value_sync : IsSync (key_value.the_field).row
+key_value_sync = search (sendable, items.crosses) depth 20
+
+content_sync : IsSync (content.the_field).row
+content_sync = search (sendable, items.crosses, index_sync, key_value_sync) depth 20
+
+item_shared : AllSync (shape item.the_type).fields
+item_shared = (search sendable, (content_sync, tt))
+
+item_sync : IsSync item.the_row
+item_sync = recorded_sync _ _ _ (item.the_type).to_one (struct_sync (shape item.the_type) item_shared)
+
+batch_sync : IsSync batch.the_row
+batch_sync = view_sync batch.TheInside.the_row _ _ _ _ (search (sendable, items.crosses, item_sync) depth 20)
+
 folders_send : IsSend folders.the_row
 folders_send = view_send folders.TheInside.the_row _ _ _ _ (search (sendable, items.crosses, maps.crosses) depth 20)
 
@@ -102,17 +120,20 @@ fault_send = search (sendable, items.crosses, maps.crosses) depth 20
 pub call_send : IsSend (call.the_field).row
 call_send = search (sendable, items.crosses, batch_send) depth 20
 
+pub call_sync : IsSync (call.the_field).row
+call_sync = search (sendable, items.crosses, batch_sync) depth 20
+
 pub reply_send : IsSend (reply.the_field).row
 reply_send = search (sendable, items.crosses, fault_send) depth 20
 
 recorded_parts : AllSend (shape recorded.the_type).fields
-recorded_parts = (search sendable, (call_send, (reply_send, tt)))
+recorded_parts = (search sendable, (search (sendable, items.crosses, call_send, call_sync) depth 20, (reply_send, tt)))
 
 recorded_call_send : IsSend recorded.the_row
 recorded_call_send = recorded_send _ _ _ (recorded.the_type).to_one (struct_send (shape recorded.the_type) recorded_parts)
 
 receipt_parts : AllSend (shape receipt.the_type).fields
-receipt_parts = (search sendable, (call_send, (reply_send, tt)))
+receipt_parts = (search sendable, (search (sendable, items.crosses, call_send, call_sync) depth 20, (reply_send, tt)))
 
 receipt_send : IsSend receipt.the_row
 receipt_send = recorded_send _ _ _ (receipt.the_type).to_one (struct_send (shape receipt.the_type) receipt_parts)

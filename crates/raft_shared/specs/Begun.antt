@@ -1,9 +1,10 @@
 -- What there was of an engine when it was shared.
-use Rattle.std.specs.Prelude.{◌+◌, ◌-◌, ◌^◌, ◌≤◌, min, Bool, false, List, [], ◌∷◌}
+use Rattle.std.specs.Prelude.{suc, nat_le, ◌||◌, ◌+◌, ◌-◌, ◌^◌, ◌≤◌, min, Bool, false, List, [], ◌∷◌}
 use Rattle.raft_records.specs.Contents.{Contents, no_contents}
 use Rattle.raft_env.specs.Refusal.{Refusals, no_refusals}
 use Rattle.raft_env.specs.declared.env.FileSystem.{Ghosts}
-use Rattle.raft_log_engine.specs.Engine.{contents_of, has_failed, refusals_of}
+use Rattle.raft_pipes.specs.PipeState.{last_seq}
+use Rattle.raft_log_engine.specs.Engine.{contents_of, has_failed, queue_of, refusals_of}
 use Rattle.raft_log_engine.specs.declared.engine.Engine.{Engine}
 use Rattle.raft_shared.specs.History.{Event, storage_refusals}
 
@@ -22,6 +23,11 @@ module _ {F H R W : Type 0} {g : Ghosts F H R W} where
   abbrev pub refusals_in : List (Engine F H R W g) → Refusals
   refusals_in [] = no_refusals
   refusals_in (engine ∷ _) = refusals_of engine
+
+  -- no number may be left for a log file behind its last one; of one that has failed it isn't known
+  abbrev pub may_lack_numbers : Engine F H R W g → Bool
+  may_lack_numbers engine =
+      has_failed engine || nat_le (10 ^ 16) (suc (last_seq (queue_of engine)))
 
 -- storage refused at least as many calls since as the history has answers that say so, or its count
 -- is full

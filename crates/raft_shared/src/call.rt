@@ -1,9 +1,10 @@
 //! Calls of a shared engine, and what they were answered.
-ghost use Rattle.std.specs.Prelude.{◌≡◌, IfOk, IfErr, IsOk, option_map};
-ghost use Rattle.raft_shared.specs.Words.{reason_of};
+ghost use Rattle.std.specs.Prelude.{◌≡◌, IfOk, IfErr, option_map};
+ghost use Rattle.raft_shared.specs.Words.{answer_by, reason_of, shared_bytes, without_path};
 
 use raft_log_engine::{Fault, LogBatch};
 use std::alloc::Global;
+use std::sync::Arc;
 
 /// A call, with copies of what it was given.
 #[derive(Drop)]
@@ -21,15 +22,21 @@ pub enum Call {
 pub enum Reply {
     Size(Result<usize, Fault>),
     Done(Result<(), Fault>),
-    Value(Result<Option<Vec<u8>>, Fault>),
+    Value(Result<Option<SharedBytes>, Fault>),
     Index(Option<u64>),
 }
+
+/// The one copy of a call, which the history, the seat and the caller share.
+pub type SharedCall = Arc<Call, Global>;
+
+/// .. and of a value that was found.
+pub type SharedBytes = Arc<Vec<u8>, Global>;
 
 /// A call as it stands in the history.
 #[derive(Drop)]
 pub struct Recorded {
     pub seat: usize,
-    pub call: Call,
+    pub call: SharedCall,
     pub reply: Reply,
 }
 
@@ -38,30 +45,13 @@ pub struct Recorded {
 pub struct Receipt {
     /// Its place in the history, counted from 0.
     pub number: usize,
-    pub call: Call,
+    pub call: SharedCall,
     pub reply: Reply,
-}
-
-impl Call {
-    ghost use Rattle.raft_shared.specs.Words.{asked_of};
-
-    pub fn clone(&self) -> Result<Call, Fault>
-        ensures ok { IfOk result (λ copy. asked_of copy ≡ asked_of self.now) }
-        ensures cause { IfErr result (λ fault. fault ≡ Fault.Memory) }
-    {
-        Ok(match self {
-            Call::Write(batch, sync) => Call::Write(batch.clone()?, *sync),
-            Call::Sync => Call::Sync,
-            Call::Get(group, key) => Call::Get(*group, key.clone()?),
-            Call::First(group) => Call::First(*group),
-            Call::Last(group) => Call::Last(*group),
-        })
-    }
 }
 
 impl Reply {
     ghost use Rattle.raft_shared.specs.History.{Done, Size, Value};
-    ghost use Rattle.raft_shared.specs.Words.{answer_by, answer_of};
+    ghost use Rattle.raft_shared.specs.Words.{answer_of};
 
     /// The reply of a write. It takes no memory.
     pub(crate) fn of_size(alloc: Global, size: &Result<usize, Fault>) -> Reply
@@ -86,23 +76,39 @@ impl Reply {
     /// The reply of a look-up.
     pub(crate) fn of_value(
         alloc: Global,
-        value: &Result<Option<Vec<u8>>, Fault>,
+        value: &Result<Option<SharedBytes>, Fault>,
     ) -> Result<Reply, Fault>
-        ensures ok { IfOk result (λ reply.
-            answer_of reply ≡ Value (answer_by (option_map (λ v. v.items)) value.now)) }
+        ensures ok { IfOk result (λ reply. answer_of reply
+            ≡ Value (answer_by (option_map shared_bytes) value.now)) }
         ensures cause { IfErr result (λ fault. fault ≡ Fault.Memory) }
     {
         Ok(Reply::Value(match value {
-            Ok(Some(value)) => Ok(Some(value.clone()?)),
+            Ok(Some(value)) => Ok(Some(Arc::try_clone(value)?)),
             Ok(None) => Ok(None),
             Err(fault) => Err(without_path(alloc, fault)),
         }))
     }
 }
 
+// A value that was found, to be shared. Without memory for it the value is let go.
+pub(crate) fn shared_value(
+    alloc: Global,
+    value: Result<Option<Vec<u8>>, Fault>,
+) -> Result<Result<Option<SharedBytes>, Fault>, Fault>
+    ensures ok { IfOk result (λ shared. answer_by (option_map shared_bytes) shared
+        ≡ answer_by (option_map (λ v. v.items)) value) }
+    ensures cause { IfErr result (λ fault. fault ≡ Fault.Memory) }
+{
+    Ok(match value {
+        Ok(Some(value)) => Ok(Some(Arc::new(alloc, value)?)),
+        Ok(None) => Ok(None),
+        Err(fault) => Err(fault),
+    })
+}
+
 // The fault, of a file without its path. It takes no memory.
 fn without_path(alloc: Global, fault: &Fault) -> Fault
-    ensures value { reason_of result ≡ reason_of fault.now }
+    ensures value { reason_of result ≡ without_path (reason_of fault.now) }
 {
     match fault {
         Fault::InvalidArgument(text) => Fault::InvalidArgument(text),

@@ -1,10 +1,11 @@
 //! Whether the receipts of seats are the calls of a history, each once.
-ghost use Rattle.std.specs.Prelude.{◌≡◌, ◌↔◌, map, IsTrue};
+ghost use Rattle.std.specs.Prelude.{◌≡◌, ◌↔◌, map, option_map, IsTrue};
+ghost use Rattle.std.specs.Arc.{arc_value};
 ghost use Rattle.raft_shared.specs.Settled.{AreSettled, seats_with};
 ghost use Rattle.raft_shared.specs.Shared.{receipts_of};
-ghost use Rattle.raft_shared.specs.Words.{answer_of, asked_of, calls_of, event_of, reason_of};
+ghost use Rattle.raft_shared.specs.Words.{answer_of, asked_of, calls_of, event_of, reason_of, shared_bytes};
 
-use crate::call::{Call, Receipt, Recorded, Reply};
+use crate::call::{Call, Receipt, Recorded, Reply, SharedBytes};
 use crate::seat::Seat;
 use raft_log_engine::Fault;
 
@@ -60,7 +61,7 @@ fn count_with(seats: &[Seat], number: usize) -> usize
 // Whether a receipt is that of a call at this number.
 fn is_of(receipt: &Receipt, number: usize, recorded: &Recorded) -> bool
     ensures value { IsTrue result ↔ ((receipt.now.number ≡ number)
-        × (asked_of receipt.now.call ≡ asked_of recorded.now.call)
+        × (asked_of (arc_value receipt.now.call) ≡ asked_of (arc_value recorded.now.call))
         × (answer_of receipt.now.reply ≡ answer_of recorded.now.reply)) }
 {
     receipt.number == number
@@ -91,19 +92,31 @@ fn is_same_reply(a: &Reply, b: &Reply) -> bool
         (Reply::Size(Err(fault)), Reply::Size(Err(other))) => is_same_fault(fault, other),
         (Reply::Done(Ok(())), Reply::Done(Ok(()))) => true,
         (Reply::Done(Err(fault)), Reply::Done(Err(other))) => is_same_fault(fault, other),
-        (Reply::Value(Ok(value)), Reply::Value(Ok(other))) => value == other,
+        (Reply::Value(Ok(value)), Reply::Value(Ok(other))) => is_same_value(value, other),
         (Reply::Value(Err(fault)), Reply::Value(Err(other))) => is_same_fault(fault, other),
         (Reply::Index(index), Reply::Index(other)) => index == other,
         _ => false,
     }
 }
 
-// Whether faults are the same, their texts aside.
+fn is_same_value(a: &Option<SharedBytes>, b: &Option<SharedBytes>) -> bool
+    ensures value { IsTrue result ↔ (option_map shared_bytes a.now
+        ≡ option_map shared_bytes b.now) }
+{
+    match (a, b) {
+        (Some(value), Some(other)) => value.as_slice() == other.as_slice(),
+        (None, None) => true,
+        _ => false,
+    }
+}
+
+// Whether faults are the same, but for the text of an argument that was refused.
 fn is_same_fault(a: &Fault, b: &Fault) -> bool
     ensures value { IsTrue result ↔ (reason_of a.now ≡ reason_of b.now) }
 {
     match (a, b) {
-        (Fault::Io(kind, _), Fault::Io(other, _)) => kind == other,
+        (Fault::Io(kind, path), Fault::Io(other, other_path)) => kind == other
+            && path == other_path,
         (Fault::Io(_, _), _) | (_, Fault::Io(_, _)) => false,
         _ => a.code() == b.code(),
     }

@@ -1,0 +1,3 @@
+pub mod ChunkLemmas
+pub mod KnownLemmas
+pub mod ReachLemmas

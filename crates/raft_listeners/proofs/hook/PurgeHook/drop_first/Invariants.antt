@@ -1,0 +1,9 @@
+use Rattle.std.proofs.Common.{◌≡◌, ◌+◌, drop, length}
+use Rattle.raft_listeners.proofs.hook.PurgeHook.drop_first.Given as goal
+
+abbrev pub invariant-loop : goal.invariant-loop
+invariant-loop l = record {
+  dropped : l.self.counts.items ≡ drop l.counter l.fn.self.counts.items;
+  left : length l.self.counts.items + l.counter ≡ length l.fn.self.counts.items;
+  first : l.self.first ≡ l.fn.self.first;
+}
