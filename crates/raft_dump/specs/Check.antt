@@ -78,7 +78,8 @@ RisesAt numbers place = slice_index numbers (suc place) ≡ suc (slice_index num
 pub record AreLastToRise (numbers : List ℕ) (passed : ℕ) : Type 0 where
   pub within : passed ≤ length numbers
   pub rise : (place : ℕ) → passed ≤ place → suc place < length numbers → RisesAt numbers place
-  pub most : (place : ℕ) → passed ≡ suc place → (passed < length numbers) × (RisesAt numbers place → ⊥)
+  pub most : (place : ℕ) → passed ≡ suc place
+      → (passed < length numbers) × (RisesAt numbers place → ⊥)
 
 abbrev pub numbers_of : List FileCheck → List ℕ
 numbers_of checks = map (λ c. c.id.seq) checks

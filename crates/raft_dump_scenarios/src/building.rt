@@ -1,6 +1,6 @@
 //! Writers and readers that are built by a file's path.
 
-use crate::files::{HEADER, PUT, filled};
+use crate::files::{HEADER, PUT, fill};
 use raft_dump::{build_file_reader, build_file_writer};
 use raft_env::FileSystem;
 use raft_files::LogFileFormat;
@@ -18,9 +18,9 @@ static ROWS: [(&str, bool, Result<usize, u8>); 5] = [
     ("a/short", false, Ok(61)),
 ];
 
-fn written(
+fn written<F: FileSystem>(
     alloc: Global,
-    fs: &mut MemoryFileSystem,
+    fs: &mut F,
     path: &str,
     create: bool,
 ) -> Result<usize, u8> {
@@ -31,24 +31,29 @@ fn written(
 }
 
 // How long the file is that a reader then finds.
-fn read_len(alloc: Global, fs: &mut MemoryFileSystem, path: &str) -> Result<usize, u8> {
+fn read_len<F: FileSystem>(alloc: Global, fs: &mut F, path: &str) -> Result<usize, u8> {
     match build_file_reader(alloc, fs, path) {
         Ok(reader) => Ok(reader.file_size()),
         Err(fault) => Err(fault.code()),
     }
 }
 
-fn holds(
+fn holds<F: FileSystem>(
+    fs: &mut F,
     alloc: Global,
     path: &str,
     create: bool,
     offset: Result<usize, u8>,
 ) -> Result<bool, Fault> {
-    let mut fs = filled(alloc, &[("a/found", &[HEADER, PUT]), ("a/short", &[PUT])])?;
-    if written(alloc, &mut fs, path, create) != offset {
+    fill(
+        fs,
+        alloc,
+        &[("a/found", &[HEADER, PUT]), ("a/short", &[PUT])],
+    )?;
+    if written(alloc, fs, path, create) != offset {
         return Ok(false);
     }
-    Ok(match (read_len(alloc, &mut fs, path), offset) {
+    Ok(match (read_len(alloc, fs, path), offset) {
         (Ok(len), Ok(offset)) => offset <= len,
         (Err(code), Err(_)) => code == 3,
         _ => false,
@@ -58,7 +63,11 @@ fn holds(
 #[test]
 fn writers_stand_behind_a_header(rt: HostRuntime) -> Result<(), Fail> {
     for (path, create, offset) in &ROWS {
-        assert!(rt; holds(rt.alloc(), path, *create, *offset)?, "{path}");
+        let mut fs = MemoryFileSystem::new(rt.alloc());
+        assert!(rt;
+            holds(&mut fs, rt.alloc(), path, *create, *offset)?,
+            "{path}"
+        );
     }
     Ok(())
 }

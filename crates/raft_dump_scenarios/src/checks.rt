@@ -1,6 +1,6 @@
 //! What a check tells of a file, and what an opening would do with a queue's files.
 
-use crate::files::{FileParts, HEADER, NOTHING, PUT, PUTS, ZEROS, filled};
+use crate::files::{FileParts, HEADER, NOTHING, PUT, PUTS, ZEROS, fill};
 use raft_config::RecoveryMode;
 use raft_dump::{FileCheck, Planned, check_file, log_files, passed_over, plan_opening};
 use raft_env::FileSystem;
@@ -65,7 +65,7 @@ fn is_found(check: &FileCheck, found: &Found) -> bool {
 }
 
 // Checks of all log files in the folder a.
-fn checks_of(alloc: Global, fs: &mut MemoryFileSystem) -> Result<Vec<FileCheck>, Fault> {
+fn checks_of<F: FileSystem>(alloc: Global, fs: &mut F) -> Result<Vec<FileCheck>, Fault> {
     let names = match fs.list("a") {
         Ok(names) => names,
         Err(fault) => return Err(fault.with_path(alloc, "a")),
@@ -77,9 +77,9 @@ fn checks_of(alloc: Global, fs: &mut MemoryFileSystem) -> Result<Vec<FileCheck>,
     Ok(checks)
 }
 
-fn holds(alloc: Global, case: &Case) -> Result<bool, Fault> {
-    let mut fs = filled(alloc, case.parts)?;
-    match checks_of(alloc, &mut fs)?.as_slice() {
+fn holds<F: FileSystem>(fs: &mut F, alloc: Global, case: &Case) -> Result<bool, Fault> {
+    fill(fs, alloc, case.parts)?;
+    match checks_of(alloc, fs)?.as_slice() {
         [check] => Ok(is_found(check, &case.found)),
         _ => Ok(false),
     }
@@ -88,7 +88,8 @@ fn holds(alloc: Global, case: &Case) -> Result<bool, Fault> {
 #[test]
 fn a_check_tells_what_can_be_read(rt: HostRuntime) -> Result<(), Fail> {
     for (place, case) in CASES.iter().enumerate() {
-        assert!(rt; holds(rt.alloc(), case)?, "case {place}");
+        let mut fs = MemoryFileSystem::new(rt.alloc());
+        assert!(rt; holds(&mut fs, rt.alloc(), case)?, "case {place}");
     }
     Ok(())
 }
@@ -113,9 +114,14 @@ static PLANS: [(RecoveryMode, &[Planned]); 3] = [
     (RecoveryMode::TolerateAnyCorruption, &[CUT, KEEP, CUT]),
 ];
 
-fn is_planned(alloc: Global, mode: RecoveryMode, planned: &[Planned]) -> Result<bool, Fault> {
-    let mut fs = filled(alloc, &QUEUE)?;
-    let checks = checks_of(alloc, &mut fs)?;
+fn is_planned<F: FileSystem>(
+    fs: &mut F,
+    alloc: Global,
+    mode: RecoveryMode,
+    planned: &[Planned],
+) -> Result<bool, Fault> {
+    fill(fs, alloc, &QUEUE)?;
+    let checks = checks_of(alloc, fs)?;
     let passed = passed_over(&checks);
     let Some(kept) = checks.get(passed..) else {
         return Ok(false);
@@ -127,7 +133,11 @@ fn is_planned(alloc: Global, mode: RecoveryMode, planned: &[Planned]) -> Result<
 #[test]
 fn an_opening_cuts_what_its_mode_tolerates(rt: HostRuntime) -> Result<(), Fail> {
     for (place, (mode, planned)) in PLANS.iter().enumerate() {
-        assert!(rt; is_planned(rt.alloc(), *mode, planned)?, "mode {place}");
+        let mut fs = MemoryFileSystem::new(rt.alloc());
+        assert!(rt;
+            is_planned(&mut fs, rt.alloc(), *mode, planned)?,
+            "mode {place}"
+        );
     }
     Ok(())
 }

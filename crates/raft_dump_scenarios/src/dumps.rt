@@ -1,8 +1,9 @@
 //! What dumps of folders and files give.
 
-use crate::files::{FileParts, HEADER, NOTHING, PUT, PUTS, ZEROS, filled};
+use crate::files::{FileParts, HEADER, NOTHING, PUT, PUTS, ZEROS, fill};
 use raft_dump::{LogFile, LogItemReader, RecordPlace, dump_with_file_system, log_files};
 use raft_env::FileSystem;
+use raft_memory::MemoryFileSystem;
 use raft_records::{Fault, LogItem, LogQueue};
 use std::alloc::Global;
 use std::test::Fail;
@@ -147,25 +148,34 @@ fn is_answer(given: Result<LogItem, Fault>, place: Option<RecordPlace>, answer: 
     id.queue == answer.0 && id.seq == answer.1 && offset == answer.2 && told == answer.3
 }
 
-fn holds(alloc: Global, case: &Case) -> Result<bool, Fault> {
-    let mut fs = filled(alloc, case.files)?;
-    let mut items = reader_of(alloc, &mut fs, case.paths)?;
-    for answer in case.answers {
-        let Some(given) = items.next(&mut fs) else {
-            return Ok(false);
+// Whether these answers come, and then no more, also when it is asked for again.
+fn gives<F: FileSystem>(
+    fs: &mut F,
+    items: &mut LogItemReader<F>,
+    answers: &'static [Answer],
+) -> bool {
+    for answer in answers {
+        let Some(given) = items.next(fs) else {
+            return false;
         };
         if !is_answer(given, items.place(), answer) {
-            return Ok(false);
+            return false;
         }
     }
-    // There is no more, also when it is asked for again.
-    Ok(items.next(&mut fs).is_none() && items.next(&mut fs).is_none())
+    items.next(fs).is_none() && items.next(fs).is_none()
+}
+
+fn holds<F: FileSystem>(fs: &mut F, alloc: Global, case: &Case) -> Result<bool, Fault> {
+    fill(fs, alloc, case.files)?;
+    let mut items = reader_of(alloc, fs, case.paths)?;
+    Ok(gives(fs, &mut items, case.answers))
 }
 
 #[test]
 fn files_give_their_items_and_then_an_error(rt: HostRuntime) -> Result<(), Fail> {
     for (place, case) in CASES.iter().enumerate() {
-        assert!(rt; holds(rt.alloc(), case)?, "case {place}");
+        let mut fs = MemoryFileSystem::new(rt.alloc());
+        assert!(rt; holds(&mut fs, rt.alloc(), case)?, "case {place}");
     }
     Ok(())
 }
@@ -178,9 +188,9 @@ static REFUSED: [&str; 4] = [
     "a/0000000000000001.raftlog.reserved",
 ];
 
-fn is_refused(alloc: Global, path: &str) -> Result<bool, Fault> {
-    let mut fs = filled(alloc, &[("a/LOCK", &[])])?;
-    match dump_with_file_system(alloc, path, &mut fs) {
+fn is_refused<F: FileSystem>(fs: &mut F, alloc: Global, path: &str) -> Result<bool, Fault> {
+    fill(fs, alloc, &[("a/LOCK", &[])])?;
+    match dump_with_file_system(alloc, path, fs) {
         Ok(_) => Ok(false),
         Err(fault) => Ok(fault.code() == 1),
     }
@@ -189,7 +199,8 @@ fn is_refused(alloc: Global, path: &str) -> Result<bool, Fault> {
 #[test]
 fn other_paths_are_refused(rt: HostRuntime) -> Result<(), Fail> {
     for path in &REFUSED {
-        assert!(rt; is_refused(rt.alloc(), path)?, "{path}");
+        let mut fs = MemoryFileSystem::new(rt.alloc());
+        assert!(rt; is_refused(&mut fs, rt.alloc(), path)?, "{path}");
     }
     Ok(())
 }

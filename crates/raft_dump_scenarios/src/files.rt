@@ -1,7 +1,6 @@
 //! Files that are put into memory, by their parts.
 
 use raft_env::{FileSystem, FsFault};
-use raft_memory::MemoryFileSystem;
 use raft_records::Fault;
 use std::alloc::Global;
 
@@ -27,19 +26,19 @@ pub(crate) const ZEROS: &[u8] = &[0; 100];
 /// A path, and the parts of the file there.
 pub(crate) type FileParts = (&'static str, &'static [&'static [u8]]);
 
-/// A file system with these files in the folders `a` and `b`.
-pub(crate) fn filled(
+/// Puts these files into the folders `a` and `b`.
+pub(crate) fn fill<F: FileSystem>(
+    fs: &mut F,
     alloc: Global,
     files: &'static [FileParts],
-) -> Result<MemoryFileSystem, Fault> {
-    let mut fs = MemoryFileSystem::new(alloc);
-    match fill(&mut fs, files) {
-        Ok(()) => Ok(fs),
+) -> Result<(), Fault> {
+    match add_files(fs, files) {
+        Ok(()) => Ok(()),
         Err(fault) => Err(fault.with_path(alloc, "")),
     }
 }
 
-fn fill<F: FileSystem>(fs: &mut F, files: &'static [FileParts]) -> Result<(), FsFault> {
+fn add_files<F: FileSystem>(fs: &mut F, files: &'static [FileParts]) -> Result<(), FsFault> {
     fs.make_dir("a")?;
     fs.make_dir("b")?;
     for (path, parts) in files {
