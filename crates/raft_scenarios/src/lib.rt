@@ -30,6 +30,8 @@ mod rows;
 #[cfg(test)]
 mod scans;
 #[cfg(test)]
+mod settings;
+#[cfg(test)]
 mod spilled;
 #[cfg(test)]
 mod stored;

@@ -1,11 +1,14 @@
 -- What the program's openings answer.
 use Rattle.std.proofs.Common.{◌≡◌, ◌∙◌, ℕ, Bool, true, List, [], ◌∷◌, Option, Some, None, Result, Ok, Err, inl, inr, ap, subst, sym}
-use Rattle.std.specs.Prelude.{◌↔◌, IfOk, IsErrAnd, MatchResult}
+use Rattle.std.specs.Prelude.{◌↔◌, IfOk, IsErrAnd, MatchResult, option_map}
+use Rattle.std.specs.String.{string_bytes}
 use Rattle.std.specs.declared.alloc.AllocError.{AllocError}
 use Rattle.std.proofs.lemmas.Bool.{cases_Bool}
 use Rattle.raft_base.specs.declared.errors.Fault.TheVariants as fault
 use Rattle.raft_env.specs.Directory.{CrashImage, Directory, Leaves}
-use Rattle.raft_config.specs.Folders.{Folders}
+use Rattle.raft_config.specs.Config.{IsCopy}
+use Rattle.raft_config.specs.Folders.{Folders, folders_in}
+use Rattle.raft_config.specs.declared.config.Config.{Config}
 use Rattle.raft_env.specs.declared.env.FileSystem.{Ghosts}
 use Rattle.raft_held.specs.Contents.{contents_at, found_contents, found_groups, known_at, known_from}
 use Rattle.raft_held.specs.Crash.{contents_after_crash, known_after_crash}
@@ -16,7 +19,7 @@ use Rattle.raft_log_engine.specs.declared.engine.Refused.{Refused}
 use Rattle.raft_records.specs.Contents.{Contents, after_batches}
 use Rattle.raft_records.specs.Item.{Batch}
 use Rattle.raft_script.specs.Line.{Asked}
-use Rattle.raft_script.specs.Program.{AnswersFrom, AnswersLine, HoldsAfterCrash, IsMetBy, IsNewWith, IsReopened, OpensTo, program_folders}
+use Rattle.raft_script.specs.Program.{AnswersFrom, AnswersLine, HoldsAfterCrash, IsMetBy, IsNewWith, IsReopened, OpensTo}
 use Rattle.raft_script.specs.declared.answer.Answer.{Answer}
 use Rattle.raft_script.specs.declared.answer.Answer.TheVariants as answer
 
@@ -60,15 +63,15 @@ module _ {F H R W : Type 0} {g : Ghosts F H R W} where
   opened_in dir folders n m known (Err r) dir_is contents groups opened = tt
 
   -- an opening of what a crash left
-  pub opens_after_crash : (old e : Engine F H R W g) (dir : Folders) (n m : Directory) (image : CrashImage) → dir ≡ program_folders → n ≡ directory_of old → Leaves n image → contents_at dir m ≡ contents_after_crash dir n image → ((group : ℕ) → known_at dir m group ≡ known_after_crash dir n image group)
-      → IsNewWith dir (contents_at dir m) (known_at dir m) e → HoldsAfterCrash old e
-  opens_after_crash old e dir n m image dir_is n_is leaves contents groups opened = (
+  pub opens_after_crash : (folders : Folders) (old e : Engine F H R W g) (dir : Folders) (n m : Directory) (image : CrashImage) → dir ≡ folders → n ≡ directory_of old → Leaves n image → contents_at dir m ≡ contents_after_crash dir n image → ((group : ℕ) → known_at dir m group ≡ known_after_crash dir n image group)
+      → IsNewWith dir (contents_at dir m) (known_at dir m) e → HoldsAfterCrash folders old e
+  opens_after_crash folders old e dir n m image dir_is n_is leaves contents groups opened = (
     image,
     subst (λ (x : Directory). Leaves x image) n_is leaves,
     record {
       new = subst (λ (p : Folders). IsNewIn p e) dir_is opened.new;
-      contents = opened.contents ∙ contents ∙ ap (λ (p : Folders). contents_after_crash p n image) dir_is ∙ ap (λ (x : Directory). contents_after_crash program_folders x image) n_is;
-      groups = λ group. opened.groups group ∙ groups group ∙ ap (λ (p : Folders). known_after_crash p n image group) dir_is ∙ ap (λ (x : Directory). known_after_crash program_folders x image group) n_is;
+      contents = opened.contents ∙ contents ∙ ap (λ (p : Folders). contents_after_crash p n image) dir_is ∙ ap (λ (x : Directory). contents_after_crash folders x image) n_is;
+      groups = λ group. opened.groups group ∙ groups group ∙ ap (λ (p : Folders). known_after_crash p n image group) dir_is ∙ ap (λ (x : Directory). known_after_crash folders x image group) n_is;
     },
   )
 
@@ -83,6 +86,10 @@ module _ {F H R W : Type 0} {g : Ghosts F H R W} where
   reopened old (Err r) new begins failed = tt
 
   -- a line is answered by the engine that it meets
-  pub line_answered : (asked : Asked) (old new : Option (Engine F H R W g)) (met : Engine F H R W g) (opening : Result (Engine F H R W g) (Refused F)) (result : Result Answer AllocError) → opening ≡ Ok met → IfOk opening (IsMetBy old) → IfOk result (λ a. AnswersFrom asked a met new) → IfOk result (λ a. AnswersLine asked a old new)
-  line_answered asked old new met opening (Ok a) is meets answers = inr (inr (met, subst (λ (x : Result (Engine F H R W g) (Refused F)). IfOk x (IsMetBy old)) is meets, answers))
-  line_answered asked old new met opening (Err e) is meets answers = tt
+  pub line_answered : (set : Option Folders) (folders : Folders) → set ≡ Some folders → (asked : Asked) (old new : Option (Engine F H R W g)) (met : Engine F H R W g) (opening : Result (Engine F H R W g) (Refused F)) (result : Result Answer AllocError) → opening ≡ Ok met → IfOk opening (IsMetBy folders old) → IfOk result (λ a. AnswersFrom folders asked a met new) → IfOk result (λ a. AnswersLine set asked a old new)
+  line_answered set folders set_is asked old new met opening (Ok a) is meets answers = inr (inr (folders, set_is, (met, subst (λ (x : Result (Engine F H R W g) (Refused F)). IfOk x (IsMetBy folders old)) is meets, answers)))
+  line_answered set folders set_is asked old new met opening (Err e) is meets answers = tt
+
+-- a copy of settings names the same folders
+pub copied_folders : (c copy : Config) → IsCopy c copy → folders_in copy ≡ folders_in c
+copied_folders c copy is = ap (λ dir. record { main = dir; spill = option_map string_bytes copy.spill_dir }) is.dir ∙ ap (λ spill. record { main = string_bytes c.dir; spill = spill }) is.spill_dir

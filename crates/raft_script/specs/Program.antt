@@ -1,5 +1,5 @@
 -- What the program answers.
-use Rattle.std.specs.Prelude.{◌≡◌, ◌⊎◌, ℕ, Bool, true, false, List, [], Option, Some, None, Result, Ok, Err, Vec, codes}
+use Rattle.std.specs.Prelude.{◌≡◌, ◌⊎◌, ℕ, Bool, true, false, List, [], Option, Some, None, Result, Ok, Err, Vec}
 use Rattle.std.specs.declared.alloc.Global.{Global}
 use Rattle.raft_base.specs.declared.errors.Fault.{Fault}
 use Rattle.raft_base.specs.declared.errors.Fault.TheVariants as fault
@@ -22,10 +22,6 @@ use Rattle.raft_script.specs.declared.answer.Answer.{Answer}
 use Rattle.raft_script.specs.declared.answer.Answer.TheVariants as answer
 use Rattle.raft_script.specs.declared.operation.Op.{Op}
 use Rattle.raft_script.specs.declared.operation.Outcome.{Outcome}
-
--- the program's folder, and no second one
-abbrev pub program_folders : Folders
-program_folders = record { main = codes "raft"; spill = None }
 
 module _ {F H R W : Type 0} {g : Ghosts F H R W} where
   -- the operation that does what is asked is done, and answered so by the engine
@@ -50,10 +46,11 @@ module _ {F H R W : Type 0} {g : Ghosts F H R W} where
     pub contents : contents_of e ≡ m
     pub groups : (group : ℕ) → is_known_in e group ≡ known group
 
-  -- the engine that a line meets: the one before it, or one that is opened for it and holds nothing
-  abbrev pub IsMetBy : Option (Engine F H R W g) → Engine F H R W g → Type 0
-  IsMetBy None e = IsNewWith program_folders no_contents (known_in []) e
-  IsMetBy (Some before) e = e ≡ before
+  -- the engine that a line meets: the one before it, or one that is opened for it in these folders
+  -- and holds nothing
+  abbrev pub IsMetBy : Folders → Option (Engine F H R W g) → Engine F H R W g → Type 0
+  IsMetBy folders None e = IsNewWith folders no_contents (known_in []) e
+  IsMetBy folders (Some before) e = e ≡ before
 
   -- an engine that stood was closed, and what it held is opened again; no other groups are known
   pub record IsReopened (old new : Engine F H R W g) : Type 0 where
@@ -62,11 +59,11 @@ module _ {F H R W : Type 0} {g : Ghosts F H R W} where
     pub contents : contents_of new ≡ contents_of old
     pub groups : (group : ℕ) → is_known_in new group ≡ true → is_known_in old group ≡ true
 
-  -- a new engine holds what a crash left of another one's files
-  abbrev pub HoldsAfterCrash : Engine F H R W g → Engine F H R W g → Type 0
-  HoldsAfterCrash old new = (image : CrashImage) × Leaves (directory_of old) image
-      × IsNewWith program_folders (contents_after_crash program_folders (directory_of old) image)
-      (known_after_crash program_folders (directory_of old) image) new
+  -- a new engine in these folders holds what a crash left of another one's files there
+  abbrev pub HoldsAfterCrash : Folders → Engine F H R W g → Engine F H R W g → Type 0
+  HoldsAfterCrash folders old new = (image : CrashImage) × Leaves (directory_of old) image
+      × IsNewWith folders (contents_after_crash folders (directory_of old) image)
+      (known_after_crash folders (directory_of old) image) new
 
   -- a group's keys with their values, each once and in order, or why they aren't listed
   abbrev pub IsScanAnswer : Engine F H R W g → ℕ → Result (Vec (Vec ℕ Global × Vec ℕ Global) Global)
@@ -77,17 +74,18 @@ module _ {F H R W : Type 0} {g : Ghosts F H R W} where
       (refusal ≡ fault.Memory) ⊎ ((refusal ≡ fault.Failed) × (has_failed e ≡ true))
 
   -- what a line asks for is answered so by the engine that it meets, and this one is there after it
-  abbrev pub AnswersAsked : Asked → Answer → Engine F H R W g → Engine F H R W g → Type 0
-  AnswersAsked Reopen answer.Done old new = IsReopened old new
-  AnswersAsked (Crash choice) answer.Done old new = HoldsAfterCrash old new
-  AnswersAsked (Range group) (answer.Range range) old new =
+  abbrev pub AnswersAsked : Folders → Asked → Answer → Engine F H R W g → Engine F H R W g → Type 0
+  AnswersAsked folders Reopen answer.Done old new = IsReopened old new
+  AnswersAsked folders (Crash choice) answer.Done old new = HoldsAfterCrash folders old new
+  AnswersAsked folders (Range group) (answer.Range range) old new =
       (new ≡ old) × (has_failed old ≡ false → range ≡ range_of ((contents_of old).entries group))
-  AnswersAsked (Scan group) (answer.Pairs result) old new = (new ≡ old) × IsScanAnswer old group result
-  AnswersAsked (Span queue) (answer.Span span) old new =
+  AnswersAsked folders (Scan group) (answer.Pairs result) old new =
+      (new ≡ old) × IsScanAnswer old group result
+  AnswersAsked folders (Span queue) (answer.Span span) old new =
       (new ≡ old)
       × (has_failed old ≡ false → IsQueueSpan queue (folders_of old) (directory_of old) span)
-  AnswersAsked asked (answer.Outcome outcome) old new = IsAnswered asked outcome old new
-  AnswersAsked asked _ old new = ⊥
+  AnswersAsked folders asked (answer.Outcome outcome) old new = IsAnswered asked outcome old new
+  AnswersAsked folders asked _ old new = ⊥
 
   -- such an engine is there after an opening, or none at all
   abbrev pub OpensTo : Answer → Option (Engine F H R W g) → (Engine F H R W g → Type 0) → Type 0
@@ -96,15 +94,22 @@ module _ {F H R W : Type 0} {g : Ghosts F H R W} where
   OpensTo a new P = ⊥
 
   -- .. or none is there, and the program ends
-  abbrev pub AnswersFrom : Asked → Answer → Engine F H R W g → Option (Engine F H R W g) → Type 0
-  AnswersFrom asked (answer.Fatal fault) met new = Unit {0}
-  AnswersFrom asked a met (Some new) = AnswersAsked asked a met new
-  AnswersFrom asked a met None = ⊥
-
-  -- a line that asks for nothing is passed over; else the engine that the line meets answers it, or
-  -- none could be opened, and the program ends
-  abbrev pub AnswersLine : Asked → Answer → Option (Engine F H R W g) → Option (Engine F H R W g)
+  abbrev pub AnswersFrom : Folders → Asked → Answer → Engine F H R W g → Option (Engine F H R W g)
       → Type 0
-  AnswersLine asked a old new = ((asked ≡ Nothing) × (a ≡ answer.Nothing) × (new ≡ old))
+  AnswersFrom folders asked (answer.Fatal fault) met new = Unit {0}
+  AnswersFrom folders asked a met (Some new) = AnswersAsked folders asked a met new
+  AnswersFrom folders asked a met None = ⊥
+
+  -- a line that asks for nothing is passed over; else the engine that the line meets in the
+  -- settings' folders answers it, or none could be opened, and the program ends
+  abbrev pub AnswersLine : Option Folders → Asked → Answer → Option (Engine F H R W g)
+      → Option (Engine F H R W g) → Type 0
+  AnswersLine set asked a old new = ((asked ≡ Nothing) × (a ≡ answer.Nothing) × (new ≡ old))
       ⊎ ((fault : Fault) × (a ≡ answer.Fatal fault))
-      ⊎ ((met : Engine F H R W g) × IsMetBy old met × AnswersFrom asked a met new)
+      ⊎ ((folders : Folders) × (set ≡ Some folders) × ((met : Engine F H R W g)
+      × IsMetBy folders old met × AnswersFrom folders asked a met new))
+
+-- the program ends with this answer
+abbrev pub is_fatal : Answer → Bool
+is_fatal (answer.Fatal fault) = true
+is_fatal _ = false

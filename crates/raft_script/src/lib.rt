@@ -7,6 +7,7 @@ mod operation;
 mod program;
 mod runs;
 mod scan;
+mod settings;
 mod text_entry;
 mod trials;
 

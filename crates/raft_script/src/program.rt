@@ -1,24 +1,26 @@
 //! The program `raftlog` over any reader and writer.
-ghost use Rattle.std.specs.Prelude.{◌≡◌, false, IfOk, IfSome, List, MatchResult, None, Option, Some, ℕ};
+ghost use Rattle.std.specs.Prelude.{◌≡◌, ◌||◌, false, IfOk, IfSome, MatchResult, None, Some};
 ghost use Rattle.raft_env.specs.Directory.{CrashImage, IsRestarted, Leaves};
 ghost use Rattle.raft_log_engine.specs.Engine.{contents_of, has_failed};
 ghost use Rattle.raft_memory.specs.Memory.{memory_directory};
 ghost use Rattle.raft_held.specs.Contents.{contents_at, known_at};
 ghost use Rattle.raft_config.specs.Folders.{folders_in};
-ghost use Rattle.raft_script.specs.Line.{EndsOn, GoesOnOrEnds, IsNextLine, IsReading, asked_of, asked_of_call};
+ghost use Rattle.raft_script.specs.Line.{EndsOn, GoesOnOrEnds, IsNextLine, asked_of, asked_of_call, is_asked};
 ghost use Rattle.raft_script.specs.Entry.{range_of};
-ghost use Rattle.raft_script.specs.Program.{AnswersFrom, AnswersLine, HoldsAfterCrash, IsAnswered, IsMetBy, IsNewWith, IsReopened, OpensTo, program_folders};
+ghost use Rattle.raft_script.specs.Program.{AnswersFrom, AnswersLine, HoldsAfterCrash, IsAnswered, IsMetBy, IsNewWith, IsReopened, OpensTo, is_fatal};
+ghost use Rattle.raft_script.specs.Settings.{folders_set, were_read};
 
 use crate::answer::{Answer, print};
 use crate::line::{Call, CrashChoice, Line, parse_line};
 use crate::operation::Outcome;
 use crate::runs::step;
 use crate::scan::pairs_of;
+use crate::settings::{Settings, text_set};
 use raft_env::FileSystem;
 use raft_log_engine::laws::crash_leaves_contents;
 use raft_log_engine::{Config, Engine, Refused};
 use raft_memory::{Choice, MemoryFileSystem};
-use raft_records::{Fault, Fresh, ReadableSize};
+use raft_records::Fault;
 use std::alloc::{AllocError, Global};
 use std::io;
 use std::io::{BufRead, BufReader, BufWriter, Read, Write};
@@ -42,8 +44,6 @@ type MemoryEngine = Engine<MemoryFileSystem>;
 
 type Opening = Result<MemoryEngine, Refused<MemoryFileSystem>>;
 
-const FOLDER: &str = "raft";
-
 /// Reads lines, does what each asks for over files in memory, and writes the answers.
 /// docs/ARCHITECTURE.md has the lines and their answers.
 pub fn serve<R: Read + Drop, W: Write + Drop>(alloc: Global, reader: R, writer: W) -> Ended
@@ -65,37 +65,45 @@ pub fn serve<R: Read + Drop, W: Write + Drop>(alloc: Global, reader: R, writer: 
 fn serve_lines<R: BufRead, W: Write>(alloc: Global, input: &mut R, output: &mut W) -> Ended
     ensures lines { IfSome (R.Read.remaining input.old) (λ text. EndsOn text result) }
 {
+    let mut settings = Settings::new(alloc);
     let mut engine = None;
     let mut text = Vec::new(alloc);
     for number in 1..u64::MAX {
-        if let Some(ended) = serve_line(alloc, &mut engine, number, &mut text, input, output) {
+        match read_line(input, &mut text) {
+            Ok(true) => {}
+            Ok(false) => return Ended::Done,
+            Err(_) => return Ended::Input,
+        }
+        if let Some(ended) = serve_line(alloc, &mut settings, &mut engine, number, &text, output) {
             return ended;
         }
     }
     Ended::Input
 }
 
-// The next line, which has this number, and how the program ended if it ends there. The text is the line's, used again.
-fn serve_line<R: BufRead, W: Write>(
+// A line, which has this number, and how the program ended if it ends there.
+fn serve_line<W: Write>(
     alloc: Global,
+    settings: &mut Settings,
     engine: &mut Option<MemoryEngine>,
     number: u64,
-    text: &mut Vec<u8>,
-    input: &mut R,
+    text: &[u8],
     output: &mut W,
 ) -> Option<Ended>
-    ensures lines { (known : Option (List ℕ)) → IsReading known (R.Read.remaining input.old) number
-        → GoesOnOrEnds known (R.Read.remaining input.new) number result }
+    ensures lines { GoesOnOrEnds text.now number (were_read settings.old)
+        (were_read settings.new) result }
 {
-    match read_line(input, text) {
-        Ok(true) => {}
-        Ok(false) => return Some(Ended::Done),
-        Err(_) => return Some(Ended::Input),
+    if let Some(set) = text_set(text) {
+        return match settings.add(set) {
+            Ok(true) => None,
+            Ok(false) => Some(Ended::BadLine(number)),
+            Err(_) => Some(Ended::Input),
+        };
     }
     let Some(line) = parse_line(text) else {
         return Some(Ended::BadLine(number));
     };
-    let Ok(answer) = answer_line(alloc, engine, &line) else {
+    let Ok(answer) = answer_line(alloc, settings, engine, &line) else {
         return Some(Ended::Input);
     };
     if print(output, &answer).is_err() {
@@ -122,47 +130,64 @@ fn read_line<R: BufRead>(input: &mut R, line: &mut Vec<u8>) -> io::Result<bool>
     Ok(true)
 }
 
-// The engine is opened at the first line that asks for something.
+// The settings are read and the engine is opened at the first line that asks for something.
 fn answer_line(
     alloc: Global,
+    settings: &mut Settings,
     engine: &mut Option<MemoryEngine>,
     line: &Line<'_>,
 ) -> Result<Answer, AllocError>
-    ensures value { IfOk result (λ answer.
-        AnswersLine (asked_of line.now) answer engine.old engine.new) }
+    ensures value { IfOk result (λ answer. AnswersLine (folders_set settings.new)
+        (asked_of line.now) answer engine.old engine.new) }
+    ensures read { IfOk result (λ answer. is_fatal answer ≡ false → were_read settings.new
+        ≡ (were_read settings.old || is_asked (Some (asked_of line.now)))) }
 {
     if let Line::Nothing = line {
         return Ok(Answer::Nothing);
     }
-    match take_or_open(alloc, engine)? {
-        Ok(opened) => answer_asked(alloc, engine, opened, line),
+    match settings.read(alloc) {
+        Ok(()) => {}
+        Err(Fault::Memory) => return Err(AllocError),
+        Err(fault) => return Ok(Answer::Fatal(fault)),
+    }
+    let Some(config) = settings.config() else {
+        unreachable!()
+    };
+    match take_or_open(alloc, config, engine)? {
+        Ok(opened) => answer_asked(alloc, config, engine, opened, line),
         Err(refused) => Ok(Answer::Fatal(refused.fault)),
     }
 }
 
-fn take_or_open(alloc: Global, engine: &mut Option<MemoryEngine>) -> Result<Opening, AllocError>
-    ensures value { IfOk result (λ opening. IfOk opening (IsMetBy engine.old)) }
+fn take_or_open(
+    alloc: Global,
+    config: &Config,
+    engine: &mut Option<MemoryEngine>,
+) -> Result<Opening, AllocError>
+    ensures value { IfOk result (λ opening.
+        IfOk opening (IsMetBy (folders_in config.now) engine.old)) }
 {
     match engine.take() {
         Some(opened) => Ok(Ok(opened)),
-        None => open(alloc),
+        None => open(alloc, config),
     }
 }
 
 // What the line asks for, of the engine that it meets.
 fn answer_asked(
     alloc: Global,
+    config: &Config,
     engine: &mut Option<MemoryEngine>,
     opened: MemoryEngine,
     line: &Line<'_>,
 ) -> Result<Answer, AllocError>
     requires { line.now ≡ Line.Nothing → ⊥ }
     ensures value { IfOk result (λ answer.
-        AnswersFrom (asked_of line.now) answer opened engine.new) }
+        AnswersFrom (folders_in config.now) (asked_of line.now) answer opened engine.new) }
 {
     match line {
         Line::Reopen => Ok(reopen(engine, opened)),
-        Line::Crash(choice) => crash(alloc, engine, opened, choice),
+        Line::Crash(choice) => crash(alloc, config, engine, opened, choice),
         Line::Call(call) => {
             let mut opened = opened;
             let outcome = answer_call(alloc, &mut opened, call)?;
@@ -198,36 +223,37 @@ fn range_of<F: FileSystem>(engine: &Engine<F>, group: u64) -> Option<(u64, u64)>
     Some((first, last))
 }
 
-fn settings(alloc: Global) -> Result<Config, AllocError>
-    ensures folder { IfOk result (λ config. folders_in config ≡ program_folders) }
+fn open(alloc: Global, config: &Config) -> Result<Opening, AllocError>
+    ensures value { IfOk result (λ opening. IfOk opening (IsMetBy (folders_in config.now) None)) }
 {
-    let mut config = Config::fresh(alloc);
-    config.dir.push_str(FOLDER)?;
-    config.target_file_size = ReadableSize::kb(1);
-    config.purge_threshold = ReadableSize::kb(10);
-    Ok(config)
+    let config = copied(config)?;
+    Ok(Engine::open_in_order(alloc, config, MemoryFileSystem::new(alloc)))
 }
 
-fn open(alloc: Global) -> Result<Opening, AllocError>
-    ensures value { IfOk result (λ opening. IfOk opening (IsMetBy None)) }
+fn copied(config: &Config) -> Result<Config, AllocError>
+    ensures folders { IfOk result (λ copy. folders_in copy ≡ folders_in config.now) }
 {
-    let config = settings(alloc)?;
-    Ok(Engine::open_in_order(alloc, config, MemoryFileSystem::new(alloc)))
+    match config.clone() {
+        Ok(copy) => Ok(copy),
+        Err(_) => Err(AllocError),
+    }
 }
 
 // The engine goes as it is, and its files as the crash leaves them are opened again.
 fn crash(
     alloc: Global,
+    config: &Config,
     engine: &mut Option<MemoryEngine>,
     opened: MemoryEngine,
     left: &CrashChoice,
 ) -> Result<Answer, AllocError>
-    ensures value { IfOk result (λ answer. OpensTo answer engine.new (HoldsAfterCrash opened)) }
+    ensures value { IfOk result (λ answer.
+        OpensTo answer engine.new (HoldsAfterCrash (folders_in config.now) opened)) }
 {
     crash_leaves_contents();
-    let config = settings(alloc)?;
-    match crashed(alloc, opened.give_up(), left) {
-        Ok(files) => Ok(open_again(alloc, engine, config, files)),
+    let again = copied(config)?;
+    match crashed(alloc, config, opened.give_up(), left) {
+        Ok(files) => Ok(open_again(alloc, engine, again, files)),
         Err(fault) => Ok(Answer::Fatal(fault)),
     }
 }
@@ -269,6 +295,7 @@ fn answer_opening<F: FileSystem + Drop>(
 // What a crash leaves where it does the same to every file.
 fn crashed(
     alloc: Global,
+    config: &Config,
     mut files: MemoryFileSystem,
     left: &CrashChoice,
 ) -> Result<MemoryFileSystem, Fault>
@@ -276,7 +303,7 @@ fn crashed(
         × Leaves (memory_directory files) image
         × IsRestarted (memory_directory files) image (memory_directory again)) }
 {
-    let count = count_files(alloc, &mut files)?;
+    let count = count_files(alloc, config, &mut files)?;
     let mut choices = Vec::with_capacity(alloc, count)?;
     for _ in 0..count {
         choices.push(choice_of(left))?;
@@ -284,12 +311,27 @@ fn crashed(
     files.crash(&choices)
 }
 
-fn count_files<F: FileSystem>(alloc: Global, files: &mut F) -> Result<usize, Fault>
+// How many files stand in the folders of the settings.
+fn count_files<F: FileSystem>(
+    alloc: Global,
+    config: &Config,
+    files: &mut F,
+) -> Result<usize, Fault>
     ensures unchanged { F.directory files.new ≡ F.directory files.old }
 {
-    match files.list(FOLDER) {
+    let count = count_in(alloc, config.dir.as_str(), files)?;
+    match &config.spill_dir {
+        Some(spill) => Ok(count.saturating_add(count_in(alloc, spill.as_str(), files)?)),
+        None => Ok(count),
+    }
+}
+
+fn count_in<F: FileSystem>(alloc: Global, folder: &str, files: &mut F) -> Result<usize, Fault>
+    ensures unchanged { F.directory files.new ≡ F.directory files.old }
+{
+    match files.list(folder) {
         Ok(names) => Ok(names.len()),
-        Err(fault) => Err(fault.with_path(alloc, FOLDER)),
+        Err(fault) => Err(fault.with_path(alloc, folder)),
     }
 }
 

@@ -22,8 +22,9 @@ open_again-requires-sync-F c = λ κs. search (sendable, memory_sync) depth 20
 pub returns-in-Ok : goal.returns-in-Ok
 returns-in-Ok c =
     let old = c.args.opened in
-    let dir = folders_in c.in_ok-config.config in
+    let folders = folders_in c.args.config.now in
+    let dir = folders_in c.in_ok-again.again in
     let n = memory_directory c.give_up.result in
     let m = memory_directory c.in-Ok.files in
     let left = c.in-Ok.ensures.value in
-    record { value = opens_weaker (IsNewWith dir (contents_at dir m) (known_at dir m)) (HoldsAfterCrash old) (λ e is. opens_after_crash old e dir n m left.0 c.in_ok-config.ensures.folder c.give_up.ensures.unchanged.0 left.1 (c.crash_leaves_contents.ensures.found dir n m left.0 left.2) (c.crash_leaves_contents.ensures.known dir n m left.0 left.2) is) c.open_again.result c.open_again.new.engine c.open_again.ensures.value }
+    record { value = opens_weaker (IsNewWith dir (contents_at dir m) (known_at dir m)) (HoldsAfterCrash folders old) (λ e is. opens_after_crash folders old e dir n m left.0 c.in_ok-again.ensures.folders c.give_up.ensures.unchanged.0 left.1 (c.crash_leaves_contents.ensures.found dir n m left.0 left.2) (c.crash_leaves_contents.ensures.known dir n m left.0 left.2) is) c.open_again.result c.open_again.new.engine c.open_again.ensures.value }

@@ -12,7 +12,6 @@ use Rattle.raft_recovery.proofs.ContentsLemmas.{recovered-nothing_rewritten}
 use Rattle.raft_log_engine.proofs.CrashLemmas.{same_groups, same_queues}
 use Rattle.raft_script.proofs.ProgramLemmas.{opened_in, opened_with}
 use Rattle.raft_script.proofs.TrialLemmas.{none_readable}
-use Rattle.raft_script.specs.Program.{program_folders}
 use Rattle.raft_script.proofs.program.open.Goals as goal
 
 pub open_in_order-requires-send-F : goal.open_in_order-requires-send-F
@@ -27,6 +26,6 @@ returns c =
     let files = memory_directory c.new.result in
     let none : (queue : LogQueue) → readable_queue queue dir files ≡ [] = λ queue. none_readable queue dir files c.new.ensures.value in
     record {
-      value = opened_in dir program_folders files no_contents (known_in []) c.open_in_order.result c.in_ok-config.ensures.folder (same_queues dir files [] [] (none Rewrite) (none Append) ∙ recovered-nothing_rewritten []) (same_groups dir files [] [] (none Rewrite) (none Append))
+      value = opened_in dir (folders_in c.args.config.now) files no_contents (known_in []) c.open_in_order.result c.in_ok-config.ensures.folders (same_queues dir files [] [] (none Rewrite) (none Append) ∙ recovered-nothing_rewritten []) (same_groups dir files [] [] (none Rewrite) (none Append))
           (opened_with dir files c.open_in_order.result c.open_in_order.ensures.ok c.open_in_order.ensures.value);
     }

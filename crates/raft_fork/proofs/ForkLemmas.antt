@@ -1,0 +1,66 @@
+-- A fork, by its parts.
+use Rattle.std.proofs.Common.{◌≡◌, ◌∙◌, List, [], ◌∷◌, ap, sym, subst, inl, inr}
+use Rattle.std.specs.Prelude.{Contains}
+use Rattle.raft_base.specs.declared.pipe_log.LogQueue.{LogQueue}
+use Rattle.raft_env.specs.Directory.{Directory, Path}
+use Rattle.raft_env.specs.Moments.{HoldsThroughout}
+use Rattle.raft_env.proofs.MomentsLemmas.{passes_then, passes_weaker}
+use Rattle.raft_files.specs.Writer.{bytes_of}
+use Rattle.raft_config.specs.Folders.{Folders}
+use Rattle.raft_pipes.specs.Files.{IsDurable, LeavesAllBut}
+use Rattle.raft_pipes.specs.Queue.{LeavesAll}
+use Rattle.raft_pipes.specs.Numbered.{AreSingle}
+use Rattle.raft_fork.specs.Fork.{AreBeingCopied, AreCopied, CanBeCopied, HasMadeFolder, HasNoLogIn, IsForkOf, IsForking, IsFree, Source, all_sources_in, copies_in, copy_in, sources_of, standing}
+use Rattle.raft_fork.proofs.FoldersLemmas.{folder_then}
+use Rattle.raft_fork.proofs.PlacesLemmas.{can_be_copied, single_same, sources_same}
+
+module _ (folders : Folders) (target : Path) (old mid : Directory) (same : LeavesAll old mid) (there : List Path) (stand : there ≡ standing folders old) (files : List Source) (are : files ≡ all_sources_in there mid) where
+  files_before : files ≡ sources_of folders old
+  files_before = are ∙ sources_same there old mid same ∙ ap (λ t. all_sources_in t old) stand
+
+  still_free : IsFree target old → HasNoLogIn target mid
+  still_free free = λ path log. same path ∙ free.logs path log
+
+  pub ready : IsFree target old → ((queue : LogQueue) → AreSingle there queue mid) → CanBeCopied target files mid
+  ready free single = subst (λ fs. CanBeCopied target fs mid) (sym are) (can_be_copied target there mid (still_free free) single)
+
+  copied_from : (n : Directory) (fs : List Source) → AreCopied target fs mid n → AreCopied target fs old n
+  copied_from n [] copied = tt
+  copied_from n (f ∷ fs) copied = (subst (λ bytes. IsDurable (copy_in target f) bytes n) (ap bytes_of (same f.1)) copied.0, copied_from n fs copied.1)
+
+  others_before : (n : Directory) → LeavesAllBut (copies_in target files) mid n → LeavesAllBut (copies_in target (sources_of folders old)) old n
+  others_before n others = λ q out. others q (λ among. out (subst (λ fs. Contains (copies_in target fs) q) files_before among)) ∙ same q
+
+  single_before : ((queue : LogQueue) → AreSingle there queue mid) → (queue : LogQueue) → AreSingle (standing folders old) queue old
+  single_before single queue = subst (λ t. AreSingle t queue old) stand (single_same there queue old mid same (single queue))
+
+  pub is_fork : (n : Directory) → IsFree target old → HasMadeFolder target old mid → n.is_folder ≡ mid.is_folder → ((queue : LogQueue) → AreSingle there queue mid) → AreCopied target files mid n → LeavesAllBut (copies_in target files) mid n → IsForkOf folders target old n
+  is_fork n free made kept single copied others = record {
+    free = free;
+    single = single_before single;
+    copied = subst (λ fs. AreCopied target fs old n) files_before (copied_from n files copied);
+    others = others_before n others;
+    folder = folder_then target old mid n made kept;
+  }
+
+  pub copies_before : copies_in target files ≡ copies_in target (sources_of folders old)
+  copies_before = ap (copies_in target) files_before
+
+  being_before : (n : Directory) → AreBeingCopied target files mid n → AreBeingCopied target (sources_of folders old) old n
+  being_before n being = record {
+    done = being.done;
+    rest = being.rest;
+    is = sym files_before ∙ being.is;
+    copied = copied_from n being.done being.copied;
+    others = λ q out. being.others q out ∙ same q;
+  }
+
+  pub moments_before : (n : Directory) (first between last : List Directory) → IsFree target old → ((queue : LogQueue) → AreSingle there queue mid) → HoldsThroughout first between mid (LeavesAll old) → HoldsThroughout between last n (AreBeingCopied target files mid) → HoldsThroughout first last n (IsForking folders target old)
+  moments_before n first between last free single made copied =
+      passes_then (IsForking folders target old) first between last mid n
+      (passes_weaker (LeavesAll old) (IsForking folders target old) first between mid (λ m all. inl all) made)
+      (passes_weaker (AreBeingCopied target files mid) (IsForking folders target old) between last n (λ m being. inr (record { free = free; single = single_before single; files = being_before m being })) copied)
+
+-- where nothing is copied yet
+pub nothing_copied : (folders : Folders) (target : Path) (old now : Directory) (first last : List Directory) → HoldsThroughout first last now (LeavesAll old) → HoldsThroughout first last now (IsForking folders target old)
+nothing_copied folders target old now first last made = passes_weaker (LeavesAll old) (IsForking folders target old) first last now (λ m all. inl all) made

@@ -1,0 +1,19 @@
+use Rattle.std.proofs.Common.{◌≡◌, [], ◌∷◌, Ok, Err, OnOk, subst}
+use Rattle.std.specs.Prelude.{Result}
+use Rattle.raft_base.specs.declared.pipe_log.LogQueue.TheVariants.{Rewrite}
+use Rattle.raft_pipes.specs.Numbered.{kept_files}
+use Rattle.raft_fork.proofs.RefusedLemmas.{is_free}
+use Rattle.raft_fork.proofs.forking.make_target.Goals as goal
+
+on_ok : {T E : Type 0} (P Q : Type 0) (r : Result T E) → (P → Q) → OnOk r P → OnOk r Q
+on_ok P Q (Ok x) weaker holds = weaker holds
+on_ok P Q (Err e) weaker holds = tt
+
+pub returns-clause-ok : goal.returns-clause-ok
+returns-clause-ok g c =
+    let target = c.args.target.now in
+    let n = g.F.FileSystem.directory c.args.file_system.now in
+    let mid = g.F.FileSystem.directory c.make_folder.new.file_system in
+    on_ok _ _ c.refuse_logs-2.result
+    (λ none. is_free target n mid c.make_folder.ensures.others c.in_ok-make_folder.ensures.ok c.in_ok-refuse_logs.ensures.none (subst (λ m. kept_files (target ∷ []) Rewrite m ≡ []) c.in_ok-refuse_logs.ensures.unchanged.0 none))
+    c.refuse_logs-2.ensures.none
