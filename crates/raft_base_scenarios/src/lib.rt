@@ -10,6 +10,8 @@ mod changes;
 #[cfg(test)]
 mod counts;
 #[cfg(test)]
+mod faults;
+#[cfg(test)]
 mod names;
 #[cfg(test)]
 mod numbers;

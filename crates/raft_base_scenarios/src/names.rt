@@ -68,12 +68,18 @@ fn names_are_parsed(rt: HostRuntime) -> Result<(), Fail> {
 /// A file's number, its name, its path in the folder `data`, and its name as a reserved file.
 struct Built(u64, &'static str, &'static str, &'static str);
 
-static BUILT: [Built; 2] = [
+static BUILT: [Built; 3] = [
     Built(
         7,
         "0000000000000007.raftlog",
         "data/0000000000000007.raftlog",
         "0000000000000007.raftlog.reserved",
+    ),
+    Built(
+        123,
+        "0000000000000123.raftlog",
+        "data/0000000000000123.raftlog",
+        "0000000000000123.raftlog.reserved",
     ),
     Built(
         10_000_000_000_000_000,
@@ -108,8 +114,8 @@ fn names_are_built(rt: HostRuntime) -> Result<(), Fail> {
 
 const MAGIC: &[u8] = b"RAFT-LOG-FILE-HEADER-9986AB3E47F320B394C8E84916EB0ED5";
 
-/// A version and an alignment, how long a header of the version is, and what stands after its fixed bytes, if the two
-/// have a header.
+/// A version and an alignment, how long a header of the version is, and what stands after its fixed bytes; or none, and
+/// writing it is refused as an invalid argument.
 struct Header(Version, u64, usize, Option<&'static [u8]>);
 
 static HEADERS: [Header; 3] = [
@@ -147,7 +153,10 @@ impl Row for Header {
         let format = LogFileFormat::new(*version, *alignment);
         match numbers {
             Some(numbers) => has_header(alloc, format, numbers),
-            None => Ok(format.encode(&mut Vec::new(alloc)).is_err()),
+            None => match format.encode(&mut Vec::new(alloc)) {
+                Ok(()) => Ok(false),
+                Err(fault) => Ok(fault.code() == 1),
+            },
         }
     }
 }

@@ -1,5 +1,5 @@
 -- What can be read of a fork.
-use Rattle.std.proofs.Common.{◌≡◌, ◌⊎◌, ◌∙◌, ℕ, suc, ◌+◌, ◌<◌, ◌≤◌, List, [], ◌∷◌, ◌++◌, length, map, None, is_some, IsSome, refl, ap, sym, subst, inl, inr, arith, true, false}
+use Rattle.std.proofs.Common.{◌≡◌, ◌⊎◌, ◌∙◌, ℕ, zero, suc, ◌+◌, ◌<◌, ◌≤◌, List, [], ◌∷◌, ◌++◌, length, map, None, is_some, IsSome, refl, ap, sym, subst, inl, inr, arith, Bool, true, false, cond}
 use Rattle.std.specs.Prelude.{Contains}
 use Rattle.std.specs.List.{filter}
 use Rattle.std.proofs.lemmas.List.{map-append, length-map}
@@ -14,15 +14,15 @@ use Rattle.raft_recovery.specs.Recovered.{recovered}
 use Rattle.raft_held.specs.Contents.{contents_at, known_at, recovered_groups}
 use Rattle.raft_pipes.specs.Files.{IsDurable}
 use Rattle.raft_pipes.specs.Folder.{AreClear, readable_of, readable_queue}
-use Rattle.raft_pipes.specs.Numbered.{AreNumbered, AreSingle, IsRun, StandAlone, end_of_numbers, has_file, in_queue, kept_files, path_of, paths_of}
+use Rattle.raft_pipes.specs.Numbered.{AreNumbered, AreSingle, IsRun, StandAlone, end_of_numbers, found_or, has_file, in_queue, joined, kept_files, last_run, path_of, paths_of, run_below}
 use Rattle.raft_pipes.proofs.FolderLemmas.{folder_apart}
 use Rattle.raft_pipes.proofs.NamesInLemmas.{has_cases, has_later}
-use Rattle.raft_pipes.proofs.NumberedLemmas.{kept-numbered}
+use Rattle.raft_pipes.proofs.NumberedLemmas.{kept-numbered, last_run-suc, last_run-zero, run_below-suc, run_below-zero}
 use Rattle.raft_pipes.proofs.PlacesLemmas.{here_first}
 use Rattle.raft_pipes.proofs.QueueFilesLemmas.{all_back, all_front}
 use Rattle.raft_pipes.proofs.SingleLemmas.{run_alone, single_numbered}
 use Rattle.raft_pipes.proofs.TakenLemmas.{one_free}
-use Rattle.raft_fork.specs.Fork.{AreCopied, IsForkOf, Source, copies_in, copy_in, sources_in, sources_of, standing}
+use Rattle.raft_fork.specs.Fork.{AreCopied, AreThereOrEmpty, IsForkOf, IsThereOrEmpty, Source, copies_in, copy_in, sources_in, sources_of, standing}
 use Rattle.raft_fork.proofs.PlacesLemmas.{IsBeside, append_not_rewrite, none_beside, numbered, rewrite_not_append}
 
 -- a copy has the path of a log file
@@ -37,6 +37,39 @@ pub fork_clear : (source : Folders) (target : Path) (n m : Directory) → IsFork
 fork_clear source target n m fork =
     let same : file_at m target ≡ file_at n target = fork.others target (λ among. (let at = copy_named target (sources_of source n) target among in folder_apart target at.0.0 at.1)) in
     one_free (record { main = target; spill = None }) m refl (λ stands. fork.free.folder (subst (λ o. IsSome o) same stands))
+
+-- Folders that aren't there.
+
+-- where the same numbers have files, the same files are kept
+module _ (here there : ℕ → List Path) where
+  run_alike : (top : ℕ) → ((k : ℕ) → k < top → there k ≡ here k) → run_below there top ≡ run_below here top
+  run_alike zero same = run_below-zero there ∙ sym (run_below-zero here)
+  run_alike (suc top) same =
+      run_below-suc there top ∙ ap (λ found. joined top found (run_below there top)) (same top (omega arith))
+      ∙ ap (joined top (here top)) (run_alike top (λ k low. same k (omega arith))) ∙ sym (run_below-suc here top)
+
+  last_alike : (top : ℕ) → ((k : ℕ) → k < top → there k ≡ here k) → last_run there top ≡ last_run here top
+  last_alike zero same = last_run-zero there ∙ sym (last_run-zero here)
+  last_alike (suc top) same =
+      last_run-suc there top ∙ ap (λ files. found_or files (last_run there top)) (run_alike (suc top) same)
+      ∙ ap (found_or (run_below here (suc top))) (last_alike top (λ k low. same k (omega arith))) ∙ sym (last_run-suc here top)
+
+-- no path is lost with the folders that aren't there
+module _ (queue : LogQueue) (n : Directory) (k : ℕ) (short : k < end_of_numbers) where
+  none_away : (f : Path) → n.is_folder f ≡ false → IsThereOrEmpty f n → has_file n (path_of f (in_queue queue k)) ≡ false
+  none_away f away (inl there) = absurd (let clash : true ≡ false = sym there ∙ away in cc)
+  none_away f away (inr none) = ap is_some (none (path_of f (in_queue queue k)) (in_queue queue k, short, refl))
+
+  paths_there : (folders : List Path) → ((folder : Path) → Contains folders folder → IsThereOrEmpty folder n) → paths_of (filter n.is_folder folders) queue n k ≡ paths_of folders queue n k
+  paths_there [] stand = refl
+  paths_there (f ∷ folders) stand = by_test (n.is_folder f) refl (paths_there folders (λ g among. stand g (has_later f g folders among)))
+    where
+      by_test : (b : Bool) → n.is_folder f ≡ b → paths_of (filter n.is_folder folders) queue n k ≡ paths_of folders queue n k
+          → paths_of (cond b (f ∷ filter n.is_folder folders) (filter n.is_folder folders)) queue n k ≡ paths_of (f ∷ folders) queue n k
+      by_test true there rest = ap (λ (r : List Path). cond (has_file n (path_of f (in_queue queue k))) (path_of f (in_queue queue k) ∷ r) r) rest
+      by_test false away rest = rest ∙ sym (ap (λ (h : Bool). cond h (path_of f (in_queue queue k) ∷ paths_of folders queue n k) (paths_of folders queue n k)) (none_away f away (stand f (here_first f folders))))
+
+-- Copies.
 
 abbrev to_copy : Path → LogQueue → ℕ × Path → ℕ × Path
 to_copy target queue f = (f.0, path_of target (in_queue queue f.0))
@@ -118,16 +151,15 @@ module _ (source : Folders) (target : Path) (n m : Directory) (fork : IsForkOf s
   pub fork_single : (queue : LogQueue) → AreSingle (target ∷ []) queue m
   fork_single queue = subst (StandAlone (paths_of (target ∷ []) queue m)) (sym (kept_of_fork queue)) (run_alone (paths_of (target ∷ []) queue m) (numbers queue).0 (map (to_copy target queue) (kept_files (standing source n) queue n)) (fork_numbered queue).run)
 
-  all_stand : (folders : List Path) → ((folder : Path) → Contains folders folder → n.is_folder folder ≡ true) → filter n.is_folder folders ≡ folders
-  all_stand [] stand = refl
-  all_stand (f ∷ folders) stand = rw (stand f (here_first f folders)) (ap (λ rest. f ∷ rest) (all_stand folders (λ g among. stand g (has_later f g folders among))))
+  kept_there : AreThereOrEmpty source n → (queue : LogQueue) → kept_files (standing source n) queue n ≡ kept_files (all_of source) queue n
+  kept_there stand queue = last_alike (paths_of (all_of source) queue n) (paths_of (standing source n) queue n) end_of_numbers (λ k short. paths_there queue n k short (all_of source) stand)
 
-  pub fork_reads : ((folder : Path) → Contains (all_of source) folder → n.is_folder folder ≡ true) → (queue : LogQueue) → readable_queue queue (record { main = target; spill = None }) m ≡ readable_queue queue source n
+  pub fork_reads : AreThereOrEmpty source n → (queue : LogQueue) → readable_queue queue (record { main = target; spill = None }) m ≡ readable_queue queue source n
   fork_reads stand queue =
       ap (readable_of queue m) (kept_of_fork queue) ∙ reads_copied target queue n m (kept_files (standing source n) queue n) (copied_of queue)
-      ∙ ap (λ folders. readable_of queue n (kept_files folders queue n)) (all_stand (all_of source) stand)
+      ∙ ap (readable_of queue n) (kept_there stand queue)
 
-  module _ (stand : (folder : Path) → Contains (all_of source) folder → n.is_folder folder ≡ true) where
+  module _ (stand : AreThereOrEmpty source n) where
     pub fork_contents : contents_at (record { main = target; spill = None }) m ≡ contents_at source n
     fork_contents =
         ap (λ rewrite. recovered rewrite (readable_queue Append (record { main = target; spill = None }) m)) (fork_reads stand Rewrite)

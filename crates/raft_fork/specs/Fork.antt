@@ -1,5 +1,5 @@
 -- What a fork of log files is.
-use Rattle.std.specs.Prelude.{◌≡◌, ◌⊎◌, ◌++◌, ◌||◌, true, List, [], Option, Some, None, map, take}
+use Rattle.std.specs.Prelude.{◌≡◌, ◌⊎◌, ◌++◌, ◌||◌, true, Contains, List, [], Option, Some, None, map, take}
 use Rattle.std.specs.List.{AllByRecursion, filter}
 use Rattle.std.specs.String.{string_bytes}
 use Rattle.raft_base.specs.declared.pipe_log.FileId.{FileId}
@@ -12,6 +12,7 @@ use Rattle.raft_pipes.specs.Files.{IsDurable, LeavesAllBut}
 use Rattle.raft_pipes.specs.Folder.{IsLogPathIn}
 use Rattle.raft_pipes.specs.Numbered.{AreDistinct, AreSingle, in_queue, kept_files, path_of}
 use Rattle.raft_pipes.specs.Queue.{LeavesAll}
+use Rattle.raft_fork.specs.declared.forking.CopyDetails.{CopyDetails}
 use Rattle.raft_fork.specs.declared.source.SourceFile.{SourceFile}
 
 -- a source file: what it is called by, and where it stands
@@ -57,6 +58,15 @@ AreCopied target files old new =
 abbrev pub HasNoLogIn : Path → Directory → Type 0
 HasNoLogIn folder n = (path : Path) → IsLogPathIn folder path → file_at n path ≡ None
 
+-- a folder that isn't there holds no log file
+abbrev pub IsThereOrEmpty : Path → Directory → Type 0
+IsThereOrEmpty folder n = (n.is_folder folder ≡ true) ⊎ HasNoLogIn folder n
+
+-- .. each of these
+abbrev pub AreThereOrEmpty : Folders → Directory → Type 0
+AreThereOrEmpty folders n =
+    (folder : Path) → Contains (all_of folders) folder → IsThereOrEmpty folder n
+
 -- no file stands in the target's place, and no log file in it
 pub record IsFree (target : Path) (n : Directory) : Type 0 where
   pub folder : HasFile n target → ⊥
@@ -100,3 +110,7 @@ pub record CanBeCopied (target : Path) (files : List Source) (n : Directory) : T
   pub stand : AllByRecursion (λ f. HasFile n f.1) files
   pub free : AllByRecursion (λ f. file_at n (copy_in target f) ≡ None) files
   pub apart : AreDistinct (copies_in target files)
+
+-- nothing was copied
+abbrev pub HasNone : CopyDetails → Type 0
+HasNone details = (details.copied.items ≡ []) × (details.symlinked.items ≡ [])

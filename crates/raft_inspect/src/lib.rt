@@ -19,6 +19,6 @@ pub use lines::{Field, Lines, Word};
 pub use outlook::Outlook;
 pub use picture::draw;
 pub use queue_files::{QueueFiles, inspect};
-pub use report::{add_queue, mode_name, mode_named, queue_name};
+pub use report::{add_queue, queue_name};
 pub use spelling::{Misspelled, read_digits, read_text};
 pub use usage::{FileUsage, GroupUsage, LogUsage, QueueUsage, measure};

@@ -7,32 +7,6 @@ use raft_dump::{FileCheck, LogFile, Planned};
 use raft_records::{Fault, LogQueue, Version};
 use std::alloc::Global;
 
-/// The modes of an opening and their names.
-const MODES: [(RecoveryMode, &str); 3] = [
-    (RecoveryMode::AbsoluteConsistency, "absolute"),
-    (RecoveryMode::TolerateTailCorruption, "tail"),
-    (RecoveryMode::TolerateAnyCorruption, "any"),
-];
-
-/// The mode of this name.
-pub fn mode_named(word: &str) -> Option<RecoveryMode> {
-    for (mode, name) in MODES {
-        if name == word {
-            return Some(mode);
-        }
-    }
-    None
-}
-
-/// The name of a mode.
-pub fn mode_name(mode: RecoveryMode) -> &'static str {
-    match mode {
-        RecoveryMode::AbsoluteConsistency => "absolute",
-        RecoveryMode::TolerateTailCorruption => "tail",
-        RecoveryMode::TolerateAnyCorruption => "any",
-    }
-}
-
 /// The name of a queue.
 pub fn queue_name(queue: LogQueue) -> &'static str {
     match queue {

@@ -1,2 +1,2 @@
 pub mod Waiting
-pub mod Listeners
+pub mod Heard

@@ -18,9 +18,9 @@ pub record Waiting : Type 0 where
 abbrev pub waiting_of : PurgeHook → Waiting
 waiting_of hook = record { first = hook.first; counts = hook.counts.items }
 
--- room for one file more
-abbrev pub HasRoom : PurgeHook → Type 0
-HasRoom hook = deque_len hook.counts < deque_capacity hook.counts
+-- for how many files more it has room
+abbrev pub room_of : PurgeHook → ℕ
+room_of hook = deque_capacity hook.counts - deque_len hook.counts
 
 -- the number behind the last file
 abbrev pub end_of : Waiting → ℕ
@@ -77,6 +77,10 @@ IsFirstWaiting files found = MatchOption found (All (λ n. n ≡ 0) files.counts
     (is_held files seq ≡ true) × (0 < waiting_at files seq)
     × AllWithin (λ n. n ≡ 0) files.counts 0 (seq - files.first))
 
+abbrev pub is_append : LogQueue → Bool
+is_append Append = true
+is_append Rewrite = false
+
 -- only what is told of the Append queue counts
 abbrev pub where_append : LogQueue → Waiting → Waiting → Waiting
 where_append Append new old = new
@@ -93,11 +97,7 @@ after_event files (event.Apply id) = where_append id.queue (if can_lower files i
 after_event files (event.Purge id) =
     where_append id.queue (if can_drop files id.seq then without_files files id.seq else files) files
 
--- of a new file, for which the hook needs room
-abbrev pub is_new_file : Event → Bool
-is_new_file (event.NewLogFile id) = true
-is_new_file told = false
-
--- a purge that keeps this file and all behind it keeps each file with a record that waits
-abbrev pub KeepsWaiting : Waiting → ℕ → Type 0
-KeepsWaiting files seq = (one : ℕ) → is_held files one ≡ true → one < seq → waiting_at files one ≡ 0
+-- of a new file of the Append queue, for which the hook needs room
+abbrev pub needs_room : Event → Bool
+needs_room (event.NewLogFile id) = is_append id.queue
+needs_room told = false

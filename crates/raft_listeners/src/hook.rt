@@ -1,6 +1,5 @@
 //! Which files of the Append queue have records that the tables haven't taken yet.
-ghost use Rattle.std.specs.Prelude.{◌≡◌, ◌⊎◌, ◌↔◌, ◌+◌, ◌-◌, ◌^◌, ◌<◌, ◌≤◌, [], true, false, length, drop, OnOk, OnErr, IfErr, MatchOption};
-ghost use Rattle.std.specs.VecDeque.{deque_len, deque_capacity};
+ghost use Rattle.std.specs.Prelude.{◌≡◌, ◌⊎◌, ◌↔◌, ◌+◌, ◌-◌, ◌^◌, ◌<◌, ◌≤◌, [], suc, true, false, length, drop, OnOk, OnErr, IfErr, MatchOption};
 
 use crate::listener::{Event, EventListener};
 use raft_base::{Fault, FileBlockHandle, FileId, FileSeq, LogQueue};
@@ -21,11 +20,11 @@ pub struct PurgeHook {
 }
 
 impl PurgeHook {
-    ghost use Rattle.raft_listeners.specs.Waiting.{HasRoom, IsFirstWaiting, after_event, can_drop, can_follow, can_lower, can_raise, is_held, is_new_file, waiting_at, waiting_of, with_count, with_file, without_files};
+    ghost use Rattle.raft_listeners.specs.Waiting.{IsFirstWaiting, after_event, can_drop, can_follow, can_lower, can_raise, is_held, needs_room, room_of, waiting_at, waiting_of, with_count, with_file, without_files};
 
     /// A hook that holds no files. It takes no memory.
     pub fn new(alloc: Global) -> PurgeHook
-        ensures value { (waiting_of result).counts ≡ [] }
+        ensures value { waiting_of result ≡ record { first = 0; counts = [] } }
     {
         PurgeHook {
             first: 0,
@@ -33,13 +32,14 @@ impl PurgeHook {
         }
     }
 
-    /// Makes room for one file more.
-    pub fn make_room(&mut self) -> Result<(), Fault>
-        ensures ok { OnOk result (HasRoom self.new) }
+    /// Makes room for so many files more.
+    pub fn make_room(&mut self, files: usize) -> Result<(), Fault>
+        ensures ok { OnOk result (files ≤ room_of self.new) }
         ensures same { waiting_of self.new ≡ waiting_of self.old }
+        ensures room { room_of self.old ≤ room_of self.new }
         ensures cause { IfErr result (λ fault. fault ≡ Fault.Memory) }
     {
-        self.counts.reserve(1)?;
+        self.counts.reserve(files)?;
         Ok(())
     }
 
@@ -49,8 +49,9 @@ impl PurgeHook {
         ensures err { OnErr result (waiting_of self.new ≡ waiting_of self.old) }
         ensures range { (result ≡ Err Fault.Range) ↔ (can_follow (waiting_of self.old) seq ≡ false) }
         ensures cause { IfErr result (λ fault. (fault ≡ Fault.Range) ⊎ (fault ≡ Fault.Memory)) }
-        ensures memory { HasRoom self.old → can_follow (waiting_of self.old) seq ≡ true
+        ensures memory { 0 < room_of self.old → can_follow (waiting_of self.old) seq ≡ true
             → result ≡ Ok tt }
+        ensures room { room_of self.old ≤ suc (room_of self.new) }
     {
         let is_next = self.counts.is_empty() || seq == self.end();
         if seq >= END_OF_NUMBERS || !is_next {
@@ -91,6 +92,7 @@ impl PurgeHook {
             (waiting_at (waiting_of self.old) seq + 1)) }
         ensures err { OnErr result (waiting_of self.new ≡ waiting_of self.old) }
         ensures range { (result ≡ Err Fault.Range) ↔ (can_raise (waiting_of self.old) seq ≡ false) }
+        ensures room { room_of self.old ≤ room_of self.new }
         ensures cause { IfErr result (λ fault. fault ≡ Fault.Range) }
     {
         let Some(at) = self.place_of(seq) else {
@@ -110,6 +112,7 @@ impl PurgeHook {
             (waiting_at (waiting_of self.old) seq - 1)) }
         ensures err { OnErr result (waiting_of self.new ≡ waiting_of self.old) }
         ensures range { (result ≡ Err Fault.Range) ↔ (can_lower (waiting_of self.old) seq ≡ false) }
+        ensures room { room_of self.old ≤ room_of self.new }
         ensures cause { IfErr result (λ fault. fault ≡ Fault.Range) }
     {
         let Some(at) = self.place_of(seq) else {
@@ -128,6 +131,7 @@ impl PurgeHook {
         ensures ok { OnOk result (waiting_of self.new ≡ without_files (waiting_of self.old) seq) }
         ensures err { OnErr result (waiting_of self.new ≡ waiting_of self.old) }
         ensures range { (result ≡ Err Fault.Range) ↔ (can_drop (waiting_of self.old) seq ≡ false) }
+        ensures room { room_of self.old ≤ room_of self.new }
         ensures cause { IfErr result (λ fault. fault ≡ Fault.Range) }
     {
         if self.counts.is_empty() || seq >= self.end() {
@@ -142,6 +146,7 @@ impl PurgeHook {
     fn drop_first(&mut self, count: usize)
         requires { count ≤ length self.old.counts.items }
         ensures counts { self.new.counts.items ≡ drop count self.old.counts.items }
+        ensures room { room_of self.old ≤ room_of self.new }
         ensures first { self.new.first ≡ self.old.first + count }
     {
         for _ in 0..count {
@@ -152,8 +157,9 @@ impl PurgeHook {
 
     /// What it is told as a listener.
     pub fn hear(&mut self, event: Event)
-        ensures value { HasRoom self.old ⊎ (is_new_file event ≡ false)
+        ensures value { (needs_room event ≡ true → 0 < room_of self.old)
             → waiting_of self.new ≡ after_event (waiting_of self.old) event }
+        ensures room { room_of self.old ≤ suc (room_of self.new) }
     {
         match event {
             Event::NewLogFile(file_id) => self.post_new_log_file(file_id),
@@ -188,12 +194,13 @@ impl Fresh for PurgeHook {
 
 // Only what it is told of the Append queue counts, and what is out of order changes nothing.
 impl EventListener for PurgeHook {
-    ghost use Rattle.raft_listeners.specs.Waiting.{HasRoom, IsFirstWaiting, after_event, waiting_of};
+    ghost use Rattle.raft_listeners.specs.Waiting.{IsFirstWaiting, after_event, needs_room, room_of, waiting_of};
     ghost use Rattle.raft_listeners.specs.declared.listener.Event.TheVariants as event;
 
     fn post_new_log_file(&mut self, file_id: FileId)
-        ensures value { HasRoom self.old → waiting_of self.new
-            ≡ after_event (waiting_of self.old) (event.NewLogFile file_id) }
+        ensures value { (needs_room (event.NewLogFile file_id) ≡ true → 0 < room_of self.old)
+            → waiting_of self.new ≡ after_event (waiting_of self.old) (event.NewLogFile file_id) }
+        ensures room { room_of self.old ≤ suc (room_of self.new) }
     {
         if file_id.queue == LogQueue::Append {
             let _ = self.new_log_file(file_id.seq);
@@ -203,6 +210,7 @@ impl EventListener for PurgeHook {
     fn on_append_log_file(&mut self, handle: FileBlockHandle)
         ensures value { waiting_of self.new
             ≡ after_event (waiting_of self.old) (event.Append handle) }
+        ensures room { room_of self.old ≤ room_of self.new }
     {
         if handle.id.queue == LogQueue::Append {
             let _ = self.append_log_file(handle.id.seq);
@@ -212,6 +220,7 @@ impl EventListener for PurgeHook {
     fn post_apply_memtables(&mut self, file_id: FileId)
         ensures value { waiting_of self.new
             ≡ after_event (waiting_of self.old) (event.Apply file_id) }
+        ensures room { room_of self.old ≤ room_of self.new }
     {
         if file_id.queue == LogQueue::Append {
             let _ = self.applied(file_id.seq);
@@ -221,6 +230,7 @@ impl EventListener for PurgeHook {
     fn post_purge(&mut self, file_id: FileId)
         ensures value { waiting_of self.new
             ≡ after_event (waiting_of self.old) (event.Purge file_id) }
+        ensures room { room_of self.old ≤ room_of self.new }
     {
         if file_id.queue == LogQueue::Append {
             let _ = self.purged(file_id.seq);

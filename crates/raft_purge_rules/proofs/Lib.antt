@@ -1,1 +1,2 @@
+pub mod ChoosingLemmas
 pub mod RoundsLemmas

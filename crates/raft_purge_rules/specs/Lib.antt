@@ -1,4 +1,5 @@
 pub mod Choice
+pub mod Choosing
 pub mod Need
 pub mod Rounds
 pub mod Watermarks

@@ -1,11 +1,13 @@
 //! When a purge rewrites, and what it rewrites, as rules over counts and numbers of files.
 #![tactic(auto)]
 
+mod choosing;
 mod group_choice;
 mod need;
 mod rounds;
 mod watermarks;
 
+pub use choosing::{Chosen, Decision, Needs, Watermarks, decide_all, group_use, groups_by};
 pub use group_choice::{Choice, GroupUse, choose};
 pub use need::{QueueUse, RewrittenEntries, append_needs_rewrite, rewrite_needs_rewrite};
 pub use rounds::Rounds;

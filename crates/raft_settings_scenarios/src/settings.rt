@@ -2,7 +2,7 @@
 
 use crate::rows::{Row, each_holds};
 use raft_config::Config;
-use raft_records::{Fault, Fresh};
+use raft_records::{Fault, Fresh, ReadableSize};
 use raft_settings::{read, with_text, write};
 use std::alloc::Global;
 use std::test::Fail;
@@ -156,35 +156,58 @@ fn texts_are_laid_over_settings(rt: HostRuntime) -> Result<(), Fail> {
     each_holds(&rt, &mut (), &LAID)
 }
 
-/// Settings from text, and what of them is used: the size of the read block, the number of threads, the threshold of the
-/// Rewrite queue and how many files are kept to be used again; or why they are refused.
-struct Sanitized(&'static str, Result<(u64, usize, u64, usize), &'static str>);
+/// Settings from text, and what of them is used, or why they are refused.
+struct Sanitized(&'static str, Result<Used, &'static str>);
 
-static SANITIZED: [Sanitized; 4] = [
-    Sanitized("", Ok((16_384, 4, 1_073_741_824, 120))),
+/// What is used of settings: the size of the read block, the number of threads, the threshold of the Rewrite queue, the
+/// limit of files that are made ahead, and how many files are kept to be used again and made ahead.
+struct Used(u64, usize, u64, Option<u64>, usize, usize);
+
+static SANITIZED: [Sanitized; 6] = [
+    Sanitized("", Ok(Used(16_384, 4, 1_073_741_824, None, 120, 0))),
     Sanitized(
-        "recovery-read-block-size = 1\nrecovery-threads = 0\ntarget-file-size = \"5000MB\"",
-        Ok((512, 1, 5_242_880_000, 3)),
+        "recovery-read-block-size = 1\nrecovery-threads = 0\ntarget-file-size = \"5000MB\"\n\
+         format-version = 2\nenable-log-recycle = true\nprefill-for-recycle = true",
+        Ok(Used(512, 1, 5_242_880_000, Some(10_737_418_240), 3, 3)),
+    ),
+    Sanitized(
+        "target-file-size = \"1MB\"\npurge-threshold = \"10MB\"\n\
+         prefill-for-recycle = true\nprefill-limit = \"4MB\"",
+        Ok(Used(16_384, 4, 1_048_576, Some(4_194_304), 15, 6)),
     ),
     Sanitized(
         "target-file-size = \"5MB\"\npurge-threshold = \"3MB\"",
         Err("purge-threshold is below target-file-size"),
     ),
+    Sanitized(
+        "enable-log-recycle = false\nprefill-for-recycle = true",
+        Err("prefill-for-recycle needs enable-log-recycle"),
+    ),
     Sanitized("dir = \"a\"\nspill-dir = \"a\"", Err("spill-dir is dir")),
 ];
 
-fn is_sanitized(
-    config: &mut Config,
-    wanted: &Result<(u64, usize, u64, usize), &'static str>,
-) -> bool {
+fn is_sanitized(config: &mut Config, wanted: &Result<Used, &'static str>) -> bool {
     match (config.sanitize(), wanted) {
-        (Ok(()), Ok((block_size, threads, threshold, capacity))) => {
-            config.recovery_read_block_size.0 == *block_size
-                && config.recovery_threads == *threads
-                && config.rewrite_threshold().0 == *threshold
-                && config.recycle_capacity() == *capacity
-        }
+        (Ok(()), Ok(wanted)) => is_used(config, wanted),
         (Err(Fault::InvalidArgument(reason)), Err(wanted)) => reason == *wanted,
+        _ => false,
+    }
+}
+
+fn is_used(config: &Config, wanted: &Used) -> bool {
+    let Used(block_size, threads, threshold, limit, spare, ahead) = wanted;
+    config.recovery_read_block_size.0 == *block_size
+        && config.recovery_threads == *threads
+        && config.rewrite_threshold().0 == *threshold
+        && is_limit(config.prefill_limit, *limit)
+        && config.recycle_capacity() == *spare
+        && config.prefill_capacity() == *ahead
+}
+
+fn is_limit(given: Option<ReadableSize>, wanted: Option<u64>) -> bool {
+    match (given, wanted) {
+        (Some(size), Some(wanted)) => size.0 == wanted,
+        (None, None) => true,
         _ => false,
     }
 }
@@ -199,7 +222,7 @@ impl Row for Sanitized {
 }
 
 #[test]
-fn settings_of_texts_are_sanitized(rt: HostRuntime) -> Result<(), Fail> {
+fn sanitized_settings(rt: HostRuntime) -> Result<(), Fail> {
     each_holds(&rt, &mut (), &SANITIZED)
 }
 

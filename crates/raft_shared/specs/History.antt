@@ -128,15 +128,10 @@ IsLegalTo m ended failed (event ∷ later) fails = (next : Bool)
     × IsLegalCall m ended failed event next
     × IsLegalTo (after_event m event) ended next later fails
 
--- a history of an engine that held these contents, where it had failed then or not, and where numbers
--- of log files have ended by now or not
-abbrev pub IsLegalHistory : Contents → Bool → Bool → List Event → Type 0
-IsLegalHistory m ended failed events =
-    ∥ ((fails : Bool) × IsLegalTo m ended failed events fails) ∥₁
-
--- one that leaves it so
-abbrev pub IsHistoryTo : Contents → Bool → Bool → List Event → Bool → Type 0
-IsHistoryTo m ended failed events fails = ∥ IsLegalTo m ended failed events fails ∥₁
+-- a history of an engine that held these contents, where it had failed then or not, where numbers of log
+-- files have ended by now or not, and which it leaves failed or not
+abbrev pub IsLegalHistory : Contents → Bool → Bool → List Event → Bool → Type 0
+IsLegalHistory m ended failed events fails = ∥ IsLegalTo m ended failed events fails ∥₁
 
 -- the answer is `Io` or `TryAgain`
 abbrev pub is_storage_refusal : Answer → Bool

@@ -1,0 +1,194 @@
+//! A folder that is looked at: its log files, one by one or all in memory.
+
+use anyhow::{Result, bail};
+use raft_command_line::Options;
+use raft_config::RecoveryMode;
+use raft_console::Progress;
+use raft_disk::{FolderView, image_of};
+use raft_dump::{LogFile, check_file, log_files};
+use raft_env::FileSystem;
+use raft_inspect::{Cut, QueueFiles, cuts_of};
+use raft_memory::MemoryFileSystem;
+use raft_records::{Fault, LogQueue};
+use std::alloc::{AllocError, Global};
+
+/// A look at a folder, which can't change it, and the names of its files.
+#[derive(Drop)]
+pub struct Folder {
+    alloc: Global,
+    view: FolderView,
+    /// The second folder, where the options name one.
+    spill: Option<String>,
+    pub files: Vec<LogFile>,
+    /// The names of files that are no log's.
+    pub others: Vec<String>,
+}
+
+impl Folder {
+    /// It fails where there is no folder.
+    pub fn open(rt: HostRuntime, path: &str, options: &Options<'_>) -> Result<Folder> {
+        let alloc = rt.alloc();
+        let view = match FolderView::open(rt, path) {
+            Ok(view) => view,
+            Err(fault) => bail!("{fault}"),
+        };
+        if view.is_in_use() && !options.quiet {
+            eprintln!(rt; "raftctl: {path} is open already, and what is read of it may change")?;
+        }
+        let mut folder = Folder {
+            alloc,
+            view,
+            spill: None,
+            files: Vec::new(alloc),
+            others: Vec::new(alloc),
+        };
+        folder.add("")?;
+        if let Some(spill) = options.spill {
+            folder.add(spill)?;
+            folder.spill = Some(String::from_str(alloc, spill)?);
+        }
+        Ok(folder)
+    }
+
+    fn add(&mut self, folder: &str) -> Result<()> {
+        let names = match self.view.names(folder) {
+            Ok(names) => names,
+            Err(fault) => bail!("{fault}"),
+        };
+        for name in names {
+            self.add_name(folder, name)?;
+        }
+        Ok(())
+    }
+
+    fn add_name(&mut self, folder: &str, name: String) -> Result<()> {
+        let one = vec![in self.alloc; name]?;
+        let found = match log_files(self.alloc, folder, &one) {
+            Ok(found) => found,
+            Err(fault) => bail!("{fault}"),
+        };
+        if found.is_empty() {
+            for name in one {
+                self.others.push(name)?;
+            }
+            return Ok(());
+        }
+        for file in found {
+            self.files.push(file)?;
+        }
+        Ok(())
+    }
+
+    fn read(&self, path: &str) -> Result<Vec<u8>> {
+        match self.view.read(path) {
+            Ok(bytes) => Ok(bytes),
+            Err(fault) => bail!("{fault}"),
+        }
+    }
+
+    fn folders(&self) -> Result<Vec<String>, AllocError> {
+        let mut folders = Vec::new(self.alloc);
+        if let Some(spill) = &self.spill {
+            folders.push(spill.clone()?)?;
+        }
+        Ok(folders)
+    }
+
+    fn files_in_memory(&self, files: Vec<(String, Vec<u8>)>) -> Result<MemoryFileSystem> {
+        match image_of(self.alloc, files, self.folders()?) {
+            Ok(image) => Ok(image),
+            Err(fault) => bail!("{fault}"),
+        }
+    }
+
+    /// One file in memory.
+    pub fn image_of_file(&self, file: &LogFile) -> Result<MemoryFileSystem> {
+        let path = file.path.clone()?;
+        let bytes = self.read(path.as_str())?;
+        self.files_in_memory(vec![in self.alloc; (path, bytes)]?)
+    }
+
+    /// All log files in memory.
+    pub fn image(&self, progress: &mut Progress) -> Result<MemoryFileSystem> {
+        let mut files = Vec::new(self.alloc);
+        for (place, file) in self.files.iter().enumerate() {
+            progress.at("files read", place as u64, self.files.len() as u64)?;
+            let path = file.path.clone()?;
+            let bytes = self.read(path.as_str())?;
+            files.push((path, bytes))?;
+        }
+        self.files_in_memory(files)
+    }
+
+    /// The log files of a queue, by number.
+    pub fn files_of(&self, queue: LogQueue) -> Result<Vec<LogFile>, AllocError> {
+        let mut files = Vec::new(self.alloc);
+        for file in &self.files {
+            if file.id.queue == queue {
+                let path = file.path.clone()?;
+                files.push(LogFile { id: file.id, path })?;
+            }
+        }
+        QueueFiles::sort(&mut files)?;
+        Ok(files)
+    }
+
+    /// The log files of a queue, and what can be read of each; one at a time is in memory.
+    pub fn inspect(&self, queue: LogQueue, progress: &mut Progress) -> Result<QueueFiles> {
+        let files = self.files_of(queue)?;
+        let mut checks = Vec::new(self.alloc);
+        for (place, file) in files.iter().enumerate() {
+            progress.at("files checked", place as u64, files.len() as u64)?;
+            let mut image = self.image_of_file(file)?;
+            match check_file(self.alloc, file, &mut image) {
+                Ok(check) => checks.push(check)?,
+                Err(fault) => bail!("{fault}"),
+            }
+        }
+        Ok(QueueFiles::new(queue, files, checks))
+    }
+
+    /// What an opening in a mode cuts off of the files of a queue; it reads those alone that it may cut.
+    pub fn cuts<F: FileSystem>(
+        &self,
+        image: &mut F,
+        queue: LogQueue,
+        mode: RecoveryMode,
+    ) -> Result<Vec<Cut>> {
+        let files = self.files_that_may_be_cut(queue, mode)?;
+        match cuts_in(self.alloc, image, queue, files, mode) {
+            Ok(cuts) => Ok(cuts),
+            Err(fault) => bail!("{fault}"),
+        }
+    }
+
+    fn files_that_may_be_cut(
+        &self,
+        queue: LogQueue,
+        mode: RecoveryMode,
+    ) -> Result<Vec<LogFile>, AllocError> {
+        let mut files = self.files_of(queue)?;
+        match mode {
+            RecoveryMode::AbsoluteConsistency => Ok(Vec::new(self.alloc)),
+            RecoveryMode::TolerateTailCorruption => match files.pop() {
+                Some(last) => Ok(vec![in self.alloc; last]?),
+                None => Ok(files),
+            },
+            RecoveryMode::TolerateAnyCorruption => Ok(files),
+        }
+    }
+}
+
+fn cuts_in<F: FileSystem>(
+    alloc: Global,
+    image: &mut F,
+    queue: LogQueue,
+    files: Vec<LogFile>,
+    mode: RecoveryMode,
+) -> Result<Vec<Cut>, Fault> {
+    let mut checks = Vec::new(alloc);
+    for file in &files {
+        checks.push(check_file(alloc, file, image)?)?;
+    }
+    cuts_of(alloc, &QueueFiles::new(queue, files, checks), mode)
+}

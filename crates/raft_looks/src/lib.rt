@@ -1,0 +1,11 @@
+//! Looks at a folder's log files, which are read and never changed: what can be read of each, what it holds, and all of
+//! them in memory.
+#![tactic(auto)]
+
+mod checking;
+mod dumping;
+mod folder;
+
+pub use checking::check;
+pub use dumping::dump;
+pub use folder::Folder;
