@@ -12,6 +12,8 @@ mod folders;
 #[cfg(test)]
 mod held;
 #[cfg(test)]
+mod kept;
+#[cfg(test)]
 mod opening;
 #[cfg(test)]
 mod program;

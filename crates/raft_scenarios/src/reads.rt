@@ -11,7 +11,13 @@ use std::test::Fail;
 
 /// A group, the bounds, how many bytes are asked for at most, and how many entries are answered or the code of the
 /// fault.
-pub(crate) struct Fetch(u64, u64, u64, Option<usize>, Result<usize, u8>);
+pub(crate) struct Fetch(
+    pub(crate) u64,
+    pub(crate) u64,
+    pub(crate) u64,
+    pub(crate) Option<usize>,
+    pub(crate) Result<usize, u8>,
+);
 
 const FILL: &[Step] = &[
     Step::Open,

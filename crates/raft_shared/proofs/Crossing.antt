@@ -5,6 +5,8 @@ use denote.Param.Send.{IsSend, IsSync, AllSend, AllSync, sendable, owning_send, 
 use Rattle.std.proofs.Crossing as items
 use Rattle.std.proofs.MapsCrossing as maps
 use Rattle.raft_env.specs.declared.env.FileSystem.{Ghosts}
+use Rattle.raft_entry_blocks.specs.contracts.block_cache.BlockCache as cache
+use Rattle.raft_entry_blocks.specs.contracts.recent_blocks.RecentBlocks as recent
 use Rattle.raft_base.specs.contracts.history.History as history
 use Rattle.raft_config.specs.contracts.config.Config as config
 use Rattle.raft_files.specs.contracts.log_file.LogFileWriter as writer
@@ -81,6 +83,15 @@ item_sync = recorded_sync _ _ _ (item.the_type).to_one (struct_sync (shape item.
 
 batch_sync : IsSync batch.the_row
 batch_sync = view_sync batch.TheInside.the_row _ _ _ _ (search (sendable, items.crosses, item_sync) depth 20)
+
+recent_send : IsSend recent.the_row
+recent_send = view_send recent.TheInside.the_row _ _ _ _ (search (sendable, items.crosses, maps.crosses) depth 20)
+
+cache_send : IsSend cache.the_row
+cache_send = view_send cache.TheInside.the_row _ _ _ _ (search (sendable, items.crosses, recent_send) depth 20)
+
+cache_field_send : IsSend (cache.the_field).row
+cache_field_send = cache_send
 
 folders_send : IsSend folders.the_row
 folders_send = view_send folders.TheInside.the_row _ _ _ _ (search (sendable, items.crosses, maps.crosses) depth 20)
@@ -168,7 +179,7 @@ module _ (F H R W : RattleType) (g : Ghosts F.Denot H.Denot R.Denot W.Denot) whe
   pipes_send w = view_send (pipes.TheInside.the_row F H R W g) _ _ _ _ (recorded_send _ _ _ (pipes.TheInside.the_type F H R W g).to_one (struct_send (shape (pipes.TheInside.the_type F H R W g)) (pipes_parts w)))
 
   engine_parts : IsSend F → IsSend W → AllSend (shape (engine.the_type F H R W g)).fields
-  engine_parts f w = (search (sendable, items.crosses) depth 20, (config_field_send, (f, (pipes_send w, (tables_field_send, (stats_send, (owed_send, (groups_send, (search sendable, (search (sendable, items.crosses) depth 20, (search (sendable, items.crosses, item_send) depth 20, (search sendable, (search (sendable, history_send, batch_send) depth 20, (search (sendable, history_send, batch_send) depth 20, (search (sendable, history_send, batch_send) depth 20, (search (sendable, history_send) depth 20, tt))))))))))))))))
+  engine_parts f w = (search (sendable, items.crosses) depth 20, (config_field_send, (f, (pipes_send w, (tables_field_send, (stats_send, (owed_send, (groups_send, (search sendable, (cache_field_send, (search (sendable, items.crosses, item_send) depth 20, (search sendable, (search (sendable, history_send, batch_send) depth 20, (search (sendable, history_send, batch_send) depth 20, (search (sendable, history_send, batch_send) depth 20, (search (sendable, history_send) depth 20, tt))))))))))))))))
 
   pub engine_send : IsSend F → IsSend W → IsSend (engine.the_row F H R W g)
   engine_send f w = recorded_send _ _ _ (engine.the_type F H R W g).to_one (struct_send (shape (engine.the_type F H R W g)) (engine_parts f w))
