@@ -4,6 +4,7 @@ use Rattle.raft_base.specs.declared.errors.Fault.{Fault}
 use Rattle.raft_base.specs.declared.errors.Fault.TheVariants as fault
 use Rattle.raft_base.specs.declared.pipe_log.LogQueue.TheVariants.{Append}
 use Rattle.raft_config.specs.Folders.{Folders}
+use Rattle.raft_env.specs.declared.env.FileSystem.{Ghosts}
 use Rattle.raft_env.specs.Refusal.{Refusals, StorageRefusalsRose}
 use Rattle.raft_pipes.specs.PipeState.{HasLastNumber, PipeState, last_seq}
 use Rattle.raft_pipes.specs.Queue.{IsRefusalIn}
@@ -14,6 +15,7 @@ use Rattle.raft_purge.specs.Dropping.{HasDroppedOld}
 use Rattle.raft_purge.specs.Scope.{HasRewritten}
 use Rattle.raft_purge.specs.Steps.{IsLog, LogState, LogValue}
 use Rattle.raft_purge.specs.Unfit.{IsUnfit}
+use Rattle.raft_log_engine.specs.declared.engine.Engine.{Engine}
 use Rattle.raft_log_engine.specs.declared.engine.purge_kind.Purge.{Purge}
 use Rattle.raft_log_engine.specs.declared.engine.purge_kind.Purge.TheVariants.{RewriteAppend, RewriteRewrite, DropStale}
 
@@ -65,3 +67,8 @@ IsPurgeFault x append rewrite folders fails old new e = IsRefusalIn folders old 
 -- some log is so
 abbrev pub IsOfSome : LogState → Type 0
 IsOfSome s = ∥ ((v : LogValue) × IsLog s v) ∥₁
+
+module _ {F H R W : Type 0} {g : Ghosts F H R W} where
+  -- the tables of an engine
+  abbrev pub tables_in : Engine F H R W g → MemTables
+  tables_in e = e.tables

@@ -5,7 +5,7 @@ use Rattle.raft_pipes.specs.PipeState.{PipeState}
 use Rattle.raft_purge.specs.Scope.{HasRewritten}
 use Rattle.raft_tables.specs.declared.memtables.MemTables.{MemTables}
 use Rattle.raft_log_engine.specs.Engine.{has_groups_together, queue_of, rewrite_queue_of}
-use Rattle.raft_log_engine.specs.Purge.{HasDroppedStale, HasRenewed}
+use Rattle.raft_log_engine.specs.Purge.{HasDroppedStale, HasRenewed, tables_in}
 use Rattle.raft_log_engine.specs.declared.engine.Engine.{Engine}
 use Rattle.raft_script.specs.declared.operation.Op.{Op}
 use Rattle.raft_script.specs.declared.operation.Op.TheVariants.{RewriteAppend, RewriteRewrite, PurgeStale}
@@ -24,7 +24,7 @@ queues_view e = record {
   append = queue_of e;
   rewrite = rewrite_queue_of e;
   together = has_groups_together e;
-  tables = e.tables;
+  tables = tables_in e;
 }
 
 -- where the operation is a purge that was answered: so many files left its queue, and what it leaves
