@@ -85,11 +85,7 @@ fn open<F: FileSystem>(
 }
 
 // The code of the fault that the next record is refused with; 0 where it ends at this place.
-fn next_code<F: FileSystem>(
-    fs: &F,
-    records: &mut LogItemBatchFileReader<F>,
-    end: usize,
-) -> u8 {
+fn next_code<F: FileSystem>(fs: &F, records: &mut LogItemBatchFileReader<F>, end: usize) -> u8 {
     match records.next(fs, PATH) {
         Ok(Some(_)) if records.valid_offset() == end => 0,
         Ok(_) => u8::MAX,
@@ -142,7 +138,7 @@ fn cut<F: FileSystem>(fs: &mut F, size: usize) -> Result<(), FsFault> {
     fs.truncate(&mut writer, size)
 }
 
-// All records; a refused read before the last of them; all but the last of a file that is cut by one byte.
+// All records; a refused read before the last of them; all but the last of a file that is cut.
 fn is_read_in_blocks(fs: &mut MemoryFileSystem, alloc: Global) -> Result<bool, Fault> {
     let ends = written(fs, alloc)?;
     let Some(end) = ends.last() else {
