@@ -124,12 +124,11 @@ fn each_reads<F: FileSystem>(
     Ok(true)
 }
 
-// Whether a read that is refused behind the opening shows before the last record.
-fn is_refused(fs: &mut MemoryFileSystem, alloc: Global, ends: &[usize]) -> Result<bool, Fault> {
-    let mut records = open(fs, alloc, 512)?;
-    fs.refuse(FsCall::Read, 1, IoKind::Other)?;
-    let (read, code) = read_all(fs, &mut records, ends);
-    Ok(read < RECORDS && code == 3)
+// The ends of all records, where they are read with blocks of each size.
+fn all_read<F: FileSystem>(fs: &mut F, alloc: Global) -> Result<Option<Vec<usize>>, Fault> {
+    let ends = written(fs, alloc)?;
+    let are_read = each_reads(fs, alloc, &ends, (RECORDS, 0))?;
+    Ok(if are_read { Some(ends) } else { None })
 }
 
 fn cut<F: FileSystem>(fs: &mut F, size: usize) -> Result<(), FsFault> {
@@ -138,17 +137,25 @@ fn cut<F: FileSystem>(fs: &mut F, size: usize) -> Result<(), FsFault> {
     fs.truncate(&mut writer, size)
 }
 
-// All records; a refused read before the last of them; all but the last of a file that is cut.
+// Whether all records but the last are read of a file that lacks a byte.
+fn others_read<F: FileSystem>(fs: &mut F, alloc: Global, ends: &[usize]) -> Result<bool, Fault> {
+    let end = ends.last().copied().unwrap_or(0);
+    match cut(fs, end.saturating_sub(1)) {
+        Ok(()) => each_reads(fs, alloc, ends, (RECORDS - 1, 2)),
+        Err(fault) => Err(fault.with_path(alloc, PATH)),
+    }
+}
+
+// Whether a read that is refused behind the opening shows before the last record.
 fn is_read_in_blocks(fs: &mut MemoryFileSystem, alloc: Global) -> Result<bool, Fault> {
-    let ends = written(fs, alloc)?;
-    let Some(end) = ends.last() else {
+    let Some(ends) = all_read(fs, alloc)? else {
         return Ok(false);
     };
-    let all = each_reads(fs, alloc, &ends, (RECORDS, 0))?;
-    let refused = is_refused(fs, alloc, &ends)?;
-    let is_cut = cut(fs, end.saturating_sub(1)).is_ok();
-    let others = each_reads(fs, alloc, &ends, (RECORDS - 1, 2))?;
-    Ok(all && refused && is_cut && others)
+    let mut records = open(fs, alloc, 512)?;
+    fs.refuse(FsCall::Read, 1, IoKind::Other)?;
+    let (read, code) = read_all(fs, &mut records, &ends);
+    let others = others_read(fs, alloc, &ends)?;
+    Ok(read < RECORDS && code == 3 && others)
 }
 
 #[test]
