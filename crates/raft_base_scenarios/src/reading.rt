@@ -1,13 +1,22 @@
 //! Records of a log file, read one after the other. They were made by Python's struct and binascii, for file 5.
 
+ghost use Rattle.std.specs.Prelude.{◌≡◌, IfOk, length};
+ghost use Rattle.std.specs.Option.{IfSome};
+ghost use Rattle.raft_files.specs.FileRecords.{ReadsIn};
+ghost use Rattle.raft_files.specs.Writer.{bytes_at};
+
 use crate::changes::{Change, are_items};
-use raft_files::{LogFileFormat, RecordReader};
+use raft_env::{FileSystem, FsFault};
+use raft_files::{FileRecordReader, LogFileFormat, LogFileReader};
+use raft_memory::MemoryFileSystem;
 use raft_records::{
     Command, EntryIndex, Fault, FileBlockHandle, FileId, LogItem, LogItemBatch, LogItemContent,
     LogQueue, Version,
 };
 use std::alloc::Global;
 use std::test::Fail;
+
+const PATH: &str = "log";
 
 const EMPTY: &[u8] =
     b"\x00\x00\x00\x00\x00\x00\x15\x00\x00\x00\x00\x00\x00\x00\x00\x10\x00\x88\xef\x02\xd2";
@@ -236,43 +245,96 @@ fn is_found(seq: u64, answer: Result<Option<LogItemBatch>, Fault>, wanted: &Foun
 }
 
 // Whether the step comes to what the case says.
-fn holds(alloc: Global, seq: u64, reader: &mut RecordReader<'_>, step: &Step) -> bool {
+fn holds<F: FileSystem>(
+    fs: &F,
+    alloc: Global,
+    seq: u64,
+    reader: &mut FileRecordReader<F>,
+    step: &Step,
+) -> bool
+    requires { ReadsIn (F.directory fs.now) reader.old }
+    ensures stands { ReadsIn (F.directory fs.now) reader.new }
+{
     match step {
         Step::Replay(wanted, end) => {
-            is_found(seq, reader.next(alloc), wanted) && reader.valid_offset() == *end
+            let answer = reader.next(fs, alloc, PATH);
+            is_found(seq, answer, wanted) && reader.valid_offset() == *end
         }
         Step::Read(wanted, end) => {
-            is_found(seq, reader.next_readable(alloc), wanted) && reader.valid_offset() == *end
+            let answer = reader.next_readable(fs, alloc, PATH);
+            is_found(seq, answer, wanted) && reader.valid_offset() == *end
         }
     }
 }
 
-fn all_hold(alloc: Global, reader: &mut RecordReader<'_>, case: &Case) -> bool {
+fn all_hold<F: FileSystem>(
+    fs: &F,
+    alloc: Global,
+    reader: &mut FileRecordReader<F>,
+    case: &Case,
+) -> bool
+    requires { ReadsIn (F.directory fs.now) reader.old }
+{
     for step in case.steps {
-        if !holds(alloc, case.seq, reader, step) {
+        if !holds(fs, alloc, case.seq, reader, step) {
             return false;
         }
     }
     reader.format() == LogFileFormat::new(Version::V2, case.alignment)
 }
 
-// Whether each step comes to what the case says.
-fn is_read(alloc: Global, case: &Case) -> Result<bool, Fault> {
-    let mut bytes = Vec::new(alloc);
-    lay_out(case, &mut bytes)?;
-    let mut reader = RecordReader::new(&bytes, FileId::new(LogQueue::Append, case.seq))?;
-    Ok(all_hold(alloc, &mut reader, case))
+fn write<F: FileSystem>(fs: &mut F, bytes: &[u8]) -> Result<LogFileReader<F>, FsFault>
+    ensures value { IfOk result (λ r. r.file_size
+        ≡ length (bytes_at r.path (F.directory fs.new))) }
+{
+    let handle = fs.create(PATH)?;
+    let mut writer = fs.new_writer(&handle)?;
+    fs.write(&mut writer, 0, bytes)?;
+    LogFileReader::open(fs, &handle)
 }
 
-fn has_header(bytes: &[u8]) -> bool {
-    RecordReader::new(bytes, FileId::new(LogQueue::Append, 5)).is_ok()
+// A reader of a file of these bytes, behind its header; none where it has no header.
+fn reader_of<F: FileSystem>(
+    fs: &mut F,
+    alloc: Global,
+    seq: u64,
+    bytes: &[u8],
+) -> Result<Option<FileRecordReader<F>>, FsFault>
+    ensures stands { IfOk result (λ found. IfSome found (ReadsIn (F.directory fs.new))) }
+{
+    let mut reader = write(fs, bytes)?;
+    let Some(format) = reader.parse_format(fs)? else {
+        return Ok(None);
+    };
+    if reader.file_size() < LogFileFormat::encoded_len(format.version) {
+        return Ok(None);
+    }
+    let id = FileId::new(LogQueue::Append, seq);
+    Ok(Some(FileRecordReader::new(alloc, reader, id, format, 16)))
+}
+
+// Whether each step comes to what the case says.
+fn is_read<F: FileSystem>(fs: &mut F, alloc: Global, case: &Case) -> Result<bool, Fault> {
+    let mut bytes = Vec::new(alloc);
+    lay_out(case, &mut bytes)?;
+    match reader_of(fs, alloc, case.seq, &bytes) {
+        Ok(Some(mut reader)) => Ok(all_hold(fs, alloc, &mut reader, case)),
+        Ok(None) => Ok(false),
+        Err(fault) => Err(fault.with_path(alloc, PATH)),
+    }
+}
+
+fn has_header<F: FileSystem>(fs: &mut F, alloc: Global, bytes: &[u8]) -> bool {
+    matches!(reader_of(fs, alloc, 5, bytes), Ok(Some(_)))
 }
 
 #[test]
 fn records_are_read_or_refused(rt: HostRuntime) -> Result<(), Fail> {
     for case in &CASES {
-        assert!(rt; is_read(rt.alloc(), case)?, "{}", case.name);
+        let mut fs = MemoryFileSystem::new(rt.alloc());
+        assert!(rt; is_read(&mut fs, rt.alloc(), case)?, "{}", case.name);
     }
-    assert!(rt; !has_header(PUT));
+    let mut fs = MemoryFileSystem::new(rt.alloc());
+    assert!(rt; !has_header(&mut fs, rt.alloc(), PUT));
     Ok(())
 }

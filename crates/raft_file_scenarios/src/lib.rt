@@ -3,6 +3,8 @@
 #![tactic(auto)]
 
 #[cfg(test)]
+mod block_sizes;
+#[cfg(test)]
 mod crashed_queues;
 #[cfg(test)]
 mod crashed_rows;

@@ -127,7 +127,7 @@ fn next_len<F: FileSystem>(
     fs: &mut F,
     records: &mut LogItemBatchFileReader<F>,
 ) -> Result<Option<usize>, Fault> {
-    match records.next(fs)? {
+    match records.next(fs, "records")? {
         Some(batch) => Ok(Some(batch.into_items().len())),
         None => Ok(None),
     }
@@ -150,7 +150,7 @@ fn are_replayed<F: FileSystem>(
     let format = records.open(fs, id, "records", reader)?;
     let items = next_len(fs, records)?;
     let is_at_end = ends_at(fs, records, 90)?;
-    records.reset();
+    records.reset(fs);
     let is_closed = ends_at(fs, records, 0)?;
     Ok(format == V2 && items == Some(0) && is_at_end && is_closed)
 }

@@ -131,7 +131,7 @@ fn opened<F: FileSystem>(alloc: Global, fs: &mut F) -> Result<SinglePipe<F>, Fau
     let queue = LogQueue::Append;
     let files = folders.find(alloc, queue, fs)?;
     let mode = config.recovery_mode;
-    let replayed = read_files(alloc, queue, &files, mode, fs, &mut NoMachine {})?;
+    let replayed = read_files(alloc, queue, &files, mode, 512, fs, &mut NoMachine {})?;
     let version = config.format_version;
     settle_or_begin(alloc, queue, folders, files, replayed, version, fs)
 }

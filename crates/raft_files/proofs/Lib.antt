@@ -1,7 +1,6 @@
 pub mod BlocksLemmas
 pub mod DetectableLemmas
 pub mod DetectableStaleLemmas
-pub mod FileReaderLemmas
 pub mod FileRecordsLemmas
 pub mod HeaderLemmas
 pub mod NameLemmas

@@ -7,7 +7,7 @@ mod file_records;
 mod format;
 pub mod laws;
 mod log_file;
-mod reader;
+mod padding;
 
 pub use file_reader::LogItemBatchFileReader;
 pub use file_records::FileRecordReader;
@@ -15,4 +15,3 @@ pub use format::{
     FileNameExt, LogFileFormat, build_reserved_file_name, is_zero_padded, parse_reserved_file_name,
 };
 pub use log_file::{LogFileReader, LogFileWriter};
-pub use reader::RecordReader;
