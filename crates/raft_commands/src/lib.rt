@@ -1,0 +1,18 @@
+//! The commands of raftctl: looks at a folder, which change nothing, and changes by an engine.
+#![tactic(auto)]
+
+mod changes;
+mod entries;
+mod keys;
+mod lines;
+mod looks;
+mod numbered;
+mod opening;
+mod pictures;
+mod repair;
+mod stat;
+mod writing;
+
+pub use looks::look;
+pub use opening::config;
+pub use writing::change;
