@@ -7,3 +7,4 @@ pub mod ProgramLemmas
 pub mod RunAnswersLemmas
 pub mod RunLemmas
 pub mod TrialLemmas
+pub mod PurgesLemmas

@@ -25,7 +25,8 @@ use Rattle.raft_log_engine.specs.Engine.{contents_of, has_failed, queue_of, refu
 use Rattle.raft_log_engine.specs.declared.engine.Engine.{Engine}
 use Rattle.raft_held.specs.Contents.{known_from}
 use Rattle.raft_held.specs.Crash.{written_batch}
-use Rattle.raft_script.specs.Run.{accepted_of, AreAnswers, AreSteady, FailsAt, FailsBy, IsFailing, IsFailurePlace, Refuses, StorageRefusalsRoseBy, batch_of_acts, batches_after, batches_after_all, io_count, io_in, is_io, IsAnswer, FailsInPurge, IsCompactRefusal, IsEngineRefusal, IsGetRefusal, IsPurgeAnswer, IsPurgeCause, IsPurgeRefusal, IsOutOfNumbers, IsSteadyBy, IsStorageOrMemory, IsTextRefusal, IsUnbuilt, IsGiven, IsWritten, IsWriteRefusal, compaction_in, items_of_act, of_both}
+use Rattle.raft_purge.specs.Unfit.{IsUnfit}
+use Rattle.raft_script.specs.Run.{accepted_of, AreAnswers, AreSteady, FailsAt, FailsBy, IsFailing, IsFailurePlace, Refuses, StorageRefusalsRoseBy, batch_of_acts, batches_after, batches_after_all, io_count, io_in, is_io, IsAnswer, FailsInPurge, IsCompactRefusal, IsEngineRefusal, IsGetRefusal, IsPurgeAnswer, IsPurgeFailure, IsRefusedPurge, IsOutOfNumbers, IsSteadyBy, IsStorageOrMemory, IsTextRefusal, IsUnbuilt, IsGiven, IsWritten, IsWriteRefusal, compaction_in, items_of_act, of_both}
 use Rattle.raft_log_engine.specs.Reads.{IsEntryAnswer, IsEntryRefusalAt, IsGroupList, compact_count, entry_of}
 use Rattle.raft_script.specs.Entry.{IsTextOf, index_of}
 use Rattle.raft_script.specs.declared.text_entry.TextEntry.{TextEntry}
@@ -226,28 +227,27 @@ compaction_fails P R Q failed fails folders p old new result ok told still cause
     caused (Err e) ok cause alive dies = by_fault e (cause alive) dies
 
 -- a purge
-module _ (failed fails : Bool) (folders : Folders) (old new : Refusals) (result : Result ℕ Fault) (told : (result ≡ Err fault.Failed) ↔ (failed ≡ true)) (cause : failed ≡ false → IfErr result (purges.IsPurgeRefusal folders fails old new)) where
+module _ (x : Contents) (append rewrite : PipeState) (failed fails : Bool) (folders : Folders) (old new : Refusals) (result : Result ℕ Fault) (told : (result ≡ Err fault.Failed) ↔ (failed ≡ true)) (cause : failed ≡ false → IfErr result (purges.IsPurgeFault x append rewrite folders fails old new)) where
   abbrev IsCaused : Fault → Type 0
-  IsCaused e = purges.IsPurgeRefusal folders fails old new e
+  IsCaused e = purges.IsPurgeFault x append rewrite folders fails old new e
 
   -- is answered so
-  pub purge_answered : IsPurgeAnswer result
-  purge_answered = by_result result told cause
+  pub purge_answered : (m : Contents) → (failed ≡ false → m ≡ x) → IsPurgeAnswer m result
+  purge_answered m same = by_result result told cause
     where
-      by_fault : (e : Fault) → IsCaused e → IsPurgeRefusal e
-      by_fault (fault.InvalidArgument text) h = tt
-      by_fault (fault.Io kind path) h = tt
-      by_fault fault.TryAgain h = tt
-      by_fault fault.Memory h = tt
-      by_fault fault.Range h = tt
-      by_fault fault.Gap h = tt
-      by_fault _ h = absurd h
+      by_fault : m ≡ x → (e : Fault) → IsCaused e → IsRefusedPurge m e
+      by_fault is (fault.InvalidArgument text) h = subst (λ (c : Contents). IsUnfit c (fault.InvalidArgument text)) (sym is) h.1
+      by_fault is (fault.Io kind path) h = tt
+      by_fault is fault.TryAgain h = tt
+      by_fault is fault.Memory h = tt
+      by_fault is fault.Range h = tt
+      by_fault is _ h = absurd h
 
-      by_result : (r : Result ℕ Fault) → ((r ≡ Err fault.Failed) ↔ (failed ≡ true)) → (failed ≡ false → IfErr r IsCaused) → IsPurgeAnswer r
+      by_result : (r : Result ℕ Fault) → ((r ≡ Err fault.Failed) ↔ (failed ≡ true)) → (failed ≡ false → IfErr r IsCaused) → IsPurgeAnswer m r
       by_result (Ok count) told cause = tt
       by_result (Err e) told cause = elim (cases_Bool failed) [
-        | inl gone ↦ let e_is : e ≡ fault.Failed = same_err (Err e) refl (told.1 gone) in subst IsPurgeRefusal (sym e_is) tt
-        | inr stands ↦ by_fault e (cause stands)
+        | inl gone ↦ let e_is : e ≡ fault.Failed = same_err (Err e) refl (told.1 gone) in subst (IsRefusedPurge m) (sym e_is) tt
+        | inr stands ↦ by_fault (same stands) e (cause stands)
       ]
 
   -- that storage fails is counted
@@ -275,16 +275,15 @@ module _ (failed fails : Bool) (folders : Folders) (old new : Refusals) (result 
     cause = by_result result told cause ok;
   }
     where
-      by_fault : (e : Fault) → IsCaused e → fails ≡ true → IsPurgeCause e
-      by_fault (fault.InvalidArgument text) h dies = absurd (let clash = sym dies ∙ h in cc)
+      by_fault : (e : Fault) → IsCaused e → fails ≡ true → IsPurgeFailure e
+      by_fault (fault.InvalidArgument text) h dies = absurd (let clash = sym dies ∙ h.0 in cc)
       by_fault (fault.Io kind path) h dies = tt
       by_fault fault.Memory h dies = tt
       by_fault fault.TryAgain h dies = tt
-      by_fault fault.Range h dies = absurd (let clash = sym dies ∙ h in cc)
-      by_fault fault.Gap h dies = absurd (let clash = sym dies ∙ h in cc)
+      by_fault fault.Range h dies = absurd (let clash = sym dies ∙ h.0 in cc)
       by_fault _ h dies = absurd h
 
-      by_result : (r : Result ℕ Fault) → ((r ≡ Err fault.Failed) ↔ (failed ≡ true)) → (failed ≡ false → IfErr r IsCaused) → IfOk r (λ _. fails ≡ false) → failed ≡ false → fails ≡ true → IsErrAnd r IsPurgeCause
+      by_result : (r : Result ℕ Fault) → ((r ≡ Err fault.Failed) ↔ (failed ≡ true)) → (failed ≡ false → IfErr r IsCaused) → IfOk r (λ _. fails ≡ false) → failed ≡ false → fails ≡ true → IsErrAnd r IsPurgeFailure
       by_result (Ok count) told cause ok alive dies = absurd (let clash = sym dies ∙ ok in cc)
       by_result (Err e) told cause ok alive dies = by_fault e (cause alive) dies
 

@@ -4,3 +4,4 @@ pub mod Entry
 pub mod Trial
 pub mod Line
 pub mod Program
+pub mod Purges

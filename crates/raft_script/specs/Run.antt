@@ -18,6 +18,7 @@ use Rattle.raft_log_engine.specs.Engine.{record_len}
 use Rattle.raft_log_engine.specs.Group.{accepted_in, chosen_of, written_in}
 use Rattle.raft_log_engine.specs.Reads.{IsEntryAnswer, IsEntryRefusalAt, IsGroupList, compact_batch, compact_count, entry_of}
 use Rattle.raft_script.specs.Entry.{IsTextOf, entry_of_text, index_of}
+use Rattle.raft_purge.specs.Unfit.{IsUnfit}
 use Rattle.raft_script.specs.declared.operation.Act.{Act}
 use Rattle.raft_script.specs.declared.operation.Act.TheVariants as act
 use Rattle.raft_script.specs.declared.operation.Op.{Op}
@@ -240,15 +241,14 @@ IsCompactRefusal fault.Range = Unit {0}
 IsCompactRefusal fault.TryAgain = Unit {0}
 IsCompactRefusal e = IsEngineRefusal e
 
--- .. a purge for these too, or since a key of the engine's own stands in the log
-abbrev pub IsPurgeRefusal : Fault → Type 0
-IsPurgeRefusal (fault.InvalidArgument text) = Unit {0}
-IsPurgeRefusal fault.Gap = Unit {0}
-IsPurgeRefusal e = IsCompactRefusal e
+-- .. a purge for these too, or since a key of the engine's own has a value
+abbrev pub IsRefusedPurge : Contents → Fault → Type 0
+IsRefusedPurge m (fault.InvalidArgument text) = IsUnfit m (fault.InvalidArgument text)
+IsRefusedPurge m e = IsCompactRefusal e
 
--- a purge is answered so: of how many files went nothing is said
-abbrev pub IsPurgeAnswer : Result ℕ Fault → Type 0
-IsPurgeAnswer answer = MatchResult answer (λ _. Unit {0}) IsPurgeRefusal
+-- a purge is answered so: how many files went is said of the engine's queues
+abbrev pub IsPurgeAnswer : Contents → Result ℕ Fault → Type 0
+IsPurgeAnswer m answer = MatchResult answer (λ _. Unit {0}) (IsRefusedPurge m)
 
 abbrev pub IsGetRefusal : Fault → Type 0
 IsGetRefusal fault.Memory = Unit {0}
@@ -281,9 +281,9 @@ IsAnswer failed m known (Last group) (Index index) =
     failed ≡ false → index ≡ last_index_of (m.entries group)
 IsAnswer failed m known operation.Groups (reply.Groups answer) =
     MatchResult answer (λ groups. IsGroupList m known groups.items) IsGetRefusal
-IsAnswer failed m known (RewriteAppend watermark step) (Dropped answer) = IsPurgeAnswer answer
-IsAnswer failed m known RewriteRewrite (Dropped answer) = IsPurgeAnswer answer
-IsAnswer failed m known PurgeStale (Dropped answer) = IsPurgeAnswer answer
+IsAnswer failed m known (RewriteAppend watermark step) (Dropped answer) = IsPurgeAnswer m answer
+IsAnswer failed m known RewriteRewrite (Dropped answer) = IsPurgeAnswer m answer
+IsAnswer failed m known PurgeStale (Dropped answer) = IsPurgeAnswer m answer
 IsAnswer failed m known _ _ = ⊥
 
 -- whether an engine that had failed or not has failed after an operation, where it fails in the one
@@ -355,9 +355,9 @@ IsStorageOrMemory fault.Memory = Unit {0}
 IsStorageOrMemory _ = ⊥
 
 -- .. or for want of space
-abbrev pub IsPurgeCause : Fault → Type 0
-IsPurgeCause fault.TryAgain = Unit {0}
-IsPurgeCause e = IsStorageOrMemory e
+abbrev pub IsPurgeFailure : Fault → Type 0
+IsPurgeFailure fault.TryAgain = Unit {0}
+IsPurgeFailure e = IsStorageOrMemory e
 
 -- an engine answers so and fails, or doesn't; an answer that isn't the engine's is one of the
 -- others
@@ -377,7 +377,7 @@ FailsBy failed answer fails Other = FailsFor IsStorageOrMemory failed answer fai
 
 -- .. in a purge
 abbrev pub FailsInPurge : Bool → Result ℕ Fault → Bool → Type 0
-FailsInPurge failed answer fails = FailsFor IsPurgeCause failed answer fails (λ _. ⊥)
+FailsInPurge failed answer fails = FailsFor IsPurgeFailure failed answer fails (λ _. ⊥)
 
 -- .. and has failed or not as before
 abbrev pub IsSteadyBy : {T : Type 0} → Bool → Result T Fault → Bool → Type 0

@@ -8,6 +8,7 @@ ghost use Rattle.raft_held.specs.Crash.{LeavesAllowed};
 ghost use Rattle.raft_log_engine.specs.Group.{items_of};
 ghost use Rattle.raft_log_engine.specs.Engine.{begun_of, contents_of, directory_of, durable_of, folders_of, has_failed, refusals_of, unsynced_of};
 ghost use Rattle.raft_script.specs.Durability.{AreAllowedInside, Does, HaveRun, IsAnswerOf, Runs};
+ghost use Rattle.raft_script.specs.Purges.{HasPurgedAs, queues_view};
 ghost use Rattle.raft_script.specs.Run.{IsUnbuilt, IsUnbuiltGroup, IsFailing, IsUnasked, Refuses, accepted_of, batch_of_acts, batches_of_parts, items_of_act};
 
 use crate::operation::{Act, Op, Outcome};
@@ -106,6 +107,7 @@ pub(crate) fn step<F: FileSystem>(alloc: Global, engine: &mut Engine<F>, op: &Op
         ≡ after_batches (contents_of engine.old)
         (accepted_of (contents_of engine.old) op.now result) }
     ensures progress { Does op.now result engine.old engine.new }
+    ensures purged { HasPurgedAs op.now result (queues_view engine.old) (queues_view engine.new) }
     ensures folder { folders_of engine.new ≡ folders_of engine.old }
     ensures others { begun_of engine.new ≡ begun_of engine.old }
 {

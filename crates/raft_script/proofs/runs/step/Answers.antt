@@ -3,7 +3,9 @@ use Rattle.std.specs.Prelude.{unwrap_or}
 use Rattle.raft_records.specs.Contents.{Contents, first_index_of, last_index_of}
 use Rattle.raft_records.specs.Item.{Batch}
 use Rattle.raft_log_engine.specs.Durability.{Durability, durability_of}
-use Rattle.raft_log_engine.specs.Engine.{answer_now, answered_of, contents_of, directory_of, durable_of, folders_of, has_failed, is_known_in, moments_of, queue_of, refusals_of, unsynced_of}
+use Rattle.raft_log_engine.specs.Engine.{answer_now, answered_of, contents_of, directory_of, durable_of, folders_of, has_failed, is_known_in, moments_of, queue_of, refusals_of, rewrite_queue_of, unsynced_of}
+use Rattle.raft_script.specs.Purges.{queues_view}
+use Rattle.raft_script.proofs.PurgesLemmas.{purged_append, purged_rewrite, purged_stale}
 use Rattle.raft_script.specs.Run.{IsUnbuiltGroup, Part, batch_of_acts, batches_of_parts, group_batches, items_of_acts}
 use Rattle.raft_held.specs.Crash.{pending_of, written_batch}
 use Rattle.raft_script.specs.declared.operation.Op.TheVariants.{PurgeStale, RewriteAppend, RewriteRewrite, Sync, Write}
@@ -158,21 +160,21 @@ returns-in-RewriteAppend-clause-value g c =
     let e = c.args.engine.now in
     let n = c.must_rewrite_append_queue.new.self in
     let purged = c.must_rewrite_append_queue.ensures in
-    rw c.in-RewriteAppend.is (λ m known same same_known. purge_answered (has_failed e) (has_failed n) (folders_of e) (refusals_of e) (refusals_of n) c.must_rewrite_append_queue.result purged.failed purged.cause)
+    rw c.in-RewriteAppend.is (λ m known same same_known. purge_answered (contents_of e) (queue_of n) (rewrite_queue_of n) (has_failed e) (has_failed n) (folders_of e) (refusals_of e) (refusals_of n) c.must_rewrite_append_queue.result purged.failed purged.cause m same)
 
 pub returns-in-RewriteAppend-clause-failed : goal.returns-in-RewriteAppend-clause-failed
 returns-in-RewriteAppend-clause-failed g c =
     let e = c.args.engine.now in
     let n = c.must_rewrite_append_queue.new.self in
     let purged = c.must_rewrite_append_queue.ensures in
-    rw c.in-RewriteAppend.is (purge_fails (has_failed e) (has_failed n) (folders_of e) (refusals_of e) (refusals_of n) c.must_rewrite_append_queue.result purged.failed purged.cause (purge_stands c.must_rewrite_append_queue.result (durability_of e) (durability_of n) purged.progress) (λ gone. (purged.unchanged gone).failed))
+    rw c.in-RewriteAppend.is (purge_fails (contents_of e) (queue_of n) (rewrite_queue_of n) (has_failed e) (has_failed n) (folders_of e) (refusals_of e) (refusals_of n) c.must_rewrite_append_queue.result purged.failed purged.cause (purge_stands c.must_rewrite_append_queue.result (durability_of e) (durability_of n) purged.progress) (λ gone. (purged.unchanged gone).failed))
 
 pub returns-in-RewriteAppend-clause-refused : goal.returns-in-RewriteAppend-clause-refused
 returns-in-RewriteAppend-clause-refused g c =
     let e = c.args.engine.now in
     let n = c.must_rewrite_append_queue.new.self in
     let purged = c.must_rewrite_append_queue.ensures in
-    (purged.others.counts, purge_rose (has_failed e) (has_failed n) (folders_of e) (refusals_of e) (refusals_of n) c.must_rewrite_append_queue.result purged.failed purged.cause)
+    (purged.others.counts, purge_rose (contents_of e) (queue_of n) (rewrite_queue_of n) (has_failed e) (has_failed n) (folders_of e) (refusals_of e) (refusals_of n) c.must_rewrite_append_queue.result purged.failed purged.cause)
 
 pub returns-in-RewriteAppend-clause-progress : goal.returns-in-RewriteAppend-clause-progress
 returns-in-RewriteAppend-clause-progress g c =
@@ -186,21 +188,21 @@ returns-in-RewriteRewrite-clause-value g c =
     let e = c.args.engine.now in
     let n = c.must_rewrite_rewrite_queue.new.self in
     let purged = c.must_rewrite_rewrite_queue.ensures in
-    rw c.in-RewriteRewrite.is (λ m known same same_known. purge_answered (has_failed e) (has_failed n) (folders_of e) (refusals_of e) (refusals_of n) c.must_rewrite_rewrite_queue.result purged.failed purged.cause)
+    rw c.in-RewriteRewrite.is (λ m known same same_known. purge_answered (contents_of e) (queue_of n) (rewrite_queue_of n) (has_failed e) (has_failed n) (folders_of e) (refusals_of e) (refusals_of n) c.must_rewrite_rewrite_queue.result purged.failed purged.cause m same)
 
 pub returns-in-RewriteRewrite-clause-failed : goal.returns-in-RewriteRewrite-clause-failed
 returns-in-RewriteRewrite-clause-failed g c =
     let e = c.args.engine.now in
     let n = c.must_rewrite_rewrite_queue.new.self in
     let purged = c.must_rewrite_rewrite_queue.ensures in
-    rw c.in-RewriteRewrite.is (purge_fails (has_failed e) (has_failed n) (folders_of e) (refusals_of e) (refusals_of n) c.must_rewrite_rewrite_queue.result purged.failed purged.cause (purge_stands c.must_rewrite_rewrite_queue.result (durability_of e) (durability_of n) purged.progress) (λ gone. (purged.unchanged gone).failed))
+    rw c.in-RewriteRewrite.is (purge_fails (contents_of e) (queue_of n) (rewrite_queue_of n) (has_failed e) (has_failed n) (folders_of e) (refusals_of e) (refusals_of n) c.must_rewrite_rewrite_queue.result purged.failed purged.cause (purge_stands c.must_rewrite_rewrite_queue.result (durability_of e) (durability_of n) purged.progress) (λ gone. (purged.unchanged gone).failed))
 
 pub returns-in-RewriteRewrite-clause-refused : goal.returns-in-RewriteRewrite-clause-refused
 returns-in-RewriteRewrite-clause-refused g c =
     let e = c.args.engine.now in
     let n = c.must_rewrite_rewrite_queue.new.self in
     let purged = c.must_rewrite_rewrite_queue.ensures in
-    (purged.others.counts, purge_rose (has_failed e) (has_failed n) (folders_of e) (refusals_of e) (refusals_of n) c.must_rewrite_rewrite_queue.result purged.failed purged.cause)
+    (purged.others.counts, purge_rose (contents_of e) (queue_of n) (rewrite_queue_of n) (has_failed e) (has_failed n) (folders_of e) (refusals_of e) (refusals_of n) c.must_rewrite_rewrite_queue.result purged.failed purged.cause)
 
 pub returns-in-RewriteRewrite-clause-progress : goal.returns-in-RewriteRewrite-clause-progress
 returns-in-RewriteRewrite-clause-progress g c =
@@ -214,21 +216,21 @@ returns-in-PurgeStale-clause-value g c =
     let e = c.args.engine.now in
     let n = c.must_purge_all_stale.new.self in
     let purged = c.must_purge_all_stale.ensures in
-    rw c.in-PurgeStale.is (λ m known same same_known. purge_answered (has_failed e) (has_failed n) (folders_of e) (refusals_of e) (refusals_of n) c.must_purge_all_stale.result purged.failed purged.cause)
+    rw c.in-PurgeStale.is (λ m known same same_known. purge_answered (contents_of e) (queue_of n) (rewrite_queue_of n) (has_failed e) (has_failed n) (folders_of e) (refusals_of e) (refusals_of n) c.must_purge_all_stale.result purged.failed purged.cause m same)
 
 pub returns-in-PurgeStale-clause-failed : goal.returns-in-PurgeStale-clause-failed
 returns-in-PurgeStale-clause-failed g c =
     let e = c.args.engine.now in
     let n = c.must_purge_all_stale.new.self in
     let purged = c.must_purge_all_stale.ensures in
-    rw c.in-PurgeStale.is (purge_fails (has_failed e) (has_failed n) (folders_of e) (refusals_of e) (refusals_of n) c.must_purge_all_stale.result purged.failed purged.cause (purge_stands c.must_purge_all_stale.result (durability_of e) (durability_of n) purged.progress) (λ gone. (purged.unchanged gone).failed))
+    rw c.in-PurgeStale.is (purge_fails (contents_of e) (queue_of n) (rewrite_queue_of n) (has_failed e) (has_failed n) (folders_of e) (refusals_of e) (refusals_of n) c.must_purge_all_stale.result purged.failed purged.cause (purge_stands c.must_purge_all_stale.result (durability_of e) (durability_of n) purged.progress) (λ gone. (purged.unchanged gone).failed))
 
 pub returns-in-PurgeStale-clause-refused : goal.returns-in-PurgeStale-clause-refused
 returns-in-PurgeStale-clause-refused g c =
     let e = c.args.engine.now in
     let n = c.must_purge_all_stale.new.self in
     let purged = c.must_purge_all_stale.ensures in
-    (purged.others.counts, purge_rose (has_failed e) (has_failed n) (folders_of e) (refusals_of e) (refusals_of n) c.must_purge_all_stale.result purged.failed purged.cause)
+    (purged.others.counts, purge_rose (contents_of e) (queue_of n) (rewrite_queue_of n) (has_failed e) (has_failed n) (folders_of e) (refusals_of e) (refusals_of n) c.must_purge_all_stale.result purged.failed purged.cause)
 
 pub returns-in-PurgeStale-clause-progress : goal.returns-in-PurgeStale-clause-progress
 returns-in-PurgeStale-clause-progress g c =
@@ -236,6 +238,21 @@ returns-in-PurgeStale-clause-progress g c =
     let n = c.must_purge_all_stale.new.self in
     let purged = c.must_purge_all_stale.ensures in
     rw c.in-PurgeStale.is (does_purge e n (PurgeStale) c.must_purge_all_stale.result refl refl purged.progress purged.any_moment purged.answered purged.unchanged)
+
+pub returns-in-RewriteAppend-clause-purged : goal.returns-in-RewriteAppend-clause-purged
+returns-in-RewriteAppend-clause-purged g c =
+    let purged = c.must_rewrite_append_queue.ensures in
+    rw c.in-RewriteAppend.is (purged_append c.in-RewriteAppend.watermark c.in-RewriteAppend.step c.must_rewrite_append_queue.result (queues_view c.args.engine.now) (queues_view c.must_rewrite_append_queue.new.self) purged.value purged.files)
+
+pub returns-in-RewriteRewrite-clause-purged : goal.returns-in-RewriteRewrite-clause-purged
+returns-in-RewriteRewrite-clause-purged g c =
+    let purged = c.must_rewrite_rewrite_queue.ensures in
+    rw c.in-RewriteRewrite.is (purged_rewrite c.must_rewrite_rewrite_queue.result (queues_view c.args.engine.now) (queues_view c.must_rewrite_rewrite_queue.new.self) purged.value purged.files)
+
+pub returns-in-PurgeStale-clause-purged : goal.returns-in-PurgeStale-clause-purged
+returns-in-PurgeStale-clause-purged g c =
+    let purged = c.must_purge_all_stale.ensures in
+    rw c.in-PurgeStale.is (purged_stale c.must_purge_all_stale.result (queues_view c.args.engine.now) (queues_view c.must_purge_all_stale.new.self) purged.value purged.files)
 
 -- The batches of a group.
 
