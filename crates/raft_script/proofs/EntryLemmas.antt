@@ -13,7 +13,7 @@ use Rattle.std.proofs.lemmas.List.{map-append, take-append-drop, take_all}
 use Rattle.std.proofs.Math.Seq.{drop-append_seam, take-append_seam}
 use Rattle.std.proofs.lemmas.Fmt.{decimal-digits_value, decimal_digit, decimal_is_IsNumeral, decimal_nonempty, first_decimal}
 use Rattle.std.proofs.lemmas.Str.Parse.{IsNumeralModel, numerals_by_value, tells_all_ascii_digits, digit_at}
-use Rattle.raft_script.specs.Line.{number_in}
+use Rattle.raft_script.specs.Number.{number_in}
 use Rattle.raft_script.specs.Entry.{indexed_word, text_bytes}
 use Rattle.raft_script.specs.declared.text_entry.TextEntry.{TextEntry}
 

@@ -2,5 +2,4 @@ pub mod Run
 pub mod Durability
 pub mod Entry
 pub mod Trial
-pub mod Line
-pub mod Program
+pub mod Number

@@ -96,7 +96,8 @@ pub(crate) fn run_watched<F: FileSystem>(
     })
 }
 
-pub(crate) fn step<F: FileSystem>(alloc: Global, engine: &mut Engine<F>, op: &Op) -> Outcome
+/// Does one operation, as `run` does each of its own.
+pub fn step<F: FileSystem>(alloc: Global, engine: &mut Engine<F>, op: &Op) -> Outcome
     ensures value { IsAnswerOf op.now result engine.old }
     ensures failed { IsFailing (has_failed engine.old) op.now result (has_failed engine.new) }
     ensures unchanged { IsUnasked op.now → engine.new ≡ engine.old }

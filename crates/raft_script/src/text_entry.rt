@@ -4,7 +4,7 @@ ghost use Rattle.std.specs.Fmt.{decimal};
 ghost use Rattle.std.specs.List.{position_or_len};
 ghost use Rattle.raft_script.specs.Entry.{IsTextOf, bytes_of_entry, index_of, indexed_word, indexed_words, text_bytes};
 
-use crate::line::number_of;
+use crate::number::number_of;
 use itoa::Buffer;
 use raft_records::{Fault, Message, MessageExt};
 use std::alloc::{AllocError, Global};
@@ -48,7 +48,7 @@ impl MessageExt for TextEntry {
 }
 
 /// Entries with the indexes from `first` to `last` and this word.
-pub(crate) fn entries_between(
+pub fn entries_between(
     alloc: Global,
     first: u64,
     last: u64,
