@@ -5,7 +5,7 @@ use Rattle.std.specs.Char.{is_ascii_graphic}
 use Rattle.std.specs.Str.{bytes_eq}
 use Rattle.raft_base.specs.declared.pipe_log.LogQueue.{LogQueue}
 use Rattle.raft_base.specs.declared.pipe_log.LogQueue.TheVariants.{Append, Rewrite}
-use Rattle.raft_script.specs.Entry.{indexed_word, indexed_words}
+use Rattle.raft_script.specs.Entry.{indexed_bytes, text_entries}
 use Rattle.raft_script.specs.Number.{number_in}
 use Rattle.raft_lines.specs.declared.program.Ended.{Ended}
 use Rattle.raft_lines.specs.declared.program.Ended.TheVariants as ended
@@ -92,7 +92,7 @@ delete_by _ = None
 abbrev pub words_by : ℕ → ℕ → ℕ → List (List ℕ) → Option Asked
 words_by group first last [] = None
 words_by group first last (word ∷ words) = if nat_le first last then option_map
-    (λ sync. Entries group (indexed_words first last word) sync) (sync_by words) else None
+    (λ sync. Entries group (text_entries first last word) sync) (sync_by words) else None
 
 -- ent G A B W [sync]
 abbrev pub entries_by : List (List ℕ) → Option Asked
@@ -155,7 +155,7 @@ asked_of_call (call.Put group key value sync) = Put group key.now value.now sync
 asked_of_call (call.Delete group key sync) = Delete group key.now sync
 asked_of_call (call.Get group key) = Get group key.now
 asked_of_call (call.Entries group first last word sync) =
-    Entries group (indexed_words first last word.now) sync
+    Entries group (text_entries first last word.now) sync
 asked_of_call (call.Clean group sync) = Clean group sync
 asked_of_call (call.Compact group index) = Compact group index
 asked_of_call (call.Entry group index) = Entry group index
@@ -207,7 +207,7 @@ abbrev pub asked_by_acts : List Act → Bool → Option Asked
 asked_by_acts (act.Put group key value ∷ []) sync = Some (Put group key.items value.items sync)
 asked_by_acts (act.Delete group key ∷ []) sync = Some (Delete group key.items sync)
 asked_by_acts (act.Entries group entries ∷ []) sync =
-    Some (Entries group (map indexed_word entries.items) sync)
+    Some (Entries group (map indexed_bytes entries.items) sync)
 asked_by_acts (act.Clean group ∷ []) sync = Some (Clean group sync)
 asked_by_acts _ sync = None
 

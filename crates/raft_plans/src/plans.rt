@@ -2,7 +2,7 @@
 
 use raft_memory::Choice;
 use raft_records::Fault;
-use raft_script::{Act, Op, Outcome, TextEntry};
+use raft_script::{Act, Op, Outcome, entries_between};
 use std::alloc::{AllocError, Global};
 
 pub enum Change {
@@ -65,29 +65,15 @@ fn act_of(alloc: Global, change: &Change) -> Result<Act, AllocError> {
         }
         Change::Delete(group, key) => Ok(Act::Delete(*group, key.to_vec(alloc)?)),
         Change::Entries(group, first, last, word) => {
-            Ok(Act::Entries(*group, entries_of(alloc, *first, *last, word)?))
+            Ok(Act::Entries(*group, entries_between(alloc, *first, *last, word)?))
         }
         Change::LongEntries(group, first, last, byte, len) => {
             let word = vec![in alloc; *byte; *len]?;
-            Ok(Act::Entries(*group, entries_of(alloc, *first, *last, &word)?))
+            Ok(Act::Entries(*group, entries_between(alloc, *first, *last, &word)?))
         }
         Change::Clean(group) => Ok(Act::Clean(*group)),
         Change::Compact(group, index) => Ok(Act::Compact(*group, *index)),
     }
-}
-
-fn entries_of(
-    alloc: Global,
-    first: u64,
-    last: u64,
-    word: &[u8],
-) -> Result<Vec<TextEntry>, AllocError> {
-    let mut entries = Vec::new(alloc);
-    for index in first..=last {
-        let word = word.to_vec(alloc)?;
-        entries.push(TextEntry { index, word })?;
-    }
-    Ok(entries)
 }
 
 fn acts_of(alloc: Global, changes: &[Change]) -> Result<Vec<Act>, AllocError> {
