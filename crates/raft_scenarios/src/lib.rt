@@ -1,4 +1,4 @@
-//! Tests that cross crates: the program line by line, an engine over files in memory, and what is found after crashes.
+//! Tests that cross crates: an engine over files in memory, and what is found after crashes.
 #![tactic(auto)]
 
 #[cfg(test)]
@@ -6,15 +6,11 @@ mod contradictions;
 #[cfg(test)]
 mod crashes;
 #[cfg(test)]
-mod entries;
-#[cfg(test)]
 mod folders;
 #[cfg(test)]
 mod held;
 #[cfg(test)]
 mod opening;
-#[cfg(test)]
-mod program;
 #[cfg(test)]
 mod purges;
 #[cfg(test)]
