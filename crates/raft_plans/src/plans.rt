@@ -2,7 +2,7 @@
 
 use raft_memory::Choice;
 use raft_records::Fault;
-use raft_script::{Act, Op, Outcome, TextEntry};
+use raft_script::{Act, Op, Outcome, entries_between};
 use std::alloc::{AllocError, Global};
 
 pub enum Change {
@@ -12,6 +12,8 @@ pub enum Change {
     Entries(u64, u64, u64, &'static [u8]),
     /// .. and a word of so many times this byte.
     LongEntries(u64, u64, u64, u8, usize),
+    /// One entry with this index and these bytes.
+    EntryBytes(u64, u64, &'static [u8]),
     Clean(u64),
     Compact(u64, u64),
 }
@@ -65,29 +67,19 @@ fn act_of(alloc: Global, change: &Change) -> Result<Act, AllocError> {
         }
         Change::Delete(group, key) => Ok(Act::Delete(*group, key.to_vec(alloc)?)),
         Change::Entries(group, first, last, word) => {
-            Ok(Act::Entries(*group, entries_of(alloc, *first, *last, word)?))
+            Ok(Act::Entries(*group, entries_between(alloc, *first, *last, word)?))
         }
         Change::LongEntries(group, first, last, byte, len) => {
             let word = vec![in alloc; *byte; *len]?;
-            Ok(Act::Entries(*group, entries_of(alloc, *first, *last, &word)?))
+            Ok(Act::Entries(*group, entries_between(alloc, *first, *last, &word)?))
+        }
+        Change::EntryBytes(group, index, bytes) => {
+            let entry = (*index, bytes.to_vec(alloc)?);
+            Ok(Act::Entries(*group, vec![in alloc; entry]?))
         }
         Change::Clean(group) => Ok(Act::Clean(*group)),
         Change::Compact(group, index) => Ok(Act::Compact(*group, *index)),
     }
-}
-
-fn entries_of(
-    alloc: Global,
-    first: u64,
-    last: u64,
-    word: &[u8],
-) -> Result<Vec<TextEntry>, AllocError> {
-    let mut entries = Vec::new(alloc);
-    for index in first..=last {
-        let word = word.to_vec(alloc)?;
-        entries.push(TextEntry { index, word })?;
-    }
-    Ok(entries)
 }
 
 fn acts_of(alloc: Global, changes: &[Change]) -> Result<Vec<Act>, AllocError> {

@@ -4,7 +4,7 @@
 use crate::plans::{Change, Plan};
 use raft_log_engine::{Config, Image};
 use raft_records::{Fresh, ReadableSize};
-use raft_script::{Act, Op, Outcome, TextEntry};
+use raft_script::{Act, Op, Outcome};
 use std::alloc::{AllocError, Global};
 
 /// The first byte of the value at each key and of the word of each entry, 0 where there is none: `a` and `b` are keys
@@ -49,6 +49,14 @@ fn first_byte(value: &[u8]) -> u8 {
     }
 }
 
+// The first byte of an entry's word, which stands after the colon.
+fn word_byte(text: &[u8]) -> u8 {
+    match text.iter().position(|byte| *byte == b':') {
+        Some(colon) => first_byte(&text[colon + 1..]),
+        None => 0,
+    }
+}
+
 /// The value's byte at a key.
 pub fn value_of(state: State, group: u64, key: &[u8]) -> u8 {
     match (group, key) {
@@ -81,13 +89,13 @@ fn without_words(words: [u8; 8], first: u64, end: u64) -> [u8; 8] {
 }
 
 // Entries stand before those with greater indexes alone, which go.
-fn with_entries(state: State, group: u64, entries: &[TextEntry]) -> State {
+fn with_entries(state: State, group: u64, entries: &[(u64, Vec<u8>)]) -> State {
     let mut state = state;
     if let Some(first) = entries.first() {
-        state.words = without_words(state.words, first.index, u64::MAX);
+        state.words = without_words(state.words, first.0, u64::MAX);
     }
-    for entry in entries {
-        state = with_word(state, group, entry.index, first_byte(&entry.word));
+    for (index, text) in entries {
+        state = with_word(state, group, *index, word_byte(text));
     }
     state
 }

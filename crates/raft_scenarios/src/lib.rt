@@ -1,12 +1,10 @@
-//! Tests that cross crates: the program line by line, an engine over files in memory, and what is found after crashes.
+//! Tests that cross crates: an engine over files in memory, and what is found after crashes.
 #![tactic(auto)]
 
 #[cfg(test)]
 mod contradictions;
 #[cfg(test)]
 mod crashes;
-#[cfg(test)]
-mod entries;
 #[cfg(test)]
 mod folders;
 #[cfg(test)]
@@ -15,8 +13,6 @@ mod held;
 mod kept;
 #[cfg(test)]
 mod opening;
-#[cfg(test)]
-mod program;
 #[cfg(test)]
 mod purges;
 #[cfg(test)]

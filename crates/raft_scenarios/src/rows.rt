@@ -2,7 +2,6 @@
 
 use crate::folders::{Folder, wrong_opening};
 use crate::held::{Faulty, Held};
-use crate::program::{Script, wrong_script};
 use crate::restarts::{Calls, wrong_call};
 use crate::spilled::{Spilled, wrong_spill};
 use crate::stories::{Story, wrong_story};
@@ -13,7 +12,6 @@ use std::process::Abort;
 use std::test::Fail;
 
 pub(crate) enum Rows {
-    Scripts(&'static [Script]),
     Stories(&'static [Story]),
     /// Openings, and whether the engine is closed then.
     Openings(&'static [Folder], bool),
@@ -29,7 +27,6 @@ pub(crate) type Wrong = Option<(&'static str, usize)>;
 fn first_wrong<F: Faulty>(alloc: Global, files: F, rows: Rows) -> Wrong {
     let mut held = Held::Files(files);
     match rows {
-        Rows::Scripts(scripts) => wrong_script(alloc, scripts),
         Rows::Stories(stories) => wrong_story(alloc, &mut held, stories),
         Rows::Openings(folders, closes) => wrong_opening(alloc, &mut held, folders, closes),
         Rows::Spills(rows) => wrong_spill(alloc, &mut held, rows),

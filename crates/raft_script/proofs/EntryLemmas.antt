@@ -1,5 +1,7 @@
 -- Entries of text as bytes.
 use Rattle.std.proofs.Common.{◌≡◌, ℕ, ◌^◌, ◌<◌, ◌==◌, ◌&&◌, not, nat_lt, Bool, true, false, cond, List, [], ◌∷◌, ◌++◌, length, get_or, map, take, drop, suc, zero, ◌+◌, ◌-◌, ◌≤◌, Option, Some, None, MatchOption, refl, sym, ◌∙◌, ap, arith}
+use Rattle.std.specs.Prelude.{Vec}
+use Rattle.std.specs.declared.alloc.Global.{Global}
 use Rattle.std.specs.Fmt.{decimal}
 use Rattle.std.specs.Int.{IsInRange}
 use Rattle.std.specs.Char.{is_ascii_digit}
@@ -9,13 +11,16 @@ use Rattle.std.specs.Str.{all_ascii_digits}
 use Rattle.std.specs.Str.Parse.{IsNumeral, digits_value}
 use Rattle.std.proofs.lemmas.Bool.Decides.{nat_tests}
 use Rattle.std.proofs.lemmas.Bool.{eqb-true, lt-ltb}
-use Rattle.std.proofs.lemmas.List.{map-append, take-append-drop, take_all}
+use Rattle.std.proofs.lemmas.List.{length-append, length-map, map-append, take-append-drop, take_all}
 use Rattle.std.proofs.Math.Seq.{drop-append_seam, take-append_seam}
 use Rattle.std.proofs.lemmas.Fmt.{decimal-digits_value, decimal_digit, decimal_is_IsNumeral, decimal_nonempty, first_decimal}
 use Rattle.std.proofs.lemmas.Str.Parse.{IsNumeralModel, numerals_by_value, tells_all_ascii_digits, digit_at}
-use Rattle.raft_script.specs.Line.{number_in}
-use Rattle.raft_script.specs.Entry.{indexed_word, text_bytes}
-use Rattle.raft_script.specs.declared.text_entry.TextEntry.{TextEntry}
+use Rattle.raft_records.specs.Batch.{raw_entries}
+use Rattle.raft_records.specs.Item.{Entry}
+use Rattle.raft_records.specs.declared.entry_index.EntryIndex.{EntryIndex}
+use Rattle.raft_script.proofs.RunLemmas.{taken_more}
+use Rattle.raft_script.specs.Number.{number_in}
+use Rattle.raft_script.specs.Entry.{indexed_bytes, text_bytes, text_entry}
 
 digits_model : IsNumeralModel (λ ds. all_ascii_digits ds ≡ true) (digits_value 10)
 digits_model = numerals_by_value _ tells_all_ascii_digits
@@ -124,11 +129,37 @@ module _ (bytes digits rest : List ℕ) (len : ℕ) (len_is : len ≡ position_o
 
 -- Entries one after the other.
 
-pub words_more : (first index : ℕ) (word : List ℕ) (old new : List TextEntry) (e : TextEntry) → first ≤ index → map indexed_word old ≡ map (λ i. (i, word)) (range_with_len first (index - first)) → new ≡ old ++ e ∷ [] → e.index ≡ index → e.word.items ≡ word
-    → map indexed_word new ≡ map (λ i. (i, word)) (range_with_len first (index + 1 - first))
-words_more first index word old new e low words more index_is word_is =
-    let pair : indexed_word e ≡ (index, word) = ap (λ (n : ℕ). let p : ℕ × List ℕ = (n, e.word.items) in p) index_is ∙ ap (λ (w : List ℕ). let p : ℕ × List ℕ = (index, w) in p) word_is in
-    ap (map indexed_word) more ∙ map-append indexed_word old (e ∷ []) ∙ ap (λ (l : List (ℕ × List ℕ)). map indexed_word old ++ l) (ap (λ (p : ℕ × List ℕ). p ∷ []) pair)
-    ∙ ap (λ (l : List (ℕ × List ℕ)). l ++ (index, word) ∷ []) words
-    ∙ sym (map-range_with_len_more (λ i. (i, word)) first (index - first) index (omega (arith, low)))
-    ∙ ap (λ k. map (λ i. (i, word)) (range_with_len first k)) (omega (arith, low))
+pub entries_more : (first index : ℕ) (word : List ℕ) (old new : List (ℕ × Vec ℕ Global)) (text : Vec ℕ Global) → first ≤ index → map indexed_bytes old ≡ map (text_entry word) (range_with_len first (index - first)) → new ≡ old ++ (index, text) ∷ [] → text.items ≡ text_bytes index word
+    → map indexed_bytes new ≡ map (text_entry word) (range_with_len first (index + 1 - first))
+entries_more first index word old new text low entries more text_is =
+    ap (map indexed_bytes) more ∙ map-append indexed_bytes old ((index, text) ∷ []) ∙ ap (λ (bytes : List ℕ). map indexed_bytes old ++ (index, bytes) ∷ []) text_is
+    ∙ ap (λ (l : List Entry). l ++ text_entry word index ∷ []) entries
+    ∙ sym (map-range_with_len_more (text_entry word) first (index - first) index (omega (arith, low)))
+    ∙ ap (λ k. map (text_entry word) (range_with_len first k)) (omega (arith, low))
+
+-- Entries as indexes and bytes apart.
+
+raw_push : (xs : List EntryIndex) (bs : List (List ℕ)) (x : EntryIndex) (b : List ℕ) → length xs ≡ length bs → raw_entries (xs ++ x ∷ []) (bs ++ b ∷ []) ≡ raw_entries xs bs ++ (x.index, b) ∷ []
+raw_push [] [] x b same = refl
+raw_push [] (c ∷ bs) x b same = absurd (omega arith)
+raw_push (y ∷ xs) [] x b same = absurd (omega arith)
+raw_push (y ∷ xs) (c ∷ bs) x b same = rw (raw_push xs bs x b (omega arith)) refl
+
+module _ (indexes new_indexes : List EntryIndex) (index : EntryIndex) (copies new_copies : List (Vec ℕ Global)) (copy : Vec ℕ Global) (indexes_are : new_indexes ≡ indexes ++ index ∷ []) (copies_are : new_copies ≡ copies ++ copy ∷ []) (same : length indexes ≡ length copies) where
+  pub same_more : length new_indexes ≡ length new_copies
+  same_more = ap length indexes_are ∙ length-append indexes (index ∷ []) ∙ ap (λ (n : ℕ). n + 1) same ∙ sym (length-append copies (copy ∷ [])) ∙ ap length (sym copies_are)
+
+  -- the first entries, with one more
+  pub split_more : (entries : List (ℕ × Vec ℕ Global)) (i : ℕ) (entry : ℕ × Vec ℕ Global) → i < length entries → entry ≡ get_or entries i entry → index.index ≡ entry.0 → copy.items ≡ entry.1.items
+      → raw_entries indexes (map (λ (v : Vec ℕ Global). v.items) copies) ≡ map indexed_bytes (take i entries)
+      → raw_entries new_indexes (map (λ (v : Vec ℕ Global). v.items) new_copies) ≡ map indexed_bytes (take (i + 1) entries)
+  split_more entries i entry within is index_is copy_is kept =
+      ap (λ (l : List EntryIndex). raw_entries l (map (λ (v : Vec ℕ Global). v.items) new_copies)) indexes_are
+      ∙ ap (λ (l : List (Vec ℕ Global)). raw_entries (indexes ++ index ∷ []) (map (λ (v : Vec ℕ Global). v.items) l)) copies_are
+      ∙ ap (raw_entries (indexes ++ index ∷ [])) (map-append (λ (v : Vec ℕ Global). v.items) copies (copy ∷ []))
+      ∙ raw_push indexes (map (λ (v : Vec ℕ Global). v.items) copies) index copy.items (same ∙ sym (length-map copies (λ (v : Vec ℕ Global). v.items)))
+      ∙ ap (λ (l : List Entry). l ++ (index.index, copy.items) ∷ []) kept
+      ∙ ap (λ (n : ℕ). map indexed_bytes (take i entries) ++ (n, copy.items) ∷ []) index_is
+      ∙ ap (λ (b : List ℕ). map indexed_bytes (take i entries) ++ (entry.0, b) ∷ []) copy_is
+      ∙ sym (map-append indexed_bytes (take i entries) (entry ∷ []))
+      ∙ ap (map indexed_bytes) (sym (taken_more entries i entry within is))

@@ -1,9 +1,7 @@
 pub mod DurabilityLemmas
 pub mod EntryLemmas
 pub mod GroupLemmas
-pub mod LineLemmas
-pub mod LineReadingLemmas
-pub mod ProgramLemmas
+pub mod NumberLemmas
 pub mod RunAnswersLemmas
 pub mod RunLemmas
 pub mod TrialLemmas

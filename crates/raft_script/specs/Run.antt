@@ -17,7 +17,7 @@ use Rattle.raft_held.specs.Crash.{pending_of, written_batch}
 use Rattle.raft_log_engine.specs.Engine.{record_len}
 use Rattle.raft_log_engine.specs.Group.{accepted_in, chosen_of, written_in}
 use Rattle.raft_log_engine.specs.Reads.{IsEntryAnswer, IsEntryRefusalAt, IsGroupList, compact_batch, compact_count, entry_of}
-use Rattle.raft_script.specs.Entry.{IsTextOf, entry_of_text, index_of}
+use Rattle.raft_script.specs.Entry.{IsTextOf, index_of, indexed_bytes}
 use Rattle.raft_purge.specs.Unfit.{IsUnfit}
 use Rattle.raft_script.specs.declared.operation.Act.{Act}
 use Rattle.raft_script.specs.declared.operation.Act.TheVariants as act
@@ -40,7 +40,7 @@ items_of_act (act.Put group key value) = if is_internal_key key.items then None 
 items_of_act (act.Delete group key) =
     Some (record { group = group; content = Delete key.items } ∷ [])
 items_of_act (act.Entries group entries) =
-    Some (entries_items group (map entry_of_text entries.items))
+    Some (entries_items group (map indexed_bytes entries.items))
 items_of_act (act.Clean group) = Some (record { group = group; content = Clean } ∷ [])
 items_of_act (act.Compact group index) =
     Some (record { group = group; content = Compact index } ∷ [])

@@ -1,17 +1,14 @@
-//! Operations on an engine as a list, crashes among them, and the program `raftlog` over any reader and writer.
+//! Operations on an engine as a list, and trials of them with a crash.
 #![tactic(auto)]
 
-mod answer;
-mod line;
+mod number;
 mod operation;
-mod program;
 mod runs;
-mod scan;
 mod text_entry;
 mod trials;
 
+pub use number::number_of;
 pub use operation::{Act, Op, Outcome, Trial};
-pub use program::{Ended, serve};
-pub use runs::run;
-pub use text_entry::TextEntry;
+pub use runs::{run, step};
+pub use text_entry::{TextEntry, entries_between};
 pub use trials::{a_folder_alone_has_no_log_path, trial};

@@ -9,7 +9,8 @@ use raft_records::{Fault, FileSeq};
 pub enum Act {
     Put(u64, Vec<u8>, Vec<u8>),
     Delete(u64, Vec<u8>),
-    Entries(u64, Vec<TextEntry>),
+    /// Entries with their indexes and bytes.
+    Entries(u64, Vec<(u64, Vec<u8>)>),
     /// The group goes, with its entries and keys.
     Clean(u64),
     /// The entries below an index go.

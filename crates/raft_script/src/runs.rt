@@ -2,11 +2,13 @@
 ghost use Rattle.std.specs.Prelude.{All, ◌≡◌, ◌⊎◌, ◌≤◌, ◌^◌, ◌++◌, false, length, map, Some, None, IfOk, IfErr, OnOk, OnErr};
 ghost use Rattle.raft_records.specs.Contents.{after_batches};
 ghost use Rattle.raft_base.specs.Fault.{fault_code};
+ghost use Rattle.raft_records.specs.Batch.{raw_entries, size_refusal, with_entries_item};
 ghost use Rattle.raft_records.specs.Item.{Batch};
 ghost use Rattle.raft_records.specs.Layout.{entry_bytes};
 ghost use Rattle.raft_held.specs.Crash.{LeavesAllowed};
 ghost use Rattle.raft_log_engine.specs.Group.{items_of};
 ghost use Rattle.raft_log_engine.specs.Engine.{begun_of, contents_of, directory_of, durable_of, folders_of, has_failed, refusals_of, unsynced_of};
+ghost use Rattle.raft_script.specs.Entry.{indexed_bytes};
 ghost use Rattle.raft_script.specs.Durability.{AreAllowedInside, Does, HaveRun, IsAnswerOf, Runs};
 ghost use Rattle.raft_script.specs.Purges.{HasPurgedAs, queues_view};
 ghost use Rattle.raft_script.specs.Run.{IsUnbuilt, IsUnbuiltGroup, IsFailing, IsUnasked, Refuses, accepted_of, batch_of_acts, batches_of_parts, items_of_act};
@@ -16,8 +18,8 @@ use crate::text_entry::TextEntry;
 use raft_env::FileSystem;
 use raft_log_engine::Engine;
 use raft_log_engine::laws::an_engine_recovers_what_it_keeps;
-use raft_records::{Command, Fault, LogBatch};
-use std::alloc::Global;
+use raft_records::{Command, EntryIndex, Fault, LogBatch};
+use std::alloc::{AllocError, Global};
 
 /// Outcomes, and the place of the operation in which the engine failed.
 #[derive(Drop)]
@@ -97,7 +99,8 @@ pub(crate) fn run_watched<F: FileSystem>(
     })
 }
 
-pub(crate) fn step<F: FileSystem>(alloc: Global, engine: &mut Engine<F>, op: &Op) -> Outcome
+/// Does one operation, as `run` does each of its own.
+pub fn step<F: FileSystem>(alloc: Global, engine: &mut Engine<F>, op: &Op) -> Outcome
     ensures value { IsAnswerOf op.now result engine.old }
     ensures failed { IsFailing (has_failed engine.old) op.now result (has_failed engine.new) }
     ensures unchanged { IsUnasked op.now → engine.new ≡ engine.old }
@@ -179,10 +182,51 @@ fn add(alloc: Global, batch: &mut LogBatch, act: &Act) -> Result<(), Fault>
             batch.put(*group, key.to_vec(alloc)?, value.to_vec(alloc)?)
         }
         Act::Delete(group, key) => batch.delete(*group, key.to_vec(alloc)?),
-        Act::Entries(group, entries) => batch.add_entries::<TextEntry>(*group, entries),
+        Act::Entries(group, entries) => add_entries(alloc, batch, *group, entries),
         Act::Clean(group) => batch.add_command(*group, Command::Clean),
         Act::Compact(group, index) => {
             batch.add_command(*group, Command::Compact { index: *index })
         }
     }
+}
+
+// The entries as one item, and nothing for none.
+fn add_entries(
+    alloc: Global,
+    batch: &mut LogBatch,
+    group: u64,
+    entries: &[(u64, Vec<u8>)],
+) -> Result<(), Fault>
+    ensures ok { OnOk result (batch.new
+        ≡ with_entries_item batch.old group (map indexed_bytes entries.now)) }
+    ensures refused { let refusal = size_refusal
+        (with_entries_item batch.old group (map indexed_bytes entries.now)).items in
+        IfErr result (λ e. (refusal ≡ Some e) ⊎ (e ≡ Fault.Memory)) }
+{
+    let (indexes, bytes) = split_entries(alloc, entries)?;
+    batch.add_raw_entries(group, indexes, bytes)
+}
+
+// The indexes of entries, and copies of their bytes.
+fn split_entries(
+    alloc: Global,
+    entries: &[(u64, Vec<u8>)],
+) -> Result<(Vec<EntryIndex>, Vec<Vec<u8>>), AllocError>
+    ensures len { IfOk result (λ split. length split.0.items ≡ length split.1.items) }
+    ensures value { IfOk result (λ split. raw_entries split.0.items
+        (map (λ bytes. bytes.items) split.1.items) ≡ map indexed_bytes entries.now) }
+{
+    let mut indexes = Vec::with_capacity(alloc, entries.len())?;
+    let mut copies = Vec::with_capacity(alloc, entries.len())?;
+    for entry in entries {
+        indexes.push(EntryIndex {
+            index: entry.0,
+            entries: None,
+            entry_offset: 0,
+            entry_len: 0,
+            lz4: false,
+        })?;
+        copies.push(entry.1.to_vec(alloc)?)?;
+    }
+    Ok((indexes, copies))
 }

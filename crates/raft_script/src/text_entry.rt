@@ -2,9 +2,9 @@
 ghost use Rattle.std.specs.Prelude.{◌≡◌, ◌==◌, ◌<◌, ◌≤◌, ◌^◌, ℕ, IfOk, List, length, map, MatchOption};
 ghost use Rattle.std.specs.Fmt.{decimal};
 ghost use Rattle.std.specs.List.{position_or_len};
-ghost use Rattle.raft_script.specs.Entry.{IsTextOf, bytes_of_entry, index_of, indexed_word, indexed_words, text_bytes};
+ghost use Rattle.raft_script.specs.Entry.{IsTextOf, bytes_of_entry, index_of, indexed_bytes, text_bytes, text_entries};
 
-use crate::line::number_of;
+use crate::number::number_of;
 use itoa::Buffer;
 use raft_records::{Fault, Message, MessageExt};
 use std::alloc::{AllocError, Global};
@@ -47,22 +47,32 @@ impl MessageExt for TextEntry {
     }
 }
 
-/// Entries with the indexes from `first` to `last` and this word.
-pub(crate) fn entries_between(
+/// The indexes from `first` to `last`, each with the bytes of its entry of text with this word.
+pub fn entries_between(
     alloc: Global,
     first: u64,
     last: u64,
     word: &[u8],
-) -> Result<Vec<TextEntry>, AllocError>
-    ensures value { IfOk result (λ entries. map indexed_word entries.items
-        ≡ indexed_words first last word.now) }
+) -> Result<Vec<(u64, Vec<u8>)>, AllocError>
+    ensures value { IfOk result (λ entries. map indexed_bytes entries.items
+        ≡ text_entries first last word.now) }
 {
     let mut entries = Vec::new(alloc);
     for index in first..=last {
-        let word = word.to_vec(alloc)?;
-        entries.push(TextEntry { index, word })?;
+        let text = text_of(alloc, index, word)?;
+        entries.push((index, text))?;
     }
     Ok(entries)
+}
+
+fn text_of(alloc: Global, index: u64, word: &[u8]) -> Result<Vec<u8>, AllocError>
+    ensures value { IfOk result (λ text. text.items ≡ text_bytes index word.now) }
+{
+    let word = word.to_vec(alloc)?;
+    let entry = TextEntry { index, word };
+    let mut text = Vec::new(alloc);
+    entry.to_bytes(&mut text)?;
+    Ok(text)
 }
 
 // The index before the first colon, and the word after it.

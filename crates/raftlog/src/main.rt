@@ -1,7 +1,7 @@
 //! Reads lines on standard input, does what each asks for over a log in memory, and prints the answers.
 #![tactic(auto)]
 
-use raft_script::{Ended, serve};
+use raft_lines::{Ended, serve};
 use std::io;
 use std::process::ExitCode;
 

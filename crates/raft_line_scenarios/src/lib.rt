@@ -1,0 +1,7 @@
+//! Tests of the program: scripts, what they print and how they end.
+#![tactic(auto)]
+
+#[cfg(test)]
+mod entries;
+#[cfg(test)]
+mod program;

@@ -1,0 +1,11 @@
+use Rattle.raft_held.specs.Contents.{contents_at, known_at}
+use Rattle.raft_lines.proofs.ProgramLemmas.{opened_with, opens_to}
+use Rattle.raft_lines.specs.Program.{IsNewWith}
+use Rattle.raft_config.specs.Folders.{folders_in}
+use Rattle.raft_lines.proofs.program.open_again.Goals as goal
+
+pub returns : goal.returns
+returns g c =
+    let dir = folders_in c.args.config in
+    let files = g.F.FileSystem.directory c.args.files in
+    record { value = opens_to (IsNewWith dir (contents_at dir files) (known_at dir files)) c.open_in_order.result c.answer_opening.result c.answer_opening.new.engine c.answer_opening.ensures.value (opened_with dir files c.open_in_order.result c.open_in_order.ensures.ok c.open_in_order.ensures.value) }

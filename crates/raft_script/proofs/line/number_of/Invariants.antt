@@ -1,7 +1,0 @@
-use Rattle.std.proofs.Common.{◌≡◌, ◌<◌, ◌^◌, drop}
-use Rattle.raft_script.specs.Line.{number_in}
-use Rattle.raft_script.proofs.LineLemmas.{number_from}
-use Rattle.raft_script.proofs.line.number_of.Given as goal
-
-abbrev pub invariant-loop-byte : goal.invariant-loop-byte
-invariant-loop-byte l = (l.number < 2 ^ 64) × (number_from l.number (drop l.byte-index l.word) ≡ number_in l.word)
