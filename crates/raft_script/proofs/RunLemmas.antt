@@ -26,7 +26,7 @@ use Rattle.raft_log_engine.specs.declared.engine.Engine.{Engine}
 use Rattle.raft_held.specs.Contents.{known_from}
 use Rattle.raft_held.specs.Crash.{written_batch}
 use Rattle.raft_purge.specs.Unfit.{IsUnfit}
-use Rattle.raft_script.specs.Run.{accepted_of, AreAnswers, AreSteady, FailsAt, FailsBy, IsFailing, IsFailurePlace, Refuses, StorageRefusalsRoseBy, batch_of_acts, batches_after, batches_after_all, io_count, io_in, is_io, IsAnswer, FailsInPurge, IsCompactRefusal, IsEngineRefusal, IsGetRefusal, IsPurgeAnswer, IsPurgeFailure, IsRefusedPurge, IsOutOfNumbers, IsSteadyBy, IsStorageOrMemory, IsTextRefusal, IsUnbuilt, IsGiven, IsWritten, IsWriteRefusal, compaction_in, items_of_act, of_both}
+use Rattle.raft_script.specs.Run.{accepted_of, AreAnswers, AreSteady, FailsAt, FailsBy, IsFailing, IsFailurePlace, Refuses, StorageRefusalsRoseBy, batch_of_acts, batches_after, batches_after_all, io_count, io_in, is_io, IsAnswer, FailsInPurge, IsCompactRefusal, IsEngineRefusal, IsGetRefusal, IsPurgeAnswer, IsPurgeFailure, IsRenewalFailure, IsRefusedPurge, IsOutOfNumbers, IsSteadyBy, IsStorageOrMemory, IsTextRefusal, IsUnbuilt, IsGiven, IsWritten, IsWriteRefusal, compaction_in, items_of_act, of_both}
 use Rattle.raft_log_engine.specs.Reads.{IsEntryAnswer, IsEntryRefusalAt, IsGroupList, compact_count, entry_of}
 use Rattle.raft_script.specs.Entry.{IsTextOf, index_of}
 use Rattle.raft_script.specs.declared.text_entry.TextEntry.{TextEntry}
@@ -227,9 +227,9 @@ compaction_fails P R Q failed fails folders p old new result ok told still cause
     caused (Err e) ok cause alive dies = by_fault e (cause alive) dies
 
 -- a purge
-module _ (x : Contents) (append rewrite : PipeState) (failed fails : Bool) (folders : Folders) (old new : Refusals) (result : Result ℕ Fault) (told : (result ≡ Err fault.Failed) ↔ (failed ≡ true)) (cause : failed ≡ false → IfErr result (purges.IsPurgeFault x append rewrite folders fails old new)) where
+module _ (x : Contents) (append rewrite : PipeState) (open no_id : Type 0) (failed fails : Bool) (folders : Folders) (old new : Refusals) (result : Result ℕ Fault) (told : (result ≡ Err fault.Failed) ↔ (failed ≡ true)) (cause : failed ≡ false → IfErr result (purges.IsPurgeFault x append rewrite open no_id folders fails old new)) where
   abbrev IsCaused : Fault → Type 0
-  IsCaused e = purges.IsPurgeFault x append rewrite folders fails old new e
+  IsCaused e = purges.IsPurgeFault x append rewrite open no_id folders fails old new e
 
   -- is answered so
   pub purge_answered : (m : Contents) → (failed ≡ false → m ≡ x) → IsPurgeAnswer m result
@@ -266,26 +266,46 @@ module _ (x : Contents) (append rewrite : PipeState) (failed fails : Bool) (fold
       ]
       by_result (Err _) told cause io = absurd cc
 
-  -- it fails an engine by storage, for lack of memory or for want of space alone
-  pub purge_fails : IfOk result (λ _. fails ≡ false) → (failed ≡ true → fails ≡ true) → FailsInPurge failed result fails
-  purge_fails ok still = record {
+  -- it fails an engine for such a cause alone
+  fails_for : (P : Fault → Type 0) → ((e : Fault) → IsCaused e → fails ≡ true → P e) → IfOk result (λ _. fails ≡ false) → (failed ≡ true → fails ≡ true) → FailsInPurge P failed result fails
+  fails_for P by_fault ok still = record {
     still = still;
     only_failed = told.0;
     refused = λ gone. inl (told.1 gone);
     cause = by_result result told cause ok;
   }
     where
+      by_result : (r : Result ℕ Fault) → ((r ≡ Err fault.Failed) ↔ (failed ≡ true)) → (failed ≡ false → IfErr r IsCaused) → IfOk r (λ _. fails ≡ false) → failed ≡ false → fails ≡ true → IsErrAnd r P
+      by_result (Ok count) told cause ok alive dies = absurd (let clash = sym dies ∙ ok in cc)
+      by_result (Err e) told cause ok alive dies = by_fault e (cause alive) dies
+
+  stood : (fails ≡ false) ⊎ open → (open → ⊥) → fails ≡ true → ⊥
+  stood (inl alive) never dies = absurd (let clash = sym dies ∙ alive in cc)
+  stood (inr there) never dies = never there
+
+  -- by storage, for lack of memory or for want of space, where no atomic group is left open
+  pub purge_fails : (open → ⊥) → IfOk result (λ _. fails ≡ false) → (failed ≡ true → fails ≡ true) → FailsInPurge IsPurgeFailure failed result fails
+  purge_fails never = fails_for IsPurgeFailure by_fault
+    where
       by_fault : (e : Fault) → IsCaused e → fails ≡ true → IsPurgeFailure e
-      by_fault (fault.InvalidArgument text) h dies = absurd (let clash = sym dies ∙ h.0 in cc)
+      by_fault (fault.InvalidArgument text) h dies = absurd (stood h.0 never dies)
       by_fault (fault.Io kind path) h dies = tt
       by_fault fault.Memory h dies = tt
       by_fault fault.TryAgain h dies = tt
-      by_fault fault.Range h dies = absurd (let clash = sym dies ∙ h.0 in cc)
+      by_fault fault.Range h dies = absurd (stood h.0 never dies)
       by_fault _ h dies = absurd h
 
-      by_result : (r : Result ℕ Fault) → ((r ≡ Err fault.Failed) ↔ (failed ≡ true)) → (failed ≡ false → IfErr r IsCaused) → IfOk r (λ _. fails ≡ false) → failed ≡ false → fails ≡ true → IsErrAnd r IsPurgeFailure
-      by_result (Ok count) told cause ok alive dies = absurd (let clash = sym dies ∙ ok in cc)
-      by_result (Err e) told cause ok alive dies = by_fault e (cause alive) dies
+  -- .. for each cause of its own
+  pub renewal_fails : IfOk result (λ _. fails ≡ false) → (failed ≡ true → fails ≡ true) → FailsInPurge IsRenewalFailure failed result fails
+  renewal_fails = fails_for IsRenewalFailure by_fault
+    where
+      by_fault : (e : Fault) → IsCaused e → fails ≡ true → IsRenewalFailure e
+      by_fault (fault.InvalidArgument text) h dies = tt
+      by_fault (fault.Io kind path) h dies = tt
+      by_fault fault.Memory h dies = tt
+      by_fault fault.TryAgain h dies = tt
+      by_fault fault.Range h dies = tt
+      by_fault _ h dies = absurd h
 
 -- .. and so are the groups
 pub groups_answered : (m n : Contents) (known is_known : ℕ → Bool) (failed : Bool) (same : failed ≡ false → m ≡ n) (same_known : failed ≡ false → known ≡ is_known) (result : Result (Vec ℕ Global) Fault) → IfOk result (λ groups. IsGroupList n is_known groups.items) → ((result ≡ Err fault.Failed) ↔ (failed ≡ true)) → IfErr result (λ e. (e ≡ fault.Failed) ⊎ (e ≡ fault.Memory))

@@ -359,6 +359,12 @@ abbrev pub IsPurgeFailure : Fault → Type 0
 IsPurgeFailure fault.TryAgain = Unit {0}
 IsPurgeFailure e = IsStorageOrMemory e
 
+-- .. or, behind the first batch of an atomic group, for each other cause
+abbrev pub IsRenewalFailure : Fault → Type 0
+IsRenewalFailure fault.Range = Unit {0}
+IsRenewalFailure (fault.InvalidArgument text) = Unit {0}
+IsRenewalFailure e = IsPurgeFailure e
+
 -- an engine answers so and fails, or doesn't; an answer that isn't the engine's is one of the
 -- others
 pub record FailsFor {T : Type 0} (IsCause : Fault → Type 0) (failed : Bool) (answer : Result T Fault)
@@ -375,9 +381,9 @@ pub record FailsFor {T : Type 0} (IsCause : Fault → Type 0) (failed : Bool) (a
 abbrev pub FailsBy : {T : Type 0} → Bool → Result T Fault → Bool → (Fault → Type 0) → Type 0
 FailsBy failed answer fails Other = FailsFor IsStorageOrMemory failed answer fails Other
 
--- .. in a purge
-abbrev pub FailsInPurge : Bool → Result ℕ Fault → Bool → Type 0
-FailsInPurge failed answer fails = FailsFor IsPurgeFailure failed answer fails (λ _. ⊥)
+-- .. in a purge, for such a cause
+abbrev pub FailsInPurge : (Fault → Type 0) → Bool → Result ℕ Fault → Bool → Type 0
+FailsInPurge IsCause failed answer fails = FailsFor IsCause failed answer fails (λ _. ⊥)
 
 -- .. and has failed or not as before
 abbrev pub IsSteadyBy : {T : Type 0} → Bool → Result T Fault → Bool → Type 0
@@ -400,9 +406,10 @@ IsFailing failed (First group) (Index index) fails = fails ≡ failed
 IsFailing failed (Last group) (Index index) fails = fails ≡ failed
 IsFailing failed operation.Groups (reply.Groups answer) fails = IsSteadyBy failed answer fails
 IsFailing failed (RewriteAppend watermark step) (Dropped answer) fails =
-    FailsInPurge failed answer fails
-IsFailing failed RewriteRewrite (Dropped answer) fails = FailsInPurge failed answer fails
-IsFailing failed PurgeStale (Dropped answer) fails = FailsInPurge failed answer fails
+    FailsInPurge IsPurgeFailure failed answer fails
+IsFailing failed RewriteRewrite (Dropped answer) fails =
+    FailsInPurge IsRenewalFailure failed answer fails
+IsFailing failed PurgeStale (Dropped answer) fails = FailsInPurge IsPurgeFailure failed answer fails
 IsFailing failed _ _ fails = ⊥
 
 -- each of the operations leaves the engine as it found it, failed or standing

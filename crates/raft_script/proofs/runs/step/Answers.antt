@@ -11,8 +11,9 @@ use Rattle.raft_held.specs.Crash.{pending_of, written_batch}
 use Rattle.raft_script.specs.declared.operation.Op.TheVariants.{PurgeStale, RewriteAppend, RewriteRewrite, Sync, Write}
 use Rattle.raft_script.proofs.DurabilityLemmas.{moments_of_batch, written_progress}
 use Rattle.raft_script.proofs.RunAnswersLemmas.{does_compact, does_purge, does_read, in_flight, purge_stands, read_same}
-use Rattle.raft_script.proofs.RunLemmas.{compaction_answered, compaction_fails, entry_answered, entry_rose, groups_answered, purge_answered, purge_fails, purge_rose, steady_by, write_answered}
+use Rattle.raft_script.proofs.RunLemmas.{compaction_answered, compaction_fails, entry_answered, entry_rose, groups_answered, purge_answered, purge_fails, purge_rose, renewal_fails, steady_by, write_answered}
 use Rattle.raft_log_engine.specs.Group.{items_of, written_in}
+use Rattle.raft_log_engine.specs.Purge.{HasLastId, HasOpenGroup}
 use Rattle.raft_records.specs.Batch.{BatchView}
 use Rattle.raft_script.proofs.GroupLemmas.{does_group, group_answered, group_fails, group_refuses, unbuilt_answered, unbuilt_fails}
 use Rattle.raft_script.proofs.runs.step.Given.{Over}
@@ -160,21 +161,21 @@ returns-in-RewriteAppend-clause-value g c =
     let e = c.args.engine.now in
     let n = c.must_rewrite_append_queue.new.self in
     let purged = c.must_rewrite_append_queue.ensures in
-    rw c.in-RewriteAppend.is (λ m known same same_known. purge_answered (contents_of e) (queue_of n) (rewrite_queue_of n) (has_failed e) (has_failed n) (folders_of e) (refusals_of e) (refusals_of n) c.must_rewrite_append_queue.result purged.failed purged.cause m same)
+    rw c.in-RewriteAppend.is (λ m known same same_known. purge_answered (contents_of e) (queue_of n) (rewrite_queue_of n) ⊥ ⊥ (has_failed e) (has_failed n) (folders_of e) (refusals_of e) (refusals_of n) c.must_rewrite_append_queue.result purged.failed purged.cause m same)
 
 pub returns-in-RewriteAppend-clause-failed : goal.returns-in-RewriteAppend-clause-failed
 returns-in-RewriteAppend-clause-failed g c =
     let e = c.args.engine.now in
     let n = c.must_rewrite_append_queue.new.self in
     let purged = c.must_rewrite_append_queue.ensures in
-    rw c.in-RewriteAppend.is (purge_fails (contents_of e) (queue_of n) (rewrite_queue_of n) (has_failed e) (has_failed n) (folders_of e) (refusals_of e) (refusals_of n) c.must_rewrite_append_queue.result purged.failed purged.cause (purge_stands c.must_rewrite_append_queue.result (durability_of e) (durability_of n) purged.progress) (λ gone. (purged.unchanged gone).failed))
+    rw c.in-RewriteAppend.is (purge_fails (contents_of e) (queue_of n) (rewrite_queue_of n) ⊥ ⊥ (has_failed e) (has_failed n) (folders_of e) (refusals_of e) (refusals_of n) c.must_rewrite_append_queue.result purged.failed purged.cause (λ there. there) (purge_stands c.must_rewrite_append_queue.result (durability_of e) (durability_of n) purged.progress) (λ gone. (purged.unchanged gone).failed))
 
 pub returns-in-RewriteAppend-clause-refused : goal.returns-in-RewriteAppend-clause-refused
 returns-in-RewriteAppend-clause-refused g c =
     let e = c.args.engine.now in
     let n = c.must_rewrite_append_queue.new.self in
     let purged = c.must_rewrite_append_queue.ensures in
-    (purged.others.counts, purge_rose (contents_of e) (queue_of n) (rewrite_queue_of n) (has_failed e) (has_failed n) (folders_of e) (refusals_of e) (refusals_of n) c.must_rewrite_append_queue.result purged.failed purged.cause)
+    (purged.others.counts, purge_rose (contents_of e) (queue_of n) (rewrite_queue_of n) ⊥ ⊥ (has_failed e) (has_failed n) (folders_of e) (refusals_of e) (refusals_of n) c.must_rewrite_append_queue.result purged.failed purged.cause)
 
 pub returns-in-RewriteAppend-clause-progress : goal.returns-in-RewriteAppend-clause-progress
 returns-in-RewriteAppend-clause-progress g c =
@@ -188,21 +189,21 @@ returns-in-RewriteRewrite-clause-value g c =
     let e = c.args.engine.now in
     let n = c.must_rewrite_rewrite_queue.new.self in
     let purged = c.must_rewrite_rewrite_queue.ensures in
-    rw c.in-RewriteRewrite.is (λ m known same same_known. purge_answered (contents_of e) (queue_of n) (rewrite_queue_of n) (has_failed e) (has_failed n) (folders_of e) (refusals_of e) (refusals_of n) c.must_rewrite_rewrite_queue.result purged.failed purged.cause m same)
+    rw c.in-RewriteRewrite.is (λ m known same same_known. purge_answered (contents_of e) (queue_of n) (rewrite_queue_of n) (HasOpenGroup n) (HasLastId n) (has_failed e) (has_failed n) (folders_of e) (refusals_of e) (refusals_of n) c.must_rewrite_rewrite_queue.result purged.failed purged.cause m same)
 
 pub returns-in-RewriteRewrite-clause-failed : goal.returns-in-RewriteRewrite-clause-failed
 returns-in-RewriteRewrite-clause-failed g c =
     let e = c.args.engine.now in
     let n = c.must_rewrite_rewrite_queue.new.self in
     let purged = c.must_rewrite_rewrite_queue.ensures in
-    rw c.in-RewriteRewrite.is (purge_fails (contents_of e) (queue_of n) (rewrite_queue_of n) (has_failed e) (has_failed n) (folders_of e) (refusals_of e) (refusals_of n) c.must_rewrite_rewrite_queue.result purged.failed purged.cause (purge_stands c.must_rewrite_rewrite_queue.result (durability_of e) (durability_of n) purged.progress) (λ gone. (purged.unchanged gone).failed))
+    rw c.in-RewriteRewrite.is (renewal_fails (contents_of e) (queue_of n) (rewrite_queue_of n) (HasOpenGroup n) (HasLastId n) (has_failed e) (has_failed n) (folders_of e) (refusals_of e) (refusals_of n) c.must_rewrite_rewrite_queue.result purged.failed purged.cause (purge_stands c.must_rewrite_rewrite_queue.result (durability_of e) (durability_of n) purged.progress) (λ gone. (purged.unchanged gone).failed))
 
 pub returns-in-RewriteRewrite-clause-refused : goal.returns-in-RewriteRewrite-clause-refused
 returns-in-RewriteRewrite-clause-refused g c =
     let e = c.args.engine.now in
     let n = c.must_rewrite_rewrite_queue.new.self in
     let purged = c.must_rewrite_rewrite_queue.ensures in
-    (purged.others.counts, purge_rose (contents_of e) (queue_of n) (rewrite_queue_of n) (has_failed e) (has_failed n) (folders_of e) (refusals_of e) (refusals_of n) c.must_rewrite_rewrite_queue.result purged.failed purged.cause)
+    (purged.others.counts, purge_rose (contents_of e) (queue_of n) (rewrite_queue_of n) (HasOpenGroup n) (HasLastId n) (has_failed e) (has_failed n) (folders_of e) (refusals_of e) (refusals_of n) c.must_rewrite_rewrite_queue.result purged.failed purged.cause)
 
 pub returns-in-RewriteRewrite-clause-progress : goal.returns-in-RewriteRewrite-clause-progress
 returns-in-RewriteRewrite-clause-progress g c =
@@ -216,21 +217,21 @@ returns-in-PurgeStale-clause-value g c =
     let e = c.args.engine.now in
     let n = c.must_purge_all_stale.new.self in
     let purged = c.must_purge_all_stale.ensures in
-    rw c.in-PurgeStale.is (λ m known same same_known. purge_answered (contents_of e) (queue_of n) (rewrite_queue_of n) (has_failed e) (has_failed n) (folders_of e) (refusals_of e) (refusals_of n) c.must_purge_all_stale.result purged.failed purged.cause m same)
+    rw c.in-PurgeStale.is (λ m known same same_known. purge_answered (contents_of e) (queue_of n) (rewrite_queue_of n) ⊥ ⊥ (has_failed e) (has_failed n) (folders_of e) (refusals_of e) (refusals_of n) c.must_purge_all_stale.result purged.failed purged.cause m same)
 
 pub returns-in-PurgeStale-clause-failed : goal.returns-in-PurgeStale-clause-failed
 returns-in-PurgeStale-clause-failed g c =
     let e = c.args.engine.now in
     let n = c.must_purge_all_stale.new.self in
     let purged = c.must_purge_all_stale.ensures in
-    rw c.in-PurgeStale.is (purge_fails (contents_of e) (queue_of n) (rewrite_queue_of n) (has_failed e) (has_failed n) (folders_of e) (refusals_of e) (refusals_of n) c.must_purge_all_stale.result purged.failed purged.cause (purge_stands c.must_purge_all_stale.result (durability_of e) (durability_of n) purged.progress) (λ gone. (purged.unchanged gone).failed))
+    rw c.in-PurgeStale.is (purge_fails (contents_of e) (queue_of n) (rewrite_queue_of n) ⊥ ⊥ (has_failed e) (has_failed n) (folders_of e) (refusals_of e) (refusals_of n) c.must_purge_all_stale.result purged.failed purged.cause (λ there. there) (purge_stands c.must_purge_all_stale.result (durability_of e) (durability_of n) purged.progress) (λ gone. (purged.unchanged gone).failed))
 
 pub returns-in-PurgeStale-clause-refused : goal.returns-in-PurgeStale-clause-refused
 returns-in-PurgeStale-clause-refused g c =
     let e = c.args.engine.now in
     let n = c.must_purge_all_stale.new.self in
     let purged = c.must_purge_all_stale.ensures in
-    (purged.others.counts, purge_rose (contents_of e) (queue_of n) (rewrite_queue_of n) (has_failed e) (has_failed n) (folders_of e) (refusals_of e) (refusals_of n) c.must_purge_all_stale.result purged.failed purged.cause)
+    (purged.others.counts, purge_rose (contents_of e) (queue_of n) (rewrite_queue_of n) ⊥ ⊥ (has_failed e) (has_failed n) (folders_of e) (refusals_of e) (refusals_of n) c.must_purge_all_stale.result purged.failed purged.cause)
 
 pub returns-in-PurgeStale-clause-progress : goal.returns-in-PurgeStale-clause-progress
 returns-in-PurgeStale-clause-progress g c =
