@@ -82,14 +82,14 @@ IsRunRefusal _ groups d d' n' old new U f = IsPurgeRefusal d d' old new U f
 -- open; and for want of space, which fails one and is to be tried again
 abbrev pub IsPurgeFault : Contents → PipeState → PipeState → Type 0 → Type 0 → Folders → Bool
     → Refusals → Refusals → Fault → Type 0
-IsPurgeFault x append rewrite open no_id folders fails old new fault.Range =
-    ((fails ≡ false) ⊎ open)
+IsPurgeFault x append rewrite ends_open no_id folders fails old new fault.Range =
+    ((fails ≡ false) ⊎ ends_open)
     × (IsUnfit x fault.Range ⊎ (no_id ⊎ (HasLastNumber append ⊎ HasLastNumber rewrite)))
-IsPurgeFault x append rewrite open no_id folders fails old new (fault.InvalidArgument text) =
-    ((fails ≡ false) ⊎ open) × IsUnfit x (fault.InvalidArgument text)
-IsPurgeFault x append rewrite open no_id folders fails old new fault.TryAgain =
+IsPurgeFault x append rewrite ends_open no_id folders fails old new (fault.InvalidArgument text) =
+    ((fails ≡ false) ⊎ ends_open) × IsUnfit x (fault.InvalidArgument text)
+IsPurgeFault x append rewrite ends_open no_id folders fails old new fault.TryAgain =
     StorageRefusalsRose old new × (fails ≡ true)
-IsPurgeFault x append rewrite open no_id folders fails old new e = IsRefusalIn folders old new e
+IsPurgeFault x append rewrite ends_open no_id folders fails old new e = IsRefusalIn folders old new e
 
 -- some log is so
 abbrev pub IsOfSome : LogState → Type 0

@@ -227,9 +227,9 @@ compaction_fails P R Q failed fails folders p old new result ok told still cause
     caused (Err e) ok cause alive dies = by_fault e (cause alive) dies
 
 -- a purge
-module _ (x : Contents) (append rewrite : PipeState) (open no_id : Type 0) (failed fails : Bool) (folders : Folders) (old new : Refusals) (result : Result ℕ Fault) (told : (result ≡ Err fault.Failed) ↔ (failed ≡ true)) (cause : failed ≡ false → IfErr result (purges.IsPurgeFault x append rewrite open no_id folders fails old new)) where
+module _ (x : Contents) (append rewrite : PipeState) (ends_open no_id : Type 0) (failed fails : Bool) (folders : Folders) (old new : Refusals) (result : Result ℕ Fault) (told : (result ≡ Err fault.Failed) ↔ (failed ≡ true)) (cause : failed ≡ false → IfErr result (purges.IsPurgeFault x append rewrite ends_open no_id folders fails old new)) where
   abbrev IsCaused : Fault → Type 0
-  IsCaused e = purges.IsPurgeFault x append rewrite open no_id folders fails old new e
+  IsCaused e = purges.IsPurgeFault x append rewrite ends_open no_id folders fails old new e
 
   -- is answered so
   pub purge_answered : (m : Contents) → (failed ≡ false → m ≡ x) → IsPurgeAnswer m result
@@ -279,12 +279,12 @@ module _ (x : Contents) (append rewrite : PipeState) (open no_id : Type 0) (fail
       by_result (Ok count) told cause ok alive dies = absurd (let clash = sym dies ∙ ok in cc)
       by_result (Err e) told cause ok alive dies = by_fault e (cause alive) dies
 
-  stood : (fails ≡ false) ⊎ open → (open → ⊥) → fails ≡ true → ⊥
+  stood : (fails ≡ false) ⊎ ends_open → (ends_open → ⊥) → fails ≡ true → ⊥
   stood (inl alive) never dies = absurd (let clash = sym dies ∙ alive in cc)
   stood (inr there) never dies = never there
 
   -- by storage, for lack of memory or for want of space, where no atomic group is left open
-  pub purge_fails : (open → ⊥) → IfOk result (λ _. fails ≡ false) → (failed ≡ true → fails ≡ true) → FailsInPurge IsPurgeFailure failed result fails
+  pub purge_fails : (ends_open → ⊥) → IfOk result (λ _. fails ≡ false) → (failed ≡ true → fails ≡ true) → FailsInPurge IsPurgeFailure failed result fails
   purge_fails never = fails_for IsPurgeFailure by_fault
     where
       by_fault : (e : Fault) → IsCaused e → fails ≡ true → IsPurgeFailure e
