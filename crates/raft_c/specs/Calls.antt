@@ -1,0 +1,99 @@
+-- What calls on an open log do and answer, by what its engine holds.
+use Rattle.std.specs.Prelude.{◌≡◌, ◌+◌, ℕ, Bool, true, false, List, [], length, map, Option, Some, None, drop, option_map, if◌then◌else◌, nat_eq}
+use Rattle.raft_env.specs.declared.env.FileSystem.{Ghosts}
+use Rattle.raft_held.specs.Crash.{pending_of, written_batch}
+use Rattle.raft_records.specs.Contents.{Contents, after_batch, first_index_of, last_index_of}
+use Rattle.raft_records.specs.Item.{Batch, Entry}
+use Rattle.raft_c_batch.specs.Batch.{entries_bytes, read_batch}
+use Rattle.raft_log_engine.specs.Advance.{Advances, state_of}
+use Rattle.raft_log_engine.specs.Durability.{HasWritten}
+use Rattle.raft_log_engine.specs.Engine.{contents_of, is_known_in, queue_of}
+use Rattle.raft_log_engine.specs.Image.{IsWithout}
+use Rattle.raft_log_engine.specs.Reads.{IsFetchable, IsGroupList, compact_batch, compact_count, entries_to_fetch, entry_of}
+use Rattle.raft_log_engine.specs.declared.engine.Engine.{Engine}
+use Rattle.raft_c.specs.Answers.{numbers_bytes}
+use Rattle.raft_c.specs.declared.answer.Answer.{Answer}
+use Rattle.raft_c.specs.declared.open_log.Change.{Change}
+use Rattle.raft_c.specs.declared.open_log.Change.TheVariants.{Write, Sync, CompactTo, PurgeStaleFront}
+use Rattle.raft_c.specs.declared.open_log.Fetch.{Fetch}
+use Rattle.raft_c.specs.declared.open_log.Query.{Query}
+use Rattle.raft_c.specs.declared.open_log.Query.TheVariants as query
+
+-- bytes that were found
+abbrev pub answered : Bool → List ℕ → Option (List ℕ)
+answered true bytes = Some bytes
+answered false bytes = None
+
+-- the bound of a fetch; 0 is none
+abbrev pub max_of : ℕ → Option ℕ
+max_of size = if nat_eq size 0 then None else Some size
+
+abbrev pub fetch_of : ℕ → ℕ → ℕ → ℕ → Fetch
+fetch_of group begin end max = record { group = group; begin = begin; end = end; max_size = max }
+
+-- a group without entries and keys answers nothing, another one its entries between the bounds
+pub record IsFetchAnswer (fetch : Fetch) (m : Contents) (answer : List ℕ) : Type 0 where
+  pub without : IsWithout m fetch.group → answer ≡ []
+  pub fetched :
+      (IsWithout m fetch.group → ⊥) → IsFetchable fetch.begin fetch.end (m.entries fetch.group)
+      × (answer ≡ entries_bytes (entries_to_fetch length fetch.begin fetch.end
+      (max_of fetch.max_size) (m.entries fetch.group)))
+
+-- the first and the last index, of a group with entries
+abbrev pub IsSpanAnswer : List Entry → ℕ × ℕ → Bool → Type 0
+IsSpanAnswer entries numbers true =
+    (first_index_of entries ≡ Some numbers.0) × (last_index_of entries ≡ Some numbers.1)
+IsSpanAnswer entries numbers false = first_index_of entries ≡ None
+
+module _ {F H R W : Type 0} {g : Ghosts F H R W} where
+  -- the batch of these bytes was written, as an engine writes it
+  pub record IsWrittenBy (bytes : List ℕ) (sync : Bool) (old new : Engine F H R W g) : Type 0 where
+    pub items : Batch
+    pub read : read_batch bytes ≡ Some items
+    pub len : ℕ
+    pub written : HasWritten items [] old new len
+    pub advance : Advances (written_batch items) sync (pending_of (contents_of old) items)
+        (state_of old) (state_of new)
+
+  -- what was written is on the disk
+  pub record IsSynced (old new : Engine F H R W g) : Type 0 where
+    pub contents : contents_of new ≡ contents_of old
+    pub advance : Advances [] true [] (state_of old) (state_of new)
+
+  -- the entries below an index are gone, and the first number tells how many they were
+  pub record IsCompacted (group index : ℕ) (old new : Engine F H R W g) (answer : Answer)
+      : Type 0 where
+    pub count : answer.numbers.0 ≡ compact_count index ((contents_of old).entries group)
+    pub contents : contents_of new ≡ after_batch (contents_of old)
+        (compact_batch group index ((contents_of old).entries group))
+
+  -- files in front are gone, and the first number tells how many they were
+  pub record HasPurged (old new : Engine F H R W g) (answer : Answer) : Type 0 where
+    pub contents : contents_of new ≡ contents_of old
+    pub count : (queue_of old).first + answer.numbers.0 ≡ (queue_of new).first
+
+  -- what a change did
+  abbrev pub HasChanged : Change → Engine F H R W g → Engine F H R W g → Answer → Type 0
+  HasChanged (Write bytes sync) old new answer = IsWrittenBy bytes.now sync old new
+  HasChanged Sync old new answer = IsSynced old new
+  HasChanged (CompactTo group index) old new answer = IsCompacted group index old new answer
+  HasChanged PurgeStaleFront old new answer = HasPurged old new answer
+
+  -- the known groups
+  abbrev pub IsGroupsAnswer : Engine F H R W g → List ℕ → Type 0
+  IsGroupsAnswer e answer = (groups : List ℕ)
+      × IsGroupList (contents_of e) (is_known_in e) groups × (answer ≡ numbers_bytes groups)
+
+  -- what a query answers, and whether that is there; of a scan nothing is said
+  abbrev pub HasAnswered : Query → Engine F H R W g → Answer → Bool → Type 0
+  HasAnswered (query.Get group key) e answer found =
+      answered found answer.bytes.items ≡ (contents_of e).value group key.now
+  HasAnswered (query.Entry group index) e answer found = answered found answer.bytes.items
+      ≡ option_map (drop 8) (entry_of (contents_of e) group index)
+  HasAnswered (query.Fetch fetch) e answer found =
+      (found ≡ true) × IsFetchAnswer fetch (contents_of e) answer.bytes.items
+  HasAnswered (query.Scan scan) e answer found = Unit {0}
+  HasAnswered query.Groups e answer found =
+      (found ≡ true) × IsGroupsAnswer e answer.bytes.items
+  HasAnswered (query.Span group) e answer found =
+      IsSpanAnswer ((contents_of e).entries group) answer.numbers found

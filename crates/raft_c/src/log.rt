@@ -1,0 +1,220 @@
+//! A log behind a handle. Its calls that change something give orders, and are answered once the
+//! caller has carried these out.
+ghost use Rattle.std.specs.Prelude.{◌≡◌, false, length, pos, take, true};
+ghost use Rattle.raft_c.specs.Calls.{HasAnswered, HasChanged};
+ghost use Rattle.raft_c.specs.Logs.{IsChangedBy, IsRead, IsSettled};
+ghost use Rattle.raft_c.specs.declared.log.Standing.TheVariants.{Settled, Waiting};
+
+use crate::answer::Answer;
+use crate::open_log::{Change, OpenLog, Query};
+use crate::opening::{Loading, engine_over};
+use raft_log_engine::{Fault, FileSystem};
+use raft_orders::{OrderedFileSystem, ordered_files};
+use std::alloc::Global;
+
+/// The code of a call on a log that isn't open.
+const NOT_OPEN: i32 = 1;
+
+/// The code of a call some of whose orders couldn't be carried out.
+const IO: i32 = 3;
+
+/// The code of a call on a log that is broken, or whose last call waits.
+const FAILED: i32 = 11;
+
+/// The code of a want of memory.
+pub(crate) const NO_MEMORY: i32 = 12;
+
+/// Whether the orders were carried out.
+#[derive(Clone, Copy, Debug, PartialEq, Eq)]
+pub enum Standing {
+    /// Each of them was.
+    Settled,
+    /// The last call gave some, and its code is kept until then.
+    Waiting(i32),
+    /// One couldn't be, and no call is answered any more.
+    Broken,
+}
+
+#[derive(Drop)]
+pub enum State {
+    /// The files that were found so far.
+    Loading(Loading),
+    Open(OpenLog<OrderedFileSystem>),
+    /// Closed, or refused.
+    Ended,
+}
+
+#[derive(Drop)]
+pub struct Log {
+    alloc: Global,
+    standing: Standing,
+    state: State,
+    answer: Answer,
+}
+
+/// What is found at a path.
+#[derive(Clone, Copy)]
+pub(crate) enum Found<'a> {
+    File(&'a [u8]),
+    Folder,
+}
+
+impl Log {
+    pub(crate) fn new(alloc: Global) -> Log {
+        Log {
+            alloc,
+            standing: Standing::Settled,
+            state: State::Loading(Loading::new(alloc)),
+            answer: Answer::new(alloc),
+        }
+    }
+
+    /// Adds what was found at a path, and tells a code.
+    pub(crate) fn add(&mut self, path: &[u8], found: Found<'_>) -> i32 {
+        let (State::Loading(loading), Ok(path)) = (&mut self.state, str::from_utf8(path)) else {
+            return NOT_OPEN;
+        };
+        let added = match found {
+            Found::File(bytes) => loading.add_file(self.alloc, path, bytes),
+            Found::Folder => loading.add_folder(self.alloc, path),
+        };
+        match added {
+            Ok(()) => 0,
+            Err(_) => NO_MEMORY,
+        }
+    }
+
+    /// Opens the log over what was found, with these settings. Its orders go to a descriptor; below 0
+    /// none are written.
+    pub(crate) fn open(&mut self, out: i32, settings: &[u8]) {
+        let code = match std::mem::replace(&mut self.state, State::Ended) {
+            State::Loading(loading) => self.open_over(loading, out, settings),
+            state => {
+                self.state = state;
+                NOT_OPEN
+            }
+        };
+        self.standing = Standing::Waiting(code);
+    }
+
+    fn open_over(&mut self, loading: Loading, out: i32, settings: &[u8]) -> i32 {
+        let out = if out < 0 { None } else { Some(out) };
+        let opened = match ordered_files(self.alloc, out, loading.files, loading.folders) {
+            Ok(files) => engine_over(self.alloc, settings, files),
+            Err(_) => Err(Fault::Memory),
+        };
+        match opened {
+            Ok(log) => {
+                self.state = State::Open(log);
+                0
+            }
+            Err(fault) => {
+                self.answer.keep(&fault);
+                i32::from(fault.code())
+            }
+        }
+    }
+
+    /// Carries a change out. Its code waits for its orders.
+    pub(crate) fn change(&mut self, change: Change<'_>)
+        ensures ok { self.old.standing ≡ Settled → self.new.standing ≡ Waiting (pos 0)
+            → IsChangedBy change.entry self.old.state self.new.state self.new.answer }
+    {
+        if self.standing != Standing::Settled {
+            return;
+        }
+        let code = match &mut self.state {
+            State::Open(log) => change_over(log, change, &mut self.answer),
+            _ => NOT_OPEN,
+        };
+        self.standing = Standing::Waiting(code);
+    }
+
+    /// Closes the log. The code waits for its orders.
+    pub(crate) fn close(&mut self) {
+        if self.standing != Standing::Settled {
+            return;
+        }
+        let code = match std::mem::replace(&mut self.state, State::Ended) {
+            State::Open(log) => close_over(log, &mut self.answer),
+            _ => 0,
+        };
+        self.standing = Standing::Waiting(code);
+    }
+
+    /// The code of the call that waits, if the caller carried its orders out.
+    pub(crate) fn settle(&mut self, carried_out: bool) -> i32
+        ensures value { IsSettled carried_out result self.old self.new }
+    {
+        if !carried_out {
+            self.standing = Standing::Broken;
+            return IO;
+        }
+        match self.standing {
+            Standing::Waiting(code) => {
+                self.standing = Standing::Settled;
+                code
+            }
+            _ => FAILED,
+        }
+    }
+
+    /// Reads, and tells a code.
+    pub(crate) fn read(&mut self, query: Query<'_>) -> i32
+        ensures value { IsRead query.entry result self.old self.new }
+    {
+        if self.standing != Standing::Settled {
+            return FAILED;
+        }
+        match &mut self.state {
+            State::Open(log) => read_over(log, query, &mut self.answer),
+            _ => NOT_OPEN,
+        }
+    }
+
+    /// Copies the last answer, as much of it as there is room for, and tells its length.
+    pub(crate) fn copy_answer(&self, out: &mut [u8]) -> u64
+        ensures len { result ≡ length self.now.answer.bytes.items }
+        ensures value { take result out.new ≡ take (length out.old) self.now.answer.bytes.items }
+    {
+        let bytes = self.answer.bytes.as_slice();
+        let count = bytes.len().min(out.len());
+        out[..count].copy_from_slice(&bytes[..count]);
+        bytes.len() as u64
+    }
+
+    /// The numbers that the last call answered.
+    pub(crate) fn numbers(&self) -> (u64, u64)
+        ensures value { result ≡ self.now.answer.numbers }
+    {
+        self.answer.numbers
+    }
+}
+
+fn change_over<F: FileSystem>(log: &mut OpenLog<F>, change: Change<'_>, answer: &mut Answer) -> i32
+    ensures ok { result ≡ pos 0 → HasChanged change.entry log.old.engine log.new.engine answer.new }
+{
+    let done = match log.change(change, answer) {
+        Ok(()) => Ok(true),
+        Err(fault) => Err(fault),
+    };
+    answer.code(done)
+}
+
+fn read_over<F: FileSystem>(log: &mut OpenLog<F>, query: Query<'_>, answer: &mut Answer) -> i32
+    ensures found { result ≡ pos 0 → HasAnswered query.entry log.old.engine answer.new true }
+    ensures absent { result ≡ pos 20 → HasAnswered query.entry log.old.engine answer.new false }
+{
+    let done = log.read(query, answer);
+    answer.code(done)
+}
+
+fn close_over<F: FileSystem + Drop>(log: OpenLog<F>, answer: &mut Answer) -> i32 {
+    match log.engine.close() {
+        Ok(_) => 0,
+        Err(refused) => {
+            answer.keep(&refused.fault);
+            i32::from(refused.fault.code())
+        }
+    }
+}

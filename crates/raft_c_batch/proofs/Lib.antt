@@ -1,0 +1,3 @@
+pub mod LoopLemmas
+pub mod WrittenLemmas
+pub mod ReadLemmas
