@@ -50,7 +50,9 @@ static uint64_t calls(raftlog *log, int *code) {
         CHECK(!raftlog_batch_put(batch, 3, &i, sizeof i, value, sizeof value));
         if ((*code = raftlog_write(log, batch, i % 3 == 0))) break;
         if (i == 20) *code = raftlog_compact_to(log, 1, 10, NULL);
-        if (i == 30) *code = raftlog_purge_stale_front(log, NULL);
+        if (i == 25) *code = raftlog_must_rewrite_append_queue(log, NULL);
+        if (i == 30) *code = raftlog_must_purge_all_stale(log, NULL);
+        if (i == 35) *code = raftlog_must_rewrite_rewrite_queue(log, NULL);
     }
     raftlog_batch_free(batch);
     return i;

@@ -242,9 +242,21 @@ int raftlog_compact_to(raftlog *log, uint64_t group, uint64_t index, uint64_t *c
     return counted(log, count);
 }
 
-int raftlog_purge_stale_front(raftlog *log, uint64_t *count) {
+int raftlog_must_rewrite_append_queue(raftlog *log, uint64_t *count) {
     enter(log);
-    raft_c_purge_stale_front(&log->handle);
+    raft_c_must_rewrite_append_queue(&log->handle);
+    return counted(log, count);
+}
+
+int raftlog_must_rewrite_rewrite_queue(raftlog *log, uint64_t *count) {
+    enter(log);
+    raft_c_must_rewrite_rewrite_queue(&log->handle);
+    return counted(log, count);
+}
+
+int raftlog_must_purge_all_stale(raftlog *log, uint64_t *count) {
+    enter(log);
+    raft_c_must_purge_all_stale(&log->handle);
     return counted(log, count);
 }
 

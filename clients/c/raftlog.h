@@ -156,8 +156,13 @@ int raftlog_last_index(raftlog *log, uint64_t group, uint64_t *index);
 /* Drops the entries below an index, without a sync, and tells how many they were (`count` may be NULL). */
 int raftlog_compact_to(raftlog *log, uint64_t group, uint64_t index, uint64_t *count);
 
-/* Syncs, and deletes the log files in front in which nothing stands any more; tells how many they were. */
-int raftlog_purge_stale_front(raftlog *log, uint64_t *count);
+/* Purges. They change nothing that the log holds, sync it, and tell how many files are gone (`count` may be NULL).
+ * The first writes what stands in the log files of the Append queue to the Rewrite queue, and deletes them; the second
+ * writes what stands in those of the Rewrite queue to a new one, and deletes them; the third deletes the files in front
+ * in which nothing stands any more, of both queues, and counts those of the Append queue. */
+int raftlog_must_rewrite_append_queue(raftlog *log, uint64_t *count);
+int raftlog_must_rewrite_rewrite_queue(raftlog *log, uint64_t *count);
+int raftlog_must_purge_all_stale(raftlog *log, uint64_t *count);
 
 /* The keys from `start` up to those before `end` with their values, in the order of the bytes or the other way round.
  * Each may be NULL for no bound; the limit 0 is none. */

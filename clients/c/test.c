@@ -155,7 +155,9 @@ static void bad_arguments(raftlog *log) {
     CHECK(raftlog_get(log, 8, long_key, 1 << 20, &bytes) == 0 && bytes.len == 1);
     free(long_key);
     CHECK(raftlog_get(log, 1, "a", 1, &bytes) == 0 && bytes.len == 5);
-    CHECK(raftlog_purge_stale_front(log, &count) == 0);
+    CHECK(raftlog_must_purge_all_stale(log, &count) == 0);
+    CHECK(raftlog_must_rewrite_append_queue(log, &count) == 0);
+    CHECK(raftlog_must_rewrite_rewrite_queue(log, &count) == 0);
     CHECK(raftlog_last_index(log, 7, &index) == 0 && index == 14);
     raftlog_bytes_free(&bytes);
     raftlog_batch_free(batch);

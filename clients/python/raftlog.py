@@ -38,7 +38,9 @@ for _name, _result, _arguments in [
     ("first_index", c_int, [c_void_p, c_uint64, POINTER(c_uint64)]),
     ("last_index", c_int, [c_void_p, c_uint64, POINTER(c_uint64)]),
     ("compact_to", c_int, [c_void_p, c_uint64, c_uint64, POINTER(c_uint64)]),
-    ("purge_stale_front", c_int, [c_void_p, POINTER(c_uint64)]),
+    ("must_rewrite_append_queue", c_int, [c_void_p, POINTER(c_uint64)]),
+    ("must_rewrite_rewrite_queue", c_int, [c_void_p, POINTER(c_uint64)]),
+    ("must_purge_all_stale", c_int, [c_void_p, POINTER(c_uint64)]),
     ("scan", c_int, [c_void_p, c_uint64, POINTER(_Slice), POINTER(_Slice), c_bool, c_uint64, POINTER(_Bytes)]),
     ("groups", c_int, [c_void_p, POINTER(_Bytes)]),
 ]:
@@ -169,16 +171,25 @@ class Engine:
     def last_index(self, group):
         return self._index("last_index", group)
 
-    def compact_to(self, group, index):
+    def _count(self, name, *arguments):
         count = c_uint64()
-        self._call("compact_to", group, index, byref(count))
+        self._call(name, *arguments, byref(count))
         return count.value
 
-    def purge_stale_front(self):
-        """Syncs, deletes the log files in front in which nothing stands any more, and tells how many."""
-        count = c_uint64()
-        self._call("purge_stale_front", byref(count))
-        return count.value
+    def compact_to(self, group, index):
+        return self._count("compact_to", group, index)
+
+    def must_rewrite_append_queue(self):
+        """Writes what stands in the log files of the Append queue to the Rewrite queue, deletes them, and says how many."""
+        return self._count("must_rewrite_append_queue")
+
+    def must_rewrite_rewrite_queue(self):
+        """Writes what stands in the log files of the Rewrite queue to a new one, deletes them, and says how many."""
+        return self._count("must_rewrite_rewrite_queue")
+
+    def must_purge_all_stale(self):
+        """Deletes the log files in front in which nothing stands, of both queues, and says how many of the Append queue."""
+        return self._count("must_purge_all_stale")
 
     def scan(self, group, start=None, end=None, reverse=False, limit=0):
         bound = lambda key: None if key is None else byref(_Slice(key, len(key)))

@@ -275,7 +275,7 @@ func TestThreeNodes(t *testing.T) {
 				if err := n.storage.Compact(n.index, n.conf, n.state()); err != nil {
 					t.Fatal(err)
 				}
-				if _, err := n.log.PurgeStaleFront(); err != nil {
+				if _, err := n.log.MustPurgeAllStale(); err != nil {
 					t.Fatal(err)
 				}
 			}

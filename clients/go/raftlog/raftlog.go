@@ -255,14 +255,39 @@ func (e *Engine) CompactTo(group, index uint64) (uint64, error) {
 	return uint64(count), err
 }
 
-// PurgeStaleFront syncs, and deletes the log files in front in which nothing stands any more; it answers how many.
-func (e *Engine) PurgeStaleFront() (uint64, error) {
+// MustRewriteAppendQueue writes what stands in the log files of the Append queue to the Rewrite queue, and deletes them; it answers
+// how many they were.
+func (e *Engine) MustRewriteAppendQueue() (uint64, error) {
 	if err := e.enter(); err != nil {
 		return 0, err
 	}
 	defer e.mutex.Unlock()
 	var count C.uint64_t
-	_, err := e.found(C.raftlog_purge_stale_front(e.log, &count))
+	_, err := e.found(C.raftlog_must_rewrite_append_queue(e.log, &count))
+	return uint64(count), err
+}
+
+// MustRewriteRewriteQueue writes what stands in the log files of the Rewrite queue to a new one, and deletes them; it answers how
+// many they were.
+func (e *Engine) MustRewriteRewriteQueue() (uint64, error) {
+	if err := e.enter(); err != nil {
+		return 0, err
+	}
+	defer e.mutex.Unlock()
+	var count C.uint64_t
+	_, err := e.found(C.raftlog_must_rewrite_rewrite_queue(e.log, &count))
+	return uint64(count), err
+}
+
+// MustPurgeAllStale deletes the log files of both queues in front in which nothing stands any more; it answers how many they were
+// of the Append queue.
+func (e *Engine) MustPurgeAllStale() (uint64, error) {
+	if err := e.enter(); err != nil {
+		return 0, err
+	}
+	defer e.mutex.Unlock()
+	var count C.uint64_t
+	_, err := e.found(C.raftlog_must_purge_all_stale(e.log, &count))
 	return uint64(count), err
 }
 

@@ -371,10 +371,24 @@ impl Engine {
         Ok(count)
     }
 
-    /// Syncs, and deletes the log files in front in which nothing stands any more; says how many they were.
-    pub fn purge_stale_front(&self) -> Result<u64> {
+    /// Writes what stands in the log files of the Append queue to the Rewrite queue, deletes them, and says how many.
+    pub fn must_rewrite_append_queue(&self) -> Result<u64> {
         let mut count = 0;
-        self.done(unsafe { sys::raftlog_purge_stale_front(self.log, &mut count) })?;
+        self.done(unsafe { sys::raftlog_must_rewrite_append_queue(self.log, &mut count) })?;
+        Ok(count)
+    }
+
+    /// Writes what stands in the log files of the Rewrite queue to a new one, deletes them, and says how many.
+    pub fn must_rewrite_rewrite_queue(&self) -> Result<u64> {
+        let mut count = 0;
+        self.done(unsafe { sys::raftlog_must_rewrite_rewrite_queue(self.log, &mut count) })?;
+        Ok(count)
+    }
+
+    /// Deletes the log files in front in which nothing stands, of both queues, and says how many of the Append queue.
+    pub fn must_purge_all_stale(&self) -> Result<u64> {
+        let mut count = 0;
+        self.done(unsafe { sys::raftlog_must_purge_all_stale(self.log, &mut count) })?;
         Ok(count)
     }
 

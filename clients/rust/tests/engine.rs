@@ -38,7 +38,9 @@ fn exercise(log: &Engine) {
     assert!(!batch.is_empty());
     assert_eq!(log.get(1, b"k").unwrap(), None);
     log.sync().unwrap();
-    log.purge_stale_front().unwrap();
+    log.must_purge_all_stale().unwrap();
+    log.must_rewrite_append_queue().unwrap();
+    log.must_rewrite_rewrite_queue().unwrap();
     assert_eq!(log.last_index(7).unwrap(), Some(14));
 }
 

@@ -1,5 +1,2 @@
-pub mod CallLemmas
-pub mod CodeLemmas
 pub mod Handles
-pub mod LoopLemmas
 pub mod RawBoxes

@@ -1,4 +1,2 @@
-pub mod Answers
-pub mod Calls
 pub mod Handle
 pub mod Logs

@@ -1,13 +1,13 @@
 -- What calls make of what stands behind a handle.
 use Rattle.std.specs.Prelude.{◌≡◌, ℕ, Bool, true, false, List, length, take, Option, Some, None, ℤ, pos}
-use Rattle.raft_c.specs.Calls.{HasAnswered, HasChanged}
-use Rattle.raft_c.specs.declared.answer.Answer.{Answer}
+use Rattle.raft_c_log.specs.Calls.{HasAnswered, HasChanged}
+use Rattle.raft_c_log.specs.declared.answer.Answer.{Answer}
 use Rattle.raft_c.specs.declared.log.Log.{Log}
 use Rattle.raft_c.specs.declared.log.Standing.TheVariants.{Broken, Settled, Waiting}
 use Rattle.raft_c.specs.declared.log.State.{State}
 use Rattle.raft_c.specs.declared.log.State.TheVariants.{Open}
-use Rattle.raft_c.specs.declared.open_log.Change.{Change}
-use Rattle.raft_c.specs.declared.open_log.Query.{Query}
+use Rattle.raft_c_log.specs.declared.calls.Change.{Change}
+use Rattle.raft_c_log.specs.declared.calls.Query.{Query}
 
 -- the log is open before a change and after it, which did what it is to
 abbrev pub IsChangedBy : Change → State → State → Answer → Type 0

@@ -3,19 +3,17 @@
 #![tactic(auto)]
 
 ghost use Rattle.std.specs.Prelude.{◌≡◌, None, IsSome};
-ghost use Rattle.raft_c.specs.Calls.{fetch_of};
+ghost use Rattle.raft_c_log.specs.Calls.{fetch_of};
 ghost use Rattle.raft_c.specs.Logs.{HasRead, HasSettled, IsCopied, WaitsAfter};
 
-mod answer;
 mod handle;
+mod loading;
 mod log;
-mod open_log;
-mod opening;
 mod raw_box;
 
 use handle::Handle;
 use log::{Found, Log, NO_MEMORY};
-use open_log::{Change, Fetch, Query, Scan};
+use raft_c_log::{Change, Fetch, Query, Scan};
 use std::alloc::Global;
 
 /// Begins a log, of which nothing is found yet.
@@ -138,15 +136,37 @@ pub extern "C" fn raft_c_compact_to(alloc: Global, handle: &mut Handle, group: u
     change(alloc, handle, Change::CompactTo(group, index));
 }
 
-/// Deletes the log files in front in which nothing stands any more. The first number is how many they
-/// were.
+/// Writes what stands in the log files of the Append queue to the Rewrite queue, and deletes them. The
+/// first number is how many they were.
 #[unsafe(no_mangle)]
-pub extern "C" fn raft_c_purge_stale_front(alloc: Global, handle: &mut Handle)
+pub extern "C" fn raft_c_must_rewrite_append_queue(alloc: Global, handle: &mut Handle)
     requires { IsSome handle.old.value }
     ensures some { IsSome handle.new.value }
-    ensures waits { WaitsAfter Change.PurgeStaleFront handle.old.value handle.new.value }
+    ensures waits { WaitsAfter Change.RewriteAppendQueue handle.old.value handle.new.value }
 {
-    change(alloc, handle, Change::PurgeStaleFront);
+    change(alloc, handle, Change::RewriteAppendQueue);
+}
+
+/// Writes what stands in the log files of the Rewrite queue to a new one, and deletes them. The first
+/// number is how many they were.
+#[unsafe(no_mangle)]
+pub extern "C" fn raft_c_must_rewrite_rewrite_queue(alloc: Global, handle: &mut Handle)
+    requires { IsSome handle.old.value }
+    ensures some { IsSome handle.new.value }
+    ensures waits { WaitsAfter Change.RewriteRewriteQueue handle.old.value handle.new.value }
+{
+    change(alloc, handle, Change::RewriteRewriteQueue);
+}
+
+/// Deletes the log files in front of the first one in which something stands, of both queues. The
+/// first number is how many they were of the Append queue.
+#[unsafe(no_mangle)]
+pub extern "C" fn raft_c_must_purge_all_stale(alloc: Global, handle: &mut Handle)
+    requires { IsSome handle.old.value }
+    ensures some { IsSome handle.new.value }
+    ensures waits { WaitsAfter Change.PurgeAllStale handle.old.value handle.new.value }
+{
+    change(alloc, handle, Change::PurgeAllStale);
 }
 
 /// The code of the last call that changes something, given to a caller that says whether it carried

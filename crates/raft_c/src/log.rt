@@ -1,14 +1,12 @@
 //! A log behind a handle. Its calls that change something give orders, and are answered once the
 //! caller has carried these out.
-ghost use Rattle.std.specs.Prelude.{◌≡◌, false, length, pos, take, true};
-ghost use Rattle.raft_c.specs.Calls.{HasAnswered, HasChanged};
+ghost use Rattle.std.specs.Prelude.{◌≡◌, length, pos, take};
 ghost use Rattle.raft_c.specs.Logs.{IsChangedBy, IsRead, IsSettled};
 ghost use Rattle.raft_c.specs.declared.log.Standing.TheVariants.{Settled, Waiting};
 
-use crate::answer::Answer;
-use crate::open_log::{Change, OpenLog, Query};
-use crate::opening::{Loading, engine_over};
-use raft_log_engine::{Fault, FileSystem};
+use crate::loading::Loading;
+use raft_c_log::{Answer, Change, OpenLog, Query};
+use raft_log_engine::Fault;
 use raft_orders::{OrderedFileSystem, ordered_files};
 use std::alloc::Global;
 
@@ -99,19 +97,19 @@ impl Log {
 
     fn open_over(&mut self, loading: Loading, out: i32, settings: &[u8]) -> i32 {
         let out = if out < 0 { None } else { Some(out) };
-        let opened = match ordered_files(self.alloc, out, loading.files, loading.folders) {
-            Ok(files) => engine_over(self.alloc, settings, files),
-            Err(_) => Err(Fault::Memory),
-        };
-        match opened {
+        match ordered_files(self.alloc, out, loading.files, loading.folders) {
+            Ok(files) => self.open_files(files, settings),
+            Err(_) => self.answer.code(Err(Fault::Memory)),
+        }
+    }
+
+    fn open_files(&mut self, files: OrderedFileSystem, settings: &[u8]) -> i32 {
+        match OpenLog::open(self.alloc, settings, files, &mut self.answer) {
             Ok(log) => {
                 self.state = State::Open(log);
                 0
             }
-            Err(fault) => {
-                self.answer.keep(&fault);
-                i32::from(fault.code())
-            }
+            Err(code) => code,
         }
     }
 
@@ -124,7 +122,7 @@ impl Log {
             return;
         }
         let code = match &mut self.state {
-            State::Open(log) => change_over(log, change, &mut self.answer),
+            State::Open(log) => log.change(change, &mut self.answer),
             _ => NOT_OPEN,
         };
         self.standing = Standing::Waiting(code);
@@ -136,7 +134,7 @@ impl Log {
             return;
         }
         let code = match std::mem::replace(&mut self.state, State::Ended) {
-            State::Open(log) => close_over(log, &mut self.answer),
+            State::Open(log) => log.close(&mut self.answer),
             _ => 0,
         };
         self.standing = Standing::Waiting(code);
@@ -167,7 +165,7 @@ impl Log {
             return FAILED;
         }
         match &mut self.state {
-            State::Open(log) => read_over(log, query, &mut self.answer),
+            State::Open(log) => log.read(query, &mut self.answer),
             _ => NOT_OPEN,
         }
     }
@@ -188,33 +186,5 @@ impl Log {
         ensures value { result ≡ self.now.answer.numbers }
     {
         self.answer.numbers
-    }
-}
-
-fn change_over<F: FileSystem>(log: &mut OpenLog<F>, change: Change<'_>, answer: &mut Answer) -> i32
-    ensures ok { result ≡ pos 0 → HasChanged change.entry log.old.engine log.new.engine answer.new }
-{
-    let done = match log.change(change, answer) {
-        Ok(()) => Ok(true),
-        Err(fault) => Err(fault),
-    };
-    answer.code(done)
-}
-
-fn read_over<F: FileSystem>(log: &mut OpenLog<F>, query: Query<'_>, answer: &mut Answer) -> i32
-    ensures found { result ≡ pos 0 → HasAnswered query.entry log.old.engine answer.new true }
-    ensures absent { result ≡ pos 20 → HasAnswered query.entry log.old.engine answer.new false }
-{
-    let done = log.read(query, answer);
-    answer.code(done)
-}
-
-fn close_over<F: FileSystem + Drop>(log: OpenLog<F>, answer: &mut Answer) -> i32 {
-    match log.engine.close() {
-        Ok(_) => 0,
-        Err(refused) => {
-            answer.keep(&refused.fault);
-            i32::from(refused.fault.code())
-        }
     }
 }

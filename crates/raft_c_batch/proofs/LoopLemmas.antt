@@ -1,5 +1,5 @@
 -- What was read so far, and what is left.
-use Rattle.std.proofs.Common.{◌≡◌, ◌≢◌, ◌∙◌, ◌<◌, ◌-◌, ℕ, zero, suc, List, [], ◌∷◌, ◌++◌, Option, Some, None, Result, Ok, Err, IfErr, IsErrAnd, option_and_then, option_map, arith, refl, sym, ap, subst, append_assoc, append-nil, length, false, nat_eq}
+use Rattle.std.proofs.Common.{◌≡◌, ◌≢◌, ◌∙◌, ℕ, zero, suc, List, [], ◌∷◌, ◌++◌, Option, Some, None, Result, Ok, Err, IfErr, IsErrAnd, option_and_then, option_map, arith, refl, sym, ap, subst, append_assoc, append-nil, length, false, nat_eq}
 use Rattle.std.proofs.lemmas.Bool.Decides.{nat_tests}
 use Rattle.raft_codec.specs.Number.{take_u64}
 use Rattle.raft_records.specs.Batch.{BatchView, with_entries_item}

@@ -1,7 +1,6 @@
-use Rattle.std.proofs.Common.{◌≡◌, ◌∙◌, List, Option, Some, map, ap, sym, rules, arith}
+use Rattle.std.proofs.Common.{◌≡◌, ◌∙◌, List, Some, map, ap, sym, rules, arith}
 use Rattle.raft_codec.specs.Number.{take_u64}
 use Rattle.raft_records.specs.Batch.{BatchView, with_entries_item}
-use Rattle.raft_records.specs.Item.{Batch}
 use Rattle.raft_c_batch.specs.declared.entry.Entry.{Entry}
 use Rattle.raft_c_batch.specs.Batch.{stored_of}
 use Rattle.raft_c_batch.proofs.LoopLemmas.{entries_added}

@@ -1,6 +1,6 @@
-use Rattle.std.proofs.Common.{◌≡◌, ◌-◌, ◌+◌, ◌∙◌, Some, map, sym, arith, rules}
+use Rattle.std.proofs.Common.{◌-◌, ◌+◌, ◌∙◌, map, sym, arith}
 use Rattle.std.proofs.lemmas.List.{map-append}
-use Rattle.raft_c_batch.specs.Batch.{stored_of, take_entry}
+use Rattle.raft_c_batch.specs.Batch.{stored_of}
 use Rattle.raft_c_batch.proofs.LoopLemmas.{entries_end, entries_next, entry_refused, if_err}
 use Rattle.raft_c_batch.proofs.batch.take_each.Goals as goal
 

@@ -1,8 +1,5 @@
-//! How a log is opened.
-ghost use Rattle.std.specs.Prelude.{◌≡◌};
+//! What is found before a log is opened.
 
-use crate::open_log::OpenLog;
-use raft_log_engine::{Engine, Fault, FileSystem};
 use std::alloc::{AllocError, Global};
 
 /// What was found in a folder, by its paths from there.
@@ -32,21 +29,5 @@ impl Loading {
 
     pub(crate) fn add_folder(&mut self, alloc: Global, path: &str) -> Result<(), AllocError> {
         Ok(self.folders.push(String::from_str(alloc, path)?)?)
-    }
-}
-
-/// The log in these files, with settings that are given as text.
-pub(crate) fn engine_over<F: FileSystem + Drop>(
-    alloc: Global,
-    settings: &[u8],
-    files: F,
-) -> Result<OpenLog<F>, Fault> {
-    let Ok(text) = str::from_utf8(settings) else {
-        return Err(Fault::InvalidArgument("the settings are no text"));
-    };
-    let config = raft_settings::read(alloc, text)?;
-    match Engine::open_in_order(alloc, config, files) {
-        Ok(engine) => Ok(OpenLog::new(alloc, engine)),
-        Err(refused) => Err(refused.fault),
     }
 }

@@ -1,23 +1,25 @@
 -- What calls on an open log do and answer, by what its engine holds.
-use Rattle.std.specs.Prelude.{◌≡◌, ◌+◌, ℕ, Bool, true, false, List, [], length, map, Option, Some, None, drop, option_map, if◌then◌else◌, nat_eq}
+use Rattle.std.specs.Prelude.{◌≡◌, ◌+◌, suc, ℕ, Bool, true, false, List, [], length, map, Option, Some, None, drop, option_map, if◌then◌else◌, nat_eq}
 use Rattle.raft_env.specs.declared.env.FileSystem.{Ghosts}
 use Rattle.raft_held.specs.Crash.{pending_of, written_batch}
+use Rattle.raft_pipes.specs.PipeState.{PipeState, last_seq}
 use Rattle.raft_records.specs.Contents.{Contents, after_batch, first_index_of, last_index_of}
 use Rattle.raft_records.specs.Item.{Batch, Entry}
 use Rattle.raft_c_batch.specs.Batch.{entries_bytes, read_batch}
 use Rattle.raft_log_engine.specs.Advance.{Advances, state_of}
-use Rattle.raft_log_engine.specs.Durability.{HasWritten}
-use Rattle.raft_log_engine.specs.Engine.{contents_of, is_known_in, queue_of}
+use Rattle.raft_log_engine.specs.Durability.{HasSynced, HasWritten, durability_of}
+use Rattle.raft_log_engine.specs.Engine.{contents_of, has_groups_together, is_known_in, queue_of, rewrite_queue_of}
 use Rattle.raft_log_engine.specs.Image.{IsWithout}
+use Rattle.raft_log_engine.specs.Purge.{IsEmptiedTo}
 use Rattle.raft_log_engine.specs.Reads.{IsFetchable, IsGroupList, compact_batch, compact_count, entries_to_fetch, entry_of}
 use Rattle.raft_log_engine.specs.declared.engine.Engine.{Engine}
-use Rattle.raft_c.specs.Answers.{numbers_bytes}
-use Rattle.raft_c.specs.declared.answer.Answer.{Answer}
-use Rattle.raft_c.specs.declared.open_log.Change.{Change}
-use Rattle.raft_c.specs.declared.open_log.Change.TheVariants.{Write, Sync, CompactTo, PurgeStaleFront}
-use Rattle.raft_c.specs.declared.open_log.Fetch.{Fetch}
-use Rattle.raft_c.specs.declared.open_log.Query.{Query}
-use Rattle.raft_c.specs.declared.open_log.Query.TheVariants as query
+use Rattle.raft_c_log.specs.Answers.{numbers_bytes}
+use Rattle.raft_c_log.specs.declared.answer.Answer.{Answer}
+use Rattle.raft_c_log.specs.declared.calls.Change.{Change}
+use Rattle.raft_c_log.specs.declared.calls.Change.TheVariants.{Write, Sync, CompactTo, RewriteAppendQueue, RewriteRewriteQueue, PurgeAllStale}
+use Rattle.raft_c_log.specs.declared.calls.Fetch.{Fetch}
+use Rattle.raft_c_log.specs.declared.calls.Query.{Query}
+use Rattle.raft_c_log.specs.declared.calls.Query.TheVariants as query
 
 -- bytes that were found
 abbrev pub answered : Bool → List ℕ → Option (List ℕ)
@@ -67,17 +69,39 @@ module _ {F H R W : Type 0} {g : Ghosts F H R W} where
     pub contents : contents_of new ≡ after_batch (contents_of old)
         (compact_batch group index ((contents_of old).entries group))
 
-  -- files in front are gone, and the first number tells how many they were
-  pub record HasPurged (old new : Engine F H R W g) (answer : Answer) : Type 0 where
+  -- nothing that it holds has changed, and all is synced; the first number tells how many files of a
+  -- queue are gone
+  pub record IsPurged (queue_in : Engine F H R W g → PipeState) (old new : Engine F H R W g)
+      (answer : Answer) : Type 0 where
     pub contents : contents_of new ≡ contents_of old
-    pub count : (queue_of old).first + answer.numbers.0 ≡ (queue_of new).first
+    pub synced : HasSynced [] true (durability_of old) (durability_of new)
+    pub count : (queue_in old).first + answer.numbers.0 ≡ (queue_in new).first
+
+  -- the Append queue has one file, a new one
+  pub record HasRewrittenAppend (old new : Engine F H R W g) (answer : Answer) : Type 0 where
+    pub purged : IsPurged queue_of old new answer
+    pub emptied : IsEmptiedTo (suc (last_seq (queue_of old))) (queue_of new)
+
+  -- the Rewrite queue begins with a new file, where the batches of its groups stood together
+  pub record HasRewrittenRewrite (old new : Engine F H R W g) (answer : Answer) : Type 0 where
+    pub purged : IsPurged rewrite_queue_of old new answer
+    pub first :
+        has_groups_together old ≡ true
+        → (rewrite_queue_of new).first ≡ suc (last_seq (rewrite_queue_of old))
+
+  -- the Append queue ends with a new file
+  pub record HasPurgedStale (old new : Engine F H R W g) (answer : Answer) : Type 0 where
+    pub purged : IsPurged queue_of old new answer
+    pub last : last_seq (queue_of new) ≡ suc (last_seq (queue_of old))
 
   -- what a change did
   abbrev pub HasChanged : Change → Engine F H R W g → Engine F H R W g → Answer → Type 0
   HasChanged (Write bytes sync) old new answer = IsWrittenBy bytes.now sync old new
   HasChanged Sync old new answer = IsSynced old new
   HasChanged (CompactTo group index) old new answer = IsCompacted group index old new answer
-  HasChanged PurgeStaleFront old new answer = HasPurged old new answer
+  HasChanged RewriteAppendQueue old new answer = HasRewrittenAppend old new answer
+  HasChanged RewriteRewriteQueue old new answer = HasRewrittenRewrite old new answer
+  HasChanged PurgeAllStale old new answer = HasPurgedStale old new answer
 
   -- the known groups
   abbrev pub IsGroupsAnswer : Engine F H R W g → List ℕ → Type 0
