@@ -57,9 +57,10 @@ int parts_make_folders(const char *path) {
         char was = place[end];
         struct stat found;
         place[end] = 0;
-        if (!mkdir(place, 0777)) error = parts_sync_name(place);
-        else if (errno != EEXIST && (stat(place, &found) || !S_ISDIR(found.st_mode))) error = errno;
-        else if (!stat(place, &found) && !S_ISDIR(found.st_mode)) error = ENOTDIR;
+        if (!stat(place, &found)) error = S_ISDIR(found.st_mode) ? 0 : ENOTDIR;
+        else if (errno != ENOENT) error = errno;
+        else if (!mkdir(place, 0777)) error = parts_sync_name(place);
+        else if (errno != EEXIST) error = errno;
         place[end] = was;
     }
     free(place);

@@ -1,13 +1,71 @@
 -- What calls make of what stands behind a handle.
-use Rattle.std.specs.Prelude.{◌≡◌, ℕ, Bool, true, false, List, length, take, Option, Some, None, ℤ, pos}
+use Rattle.std.specs.Prelude.{◌≡◌, ℕ, Bool, true, false, List, [], ◌∷◌, ◌++◌, length, map, take, Option, Some, None, ℤ, pos}
+use Rattle.std.specs.String.{string_bytes}
+use Rattle.raft_env.specs.Directory.{Directory}
+use Rattle.raft_memory.specs.Settled.{settled_files}
 use Rattle.raft_c_log.specs.Calls.{HasAnswered, HasChanged}
+use Rattle.raft_c_log.specs.Opening.{IsOpenedBy}
 use Rattle.raft_c_log.specs.declared.answer.Answer.{Answer}
+use Rattle.raft_c.specs.Found.{listed}
+use Rattle.raft_c.specs.declared.log.Found.{Found}
+use Rattle.raft_c.specs.declared.log.Found.TheVariants.{File, Folder}
 use Rattle.raft_c.specs.declared.log.Log.{Log}
 use Rattle.raft_c.specs.declared.log.Standing.TheVariants.{Broken, Settled, Waiting}
 use Rattle.raft_c.specs.declared.log.State.{State}
-use Rattle.raft_c.specs.declared.log.State.TheVariants.{Open}
+use Rattle.raft_c.specs.declared.log.State.TheVariants.{Loading, Open, Ended}
 use Rattle.raft_c_log.specs.declared.calls.Change.{Change}
 use Rattle.raft_c_log.specs.declared.calls.Query.{Query}
+
+-- Before a log is open.
+
+-- these files and folders were found so far
+abbrev pub HasFound : List (List ℕ × List ℕ) → List (List ℕ) → State → Type 0
+HasFound files folders (Loading loading) =
+    (listed loading.files.items ≡ files) × (map string_bytes loading.folders.items ≡ folders)
+HasFound files folders _ = ⊥
+
+-- a log was begun; without memory there is none
+abbrev pub HasBegun : ℤ → Option Log → Type 0
+HasBegun code (Some log) =
+    (code ≡ pos 0) × (log.standing ≡ Settled) × HasFound [] [] log.state
+HasBegun code None = code ≡ pos 12
+
+-- what was found at a path was added
+abbrev pub IsAdded : List ℕ → Found → State → State → Type 0
+IsAdded path (File bytes) (Loading old) new = HasFound
+    (listed old.files.items ++ (path, bytes.now) ∷ []) (map string_bytes old.folders.items) new
+IsAdded path Folder (Loading old) new = HasFound
+    (listed old.files.items) (map string_bytes old.folders.items ++ path ∷ []) new
+IsAdded path found _ new = ⊥
+
+abbrev pub HasAdded : List ℕ → Found → ℤ → Option Log → Option Log → Type 0
+HasAdded path found code (Some old) (Some new) =
+    code ≡ pos 0 → IsAdded path found old.state new.state
+HasAdded path found code _ _ = ⊥
+
+-- the log in these files is open, with settings of this text
+abbrev pub IsOpenOver : List ℕ → Directory → State → Type 0
+IsOpenOver settings n (Open log) = IsOpenedBy settings n log.engine
+IsOpenOver settings n _ = ⊥
+
+-- .. in those that were found
+abbrev pub IsOpened : List ℕ → State → State → Type 0
+IsOpened settings (Loading found) new =
+    IsOpenOver settings (settled_files found.files.items found.folders.items) new
+IsOpened settings _ new = ⊥
+
+-- an opening whose code 0 waits for its orders has opened the log
+abbrev pub OpensAfter : List ℕ → Option Log → Option Log → Type 0
+OpensAfter settings (Some old) (Some new) =
+    new.standing ≡ Waiting (pos 0) → IsOpened settings old.state new.state
+OpensAfter settings _ _ = ⊥
+
+-- a closing of a log that is neither broken nor waits ends it
+abbrev pub EndsAfter : Option Log → Option Log → Type 0
+EndsAfter (Some old) (Some new) = old.standing ≡ Settled → new.state ≡ Ended
+EndsAfter _ _ = ⊥
+
+-- While it is open.
 
 -- the log is open before a change and after it, which did what it is to
 abbrev pub IsChangedBy : Change → State → State → Answer → Type 0

@@ -4,7 +4,7 @@
 
 ghost use Rattle.std.specs.Prelude.{◌≡◌, None, IsSome};
 ghost use Rattle.raft_c_log.specs.Calls.{fetch_of};
-ghost use Rattle.raft_c.specs.Logs.{HasRead, HasSettled, IsCopied, WaitsAfter};
+ghost use Rattle.raft_c.specs.Logs.{EndsAfter, HasAdded, HasBegun, HasRead, HasSettled, IsCopied, OpensAfter, WaitsAfter};
 
 mod handle;
 mod loading;
@@ -16,10 +16,11 @@ use log::{Found, Log, NO_MEMORY};
 use raft_c_log::{Change, Fetch, Query, Scan};
 use std::alloc::Global;
 
-/// Begins a log, of which nothing is found yet.
+/// Begins a log, of which nothing is found yet: 0, or 12 for want of memory.
 #[unsafe(no_mangle)]
 pub extern "C" fn raft_c_begin(alloc: Global, handle: &mut Handle) -> i32
     requires { handle.old.value ≡ None }
+    ensures value { HasBegun result handle.new.value }
 {
     match Box::new(alloc, Log::new(alloc)) {
         Ok(log) => {
@@ -48,7 +49,9 @@ pub extern "C" fn raft_c_add_file(
     bytes: &[u8],
 ) -> i32
     requires { IsSome handle.old.value }
-    ensures { IsSome handle.new.value }
+    ensures some { IsSome handle.new.value }
+    ensures ok { HasAdded path.now (Found.File bytes.entry) result handle.old.value
+        handle.new.value }
 {
     add(alloc, handle, path, Found::File(bytes))
 }
@@ -57,14 +60,16 @@ pub extern "C" fn raft_c_add_file(
 #[unsafe(no_mangle)]
 pub extern "C" fn raft_c_add_folder(alloc: Global, handle: &mut Handle, path: &[u8]) -> i32
     requires { IsSome handle.old.value }
-    ensures { IsSome handle.new.value }
+    ensures some { IsSome handle.new.value }
+    ensures ok { HasAdded path.now Found.Folder result handle.old.value handle.new.value }
 {
     add(alloc, handle, path, Found::Folder)
 }
 
 fn add(alloc: Global, handle: &mut Handle, path: &[u8], found: Found<'_>) -> i32
     requires { IsSome handle.old.value }
-    ensures { IsSome handle.new.value }
+    ensures some { IsSome handle.new.value }
+    ensures ok { HasAdded path.now found.entry result handle.old.value handle.new.value }
 {
     let mut log = std::mem::replace(handle, Handle::none()).into_box(alloc);
     let code = log.add(path, found);
@@ -77,7 +82,8 @@ fn add(alloc: Global, handle: &mut Handle, path: &[u8], found: Found<'_>) -> i32
 #[unsafe(no_mangle)]
 pub extern "C" fn raft_c_open(alloc: Global, handle: &mut Handle, out: i32, settings: &[u8])
     requires { IsSome handle.old.value }
-    ensures { IsSome handle.new.value }
+    ensures some { IsSome handle.new.value }
+    ensures waits { OpensAfter settings.now handle.old.value handle.new.value }
 {
     let mut log = std::mem::replace(handle, Handle::none()).into_box(alloc);
     log.open(out, settings);
@@ -88,7 +94,8 @@ pub extern "C" fn raft_c_open(alloc: Global, handle: &mut Handle, out: i32, sett
 #[unsafe(no_mangle)]
 pub extern "C" fn raft_c_close(alloc: Global, handle: &mut Handle)
     requires { IsSome handle.old.value }
-    ensures { IsSome handle.new.value }
+    ensures some { IsSome handle.new.value }
+    ensures ended { EndsAfter handle.old.value handle.new.value }
 {
     let mut log = std::mem::replace(handle, Handle::none()).into_box(alloc);
     log.close();

@@ -1,4 +1,7 @@
 //! What is found before a log is opened.
+ghost use Rattle.std.specs.Prelude.{◌≡◌, ◌++◌, ◌∷◌, [], OnOk, map};
+ghost use Rattle.std.specs.String.{string_bytes};
+ghost use Rattle.raft_c.specs.Found.{listed};
 
 use std::alloc::{AllocError, Global};
 
@@ -10,7 +13,9 @@ pub struct Loading {
 }
 
 impl Loading {
-    pub(crate) fn new(alloc: Global) -> Loading {
+    pub(crate) fn new(alloc: Global) -> Loading
+        ensures value { (result.files.items ≡ []) × (result.folders.items ≡ []) }
+    {
         Loading {
             files: Vec::new(alloc),
             folders: Vec::new(alloc),
@@ -22,12 +27,20 @@ impl Loading {
         alloc: Global,
         path: &str,
         bytes: &[u8],
-    ) -> Result<(), AllocError> {
+    ) -> Result<(), AllocError>
+        ensures ok { OnOk result (listed self.new.files.items
+            ≡ listed self.old.files.items ++ (path.now, bytes.now) ∷ []) }
+        ensures folders { self.new.folders ≡ self.old.folders }
+    {
         let path = String::from_str(alloc, path)?;
         Ok(self.files.push((path, bytes.to_vec(alloc)?))?)
     }
 
-    pub(crate) fn add_folder(&mut self, alloc: Global, path: &str) -> Result<(), AllocError> {
+    pub(crate) fn add_folder(&mut self, alloc: Global, path: &str) -> Result<(), AllocError>
+        ensures ok { OnOk result (map string_bytes self.new.folders.items
+            ≡ map string_bytes self.old.folders.items ++ path.now ∷ []) }
+        ensures files { self.new.files ≡ self.old.files }
+    {
         Ok(self.folders.push(String::from_str(alloc, path)?)?)
     }
 }

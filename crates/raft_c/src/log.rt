@@ -1,8 +1,11 @@
 //! A log behind a handle. Its calls that change something give orders, and are answered once the
 //! caller has carried these out.
-ghost use Rattle.std.specs.Prelude.{◌≡◌, length, pos, take};
-ghost use Rattle.raft_c.specs.Logs.{IsChangedBy, IsRead, IsSettled};
+ghost use Rattle.std.specs.Prelude.{◌≡◌, Some, length, pos, take};
+ghost use Rattle.raft_disk.specs.Mirror.{mirror_directory};
+ghost use Rattle.raft_memory.specs.Settled.{settled_files};
+ghost use Rattle.raft_c.specs.Logs.{HasBegun, IsAdded, IsChangedBy, IsOpenOver, IsOpened, IsRead, IsSettled};
 ghost use Rattle.raft_c.specs.declared.log.Standing.TheVariants.{Settled, Waiting};
+ghost use Rattle.raft_c.specs.declared.log.State.TheVariants.{Ended};
 
 use crate::loading::Loading;
 use raft_c_log::{Answer, Change, OpenLog, Query};
@@ -58,7 +61,9 @@ pub(crate) enum Found<'a> {
 }
 
 impl Log {
-    pub(crate) fn new(alloc: Global) -> Log {
+    pub(crate) fn new(alloc: Global) -> Log
+        ensures value { HasBegun (pos 0) (Some result) }
+    {
         Log {
             alloc,
             standing: Standing::Settled,
@@ -68,7 +73,9 @@ impl Log {
     }
 
     /// Adds what was found at a path, and tells a code.
-    pub(crate) fn add(&mut self, path: &[u8], found: Found<'_>) -> i32 {
+    pub(crate) fn add(&mut self, path: &[u8], found: Found<'_>) -> i32
+        ensures ok { result ≡ pos 0 → IsAdded path.now found.entry self.old.state self.new.state }
+    {
         let (State::Loading(loading), Ok(path)) = (&mut self.state, str::from_utf8(path)) else {
             return NOT_OPEN;
         };
@@ -84,7 +91,10 @@ impl Log {
 
     /// Opens the log over what was found, with these settings. Its orders go to a descriptor; below 0
     /// none are written.
-    pub(crate) fn open(&mut self, out: i32, settings: &[u8]) {
+    pub(crate) fn open(&mut self, out: i32, settings: &[u8])
+        ensures ok { self.new.standing ≡ Waiting (pos 0)
+            → IsOpened settings.now self.old.state self.new.state }
+    {
         let code = match std::mem::replace(&mut self.state, State::Ended) {
             State::Loading(loading) => self.open_over(loading, out, settings),
             state => {
@@ -95,7 +105,10 @@ impl Log {
         self.standing = Standing::Waiting(code);
     }
 
-    fn open_over(&mut self, loading: Loading, out: i32, settings: &[u8]) -> i32 {
+    fn open_over(&mut self, loading: Loading, out: i32, settings: &[u8]) -> i32
+        ensures ok { result ≡ pos 0 → IsOpenOver settings.now
+            (settled_files loading.files.items loading.folders.items) self.new.state }
+    {
         let out = if out < 0 { None } else { Some(out) };
         match ordered_files(self.alloc, out, loading.files, loading.folders) {
             Ok(files) => self.open_files(files, settings),
@@ -103,7 +116,10 @@ impl Log {
         }
     }
 
-    fn open_files(&mut self, files: OrderedFileSystem, settings: &[u8]) -> i32 {
+    fn open_files(&mut self, files: OrderedFileSystem, settings: &[u8]) -> i32
+        ensures ok { result ≡ pos 0
+            → IsOpenOver settings.now (mirror_directory files) self.new.state }
+    {
         match OpenLog::open(self.alloc, settings, files, &mut self.answer) {
             Ok(log) => {
                 self.state = State::Open(log);
@@ -129,7 +145,9 @@ impl Log {
     }
 
     /// Closes the log. The code waits for its orders.
-    pub(crate) fn close(&mut self) {
+    pub(crate) fn close(&mut self)
+        ensures ok { self.old.standing ≡ Settled → self.new.state ≡ Ended }
+    {
         if self.standing != Standing::Settled {
             return;
         }

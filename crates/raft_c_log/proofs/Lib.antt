@@ -1,3 +1,4 @@
 pub mod CallLemmas
 pub mod CodeLemmas
 pub mod LoopLemmas
+pub mod ScanLemmas

@@ -1,5 +1,6 @@
 -- Answers as codes and bytes.
-use Rattle.std.specs.Prelude.{ℕ, ℤ, pos, Bool, true, false, List, [], ◌∷◌, ◌++◌}
+use Rattle.std.specs.Prelude.{◌≡◌, ◌≤◌, ◌-◌, ℕ, ℤ, pos, Bool, true, false, List, [], ◌∷◌, ◌++◌, take, Option, Some, None, if◌then◌else◌, nat_eq}
+use Rattle.raft_c_batch.specs.Batch.{part_bytes}
 use Rattle.raft_codec.specs.Number.{u64_bytes}
 
 -- the code of a call that was done: whether what it asked for is there
@@ -11,3 +12,26 @@ found_code false = pos 20
 abbrev pub numbers_bytes : List ℕ → List ℕ
 numbers_bytes [] = []
 numbers_bytes (n ∷ ns) = u64_bytes n ++ numbers_bytes ns
+
+-- keys and values, each with its length before it
+abbrev pub pairs_bytes : List (List ℕ × List ℕ) → List ℕ
+pairs_bytes [] = []
+pairs_bytes (p ∷ ps) = (part_bytes p.0 ++ part_bytes p.1) ++ pairs_bytes ps
+
+-- a bound that is given as a number; 0 is none
+abbrev pub max_of : ℕ → Option ℕ
+max_of size = if nat_eq size 0 then None else Some size
+
+-- as many as the limit
+abbrev pub limited : {A : Type 0} → Option ℕ → List A → List A
+limited None xs = xs
+limited (Some n) xs = take n xs
+
+-- so much of a limit is left after n
+abbrev pub IsLeft : Option ℕ → ℕ → Option ℕ → Type 0
+IsLeft None n left = left ≡ None
+IsLeft (Some most) n left = (n ≤ most) × (left ≡ Some (most - n))
+
+abbrev pub IsOneLess : Option ℕ → Option ℕ → Type 0
+IsOneLess None left = left ≡ None
+IsOneLess (Some n) left = (1 ≤ n) × (left ≡ Some (n - 1))

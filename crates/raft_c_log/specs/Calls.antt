@@ -1,5 +1,6 @@
 -- What calls on an open log do and answer, by what its engine holds.
-use Rattle.std.specs.Prelude.{◌≡◌, ◌+◌, suc, ℕ, Bool, true, false, List, [], length, map, Option, Some, None, drop, option_map, if◌then◌else◌, nat_eq}
+use Rattle.std.specs.Option.{option_copied}
+use Rattle.std.specs.Prelude.{◌≡◌, ◌+◌, suc, ℕ, Bool, true, false, List, [], length, map, Option, Some, None, drop, option_map}
 use Rattle.raft_env.specs.declared.env.FileSystem.{Ghosts}
 use Rattle.raft_held.specs.Crash.{pending_of, written_batch}
 use Rattle.raft_pipes.specs.PipeState.{PipeState, last_seq}
@@ -12,23 +13,21 @@ use Rattle.raft_log_engine.specs.Engine.{contents_of, has_groups_together, is_kn
 use Rattle.raft_log_engine.specs.Image.{IsWithout}
 use Rattle.raft_log_engine.specs.Purge.{IsEmptiedTo}
 use Rattle.raft_log_engine.specs.Reads.{IsFetchable, IsGroupList, compact_batch, compact_count, entries_to_fetch, entry_of}
+use Rattle.raft_log_engine.specs.Scan.{IsScan}
 use Rattle.raft_log_engine.specs.declared.engine.Engine.{Engine}
-use Rattle.raft_c_log.specs.Answers.{numbers_bytes}
+use Rattle.raft_c_log.specs.Answers.{limited, max_of, numbers_bytes, pairs_bytes}
 use Rattle.raft_c_log.specs.declared.answer.Answer.{Answer}
 use Rattle.raft_c_log.specs.declared.calls.Change.{Change}
 use Rattle.raft_c_log.specs.declared.calls.Change.TheVariants.{Write, Sync, CompactTo, RewriteAppendQueue, RewriteRewriteQueue, PurgeAllStale}
 use Rattle.raft_c_log.specs.declared.calls.Fetch.{Fetch}
 use Rattle.raft_c_log.specs.declared.calls.Query.{Query}
 use Rattle.raft_c_log.specs.declared.calls.Query.TheVariants as query
+use Rattle.raft_c_log.specs.declared.calls.Scan.{Scan}
 
 -- bytes that were found
 abbrev pub answered : Bool → List ℕ → Option (List ℕ)
 answered true bytes = Some bytes
 answered false bytes = None
-
--- the bound of a fetch; 0 is none
-abbrev pub max_of : ℕ → Option ℕ
-max_of size = if nat_eq size 0 then None else Some size
 
 abbrev pub fetch_of : ℕ → ℕ → ℕ → ℕ → Fetch
 fetch_of group begin end max = record { group = group; begin = begin; end = end; max_size = max }
@@ -40,6 +39,12 @@ pub record IsFetchAnswer (fetch : Fetch) (m : Contents) (answer : List ℕ) : Ty
       (IsWithout m fetch.group → ⊥) → IsFetchable fetch.begin fetch.end (m.entries fetch.group)
       × (answer ≡ entries_bytes (entries_to_fetch length fetch.begin fetch.end
       (max_of fetch.max_size) (m.entries fetch.group)))
+
+-- the first pairs of a group between the bounds, as many as the limit
+pub record IsScanAnswer (scan : Scan) (m : Contents) (answer : List ℕ) : Type 0 where
+  pub pairs : List (List ℕ × List ℕ)
+  pub scanned : IsScan m scan.group (Some scan.start.now) (option_copied scan.end) scan.reverse pairs
+  pub bytes : answer ≡ pairs_bytes (limited (max_of scan.limit) pairs)
 
 -- the first and the last index, of a group with entries
 abbrev pub IsSpanAnswer : List Entry → ℕ × ℕ → Bool → Type 0
@@ -108,7 +113,7 @@ module _ {F H R W : Type 0} {g : Ghosts F H R W} where
   IsGroupsAnswer e answer = (groups : List ℕ)
       × IsGroupList (contents_of e) (is_known_in e) groups × (answer ≡ numbers_bytes groups)
 
-  -- what a query answers, and whether that is there; of a scan nothing is said
+  -- what a query answers, and whether that is there
   abbrev pub HasAnswered : Query → Engine F H R W g → Answer → Bool → Type 0
   HasAnswered (query.Get group key) e answer found =
       answered found answer.bytes.items ≡ (contents_of e).value group key.now
@@ -116,7 +121,8 @@ module _ {F H R W : Type 0} {g : Ghosts F H R W} where
       ≡ option_map (drop 8) (entry_of (contents_of e) group index)
   HasAnswered (query.Fetch fetch) e answer found =
       (found ≡ true) × IsFetchAnswer fetch (contents_of e) answer.bytes.items
-  HasAnswered (query.Scan scan) e answer found = Unit {0}
+  HasAnswered (query.Scan scan) e answer found =
+      (found ≡ true) × IsScanAnswer scan (contents_of e) answer.bytes.items
   HasAnswered query.Groups e answer found =
       (found ≡ true) × IsGroupsAnswer e answer.bytes.items
   HasAnswered (query.Span group) e answer found =

@@ -26,6 +26,7 @@ impl<F: FileSystem + Drop> OpenLog<F> {
 
     /// The log in these files, with settings that are given as text. An `Err` is the code of a
     /// failure, whose text is the answer.
+    #[tactic(auto, using(crate::proofs::CodeLemmas::fault_codes))]
     pub fn open(
         alloc: Global,
         settings: &[u8],
@@ -34,6 +35,7 @@ impl<F: FileSystem + Drop> OpenLog<F> {
     ) -> Result<OpenLog<F>, i32>
         ensures value { IfOk result (λ log.
             IsOpenedBy settings.now (F.directory files) log.engine) }
+        ensures refused { IfErr result (λ code. code ≡ pos 0 → ⊥) }
     {
         match engine_over(alloc, settings, files) {
             Ok(engine) => Ok(OpenLog {
@@ -58,7 +60,7 @@ impl<F: FileSystem> OpenLog<F> {
     ghost use Rattle.raft_log_engine.specs.Durability.{HasOnlyRead};
     ghost use Rattle.raft_log_engine.specs.Engine.{contents_of, has_failed};
     ghost use Rattle.raft_log_engine.specs.Reads.{entry_of};
-    ghost use Rattle.raft_c_log.specs.Calls.{HasAnswered, HasChanged, HasPurgedStale, HasRewrittenAppend, HasRewrittenRewrite, IsCompacted, IsFetchAnswer, IsGroupsAnswer, IsSpanAnswer, IsWrittenBy, answered};
+    ghost use Rattle.raft_c_log.specs.Calls.{HasAnswered, HasChanged, HasPurgedStale, HasRewrittenAppend, HasRewrittenRewrite, IsCompacted, IsFetchAnswer, IsGroupsAnswer, IsScanAnswer, IsSpanAnswer, IsWrittenBy, answered};
 
     /// Carries a change out, and tells a code: 0 where that was done.
     #[tactic(auto, using(crate::proofs::CodeLemmas::fault_codes))]
@@ -238,7 +240,11 @@ impl<F: FileSystem> OpenLog<F> {
         Ok(true)
     }
 
-    fn scan(&self, scan: Scan<'_>, answer: &mut Answer) -> Result<bool, Fault> {
+    fn scan(&self, scan: Scan<'_>, answer: &mut Answer) -> Result<bool, Fault>
+        ensures value { OnOk result (IsScanAnswer scan.entry (contents_of self.now.engine)
+            answer.new.bytes.items) }
+        ensures ok { IfOk result (λ found. found ≡ true) }
+    {
         let mut pairs = Pairs::new(self.alloc, scan.limit);
         let scanned = self.engine.scan_raw_messages(
             scan.group,
