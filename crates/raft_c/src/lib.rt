@@ -3,7 +3,7 @@
 #![tactic(auto)]
 
 ghost use Rattle.std.specs.Prelude.{◌≡◌, None, IsSome};
-ghost use Rattle.raft_c_log.specs.Calls.{fetch_of};
+ghost use Rattle.raft_c_log.specs.Calls.{fetch_of, scan_end, scan_of};
 ghost use Rattle.raft_c.specs.Logs.{EndsAfter, HasAdded, HasBegun, HasRead, HasSettled, IsCopied, OpensAfter, WaitsAfter};
 
 mod handle;
@@ -284,6 +284,8 @@ pub extern "C" fn raft_c_scan(
 ) -> i32
     requires { IsSome handle.old.value }
     ensures some { IsSome handle.new.value }
+    ensures value { HasRead (Query.Scan (scan_of group start.entry (scan_end has_end end.entry)
+        reverse limit)) result handle.old.value handle.new.value }
     ensures copied { IsCopied handle.new.value out.old out.new len.new }
 {
     let scan = Scan {

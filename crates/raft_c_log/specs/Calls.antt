@@ -1,4 +1,5 @@
 -- What calls on an open log do and answer, by what its engine holds.
+use Rattle.std.specs.Borrow.{Bor}
 use Rattle.std.specs.Option.{option_copied}
 use Rattle.std.specs.Prelude.{◌≡◌, ◌+◌, suc, ℕ, Bool, true, false, List, [], length, map, Option, Some, None, drop, option_map}
 use Rattle.raft_env.specs.declared.env.FileSystem.{Ghosts}
@@ -31,6 +32,15 @@ answered false bytes = None
 
 abbrev pub fetch_of : ℕ → ℕ → ℕ → ℕ → Fetch
 fetch_of group begin end max = record { group = group; begin = begin; end = end; max_size = max }
+
+-- a scan, whose end is a bound or is not
+abbrev pub scan_end : Bool → Bor (List ℕ) → Option (Bor (List ℕ))
+scan_end true end = Some end
+scan_end false end = None
+
+abbrev pub scan_of : ℕ → Bor (List ℕ) → Option (Bor (List ℕ)) → Bool → ℕ → Scan
+scan_of group start end backwards limit =
+    record { group = group; start = start; end = end; reverse = backwards; limit = limit }
 
 -- a group without entries and keys answers nothing, another one its entries between the bounds
 pub record IsFetchAnswer (fetch : Fetch) (m : Contents) (answer : List ℕ) : Type 0 where
