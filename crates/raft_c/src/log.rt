@@ -90,19 +90,25 @@ impl Log {
     }
 
     /// Opens the log over what was found, with these settings. Its orders go to a descriptor; below 0
-    /// none are written.
+    /// none are written. The code waits for them.
     pub(crate) fn open(&mut self, out: i32, settings: &[u8])
         ensures ok { self.new.standing ≡ Waiting (pos 0)
             → IsOpened settings.now self.old.state self.new.state }
     {
-        let code = match std::mem::replace(&mut self.state, State::Ended) {
+        let code = self.open_found(out, settings);
+        self.standing = Standing::Waiting(code);
+    }
+
+    fn open_found(&mut self, out: i32, settings: &[u8]) -> i32
+        ensures ok { result ≡ pos 0 → IsOpened settings.now self.old.state self.new.state }
+    {
+        match std::mem::replace(&mut self.state, State::Ended) {
             State::Loading(loading) => self.open_over(loading, out, settings),
             state => {
                 self.state = state;
                 NOT_OPEN
             }
-        };
-        self.standing = Standing::Waiting(code);
+        }
     }
 
     fn open_over(&mut self, loading: Loading, out: i32, settings: &[u8]) -> i32
@@ -112,7 +118,7 @@ impl Log {
         let out = if out < 0 { None } else { Some(out) };
         match ordered_files(self.alloc, out, loading.files, loading.folders) {
             Ok(files) => self.open_files(files, settings),
-            Err(_) => self.answer.code(Err(Fault::Memory)),
+            Err(_) => self.answer.keep(&Fault::Memory),
         }
     }
 

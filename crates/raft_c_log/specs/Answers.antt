@@ -1,12 +1,7 @@
--- Answers as codes and bytes.
-use Rattle.std.specs.Prelude.{◌≡◌, ◌≤◌, ◌-◌, ℕ, ℤ, pos, Bool, true, false, List, [], ◌∷◌, ◌++◌, take, Option, Some, None, if◌then◌else◌, nat_eq}
+-- Answers as bytes.
+use Rattle.std.specs.Prelude.{◌≡◌, ◌≤◌, ◌-◌, ℕ, List, [], ◌∷◌, ◌++◌, take, Option, Some, None, if◌then◌else◌, nat_eq}
 use Rattle.raft_c_batch.specs.Batch.{part_bytes}
 use Rattle.raft_codec.specs.Number.{u64_bytes}
-
--- the code of a call that was done: whether what it asked for is there
-abbrev pub found_code : Bool → ℤ
-found_code true = pos 0
-found_code false = pos 20
 
 -- numbers, each in eight bytes, the greatest first
 abbrev pub numbers_bytes : List ℕ → List ℕ

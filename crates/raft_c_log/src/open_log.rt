@@ -11,6 +11,9 @@ use raft_c_batch::{BatchFault, Entry, add_items};
 use raft_log_engine::{Engine, Fault, FileSystem, LogBatch};
 use std::alloc::Global;
 
+/// What a call asked for isn't there.
+const ABSENT: i32 = 20;
+
 /// An open log over some files.
 #[derive(Drop)]
 pub struct OpenLog<F: FileSystem> {
@@ -43,7 +46,7 @@ impl<F: FileSystem + Drop> OpenLog<F> {
                 engine,
                 batch: LogBatch::new(alloc),
             }),
-            Err(fault) => Err(answer.code(Err(fault))),
+            Err(fault) => Err(answer.keep(&fault)),
         }
     }
 
@@ -51,7 +54,7 @@ impl<F: FileSystem + Drop> OpenLog<F> {
     pub fn close(self, answer: &mut Answer) -> i32 {
         match self.engine.close() {
             Ok(_) => 0,
-            Err(refused) => answer.code(Err(refused.fault)),
+            Err(refused) => answer.keep(&refused.fault),
         }
     }
 }
@@ -70,11 +73,10 @@ impl<F: FileSystem> OpenLog<F> {
         ensures err { (result ≡ pos 0 → ⊥) → has_failed self.new.engine ≡ false
             → contents_of self.new.engine ≡ contents_of self.old.engine }
     {
-        let done = match self.changed(change, answer) {
-            Ok(()) => Ok(true),
-            Err(fault) => Err(fault),
-        };
-        answer.code(done)
+        match self.changed(change, answer) {
+            Ok(()) => 0,
+            Err(fault) => answer.keep(&fault),
+        }
     }
 
     /// Reads, and tells a code: 0 where what was asked for is there, 20 where it isn't.
@@ -86,8 +88,11 @@ impl<F: FileSystem> OpenLog<F> {
             → HasAnswered query.entry self.old.engine answer.new false }
         ensures unchanged { contents_of self.new.engine ≡ contents_of self.old.engine }
     {
-        let done = self.answered(query, answer);
-        answer.code(done)
+        match self.answered(query, answer) {
+            Ok(true) => 0,
+            Ok(false) => ABSENT,
+            Err(fault) => answer.keep(&fault),
+        }
     }
 
     // Carries a change out.
