@@ -1,6 +1,6 @@
 -- What a scan keeps of the pairs that are handed to it.
 use Rattle.std.proofs.Common.{◌≡◌, ◌⊎◌, ◌∙◌, ◌+◌, ◌-◌, ◌≤◌, ◌<◌, ℕ, Bool, true, false, List, [], ◌∷◌, ◌++◌, length, take, Option, Some, None, refl, sym, ap, subst, append_assoc, arith, inl, inr}
-use Rattle.std.proofs.lemmas.List.{append-nil, take_all}
+use Rattle.std.proofs.lemmas.List.{append-nil, length-append, take_all}
 use Rattle.std.proofs.Math.Seq.{take-append_seam}
 use Rattle.raft_c_batch.specs.Batch.{part_bytes}
 use Rattle.raft_records.specs.Contents.{Contents}
@@ -44,14 +44,20 @@ handed_from called xs (p ∷ ps) f last (inr more) J K j goes stops =
     (handed_from called (xs ++ p ∷ []) ps more.0 last more.2 J K (goes xs f p.0 p.1 more.0 j more.1) goes stops)
 
 pub kept_by : {F : Type 0} {called : F → List ℕ → List ℕ → Bool → F → Type 0} {m : Contents} {group : ℕ} {start end : Option (List ℕ)} {reversed : Bool} {first last : F}
-    (ran : IsScanned called m group start end reversed first last) (J K : List Pair → F → Type 0) → J [] first
-    → ((xs : List Pair) (f : F) (key value : List ℕ) (next : F) → J xs f → called f key value true next → J (xs ++ (key, value) ∷ []) next)
-    → ((xs : List Pair) (f : F) (key value : List ℕ) (next : F) → J xs f → called f key value false next → K xs next)
-    → J ran.pairs last ⊎ ((kept rest : List Pair) × (ran.pairs ≡ kept ++ rest) × K kept last)
-kept_by {called} {first} {last} ran J K j goes stops = handed_from called [] ran.pairs first last ran.handed J K j goes stops
+    (ran : IsScanned called m group start end reversed first last) (J K : F → List Pair → F → Type 0) → J first [] first
+    → ((from : F) (xs : List Pair) (f : F) (key value : List ℕ) (next : F) → J from xs f → called f key value true next → J from (xs ++ (key, value) ∷ []) next)
+    → ((from : F) (xs : List Pair) (f : F) (key value : List ℕ) (next : F) → J from xs f → called f key value false next → K from xs next)
+    → J first ran.pairs last ⊎ ((kept rest : List Pair) × (ran.pairs ≡ kept ++ rest) × K first kept last)
+kept_by {called} {first} {last} ran J K j goes stops = handed_from called [] ran.pairs first last ran.handed (J first) (K first) j (goes first) (stops first)
 
-pub left_more : (limit left after : Option ℕ) (n : ℕ) → IsLeft limit n left → IsOneLess left after → IsLeft limit (n + 1) after
-left_more None left after n room less = subst (λ (l : Option ℕ). IsOneLess l after) room less
-left_more (Some most) left after n room less =
-    let one : IsOneLess (Some (most - n)) after = subst (λ (l : Option ℕ). IsOneLess l after) room.1 less in
-    (omega (arith, one.0, room.0), one.1 ∙ ap Some (omega (arith)))
+pub left_all : (limit left : Option ℕ) → left ≡ limit → IsLeft limit 0 left
+left_all None left is = is
+left_all (Some n) left is = (arith, is)
+
+pub left_more : (limit left after : Option ℕ) (xs : List Pair) (p : Pair) → IsLeft limit (length xs) left → IsOneLess left after
+    → IsLeft limit (length (xs ++ p ∷ [])) after
+left_more None left after xs p room less = subst (λ (l : Option ℕ). IsOneLess l after) room less
+left_more (Some most) left after xs p room less =
+    let one : IsOneLess (Some (most - length xs)) after = subst (λ (l : Option ℕ). IsOneLess l after) room.1 less in
+    let count : length (xs ++ p ∷ []) ≡ length xs + 1 = length-append xs (p ∷ []) in
+    (omega (arith, one.0, room.0, count), one.1 ∙ ap Some (omega (arith, count)))

@@ -7,6 +7,7 @@ mod calls;
 mod open_log;
 mod opening;
 mod parts;
+mod scan;
 
 pub use answer::Answer;
 pub use calls::{Change, Fetch, Query, Scan};

@@ -6,7 +6,8 @@ ghost use Rattle.raft_c_batch.specs.Batch.{read_batch};
 use crate::answer::Answer;
 use crate::calls::{Change, Fetch, Query, Scan};
 use crate::opening::engine_over;
-use crate::parts::{Pairs, push_entries, push_numbers};
+use crate::parts::{push_entries, push_numbers};
+use crate::scan::pairs_of;
 use raft_c_batch::{BatchFault, Entry, add_items};
 use raft_log_engine::{Engine, Fault, FileSystem, LogBatch};
 use std::alloc::Global;
@@ -250,21 +251,7 @@ impl<F: FileSystem> OpenLog<F> {
             answer.new.bytes.items) }
         ensures ok { IfOk result (λ found. found ≡ true) }
     {
-        let mut pairs = Pairs::new(self.alloc, scan.limit);
-        let scanned = self.engine.scan_raw_messages(
-            scan.group,
-            Some(scan.start),
-            scan.end,
-            scan.reverse,
-            &mut |key: &[u8], value: &[u8]| pairs.keep(key, value),
-        );
-        if let Err(fault) = scanned {
-            return Err(fault);
-        }
-        if !pairs.is_whole {
-            return Err(Fault::Memory);
-        }
-        answer.bytes = pairs.bytes;
+        answer.bytes = pairs_of(self.alloc, &self.engine, scan)?;
         Ok(true)
     }
 
