@@ -7,7 +7,7 @@ use Rattle.raft_records.specs.Contents.{Contents}
 use Rattle.raft_log_engine.specs.Scan.{AreHandedOver, IsScanned}
 use Rattle.raft_c_log.specs.Answers.{IsLeft, IsOneLess, limited, pairs_bytes}
 
-abbrev Pair : Type 0
+abbrev pub Pair : Type 0
 Pair = List ℕ × List ℕ
 
 pub pairs_more : (xs : List Pair) (key value : List ℕ)
