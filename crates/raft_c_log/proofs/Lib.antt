@@ -1,4 +1,3 @@
 pub mod CallLemmas
 pub mod CodeLemmas
-pub mod LoopLemmas
 pub mod ScanLemmas

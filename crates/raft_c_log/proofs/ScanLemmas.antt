@@ -5,7 +5,8 @@ use Rattle.std.proofs.Math.Seq.{take-append_seam}
 use Rattle.raft_c_batch.specs.Batch.{part_bytes}
 use Rattle.raft_records.specs.Contents.{Contents}
 use Rattle.raft_log_engine.specs.Scan.{AreHandedOver, IsScanned}
-use Rattle.raft_c_log.specs.Answers.{IsLeft, IsOneLess, limited, pairs_bytes}
+use Rattle.raft_c_batch.specs.Parts.{pairs_bytes}
+use Rattle.raft_c_log.specs.Limit.{IsLeft, IsOneLess, limited}
 
 abbrev pub Pair : Type 0
 Pair = List ℕ × List ℕ

@@ -8,6 +8,7 @@ use Rattle.raft_pipes.specs.PipeState.{PipeState, last_seq}
 use Rattle.raft_records.specs.Contents.{Contents, after_batch, first_index_of, last_index_of}
 use Rattle.raft_records.specs.Item.{Batch, Entry}
 use Rattle.raft_c_batch.specs.Batch.{entries_bytes, read_batch}
+use Rattle.raft_c_batch.specs.Parts.{numbers_bytes, pairs_bytes}
 use Rattle.raft_log_engine.specs.Advance.{Advances, state_of}
 use Rattle.raft_log_engine.specs.Durability.{HasSynced, HasWritten, durability_of}
 use Rattle.raft_log_engine.specs.Engine.{contents_of, has_groups_together, is_known_in, queue_of, rewrite_queue_of}
@@ -16,7 +17,7 @@ use Rattle.raft_log_engine.specs.Purge.{IsEmptiedTo}
 use Rattle.raft_log_engine.specs.Reads.{IsFetchable, IsGroupList, compact_batch, compact_count, entries_to_fetch, entry_of}
 use Rattle.raft_log_engine.specs.Scan.{IsScan}
 use Rattle.raft_log_engine.specs.declared.engine.Engine.{Engine}
-use Rattle.raft_c_log.specs.Answers.{limited, max_of, numbers_bytes, pairs_bytes}
+use Rattle.raft_c_log.specs.Limit.{limited, max_of}
 use Rattle.raft_c_log.specs.declared.answer.Answer.{Answer}
 use Rattle.raft_c_log.specs.declared.calls.Change.{Change}
 use Rattle.raft_c_log.specs.declared.calls.Change.TheVariants.{Write, Sync, CompactTo, RewriteAppendQueue, RewriteRewriteQueue, PurgeAllStale}

@@ -6,7 +6,6 @@ mod answer;
 mod calls;
 mod open_log;
 mod opening;
-mod parts;
 mod scan;
 
 pub use answer::Answer;

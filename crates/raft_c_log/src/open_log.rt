@@ -6,9 +6,8 @@ ghost use Rattle.raft_c_batch.specs.Batch.{read_batch};
 use crate::answer::Answer;
 use crate::calls::{Change, Fetch, Query, Scan};
 use crate::opening::engine_over;
-use crate::parts::{push_entries, push_numbers};
 use crate::scan::pairs_of;
-use raft_c_batch::{BatchFault, Entry, add_items};
+use raft_c_batch::{BatchFault, Entry, add_items, push_entries, push_numbers};
 use raft_log_engine::{Engine, Fault, FileSystem, LogBatch};
 use std::alloc::Global;
 

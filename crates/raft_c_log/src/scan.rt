@@ -2,11 +2,11 @@
 ghost use Rattle.std.specs.Prelude.{◌≡◌, ◌⊎◌, ◌++◌, [], IfOk, Some, false, true};
 ghost use Rattle.raft_c_batch.specs.Batch.{part_bytes};
 ghost use Rattle.raft_log_engine.specs.Engine.{contents_of};
-ghost use Rattle.raft_c_log.specs.Answers.{IsOneLess, max_of};
+ghost use Rattle.raft_c_log.specs.Limit.{IsOneLess, max_of};
 ghost use Rattle.raft_c_log.specs.Calls.{IsScanAnswer};
 
 use crate::calls::Scan;
-use crate::parts::push_pair;
+use raft_c_batch::push_pair;
 use raft_log_engine::{Engine, Fault, FileSystem};
 use std::alloc::Global;
 

@@ -1,6 +1,7 @@
 use Rattle.std.proofs.Common.{rules, ◌≡◌, ◌∙◌, ◌++◌, ◌∷◌, ◌⊎◌, [], ℕ, List, Option, Some, true, false, refl, ap, subst, sym, ⊎_elim, inl, inr, length}
 use Rattle.raft_c_batch.specs.Batch.{part_bytes}
-use Rattle.raft_c_log.specs.Answers.{IsLeft, IsOneLess, limited, max_of, pairs_bytes}
+use Rattle.raft_c_batch.specs.Parts.{pairs_bytes}
+use Rattle.raft_c_log.specs.Limit.{IsLeft, IsOneLess, limited, max_of}
 use Rattle.raft_c_log.specs.declared.scan.Pairs.{Pairs}
 use Rattle.raft_c_log.proofs.ScanLemmas.{Pair, kept_by, left_all, left_more, limited_all, limited_first, pairs_more}
 use Rattle.raft_c_log.proofs.scan.pairs_of.Goals as goal

@@ -2,10 +2,10 @@ use denote.Param.Send.{sendable}
 use Rattle.raft_memory.proofs.Sent.{memory_send, memory_sync}
 use Rattle.raft_disk.proofs.Sent.{mirror_send, mirror_sync}
 use Rattle.raft_orders.proofs.Sent.{orders_send, orders_sync}
-use Rattle.raft_c.proofs.log.Log.open_over.Goals as goal
+use Rattle.raft_c.proofs.log.Log.open_files.Goals as goal
 
-pub engine_over-opened-requires-send-F : goal.engine_over-opened-requires-send-F
-engine_over-opened-requires-send-F c κs = search (sendable, mirror_send, orders_send, memory_send) depth 20
+pub open-requires-send-F : goal.open-requires-send-F
+open-requires-send-F c κs = search (sendable, mirror_send, orders_send, memory_send) depth 20
 
-pub engine_over-opened-requires-sync-F : goal.engine_over-opened-requires-sync-F
-engine_over-opened-requires-sync-F c κs = search (sendable, mirror_sync, orders_sync, memory_sync) depth 20
+pub open-requires-sync-F : goal.open-requires-sync-F
+open-requires-sync-F c κs = search (sendable, mirror_sync, orders_sync, memory_sync) depth 20

@@ -4,8 +4,8 @@ use Rattle.raft_disk.proofs.Sent.{mirror_send, mirror_sync}
 use Rattle.raft_orders.proofs.Sent.{orders_send, orders_sync}
 use Rattle.raft_c.proofs.log.Log.read.Goals as goal
 
-pub read_over-requires-send-F : goal.read_over-requires-send-F
-read_over-requires-send-F c κs = search (sendable, mirror_send, orders_send, memory_send) depth 20
+pub read-requires-send-F : goal.read-requires-send-F
+read-requires-send-F c κs = search (sendable, mirror_send, orders_send, memory_send) depth 20
 
-pub read_over-requires-sync-F : goal.read_over-requires-sync-F
-read_over-requires-sync-F c κs = search (sendable, mirror_sync, orders_sync, memory_sync) depth 20
+pub read-requires-sync-F : goal.read-requires-sync-F
+read-requires-sync-F c κs = search (sendable, mirror_sync, orders_sync, memory_sync) depth 20

@@ -1,9 +1,9 @@
 //! Answers as bytes, part by part.
 ghost use Rattle.std.specs.Prelude.{◌≡◌, ◌++◌, OnOk, map};
 ghost use Rattle.raft_c_batch.specs.Batch.{entries_bytes, part_bytes, stored_of};
-ghost use Rattle.raft_c_log.specs.Answers.{numbers_bytes};
+ghost use Rattle.raft_c_batch.specs.Parts.{numbers_bytes};
 
-use raft_c_batch::Entry;
+use crate::entry::Entry;
 use raft_codec::number::push_u64;
 use std::alloc::AllocError;
 
@@ -15,7 +15,8 @@ fn push_part(bytes: &mut Vec<u8>, part: &[u8]) -> Result<(), AllocError>
     bytes.extend_from_slice(part)
 }
 
-pub(crate) fn push_pair(bytes: &mut Vec<u8>, key: &[u8], value: &[u8]) -> Result<(), AllocError>
+/// A key and a value, each with its length before it.
+pub fn push_pair(bytes: &mut Vec<u8>, key: &[u8], value: &[u8]) -> Result<(), AllocError>
     ensures ok { OnOk result (bytes.new.items
         ≡ bytes.old.items ++ (part_bytes key.now ++ part_bytes value.now)) }
 {
@@ -24,7 +25,7 @@ pub(crate) fn push_pair(bytes: &mut Vec<u8>, key: &[u8], value: &[u8]) -> Result
 }
 
 /// The entries, each with its length before it.
-pub(crate) fn push_entries(bytes: &mut Vec<u8>, entries: &[Entry]) -> Result<(), AllocError>
+pub fn push_entries(bytes: &mut Vec<u8>, entries: &[Entry]) -> Result<(), AllocError>
     ensures ok { OnOk result (bytes.new.items
         ≡ bytes.old.items ++ entries_bytes (map stored_of entries.now)) }
 {
@@ -34,7 +35,8 @@ pub(crate) fn push_entries(bytes: &mut Vec<u8>, entries: &[Entry]) -> Result<(),
     Ok(())
 }
 
-pub(crate) fn push_numbers(bytes: &mut Vec<u8>, numbers: &[u64]) -> Result<(), AllocError>
+/// The numbers, each in eight bytes, the greatest first.
+pub fn push_numbers(bytes: &mut Vec<u8>, numbers: &[u64]) -> Result<(), AllocError>
     ensures ok { OnOk result (bytes.new.items ≡ bytes.old.items ++ numbers_bytes numbers.now) }
 {
     for number in numbers {

@@ -5,7 +5,7 @@ use Rattle.raft_codec.specs.Number.{u64_bytes}
 use Rattle.raft_records.specs.Item.{Entry}
 use Rattle.raft_c_batch.specs.Batch.{entries_bytes, part_bytes, stored_of}
 use Rattle.raft_c_batch.specs.declared.entry.Entry.{Entry as StoredEntry}
-use Rattle.raft_c_log.specs.Answers.{numbers_bytes}
+use Rattle.raft_c_batch.specs.Parts.{numbers_bytes}
 
 entries_append : (xs ys : List Entry) → entries_bytes (xs ++ ys) ≡ entries_bytes xs ++ entries_bytes ys
 entries_append [] ys = refl
