@@ -1,14 +1,12 @@
 -- What calls make of what stands behind a handle.
-use Rattle.std.specs.Prelude.{◌≡◌, ℕ, Bool, true, false, List, [], ◌∷◌, ◌++◌, length, map, take, Option, Some, None, ℤ, pos}
-use Rattle.std.specs.String.{string_bytes}
+use Rattle.std.specs.Prelude.{◌≡◌, ℕ, Bool, true, false, List, [], length, take, Option, Some, None, ℤ, pos}
 use Rattle.raft_env.specs.Directory.{Directory}
 use Rattle.raft_memory.specs.Settled.{settled_files}
 use Rattle.raft_c_log.specs.Calls.{HasAnswered, HasChanged}
 use Rattle.raft_c_log.specs.Opening.{IsOpenedBy}
 use Rattle.raft_c_log.specs.declared.answer.Answer.{Answer}
-use Rattle.raft_c.specs.Found.{listed}
-use Rattle.raft_c.specs.declared.log.Found.{Found}
-use Rattle.raft_c.specs.declared.log.Found.TheVariants.{File, Folder}
+use Rattle.raft_c.specs.Found.{IsFoundMore}
+use Rattle.raft_c.specs.declared.loading.Found.{Found}
 use Rattle.raft_c.specs.declared.log.Log.{Log}
 use Rattle.raft_c.specs.declared.log.Standing.TheVariants.{Broken, Settled, Waiting}
 use Rattle.raft_c.specs.declared.log.State.{State}
@@ -18,25 +16,20 @@ use Rattle.raft_c_log.specs.declared.calls.Query.{Query}
 
 -- Before a log is open.
 
--- these files and folders were found so far
-abbrev pub HasFound : List (List ℕ × List ℕ) → List (List ℕ) → State → Type 0
-HasFound files folders (Loading loading) =
-    (listed loading.files.items ≡ files) × (map string_bytes loading.folders.items ≡ folders)
-HasFound files folders _ = ⊥
+-- nothing is found yet
+abbrev pub HasFoundNone : State → Type 0
+HasFoundNone (Loading loading) = (loading.files.items ≡ []) × (loading.folders.items ≡ [])
+HasFoundNone _ = ⊥
 
 -- a log was begun; without memory there is none
 abbrev pub HasBegun : ℤ → Option Log → Type 0
-HasBegun code (Some log) =
-    (code ≡ pos 0) × (log.standing ≡ Settled) × HasFound [] [] log.state
+HasBegun code (Some log) = (code ≡ pos 0) × (log.standing ≡ Settled) × HasFoundNone log.state
 HasBegun code None = code ≡ pos 12
 
 -- what was found at a path was added
 abbrev pub IsAdded : List ℕ → Found → State → State → Type 0
-IsAdded path (File bytes) (Loading old) new = HasFound
-    (listed old.files.items ++ (path, bytes.now) ∷ []) (map string_bytes old.folders.items) new
-IsAdded path Folder (Loading old) new = HasFound
-    (listed old.files.items) (map string_bytes old.folders.items ++ path ∷ []) new
-IsAdded path found _ new = ⊥
+IsAdded path found (Loading old) (Loading new) = IsFoundMore path found old new
+IsAdded path found _ _ = ⊥
 
 abbrev pub HasAdded : List ℕ → Found → ℤ → Option Log → Option Log → Type 0
 HasAdded path found code (Some old) (Some new) =

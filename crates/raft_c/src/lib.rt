@@ -12,7 +12,8 @@ mod log;
 mod raw_box;
 
 use handle::Handle;
-use log::{Found, Log, NO_MEMORY};
+use loading::{Found, NO_MEMORY};
+use log::Log;
 use raft_c_log::{Change, Fetch, Query, Scan};
 use std::alloc::Global;
 

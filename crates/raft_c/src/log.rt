@@ -7,7 +7,7 @@ ghost use Rattle.raft_c.specs.Logs.{HasBegun, IsAdded, IsChangedBy, IsOpenOver, 
 ghost use Rattle.raft_c.specs.declared.log.Standing.TheVariants.{Settled, Waiting};
 ghost use Rattle.raft_c.specs.declared.log.State.TheVariants.{Ended};
 
-use crate::loading::Loading;
+use crate::loading::{Found, Loading};
 use raft_c_log::{Answer, Change, OpenLog, Query};
 use raft_log_engine::Fault;
 use raft_orders::{OrderedFileSystem, ordered_files};
@@ -21,9 +21,6 @@ const IO: i32 = 3;
 
 /// The code of a call on a log that is broken, or whose last call waits.
 const FAILED: i32 = 11;
-
-/// The code of a want of memory.
-pub(crate) const NO_MEMORY: i32 = 12;
 
 /// Whether the orders were carried out.
 #[derive(Clone, Copy, Debug, PartialEq, Eq)]
@@ -53,13 +50,6 @@ pub struct Log {
     answer: Answer,
 }
 
-/// What is found at a path.
-#[derive(Clone, Copy)]
-pub(crate) enum Found<'a> {
-    File(&'a [u8]),
-    Folder,
-}
-
 impl Log {
     pub(crate) fn new(alloc: Global) -> Log
         ensures value { HasBegun (pos 0) (Some result) }
@@ -76,16 +66,9 @@ impl Log {
     pub(crate) fn add(&mut self, path: &[u8], found: Found<'_>) -> i32
         ensures ok { result ≡ pos 0 → IsAdded path.now found.entry self.old.state self.new.state }
     {
-        let (State::Loading(loading), Ok(path)) = (&mut self.state, str::from_utf8(path)) else {
-            return NOT_OPEN;
-        };
-        let added = match found {
-            Found::File(bytes) => loading.add_file(self.alloc, path, bytes),
-            Found::Folder => loading.add_folder(self.alloc, path),
-        };
-        match added {
-            Ok(()) => 0,
-            Err(_) => NO_MEMORY,
+        match &mut self.state {
+            State::Loading(loading) => loading.add(self.alloc, path, found),
+            _ => NOT_OPEN,
         }
     }
 

@@ -53,7 +53,7 @@ kept_by {called} {first} {last} ran J K j goes stops = handed_from called [] ran
 
 pub left_all : (limit left : Option ℕ) → left ≡ limit → IsLeft limit 0 left
 left_all None left is = is
-left_all (Some n) left is = (arith, is)
+left_all (Some n) left is = (omega arith, is ∙ ap Some (omega arith))
 
 pub left_more : (limit left after : Option ℕ) (xs : List Pair) (p : Pair) → IsLeft limit (length xs) left → IsOneLess left after
     → IsLeft limit (length (xs ++ p ∷ [])) after

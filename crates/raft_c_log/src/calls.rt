@@ -1,4 +1,6 @@
 //! What is asked of a log.
+ghost use Rattle.std.specs.Prelude.{◌≡◌};
+ghost use Rattle.raft_c_log.specs.Limit.{max_of};
 
 /// What changes a log.
 #[derive(Clone, Copy)]
@@ -44,4 +46,11 @@ pub struct Scan<'a> {
     pub end: Option<&'a [u8]>,
     pub reverse: bool,
     pub limit: u64,
+}
+
+/// A bound in bytes that is given as a number; 0 is none.
+pub(crate) fn size_bound(size: u64) -> Option<usize>
+    ensures value { result ≡ max_of size }
+{
+    if size == 0 { None } else { Some(size as usize) }
 }

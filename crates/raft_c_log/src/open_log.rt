@@ -4,7 +4,7 @@ ghost use Rattle.std.proofs.Props.{props};
 ghost use Rattle.raft_c_batch.specs.Batch.{read_batch};
 
 use crate::answer::Answer;
-use crate::calls::{Change, Fetch, Query, Scan};
+use crate::calls::{Change, Fetch, Query, Scan, size_bound};
 use crate::opening::engine_over;
 use crate::scan::pairs_of;
 use raft_c_batch::{BatchFault, Entry, add_items, push_entries, push_numbers};
@@ -228,16 +228,11 @@ impl<F: FileSystem> OpenLog<F> {
         ensures unchanged { HasOnlyRead self.old.engine self.new.engine }
     {
         let mut entries = Vec::new(self.alloc);
-        let max_size = if fetch.max_size == 0 {
-            None
-        } else {
-            Some(fetch.max_size as usize)
-        };
         self.engine.fetch_entries_to::<Entry>(
             fetch.group,
             fetch.begin,
             fetch.end,
-            max_size,
+            size_bound(fetch.max_size),
             &mut entries,
         )?;
         answer.bytes.clear();

@@ -17,7 +17,7 @@ returns-then-pairs g c =
     (λ from xs f. (f.0.ghost_name ≡ from.0.ghost_name) × (f.0.now.bytes.items ≡ pairs_bytes xs) × IsLeft limit (length xs) f.0.now.left)
     (λ from xs f. (f.0.ghost_name ≡ from.0.ghost_name)
     × ((f.0.now.is_whole ≡ false) ⊎ ((f.0.now.bytes.items ≡ pairs_bytes xs) × IsLeft limit (length xs) (Some 0))))
-    (refl, c.new.ensures.value.0, left_all limit _ c.new.ensures.value.2)
+    (refl, c.new-pairs.ensures.value.0, left_all limit _ c.new-pairs.ensures.value.2)
     (λ from xs f key value next j k.
     let added : next.0.now.bytes.items ≡ f.0.now.bytes.items ++ (part_bytes k.first.now ++ part_bytes k.second.now) = search rules in
     let less : IsOneLess f.0.now.left next.0.now.left = search rules in (
