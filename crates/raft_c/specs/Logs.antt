@@ -47,15 +47,19 @@ IsOpened settings (Loading found) new =
     IsOpenOver settings (settled_files found.files.items found.folders.items) new
 IsOpened settings _ new = ⊥
 
--- an opening whose code 0 waits for its orders has opened the log
+-- a call whose code waits for its orders, which has done what it is to where that is 0. Where one
+-- waits already, or the log is broken, nothing changes
+pub record GivesOrders (Done : Type 0) (old new : Log) : Type 0 where
+  pub done : old.standing ≡ Settled → new.standing ≡ Waiting (pos 0) → Done
+  pub unchanged : (old.standing ≡ Settled → ⊥) → new ≡ old
+
 abbrev pub OpensAfter : List ℕ → Option Log → Option Log → Type 0
 OpensAfter settings (Some old) (Some new) =
-    new.standing ≡ Waiting (pos 0) → IsOpened settings old.state new.state
+    GivesOrders (IsOpened settings old.state new.state) old new
 OpensAfter settings _ _ = ⊥
 
--- a closing of a log that is neither broken nor waits ends it
 abbrev pub EndsAfter : Option Log → Option Log → Type 0
-EndsAfter (Some old) (Some new) = old.standing ≡ Settled → new.state ≡ Ended
+EndsAfter (Some old) (Some new) = GivesOrders (new.state ≡ Ended) old new
 EndsAfter _ _ = ⊥
 
 -- While it is open.
@@ -70,10 +74,9 @@ abbrev pub IsAnsweredBy : Query → Bool → State → State → Answer → Type
 IsAnsweredBy q found (Open old) (Open new) answer = HasAnswered q old.engine answer found
 IsAnsweredBy q found _ _ answer = ⊥
 
--- a change whose code 0 waits for its orders has done what it is to
 abbrev pub WaitsAfter : Change → Option Log → Option Log → Type 0
-WaitsAfter change (Some old) (Some new) = old.standing ≡ Settled → new.standing ≡ Waiting (pos 0)
-    → IsChangedBy change old.state new.state new.answer
+WaitsAfter change (Some old) (Some new) =
+    GivesOrders (IsChangedBy change old.state new.state new.answer) old new
 WaitsAfter change _ _ = ⊥
 
 -- the code 0 is given to a caller that carried the orders out, and nothing has changed since

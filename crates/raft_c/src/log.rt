@@ -3,8 +3,7 @@
 ghost use Rattle.std.specs.Prelude.{◌≡◌, Some, length, pos, take};
 ghost use Rattle.raft_disk.specs.Mirror.{mirror_directory};
 ghost use Rattle.raft_memory.specs.Settled.{settled_files};
-ghost use Rattle.raft_c.specs.Logs.{HasBegun, IsAdded, IsChangedBy, IsOpenOver, IsOpened, IsRead, IsSettled};
-ghost use Rattle.raft_c.specs.declared.log.Standing.TheVariants.{Settled, Waiting};
+ghost use Rattle.raft_c.specs.Logs.{GivesOrders, HasBegun, IsAdded, IsChangedBy, IsOpenOver, IsOpened, IsRead, IsSettled};
 ghost use Rattle.raft_c.specs.declared.log.State.TheVariants.{Ended};
 
 use crate::loading::{Found, Loading};
@@ -73,11 +72,15 @@ impl Log {
     }
 
     /// Opens the log over what was found, with these settings. Its orders go to a descriptor; below 0
-    /// none are written. The code waits for them.
+    /// none are written. The code waits for them. Nothing changes where one waits, or where the log is
+    /// broken.
     pub(crate) fn open(&mut self, out: i32, settings: &[u8])
-        ensures ok { self.new.standing ≡ Waiting (pos 0)
-            → IsOpened settings.now self.old.state self.new.state }
+        ensures orders { GivesOrders (IsOpened settings.now self.old.state self.new.state)
+            self.old self.new }
     {
+        if self.standing != Standing::Settled {
+            return;
+        }
         let code = self.open_found(out, settings);
         self.standing = Standing::Waiting(code);
     }
@@ -118,10 +121,11 @@ impl Log {
         }
     }
 
-    /// Carries a change out. Its code waits for its orders.
+    /// Carries a change out. Its code waits for its orders. Nothing changes where one waits, or where
+    /// the log is broken.
     pub(crate) fn change(&mut self, change: Change<'_>)
-        ensures ok { self.old.standing ≡ Settled → self.new.standing ≡ Waiting (pos 0)
-            → IsChangedBy change.entry self.old.state self.new.state self.new.answer }
+        ensures orders { GivesOrders (IsChangedBy change.entry self.old.state self.new.state
+            self.new.answer) self.old self.new }
     {
         if self.standing != Standing::Settled {
             return;
@@ -133,9 +137,10 @@ impl Log {
         self.standing = Standing::Waiting(code);
     }
 
-    /// Closes the log. The code waits for its orders.
+    /// Closes the log. The code waits for its orders. Nothing changes where one waits, or where the log
+    /// is broken.
     pub(crate) fn close(&mut self)
-        ensures ok { self.old.standing ≡ Settled → self.new.state ≡ Ended }
+        ensures orders { GivesOrders (self.new.state ≡ Ended) self.old self.new }
     {
         if self.standing != Standing::Settled {
             return;
