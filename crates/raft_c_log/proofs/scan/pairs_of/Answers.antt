@@ -31,10 +31,21 @@ returns-then-pairs g c =
       ⊎_elim (λ broken. inl broken)
           (λ stops. inr (ap (λ (p : Pairs). p.bytes.items) stops.1 ∙ j.1, subst (λ (left : Option ℕ). IsLeft limit (length xs) left) stops.0 j.2)) full,
     )) in
-    let is : _ ≡ pairs_bytes (limited limit ran.pairs) = ⊎_elim
-    (λ good. kept_as limit ran.pairs ran.pairs _ (let kept = good.0 in let all = good.1 in search rules) (limited_all limit _ ran.pairs good.2))
+    ⊎_elim
+    (λ good. record {
+      value = record {
+        pairs = ran.pairs;
+        scanned = ran.scan;
+        bytes = kept_as limit ran.pairs ran.pairs _ (let kept = good.0 in let all = good.1 in search rules) (limited_all limit _ ran.pairs good.2);
+      };
+    })
     (λ bad. ⊎_elim
     (λ broken. let kept = bad.3.0 in let clash : true ≡ false = search rules in absurd cc)
-    (λ stops. kept_as limit bad.0 ran.pairs _ (let kept = bad.3.0 in let all = stops.0 in search rules) (ap (limited limit) bad.2 ∙ limited_first limit bad.0 bad.1 stops.1))
-    bad.3.1) met in
-    record { value = record { pairs = ran.pairs; scanned = ran.scan; bytes = is } }
+    (λ stops. record {
+      value = record {
+        pairs = ran.pairs;
+        scanned = ran.scan;
+        bytes = kept_as limit bad.0 ran.pairs _ (let kept = bad.3.0 in let all = stops.0 in search rules) (ap (limited limit) bad.2 ∙ limited_first limit bad.0 bad.1 stops.1);
+      };
+    })
+    bad.3.1) met
