@@ -1,22 +1,10 @@
 //! Calls of seats at a shared engine, what each is told, and whether the history can be finished.
 
-use raft_log_engine::{
-    Choice, Config, Engine, Fault, Fresh, FsCall, IoKind, LogBatch, MemoryFileSystem,
-};
-use raft_records::EntryIndex;
-use raft_shared::{Receipt, Reply, Seat, Shared};
+use crate::engines::{Ask, keys_in, make_call, open, put_of, share};
+use raft_log_engine::{Choice, Engine, Fault, FsCall, IoKind, MemoryFileSystem};
+use raft_shared::{Finished, Reply, Seat, Shared, Unfinished};
 use std::alloc::Global;
 use std::test::Fail;
-
-pub(crate) enum Ask {
-    Put(u64, &'static [u8], &'static [u8]),
-    /// Entries of group 1 with these indexes, each without bytes.
-    Entries(&'static [u64]),
-    Get(u64, &'static [u8]),
-    First(u64),
-    Last(u64),
-    Sync,
-}
 
 #[derive(Clone, Copy, PartialEq)]
 enum Told {
@@ -41,6 +29,8 @@ struct Case {
     rows: &'static [Row],
     /// How many seats are handed over at the end, and whether this is refused.
     finish: (usize, bool),
+    /// How many keys the engine holds then, where it stands.
+    keys: Option<usize>,
     /// What `k` of group 1 is after a crash that leaves what was synced.
     left: Option<&'static [u8]>,
 }
@@ -57,6 +47,7 @@ static CASES: [Case; 6] = [
             (0, Ask::First(2), Told::Index(None)),
         ],
         finish: (1, false),
+        keys: Some(0),
         left: None,
     },
     Case {
@@ -70,6 +61,7 @@ static CASES: [Case; 6] = [
             (0, Ask::Get(1, b"k"), Told::Err(16)),
         ],
         finish: (1, false),
+        keys: Some(2),
         left: None,
     },
     Case {
@@ -83,6 +75,7 @@ static CASES: [Case; 6] = [
             (0, Ask::Sync, Told::Done),
         ],
         finish: (1, false),
+        keys: Some(1),
         left: Some(b"v"),
     },
     Case {
@@ -94,6 +87,7 @@ static CASES: [Case; 6] = [
             (1, Ask::Get(1, b"k"), Told::Value(Some(b"v"))),
         ],
         finish: (1, true),
+        keys: Some(1),
         left: None,
     },
     Case {
@@ -107,6 +101,7 @@ static CASES: [Case; 6] = [
             (0, Ask::Put(1, b"k", b"v"), Told::Size),
         ],
         finish: (2, false),
+        keys: Some(1),
         left: None,
     },
     Case {
@@ -119,45 +114,10 @@ static CASES: [Case; 6] = [
             (0, Ask::Put(1, b"k", b"v"), Told::Refused(11)),
         ],
         finish: (1, false),
+        keys: None,
         left: None,
     },
 ];
-
-pub(crate) fn make_call(
-    alloc: Global,
-    shared: &mut Shared<MemoryFileSystem>,
-    seat: &mut Seat,
-    call: &Ask,
-) -> Result<Receipt, Fault> {
-    match call {
-        Ask::Put(group, key, value) => {
-            let mut batch = LogBatch::new(alloc);
-            batch.put(*group, key.to_vec(alloc)?, value.to_vec(alloc)?)?;
-            shared.write(seat, &mut batch, false)
-        }
-        Ask::Entries(indexes) => {
-            let mut entries = Vec::new(alloc);
-            let mut bytes = Vec::new(alloc);
-            for index in *indexes {
-                entries.push(EntryIndex {
-                    index: *index,
-                    entries: None,
-                    entry_offset: 0,
-                    entry_len: 0,
-                    lz4: false,
-                })?;
-                bytes.push(Vec::new(alloc))?;
-            }
-            let mut batch = LogBatch::new(alloc);
-            batch.add_raw_entries(1, entries, bytes)?;
-            shared.write(seat, &mut batch, false)
-        }
-        Ask::Get(group, key) => shared.get(seat, *group, key),
-        Ask::First(group) => shared.first_index(seat, *group),
-        Ask::Last(group) => shared.last_index(seat, *group),
-        Ask::Sync => shared.sync(seat),
-    }
-}
 
 fn is_told(told: &Told, reply: &Reply) -> bool {
     match (told, reply) {
@@ -173,18 +133,13 @@ fn is_told(told: &Told, reply: &Reply) -> bool {
     }
 }
 
-/// Shares an engine over files in memory, whose first sync fails where that is asked for.
-pub(crate) fn open(
-    alloc: Global,
-    refuses: bool,
-    limit: usize,
-) -> Result<Shared<MemoryFileSystem>, Fault> {
-    let files = MemoryFileSystem::new(alloc);
-    let mut engine = Engine::open_in_order(alloc, Config::fresh(alloc), files)?;
-    if refuses {
+// Shares an engine whose first sync fails where that is asked for.
+fn shared_for(alloc: Global, case: &Case) -> Result<Shared<MemoryFileSystem>, Fault> {
+    let mut engine = open(alloc, MemoryFileSystem::new(alloc))?;
+    if case.refuses {
         engine.refuse(FsCall::Sync, 1, IoKind::Other)?;
     }
-    Shared::new(alloc, engine, limit).map_err(|refused| refused.fault)
+    Shared::new(alloc, engine, case.limit).map_err(|refused| refused.fault)
 }
 
 // Asks what the rows say, and answers how many were recorded, where each is told what its row says.
@@ -194,14 +149,14 @@ fn asked(
     seats: &mut [Seat],
     rows: &[Row],
 ) -> Option<usize> {
-    let mut number = 0;
+    let mut number = 0usize;
     for (seat, call, told) in rows {
-        match make_call(alloc, shared, &mut seats[*seat], call) {
+        match make_call(alloc, shared, seats.get_mut(*seat)?, call) {
             Ok(receipt) => {
                 if receipt.number != number || !is_told(told, &receipt.reply) {
                     return None;
                 }
-                number += 1;
+                number = number.saturating_add(1);
             }
             Err(fault) => {
                 if *told != Told::Err(fault.code()) {
@@ -213,9 +168,24 @@ fn asked(
     Some(number)
 }
 
+// Whether an opening after a crash finds this value of `k`.
+fn is_left(
+    alloc: Global,
+    engine: Engine<MemoryFileSystem>,
+    wanted: Option<&[u8]>,
+) -> Result<bool, Fault> {
+    let files = engine.give_up().crash(&[Choice::Synced, Choice::Synced])?;
+    let found = open(alloc, files)?.get(1, b"k")?;
+    Ok(match (&found, wanted) {
+        (Some(value), Some(wanted)) => value.as_slice() == wanted,
+        (None, None) => true,
+        _ => false,
+    })
+}
+
 // Whether the case comes to what it says.
 fn holds(alloc: Global, case: &Case) -> Result<bool, Fault> {
-    let mut shared = open(alloc, case.refuses, case.limit)?;
+    let mut shared = shared_for(alloc, case)?;
     let mut seats = Vec::new(alloc);
     for _ in 0..2 {
         seats.push(shared.seat()?)?;
@@ -223,31 +193,29 @@ fn holds(alloc: Global, case: &Case) -> Result<bool, Fault> {
     let Some(recorded) = asked(alloc, &mut shared, seats.as_mut_slice(), case.rows) else {
         return Ok(false);
     };
-    let (handed, refused) = case.finish;
+    let (handed, is_refused) = case.finish;
     seats.truncate(handed);
-    let (engine, trail) = match shared.finish(seats) {
-        Ok(finished) => {
-            if refused {
-                return Ok(false);
-            }
-            (finished.engine, finished.trail)
-        }
-        Err(unfinished) => {
-            if !refused || unfinished.fault.code() != 1 || unfinished.seats.len() != handed {
-                return Ok(false);
-            }
-            (unfinished.engine, unfinished.trail)
+    let (mut engine, trail, is_wanted) = match shared.finish(seats) {
+        Ok(Finished { engine, trail }) => (engine, trail, !is_refused),
+        Err(
+            Unfinished {
+                fault,
+                engine,
+                trail,
+                seats,
+            },
+        ) => {
+            let is_wanted = is_refused && fault.code() == 1 && seats.len() == handed;
+            (engine, trail, is_wanted)
         }
     };
-    let files = engine.give_up().crash(&[Choice::Synced, Choice::Synced])?;
-    let engine = Engine::open_in_order(alloc, Config::fresh(alloc), files)?;
-    let left = engine.get(1, b"k")?;
-    let is_left = match (&left, case.left) {
-        (Some(value), Some(wanted)) => value.as_slice() == wanted,
-        (None, None) => true,
-        _ => false,
-    };
-    Ok(trail.len() == recorded && is_left)
+    let keys = keys_in(&mut engine);
+    Ok(
+        is_wanted
+            && trail.len() == recorded
+            && keys == case.keys
+            && is_left(alloc, engine, case.left)?,
+    )
 }
 
 #[test]
@@ -262,17 +230,31 @@ fn histories(rt: HostRuntime) -> Result<(), Fail> {
 #[test]
 fn a_seat_of_another(rt: HostRuntime) -> Result<(), Fail> {
     let alloc = rt.alloc();
-    for (value, refused) in [(b"v", false), (b"w", true)] {
-        let mut one = open(alloc, false, 20)?;
-        let mut other = open(alloc, false, 20)?;
+    for (value, is_refused) in [(b"v", false), (b"w", true)] {
+        let mut one = share(alloc, 20)?;
+        let mut other = share(alloc, 20)?;
         let mut mine = one.seat()?;
         let mut theirs = other.seat()?;
-        make_call(alloc, &mut one, &mut mine, &Ask::Put(1, b"k", b"v"))?;
-        let mut batch = LogBatch::new(alloc);
-        batch.put(1, b"k".to_vec(alloc)?, value.to_vec(alloc)?)?;
-        other.write(&mut theirs, &mut batch, false)?;
+        one.write(&mut mine, &mut put_of(alloc, 1, b"k", b"v")?, false)?;
+        other.write(&mut theirs, &mut put_of(alloc, 1, b"k", value)?, false)?;
         let seats = vec![in alloc; theirs]?;
-        assert_eq!(rt; one.finish(seats).is_err(), refused);
+        assert_eq!(rt; one.finish(seats).is_err(), is_refused);
     }
     Ok(())
+}
+
+/// There is no memory for so many calls, and the engine comes back.
+#[test]
+fn an_engine_that_is_not_shared(rt: HostRuntime) -> Result<(), Fail> {
+    let alloc = rt.alloc();
+    let mut engine = open(alloc, MemoryFileSystem::new(alloc))?;
+    engine.write(&mut put_of(alloc, 1, b"k", b"v")?, false)?;
+    match Shared::new(alloc, engine, usize::MAX) {
+        Ok(_) => Err(Fail::new("it is shared")),
+        Err(mut refused) => {
+            assert_eq!(rt; refused.fault, Fault::Memory);
+            assert_eq!(rt; keys_in(&mut refused.engine), Some(1));
+            Ok(())
+        }
+    }
 }

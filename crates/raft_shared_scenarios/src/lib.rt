@@ -2,6 +2,8 @@
 #![tactic(auto)]
 
 #[cfg(test)]
+mod engines;
+#[cfg(test)]
 mod histories;
 #[cfg(test)]
 mod memory;

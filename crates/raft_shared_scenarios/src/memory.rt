@@ -1,16 +1,17 @@
-//! Calls of a shared engine for which memory is refused. With ample memory each is answered; with the Nth allocation
-//! refused, as `rt try --test --fail-alloc N` has it, a call that fails has recorded nothing, and can be made again.
+//! Calls of a shared engine for which memory is refused. With ample memory each is answered. With the
+//! Nth request refused (`tools/fail-alloc`, `rt try --test --fail-alloc N`) a call that fails has
+//! recorded nothing, and can be made again.
 
-use crate::histories::{Ask, make_call, open};
+use crate::engines::{Ask, make_call, share};
 use raft_log_engine::{Engine, Fault, MemoryFileSystem};
-use raft_shared::{Call, Recorded, Reply, Seat, Shared};
+use raft_shared::{Call, Finished, Recorded, Reply, Seat, Shared};
 use std::alloc::Global;
 use std::test::Fail;
 
 static CALLS: [Ask; 3] = [Ask::Put(1, b"k", b"v"), Ask::Get(1, b"k"), Ask::Last(1)];
 
-// Makes a call, and once more where it fails. Answers whether a call that failed left the seat as it was, and the next one
-// has this number.
+// Makes a call, and once more where it fails. Answers whether a call that failed left the seat as it
+// was, and the call that was answered has this number.
 fn is_made(
     alloc: Global,
     shared: &mut Shared<MemoryFileSystem>,
@@ -27,7 +28,8 @@ fn is_made(
     Ok(make_call(alloc, shared, seat, call)?.number == number)
 }
 
-// The engine has what the recorded put left: its value, or nothing where the engine answered that memory was wanting.
+// The engine has what the recorded put left: its value, or nothing where the put was answered that
+// memory was wanting.
 fn has_put(engine: &Engine<MemoryFileSystem>, trail: &[Recorded]) -> bool {
     let Some(recorded) = trail.first() else {
         return false;
@@ -46,17 +48,16 @@ fn has_put(engine: &Engine<MemoryFileSystem>, trail: &[Recorded]) -> bool {
 
 // Whether each call is recorded once, also where one of its requests for memory was refused.
 fn are_recorded_once(alloc: Global) -> Result<bool, Fault> {
-    let mut shared = open(alloc, false, 3)?;
-    let mut seats = Vec::new(alloc);
-    seats.push(shared.seat()?)?;
+    let mut shared = share(alloc, CALLS.len())?;
+    let mut seat = shared.seat()?;
     for (number, call) in CALLS.iter().enumerate() {
-        if !is_made(alloc, &mut shared, &mut seats[0], call, number)? {
+        if !is_made(alloc, &mut shared, &mut seat, call, number)? {
             return Ok(false);
         }
     }
-    match shared.finish(seats) {
-        Ok(finished) => {
-            Ok(finished.trail.len() == CALLS.len() && has_put(&finished.engine, &finished.trail))
+    match shared.finish(vec![in alloc; seat]?) {
+        Ok(Finished { engine, trail }) => {
+            Ok(trail.len() == CALLS.len() && has_put(&engine, &trail))
         }
         Err(_) => Ok(false),
     }

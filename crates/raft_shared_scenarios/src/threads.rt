@@ -1,6 +1,7 @@
 //! Threads over one engine, with a history and without.
 
-use raft_log_engine::{Config, Engine, Fault, Fresh, LogBatch, MemoryFileSystem};
+use crate::engines::{keys_in, open, put_of, share};
+use raft_log_engine::{Engine, Fault, MemoryFileSystem};
 use raft_shared::{Call, Reply, Seat, Shared};
 use std::alloc::Global;
 use std::sync::{Arc, Mutex, Wait};
@@ -10,17 +11,6 @@ use std::thread::JoinHandle;
 
 const PUTS: u8 = 10;
 
-fn opened(alloc: Global) -> Result<Engine<MemoryFileSystem>, Fault> {
-    let files = MemoryFileSystem::new(alloc);
-    Ok(Engine::open_in_order(alloc, Config::fresh(alloc), files)?)
-}
-
-fn batch_of(alloc: Global, group: u64, key: u8) -> Result<LogBatch, Fault> {
-    let mut batch = LogBatch::new(alloc);
-    batch.put(group, vec![in alloc; key]?, vec![in alloc; key, key]?)?;
-    Ok(batch)
-}
-
 fn write_ten(
     rt: &impl Wait,
     alloc: Global,
@@ -29,7 +19,7 @@ fn write_ten(
 ) -> Result<Seat, Fault> {
     let group = seat.number() as u64;
     for key in 0..PUTS {
-        let mut batch = batch_of(alloc, group, key)?;
+        let mut batch = put_of(alloc, group, &[key], &[key, key])?;
         shared.lock(rt).write(&mut seat, &mut batch, false)?;
     }
     Ok(seat)
@@ -42,19 +32,22 @@ fn put_ten(
     group: u64,
 ) -> Result<(), Fault> {
     for key in 0..PUTS {
-        let mut batch = batch_of(alloc, group, key)?;
+        let mut batch = put_of(alloc, group, &[key], &[key, key])?;
         engine.lock(rt).write(&mut batch, false)?;
     }
     Ok(())
 }
 
-/// Two threads with a seat each make ten writes each to a group of their own: the history has twenty calls, and each
-/// receipt is the call at its number.
+/// Two threads with a seat each make ten writes each to a group of their own: the history has twenty
+/// calls, and each receipt is the call at its number.
 #[test]
 fn two_seats_one_history(rt: HostRuntime) -> Result<(), Fail> {
     let alloc = rt.alloc();
-    let mut shared = Shared::new(alloc, opened(alloc)?, 20).map_err(|refused| refused.fault)?;
-    let seats = [shared.seat()?, shared.seat()?];
+    let mut shared = share(alloc, 20)?;
+    let mut seats = Vec::new(alloc);
+    for _ in 0..2 {
+        seats.push(shared.seat()?)?;
+    }
     let together = Arc::new(alloc, Mutex::new(shared))?;
     let mut workers: Vec<JoinHandle<Result<Seat, Fault>>> = Vec::new(alloc);
     for seat in seats {
@@ -66,35 +59,44 @@ fn two_seats_one_history(rt: HostRuntime) -> Result<(), Fail> {
         seats.push(worker.join(&rt)?)?;
     }
     let Some(shared) = Arc::into_inner(together) else {
-        return Err(Fault::Failed.into());
+        return Err(Fail::new("a thread still has the engine"));
     };
-    let mut told = [[20; 10]; 2];
-    for seat in &seats {
-        for (key, receipt) in seat.receipts().iter().enumerate() {
-            told[seat.number()][key] = receipt.number;
-            assert!(rt; matches!(receipt.reply, Reply::Size(Ok(_))));
-        }
-    }
+    let numbers = numbers_of(alloc, &seats)?;
     let finished = shared
         .into_inner()
         .finish(seats)
         .map_err(|unfinished| unfinished.fault)?;
     assert_eq!(rt; finished.trail.len(), 20);
-    for (number, seat) in told.iter().enumerate() {
-        for place in seat {
-            let recorded = &finished.trail[*place];
-            assert_eq!(rt; recorded.seat, number);
-            assert!(rt; matches!(&*recorded.call, Call::Write(_, false)));
-        }
+    for (seat, number) in &numbers {
+        let Some(recorded) = finished.trail.get(*number) else {
+            return Err(Fail::new("a receipt has no call"));
+        };
+        assert_eq!(rt; recorded.seat, *seat);
+        assert!(rt; matches!(&*recorded.call, Call::Write(_, false)));
+        assert!(rt; matches!(&recorded.reply, Reply::Size(Ok(_))));
     }
     Ok(())
+}
+
+// The numbers of the calls of which seats have a receipt, each beside its seat's.
+fn numbers_of(alloc: Global, seats: &[Seat]) -> Result<Vec<(usize, usize)>, Fault> {
+    let mut numbers = Vec::new(alloc);
+    for seat in seats {
+        for receipt in seat.receipts() {
+            numbers.push((seat.number(), receipt.number))?;
+        }
+    }
+    Ok(numbers)
 }
 
 /// Four threads that share an engine without a history put ten keys each: the image has forty.
 #[test]
 fn four_threads_one_engine(rt: HostRuntime) -> Result<(), Fail> {
     let alloc = rt.alloc();
-    let together = Arc::new(alloc, Mutex::new(opened(alloc)?))?;
+    let together = Arc::new(
+        alloc,
+        Mutex::new(open(alloc, MemoryFileSystem::new(alloc))?),
+    )?;
     let mut workers: Vec<JoinHandle<Result<(), Fault>>> = Vec::new(alloc);
     for group in 1..5 {
         let theirs = Arc::try_clone(&together)?;
@@ -104,14 +106,8 @@ fn four_threads_one_engine(rt: HostRuntime) -> Result<(), Fail> {
         worker.join(&rt)?;
     }
     let Some(engine) = Arc::into_inner(together) else {
-        return Err(Fault::Failed.into());
+        return Err(Fail::new("a thread still has the engine"));
     };
-    let image = engine.into_inner().image()?;
-    let mut keys = 0;
-    for group in &image.groups {
-        keys += group.pairs.len();
-    }
-    assert_eq!(rt; image.groups.len(), 4);
-    assert_eq!(rt; keys, 40);
+    assert_eq!(rt; keys_in(&mut engine.into_inner()), Some(40));
     Ok(())
 }

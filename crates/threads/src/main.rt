@@ -1,9 +1,10 @@
-//! Four threads share an engine, each with a seat of its own: puts, reads and a sync. Then the receipts of the seats
-//! are the history, and the engine holds what it says.
+//! Four threads share an engine, each with a seat of its own: puts, reads and a sync. Then the receipts
+//! of the seats are the history, and the engine holds each value that was read.
 #![tactic(auto)]
 
-use raft_log_engine::{Config, Engine, Fault, FileSystem, Fresh, LogBatch, MemoryFileSystem};
-use raft_shared::{Reply, Seat, Shared};
+use anyhow::{Result, bail};
+use raft_log_engine::{Config, Engine, Fault, Fresh, LogBatch, MemoryFileSystem};
+use raft_shared::{Call, Finished, Recorded, Reply, Seat, Shared};
 use std::alloc::Global;
 use std::sync::{Arc, Mutex, Wait};
 use std::thread;
@@ -13,16 +14,12 @@ const THREADS: usize = 4;
 
 const PUTS: u8 = 10;
 
-type Together<F> = Arc<Mutex<Shared<F>>, Global>;
+/// How many calls the history may have.
+const LIMIT: usize = 100;
 
-fn main(rt: HostRuntime) -> Result<(), anyhow::Error> {
+fn main(rt: HostRuntime) -> Result<()> {
     let alloc = rt.alloc();
-    let engine = Engine::open_in_order(
-        alloc,
-        Config::fresh(alloc),
-        MemoryFileSystem::new(alloc),
-    ).map_err(|refused| refused.fault)?;
-    let mut shared = Shared::new(alloc, engine, 100).map_err(|refused| refused.fault)?;
+    let mut shared = share(alloc)?;
     let mut seats = Vec::new(alloc);
     for _ in 0..THREADS {
         seats.push(shared.seat()?)?;
@@ -38,52 +35,69 @@ fn main(rt: HostRuntime) -> Result<(), anyhow::Error> {
         seats.push(worker.join(&rt)?)?;
     }
     let Some(shared) = Arc::into_inner(together) else {
-        println!(rt; "a thread still has the engine")?;
-        return Ok(());
+        bail!("a thread still has the engine")
     };
-    let finished = shared
-        .into_inner()
-        .finish(seats)
-        .map_err(|unfinished| unfinished.fault)?;
-    let mut engine = finished.engine;
-    let image = engine.image()?;
+    let Finished { engine, trail } = finish(shared.into_inner(), seats)?;
+    let is_held = holds_each_read(&engine, &trail)?;
     println!(rt;
-        "{} calls in one history, {} groups",
-        finished.trail.len(),
-        image.groups.len()
+        "{} calls in one history, each value that was read is held: {is_held}",
+        trail.len()
     )?;
     Ok(())
 }
 
-// Puts keys of a group of the seat's own, and reads each of them: it is as it was put, since no other seat has this group.
-fn work<F: FileSystem, R: Wait>(
-    rt: &R,
+fn share(alloc: Global) -> Result<Shared<MemoryFileSystem>, Fault> {
+    let files = MemoryFileSystem::new(alloc);
+    let engine = Engine::open_in_order(alloc, Config::fresh(alloc), files)?;
+    Shared::new(alloc, engine, LIMIT).map_err(|refused| refused.fault)
+}
+
+// Puts keys of a group of the seat's own, and reads each of them: it is as it was put, since no other
+// seat has this group.
+fn work(
+    rt: &impl Wait,
     alloc: Global,
-    together: &Mutex<Shared<F>>,
+    together: &Mutex<Shared<MemoryFileSystem>>,
     mut seat: Seat,
 ) -> Result<Seat, Fault> {
     let group = seat.number() as u64;
     for key in 0..PUTS {
-        let mut batch = batch_of(alloc, group, key)?;
+        let mut batch = put_of(alloc, group, key)?;
         together.lock(rt).write(&mut seat, &mut batch, false)?;
-        let read = together.lock(rt).get(&mut seat, group, &[key])?;
-        if !is_value(&read.reply, &[key, key]) {
-            return Err(Fault::WrongIndex);
-        }
+        together.lock(rt).get(&mut seat, group, &[key])?;
     }
     together.lock(rt).sync(&mut seat)?;
     Ok(seat)
 }
 
-fn batch_of(alloc: Global, group: u64, key: u8) -> Result<LogBatch, Fault> {
+fn put_of(alloc: Global, group: u64, key: u8) -> Result<LogBatch, Fault> {
     let mut batch = LogBatch::new(alloc);
     batch.put(group, vec![in alloc; key]?, vec![in alloc; key, key]?)?;
     Ok(batch)
 }
 
-fn is_value(reply: &Reply, wanted: &[u8]) -> bool {
-    match reply {
-        Reply::Value(Ok(Some(value))) => value.as_slice() == wanted,
-        _ => false,
+fn finish(
+    shared: Shared<MemoryFileSystem>,
+    seats: Vec<Seat>,
+) -> Result<Finished<MemoryFileSystem>, Fault> {
+    shared.finish(seats).map_err(|unfinished| unfinished.fault)
+}
+
+// Each read found a value, and the engine still has it.
+fn holds_each_read(engine: &Engine<MemoryFileSystem>, trail: &[Recorded]) -> Result<bool, Fault> {
+    for recorded in trail {
+        let Call::Get(group, key) = &*recorded.call else {
+            continue;
+        };
+        let Reply::Value(Ok(Some(value))) = &recorded.reply else {
+            return Ok(false);
+        };
+        let Some(held) = engine.get(*group, key)? else {
+            return Ok(false);
+        };
+        if held.as_slice() != value.as_slice() {
+            return Ok(false);
+        }
     }
+    Ok(true)
 }
