@@ -8,7 +8,7 @@ use raft_shared::{Call, Finished, Recorded, Reply, Seat, Shared};
 use std::alloc::Global;
 use std::sync::{Arc, Mutex, Wait};
 use std::thread;
-use std::thread::JoinHandle;
+use std::thread::{JoinHandle, Threads};
 
 const THREADS: usize = 4;
 
@@ -17,39 +17,60 @@ const PUTS: u8 = 10;
 /// How many calls the history may have.
 const LIMIT: usize = 100;
 
+type Worker = JoinHandle<Result<Seat, Fault>>;
+
+type Together = Arc<Mutex<Shared<MemoryFileSystem>>, Global>;
+
 fn main(rt: HostRuntime) -> Result<()> {
-    let alloc = rt.alloc();
-    let mut shared = share(alloc)?;
-    let mut seats = Vec::new(alloc);
-    for _ in 0..THREADS {
-        seats.push(shared.seat()?)?;
-    }
-    let together = Arc::new(alloc, Mutex::new(shared))?;
-    let mut workers: Vec<JoinHandle<Result<Seat, Fault>>> = Vec::new(alloc);
-    for seat in seats {
-        let theirs = Arc::try_clone(&together)?;
-        workers.push(thread::spawn(&rt, move || work(&rt, alloc, &theirs, seat))?)?;
-    }
-    let mut seats = Vec::new(alloc);
-    for worker in workers {
-        seats.push(worker.join(&rt)?)?;
-    }
+    let mut shared = share(rt.alloc())?;
+    let seats = take_seats(rt.alloc(), &mut shared)?;
+    let together = Arc::new(rt.alloc(), Mutex::new(shared))?;
+    let workers = start(&rt, rt.alloc(), &together, seats)?;
+    let seats = join_each(&rt, rt.alloc(), workers)?;
     let Some(shared) = Arc::into_inner(together) else {
         bail!("a thread still has the engine")
     };
-    let Finished { engine, trail } = finish(shared.into_inner(), seats)?;
-    let is_held = holds_each_read(&engine, &trail)?;
-    println!(rt;
-        "{} calls in one history, each value that was read is held: {is_held}",
-        trail.len()
-    )?;
-    Ok(())
+    let finished = finish(shared.into_inner(), seats)?;
+    report(&rt, &finished)
 }
 
 fn share(alloc: Global) -> Result<Shared<MemoryFileSystem>, Fault> {
     let files = MemoryFileSystem::new(alloc);
     let engine = Engine::open_in_order(alloc, Config::fresh(alloc), files)?;
     Shared::new(alloc, engine, LIMIT).map_err(|refused| refused.fault)
+}
+
+fn take_seats(alloc: Global, shared: &mut Shared<MemoryFileSystem>) -> Result<Vec<Seat>, Fault> {
+    let mut seats = Vec::new(alloc);
+    for _ in 0..THREADS {
+        seats.push(shared.seat()?)?;
+    }
+    Ok(seats)
+}
+
+// Starts a thread for each seat.
+fn start<R: Threads + Wait + Copy + Send + 'static>(
+    rt: &R,
+    alloc: Global,
+    together: &Together,
+    seats: Vec<Seat>,
+) -> Result<Vec<Worker>> {
+    let handle = *rt;
+    let mut workers = Vec::new(alloc);
+    for seat in seats {
+        let theirs = Arc::try_clone(together)?;
+        workers.push(thread::spawn(rt, move || work(&handle, alloc, &theirs, seat))?)?;
+    }
+    Ok(workers)
+}
+
+// The seats, each with the receipts of its calls.
+fn join_each<R: Threads>(rt: &R, alloc: Global, workers: Vec<Worker>) -> Result<Vec<Seat>, Fault> {
+    let mut seats = Vec::new(alloc);
+    for worker in workers {
+        seats.push(worker.join(rt)?)?;
+    }
+    Ok(seats)
 }
 
 // Puts keys of a group of the seat's own, and reads each of them: it is as it was put, since no other
@@ -81,6 +102,15 @@ fn finish(
     seats: Vec<Seat>,
 ) -> Result<Finished<MemoryFileSystem>, Fault> {
     shared.finish(seats).map_err(|unfinished| unfinished.fault)
+}
+
+fn report<R: Print>(rt: &R, finished: &Finished<MemoryFileSystem>) -> Result<()> {
+    let is_held = holds_each_read(&finished.engine, &finished.trail)?;
+    println!(rt;
+        "{} calls in one history, each value that was read is held: {is_held}",
+        finished.trail.len()
+    )?;
+    Ok(())
 }
 
 // Each read found a value, and the engine still has it.
