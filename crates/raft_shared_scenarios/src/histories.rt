@@ -18,14 +18,17 @@ enum Told {
     Err(u8),
 }
 
+/// No case makes so many syncs.
+const NEVER: u64 = 1000;
+
 /// Which seat asks for what, and what it is told.
 type Row = (usize, Ask, Told);
 
 struct Case {
     name: &'static str,
     limit: usize,
-    /// The first sync of the files fails.
-    refuses: bool,
+    /// Which sync of the files fails.
+    refused_sync: u64,
     rows: &'static [Row],
     /// How many seats are handed over at the end, and whether this is refused.
     finish: (usize, bool),
@@ -39,7 +42,7 @@ static CASES: [Case; 6] = [
     Case {
         name: "indexes",
         limit: 20,
-        refuses: false,
+        refused_sync: NEVER,
         rows: &[
             (0, Ask::Entries(&[1, 2, 3]), Told::Size),
             (0, Ask::First(1), Told::Index(Some(1))),
@@ -53,7 +56,7 @@ static CASES: [Case; 6] = [
     Case {
         name: "a full history",
         limit: 2,
-        refuses: false,
+        refused_sync: NEVER,
         rows: &[
             (0, Ask::Put(1, b"k", b"v"), Told::Size),
             (0, Ask::Put(1, b"l", b"v"), Told::Size),
@@ -67,7 +70,7 @@ static CASES: [Case; 6] = [
     Case {
         name: "a write, a look-up, a sync",
         limit: 20,
-        refuses: false,
+        refused_sync: NEVER,
         rows: &[
             (0, Ask::Put(1, b"k", b"v"), Told::Size),
             (0, Ask::Get(1, b"k"), Told::Value(Some(b"v"))),
@@ -81,7 +84,7 @@ static CASES: [Case; 6] = [
     Case {
         name: "a seat is missing",
         limit: 20,
-        refuses: false,
+        refused_sync: NEVER,
         rows: &[
             (0, Ask::Put(1, b"k", b"v"), Told::Size),
             (1, Ask::Get(1, b"k"), Told::Value(Some(b"v"))),
@@ -93,7 +96,7 @@ static CASES: [Case; 6] = [
     Case {
         name: "two seats in turn",
         limit: 4,
-        refuses: false,
+        refused_sync: NEVER,
         rows: &[
             (1, Ask::Entries(&[7, 8]), Told::Size),
             (0, Ask::Entries(&[10]), Told::Refused(5)),
@@ -107,7 +110,7 @@ static CASES: [Case; 6] = [
     Case {
         name: "a sync that fails",
         limit: 20,
-        refuses: true,
+        refused_sync: 1,
         rows: &[
             (0, Ask::Sync, Told::Refused(3)),
             (0, Ask::Get(1, b"k"), Told::Refused(11)),
@@ -133,12 +136,10 @@ fn is_told(told: &Told, reply: &Reply) -> bool {
     }
 }
 
-// Shares an engine whose first sync fails where that is asked for.
+// Shares an engine one of whose syncs fails.
 fn shared_for(alloc: Global, case: &Case) -> Result<Shared<MemoryFileSystem>, Fault> {
     let mut engine = open(alloc, MemoryFileSystem::new(alloc))?;
-    if case.refuses {
-        engine.refuse(FsCall::Sync, 1, IoKind::Other)?;
-    }
+    engine.refuse(FsCall::Sync, case.refused_sync, IoKind::Other)?;
     Shared::new(alloc, engine, case.limit).map_err(|refused| refused.fault)
 }
 
@@ -183,20 +184,22 @@ fn is_left(
     })
 }
 
-// Whether the case comes to what it says.
-fn holds(alloc: Global, case: &Case) -> Result<bool, Fault> {
-    let mut shared = shared_for(alloc, case)?;
-    let mut seats = Vec::new(alloc);
-    for _ in 0..2 {
-        seats.push(shared.seat()?)?;
-    }
-    let Some(recorded) = asked(alloc, &mut shared, seats.as_mut_slice(), case.rows) else {
-        return Ok(false);
-    };
-    let (handed, is_refused) = case.finish;
-    seats.truncate(handed);
-    let (mut engine, trail, is_wanted) = match shared.finish(seats) {
-        Ok(Finished { engine, trail }) => (engine, trail, !is_refused),
+// What is left of a shared engine, and whether sharing ended as the case says.
+#[derive(Drop)]
+struct Ended {
+    engine: Engine<MemoryFileSystem>,
+    calls: usize,
+    is_wanted: bool,
+}
+
+fn end(shared: Shared<MemoryFileSystem>, seats: Vec<Seat>, is_refused: bool) -> Ended {
+    let handed = seats.len();
+    match shared.finish(seats) {
+        Ok(Finished { engine, trail }) => Ended {
+            engine,
+            calls: trail.len(),
+            is_wanted: !is_refused,
+        },
         Err(
             Unfinished {
                 fault,
@@ -204,18 +207,37 @@ fn holds(alloc: Global, case: &Case) -> Result<bool, Fault> {
                 trail,
                 seats,
             },
-        ) => {
-            let is_wanted = is_refused && fault.code() == 1 && seats.len() == handed;
-            (engine, trail, is_wanted)
-        }
-    };
-    let keys = keys_in(&mut engine);
-    Ok(
-        is_wanted
-            && trail.len() == recorded
-            && keys == case.keys
-            && is_left(alloc, engine, case.left)?,
-    )
+        ) => Ended {
+            engine,
+            calls: trail.len(),
+            is_wanted: is_refused && fault.code() == 1 && seats.len() == handed,
+        },
+    }
+}
+
+fn take_seats(alloc: Global, shared: &mut Shared<MemoryFileSystem>) -> Result<Vec<Seat>, Fault> {
+    let mut seats = Vec::new(alloc);
+    for _ in 0..2 {
+        seats.push(shared.seat()?)?;
+    }
+    Ok(seats)
+}
+
+// Whether the case comes to what it says.
+fn holds(alloc: Global, case: &Case) -> Result<bool, Fault> {
+    let mut shared = shared_for(alloc, case)?;
+    let mut seats = take_seats(alloc, &mut shared)?;
+    let recorded = asked(alloc, &mut shared, seats.as_mut_slice(), case.rows);
+    let (handed, is_refused) = case.finish;
+    seats.truncate(handed);
+    let Ended {
+        mut engine,
+        calls,
+        is_wanted,
+    } = end(shared, seats, is_refused);
+    let is_held = keys_in(&mut engine) == case.keys;
+    let is_left = is_left(alloc, engine, case.left)?;
+    Ok(is_wanted && recorded == Some(calls) && is_held && is_left)
 }
 
 #[test]

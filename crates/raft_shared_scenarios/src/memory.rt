@@ -46,18 +46,28 @@ fn has_put(engine: &Engine<MemoryFileSystem>, trail: &[Recorded]) -> bool {
         }
 }
 
+fn are_made(
+    alloc: Global,
+    shared: &mut Shared<MemoryFileSystem>,
+    seat: &mut Seat,
+) -> Result<bool, Fault> {
+    for (number, call) in CALLS.iter().enumerate() {
+        if !is_made(alloc, shared, seat, call, number)? {
+            return Ok(false);
+        }
+    }
+    Ok(true)
+}
+
 // Whether each call is recorded once, also where one of its requests for memory was refused.
 fn are_recorded_once(alloc: Global) -> Result<bool, Fault> {
     let mut shared = share(alloc, CALLS.len())?;
     let mut seat = shared.seat()?;
-    for (number, call) in CALLS.iter().enumerate() {
-        if !is_made(alloc, &mut shared, &mut seat, call, number)? {
-            return Ok(false);
-        }
-    }
-    match shared.finish(vec![in alloc; seat]?) {
+    let are_made = are_made(alloc, &mut shared, &mut seat)?;
+    let seats = vec![in alloc; seat]?;
+    match shared.finish(seats) {
         Ok(Finished { engine, trail }) => {
-            Ok(trail.len() == CALLS.len() && has_put(&engine, &trail))
+            Ok(are_made && trail.len() == CALLS.len() && has_put(&engine, &trail))
         }
         Err(_) => Ok(false),
     }
