@@ -5,3 +5,5 @@
 mod entries;
 #[cfg(test)]
 mod program;
+#[cfg(test)]
+mod settings;
