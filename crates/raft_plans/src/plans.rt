@@ -12,6 +12,8 @@ pub enum Change {
     Entries(u64, u64, u64, &'static [u8]),
     /// .. and a word of so many times this byte.
     LongEntries(u64, u64, u64, u8, usize),
+    /// One entry with this index and these bytes.
+    EntryBytes(u64, u64, &'static [u8]),
     Clean(u64),
     Compact(u64, u64),
 }
@@ -70,6 +72,10 @@ fn act_of(alloc: Global, change: &Change) -> Result<Act, AllocError> {
         Change::LongEntries(group, first, last, byte, len) => {
             let word = vec![in alloc; *byte; *len]?;
             Ok(Act::Entries(*group, entries_between(alloc, *first, *last, &word)?))
+        }
+        Change::EntryBytes(group, index, bytes) => {
+            let entry = (*index, bytes.to_vec(alloc)?);
+            Ok(Act::Entries(*group, vec![in alloc; entry]?))
         }
         Change::Clean(group) => Ok(Act::Clean(*group)),
         Change::Compact(group, index) => Ok(Act::Compact(*group, *index)),
