@@ -31,6 +31,7 @@ use Rattle.raft_script.proofs.TrialLemmas.{same_folders}
 use Rattle.raft_script.specs.Run.{IsStorageOrMemory}
 use Rattle.raft_lines.specs.Line.{Asked, asked_of, is_asked}
 use Rattle.raft_lines.specs.Program.{AnswersFrom, AnswersLine, HoldsAfterCrash, IsCrashFault, IsMetBy, IsNewWith, IsOpeningFault, IsReopenFault, IsReopened, OpensTo}
+use Rattle.raft_lines.specs.Settings.{AreMet}
 use Rattle.raft_lines.specs.declared.line.Call.TheVariants as call
 use Rattle.raft_lines.specs.declared.line.Line.{Line}
 use Rattle.raft_lines.specs.declared.line.Line.TheVariants as line
@@ -140,18 +141,18 @@ module _ {F H R W : Type 0} {g : Ghosts F H R W} where
   ]
 
   -- a line is answered by the engine that it meets
-  pub line_answered : (set made : Settings) (config : Config) → made.config ≡ Some config → (asked : Asked) (old new : Option (Engine F H R W g)) (met : Engine F H R W g) (opening : Result (Engine F H R W g) (Refused F)) (result : Result Answer AllocError) → opening ≡ Ok met
+  pub line_answered : (set made : Settings) (config : Config) → AreMet set made config → (asked : Asked) (old new : Option (Engine F H R W g)) (met : Engine F H R W g) (opening : Result (Engine F H R W g) (Refused F)) (result : Result Answer AllocError) → opening ≡ Ok met
       → MatchResult opening (IsMetBy config old) (λ r. (old ≡ None) × IsOpeningFault config no_files r.fault) → IfOk result (λ a. AnswersFrom config asked a met new) → IfOk result (λ a. AnswersLine set made asked a old new)
-  line_answered set made config made_is asked old new met opening (Ok a) is meets answers =
-      inr (inr (config, made_is, met, subst (λ (x : Result (Engine F H R W g) (Refused F)). MatchResult x (IsMetBy config old) (λ r. (old ≡ None) × IsOpeningFault config no_files r.fault)) is meets, answers))
-  line_answered set made config made_is asked old new met opening (Err e) is meets answers = tt
+  line_answered set made config are_met asked old new met opening (Ok a) is meets answers =
+      inr (inr (config, are_met, met, subst (λ (x : Result (Engine F H R W g) (Refused F)). MatchResult x (IsMetBy config old) (λ r. (old ≡ None) × IsOpeningFault config no_files r.fault)) is meets, answers))
+  line_answered set made config are_met asked old new met opening (Err e) is meets answers = tt
 
   -- .. or none is there
-  pub line_refused : (set made : Settings) (config : Config) → made.config ≡ Some config → (asked : Asked) (old new : Option (Engine F H R W g)) (r : Refused F) (opening : Result (Engine F H R W g) (Refused F)) → opening ≡ Err r
+  pub line_refused : (set made : Settings) (config : Config) → AreMet set made config → (asked : Asked) (old new : Option (Engine F H R W g)) (r : Refused F) (opening : Result (Engine F H R W g) (Refused F)) → opening ≡ Err r
       → MatchResult opening (IsMetBy config old) (λ r. (old ≡ None) × IsOpeningFault config no_files r.fault) → AnswersLine set made asked (answer.Fatal r.fault) old new
-  line_refused set made config made_is asked old new r opening is refused =
+  line_refused set made config are_met asked old new r opening is refused =
       let why = subst (λ (x : Result (Engine F H R W g) (Refused F)). MatchResult x (IsMetBy config old) (λ r. (old ≡ None) × IsOpeningFault config no_files r.fault)) is refused in
-      inr (inl (r.fault, refl, inr (why.0, config, made_is, why.1)))
+      inr (inl (r.fault, refl, inr (why.0, config, are_met, why.1)))
 
 -- a line that isn't empty asks for something
 pub asks_something : (l : Line) → (l ≡ line.Nothing → ⊥) → is_asked (Some (asked_of l)) ≡ true

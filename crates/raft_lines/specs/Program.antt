@@ -24,7 +24,7 @@ use Rattle.raft_script.specs.Entry.{range_of}
 use Rattle.raft_lines.specs.Line.{Asked, Nothing, Range, Reopen, Scan, Span, Crash, asked_by_op}
 use Rattle.raft_script.specs.Durability.{Does, IsAnswerOf}
 use Rattle.raft_script.specs.Run.{IsFailing, IsStorageOrMemory, IsUnasked, Refuses, accepted_of}
-use Rattle.raft_lines.specs.Settings.{IsSetRefusal}
+use Rattle.raft_lines.specs.Settings.{AreMet, IsSetRefusal}
 use Rattle.raft_lines.specs.declared.settings.Settings.{Settings}
 use Rattle.raft_lines.specs.declared.answer.Answer.{Answer}
 use Rattle.raft_lines.specs.declared.answer.Answer.TheVariants as answer
@@ -132,7 +132,7 @@ module _ {F H R W : Type 0} {g : Ghosts F H R W} where
   -- no settings are made of the lines, or where no engine was there none is opened with them
   abbrev pub IsStartFault : Settings → Settings → Option (Engine F H R W g) → Fault → Type 0
   IsStartFault set made old e = ((set.config ≡ None) × IsSetRefusal set.lines.items e)
-      ⊎ ((old ≡ None) × (config : Config) × (made.config ≡ Some config)
+      ⊎ ((old ≡ None) × (config : Config) × AreMet set made config
       × IsOpeningFault config no_files e)
 
   -- a line that asks for nothing is passed over; else the program ends where there is no engine, or
@@ -141,7 +141,7 @@ module _ {F H R W : Type 0} {g : Ghosts F H R W} where
       → Option (Engine F H R W g) → Type 0
   AnswersLine set made asked a old new = ((asked ≡ Nothing) × (a ≡ answer.Nothing) × (new ≡ old))
       ⊎ ((e : Fault) × (a ≡ answer.Fatal e) × IsStartFault set made old e)
-      ⊎ ((config : Config) × (made.config ≡ Some config) × (met : Engine F H R W g)
+      ⊎ ((config : Config) × AreMet set made config × (met : Engine F H R W g)
       × IsMetBy config old met × AnswersFrom config asked a met new)
 
 -- the program ends with this answer

@@ -1,5 +1,5 @@
 -- The settings of the program's engine: its own, and over them what the first lines set.
-use Rattle.std.specs.Prelude.{◌≡◌, ◌⊎◌, ℕ, ◌*◌, ◌&&◌, nat_lt, Bool, true, List, length, take, drop, codes, Option, Some, None, is_some, IfSome, if◌then◌else◌}
+use Rattle.std.specs.Prelude.{◌≡◌, ◌⊎◌, ℕ, ◌*◌, ◌&&◌, nat_lt, Bool, true, List, length, take, drop, codes, Option, Some, None, is_some, if◌then◌else◌}
 use Rattle.std.specs.Str.{IsUtf8, bytes_eq}
 use Rattle.std.specs.String.{string_bytes}
 use Rattle.raft_base.specs.declared.errors.Fault.{Fault}
@@ -43,7 +43,9 @@ IsSetRefusal lines _ = ⊥
 abbrev pub were_read : Settings → Bool
 were_read settings = is_some settings.config
 
--- settings that were read stay; the first reading makes them of the lines
-pub record AreRead (old new : Settings) : Type 0 where
+-- a line meets these settings: those that were read before it, or else some that are made of the
+-- lines
+pub record AreMet (old new : Settings) (c : Config) : Type 0 where
+  pub is : new.config ≡ Some c
   pub once : were_read old ≡ true → new ≡ old
-  pub made : old.config ≡ None → IfSome new.config (SetsOwn old.lines.items)
+  pub made : old.config ≡ None → SetsOwn old.lines.items c

@@ -1,5 +1,5 @@
 //! The program `raftlog` over any reader and writer.
-ghost use Rattle.std.specs.Prelude.{◌≡◌, ◌||◌, false, true, IfErr, IfOk, IfSome, MatchResult, None, Some};
+ghost use Rattle.std.specs.Prelude.{◌≡◌, ◌||◌, false, IfErr, IfOk, IfSome, MatchResult, None, Some};
 ghost use Rattle.raft_env.specs.Directory.{CrashImage, IsRestarted, Leaves};
 ghost use Rattle.raft_log_engine.specs.Engine.{contents_of, has_failed};
 ghost use Rattle.raft_memory.specs.Choice.{NamesNoBytes};
@@ -11,7 +11,7 @@ ghost use Rattle.raft_script.specs.Entry.{range_of};
 ghost use Rattle.raft_script.specs.Run.{IsStorageOrMemory};
 ghost use Rattle.raft_lines.specs.Line.{EndsOn, GoesOnOrEnds, IsNextLine, asked_of, asked_of_call, asked_of_look, is_asked};
 ghost use Rattle.raft_lines.specs.Program.{AnswersFrom, AnswersLine, AnswersLook, HoldsAfterCrash, IsAnswered, IsCrashFault, IsMetBy, IsNewWith, IsOpeningFault, IsReopenFault, IsReopened, OpensTo, is_fatal};
-ghost use Rattle.raft_lines.specs.Settings.{AreRead, were_read};
+ghost use Rattle.raft_lines.specs.Settings.{were_read};
 
 use crate::answer::{Answer, print};
 use crate::line::{Call, CrashChoice, Line, Look, parse_line};
@@ -144,8 +144,6 @@ fn answer_line(
         (asked_of line.now) answer engine.old engine.new) }
     ensures read { IfOk result (λ answer. is_fatal answer ≡ false → were_read settings.new
         ≡ (were_read settings.old || is_asked (Some (asked_of line.now)))) }
-    ensures settings { IfOk result (λ answer. is_fatal answer ≡ false
-        → were_read settings.new ≡ true → AreRead settings.old settings.new) }
 {
     if let Line::Nothing = line {
         return Ok(Answer::Nothing);
