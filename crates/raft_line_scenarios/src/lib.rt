@@ -6,4 +6,6 @@ mod entries;
 #[cfg(test)]
 mod program;
 #[cfg(test)]
+mod purges;
+#[cfg(test)]
 mod settings;
