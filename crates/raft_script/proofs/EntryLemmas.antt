@@ -11,7 +11,7 @@ use Rattle.std.specs.Str.{all_ascii_digits}
 use Rattle.std.specs.Str.Parse.{IsNumeral, digits_value}
 use Rattle.std.proofs.lemmas.Bool.Decides.{nat_tests}
 use Rattle.std.proofs.lemmas.Bool.{eqb-true, lt-ltb}
-use Rattle.std.proofs.lemmas.List.{length-map, map-append, take-append-drop, take_all}
+use Rattle.std.proofs.lemmas.List.{length-append, length-map, map-append, take-append-drop, take_all}
 use Rattle.std.proofs.Math.Seq.{drop-append_seam, take-append_seam}
 use Rattle.std.proofs.lemmas.Fmt.{decimal-digits_value, decimal_digit, decimal_is_IsNumeral, decimal_nonempty, first_decimal}
 use Rattle.std.proofs.lemmas.Str.Parse.{IsNumeralModel, numerals_by_value, tells_all_ascii_digits, digit_at}
@@ -145,14 +145,19 @@ raw_push [] (c ∷ bs) x b same = absurd (omega arith)
 raw_push (y ∷ xs) [] x b same = absurd (omega arith)
 raw_push (y ∷ xs) (c ∷ bs) x b same = rw (raw_push xs bs x b (omega arith)) refl
 
-module _ (indexes : List EntryIndex) (copies : List (Vec ℕ Global)) (entries : List (ℕ × Vec ℕ Global)) (i : ℕ) (entry : ℕ × Vec ℕ Global) (index : EntryIndex) (copy : Vec ℕ Global) where
+module _ (indexes new_indexes : List EntryIndex) (index : EntryIndex) (copies new_copies : List (Vec ℕ Global)) (copy : Vec ℕ Global) (indexes_are : new_indexes ≡ indexes ++ index ∷ []) (copies_are : new_copies ≡ copies ++ copy ∷ []) (same : length indexes ≡ length copies) where
+  pub same_more : length new_indexes ≡ length new_copies
+  same_more = ap length indexes_are ∙ length-append indexes (index ∷ []) ∙ ap (λ (n : ℕ). n + 1) same ∙ sym (length-append copies (copy ∷ [])) ∙ ap length (sym copies_are)
+
   -- the first entries, with one more
-  pub split_more : i < length entries → entry ≡ get_or entries i entry → index.index ≡ entry.0 → copy.items ≡ entry.1.items → length indexes ≡ length copies
+  pub split_more : (entries : List (ℕ × Vec ℕ Global)) (i : ℕ) (entry : ℕ × Vec ℕ Global) → i < length entries → entry ≡ get_or entries i entry → index.index ≡ entry.0 → copy.items ≡ entry.1.items
       → raw_entries indexes (map (λ (v : Vec ℕ Global). v.items) copies) ≡ map indexed_bytes (take i entries)
-      → raw_entries (indexes ++ index ∷ []) (map (λ (v : Vec ℕ Global). v.items) (copies ++ copy ∷ [])) ≡ map indexed_bytes (take (i + 1) entries)
-  split_more within is index_is copy_is same kept =
-      ap (raw_entries (indexes ++ index ∷ [])) (map-append (λ (v : Vec ℕ Global). v.items) copies (copy ∷ []))
-      ∙ raw_push indexes (map (λ (v : Vec ℕ Global). v.items) copies) index copy.items (same ∙ sym (length-map (λ (v : Vec ℕ Global). v.items) copies))
+      → raw_entries new_indexes (map (λ (v : Vec ℕ Global). v.items) new_copies) ≡ map indexed_bytes (take (i + 1) entries)
+  split_more entries i entry within is index_is copy_is kept =
+      ap (λ (l : List EntryIndex). raw_entries l (map (λ (v : Vec ℕ Global). v.items) new_copies)) indexes_are
+      ∙ ap (λ (l : List (Vec ℕ Global)). raw_entries (indexes ++ index ∷ []) (map (λ (v : Vec ℕ Global). v.items) l)) copies_are
+      ∙ ap (raw_entries (indexes ++ index ∷ [])) (map-append (λ (v : Vec ℕ Global). v.items) copies (copy ∷ []))
+      ∙ raw_push indexes (map (λ (v : Vec ℕ Global). v.items) copies) index copy.items (same ∙ sym (length-map copies (λ (v : Vec ℕ Global). v.items)))
       ∙ ap (λ (l : List Entry). l ++ (index.index, copy.items) ∷ []) kept
       ∙ ap (λ (n : ℕ). map indexed_bytes (take i entries) ++ (n, copy.items) ∷ []) index_is
       ∙ ap (λ (b : List ℕ). map indexed_bytes (take i entries) ++ (entry.0, b) ∷ []) copy_is
