@@ -1,8 +1,9 @@
-//! What the commands write: each one batch.
+//! What a batch changes of a group.
 
 use crate::entries::Entry;
-use raft_log_engine::{Engine, Fault, FileSystem, LogBatch};
-use raft_records::Command;
+use raft_env::FileSystem;
+use raft_log_engine::{Engine, LogBatch};
+use raft_records::{Command, Fault};
 use std::alloc::Global;
 
 /// What is changed of a group.
@@ -15,18 +16,18 @@ pub(crate) enum Change<'a> {
     Clean,
 }
 
-/// Writes the change, and says that it is done.
+/// Writes the change.
 pub(crate) fn write<F: FileSystem>(
     alloc: Global,
     engine: &mut Engine<F>,
     group: u64,
     change: Change<'_>,
     sync: bool,
-) -> Result<bool, Fault> {
+) -> Result<(), Fault> {
     let mut batch = LogBatch::new(alloc);
     fill(alloc, &mut batch, group, change)?;
     engine.write(&mut batch, sync)?;
-    Ok(true)
+    Ok(())
 }
 
 fn fill(alloc: Global, batch: &mut LogBatch, group: u64, change: Change<'_>) -> Result<(), Fault> {

@@ -1,18 +1,17 @@
 //! Keys numbered from 0, by which a disk can be tested: pull its plug while they are loaded.
 
 use crate::changes::{Change, write};
-use crate::failure;
-use crate::output::{Output, Word};
-use crate::request::Load;
 use anyhow::Result;
-use raft_log_engine::{Engine, Fault, FileSystem};
+use raft_command_line::Load;
+use raft_console::{Output, Progress, failure};
+use raft_env::FileSystem;
+use raft_inspect::Word;
+use raft_log_engine::Engine;
+use raft_records::Fault;
 use std::alloc::{AllocError, Global};
 use std::time::Instant;
 
 const GROUP: u64 = 1;
-
-/// After how many keys progress is printed.
-const PROGRESS: u64 = 100_000;
 
 /// Puts the keys, syncs after so many of them and at the end, or never for 0, and prints the last
 /// key that each sync covers.
@@ -20,13 +19,18 @@ pub(crate) fn load<F: FileSystem>(
     rt: &HostRuntime,
     engine: &mut Engine<F>,
     load: Load,
-) -> Result<bool> {
+    quiet: bool,
+) -> Result<()> {
     let start = Instant::now(rt)?;
+    let mut progress = Progress::new(*rt, quiet)?;
     for number in 0..load.count {
+        progress.at("keys", number, load.count)?;
         put_next(rt, engine, number, load)?;
     }
-    report(rt, start, load)?;
-    Ok(true)
+    if quiet {
+        return Ok(());
+    }
+    report(rt, start, load)
 }
 
 fn put_next<F: FileSystem>(
@@ -43,9 +47,6 @@ fn put_next<F: FileSystem>(
     if sync {
         println!(rt; "synced {number}")?;
     }
-    if nth % PROGRESS == 0 {
-        eprintln!(rt; "{nth} of {}", load.count)?;
-    }
     Ok(())
 }
 
@@ -55,7 +56,7 @@ fn put<F: FileSystem>(
     number: u64,
     size: u64,
     sync: bool,
-) -> Result<bool, Fault> {
+) -> Result<(), Fault> {
     let key = key_of(alloc, number)?;
     let value = value_of(alloc, number, size)?;
     write(alloc, engine, GROUP, Change::Put(&key, &value), sync)
@@ -76,20 +77,24 @@ fn report(rt: &HostRuntime, start: Instant, load: Load) -> Result<()> {
 /// Counts the keys that stand from 0 on, and those after the first that is missing or has another
 /// value; whether there are none of these.
 pub(crate) fn verify<F: FileSystem>(
-    alloc: Global,
+    rt: &HostRuntime,
     engine: &Engine<F>,
     load: Load,
+    quiet: bool,
     out: &mut Output,
-) -> Result<bool, Fault> {
+) -> Result<bool> {
+    let mut progress = Progress::new(*rt, quiet)?;
     let mut standing = 0u64;
     let mut after = 0u64;
     let mut wrong = 0u64;
     for number in 0..load.count {
-        match find(alloc, engine, number, load.size)? {
-            Found::Right if standing == number => standing = standing.saturating_add(1),
-            Found::Right => after = after.saturating_add(1),
-            Found::Wrong => wrong = wrong.saturating_add(1),
-            Found::Nothing => {}
+        progress.at("keys", number, load.count)?;
+        match find(rt.alloc(), engine, number, load.size) {
+            Ok(Found::Right) if standing == number => standing = standing.saturating_add(1),
+            Ok(Found::Right) => after = after.saturating_add(1),
+            Ok(Found::Wrong) => wrong = wrong.saturating_add(1),
+            Ok(Found::Nothing) => {}
+            Err(fault) => return Err(failure("the keys cannot be read", &fault)),
         }
     }
     for (name, count) in [
@@ -97,7 +102,7 @@ pub(crate) fn verify<F: FileSystem>(
         ("after a gap", after),
         ("wrong", wrong),
     ] {
-        out.line(&[Word::Text(name), Word::Number(count)])?;
+        out.named(&[(name, Word::Number(count))])?;
     }
     Ok(after == 0 && wrong == 0)
 }
