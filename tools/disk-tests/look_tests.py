@@ -1,0 +1,147 @@
+#!/usr/bin/env python3
+"""What raftctl's commands do to a real folder: those that look leave it as it was.
+
+    tools/disk-tests/look_tests.py crates/raftctl/out/raftctl
+
+Prints a line for each case that is wrong, and how many there were. Ends with status 1 where one is.
+"""
+import os
+import shutil
+import stat
+import subprocess
+import sys
+import tempfile
+
+KEYS = 2000
+LOOKS = [
+    "get 1 5", "get 1 none", "list", "list 3 --limit 2", "scan 1 --from 2 --to 3 --reverse --json",
+    "entry 7 2", "entry 7 9", "entries 7", "groups", "stat", "dump", "dump 0000000000000003.raftlog",
+    "check", "check --mode absolute --json", "check --mode any", "picture", "settings",
+    f"verify {KEYS} 40",
+]
+# What each of them ends with in the whole folder, and in one that is broken in its third file.
+WHOLE = [0, 3, 0, 0, 0, 0, 3, 0, 0, 0, 0, 0, 0, 0, 0, 0, 0, 0]
+BROKEN = [1, 1, 1, 1, 1, 1, 1, 1, 1, 1, 4, 4, 5, 5, 4, 1, 0, 1]
+
+
+def state_of(folder):
+    """Each path below a folder with its kind, rights, number, time of change and bytes."""
+    found = {}
+    for at, _, names in os.walk(folder):
+        for path in [at] + [os.path.join(at, name) for name in names]:
+            info = os.lstat(path)
+            data = None
+            if stat.S_ISREG(info.st_mode):
+                with open(path, "rb") as file:
+                    data = file.read()
+            found[path] = (info.st_mode, info.st_ino, info.st_mtime_ns, info.st_ctime_ns, data)
+    return found
+
+
+class Tests:
+    def __init__(self, program, work):
+        self.program = os.path.abspath(program)
+        self.work = work
+        self.tried = 0
+        self.bad = 0
+
+    def run(self, folder, *words, **more):
+        words = [self.program, folder, *map(str, words)]
+        return subprocess.run(words, capture_output=True, timeout=120, **more)
+
+    def expect(self, case, holds):
+        self.tried += 1
+        if not holds:
+            self.bad += 1
+            print(f"wrong: {case}")
+
+    def leaves(self, folder, words, status):
+        """A command that looks ends with this status, and the folder is as before."""
+        before = state_of(folder)
+        ran = self.run(folder, *words.split())
+        self.expect(f"{folder}: {words}: status {ran.returncode}, not {status}", ran.returncode == status)
+        self.expect(f"{folder}: {words} changed it", state_of(folder) == before)
+
+    def make(self, name):
+        folder = os.path.join(self.work, name)
+        self.run(folder, "load", KEYS, 40, "--sync-each", 100, "--target", "20KB")
+        self.run(folder, "append", 7, "one", "two", "three")
+        self.run(folder, "put", 3, "key", "value")
+        with open(os.path.join(folder, "notes"), "w", encoding="ascii") as file:
+            file.write("a file that is no log's")
+        return folder
+
+    def looks(self):
+        whole = self.make("whole")
+        broken = os.path.join(self.work, "broken")
+        shutil.copytree(whole, broken)
+        with open(os.path.join(broken, f"{3:016}.raftlog"), "r+b") as file:
+            file.seek(9000)
+            file.write(b"\xff")
+        bare = os.path.join(self.work, "bare")
+        shutil.copytree(whole, bare)
+        os.unlink(os.path.join(bare, "LOCK"))
+        for words, status, other in zip(LOOKS, WHOLE, BROKEN):
+            self.leaves(whole, words, status)
+            self.leaves(bare, words, status)
+            self.leaves(broken, words, other)
+        missing = os.path.join(self.work, "missing")
+        self.expect("a look at a missing folder", self.run(missing, "stat").returncode == 1)
+        self.expect("a look makes no folder", not os.path.exists(missing))
+        return whole, broken
+
+    def copies(self, whole):
+        before = state_of(whole)
+        copy = os.path.join(self.work, "copy")
+        self.expect("a fork", self.run(whole, "fork", copy).returncode == 0)
+        self.expect("a fork leaves its source", state_of(whole) == before)
+        for word in ("list", "entries 7", "stat"):
+            words = word.split()
+            same = self.run(whole, *words).stdout == self.run(copy, *words).stdout
+            self.expect(f"a fork has what its source has: {word}", same)
+        self.expect("a fork over a log", self.run(whole, "fork", copy).returncode == 1)
+
+    def repairs(self, broken):
+        with open(os.path.join(broken, f"{3:016}.raftlog"), "rb") as file:
+            whole = file.read()
+        self.expect("a repair that would cut the middle", self.run(broken, "repair").returncode == 1)
+        ran = self.run(broken, "repair", "--mode", "any")
+        self.expect("a repair", ran.returncode == 0)
+        kept = [name for name in os.listdir(broken) if ".cut-" in name]
+        self.expect("a repair keeps what it cuts", len(kept) == 1)
+        with open(os.path.join(broken, f"{3:016}.raftlog"), "rb") as file:
+            left = file.read()
+        for name in kept:
+            with open(os.path.join(broken, name), "rb") as file:
+                self.expect("what is kept", left + file.read() == whole)
+        self.expect("a repaired folder", self.run(broken, "check").returncode == 0)
+
+    def lines(self, whole):
+        for form in ([], ["--hex"], ["--json"]):
+            told = self.run(whole, "scan", 1, *form).stdout
+            put = self.run(whole, "lines", 20, "-", *form, input=told)
+            self.expect(f"lines {form}", put.returncode == 0)
+            self.expect(f"lines {form} read back", self.run(whole, "scan", 20, *form).stdout == told)
+            self.run(whole, "clean", 20)
+
+    def rewrites(self, whole):
+        told = self.run(whole, "list").stdout
+        for files in ("append", "rewrite", "stale"):
+            self.expect(f"rewrite {files}", self.run(whole, "rewrite", files).returncode == 0)
+            self.expect(f"rewrite {files} loses a key", self.run(whole, "list").stdout == told)
+
+
+def main():
+    with tempfile.TemporaryDirectory() as work:
+        tests = Tests(sys.argv[1], work)
+        whole, broken = tests.looks()
+        tests.copies(whole)
+        tests.repairs(broken)
+        tests.lines(whole)
+        tests.rewrites(whole)
+    print(f"{tests.tried} cases, {tests.bad} wrong")
+    return 1 if tests.bad else 0
+
+
+if __name__ == "__main__":
+    sys.exit(main())
