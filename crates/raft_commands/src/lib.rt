@@ -2,9 +2,7 @@
 #![tactic(auto)]
 
 mod changes;
-mod copies;
 mod entries;
-mod forks;
 mod keys;
 mod lines;
 mod looks;
@@ -12,11 +10,9 @@ mod numbered;
 mod opening;
 mod pictures;
 mod repair;
-mod settings;
 mod stat;
 mod writing;
 
-pub use forks::fork_folder;
 pub use looks::look;
-pub use settings::{print_settings, settings_of};
+pub use opening::config;
 pub use writing::change;

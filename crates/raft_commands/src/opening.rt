@@ -29,7 +29,7 @@ pub(crate) fn close<F: FileSystem + Drop>(engine: Engine<F>) -> Result<()> {
 }
 
 /// The settings in force: what the options name, over those of the file.
-pub(crate) fn config(alloc: Global, options: &Options<'_>) -> Result<Config, AllocError> {
+pub fn config(alloc: Global, options: &Options<'_>) -> Result<Config, AllocError> {
     let mut config = match options.base {
         Some(base) => copy_of(base)?,
         None => Config::fresh(alloc),

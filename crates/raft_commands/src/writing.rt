@@ -49,7 +49,7 @@ fn carry_out<F: FileSystem>(
     out: &mut Output,
 ) -> Result<()> {
     match &request.verb {
-        Verb::Put(group, key, value) => put(rt, engine, *group, (key, value), request),
+        Verb::Put(group, key, value) => put(rt, engine, *group, (*key, *value), request),
         Verb::Lines(group, path) => put_lines(rt, engine, *group, path, request),
         Verb::Delete(group, key) => delete(rt, engine, *group, key, request),
         Verb::Append(group, values, at) => {
