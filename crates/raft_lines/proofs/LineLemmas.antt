@@ -5,7 +5,8 @@ use Rattle.std.specs.List.{list_all, onto_first, position_or_len, slice_split}
 use Rattle.std.proofs.lemmas.Bool.Decides.{nat_tests}
 use Rattle.std.proofs.lemmas.List.{drop-drop, drop_all, length-drop, take_all}
 use Rattle.std.proofs.lemmas.List.Splits.{slice_split_first}
-use Rattle.raft_lines.specs.Line.{BeginsWith, Delete, Get, Groups, HasNoWord, Put, Reopen, if_last, parsed_words, delete_by, get_by, is_word, number_in, put_by, sync_by, torn_by, with_number, words_in}
+use Rattle.raft_lines.specs.Line.{BeginsWith, Delete, Get, Groups, HasNoWord, Put, Reopen, if_last, parsed_words, delete_by, get_by, is_word, put_by, sync_by, torn_by, with_number, words_in}
+use Rattle.raft_script.specs.Number.{number_in}
 use Rattle.raft_lines.specs.declared.line.CrashChoice.{CrashChoice}
 use Rattle.raft_lines.specs.declared.line.CrashChoice.TheVariants.{Torn}
 
