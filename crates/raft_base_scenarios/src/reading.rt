@@ -1,4 +1,4 @@
-//! Records of a log file, read one after the other. They were made by Python's struct and binascii, for file 5.
+//! Records of a log file, made by Python's struct and binascii for file 5, read one by one.
 
 ghost use Rattle.std.specs.Prelude.{◌≡◌, IfOk, length};
 ghost use Rattle.std.specs.Option.{IfSome};
@@ -59,8 +59,8 @@ enum Found {
     Refused(u8),
 }
 
-/// What a replay finds next, or a reading that looks at the blocks, and the place up to which the file has been read
-/// then.
+/// What a replay finds next, or a reading that looks at the blocks,
+/// and the place up to which the file has been read then.
 enum Step {
     Replay(Found, usize),
     Read(Found, usize),
