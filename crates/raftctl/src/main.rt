@@ -1,11 +1,12 @@
 //! Does one command on a log in a folder. `raftctl --help` lists the commands.
 #![tactic(auto)]
 
-use anyhow::{Result, anyhow, bail};
+use anyhow::Result;
 use clap::Error;
 use raft_command_line::{Request, Verb, parse};
 use raft_commands::{change, look};
 use raft_console::Status;
+use raft_offline::{fork_folder, print_settings, settings_of};
 use std::env;
 use std::process::ExitCode;
 
@@ -15,7 +16,7 @@ fn main(rt: HostRuntime) -> ExitCode {
         Err(error) => return failed(&rt, &error),
     };
     match parse(rt.alloc(), words.as_slice()) {
-        Ok(request) => match run(rt, &request) {
+        Ok(request) => match run(rt, request) {
             Ok(status) => ExitCode::from(status.code()),
             Err(error) => failed(&rt, &error),
         },
@@ -44,13 +45,13 @@ fn misused(rt: &HostRuntime, error: &Error) -> ExitCode {
     }
 }
 
-fn run(rt: HostRuntime, request: &Request<'_>) -> Result<Status> {
-    if request.options.settings.is_some() {
-        bail!("--settings is not built yet");
-    }
+fn run(rt: HostRuntime, request: Request<'_>) -> Result<Status> {
+    let settings = settings_of(&rt, request.folder, request.options.settings)?;
+    let request = request.over(&settings);
     match &request.verb {
-        Verb::Look(what) => look(rt, request, *what),
-        Verb::Settings | Verb::Fork(_) => Err(anyhow!("this command is not built yet")),
-        _ => change(rt, request),
+        Verb::Look(what) => look(rt, &request, *what),
+        Verb::Settings => print_settings(&rt, &request.options),
+        Verb::Fork(target) => fork_folder(rt, &request, target),
+        _ => change(rt, &request),
     }
 }
