@@ -1,10 +1,14 @@
 //! Whoever is told of what happens to log files, and the one that the engine has itself.
 #![tactic(auto)]
 
+mod event_sink;
 mod hook;
 mod listener;
 mod listeners;
+mod no_listeners;
 
+pub use event_sink::{EventSink, tell_files};
 pub use hook::PurgeHook;
 pub use listener::{Event, EventListener};
 pub use listeners::Listeners;
+pub use no_listeners::NoListeners;
