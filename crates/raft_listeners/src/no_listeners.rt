@@ -4,6 +4,7 @@ ghost use Rattle.std.specs.Prelude.{◌≡◌, ◌^◌, ◌≤◌, [], ◌∷◌
 use crate::listener::Event;
 use raft_base::{Fault, History};
 use std::marker::Model;
+use std::mem;
 
 /// Nobody: what it is told only clauses know.
 #[derive(Drop)]
@@ -38,12 +39,13 @@ impl NoListeners {
     }
 
     // It always has room for so many files.
-    pub(crate) fn make_room(&mut self, files: usize) -> Result<(), Fault>
-        ensures ok { OnOk result (files ≤ self.new.room) }
+    pub(crate) fn make_room(&mut self, _files: usize) -> Result<(), Fault>
+        ensures ok { OnOk result (_files ≤ self.new.room) }
         ensures same { HasHeard [] self.old self.new }
         ensures cause { IfErr result (λ fault. fault ≡ Fault.Memory) }
     {
-        let _ = files;
+        let told = mem::replace(&mut self.told, History::new());
+        self.told = told;
         Ok(())
     }
 

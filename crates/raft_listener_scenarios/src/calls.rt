@@ -1,0 +1,155 @@
+//! What a listener hears of the calls of an engine, in their order.
+
+use raft_base::{FileBlockHandle, FileId};
+use raft_env::IoKind;
+use raft_listeners::{EventListener, Listeners};
+use raft_log_engine::{Config, Engine};
+use raft_memory::{FsCall, MemoryFileSystem};
+use raft_records::{EntryIndex, Fault, Fresh, LogBatch, ReadableSize};
+use std::alloc::Global;
+use std::sync::Arc;
+use std::sync::atomic::{AtomicU64, Ordering};
+use std::test::Fail;
+
+/// Notes a digit for each call: 1 for a new log file, 2 for an append, 3 for an application.
+#[derive(Drop)]
+struct Counting {
+    heard: Arc<AtomicU64>,
+}
+
+impl Counting {
+    fn note(&self, digit: u64) {
+        let before = self.heard.load(Ordering::SeqCst);
+        self.heard.store(
+            before.saturating_mul(10).saturating_add(digit),
+            Ordering::SeqCst,
+        );
+    }
+}
+
+impl EventListener for Counting {
+    fn post_new_log_file(&mut self, _file_id: FileId) {
+        self.note(1);
+    }
+
+    fn on_append_log_file(&mut self, _handle: FileBlockHandle) {
+        self.note(2);
+    }
+
+    fn post_apply_memtables(&mut self, _file_id: FileId) {
+        self.note(3);
+    }
+
+    fn post_purge(&mut self, _file_id: FileId) {
+        self.note(4);
+    }
+}
+
+#[derive(Clone, Copy)]
+enum Step {
+    /// A write of one key, or of none, with a sync.
+    Put,
+    Nothing,
+    /// A group of two writes of one key.
+    Group,
+    /// An entry, and the compaction of its group.
+    Entry,
+    Compact,
+    /// So many attempts to append a record find no space.
+    Full(u64),
+}
+
+/// The target size of files, what is done, and what is heard of it.
+struct Heard(u64, &'static [Step], u64);
+
+static CALLS: [Heard; 9] = [
+    // An opening: the first file of each queue.
+    Heard(1024, &[], 11),
+    Heard(1024, &[Step::Put, Step::Put], 112_323),
+    Heard(1024, &[Step::Nothing], 11),
+    Heard(1024, &[Step::Group], 112_323),
+    Heard(1024, &[Step::Compact], 11),
+    Heard(1024, &[Step::Entry, Step::Compact], 112_323),
+    // Each file is full with its header.
+    Heard(1, &[Step::Put, Step::Group], 11_123_123_123),
+    // The first attempt finds no space, and then both.
+    Heard(1024, &[Step::Full(1), Step::Put], 11_123),
+    Heard(1024, &[Step::Full(2), Step::Put, Step::Put], 111_123),
+];
+
+fn done(
+    alloc: Global,
+    engine: &mut Engine<MemoryFileSystem>,
+    listeners: &mut Listeners,
+    step: Step,
+) -> Result<(), Fault> {
+    let mut batch = LogBatch::new(alloc);
+    match step {
+        Step::Put => {
+            batch.put(1, vec![in alloc; 7]?, vec![in alloc; 8]?)?;
+            let _ = engine.write_with_listeners(&mut batch, true, listeners);
+        }
+        Step::Nothing => {
+            let _ = engine.write_with_listeners(&mut batch, true, listeners);
+        }
+        Step::Group => {
+            let mut batches = Vec::new(alloc);
+            for key in 1..3_u8 {
+                let mut batch = LogBatch::new(alloc);
+                batch.put(1, vec![in alloc; key]?, vec![in alloc; 8]?)?;
+                batches.push(batch)?;
+            }
+            let _ =
+                engine.write_group_with_listeners(&mut batches, &[true, false], listeners);
+        }
+        Step::Entry => {
+            let index = EntryIndex {
+                index: 1,
+                entries: None,
+                entry_offset: 0,
+                entry_len: 0,
+                lz4: false,
+            };
+            batch.add_raw_entries(2, vec![in alloc; index]?, vec![in alloc; vec![in alloc; 7]?]?)?;
+            let _ = engine.write_with_listeners(&mut batch, true, listeners);
+        }
+        Step::Compact => {
+            let _ = engine.compact_to_with_listeners(2, 9, listeners);
+        }
+        Step::Full(times) => {
+            // Between two attempts the header of a file is written.
+            for attempt in 0..times {
+                engine.refuse(FsCall::Write, 2 * attempt + 1, IoKind::NoSpace)?;
+            }
+        }
+    }
+    Ok(())
+}
+
+fn heard_of(alloc: Global, row: &Heard) -> Result<u64, Fault> {
+    let heard = Arc::new(alloc, AtomicU64::new(0))?;
+    let mut given: Vec<Box<dyn EventListener + Send>> = Vec::new(alloc);
+    given.push(Box::new(
+        alloc,
+        Counting {
+            heard: Arc::try_clone(&heard)?,
+        },
+    )?)?;
+    let mut listeners = Listeners::new(alloc, given);
+    let mut config = Config::fresh(alloc);
+    config.target_file_size = ReadableSize(row.0);
+    let files = MemoryFileSystem::new(alloc);
+    let mut engine = Engine::open_with_listeners(alloc, config, files, &mut listeners)?;
+    for step in row.1 {
+        done(alloc, &mut engine, &mut listeners, *step)?;
+    }
+    Ok(heard.load(Ordering::SeqCst))
+}
+
+#[test]
+fn a_listener_hears_each_call_in_order(rt: HostRuntime) -> Result<(), Fail> {
+    for (place, row) in CALLS.iter().enumerate() {
+        assert!(&rt; heard_of(rt.alloc(), row)? == row.2, "row {place}");
+    }
+    Ok(())
+}
