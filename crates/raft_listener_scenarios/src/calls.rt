@@ -99,8 +99,7 @@ fn done(
                 batch.put(1, vec![in alloc; key]?, vec![in alloc; 8]?)?;
                 batches.push(batch)?;
             }
-            let _ =
-                engine.write_group_with_listeners(&mut batches, &[true, false], listeners);
+            let _ = engine.write_group_with_listeners(&mut batches, &[true, false], listeners);
         }
         Step::Entry => {
             let index = EntryIndex {
@@ -110,7 +109,11 @@ fn done(
                 entry_len: 0,
                 lz4: false,
             };
-            batch.add_raw_entries(2, vec![in alloc; index]?, vec![in alloc; vec![in alloc; 7]?]?)?;
+            batch.add_raw_entries(
+                2,
+                vec![in alloc; index]?,
+                vec![in alloc; vec![in alloc; 7]?]?,
+            )?;
             let _ = engine.write_with_listeners(&mut batch, true, listeners);
         }
         Step::Compact => {

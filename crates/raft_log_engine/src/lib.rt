@@ -4,7 +4,7 @@
 pub mod engine;
 pub mod laws;
 
-pub use engine::{Engine, GroupImage, Image, Refused};
+pub use engine::{Engine, FileSpans, GroupImage, Image, Refused};
 pub use raft_config::{Config, RecoveryMode};
 pub use raft_env::{FileSystem, FsFault, Permission};
 pub use raft_memory::{Choice, FsCall, MemoryFileSystem};

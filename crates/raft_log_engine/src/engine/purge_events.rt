@@ -1,0 +1,114 @@
+//! What listeners hear of a purge.
+ghost use Rattle.std.specs.Prelude.{◌≡◌, ◌-◌, ◌<◌, ◌^◌, false, true};
+ghost use Rattle.raft_base.specs.declared.pipe_log.LogQueue.TheVariants.{Append};
+ghost use Rattle.raft_listeners.specs.Heard.{HasHeard};
+ghost use Rattle.raft_log_engine.specs.Events.{file_begun, files_dropped, purge_events};
+
+use super::Engine;
+use super::file_spans::FileSpans;
+use raft_env::FileSystem;
+use raft_listeners::{Event, EventSink, Listeners, tell_files};
+use raft_records::{FileId, FileSeq, LogQueue};
+
+impl<F: FileSystem> Engine<F> {
+    ghost use Rattle.raft_listeners.specs.Heard.{HasAnswered};
+    ghost use Rattle.raft_log_engine.specs.Engine.{queue_of, rewrite_queue_of, settings_of};
+    ghost use Rattle.raft_log_engine.specs.Need.{needs_rewrite, rewritten_of, use_of};
+    ghost use Rattle.raft_pipes.specs.PipeState.{last_seq};
+
+    /// The numbers of its log files. Of an engine that failed nothing is said.
+    pub fn file_spans(&self) -> FileSpans
+        ensures append { result.append
+            ≡ ((queue_of self.now).first, last_seq (queue_of self.now)) }
+        ensures rewrite { result.rewrite
+            ≡ ((rewrite_queue_of self.now).first, last_seq (rewrite_queue_of self.now)) }
+        ensures fits { (last_seq (queue_of self.now) < 10 ^ 16)
+            × (last_seq (rewrite_queue_of self.now) < 10 ^ 16) }
+    {
+        FileSpans {
+            append: self.pipes.file_span(LogQueue::Append),
+            rewrite: self.pipes.file_span(LogQueue::Rewrite),
+        }
+    }
+
+    /// The number before which a purge by watermarks may drop files of the Append queue: where that
+    /// queue needs a rewriting, the least of its last file and of what the listeners and the hook
+    /// keep, each of which is asked once. Else nobody is asked, and it is the greatest number.
+    pub fn purge_barrier(&self, listeners: &mut Listeners) -> FileSeq
+        ensures asked { needs_rewrite Append (settings_of self.now) (use_of Append self.now)
+            (rewritten_of self.now) ≡ true → HasAnswered (last_seq (queue_of self.now)) result
+            listeners.old listeners.new }
+        ensures silent { needs_rewrite Append (settings_of self.now) (use_of Append self.now)
+            (rewritten_of self.now) ≡ false
+            → (result ≡ 2 ^ 64 - 1) × (listeners.new ≡ listeners.old) }
+    {
+        if !self.needs_rewrite_log_files(LogQueue::Append) {
+            return FileSeq::MAX;
+        }
+        let (_, last) = self.pipes.file_span(LogQueue::Append);
+        listeners.barrier(last)
+    }
+}
+
+impl FileSpans {
+    /// Tells what a purge made of them: the next file of the Append queue, the new files of the
+    /// Rewrite queue, and of each queue the last file that was dropped. The hook needs room for a
+    /// file.
+    pub fn tell_purged<L: EventSink>(&self, left: &FileSpans, listeners: &mut L)
+        requires room { 0 < (L.heard listeners.old).room }
+        requires fits { (self.now.append.1 < 10 ^ 16) × (self.now.rewrite.1 < 10 ^ 16)
+            × (left.now.rewrite.1 < 10 ^ 16) }
+        ensures told { HasHeard (purge_events self.now left.now) (L.heard listeners.old)
+            (L.heard listeners.new) }
+    {
+        tell_changes(self, left, listeners);
+    }
+}
+
+// .. one queue after the other.
+fn tell_changes<L: EventSink>(found: &FileSpans, left: &FileSpans, listeners: &mut L)
+    requires room { 0 < (L.heard listeners.old).room }
+    requires fits { (found.now.append.1 < 10 ^ 16) × (found.now.rewrite.1 < 10 ^ 16)
+        × (left.now.rewrite.1 < 10 ^ 16) }
+    ensures told { HasHeard (purge_events found.now left.now) (L.heard listeners.old)
+        (L.heard listeners.new) }
+{
+    tell_begun(listeners, found.append.1, left.append.1);
+    tell_files(
+        listeners,
+        LogQueue::Rewrite,
+        found.rewrite.1 + 1,
+        left.rewrite.1 + 1,
+    );
+    tell_dropped(
+        listeners,
+        LogQueue::Rewrite,
+        found.rewrite.0,
+        left.rewrite.0,
+    );
+    tell_dropped(listeners, LogQueue::Append, found.append.0, left.append.0);
+}
+
+// Tells where the Append queue went on to a next file.
+fn tell_begun<L: EventSink>(listeners: &mut L, before: FileSeq, last: FileSeq)
+    requires room { 0 < (L.heard listeners.old).room }
+    requires fits { before < 10 ^ 16 }
+    ensures told { HasHeard (file_begun before last) (L.heard listeners.old)
+        (L.heard listeners.new) }
+{
+    if before >= last {
+        return;
+    }
+    listeners.tell(Event::NewLogFile(FileId::new(LogQueue::Append, before + 1)));
+}
+
+// Tells where the first file of a queue is a later one.
+fn tell_dropped<L: EventSink>(listeners: &mut L, queue: LogQueue, before: FileSeq, first: FileSeq)
+    ensures told { HasHeard (files_dropped queue before first) (L.heard listeners.old)
+        (L.heard listeners.new) }
+{
+    if before >= first {
+        return;
+    }
+    listeners.tell(Event::Purge(FileId::new(queue, first - 1)));
+}
