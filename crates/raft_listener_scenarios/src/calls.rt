@@ -2,7 +2,7 @@
 
 use raft_base::{FileBlockHandle, FileId};
 use raft_env::IoKind;
-use raft_listeners::{EventListener, Listeners};
+use raft_listeners::{EventListener, EventSink, Listeners};
 use raft_log_engine::{Config, Engine};
 use raft_memory::{FsCall, MemoryFileSystem};
 use raft_records::{EntryIndex, Fault, Fresh, LogBatch, ReadableSize};
@@ -77,10 +77,10 @@ static CALLS: [Heard; 9] = [
     Heard(1024, &[Step::Full(2), Step::Put, Step::Put], 111_123),
 ];
 
-fn done(
+fn done<L: EventSink>(
     alloc: Global,
     engine: &mut Engine<MemoryFileSystem>,
-    listeners: &mut Listeners,
+    listeners: &mut L,
     step: Step,
 ) -> Result<(), Fault> {
     let mut batch = LogBatch::new(alloc);
@@ -122,7 +122,8 @@ fn done(
         Step::Full(times) => {
             // Between two attempts the header of a file is written.
             for attempt in 0..times {
-                engine.refuse(FsCall::Write, 2 * attempt + 1, IoKind::NoSpace)?;
+                let nth = attempt.saturating_mul(2).saturating_add(1);
+                engine.refuse(FsCall::Write, nth, IoKind::NoSpace)?;
             }
         }
     }

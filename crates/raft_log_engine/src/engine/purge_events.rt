@@ -1,19 +1,16 @@
 //! What listeners hear of a purge.
-ghost use Rattle.std.specs.Prelude.{◌≡◌, ◌-◌, ◌<◌, ◌^◌, false, true};
-ghost use Rattle.raft_base.specs.declared.pipe_log.LogQueue.TheVariants.{Append};
+ghost use Rattle.std.specs.Prelude.{◌≡◌, ◌<◌, ◌^◌};
 ghost use Rattle.raft_listeners.specs.Heard.{HasHeard};
 ghost use Rattle.raft_log_engine.specs.Events.{file_begun, files_dropped, purge_events};
 
 use super::Engine;
 use super::file_spans::FileSpans;
 use raft_env::FileSystem;
-use raft_listeners::{Event, EventSink, Listeners, tell_files};
+use raft_listeners::{Event, EventSink, tell_files};
 use raft_records::{FileId, FileSeq, LogQueue};
 
 impl<F: FileSystem> Engine<F> {
-    ghost use Rattle.raft_listeners.specs.Heard.{HasAnswered};
-    ghost use Rattle.raft_log_engine.specs.Engine.{queue_of, rewrite_queue_of, settings_of};
-    ghost use Rattle.raft_log_engine.specs.Need.{needs_rewrite, rewritten_of, use_of};
+    ghost use Rattle.raft_log_engine.specs.Engine.{queue_of, rewrite_queue_of};
     ghost use Rattle.raft_pipes.specs.PipeState.{last_seq};
 
     /// The numbers of its log files. Of an engine that failed nothing is said.
@@ -29,24 +26,6 @@ impl<F: FileSystem> Engine<F> {
             append: self.pipes.file_span(LogQueue::Append),
             rewrite: self.pipes.file_span(LogQueue::Rewrite),
         }
-    }
-
-    /// The number before which a purge by watermarks may drop files of the Append queue: where that
-    /// queue needs a rewriting, the least of its last file and of what the listeners and the hook
-    /// keep, each of which is asked once. Else nobody is asked, and it is the greatest number.
-    pub fn purge_barrier(&self, listeners: &mut Listeners) -> FileSeq
-        ensures asked { needs_rewrite Append (settings_of self.now) (use_of Append self.now)
-            (rewritten_of self.now) ≡ true → HasAnswered (last_seq (queue_of self.now)) result
-            listeners.old listeners.new }
-        ensures silent { needs_rewrite Append (settings_of self.now) (use_of Append self.now)
-            (rewritten_of self.now) ≡ false
-            → (result ≡ 2 ^ 64 - 1) × (listeners.new ≡ listeners.old) }
-    {
-        if !self.needs_rewrite_log_files(LogQueue::Append) {
-            return FileSeq::MAX;
-        }
-        let (_, last) = self.pipes.file_span(LogQueue::Append);
-        listeners.barrier(last)
     }
 }
 
