@@ -26,3 +26,4 @@ pub mod StandsLemmas
 pub mod RoomLemmas
 pub mod AttemptLemmas
 pub mod EventLemmas
+pub mod ExpiredLemmas

@@ -4,6 +4,7 @@ pub mod Batches
 pub mod Cause
 pub mod Engine
 pub mod Events
+pub mod Expired
 pub mod Indexed
 pub mod Group
 pub mod Durability
