@@ -1,5 +1,5 @@
 -- What purges leave of the queues, and why they fail.
-use Rattle.std.specs.Prelude.{◌≡◌, ◌⊎◌, ◌^◌, ℕ, max, suc, ◌+◌, Bool, true, false}
+use Rattle.std.specs.Prelude.{◌≡◌, ◌⊎◌, ◌^◌, ℕ, max, suc, ◌+◌, Bool, true, false, Some}
 use Rattle.raft_base.specs.declared.errors.Fault.{Fault}
 use Rattle.raft_base.specs.declared.errors.Fault.TheVariants as fault
 use Rattle.raft_base.specs.declared.pipe_log.LogQueue.{LogQueue}
@@ -19,7 +19,9 @@ use Rattle.raft_tables.specs.declared.rewritten.GroupsMet.{GroupsMet}
 use Rattle.raft_purge.specs.Dropping.{HasDroppedOld, HasDroppedSome}
 use Rattle.raft_purge.specs.Faults.{IsByChange, IsPurgeRefusal}
 use Rattle.raft_purge.specs.OpenGroup.{EndsOpen, HasNoId, IsAtomicRefusal}
-use Rattle.raft_purge.specs.Scope.{HasRewritten}
+use Rattle.raft_purge.specs.Emptied.{MovesOnly}
+use Rattle.raft_purge.specs.Scope.{HasRewritten, watermark_in}
+use Rattle.raft_tables.specs.Tables.{Tables}
 use Rattle.raft_purge.specs.Steps.{IsLog, LogState, LogValue}
 use Rattle.raft_purge.specs.Unfit.{IsUnfit}
 use Rattle.raft_purge.specs.declared.fault.StepFault.{StepFault}
@@ -70,6 +72,11 @@ queue_freed DropStale = Append
 abbrev pub HasRenewedSome : Purge → MemTables → PipeState → PipeState → Type 0
 HasRenewedSome RewriteRewrite m p p' = HasDroppedSome (suc (last_seq p)) m p p'
 HasRenewedSome _ m p p' = Unit {0}
+
+-- what stands behind the watermark of a rewriting of the Append queue isn't moved
+abbrev pub LeavesBehind : Purge → PipeState → Tables → Tables → Type 0
+LeavesBehind (RewriteAppend scope) append t t' = MovesOnly (Some (watermark_in scope (last_seq append))) t t'
+LeavesBehind _ append t t' = Unit {0}
 
 -- the rewriting of the Rewrite queue may leave an atomic group there that isn't ended, no other purge
 abbrev pub MayLeaveOpen : Purge → DualState → Directory → Type 0

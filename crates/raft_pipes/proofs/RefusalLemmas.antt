@@ -1,5 +1,5 @@
 -- Which file a call failed on.
-use Rattle.std.proofs.Common.{◌≡◌, ◌∙◌, ◌<◌, ◌⊎◌, true, false, Bool, None, Some, Option, cond, is_some, ap, arith, inl, inr, refl, subst, sym}
+use Rattle.std.proofs.Common.{◌≡◌, ◌∙◌, ◌<◌, ◌⊎◌, [], true, false, Bool, cond, is_some, ap, arith, inl, inr, refl, subst, sym}
 use Rattle.std.specs.Prelude.{Err, IfErr, Ok, Result}
 use Rattle.raft_base.specs.declared.errors.Fault.{Fault}
 use Rattle.raft_base.specs.declared.errors.Fault.TheVariants as fault
@@ -59,8 +59,8 @@ begin_refused path next n old mid new Memory e before (inr stands) is = subst (�
 -- An append is refused.
 
 pub write_refused : (path : Path) (old mid new : Refusals) (f : FsFault) (e : Fault) → RefusalsRoseForFault f old mid → (f ≡ Memory → old.memory < mid.memory) → NoFewer mid new → IsFaultOf path f e → IsFileRefusal path old new e
-write_refused path old mid new (Io kind) e rose counted more (text, is, names) = subst (λ (x : Fault). IsFileRefusal path old new x) (sym is) (let h = rose.0 in omega (arith, h, more.0), names)
-write_refused path old mid new Memory e rose counted more is = subst (λ (x : Fault). IsFileRefusal path old new x) (sym is) (let h = counted refl in omega (arith, h, more.1))
+write_refused path old mid new (Io kind) e rose counted more (text, is, names) = subst (λ (x : Fault). IsFileRefusal path old new x) (sym is) (omega (arith, rose.0, more.0), names)
+write_refused path old mid new Memory e rose counted more is = subst (λ (x : Fault). IsFileRefusal path old new x) (sym is) (omega (arith, counted refl, more.1))
 
 pub file_since : (path : Path) (old mid new : Refusals) (e : Fault) → NoFewer old mid → IsFileRefusal path mid new e → IsFileRefusal path old new e
 file_since path old mid new (fault.Io kind text) before h = (omega (arith, h.0, before.0), h.1)
