@@ -75,7 +75,8 @@ HasRenewedSome _ m p p' = Unit {0}
 
 -- what stands behind the watermark of a rewriting of the Append queue isn't moved
 abbrev pub LeavesBehind : Purge → PipeState → Tables → Tables → Type 0
-LeavesBehind (RewriteAppend scope) append t t' = MovesOnly (Some (watermark_in scope (last_seq append))) t t'
+LeavesBehind (RewriteAppend scope) append t t' =
+    MovesOnly (Some (watermark_in scope (last_seq append))) t t'
 LeavesBehind _ append t t' = Unit {0}
 
 -- the rewriting of the Rewrite queue may leave an atomic group there that isn't ended, no other purge
@@ -95,8 +96,8 @@ IsRunRefusal RewriteRewrite groups d d' n' old new U f =
     IsAtomicRefusal d d' n' old new (λ e. HasNoId groups e ⊎ U e) f
 IsRunRefusal _ groups d d' n' old new U f = IsPurgeRefusal d d' n' old new U f
 
--- what fails an engine in a purge: an atomic group stands open, or a call failed that was to change the
--- last file of a queue or to make the next one, and no other, as a read or a delete
+-- what fails an engine in a purge: an atomic group stands open, or a call failed that was to change
+-- the last file of a queue or to make the next one, and no other, as a read or a delete
 abbrev pub IsFailureCause : Type 0 → DualState → Directory → Refusals → Refusals → Fault → Type 0
 IsFailureCause ends_open d n old new e = ends_open ⊎ IsByChange d n old new e
 
