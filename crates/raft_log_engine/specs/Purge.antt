@@ -1,8 +1,9 @@
 -- What purges leave of the queues, and why they fail.
-use Rattle.std.specs.Prelude.{◌≡◌, ◌⊎◌, ◌^◌, ℕ, max, suc, ◌+◌, Bool, true, false}
+use Rattle.std.specs.Prelude.{◌≡◌, ◌⊎◌, ◌^◌, ℕ, max, suc, ◌+◌, Bool, true, false, Some}
 use Rattle.raft_base.specs.declared.errors.Fault.{Fault}
 use Rattle.raft_base.specs.declared.errors.Fault.TheVariants as fault
-use Rattle.raft_base.specs.declared.pipe_log.LogQueue.TheVariants.{Append}
+use Rattle.raft_base.specs.declared.pipe_log.LogQueue.{LogQueue}
+use Rattle.raft_base.specs.declared.pipe_log.LogQueue.TheVariants.{Append, Rewrite}
 use Rattle.raft_config.specs.Folders.{Folders}
 use Rattle.raft_env.specs.Directory.{Directory}
 use Rattle.raft_env.specs.declared.env.FileSystem.{Ghosts}
@@ -15,11 +16,13 @@ use Rattle.raft_tables.specs.FirstFiles.{first_of_tables}
 use Rattle.raft_tables.specs.GroupIds.{ids_bound}
 use Rattle.raft_tables.specs.declared.memtables.MemTables.{MemTables}
 use Rattle.raft_tables.specs.declared.rewritten.GroupsMet.{GroupsMet}
-use Rattle.raft_purge.specs.Dropping.{HasDroppedOld}
+use Rattle.raft_purge.specs.Dropping.{HasDroppedOld, HasDroppedSome}
 use Rattle.raft_purge.specs.Expired.{HasDroppedExpired}
-use Rattle.raft_purge.specs.Faults.{IsPurgeRefusal}
+use Rattle.raft_purge.specs.Faults.{IsByChange, IsPurgeRefusal}
 use Rattle.raft_purge.specs.OpenGroup.{EndsOpen, HasNoId, IsAtomicRefusal}
-use Rattle.raft_purge.specs.Scope.{HasRewritten}
+use Rattle.raft_purge.specs.Emptied.{MovesOnly}
+use Rattle.raft_purge.specs.Scope.{HasRewritten, watermark_in}
+use Rattle.raft_tables.specs.Tables.{Tables}
 use Rattle.raft_purge.specs.Steps.{IsLog, LogState, LogValue}
 use Rattle.raft_purge.specs.Unfit.{IsUnfit}
 use Rattle.raft_purge.specs.declared.fault.StepFault.{StepFault}
@@ -63,6 +66,22 @@ HasPurged DropStale together m m' append rewrite append' rewrite' =
 HasPurged (DropExpired x) together m m' append rewrite append' rewrite' =
     HasDroppedExpired x together m' append rewrite append' rewrite'
 
+-- the queue of which a purge answers
+abbrev pub queue_freed : Purge → LogQueue
+queue_freed RewriteRewrite = Rewrite
+queue_freed _ = Append
+
+-- where the Rewrite queue begins once its rewriting was refused
+abbrev pub HasRenewedSome : Purge → MemTables → PipeState → PipeState → Type 0
+HasRenewedSome RewriteRewrite m p p' = HasDroppedSome (suc (last_seq p)) m p p'
+HasRenewedSome _ m p p' = Unit {0}
+
+-- what stands behind the watermark of a rewriting of the Append queue isn't moved
+abbrev pub LeavesBehind : Purge → PipeState → Tables → Tables → Type 0
+LeavesBehind (RewriteAppend scope) append t t' =
+    MovesOnly (Some (watermark_in scope (last_seq append))) t t'
+LeavesBehind _ append t t' = Unit {0}
+
 -- a rewriting of the Rewrite queue may leave an atomic group there that isn't ended, no other purge
 abbrev pub MayLeaveOpen : Purge → DualState → Directory → Type 0
 MayLeaveOpen RewriteRewrite d n = EndsOpen d n
@@ -82,7 +101,12 @@ IsRunRefusal RewriteRewrite groups d d' n' old new U f =
     IsAtomicRefusal d d' n' old new (λ e. HasNoId groups e ⊎ U e) f
 IsRunRefusal (DropExpired x) groups d d' n' old new U f =
     IsAtomicRefusal d d' n' old new (λ e. HasNoId groups e ⊎ U e) f
-IsRunRefusal _ groups d d' n' old new U f = IsPurgeRefusal d d' old new U f
+IsRunRefusal _ groups d d' n' old new U f = IsPurgeRefusal d d' n' old new U f
+
+-- what fails an engine in a purge: an atomic group stands open, or a call failed that was to change
+-- the last file of a queue or to make the next one, and no other, as a read or a delete
+abbrev pub IsFailureCause : Type 0 → DualState → Directory → Refusals → Refusals → Fault → Type 0
+IsFailureCause ends_open d n old new e = ends_open ⊎ IsByChange d n old new e
 
 -- why a purge of a log with these contents fails, in these folders: by a call on its files or for lack
 -- of memory; where no number is left for a next log file of a queue, or no id for an atomic group, or

@@ -25,7 +25,7 @@ stands_truncating : (path : Path) (size : ℕ) (old n : Directory) → IsTruncat
 stands_truncating path size old n (inl same) stood = ap (λ m. has_file m path) same ∙ stood
 stands_truncating path size old n (inr (file, after, is_done, stands, outcome, is)) stood = ap (λ m. has_file m path) is ∙ ap is_some (file_at-placed_same path (cut_to size is_done after file) old)
 
-stands_opening : (path : Path) (format : LogFileFormat) (old n : Directory) → IsOpening path format old n → HasFile old path → HasFile n path
+pub stands_opening : (path : Path) (format : LogFileFormat) (old n : Directory) → IsOpening path format old n → HasFile old path → HasFile n path
 stands_opening path format old n (inl same) stood = ap (λ m. has_file m path) same ∙ stood
 stands_opening path format old n (inr change) stood = changed_stands path _ old n change ∙ stood
 

@@ -33,6 +33,7 @@ pub mod QueueAppendLemmas
 pub mod QueueFilesLemmas
 pub mod QueueLemmas
 pub mod QueueRotationLemmas
+pub mod RefusalLemmas
 pub mod RestartLemmas
 pub mod RotationLemmas
 pub mod SealedFileLemmas
