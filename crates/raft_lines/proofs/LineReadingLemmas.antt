@@ -4,7 +4,7 @@ use Rattle.std.specs.Prelude.{IfSome, ◌||◌, is_none, is_some}
 use Rattle.std.specs.Io.BufRead.{DropsThrough, drop_through, take_through}
 use Rattle.std.specs.List.{onto_first}
 use Rattle.std.proofs.lemmas.Bool.{eqb-false, eqb-true}
-use Rattle.raft_lines.specs.Line.{EndsAt, EndsOn, IsNextLine, IsReading, asked_in, asks, first_bad, first_bad_line, is_asked, is_bad, lines_in}
+use Rattle.raft_lines.specs.Line.{EndsAt, EndsOn, GoesOnOrEnds, IsNextLine, IsReading, IsServed, asked_in, asks, first_bad, first_bad_line, is_asked, is_bad, lines_in}
 use Rattle.raft_lines.specs.Settings.{text_set}
 use Rattle.raft_lines.specs.declared.program.Ended.{Ended}
 use Rattle.raft_lines.specs.declared.program.Ended.TheVariants as ended
@@ -73,6 +73,11 @@ module _ (known left : Option (List ℕ)) (old read : List ℕ) (empty : old ≡
 
 -- The program at a line.
 
+-- at the first one
+pub reading_begun : (known : Option (List ℕ)) (asked : Bool) → asked ≡ false → IsReading known known 1 asked
+reading_begun None asked none = tt
+reading_begun (Some text) asked none = (text, refl, ap (λ (b : Bool). first_bad b 1 (lines_in text)) (sym none))
+
 module _ (known left after : Option (List ℕ)) (line : List ℕ) (number : ℕ) (asked : Bool) (reading : IsReading known left number asked) where
   -- there is none left
   pub ends_done : IfSome left (λ text. IsNextLine false text line after) → IfSome known (λ text. EndsOn text ended.Done)
@@ -89,7 +94,7 @@ module _ (known left after : Option (List ℕ)) (line : List ℕ) (number : ℕ)
     found_next rest left_is = subst (λ (o : Option (List ℕ)). IfSome o (λ text. IsNextLine true text line after)) left_is next
 
     -- it goes on after the line
-    pub reads_on : (then_asked : Bool) → is_bad asked line ≡ false → then_asked ≡ (asked || asks line) → IsReading known after (number + 1) then_asked
+    reads_on : (then_asked : Bool) → is_bad asked line ≡ false → then_asked ≡ (asked || asks line) → IsReading known after (number + 1) then_asked
     reads_on then_asked good then_is = by_known known reading
       where
         by_known : (k : Option (List ℕ)) → IsReading k left number asked → IsReading k after (number + 1) then_asked
@@ -105,10 +110,10 @@ module _ (known left after : Option (List ℕ)) (line : List ℕ) (number : ℕ)
             )
 
     -- it ends there
-    pub ends_at : (how : Ended) → EndsAt line number asked how → IfSome known (λ text. EndsOn text how)
+    ends_at : (how : Ended) → EndsAt (is_bad asked line) number how → IfSome known (λ text. EndsOn text how)
     ends_at how ends = by_known known reading
       where
-        by_how : (text rest : List ℕ) (how : Ended) → EndsAt line number asked how → first_bad_line text ≡ first_bad asked number (line ∷ lines_in rest) → EndsOn text how
+        by_how : (text rest : List ℕ) (how : Ended) → EndsAt (is_bad asked line) number how → first_bad_line text ≡ first_bad asked number (line ∷ lines_in rest) → EndsOn text how
         by_how text rest ended.Done ends same = absurd ends
         by_how text rest (ended.BadLine told) (told_is, bad) same =
             same ∙ ap (λ (b : Bool). cond b (Some number) (first_bad (asked || asks line) (number + 1) (lines_in rest))) bad ∙ ap Some (sym told_is)
@@ -120,16 +125,26 @@ module _ (known left after : Option (List ℕ)) (line : List ℕ) (number : ℕ)
             let found = found_next rest left_is in
             by_how text found.0 how ends (same ∙ ap (first_bad asked number) found.2)
 
--- a line that sets something, and another
-module _ (line : List ℕ) (asked : Bool) where
-  pub set_is_bad : (set : List ℕ) → text_set line ≡ Some set → is_bad asked line ≡ asked
-  set_is_bad set is = ap (λ (o : Option (List ℕ)). cond (is_some o) asked (is_none (asked_in line))) is
+    -- one of both
+    pub served : (then_asked : Bool) (r : Option Ended) → IsServed (is_bad asked line) (asked || asks line) number then_asked r → GoesOnOrEnds known after number then_asked r
+    served then_asked None on = reads_on then_asked on.0 on.1
+    served then_asked (Some how) ends = ends_at how ends
 
-  pub set_asks : (set : List ℕ) → text_set line ≡ Some set → asks line ≡ false
-  set_asks set is = ap (λ (o : Option (List ℕ)). cond (is_some o) false (is_asked (asked_in line))) is
+or_false : (b : Bool) → (b || false) ≡ b
+or_false true = refl
+or_false false = refl
 
-  pub other_is_bad : text_set line ≡ None → is_bad asked line ≡ is_none (asked_in line)
-  other_is_bad is = ap (λ (o : Option (List ℕ)). cond (is_some o) asked (is_none (asked_in line))) is
+-- a line that sets something, and another one
+module _ (line : List ℕ) (asked : Bool) (number : ℕ) (then_asked : Bool) (r : Option Ended) where
+  pub set_served : (set : List ℕ) → text_set line ≡ Some set → IsServed asked asked number then_asked r → IsServed (is_bad asked line) (asked || asks line) number then_asked r
+  set_served set is so =
+      let bad : is_bad asked line ≡ asked = ap (λ (o : Option (List ℕ)). cond (is_some o) asked (is_none (asked_in line))) is in
+      let none : asks line ≡ false = ap (λ (o : Option (List ℕ)). cond (is_some o) false (is_asked (asked_in line))) is in
+      let same : (asked || asks line) ≡ asked = ap (λ (b : Bool). asked || b) none ∙ or_false asked in
+      subst (λ (b : Bool). IsServed b (asked || asks line) number then_asked r) (sym bad) (subst (λ (b : Bool). IsServed asked b number then_asked r) (sym same) so)
 
-  pub other_asks : text_set line ≡ None → asks line ≡ is_asked (asked_in line)
-  other_asks is = ap (λ (o : Option (List ℕ)). cond (is_some o) false (is_asked (asked_in line))) is
+  pub other_served : text_set line ≡ None → IsServed (is_none (asked_in line)) (asked || is_asked (asked_in line)) number then_asked r → IsServed (is_bad asked line) (asked || asks line) number then_asked r
+  other_served is so =
+      let bad : is_bad asked line ≡ is_none (asked_in line) = ap (λ (o : Option (List ℕ)). cond (is_some o) asked (is_none (asked_in line))) is in
+      let same : asks line ≡ is_asked (asked_in line) = ap (λ (o : Option (List ℕ)). cond (is_some o) false (is_asked (asked_in line))) is in
+      subst (λ (b : Bool). IsServed b (asked || asks line) number then_asked r) (sym bad) (subst (λ (b : Bool). IsServed (is_none (asked_in line)) (asked || b) number then_asked r) (sym same) so)

@@ -1,10 +1,11 @@
 -- What the program's openings answer.
 use Rattle.std.proofs.Common.{◌≡◌, ◌∙◌, ℕ, Bool, true, false, List, [], ◌∷◌, Option, Some, None, Result, Ok, Err, inl, inr, ap, refl, subst, sym}
-use Rattle.std.specs.Prelude.{◌↔◌, ◌⊎◌, IfErr, IfOk, IsErrAnd, MatchResult}
+use Rattle.std.specs.Prelude.{◌↔◌, ◌⊎◌, ◌||◌, IfErr, IfOk, IfSome, IsErrAnd, MatchResult}
 use Rattle.std.specs.declared.alloc.AllocError.{AllocError}
 use Rattle.std.proofs.lemmas.Bool.{cases_Bool}
 use Rattle.raft_base.specs.declared.errors.Fault.{Fault}
 use Rattle.raft_base.specs.declared.errors.Fault.TheVariants as fault
+use Rattle.raft_env.specs.Consistent.{AreConsistent}
 use Rattle.raft_env.specs.Directory.{CrashImage, Directory, IsRestarted, Leaves}
 use Rattle.raft_env.specs.Refusal.{IsFaultOf, Refusals}
 use Rattle.raft_env.specs.declared.env.FsFault.{FsFault}
@@ -19,6 +20,9 @@ use Rattle.raft_env.specs.declared.env.FileSystem.{Ghosts}
 use Rattle.raft_held.specs.Contents.{contents_at, found_contents, found_groups, known_at, known_from}
 use Rattle.raft_held.specs.Crash.{contents_after_crash, known_after_crash}
 use Rattle.raft_held.specs.Queues.{IsOpeningRefusal}
+use Rattle.raft_memory.proofs.ChoiceTornLemmas.{choices_may_leave}
+use Rattle.raft_memory.specs.Choice.{NameNoBytes, RefusesUnless, left_by}
+use Rattle.raft_memory.specs.declared.crash.Choice.{Choice}
 use Rattle.raft_memory.specs.Memory.{no_files}
 use Rattle.raft_pipes.specs.Queue.{IsFolderRefusal}
 use Rattle.raft_log_engine.specs.Engine.{begun_of, directory_of, folders_of, found_groups_of, found_of, has_failed, refusals_of}
@@ -30,8 +34,8 @@ use Rattle.raft_records.specs.Item.{Batch}
 use Rattle.raft_script.proofs.TrialLemmas.{same_folders}
 use Rattle.raft_script.specs.Run.{IsStorageOrMemory}
 use Rattle.raft_lines.specs.Line.{Asked, asked_of, is_asked}
-use Rattle.raft_lines.specs.Program.{AnswersFrom, AnswersLine, HoldsAfterCrash, IsCrashFault, IsMetBy, IsNewWith, IsOpeningFault, IsReopenFault, IsReopened, OpensTo}
-use Rattle.raft_lines.specs.Settings.{AreMet}
+use Rattle.raft_lines.specs.Program.{AnswersBy, AnswersFrom, AnswersLine, HoldsAfterCrash, IsCrashFault, IsMetBy, IsNewWith, IsOpeningFault, IsReopenFault, IsReopened, OpensTo}
+use Rattle.raft_lines.specs.Settings.{AreMet, SetsOwn, were_read}
 use Rattle.raft_lines.specs.declared.line.Call.TheVariants as call
 use Rattle.raft_lines.specs.declared.line.Line.{Line}
 use Rattle.raft_lines.specs.declared.line.Line.TheVariants as line
@@ -140,19 +144,25 @@ module _ {F H R W : Type 0} {g : Ghosts F H R W} where
     | inr stood ↦ inr (stood, after r.file_system, cause stood)
   ]
 
-  -- a line is answered by the engine that it meets
-  pub line_answered : (set made : Settings) (config : Config) → AreMet set made config → (asked : Asked) (old new : Option (Engine F H R W g)) (met : Engine F H R W g) (opening : Result (Engine F H R W g) (Refused F)) (result : Result Answer AllocError) → opening ≡ Ok met
-      → MatchResult opening (IsMetBy config old) (λ r. (old ≡ None) × IsOpeningFault config no_files r.fault) → IfOk result (λ a. AnswersFrom config asked a met new) → IfOk result (λ a. AnswersLine set made asked a old new)
-  line_answered set made config are_met asked old new met opening (Ok a) is meets answers =
-      inr (inr (config, are_met, met, subst (λ (x : Result (Engine F H R W g) (Refused F)). MatchResult x (IsMetBy config old) (λ r. (old ≡ None) × IsOpeningFault config no_files r.fault)) is meets, answers))
-  line_answered set made config are_met asked old new met opening (Err e) is meets answers = tt
+  -- what a line asks for is answered by the engine that it meets
+  pub answered_by : (config : Config) (asked : Asked) (old new : Option (Engine F H R W g)) (met : Engine F H R W g) (opening : Result (Engine F H R W g) (Refused F)) (result : Result Answer AllocError) → opening ≡ Ok met
+      → MatchResult opening (IsMetBy config old) (λ r. (old ≡ None) × IsOpeningFault config no_files r.fault) → IfOk result (λ a. AnswersFrom config asked a met new) → IfOk result (λ a. AnswersBy config asked a old new)
+  answered_by config asked old new met opening (Ok a) is meets answers =
+      inr (met, subst (λ (x : Result (Engine F H R W g) (Refused F)). MatchResult x (IsMetBy config old) (λ r. (old ≡ None) × IsOpeningFault config no_files r.fault)) is meets, answers)
+  answered_by config asked old new met opening (Err e) is meets answers = tt
 
-  -- .. or none is there
-  pub line_refused : (set made : Settings) (config : Config) → AreMet set made config → (asked : Asked) (old new : Option (Engine F H R W g)) (r : Refused F) (opening : Result (Engine F H R W g) (Refused F)) → opening ≡ Err r
-      → MatchResult opening (IsMetBy config old) (λ r. (old ≡ None) × IsOpeningFault config no_files r.fault) → AnswersLine set made asked (answer.Fatal r.fault) old new
-  line_refused set made config are_met asked old new r opening is refused =
+  -- .. or there is none
+  pub refused_by : (config : Config) (asked : Asked) (old new : Option (Engine F H R W g)) (r : Refused F) (opening : Result (Engine F H R W g) (Refused F)) → opening ≡ Err r
+      → MatchResult opening (IsMetBy config old) (λ r. (old ≡ None) × IsOpeningFault config no_files r.fault) → AnswersBy config asked (answer.Fatal r.fault) old new
+  refused_by config asked old new r opening is refused =
       let why = subst (λ (x : Result (Engine F H R W g) (Refused F)). MatchResult x (IsMetBy config old) (λ r. (old ≡ None) × IsOpeningFault config no_files r.fault)) is refused in
-      inr (inl (r.fault, refl, inr (why.0, config, are_met, why.1)))
+      inl (r.fault, refl, why.0, why.1)
+
+  -- a line is answered by the settings that it meets
+  pub line_answered : (set made : Settings) (config : Config) → made.config ≡ Some config → (were_read set ≡ true → made ≡ set) → (set.config ≡ None → IfSome made.config (SetsOwn set.lines.items)) → (asked : Asked) (old new : Option (Engine F H R W g)) (result : Result Answer AllocError)
+      → IfOk result (λ a. AnswersBy config asked a old new) → IfOk result (λ a. AnswersLine set made asked a old new)
+  line_answered set made config is once sets asked old new (Ok a) answers = inr (inr (config, record { is = is; once = once; made = λ none. subst (λ (o : Option Config). IfSome o (SetsOwn set.lines.items)) is (sets none) }, answers))
+  line_answered set made config is once sets asked old new (Err e) answers = tt
 
 -- a line that isn't empty asks for something
 pub asks_something : (l : Line) → (l ≡ line.Nothing → ⊥) → is_asked (Some (asked_of l)) ≡ true
@@ -174,6 +184,20 @@ asks_something (line.Look (look.Scan group)) some = refl
 asks_something (line.Look (look.Span queue)) some = refl
 asks_something line.Reopen some = refl
 asks_something (line.Crash left) some = refl
+
+-- .. and settings were read then
+pub asked_then : (set made : Bool) (l : Line) → (l ≡ line.Nothing → ⊥) → made ≡ true → made ≡ (set || is_asked (Some (asked_of l)))
+asked_then set made l some is = is ∙ sym (ap (λ (b : Bool). set || b) (asks_something l some) ∙ or_true set)
+  where
+    or_true : (b : Bool) → (b || true) ≡ true
+    or_true true = refl
+    or_true false = refl
+
+-- choices that name no bytes are refused for lack of memory alone
+pub crash_fault : (choices : List Choice) (n : Directory) → NameNoBytes choices → AreConsistent n → (e : Fault) → RefusesUnless (Leaves n (left_by choices n)) e → IsStorageOrMemory e
+crash_fault choices n none all (fault.InvalidArgument text) unless = absurd (unless (choices_may_leave choices n none all))
+crash_fault choices n none all fault.Memory unless = tt
+crash_fault choices n none all _ unless = absurd unless
 
 -- a fault of a call on storage
 pub storage_fault : (path : List ℕ) (told : FsFault) (e : Fault) → IsFaultOf path told e → IsStorageOrMemory e

@@ -1,5 +1,5 @@
 -- The lines that the program reads, and what each asks for.
-use Rattle.std.specs.Prelude.{◌≡◌, ℕ, ◌+◌, ◌==◌, ◌&&◌, ◌||◌, not, map, nat_le, nat_lt, Bool, true, false, List, [], ◌∷◌, length, codes, Option, Some, None, is_none, is_some, option_and_then, option_map, if◌then◌else◌}
+use Rattle.std.specs.Prelude.{◌≡◌, ℕ, ◌+◌, ◌==◌, ◌&&◌, ◌||◌, not, map, nat_le, nat_lt, Bool, true, false, List, [], ◌∷◌, length, codes, Option, Some, None, is_none, is_some, IfSome, option_and_then, option_map, if◌then◌else◌}
 use Rattle.std.specs.List.{list_all, onto_first, slice_split}
 use Rattle.std.specs.Char.{is_ascii_graphic}
 use Rattle.std.specs.Str.{bytes_eq}
@@ -288,14 +288,18 @@ IsReading None left number asked = Unit {0}
 IsReading (Some text) left number asked = (rest : List ℕ) × (left ≡ Some rest)
     × (first_bad_line text ≡ first_bad asked number (lines_in rest))
 
--- the program ends at this line, which has this number
-abbrev pub EndsAt : List ℕ → ℕ → Bool → Ended → Type 0
-EndsAt line number asked ended.Done = ⊥
-EndsAt line number asked (ended.BadLine told) = (told ≡ number) × (is_bad asked line ≡ true)
-EndsAt line number asked _ = Unit {0}
+-- a line of this number ends the program so, where it is bad or not
+abbrev pub EndsAt : Bool → ℕ → Ended → Type 0
+EndsAt bad number ended.Done = ⊥
+EndsAt bad number (ended.BadLine told) = (told ≡ number) × (bad ≡ true)
+EndsAt bad number _ = Unit {0}
 
--- .. or goes on after it, where a line asked for something or none did before it, and then
-abbrev pub GoesOnOrEnds : List ℕ → ℕ → Bool → Bool → Option Ended → Type 0
-GoesOnOrEnds line number asked then_asked None =
-    (is_bad asked line ≡ false) × (then_asked ≡ (asked || asks line))
-GoesOnOrEnds line number asked then_asked (Some ended) = EndsAt line number asked ended
+-- .. or the program goes on after it, and then a line asked for something or none did
+abbrev pub IsServed : Bool → Bool → ℕ → Bool → Option Ended → Type 0
+IsServed bad asked number then_asked None = (bad ≡ false) × (then_asked ≡ asked)
+IsServed bad asked number then_asked (Some ended) = EndsAt bad number ended
+
+-- the program goes on after the line of this number, or ends there
+abbrev pub GoesOnOrEnds : Option (List ℕ) → Option (List ℕ) → ℕ → Bool → Option Ended → Type 0
+GoesOnOrEnds known left number asked None = IsReading known left (number + 1) asked
+GoesOnOrEnds known left number asked (Some ended) = IfSome known (λ text. EndsOn text ended)

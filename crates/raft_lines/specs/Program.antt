@@ -129,20 +129,21 @@ module _ {F H R W : Type 0} {g : Ghosts F H R W} where
   AnswersFrom config asked a met (Some new) = AnswersAsked asked a met new
   AnswersFrom config asked a met None = ⊥
 
-  -- no settings are made of the lines, or where no engine was there none is opened with them
-  abbrev pub IsStartFault : Settings → Settings → Option (Engine F H R W g) → Fault → Type 0
-  IsStartFault set made old e = ((set.config ≡ None) × IsSetRefusal set.lines.items e)
-      ⊎ ((old ≡ None) × (config : Config) × AreMet set made config
-      × IsOpeningFault config no_files e)
+  -- by these settings what a line asks for is answered by the engine that it meets; or there is none,
+  -- and the program ends since none can be opened
+  abbrev pub AnswersBy : Config → Asked → Answer → Option (Engine F H R W g)
+      → Option (Engine F H R W g) → Type 0
+  AnswersBy config asked a old new =
+      ((e : Fault) × (a ≡ answer.Fatal e) × (old ≡ None) × IsOpeningFault config no_files e)
+      ⊎ ((met : Engine F H R W g) × IsMetBy config old met × AnswersFrom config asked a met new)
 
-  -- a line that asks for nothing is passed over; else the program ends where there is no engine, or
-  -- the line is answered by the one that it meets
+  -- a line that asks for nothing is passed over; else it is answered by the settings that it meets, or
+  -- the program ends since the lines make none
   abbrev pub AnswersLine : Settings → Settings → Asked → Answer → Option (Engine F H R W g)
       → Option (Engine F H R W g) → Type 0
   AnswersLine set made asked a old new = ((asked ≡ Nothing) × (a ≡ answer.Nothing) × (new ≡ old))
-      ⊎ ((e : Fault) × (a ≡ answer.Fatal e) × IsStartFault set made old e)
-      ⊎ ((config : Config) × AreMet set made config × (met : Engine F H R W g)
-      × IsMetBy config old met × AnswersFrom config asked a met new)
+      ⊎ ((e : Fault) × (a ≡ answer.Fatal e) × (set.config ≡ None) × IsSetRefusal set.lines.items e)
+      ⊎ ((config : Config) × AreMet set made config × AnswersBy config asked a old new)
 
 -- the program ends with this answer
 abbrev pub is_fatal : Answer → Bool

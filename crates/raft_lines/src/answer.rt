@@ -1,5 +1,7 @@
 //! What the program prints for a line.
 
+ghost use Rattle.std.specs.Prelude.{◌≡◌};
+
 use raft_records::Fault;
 use raft_script::{Outcome, TextEntry};
 use raft_tables::KeyAndValue;
@@ -21,6 +23,17 @@ pub(crate) enum Answer {
     Pairs(Result<Vec<KeyAndValue>, Fault>),
     /// The engine is gone, so that the program ends.
     Fatal(Fault),
+}
+
+impl Answer {
+    ghost use Rattle.raft_lines.specs.Program.{is_fatal};
+
+    /// Whether the program ends with it.
+    pub(crate) fn is_fatal(&self) -> bool
+        ensures value { result ≡ is_fatal self.now }
+    {
+        matches!(self, Answer::Fatal(_))
+    }
 }
 
 pub(crate) fn print<W: Write>(output: &mut W, answer: &Answer) -> io::Result<()> {

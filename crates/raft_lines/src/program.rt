@@ -1,16 +1,16 @@
 //! The program `raftlog` over any reader and writer.
-ghost use Rattle.std.specs.Prelude.{◌≡◌, ◌||◌, false, IfErr, IfOk, IfSome, MatchResult, None, Some};
+ghost use Rattle.std.specs.Prelude.{◌≡◌, ◌||◌, ℕ, false, is_none, List, IfErr, IfOk, IfSome, MatchResult, None, Option, Some};
 ghost use Rattle.raft_env.specs.Directory.{CrashImage, IsRestarted, Leaves};
 ghost use Rattle.raft_log_engine.specs.Engine.{contents_of, has_failed};
-ghost use Rattle.raft_memory.specs.Choice.{NamesNoBytes};
+ghost use Rattle.raft_memory.specs.Choice.{NameNoBytes, NamesNoBytes};
 ghost use Rattle.raft_memory.specs.Memory.{memory_directory, no_files};
 ghost use Rattle.raft_held.specs.Contents.{contents_at, known_at};
 ghost use Rattle.raft_config.specs.Config.{IsCopy};
 ghost use Rattle.raft_config.specs.Folders.{folders_in};
 ghost use Rattle.raft_script.specs.Entry.{range_of};
 ghost use Rattle.raft_script.specs.Run.{IsStorageOrMemory};
-ghost use Rattle.raft_lines.specs.Line.{EndsOn, GoesOnOrEnds, IsNextLine, asked_of, asked_of_call, asked_of_look, is_asked};
-ghost use Rattle.raft_lines.specs.Program.{AnswersFrom, AnswersLine, AnswersLook, HoldsAfterCrash, IsAnswered, IsCrashFault, IsMetBy, IsNewWith, IsOpeningFault, IsReopenFault, IsReopened, OpensTo, is_fatal};
+ghost use Rattle.raft_lines.specs.Line.{EndsOn, GoesOnOrEnds, IsNextLine, IsReading, IsServed, asked_in, asked_of, asked_of_call, asked_of_look, asks, is_asked, is_bad};
+ghost use Rattle.raft_lines.specs.Program.{AnswersBy, AnswersFrom, AnswersLine, AnswersLook, HoldsAfterCrash, IsAnswered, IsCrashFault, IsMetBy, IsNewWith, IsOpeningFault, IsReopenFault, IsReopened, OpensTo, is_fatal};
 ghost use Rattle.raft_lines.specs.Settings.{were_read};
 
 use crate::answer::{Answer, print};
@@ -72,19 +72,36 @@ fn serve_lines<R: BufRead, W: Write>(alloc: Global, input: &mut R, output: &mut 
     let mut engine = None;
     let mut text = Vec::new(alloc);
     for number in 1..u64::MAX {
-        match read_line(input, &mut text) {
-            Ok(true) => {}
-            Ok(false) => return Ended::Done,
-            Err(_) => return Ended::Input,
-        }
-        if let Some(ended) = serve_line(alloc, &mut settings, &mut engine, number, &text, output) {
+        if let Some(ended) =
+            serve_next(alloc, &mut settings, &mut engine, number, &mut text, input, output)
+        {
             return ended;
         }
     }
     Ended::Input
 }
 
-// A line, which has this number, and how the program ended if it ends there.
+// The next line, which has this number, and how the program ended if it ends there. The text is the line's, used again.
+fn serve_next<R: BufRead, W: Write>(
+    alloc: Global,
+    settings: &mut Settings,
+    engine: &mut Option<MemoryEngine>,
+    number: u64,
+    text: &mut Vec<u8>,
+    input: &mut R,
+    output: &mut W,
+) -> Option<Ended>
+    ensures lines { (known : Option (List ℕ)) → IsReading known (R.Read.remaining input.old) number
+        (were_read settings.old) → GoesOnOrEnds known (R.Read.remaining input.new) number
+        (were_read settings.new) result }
+{
+    match read_line(input, text) {
+        Ok(true) => serve_line(alloc, settings, engine, number, text, output),
+        Ok(false) => Some(Ended::Done),
+        Err(_) => Some(Ended::Input),
+    }
+}
+
 fn serve_line<W: Write>(
     alloc: Global,
     settings: &mut Settings,
@@ -93,16 +110,39 @@ fn serve_line<W: Write>(
     text: &[u8],
     output: &mut W,
 ) -> Option<Ended>
-    ensures lines { GoesOnOrEnds text.now number (were_read settings.old)
-        (were_read settings.new) result }
+    ensures lines { let asked = were_read settings.old in IsServed (is_bad asked text.now)
+        (asked || asks text.now) number (were_read settings.new) result }
 {
-    if let Some(set) = text_set(text) {
-        return match settings.add(set) {
-            Ok(true) => None,
-            Ok(false) => Some(Ended::BadLine(number)),
-            Err(_) => Some(Ended::Input),
-        };
+    match text_set(text) {
+        Some(set) => serve_set(settings, number, set),
+        None => serve_asked(alloc, settings, engine, number, text, output),
     }
+}
+
+// A line that sets this text.
+fn serve_set(settings: &mut Settings, number: u64, set: &[u8]) -> Option<Ended>
+    ensures lines { let asked = were_read settings.old in
+        IsServed asked asked number (were_read settings.new) result }
+{
+    match settings.add(set) {
+        Ok(true) => None,
+        Ok(false) => Some(Ended::BadLine(number)),
+        Err(_) => Some(Ended::Input),
+    }
+}
+
+// Any other line.
+fn serve_asked<W: Write>(
+    alloc: Global,
+    settings: &mut Settings,
+    engine: &mut Option<MemoryEngine>,
+    number: u64,
+    text: &[u8],
+    output: &mut W,
+) -> Option<Ended>
+    ensures lines { let asked = asked_in text.now in IsServed (is_none asked)
+        (were_read settings.old || is_asked asked) number (were_read settings.new) result }
+{
     let Some(line) = parse_line(text) else {
         return Some(Ended::BadLine(number));
     };
@@ -112,10 +152,7 @@ fn serve_line<W: Write>(
     if print(output, &answer).is_err() {
         return Some(Ended::Output);
     }
-    match answer {
-        Answer::Fatal(_) => Some(Ended::Opening),
-        _ => None,
-    }
+    if answer.is_fatal() { Some(Ended::Opening) } else { None }
 }
 
 // The next line without its newline, if there is one.
@@ -149,13 +186,23 @@ fn answer_line(
         return Ok(Answer::Nothing);
     }
     match settings.read(alloc) {
-        Ok(()) => {}
-        Err(Fault::Memory) => return Err(AllocError),
-        Err(fault) => return Ok(Answer::Fatal(fault)),
+        Ok(()) => answer_by(alloc, settings.config(), engine, line),
+        Err(Fault::Memory) => Err(AllocError),
+        Err(fault) => Ok(Answer::Fatal(fault)),
     }
-    let Some(config) = settings.config() else {
-        unreachable!()
-    };
+}
+
+// What the line asks for, where these are the settings.
+fn answer_by(
+    alloc: Global,
+    config: &Config,
+    engine: &mut Option<MemoryEngine>,
+    line: &Line<'_>,
+) -> Result<Answer, AllocError>
+    requires { line.now ≡ Line.Nothing → ⊥ }
+    ensures value { IfOk result (λ answer.
+        AnswersBy config.now (asked_of line.now) answer engine.old engine.new) }
+{
     match take_or_open(alloc, config, engine)? {
         Ok(met) => answer_asked(alloc, config, engine, met, line),
         Err(refused) => Ok(Answer::Fatal(refused.fault)),
@@ -310,11 +357,22 @@ fn crashed(
     ensures cause { IfErr result IsStorageOrMemory }
 {
     let count = count_files(alloc, config, &mut files)?;
+    files.crash(&choices_of(alloc, count, left)?)
+}
+
+// The same for so many files.
+fn choices_of(
+    alloc: Global,
+    count: usize,
+    left: &CrashChoice,
+) -> Result<Vec<Choice>, AllocError>
+    ensures bytes { IfOk result (λ choices. NameNoBytes choices.items) }
+{
     let mut choices = Vec::with_capacity(alloc, count)?;
     for _ in 0..count {
         choices.push(choice_of(left))?;
     }
-    files.crash(&choices)
+    Ok(choices)
 }
 
 // How many files stand in the folders of the settings.

@@ -1,5 +1,5 @@
 //! The settings of the program's engine: its own, and over them what the first lines set.
-ghost use Rattle.std.specs.Prelude.{◌≡◌, ◌++◌, ◌∷◌, [], not, false, true, None, IfErr, IfOk, IfSome, OnOk, option_map};
+ghost use Rattle.std.specs.Prelude.{◌≡◌, ◌++◌, ◌∷◌, [], not, false, true, None, Some, IfErr, IfOk, IfSome, OnOk, option_map};
 ghost use Rattle.raft_lines.specs.Settings.{AreOwn, IsSetRefusal, SetsOwn, text_set, were_read};
 
 use raft_log_engine::Config;
@@ -61,11 +61,15 @@ impl Settings {
         Ok(())
     }
 
-    /// The settings, where they were made.
-    pub(crate) fn config(&self) -> Option<&Config>
-        ensures value { option_map (λ config. config.now) result ≡ self.now.config }
+    /// The settings that were made.
+    pub(crate) fn config(&self) -> &Config
+        requires read { were_read self.now ≡ true }
+        ensures value { self.now.config ≡ Some result.now }
     {
-        self.config.as_ref()
+        match &self.config {
+            Some(config) => config,
+            None => unreachable!(),
+        }
     }
 }
 
