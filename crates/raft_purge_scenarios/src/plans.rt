@@ -6,6 +6,7 @@ use raft_purge_rules::{Needs, Rounds, Watermarks, plan_purge};
 use raft_records::{EntryIndex, Fault, LogItem, LogItemContent};
 use raft_tables::{GlobalStats, MemTables};
 use std::alloc::{AllocError, Global};
+use std::mem;
 use std::test::Fail;
 
 /// A group that has entries in a file of the Append queue: so many, from index 1 on.
@@ -87,9 +88,8 @@ fn plans(
     };
     let plan = plan_purge(alloc, tables, &needs, rounds)?;
     let is_wanted = are(&plan.asked, round.1) && are(&plan.rewritten, round.2);
-    if let Some(next) = plan.rounds {
-        *rounds = next;
-    }
+    let before = mem::replace(rounds, Rounds::new(alloc));
+    *rounds = plan.rounds.unwrap_or(before);
     Ok(is_wanted)
 }
 
