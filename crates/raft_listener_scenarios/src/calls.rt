@@ -1,7 +1,7 @@
 //! What a listener hears of the calls of an engine, in their order.
 
 use raft_base::{FileBlockHandle, FileId};
-use raft_env::IoKind;
+use raft_env::{FileSystem, IoKind};
 use raft_listeners::{EventListener, EventSink, Listeners};
 use raft_log_engine::{Config, Engine};
 use raft_memory::{FsCall, MemoryFileSystem};
@@ -11,7 +11,8 @@ use std::sync::Arc;
 use std::sync::atomic::{AtomicU64, Ordering};
 use std::test::Fail;
 
-/// Notes a digit for each call: 1 for a new log file, 2 for an append, 3 for an application.
+/// Notes a digit for each call: 1 for a new log file, 2 for an append, 3 for an application, 4 for
+/// dropped files.
 #[derive(Drop)]
 struct Counting {
     heard: Arc<AtomicU64>,
@@ -55,31 +56,36 @@ enum Step {
     /// An entry, and the compaction of its group.
     Entry,
     Compact,
-    /// So many attempts to append a record find no space.
-    Full(u64),
+    /// A purge of all files in which nothing stands.
+    Purge,
 }
 
-/// The target size of files, what is done, and what is heard of it.
-struct Heard(u64, &'static [Step], u64);
+/// The target size of files, which writes of a file find no space, counted from 1, what is done, and
+/// what is heard of it.
+struct Heard(u64, &'static [u64], &'static [Step], u64);
 
-static CALLS: [Heard; 9] = [
+static CALLS: [Heard; 11] = [
     // An opening: the first file of each queue.
-    Heard(1024, &[], 11),
-    Heard(1024, &[Step::Put, Step::Put], 112_323),
-    Heard(1024, &[Step::Nothing], 11),
-    Heard(1024, &[Step::Group], 112_323),
-    Heard(1024, &[Step::Compact], 11),
-    Heard(1024, &[Step::Entry, Step::Compact], 112_323),
+    Heard(1024, &[], &[], 11),
+    Heard(1024, &[], &[Step::Put, Step::Put], 112_323),
+    Heard(1024, &[], &[Step::Nothing], 11),
+    Heard(1024, &[], &[Step::Group], 112_323),
+    Heard(1024, &[], &[Step::Compact], 11),
+    Heard(1024, &[], &[Step::Entry, Step::Compact], 112_323),
+    // Each queue goes on, and both lose a file, or the Rewrite queue alone.
+    Heard(1024, &[], &[Step::Purge], 111_144),
+    Heard(1024, &[], &[Step::Put, Step::Purge], 1_123_114),
     // Each file is full with its header.
-    Heard(1, &[Step::Put, Step::Group], 11_123_123_123),
-    // The first attempt finds no space, and then both.
-    Heard(1024, &[Step::Full(1), Step::Put], 11_123),
-    Heard(1024, &[Step::Full(2), Step::Put, Step::Put], 111_123),
+    Heard(1, &[], &[Step::Put, Step::Group], 11_123_123_123),
+    // Two headers are written before. The first attempt finds no space, and then, with the header of
+    // the next file between them, both.
+    Heard(1024, &[3], &[Step::Put], 11_123),
+    Heard(1024, &[3, 5], &[Step::Put, Step::Put], 111_123),
 ];
 
-fn done<L: EventSink>(
+fn done<F: FileSystem, L: EventSink>(
     alloc: Global,
-    engine: &mut Engine<MemoryFileSystem>,
+    engine: &mut Engine<F>,
     listeners: &mut L,
     step: Step,
 ) -> Result<(), Fault> {
@@ -119,18 +125,17 @@ fn done<L: EventSink>(
         Step::Compact => {
             let _ = engine.compact_to_with_listeners(2, 9, listeners);
         }
-        Step::Full(times) => {
-            // Between two attempts the header of a file is written.
-            for attempt in 0..times {
-                let nth = attempt.saturating_mul(2).saturating_add(1);
-                engine.refuse(FsCall::Write, nth, IoKind::NoSpace)?;
-            }
+        Step::Purge => {
+            listeners.make_room(1)?;
+            let found = engine.file_spans();
+            let _ = engine.must_purge_all_stale();
+            found.tell_purged(&engine.file_spans(), listeners);
         }
     }
     Ok(())
 }
 
-fn heard_of(alloc: Global, row: &Heard) -> Result<u64, Fault> {
+fn heard_over<F: FileSystem + Drop>(alloc: Global, row: &Heard, files: F) -> Result<u64, Fault> {
     let heard = Arc::new(alloc, AtomicU64::new(0))?;
     let mut given: Vec<Box<dyn EventListener + Send>> = Vec::new(alloc);
     given.push(Box::new(
@@ -142,18 +147,25 @@ fn heard_of(alloc: Global, row: &Heard) -> Result<u64, Fault> {
     let mut listeners = Listeners::new(alloc, given);
     let mut config = Config::fresh(alloc);
     config.target_file_size = ReadableSize(row.0);
-    let files = MemoryFileSystem::new(alloc);
     let mut engine = Engine::open_with_listeners(alloc, config, files, &mut listeners)?;
-    for step in row.1 {
+    for step in row.2 {
         done(alloc, &mut engine, &mut listeners, *step)?;
     }
     Ok(heard.load(Ordering::SeqCst))
 }
 
+fn heard_of(alloc: Global, row: &Heard) -> Result<u64, Fault> {
+    let mut files = MemoryFileSystem::new(alloc);
+    for nth in row.1 {
+        files.refuse(FsCall::Write, *nth, IoKind::NoSpace)?;
+    }
+    heard_over(alloc, row, files)
+}
+
 #[test]
 fn a_listener_hears_each_call_in_order(rt: HostRuntime) -> Result<(), Fail> {
     for (place, row) in CALLS.iter().enumerate() {
-        assert!(&rt; heard_of(rt.alloc(), row)? == row.2, "row {place}");
+        assert!(&rt; heard_of(rt.alloc(), row)? == row.3, "row {place}");
     }
     Ok(())
 }

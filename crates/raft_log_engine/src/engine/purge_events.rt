@@ -19,8 +19,7 @@ impl<F: FileSystem> Engine<F> {
             ≡ ((queue_of self.now).first, last_seq (queue_of self.now)) }
         ensures rewrite { result.rewrite
             ≡ ((rewrite_queue_of self.now).first, last_seq (rewrite_queue_of self.now)) }
-        ensures fits { (last_seq (queue_of self.now) < 10 ^ 16)
-            × (last_seq (rewrite_queue_of self.now) < 10 ^ 16) }
+        ensures fits { (result.append.1 < 10 ^ 16) × (result.rewrite.1 < 10 ^ 16) }
     {
         FileSpans {
             append: self.pipes.file_span(LogQueue::Append),
