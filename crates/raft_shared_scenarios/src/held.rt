@@ -1,0 +1,216 @@
+//! An engine, shared or not.
+
+use crate::asked::{Ask, ask_for};
+use raft_log_engine::{
+    Choice, Config, Engine, Fault, FileSystem, Fresh, FsCall, IoKind, MemoryFileSystem,
+};
+use raft_shared::{Finished, Receipt, Seat, Shared, Unfinished};
+use std::alloc::Global;
+use std::mem;
+
+/// Files that fail and crash as they are told.
+pub(crate) trait Faulty: FileSystem + Drop {
+    fn fresh(alloc: Global) -> Self;
+
+    fn refuse_under(engine: &mut Engine<Self>, call: FsCall, nth: u64) -> Result<(), Fault>;
+
+    /// What a crash leaves of the log's two files: what was synced.
+    fn crash_to_synced(&mut self) -> Result<(), Fault>;
+}
+
+impl Faulty for MemoryFileSystem {
+    fn fresh(alloc: Global) -> MemoryFileSystem {
+        MemoryFileSystem::new(alloc)
+    }
+
+    fn refuse_under(
+        engine: &mut Engine<MemoryFileSystem>,
+        call: FsCall,
+        nth: u64,
+    ) -> Result<(), Fault> {
+        engine.refuse(call, nth, IoKind::Other)
+    }
+
+    fn crash_to_synced(&mut self) -> Result<(), Fault> {
+        *self = self.crash(&[Choice::Synced, Choice::Synced])?;
+        Ok(())
+    }
+}
+
+#[derive(Drop)]
+pub(crate) enum Held<F: FileSystem> {
+    Engine(Engine<F>),
+    /// With the seats that were taken.
+    Shared(Shared<F>, Vec<Seat>),
+    Nothing,
+}
+
+fn add_seats<F: FileSystem>(
+    shared: &mut Shared<F>,
+    seats: &mut Vec<Seat>,
+    count: usize,
+) -> Result<(), Fault> {
+    for _ in 0..count {
+        seats.push(shared.seat()?)?;
+    }
+    Ok(())
+}
+
+fn is_held<F: FileSystem>(engine: &Engine<F>, group: u64, key: &[u8], value: &[u8]) -> bool {
+    match engine.get(group, key) {
+        Ok(Some(found)) => found.as_slice() == value,
+        _ => false,
+    }
+}
+
+/// How many keys the groups hold, where the engine stands.
+pub(crate) fn keys_in<F: FileSystem>(engine: &mut Engine<F>) -> Option<usize> {
+    match engine.image() {
+        Ok(image) => {
+            let mut keys = 0usize;
+            for group in &image.groups {
+                keys = keys.saturating_add(group.pairs.len());
+            }
+            Some(keys)
+        }
+        Err(_) => None,
+    }
+}
+
+impl<F: Faulty> Held<F> {
+    fn open_files(&mut self, alloc: Global, files: F) -> bool {
+        match Engine::open_in_order(alloc, Config::fresh(alloc), files) {
+            Ok(engine) => {
+                *self = Held::Engine(engine);
+                true
+            }
+            Err(_) => {
+                *self = Held::Nothing;
+                false
+            }
+        }
+    }
+
+    /// Opens new files.
+    pub(crate) fn open(&mut self, alloc: Global) -> bool {
+        self.open_files(alloc, F::fresh(alloc))
+    }
+
+    /// Opens what a crash leaves of the engine's files, of which only what was synced.
+    pub(crate) fn open_after_crash(&mut self, alloc: Global) -> bool {
+        match mem::replace(self, Held::Nothing) {
+            Held::Engine(engine) => {
+                let mut files = engine.give_up();
+                files.crash_to_synced().is_ok() && self.open_files(alloc, files)
+            }
+            _ => false,
+        }
+    }
+
+    pub(crate) fn refuse(&mut self, call: FsCall, nth: u64) -> bool {
+        match self {
+            Held::Engine(engine) => F::refuse_under(engine, call, nth).is_ok(),
+            _ => false,
+        }
+    }
+
+    /// Shares the engine for so many calls. Where there is no memory for them it comes back.
+    pub(crate) fn share(&mut self, alloc: Global, limit: usize) -> bool {
+        match mem::replace(self, Held::Nothing) {
+            Held::Engine(engine) => match Shared::new(alloc, engine, limit) {
+                Ok(shared) => {
+                    *self = Held::Shared(shared, Vec::new(alloc));
+                    true
+                }
+                Err(refused) => {
+                    *self = Held::Engine(refused.engine);
+                    false
+                }
+            },
+            _ => false,
+        }
+    }
+
+    pub(crate) fn take_seats(&mut self, count: usize) -> bool {
+        match self {
+            Held::Shared(shared, seats) => add_seats(shared, seats, count).is_ok(),
+            _ => false,
+        }
+    }
+
+    /// Asks by the seat of this number.
+    pub(crate) fn ask(&mut self, alloc: Global, seat: usize, ask: &Ask) -> Result<Receipt, u8> {
+        let Held::Shared(shared, seats) = self else {
+            return Err(0);
+        };
+        match seats.get_mut(seat) {
+            Some(seat) => ask_for(alloc, shared, seat, ask).map_err(|fault| fault.code()),
+            None => Err(0),
+        }
+    }
+
+    /// How many receipts the first seat has.
+    pub(crate) fn receipts(&self) -> Option<usize> {
+        match self {
+            Held::Shared(_, seats) => Some(seats.first()?.receipts().len()),
+            _ => None,
+        }
+    }
+
+    /// Lets all seats but the first ones go.
+    pub(crate) fn keep_seats(&mut self, count: usize) {
+        if let Held::Shared(_, seats) = self {
+            seats.truncate(count);
+        }
+    }
+
+    /// Exchanges the seats with those of another shared engine.
+    pub(crate) fn swap_seats(&mut self, other: &mut Held<F>) {
+        if let (Held::Shared(_, seats), Held::Shared(_, others)) = (self, other) {
+            mem::swap(seats, others);
+        }
+    }
+
+    /// Hands over the seats, and has the engine again: how many calls the history has, and the code of
+    /// the refusal. A refusal hands all seats back.
+    pub(crate) fn finish(&mut self) -> Option<(usize, Option<u8>)> {
+        match mem::replace(self, Held::Nothing) {
+            Held::Shared(shared, seats) => {
+                let handed = seats.len();
+                match shared.finish(seats) {
+                    Ok(Finished { engine, trail }) => {
+                        *self = Held::Engine(engine);
+                        Some((trail.len(), None))
+                    }
+                    Err(
+                        Unfinished {
+                            fault,
+                            engine,
+                            trail,
+                            seats,
+                        },
+                    ) => {
+                        *self = Held::Engine(engine);
+                        (seats.len() == handed).then_some((trail.len(), Some(fault.code())))
+                    }
+                }
+            }
+            _ => None,
+        }
+    }
+
+    /// How many keys the engine holds, where it stands.
+    pub(crate) fn keys(&mut self) -> Option<usize> {
+        match self {
+            Held::Engine(engine) => keys_in(engine),
+            _ => None,
+        }
+    }
+
+    pub(crate) fn has(&self, group: u64, key: &[u8], value: &[u8]) -> bool {
+        match self {
+            Held::Engine(engine) => is_held(engine, group, key, value),
+            _ => false,
+        }
+    }
+}
