@@ -191,7 +191,11 @@ impl<F: Faulty> Held<F> {
                         },
                     ) => {
                         *self = Held::Engine(engine);
-                        (seats.len() == handed).then_some((trail.len(), Some(fault.code())))
+                        if seats.len() == handed {
+                            Some((trail.len(), Some(fault.code())))
+                        } else {
+                            None
+                        }
                     }
                 }
             }

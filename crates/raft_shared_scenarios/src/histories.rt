@@ -136,7 +136,7 @@ static STORIES: [Story; 9] = [
 
 #[test]
 fn histories(rt: HostRuntime) -> Result<(), Fail> {
-    let mut held = Held::<MemoryFileSystem>::Nothing;
+    let mut held: Held<MemoryFileSystem> = Held::Nothing;
     assert_eq!(rt; wrong_story(rt.alloc(), &mut held, &STORIES), None);
     Ok(())
 }

@@ -26,7 +26,7 @@ enum Made {
 }
 
 // The answer of a call that is recorded with this number.
-fn made(receipt: &Receipt, number: usize) -> Option<Made> {
+fn outcome_of(receipt: &Receipt, number: usize) -> Option<Made> {
     let is_refused = match &receipt.reply {
         Reply::Size(size) => size.is_err(),
         Reply::Done(done) => done.is_err(),
@@ -51,7 +51,7 @@ fn made_once<F: Faulty>(
     number: usize,
 ) -> Option<Made> {
     match held.ask(alloc, 0, ask) {
-        Ok(receipt) => return made(&receipt, number),
+        Ok(receipt) => return outcome_of(&receipt, number),
         Err(code) if code != MEMORY => return None,
         Err(_) => {}
     }
@@ -59,7 +59,7 @@ fn made_once<F: Faulty>(
         return None;
     }
     match held.ask(alloc, 0, ask) {
-        Ok(receipt) => made(&receipt, number),
+        Ok(receipt) => outcome_of(&receipt, number),
         Err(_) => None,
     }
 }
@@ -99,7 +99,7 @@ fn are_recorded_once<F: Faulty>(alloc: Global, held: &mut Held<F>) -> bool {
 
 #[test]
 fn a_refused_call_is_not_recorded(rt: HostRuntime) -> Result<(), Fail> {
-    let mut held = Held::<MemoryFileSystem>::Nothing;
+    let mut held: Held<MemoryFileSystem> = Held::Nothing;
     assert!(rt; are_recorded_once(rt.alloc(), &mut held));
     Ok(())
 }

@@ -132,7 +132,12 @@ fn holds<F: Faulty>(alloc: Global, held: &mut Held<F>, step: &Step) -> bool {
 
 // The place of the first step that comes to something else.
 fn first_wrong<F: Faulty>(alloc: Global, held: &mut Held<F>, steps: &[Step]) -> Option<usize> {
-    steps.iter().position(|step| !holds(alloc, held, step))
+    for (place, step) in steps.iter().enumerate() {
+        if !holds(alloc, held, step) {
+            return Some(place);
+        }
+    }
+    None
 }
 
 /// The first story with a step that comes to something else, and the step's place.
