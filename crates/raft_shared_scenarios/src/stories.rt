@@ -54,25 +54,14 @@ fn is_answered<F: Faulty>(
     }
 }
 
-fn fails<F: Faulty>(
-    alloc: Global,
-    held: &mut Held<F>,
-    seat: usize,
-    ask: &Ask,
-    wanted: u8,
-) -> bool {
+fn fails<F: Faulty>(alloc: Global, held: &mut Held<F>, seat: usize, ask: &Ask, wanted: u8) -> bool {
     match held.ask(alloc, seat, ask) {
         Ok(_) => false,
         Err(code) => code == wanted,
     }
 }
 
-fn finishes<F: Faulty>(
-    held: &mut Held<F>,
-    handed: usize,
-    calls: usize,
-    code: Option<u8>,
-) -> bool {
+fn finishes<F: Faulty>(held: &mut Held<F>, handed: usize, calls: usize, code: Option<u8>) -> bool {
     held.keep_seats(handed);
     held.finish() == Some((calls, code))
 }

@@ -120,7 +120,8 @@ fn finish(shared: Shared<MemoryFileSystem>, seats: Vec<Seat>) -> Option<Vec<Reco
 }
 
 fn is_answered_write(recorded: &Recorded) -> bool {
-    matches!(&*recorded.call, Call::Write(_, false)) && matches!(&recorded.reply, Reply::Size(Ok(_)))
+    matches!(&*recorded.call, Call::Write(_, false))
+        && matches!(&recorded.reply, Reply::Size(Ok(_)))
 }
 
 // How many calls of a seat are answered writes.
