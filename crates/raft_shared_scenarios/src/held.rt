@@ -42,6 +42,8 @@ pub(crate) enum Held<F: FileSystem> {
     Engine(Engine<F>),
     /// With the seats that were taken.
     Shared(Shared<F>, Vec<Seat>),
+    Finished(Finished<F>),
+    Unfinished(Unfinished<F>),
     Nothing,
 }
 
@@ -54,6 +56,26 @@ fn add_seats<F: FileSystem>(
         seats.push(shared.seat()?)?;
     }
     Ok(())
+}
+
+fn ask_at<F: FileSystem>(
+    alloc: Global,
+    shared: &mut Shared<F>,
+    seats: &mut [Seat],
+    seat: usize,
+    ask: &Ask,
+) -> Result<Receipt, u8> {
+    match seats.get_mut(seat) {
+        Some(seat) => ask_for(alloc, shared, seat, ask).map_err(|fault| fault.code()),
+        None => Err(0),
+    }
+}
+
+fn receipts_of_first(seats: &[Seat]) -> usize {
+    match seats.first() {
+        Some(seat) => seat.receipts().len(),
+        None => 0,
+    }
 }
 
 fn is_held<F: FileSystem>(engine: &Engine<F>, group: u64, key: &[u8], value: &[u8]) -> bool {
@@ -78,16 +100,33 @@ pub(crate) fn keys_in<F: FileSystem>(engine: &mut Engine<F>) -> Option<usize> {
 }
 
 impl<F: Faulty> Held<F> {
+    // The engine, unless it is shared.
+    fn take(&mut self) -> Option<Engine<F>> {
+        match mem::replace(self, Held::Nothing) {
+            Held::Engine(engine) => Some(engine),
+            Held::Finished(finished) => Some(finished.engine),
+            Held::Unfinished(unfinished) => Some(unfinished.engine),
+            _ => None,
+        }
+    }
+
+    /// The engine, unless it is shared.
+    pub(crate) fn engine(&mut self) -> Option<&mut Engine<F>> {
+        match self {
+            Held::Engine(engine) => Some(engine),
+            Held::Finished(finished) => Some(&mut finished.engine),
+            Held::Unfinished(unfinished) => Some(&mut unfinished.engine),
+            _ => None,
+        }
+    }
+
     fn open_files(&mut self, alloc: Global, files: F) -> bool {
         match Engine::open_in_order(alloc, Config::fresh(alloc), files) {
             Ok(engine) => {
                 *self = Held::Engine(engine);
                 true
             }
-            Err(_) => {
-                *self = Held::Nothing;
-                false
-            }
+            Err(_) => false,
         }
     }
 
@@ -98,39 +137,33 @@ impl<F: Faulty> Held<F> {
 
     /// Opens what a crash leaves of the engine's files, of which only what was synced.
     pub(crate) fn open_after_crash(&mut self, alloc: Global) -> bool {
-        match mem::replace(self, Held::Nothing) {
-            Held::Engine(engine) => {
+        match self.take() {
+            Some(engine) => {
                 let mut files = engine.give_up();
                 files.crash_to_synced().is_ok() && self.open_files(alloc, files)
             }
-            _ => false,
+            None => false,
         }
     }
 
     pub(crate) fn refuse(&mut self, call: FsCall, nth: u64) -> bool {
-        match self {
-            Held::Engine(engine) => F::refuse_under(engine, call, nth).is_ok(),
-            _ => false,
+        match self.engine() {
+            Some(engine) => F::refuse_under(engine, call, nth).is_ok(),
+            None => false,
         }
     }
 
     /// Shares the engine for so many calls. Where there is no memory for them it comes back.
-    pub(crate) fn share(&mut self, alloc: Global, limit: usize) -> bool {
-        match mem::replace(self, Held::Nothing) {
-            Held::Engine(engine) => match Shared::new(alloc, engine, limit) {
-                Ok(shared) => {
-                    *self = Held::Shared(shared, Vec::new(alloc));
-                    true
-                }
-                Err(refused) => {
-                    *self = Held::Engine(refused.engine);
-                    false
-                }
-            },
-            _ => false,
+    pub(crate) fn share(&mut self, alloc: Global, limit: usize) {
+        if let Some(engine) = self.take() {
+            *self = match Shared::new(alloc, engine, limit) {
+                Ok(shared) => Held::Shared(shared, Vec::new(alloc)),
+                Err(refused) => Held::Engine(refused.engine),
+            };
         }
     }
 
+    /// Whether there is a shared engine, and it gave so many seats.
     pub(crate) fn take_seats(&mut self, count: usize) -> bool {
         match self {
             Held::Shared(shared, seats) => add_seats(shared, seats, count).is_ok(),
@@ -140,20 +173,17 @@ impl<F: Faulty> Held<F> {
 
     /// Asks by the seat of this number.
     pub(crate) fn ask(&mut self, alloc: Global, seat: usize, ask: &Ask) -> Result<Receipt, u8> {
-        let Held::Shared(shared, seats) = self else {
-            return Err(0);
-        };
-        match seats.get_mut(seat) {
-            Some(seat) => ask_for(alloc, shared, seat, ask).map_err(|fault| fault.code()),
-            None => Err(0),
+        match self {
+            Held::Shared(shared, seats) => ask_at(alloc, shared, seats, seat, ask),
+            _ => Err(0),
         }
     }
 
     /// How many receipts the first seat has.
-    pub(crate) fn receipts(&self) -> Option<usize> {
+    pub(crate) fn receipts(&self) -> usize {
         match self {
-            Held::Shared(_, seats) => Some(seats.first()?.receipts().len()),
-            _ => None,
+            Held::Shared(_, seats) => receipts_of_first(seats),
+            _ => 0,
         }
     }
 
@@ -164,57 +194,46 @@ impl<F: Faulty> Held<F> {
         }
     }
 
-    /// Exchanges the seats with those of another shared engine.
-    pub(crate) fn swap_seats(&mut self, other: &mut Held<F>) {
-        if let (Held::Shared(_, seats), Held::Shared(_, others)) = (self, other) {
-            mem::swap(seats, others);
+    /// The seats that were taken.
+    pub(crate) fn seats(&mut self) -> Option<&mut Vec<Seat>> {
+        match self {
+            Held::Shared(_, seats) => Some(seats),
+            Held::Unfinished(unfinished) => Some(&mut unfinished.seats),
+            _ => None,
         }
     }
 
-    /// Hands over the seats, and has the engine again: how many calls the history has, and the code of
-    /// the refusal. A refusal hands all seats back.
-    pub(crate) fn finish(&mut self) -> Option<(usize, Option<u8>)> {
-        match mem::replace(self, Held::Nothing) {
-            Held::Shared(shared, seats) => {
-                let handed = seats.len();
-                match shared.finish(seats) {
-                    Ok(Finished { engine, trail }) => {
-                        *self = Held::Engine(engine);
-                        Some((trail.len(), None))
-                    }
-                    Err(
-                        Unfinished {
-                            fault,
-                            engine,
-                            trail,
-                            seats,
-                        },
-                    ) => {
-                        *self = Held::Engine(engine);
-                        if seats.len() == handed {
-                            Some((trail.len(), Some(fault.code())))
-                        } else {
-                            None
-                        }
-                    }
-                }
-            }
+    /// Hands over the seats.
+    pub(crate) fn finish(&mut self) {
+        if let Held::Shared(shared, seats) = mem::replace(self, Held::Nothing) {
+            *self = match shared.finish(seats) {
+                Ok(finished) => Held::Finished(finished),
+                Err(unfinished) => Held::Unfinished(unfinished),
+            };
+        }
+    }
+
+    /// How many calls the history has, and the code of the refusal.
+    pub(crate) fn ended(&self) -> Option<(usize, Option<u8>)> {
+        match self {
+            Held::Finished(finished) => Some((finished.trail.len(), None)),
+            Held::Unfinished(unfinished) => Some((
+                unfinished.trail.len(),
+                Some(unfinished.fault.code()),
+            )),
             _ => None,
         }
     }
 
     /// How many keys the engine holds, where it stands.
     pub(crate) fn keys(&mut self) -> Option<usize> {
-        match self {
-            Held::Engine(engine) => keys_in(engine),
-            _ => None,
-        }
+        keys_in(self.engine()?)
     }
 
-    pub(crate) fn has(&self, group: u64, key: &[u8], value: &[u8]) -> bool {
-        match self {
-            Held::Engine(engine) => is_held(engine, group, key, value),
-            _ => false,
+    pub(crate) fn has(&mut self, group: u64, key: &[u8], value: &[u8]) -> bool {
+        match self.engine() {
+            Some(engine) => is_held(engine, group, key, value),
+            None => false,
         }
     }
 }

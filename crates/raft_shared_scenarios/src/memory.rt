@@ -55,7 +55,7 @@ fn made_once<F: Faulty>(
         Err(code) if code != MEMORY => return None,
         Err(_) => {}
     }
-    if held.receipts() != Some(number) {
+    if held.receipts() != number {
         return None;
     }
     match held.ask(alloc, 0, ask) {
@@ -88,13 +88,27 @@ fn has_put<F: Faulty>(held: &mut Held<F>, put: Made) -> bool {
 // Whether each call is recorded once, also where one of its requests for memory was refused, and the
 // engine has what they left; or there was no memory before the calls.
 fn are_recorded_once<F: Faulty>(alloc: Global, held: &mut Held<F>) -> bool {
-    if !held.open(alloc) || !held.share(alloc, CALLS) || !held.take_seats(1) {
+    if !is_shared(alloc, held) {
         return true;
     }
     match put_made(alloc, held) {
-        Some(put) => held.finish() == Some((CALLS, None)) && has_put(held, put),
+        Some(put) => is_finished(held) && has_put(held, put),
         None => false,
     }
+}
+
+// Whether there was memory for a shared engine and a seat.
+fn is_shared<F: Faulty>(alloc: Global, held: &mut Held<F>) -> bool {
+    if !held.open(alloc) {
+        return false;
+    }
+    held.share(alloc, CALLS);
+    held.take_seats(1)
+}
+
+fn is_finished<F: Faulty>(held: &mut Held<F>) -> bool {
+    held.finish();
+    held.ended() == Some((CALLS, None))
 }
 
 #[test]

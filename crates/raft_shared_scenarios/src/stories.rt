@@ -4,6 +4,7 @@ use crate::asked::{Ask, Told, is_told};
 use crate::held::{Faulty, Held};
 use raft_log_engine::FsCall;
 use std::alloc::Global;
+use std::mem;
 
 pub(crate) enum Step {
     /// Opens new files.
@@ -61,17 +62,36 @@ fn fails<F: Faulty>(alloc: Global, held: &mut Held<F>, seat: usize, ask: &Ask, w
     }
 }
 
-fn finishes<F: Faulty>(held: &mut Held<F>, handed: usize, calls: usize, code: Option<u8>) -> bool {
+// Whether all seats that were handed over came back, where that is refused.
+fn are_back<F: Faulty>(held: &mut Held<F>, handed: usize) -> bool {
+    match held.seats() {
+        Some(seats) => seats.len() == handed,
+        None => true,
+    }
+}
+
+fn finishes<F: Faulty>(
+    held: &mut Held<F>,
+    handed: usize,
+    calls: usize,
+    code: Option<u8>,
+) -> bool {
     held.keep_seats(handed);
-    held.finish() == Some((calls, code))
+    held.finish();
+    held.ended() == Some((calls, code)) && are_back(held, handed)
 }
 
 // Another shared engine, whose only seat asked for this.
 fn asked_other<F: Faulty>(alloc: Global, other: &mut Held<F>, ask: &Ask) -> bool {
     other.open(alloc)
-        && other.share(alloc, 20)
-        && other.take_seats(1)
+        && shares(alloc, other, 20, 1)
         && other.ask(alloc, 0, ask).is_ok()
+}
+
+fn swap_seats<F: Faulty>(held: &mut Held<F>, other: &mut Held<F>) {
+    if let (Some(seats), Some(others)) = (held.seats(), other.seats()) {
+        mem::swap(seats, others);
+    }
 }
 
 fn finishes_other<F: Faulty>(
@@ -85,18 +105,24 @@ fn finishes_other<F: Faulty>(
     if !asked_other(alloc, &mut other, ask) {
         return false;
     }
-    held.swap_seats(&mut other);
-    held.finish() == Some((calls, code))
+    swap_seats(held, &mut other);
+    finishes(held, 1, calls, code)
+}
+
+fn shares<F: Faulty>(alloc: Global, held: &mut Held<F>, limit: usize, seats: usize) -> bool {
+    held.share(alloc, limit);
+    held.take_seats(seats)
 }
 
 fn is_not_shared<F: Faulty>(alloc: Global, held: &mut Held<F>, limit: usize) -> bool {
-    !held.share(alloc, limit) && matches!(held, Held::Engine(_))
+    held.share(alloc, limit);
+    held.engine().is_some()
 }
 
-fn has_failed<F: Faulty>(held: &Held<F>) -> bool {
-    match held {
-        Held::Engine(engine) => engine.failed(),
-        _ => false,
+fn has_failed<F: Faulty>(held: &mut Held<F>) -> bool {
+    match held.engine() {
+        Some(engine) => engine.failed(),
+        None => false,
     }
 }
 
@@ -105,7 +131,7 @@ fn holds<F: Faulty>(alloc: Global, held: &mut Held<F>, step: &Step) -> bool {
     match step {
         Step::Open => held.open(alloc),
         Step::Refuse(call, nth) => held.refuse(*call, *nth),
-        Step::Share(limit, seats) => held.share(alloc, *limit) && held.take_seats(*seats),
+        Step::Share(limit, seats) => shares(alloc, held, *limit, *seats),
         Step::NotShared(limit) => is_not_shared(alloc, held, *limit),
         Step::Ask(seat, ask, number, told) => is_answered(alloc, held, *seat, ask, *number, told),
         Step::Fails(seat, ask, code) => fails(alloc, held, *seat, ask, *code),
