@@ -37,11 +37,17 @@ impl Faulty for MemoryFileSystem {
     }
 }
 
+/// A shared engine, and the seats that were taken.
+#[derive(Drop)]
+pub(crate) struct Seated<F: FileSystem> {
+    shared: Shared<F>,
+    seats: Vec<Seat>,
+}
+
 #[derive(Drop)]
 pub(crate) enum Held<F: FileSystem> {
     Engine(Engine<F>),
-    /// With the seats that were taken.
-    Shared(Shared<F>, Vec<Seat>),
+    Shared(Seated<F>),
     Finished(Finished<F>),
     Unfinished(Unfinished<F>),
     Nothing,
@@ -157,7 +163,10 @@ impl<F: Faulty> Held<F> {
     pub(crate) fn share(&mut self, alloc: Global, limit: usize) {
         if let Some(engine) = self.take() {
             *self = match Shared::new(alloc, engine, limit) {
-                Ok(shared) => Held::Shared(shared, Vec::new(alloc)),
+                Ok(shared) => Held::Shared(Seated {
+                    shared,
+                    seats: Vec::new(alloc),
+                }),
                 Err(refused) => Held::Engine(refused.engine),
             };
         }
@@ -166,7 +175,7 @@ impl<F: Faulty> Held<F> {
     /// Whether there is a shared engine, and it gave so many seats.
     pub(crate) fn take_seats(&mut self, count: usize) -> bool {
         match self {
-            Held::Shared(shared, seats) => add_seats(shared, seats, count).is_ok(),
+            Held::Shared(seated) => add_seats(&mut seated.shared, &mut seated.seats, count).is_ok(),
             _ => false,
         }
     }
@@ -174,7 +183,13 @@ impl<F: Faulty> Held<F> {
     /// Asks by the seat of this number.
     pub(crate) fn ask(&mut self, alloc: Global, seat: usize, ask: &Ask) -> Result<Receipt, u8> {
         match self {
-            Held::Shared(shared, seats) => ask_at(alloc, shared, seats, seat, ask),
+            Held::Shared(seated) => ask_at(
+                alloc,
+                &mut seated.shared,
+                &mut seated.seats,
+                seat,
+                ask,
+            ),
             _ => Err(0),
         }
     }
@@ -182,22 +197,22 @@ impl<F: Faulty> Held<F> {
     /// How many receipts the first seat has.
     pub(crate) fn receipts(&self) -> usize {
         match self {
-            Held::Shared(_, seats) => receipts_of_first(seats),
+            Held::Shared(seated) => receipts_of_first(&seated.seats),
             _ => 0,
         }
     }
 
     /// Lets all seats but the first ones go.
     pub(crate) fn keep_seats(&mut self, count: usize) {
-        if let Held::Shared(_, seats) = self {
-            seats.truncate(count);
+        if let Held::Shared(seated) = self {
+            seated.seats.truncate(count);
         }
     }
 
     /// The seats that were taken.
     pub(crate) fn seats(&mut self) -> Option<&mut Vec<Seat>> {
         match self {
-            Held::Shared(_, seats) => Some(seats),
+            Held::Shared(seated) => Some(&mut seated.seats),
             Held::Unfinished(unfinished) => Some(&mut unfinished.seats),
             _ => None,
         }
@@ -205,7 +220,7 @@ impl<F: Faulty> Held<F> {
 
     /// Hands over the seats.
     pub(crate) fn finish(&mut self) {
-        if let Held::Shared(shared, seats) = mem::replace(self, Held::Nothing) {
+        if let Held::Shared(Seated { shared, seats }) = mem::replace(self, Held::Nothing) {
             *self = match shared.finish(seats) {
                 Ok(finished) => Held::Finished(finished),
                 Err(unfinished) => Held::Unfinished(unfinished),

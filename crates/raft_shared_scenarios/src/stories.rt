@@ -89,8 +89,10 @@ fn asked_other<F: Faulty>(alloc: Global, other: &mut Held<F>, ask: &Ask) -> bool
 }
 
 fn swap_seats<F: Faulty>(held: &mut Held<F>, other: &mut Held<F>) {
-    if let (Some(seats), Some(others)) = (held.seats(), other.seats()) {
-        mem::swap(seats, others);
+    if let Some(seats) = held.seats() {
+        if let Some(others) = other.seats() {
+            mem::swap(seats, others);
+        }
     }
 }
 
