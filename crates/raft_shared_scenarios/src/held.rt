@@ -183,13 +183,7 @@ impl<F: Faulty> Held<F> {
     /// Asks by the seat of this number.
     pub(crate) fn ask(&mut self, alloc: Global, seat: usize, ask: &Ask) -> Result<Receipt, u8> {
         match self {
-            Held::Shared(seated) => ask_at(
-                alloc,
-                &mut seated.shared,
-                &mut seated.seats,
-                seat,
-                ask,
-            ),
+            Held::Shared(seated) => ask_at(alloc, &mut seated.shared, &mut seated.seats, seat, ask),
             _ => Err(0),
         }
     }

@@ -70,12 +70,7 @@ fn are_back<F: Faulty>(held: &mut Held<F>, handed: usize) -> bool {
     }
 }
 
-fn finishes<F: Faulty>(
-    held: &mut Held<F>,
-    handed: usize,
-    calls: usize,
-    code: Option<u8>,
-) -> bool {
+fn finishes<F: Faulty>(held: &mut Held<F>, handed: usize, calls: usize, code: Option<u8>) -> bool {
     held.keep_seats(handed);
     held.finish();
     held.ended() == Some((calls, code)) && are_back(held, handed)
@@ -83,9 +78,7 @@ fn finishes<F: Faulty>(
 
 // Another shared engine, whose only seat asked for this.
 fn asked_other<F: Faulty>(alloc: Global, other: &mut Held<F>, ask: &Ask) -> bool {
-    other.open(alloc)
-        && shares(alloc, other, 20, 1)
-        && other.ask(alloc, 0, ask).is_ok()
+    other.open(alloc) && shares(alloc, other, 20, 1) && other.ask(alloc, 0, ask).is_ok()
 }
 
 fn swap_seats<F: Faulty>(held: &mut Held<F>, other: &mut Held<F>) {

@@ -6,4 +6,10 @@ pub open_in_order-requires-send-F : goal.open_in_order-requires-send-F
 open_in_order-requires-send-F c κs = search (sendable, memory_send) depth 20
 
 pub open_in_order-requires-sync-F : goal.open_in_order-requires-sync-F
-open_in_order-requires-sync-F c κs = search (sendable, memory_send, memory_sync) depth 20
+open_in_order-requires-sync-F c κs = search (sendable, memory_sync) depth 20
+
+pub new-requires-send-F : goal.new-requires-send-F
+new-requires-send-F c κs = search (sendable, memory_send) depth 20
+
+pub new-requires-sync-F : goal.new-requires-sync-F
+new-requires-sync-F c κs = search (sendable, memory_sync) depth 20
