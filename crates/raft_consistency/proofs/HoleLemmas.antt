@@ -1,5 +1,5 @@
 -- Holes of ranges, one after the other.
-use Rattle.std.proofs.Common.{◌≡◌, ◌==◌, ℕ, ◌+◌, ◌-◌, Bool, true, false, cond, List, [], ◌∷◌, ◌++◌, Option, Some, None, refl, sym, ◌∙◌, ap, length, map, append-nil, append_assoc, nat_eq, arith}
+use Rattle.std.proofs.Common.{◌≡◌, ◌==◌, ℕ, suc, ◌+◌, ◌-◌, Bool, true, false, cond, List, [], ◌∷◌, ◌++◌, Option, Some, None, refl, sym, ◌∙◌, ap, length, map, append-nil, append_assoc, nat_eq, arith}
 use Rattle.std.specs.Cmp.{nat_eq_equiv}
 use Rattle.std.specs.Prelude.{slice_get}
 use Rattle.std.proofs.lemmas.Map.{lookup-none}
@@ -99,7 +99,9 @@ first_index (e ∷ es) x is = ap (option_map (λ (e : EntryIndex). e.index)) is
 last_index : (es : List EntryIndex) (x : EntryIndex) → slice_get es (length es - 1) ≡ Some x → last_index_of (entries_in (λ _. []) (map placed_entry es)) ≡ Some x.index
 last_index [] x is = absurd cc
 last_index (e ∷ []) x is = ap (option_map (λ (e : EntryIndex). e.index)) is
-last_index (e ∷ (f ∷ es)) x is = last_index (f ∷ es) x (ap (slice_get (f ∷ es)) (omega arith) ∙ is)
+last_index (e ∷ (f ∷ es)) x is =
+    let next : suc (length (f ∷ es) - 1) ≡ length (e ∷ (f ∷ es)) - 1 = omega arith in
+    last_index (f ∷ es) x (ap (slice_get (e ∷ (f ∷ es))) next ∙ is)
 
 pub entries_range : (es : List EntryIndex) (first last : EntryIndex) → slice_get es 0 ≡ Some first → slice_get es (length es - 1) ≡ Some last
     → kept_of (range_by (content_in (λ _. []) (EntriesAt (map placed_entry es)))) ≡ Some (record { first = first.index; last = last.index; hole = None })

@@ -89,5 +89,5 @@ holes_listed holes pairs ordered is =
     subst (AreHoles (tree.get nat_cmp holes)) (sym is) (record { ascending = ordered; value = λ group. lookup_same group holes.entries })
 
 -- two maps of holes, the second one's over the first one's
-pub over_none : (a b before after none : Option ℕ) → after ≡ option_or b before → before ≡ option_or a none → none ≡ None → after ≡ option_or b a
-over_none a b before after none second first empty = second ∙ ap (option_or b) (first ∙ ap (option_or a) empty ∙ or_none a)
+pub over_none : (a b before after first_of_all : Option ℕ) → after ≡ option_or b before → before ≡ option_or a first_of_all → first_of_all ≡ None → after ≡ option_or b a
+over_none a b before after first_of_all second first empty = second ∙ ap (option_or b) (first ∙ ap (option_or a) empty ∙ or_none a)

@@ -1,11 +1,10 @@
-use Rattle.std.proofs.Common.{◌≡◌, ◌∙◌, [], ap, refl, sym, tt}
-use Rattle.std.proofs.lemmas.Result.{err_from_is_err_and}
+use Rattle.std.proofs.Common.{◌∙◌, [], ap}
 use Rattle.std.specs.Option.{option_or}
 use Rattle.raft_base.specs.declared.pipe_log.LogQueue.TheVariants.{Append, Rewrite}
 use Rattle.raft_consistency.specs.Check.{log_holes}
 use Rattle.raft_consistency.specs.Holes.{hole_in, holes_in}
 use Rattle.raft_pipes.specs.Folder.{readable_queue}
-use Rattle.raft_consistency.proofs.ReadLemmas.{found_holes, memory_refused}
+use Rattle.raft_consistency.proofs.ReadLemmas.{found_holes}
 use Rattle.raft_consistency.proofs.TakenLemmas.{holes_same}
 use Rattle.raft_consistency.proofs.check.holes_of_found.Goals as goal
 
