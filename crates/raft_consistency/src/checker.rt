@@ -98,11 +98,7 @@ impl ConsistencyChecker {
 }
 
 /// Sets the hole of a group, where it has one.
-fn set_hole(
-    holes: &mut BTreeMap<u64, u64>,
-    group: u64,
-    hole: Option<u64>,
-) -> Result<(), AllocError>
+fn set_hole(holes: &mut BTreeMap<u64, u64>, group: u64, hole: Option<u64>) -> Result<(), AllocError>
     ensures ok { OnOk result ((one : ℕ) → tree.get nat_cmp holes.new one
         ≡ (if group == one then option_or hole (tree.get nat_cmp holes.old one)
         else tree.get nat_cmp holes.old one)) }

@@ -3,7 +3,8 @@ ghost use Rattle.std.specs.Prelude.{◌≡◌};
 
 use crate::checker::ConsistencyChecker;
 use raft_pipes::ReplayMachine;
-use raft_records::{Fault, FileId, LogItem};
+use raft_records::{Fault, FileId, LogItem, LogQueue};
+use raft_workers::MergingMachine;
 
 impl ReplayMachine for ConsistencyChecker {
     ghost use Rattle.raft_consistency.specs.Holes.{HasTaken};
@@ -14,6 +15,13 @@ impl ReplayMachine for ConsistencyChecker {
 
     fn replay(&mut self, items: &mut Vec<LogItem>, _file: FileId) -> Result<(), Fault> {
         self.take(items)?;
+        Ok(())
+    }
+}
+
+impl MergingMachine for ConsistencyChecker {
+    fn merge(&mut self, newer: ConsistencyChecker, _queue: LogQueue) -> Result<(), Fault> {
+        self.join(newer)?;
         Ok(())
     }
 }

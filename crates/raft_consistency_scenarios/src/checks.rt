@@ -58,10 +58,7 @@ static CASES: [Case; 7] = [
     },
     Case {
         name: "no hole",
-        stored: &[
-            APPEND_1,
-            ("data/0000000000000002.raftlog", &[HEADER, FOUR]),
-        ],
+        stored: &[APPEND_1, ("data/0000000000000002.raftlog", &[HEADER, FOUR])],
         path: "data",
         wanted: Ok(&[]),
     },
@@ -119,7 +116,11 @@ fn store<F: FileSystem>(files: &mut F, path: &str, parts: &[&[u8]]) -> Result<()
     Ok(())
 }
 
-fn is_as_said<F: FileSystem + Drop>(alloc: Global, mut files: F, case: &Case) -> Result<bool, Fail> {
+fn is_as_said<F: FileSystem + Drop>(
+    alloc: Global,
+    mut files: F,
+    case: &Case,
+) -> Result<bool, Fail> {
     for (path, parts) in case.stored {
         store(&mut files, path, parts)?;
     }

@@ -21,7 +21,7 @@ returns-clause-value g c =
     let files = g.F.FileSystem.directory in
     let scan = c.in_ok-scan.ensures in
     IfOk-weaker c.holes_of_found.result _ _ (λ pairs are. holes_before b.folders (files b.file_system) (files s.file_system) scan.any_moment.here pairs.items
-        (subst (λ (f : Folders). AreHoles (log_holes f (files s.file_system)) pairs.items) scan.settings.folders are)) c.holes_of_found.ensures.value
+    (subst (λ (f : Folders). AreHoles (log_holes f (files s.file_system)) pairs.items) scan.settings.folders are)) c.holes_of_found.ensures.value
 
 pub returns-clause-refused : goal.returns-clause-refused
 returns-clause-refused g c =
@@ -31,5 +31,5 @@ returns-clause-refused g c =
     let counts = g.F.FileSystem.refusals_of in
     let scan = c.in_ok-scan.ensures in
     IfErr-weaker c.holes_of_found.result _ _ (λ e refused. read_fails b.folders (files b.file_system) (files s.file_system) scan.any_moment.here s.mode (counts b.file_system) (counts s.file_system) (counts c.holes_of_found.new.builder.file_system) e
-        (scan.settings.mode ∙ c.requires) scan.cause
-        (subst (λ (f : Folders). IsOrderRefusal s.mode f (files s.file_system) (counts s.file_system) (counts c.holes_of_found.new.builder.file_system) e) scan.settings.folders refused)) c.holes_of_found.ensures.refused
+    (scan.settings.mode ∙ c.requires) scan.cause
+    (subst (λ (f : Folders). IsOrderRefusal s.mode f (files s.file_system) (counts s.file_system) (counts c.holes_of_found.new.builder.file_system) e) scan.settings.folders refused)) c.holes_of_found.ensures.refused

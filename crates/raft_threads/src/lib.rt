@@ -1,0 +1,8 @@
+//! Parts of a queue, each replayed in a thread of its own.
+#![tactic(auto)]
+
+pub mod part;
+pub mod side_by_side;
+
+pub use part::{PartJob, QueuePart, ReadPart, read_part};
+pub use side_by_side::read_side_by_side;
