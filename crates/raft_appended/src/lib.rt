@@ -4,6 +4,7 @@
 pub mod chunk_list;
 pub mod deleted_keys;
 pub mod own_tables;
+mod replaying;
 
 pub use chunk_list::AppendedChunks;
 pub use deleted_keys::DeletedKeys;

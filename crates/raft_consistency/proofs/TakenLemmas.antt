@@ -10,7 +10,7 @@ use Rattle.std.specs.Option.{option_and_then, option_or}
 use Rattle.std.specs.Ordering.{is_eq, nat_cmp}
 use Rattle.std.specs.declared.cmp.Ordering.TheVariants.{Less, Equal, Greater}
 use Rattle.raft_records.specs.FileBatches.{FileBatch, batches_of}
-use Rattle.raft_records.specs.Item.{Batch, Item}
+use Rattle.raft_records.specs.Item.{Batch}
 use Rattle.raft_records.specs.LogItem.{item_of, placed_item_of}
 use Rattle.raft_records.specs.PlacedItem.{item_in}
 use Rattle.raft_records.specs.Places.{Blocks}

@@ -1,4 +1,4 @@
-use Rattle.std.proofs.Common.{◌≡◌, ◌<◌, ◌+◌, ◌++◌, ◌∷◌, [], ℕ, List, length, map, take, sym, ◌∙◌, ap, arith}
+use Rattle.std.proofs.Common.{◌≡◌, ◌<◌, ◌+◌, ◌++◌, ◌∷◌, [], List, length, map, take, sym, ◌∙◌, ap, arith}
 use Rattle.std.proofs.lemmas.List.{take_more}
 use Rattle.raft_records.specs.LogItem.{item_of}
 use Rattle.raft_records.specs.declared.log_item.LogItem.{LogItem}
