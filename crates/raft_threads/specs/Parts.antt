@@ -1,5 +1,5 @@
 -- What a worker makes of a part of a queue.
-use Rattle.std.specs.Prelude.{List, ◌++◌, Result, IfErr, IfOk}
+use Rattle.std.specs.Prelude.{◌≡◌, List, [], ◌∷◌, ◌++◌, Result, Ok, Err, IfErr, IfOk}
 use Rattle.raft_base.specs.declared.errors.Fault.{Fault}
 use Rattle.raft_base.specs.declared.pipe_log.LogQueue.{LogQueue}
 use Rattle.raft_records.specs.FileBatches.{FileBatch}
@@ -15,3 +15,9 @@ pub record IsRead {P M : Type 0} (queue_of : P → LogQueue) (batches : P → Li
       → stands_for (queue_of part) blocks earlier m (older ++ batches part))
   pub left_is : leaves part left
   pub cause : IfErr read (λ e. refuses part e left)
+
+-- the first of these answers that is a refusal is refused so
+abbrev pub IsFirstRefusal : {M : Type 0} → List (Result M Fault) → Fault → Type 0
+IsFirstRefusal [] e = ⊥
+IsFirstRefusal (Ok m ∷ answers) e = IsFirstRefusal answers e
+IsFirstRefusal (Err f ∷ answers) e = f ≡ e

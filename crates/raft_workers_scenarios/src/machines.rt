@@ -118,10 +118,10 @@ fn holds_in_halves(
 /// A machine for each of the entries, merged.
 fn holds_apart(alloc: Global, case: &Case) -> Result<bool, Fault> {
     let mut machines = Vec::new(alloc);
-    machines.push(ConsistencyChecker::new(alloc))?;
     for one in case.entries {
         machines.push(checker(alloc, &[*one])?)?;
     }
+    machines.push(ConsistencyChecker::new(alloc))?;
     let whole = merge_in_order(machines, LogQueue::Append)?;
     Ok(are_holes(alloc, whole, case.wanted)?)
 }
