@@ -10,7 +10,8 @@ use raft_records::{Command, KeyValue, LogItem, LogItemContent};
 use std::alloc::{AllocError, Global};
 use std::collections::{BTreeMap, BTreeSet};
 
-/// The keys that batches, which are noted in their order, deleted of each group since they last cleaned it.
+/// The keys that batches, which are noted in their order, deleted of each group since they last
+/// cleaned it.
 #[derive(Drop)]
 pub struct DeletedKeys {
     alloc: Global,

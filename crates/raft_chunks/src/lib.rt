@@ -1,5 +1,5 @@
-//! Batches that are applied in chunks, each apart from the others: laws of what all leave together, and what a chunk does to
-//! what is older, in memory.
+//! Batches that are applied in chunks, each apart from the others: laws of what all leave
+//! together, and what a chunk does to what is older, in memory.
 #![tactic(auto)]
 
 pub mod chunk_reach;

@@ -14,7 +14,8 @@ use raft_records::{EntryIndex, LogItem, LogItemContent};
 use std::alloc::{AllocError, Global};
 use std::collections::{BTreeMap, HashMap};
 
-/// What a group's entries tell: the first index, the last one, and the last one before the first hole.
+/// What a group's entries tell: the first index, the last one, and the last one before the first
+/// hole.
 #[derive(Clone, Copy, Debug)]
 struct GroupEntries {
     first: u64,
@@ -22,7 +23,8 @@ struct GroupEntries {
     hole: Option<u64>,
 }
 
-/// Finds of each group the last index before the first hole in its entries, in the batches that it was given in order.
+/// Finds of each group the last index before the first hole in its entries, in the batches that
+/// it was given in order.
 #[derive(Drop)]
 pub struct ConsistencyChecker {
     groups: HashMap<u64, GroupEntries>,
@@ -74,7 +76,8 @@ impl ConsistencyChecker {
         Ok(())
     }
 
-    /// Takes what one has taken that was given later batches. After an `Err` it has taken some of that.
+    /// Takes what one has taken that was given later batches. After an `Err` it has taken some of
+    /// that.
     pub fn join(&mut self, newer: ConsistencyChecker) -> Result<(), AllocError>
         ensures ok { OnOk result ((group : ℕ) → kept_in self.new group
             ≡ kept_then (kept_in self.old group) (kept_in newer group)) }

@@ -10,8 +10,9 @@ pub struct Workers {
 
 ghost use Rattle.raft_workers.specs.Workers.{files_a_chunk, workers_for};
 
-/// The workers of both queues, for so many threads and files. There are no more than files. Where both queues have
-/// files they share the workers by how many, and each has one at least; else both have all.
+/// The workers of both queues, for so many threads and files. There are no more than files. Where
+/// both queues have files they share the workers by how many, and each has one at least; else
+/// both have all.
 pub fn workers_for(threads: usize, append: usize, rewrite: usize) -> Workers
     ensures value { result ≡ workers_for threads append rewrite }
 {

@@ -1,4 +1,5 @@
-//! A queue's files by several workers: how many read it, which files each takes, and how their machines merge.
+//! A queue's files by several workers: how many read it, which files each takes, and how their
+//! machines merge.
 #![tactic(auto)]
 
 pub mod chunks;

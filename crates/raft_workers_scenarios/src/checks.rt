@@ -41,7 +41,8 @@ const APPEND_2: Stored = ("data/0000000000000002.raftlog", &[HEADER, SIX]);
 
 const APPEND_3: Stored = ("data/0000000000000003.raftlog", &[HEADER, ONE_AND_FOUR]);
 
-/// Log files, the folder that is looked through, and the groups with holes in it, or the code with which that is refused.
+/// Log files, the folder that is looked through, and the groups with holes in it, or the code
+/// with which that is refused.
 struct Case {
     name: &'static str,
     stored: &'static [Stored],

@@ -1,4 +1,5 @@
-//! Tests of the checker of consistency, of chunks of batches, and of workers. All but one are loops over a table of cases.
+//! Tests of the checker of consistency, of chunks of batches, and of workers. All but one are
+//! loops over a table of cases.
 #![tactic(auto)]
 
 #[cfg(test)]

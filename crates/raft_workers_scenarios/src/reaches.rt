@@ -17,8 +17,8 @@ enum Step {
     Put,
 }
 
-/// Items of two chunks, whether the newer one replaces all older entries, and else which indexes it leaves alone of those up
-/// to 9.
+/// Items of two chunks, whether the newer one replaces all older entries, and else which indexes
+/// it leaves alone of those up to 9.
 struct Case {
     name: &'static str,
     older: &'static [Step],

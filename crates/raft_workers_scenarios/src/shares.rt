@@ -3,7 +3,8 @@
 use raft_workers::{Workers, chunk_len, workers_for};
 use std::test::Fail;
 
-/// Threads and files of both queues, the workers of each, and how many files each of them takes at most.
+/// Threads and files of both queues, the workers of each, and how many files each of them takes
+/// at most.
 struct Case {
     threads: usize,
     files: (usize, usize),
