@@ -1,3 +1,4 @@
 pub mod ChunkLemmas
 pub mod KnownLemmas
+pub mod NotedLemmas
 pub mod ReachLemmas

@@ -4,25 +4,8 @@ use Rattle.std.specs.Str.{bytes_eq}
 use Rattle.raft_records.specs.Item.{Entry, Content, Entries, Clean, Compact, Put, Delete, Item, Batch}
 use Rattle.raft_records.specs.Contents.{with_entries}
 use Rattle.raft_recovery.specs.Recovered.{items_of}
-
--- where entries items start, one after the other
-pub record Starts : Type 0 where
-  -- the first of them
-  pub first : ℕ
-  -- the one that starts lowest
-  pub least : ℕ
-  -- one past the last index of the latest
-  pub end : ℕ
-  -- one starts past the end of the one before it
-  pub has_hole : Bool
-
--- what items do to what their group had before
-pub record Reach : Type 0 where
-  -- the group was cleaned
-  pub cleaned : Bool
-  -- since then: the greatest index to which it was compacted, and its entries items
-  pub compacted : ℕ
-  pub starts : Option Starts
+pub use Rattle.raft_chunks.specs.declared.chunk_reach.Reach.{Reach}
+pub use Rattle.raft_chunks.specs.declared.chunk_reach.Starts.{Starts}
 
 abbrev pub no_reach : Reach
 no_reach = record { cleaned = false; compacted = 0; starts = None }

@@ -1,0 +1,11 @@
+//! Batches of the Append queue, replayed in chunks, each into tables of its own.
+#![tactic(auto)]
+
+pub mod chunk_list;
+pub mod deleted_keys;
+pub mod own_tables;
+mod replaying;
+
+pub use chunk_list::AppendedChunks;
+pub use deleted_keys::DeletedKeys;
+pub use own_tables::AppendedBatches;

@@ -1,0 +1,9 @@
+//! Where the entries that a log's files hold leave holes.
+#![tactic(auto)]
+
+mod check;
+mod checker;
+mod replaying;
+
+pub use check::consistency_check_with_file_system;
+pub use checker::ConsistencyChecker;
