@@ -1,10 +1,12 @@
 -- What calls on an open log do and answer, by what its engine holds.
 use Rattle.std.specs.Borrow.{Bor}
 use Rattle.std.specs.Option.{option_copied}
-use Rattle.std.specs.Prelude.{◌≡◌, ◌+◌, suc, ℕ, Bool, true, false, List, [], length, map, Option, Some, None, drop, option_map}
+use Rattle.std.specs.Prelude.{◌≡◌, ◌+◌, ℕ, Bool, true, false, List, [], length, map, Option, Some, None, drop, option_map}
 use Rattle.raft_env.specs.declared.env.FileSystem.{Ghosts}
 use Rattle.raft_held.specs.Crash.{pending_of, written_batch}
-use Rattle.raft_pipes.specs.PipeState.{PipeState, last_seq}
+use Rattle.raft_pipes.specs.PipeState.{PipeState}
+use Rattle.raft_purge.specs.Scope.{HasRewritten}
+use Rattle.raft_purge.specs.declared.append_queue.AppendScope.{AppendScope}
 use Rattle.raft_records.specs.Contents.{Contents, after_batch, first_index_of, last_index_of}
 use Rattle.raft_records.specs.Item.{Batch, Entry}
 use Rattle.raft_c_batch.specs.Batch.{entries_bytes, read_batch}
@@ -13,7 +15,7 @@ use Rattle.raft_log_engine.specs.Advance.{Advances, state_of}
 use Rattle.raft_log_engine.specs.Durability.{HasSynced, HasWritten, durability_of}
 use Rattle.raft_log_engine.specs.Engine.{contents_of, has_groups_together, is_known_in, queue_of, rewrite_queue_of}
 use Rattle.raft_log_engine.specs.Image.{IsWithout}
-use Rattle.raft_log_engine.specs.Purge.{IsEmptiedTo}
+use Rattle.raft_log_engine.specs.Purge.{HasDroppedStale, HasRenewed, tables_in}
 use Rattle.raft_log_engine.specs.Reads.{IsFetchable, IsGroupList, compact_batch, compact_count, entries_to_fetch, entry_of}
 use Rattle.raft_log_engine.specs.Scan.{IsScan}
 use Rattle.raft_log_engine.specs.declared.engine.Engine.{Engine}
@@ -25,6 +27,10 @@ use Rattle.raft_c_log.specs.declared.calls.Fetch.{Fetch}
 use Rattle.raft_c_log.specs.declared.calls.Query.{Query}
 use Rattle.raft_c_log.specs.declared.calls.Query.TheVariants as query
 use Rattle.raft_c_log.specs.declared.calls.Scan.{Scan}
+
+-- the Append queue is rewritten to its end
+abbrev pub all_files : AppendScope
+all_files = record { watermark = None; step = None }
 
 -- bytes that were found
 abbrev pub answered : Bool → List ℕ → Option (List ℕ)
@@ -93,22 +99,21 @@ module _ {F H R W : Type 0} {g : Ghosts F H R W} where
     pub synced : HasSynced [] true (durability_of old) (durability_of new)
     pub count : (queue_in old).first + answer.numbers.0 ≡ (queue_in new).first
 
-  -- the Append queue has one file, a new one
+  -- nothing is left of the Append queue's files but what stands in new ones
   pub record HasRewrittenAppend (old new : Engine F H R W g) (answer : Answer) : Type 0 where
     pub purged : IsPurged queue_of old new answer
-    pub emptied : IsEmptiedTo (suc (last_seq (queue_of old))) (queue_of new)
+    pub files : HasRewritten all_files (queue_of old) (queue_of new)
 
   -- the Rewrite queue begins with a new file, where the batches of its groups stood together
   pub record HasRewrittenRewrite (old new : Engine F H R W g) (answer : Answer) : Type 0 where
     pub purged : IsPurged rewrite_queue_of old new answer
-    pub first :
-        has_groups_together old ≡ true
-        → (rewrite_queue_of new).first ≡ suc (last_seq (rewrite_queue_of old))
+    pub files : HasRenewed (has_groups_together old) (rewrite_queue_of old) (rewrite_queue_of new)
 
-  -- the Append queue ends with a new file
+  -- both queues begin with a file in which something stands
   pub record HasPurgedStale (old new : Engine F H R W g) (answer : Answer) : Type 0 where
     pub purged : IsPurged queue_of old new answer
-    pub last : last_seq (queue_of new) ≡ suc (last_seq (queue_of old))
+    pub files : HasDroppedStale (has_groups_together old) (tables_in old) (queue_of old)
+        (rewrite_queue_of old) (queue_of new) (rewrite_queue_of new)
 
   -- what a change did
   abbrev pub HasChanged : Change → Engine F H R W g → Engine F H R W g → Answer → Type 0
