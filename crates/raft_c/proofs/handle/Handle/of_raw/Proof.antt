@@ -20,7 +20,7 @@ use Rattle.std.specs.Prelude.{Some}
 use Rattle.std_heap.specs.contracts.Global as heap
 use Rattle.std_heap.specs.contracts.GlobalAllocator.TheImpl.{ghosts}
 use Rattle.std_heap.proofs.Global.TheLaws.{the_row_laws}
-use Rattle.raft_c.specs.Handle.{frees, handle_owns}
+use Rattle.raft_c.specs.Handle.{handle_owns}
 use Rattle.raft_c.specs.contracts.log.Log as log
 use Rattle.raft_c.specs.contracts.raw_box.RawBox as raw_box
 use Rattle.raft_c.proofs.Handles.{one, handle_in}
