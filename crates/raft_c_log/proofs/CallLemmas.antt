@@ -1,5 +1,5 @@
 -- What an engine's answers say.
-use Rattle.std.proofs.Common.{◌≡◌, ◌⊎◌, true, List, [], ◌∷◌, None, refl, true≢false, inl, inr}
+use Rattle.std.proofs.Common.{◌≡◌, true, List, [], ◌∷◌, None, refl, true≢false, inl, inr}
 use Rattle.raft_log_engine.specs.Durability.{Durability, HasSynced, Progresses}
 use Rattle.raft_records.specs.Contents.{first_index_of, last_index_of}
 use Rattle.raft_records.specs.Item.{Entry}

@@ -1,4 +1,4 @@
-use Rattle.std.proofs.Common.{rules, ◌≡◌, ◌∙◌, ◌++◌, ◌∷◌, ◌⊎◌, [], ℕ, List, Option, Some, true, false, refl, ap, subst, sym, ⊎_elim, inl, inr, length}
+use Rattle.std.proofs.Common.{rules, ◌≡◌, ◌∙◌, ◌++◌, ◌⊎◌, ℕ, List, Option, Some, true, false, refl, ap, subst, sym, ⊎_elim, inl, inr, length}
 use Rattle.raft_c_batch.specs.Batch.{part_bytes}
 use Rattle.raft_c_batch.specs.Parts.{pairs_bytes}
 use Rattle.raft_c_log.specs.Limit.{IsLeft, IsOneLess, limited, max_of}
