@@ -87,8 +87,9 @@ void raftlog_bytes_free(raftlog_bytes *bytes);
 
 /* Opens the log in a folder, which is made where it is missing. No other process may have it open. The settings are TOML,
  * as "target-file-size = \"64MB\"\nrecovery-mode = \"absolute-consistency\""; those that aren't named, and all for NULL,
- * are the defaults. On a failure `*out` is NULL, and as much of the text as fits in `room` bytes stands in `text` (which
- * may be NULL), ended by a NUL. The log is the caller's until `raftlog_close`. */
+ * are the defaults, and a key that is no setting's is passed over. On a failure `*out` is NULL, and as much of the text
+ * as fits in `room` bytes stands in `text` (which may be NULL), ended by a NUL. The log is the caller's until
+ * `raftlog_close`. */
 int raftlog_open(const char *folder, const char *settings, raftlog **out, char *text, size_t room);
 
 /* A log in memory, for tests. */

@@ -252,7 +252,7 @@ int main(int argc, char **argv) {
     CHECK(symlink("/etc/passwd", path) == 0);
     CHECK(raftlog_open(argv[1], NULL, &log, text, sizeof text) == RAFTLOG_NOT_PLAIN && strstr(text, "link"));
     unlink(path);
-    const char *wrong[] = {"recovery-mode = \"hopeful\"", "no-such-setting = 1", "target-file-size = 3 MB"};
+    const char *wrong[] = {"recovery-mode = \"hopeful\"", "target-file-size = \"3 stones\"", "target-file-size = 3 MB"};
     for (int i = 0; i < 3; i++) CHECK(raftlog_open(argv[1], wrong[i], &log, text, sizeof text) == RAFTLOG_INVALID && *text);
     CHECK(raftlog_open("/proc/none/x", NULL, &log, text, sizeof text) == RAFTLOG_FOLDER);
     CHECK(raftlog_open(NULL, NULL, &log, NULL, 0) == RAFTLOG_INVALID && raftlog_close(NULL) == 0);

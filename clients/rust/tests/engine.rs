@@ -56,7 +56,7 @@ fn bad_arguments() {
     batch.put(1, b"__x", b"v").put(1, b"y", b"v");
     assert_eq!(log.write(&mut batch, false).unwrap_err().code, Code::Invalid);
     assert_eq!(log.get(1, b"y").unwrap(), None);
-    for settings in ["target-file-size = 3 MB", "no-such-setting = 1", "recovery-mode = \"hopeful\"", "a\0b"] {
+    for settings in ["target-file-size = 3 MB", "target-file-size = \"3 stones\"", "recovery-mode = \"hopeful\"", "a\0b"] {
         assert_eq!(Engine::open_memory(settings).unwrap_err().code, Code::Invalid, "{settings}");
     }
     assert_eq!(Engine::open("", "").unwrap_err().code, Code::Invalid);

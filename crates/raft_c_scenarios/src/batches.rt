@@ -116,17 +116,26 @@ static REFUSED: [Refused; 9] = [
     Refused(b"\0\0\0\0\0\0\0\x01", None),
     // A kind that there isn't, a length past the end, and a byte behind the items.
     Refused(b"\0\0\0\0\0\0\0\x01\x06\0\0\0\0\0\0\0\x07", None),
-    Refused(b"\0\0\0\0\0\0\0\x01\x02\0\0\0\0\0\0\0\x07\0\0\0\0\0\0\0\x02k", None),
+    Refused(
+        b"\0\0\0\0\0\0\0\x01\x02\0\0\0\0\0\0\0\x07\0\0\0\0\0\0\0\x02k",
+        None,
+    ),
     Refused(b"\0\0\0\0\0\0\0\x01\x04\0\0\0\0\0\0\0\x07x", None),
     // No entries, and one that is too short for an index.
-    Refused(b"\0\0\0\0\0\0\0\x01\x03\0\0\0\0\0\0\0\x07\0\0\0\0\0\0\0\0", None),
+    Refused(
+        b"\0\0\0\0\0\0\0\x01\x03\0\0\0\0\0\0\0\x07\0\0\0\0\0\0\0\0",
+        None,
+    ),
     Refused(
         b"\0\0\0\0\0\0\0\x01\x03\0\0\0\0\0\0\0\x07\0\0\0\0\0\0\0\x01\
         \0\0\0\0\0\0\0\x07\0\0\0\0\0\0\x05",
         None,
     ),
     // A key of the engine's own.
-    Refused(b"\0\0\0\0\0\0\0\x01\x02\0\0\0\0\0\0\0\x07\0\0\0\0\0\0\0\x03__k", Some(1)),
+    Refused(
+        b"\0\0\0\0\0\0\0\x01\x02\0\0\0\0\0\0\0\x07\0\0\0\0\0\0\0\x03__k",
+        Some(1),
+    ),
 ];
 
 impl Row for Refused {
