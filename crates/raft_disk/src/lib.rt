@@ -16,4 +16,6 @@ pub use folder::{Folder, FolderFile};
 pub use image::Image;
 pub use mirror::{DiskHandle, DiskReader, DiskWriter, Mirror};
 pub use opening::{DiskFileSystem, OpenFault};
+pub use places::is_plain;
+pub use told::Call;
 pub use view::{FolderView, image_of};

@@ -1,0 +1,4 @@
+pub mod CallLemmas
+pub mod CodeLemmas
+pub mod FetchLemmas
+pub mod ScanLemmas

@@ -1,0 +1,3 @@
+pub mod Calls
+pub mod Limit
+pub mod Opening

@@ -1,0 +1,9 @@
+//! Tests of batches and answers as bytes. Each is one loop over a table of cases.
+#![tactic(auto)]
+
+#[cfg(test)]
+mod batches;
+#[cfg(test)]
+mod parts;
+#[cfg(test)]
+mod rows;
