@@ -5,3 +5,7 @@
 mod entries;
 #[cfg(test)]
 mod program;
+#[cfg(test)]
+mod purges;
+#[cfg(test)]
+mod settings;

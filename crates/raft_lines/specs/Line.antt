@@ -1,18 +1,21 @@
 -- The lines that the program reads, and what each asks for.
-use Rattle.std.specs.Prelude.{◌≡◌, ℕ, ◌+◌, ◌==◌, ◌&&◌, not, map, nat_le, nat_lt, Bool, true, false, List, [], ◌∷◌, length, codes, Option, Some, None, is_none, IfSome, option_and_then, option_map, if◌then◌else◌}
-use Rattle.std.specs.List.{list_all, onto_first, position, position_or_len, slice_split}
+use Rattle.std.specs.Prelude.{◌≡◌, ℕ, ◌+◌, ◌==◌, ◌&&◌, ◌||◌, not, map, nat_le, nat_lt, Bool, true, false, List, [], ◌∷◌, length, codes, Option, Some, None, is_none, is_some, IfSome, option_and_then, option_map, if◌then◌else◌}
+use Rattle.std.specs.List.{list_all, onto_first, slice_split}
 use Rattle.std.specs.Char.{is_ascii_graphic}
 use Rattle.std.specs.Str.{bytes_eq}
 use Rattle.raft_base.specs.declared.pipe_log.LogQueue.{LogQueue}
 use Rattle.raft_base.specs.declared.pipe_log.LogQueue.TheVariants.{Append, Rewrite}
 use Rattle.raft_script.specs.Entry.{indexed_bytes, text_entries}
 use Rattle.raft_script.specs.Number.{number_in}
+use Rattle.raft_lines.specs.Settings.{text_set}
 use Rattle.raft_lines.specs.declared.program.Ended.{Ended}
 use Rattle.raft_lines.specs.declared.program.Ended.TheVariants as ended
 use Rattle.raft_lines.specs.declared.line.CrashChoice.{CrashChoice}
 use Rattle.raft_lines.specs.declared.line.CrashChoice.TheVariants as left
 use Rattle.raft_lines.specs.declared.line.Call.{Call}
 use Rattle.raft_lines.specs.declared.line.Call.TheVariants as call
+use Rattle.raft_lines.specs.declared.line.Look.{Look}
+use Rattle.raft_lines.specs.declared.line.Look.TheVariants as look
 use Rattle.raft_lines.specs.declared.line.Line.{Line}
 use Rattle.raft_lines.specs.declared.line.Line.TheVariants as line
 use Rattle.raft_script.specs.declared.operation.Act.{Act}
@@ -192,13 +195,17 @@ asked_in [] = Some Nothing
 asked_in (c ∷ cs) = if c == 35 then Some Nothing else option_and_then parsed_words (words_in
     (c ∷ cs))
 
--- .. and of a line
+-- what is looked at
+abbrev pub asked_of_look : Look → Asked
+asked_of_look (look.Range group) = Range group
+asked_of_look (look.Scan group) = Scan group
+asked_of_look (look.Span queue) = Span queue
+
+-- what a line as it was read asks for
 abbrev pub asked_of : Line → Asked
 asked_of line.Nothing = Nothing
 asked_of (line.Call call) = asked_of_call call
-asked_of (line.Range group) = Range group
-asked_of (line.Scan group) = Scan group
-asked_of (line.Span queue) = Span queue
+asked_of (line.Look look) = asked_of_look look
 asked_of line.Reopen = Reopen
 asked_of (line.Crash left) = Crash left
 
@@ -238,13 +245,29 @@ abbrev pub lines_in : List ℕ → List (List ℕ)
 lines_in [] = []
 lines_in (c ∷ cs) = if c == 10 then [] ∷ lines_in cs else onto_first c (lines_in cs)
 
--- the line asks for nothing that the program knows
-abbrev pub is_bad : List ℕ → Bool
-is_bad line = is_none (asked_in line)
+-- whether a line asks for something
+abbrev pub is_asked : Option Asked → Bool
+is_asked None = false
+is_asked (Some Nothing) = false
+is_asked (Some asked) = true
 
--- the number of the first bad line, counted from 1
+abbrev pub asks : List ℕ → Bool
+asks line = if is_some (text_set line) then false else is_asked (asked_in line)
+
+-- a line of settings is bad after one that asked for something; any other where it asks for nothing
+-- that the program knows
+abbrev pub is_bad : Bool → List ℕ → Bool
+is_bad asked line = if is_some (text_set line) then asked else is_none (asked_in line)
+
+-- the number of the first bad line among these, of which the first has this number
+abbrev pub first_bad : Bool → ℕ → List (List ℕ) → Option ℕ
+first_bad asked number [] = None
+first_bad asked number (line ∷ lines) = if is_bad asked line then Some number
+    else first_bad (asked || asks line) (number + 1) lines
+
+-- .. in a text, counted from 1
 abbrev pub first_bad_line : List ℕ → Option ℕ
-first_bad_line text = option_map (λ before. before + 1) (position is_bad (lines_in text))
+first_bad_line text = first_bad false 1 (lines_in text)
 
 -- what is known of a text where the program ended so on it
 abbrev pub EndsOn : List ℕ → Ended → Type 0
@@ -258,16 +281,25 @@ IsNextLine true text line left =
     (rest : List ℕ) × (left ≡ Some rest) × (lines_in text ≡ line ∷ lines_in rest)
 IsNextLine false text line left = text ≡ []
 
--- the lines before this number are good, and these bytes are left after them
-abbrev pub IsReading : Option (List ℕ) → Option (List ℕ) → ℕ → Type 0
-IsReading None left number = Unit {0}
-IsReading (Some text) left number =
-    (rest : List ℕ)
-    × (left ≡ Some rest)
-    × (position_or_len is_bad (lines_in text) + 1 ≡ number + position_or_len is_bad (lines_in rest))
-    × (length (lines_in text) + 1 ≡ number + length (lines_in rest))
+-- the lines before this number are good, and these bytes are left after them; one of them asked for
+-- something, or none
+abbrev pub IsReading : Option (List ℕ) → Option (List ℕ) → ℕ → Bool → Type 0
+IsReading None left number asked = Unit {0}
+IsReading (Some text) left number asked = (rest : List ℕ) × (left ≡ Some rest)
+    × (first_bad_line text ≡ first_bad asked number (lines_in rest))
 
--- the program goes on after the line of this number, or it ends there
-abbrev pub GoesOnOrEnds : Option (List ℕ) → Option (List ℕ) → ℕ → Option Ended → Type 0
-GoesOnOrEnds known left number None = IsReading known left (number + 1)
-GoesOnOrEnds known left number (Some ended) = IfSome known (λ text. EndsOn text ended)
+-- a line of this number ends the program so, where it is bad or not
+abbrev pub EndsAt : Bool → ℕ → Ended → Type 0
+EndsAt bad number ended.Done = ⊥
+EndsAt bad number (ended.BadLine told) = (told ≡ number) × (bad ≡ true)
+EndsAt bad number _ = Unit {0}
+
+-- .. or the program goes on after it, and then a line asked for something or none did
+abbrev pub IsServed : Bool → Bool → ℕ → Bool → Option Ended → Type 0
+IsServed bad asked number then_asked None = (bad ≡ false) × (then_asked ≡ asked)
+IsServed bad asked number then_asked (Some ended) = EndsAt bad number ended
+
+-- the program goes on after the line of this number, or ends there
+abbrev pub GoesOnOrEnds : Option (List ℕ) → Option (List ℕ) → ℕ → Bool → Option Ended → Type 0
+GoesOnOrEnds known left number asked None = IsReading known left (number + 1) asked
+GoesOnOrEnds known left number asked (Some ended) = IfSome known (λ text. EndsOn text ended)

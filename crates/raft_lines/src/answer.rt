@@ -1,5 +1,7 @@
 //! What the program prints for a line.
 
+ghost use Rattle.std.specs.Prelude.{◌≡◌};
+
 use raft_records::Fault;
 use raft_script::{Outcome, TextEntry};
 use raft_tables::KeyAndValue;
@@ -23,6 +25,17 @@ pub(crate) enum Answer {
     Fatal(Fault),
 }
 
+impl Answer {
+    ghost use Rattle.raft_lines.specs.Program.{is_fatal};
+
+    /// Whether the program ends with it.
+    pub(crate) fn is_fatal(&self) -> bool
+        ensures value { result ≡ is_fatal self.now }
+    {
+        matches!(self, Answer::Fatal(_))
+    }
+}
+
 pub(crate) fn print<W: Write>(output: &mut W, answer: &Answer) -> io::Result<()> {
     match answer {
         Answer::Nothing => Ok(()),
@@ -38,9 +51,10 @@ pub(crate) fn print<W: Write>(output: &mut W, answer: &Answer) -> io::Result<()>
 
 fn print_outcome<W: Write>(output: &mut W, outcome: &Outcome) -> io::Result<()> {
     match outcome {
-        Outcome::Size(Ok(_)) | Outcome::Sizes(Ok(_)) | Outcome::Done(Ok(())) => {
-            output.write_all(b"ok\n")
-        }
+        Outcome::Size(Ok(_))
+        | Outcome::Sizes(Ok(_))
+        | Outcome::Done(Ok(()))
+        | Outcome::Dropped(Ok(_)) => output.write_all(b"ok\n"),
         Outcome::Value(Ok(None)) | Outcome::Entry(Ok(None)) | Outcome::Index(None) => {
             output.write_all(b"none\n")
         }
@@ -50,7 +64,6 @@ fn print_outcome<W: Write>(output: &mut W, outcome: &Outcome) -> io::Result<()> 
             output.write_all(b"\n")
         }
         Outcome::Count(Ok(count)) => writeln!(output, "dropped {count}"),
-        Outcome::Dropped(Ok(count)) => writeln!(output, "dropped {count}"),
         Outcome::Entry(Ok(Some(entry))) => print_entry(output, entry),
         Outcome::Index(Some(index)) => writeln!(output, "index {index}"),
         Outcome::Groups(Ok(groups)) => print_groups(output, groups),

@@ -5,5 +5,6 @@ mod answer;
 mod line;
 mod program;
 mod scan;
+mod settings;
 
 pub use program::{Ended, serve};

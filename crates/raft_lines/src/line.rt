@@ -14,14 +14,20 @@ pub(crate) enum Line<'a> {
     /// An empty line or a comment.
     Nothing,
     Call(Call<'a>),
+    Look(Look),
+    Reopen,
+    Crash(CrashChoice),
+}
+
+/// What is only looked at.
+#[derive(Clone, Copy)]
+pub(crate) enum Look {
     /// The indexes of a group's first and last entries.
     Range(u64),
     /// A group's keys and values.
     Scan(u64),
     /// The numbers of the first and of the last log file of a queue.
     Span(LogQueue),
-    Reopen,
-    Crash(CrashChoice),
 }
 
 /// A call of the engine, as the line spells it.
@@ -163,11 +169,11 @@ fn parse_asked<'a>(verb: &[u8], rest: &'a [u8]) -> Option<Line<'a>>
         ends(rest)?;
         Some(Line::Call(Call::Groups))
     } else if verb == b"range".as_slice() {
-        Some(Line::Range(parse_last_number(rest)?))
+        Some(Line::Look(Look::Range(parse_last_number(rest)?)))
     } else if verb == b"scan".as_slice() {
-        Some(Line::Scan(parse_last_number(rest)?))
+        Some(Line::Look(Look::Scan(parse_last_number(rest)?)))
     } else if verb == b"span".as_slice() {
-        Some(Line::Span(parse_queue(rest)?))
+        Some(Line::Look(Look::Span(parse_queue(rest)?)))
     } else if verb == b"rewrite".as_slice() {
         Some(Line::Call(parse_rewrite(rest)?))
     } else if verb == b"reopen".as_slice() {

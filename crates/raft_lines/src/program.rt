@@ -1,22 +1,27 @@
 //! The program `raftlog` over any reader and writer.
-ghost use Rattle.std.specs.Prelude.{◌≡◌, false, IfOk, IfSome, List, MatchResult, None, Option, Some, ℕ};
+ghost use Rattle.std.specs.Prelude.{◌≡◌, ◌||◌, ℕ, false, is_none, List, IfErr, IfOk, IfSome, MatchResult, None, Option, Some};
 ghost use Rattle.raft_env.specs.Directory.{CrashImage, IsRestarted, Leaves};
 ghost use Rattle.raft_log_engine.specs.Engine.{contents_of, has_failed};
-ghost use Rattle.raft_memory.specs.Memory.{memory_directory};
+ghost use Rattle.raft_memory.specs.Choice.{NameNoBytes, NamesNoBytes};
+ghost use Rattle.raft_memory.specs.Memory.{memory_directory, no_files};
 ghost use Rattle.raft_held.specs.Contents.{contents_at, known_at};
+ghost use Rattle.raft_config.specs.Config.{IsCopy};
 ghost use Rattle.raft_config.specs.Folders.{folders_in};
-ghost use Rattle.raft_lines.specs.Line.{EndsOn, GoesOnOrEnds, IsNextLine, IsReading, asked_of, asked_of_call};
 ghost use Rattle.raft_script.specs.Entry.{range_of};
-ghost use Rattle.raft_lines.specs.Program.{AnswersFrom, AnswersLine, HoldsAfterCrash, IsAnswered, IsMetBy, IsNewWith, IsReopened, OpensTo, program_folders};
+ghost use Rattle.raft_script.specs.Run.{IsStorageOrMemory};
+ghost use Rattle.raft_lines.specs.Line.{EndsOn, GoesOnOrEnds, IsNextLine, IsReading, IsServed, asked_in, asked_of, asked_of_call, asked_of_look, asks, is_asked, is_bad};
+ghost use Rattle.raft_lines.specs.Program.{AnswersBy, AnswersFrom, AnswersLine, AnswersLook, HoldsAfterCrash, IsAnswered, IsCrashFault, IsMetBy, IsNewWith, IsOpeningFault, IsReopenFault, IsReopened, OpensTo, is_fatal};
+ghost use Rattle.raft_lines.specs.Settings.{were_read};
 
 use crate::answer::{Answer, print};
-use crate::line::{Call, CrashChoice, Line, parse_line};
+use crate::line::{Call, CrashChoice, Line, Look, parse_line};
 use crate::scan::pairs_of;
+use crate::settings::{Settings, text_set};
 use raft_env::FileSystem;
 use raft_log_engine::laws::crash_leaves_contents;
 use raft_log_engine::{Config, Engine, Refused};
 use raft_memory::{Choice, MemoryFileSystem};
-use raft_records::{Fault, Fresh, ReadableSize};
+use raft_records::Fault;
 use raft_script::{Outcome, step};
 use std::alloc::{AllocError, Global};
 use std::io;
@@ -33,15 +38,14 @@ pub enum Ended {
     Input,
     /// The output could not be written.
     Output,
-    /// The engine could not be opened or closed, or a crash wanted memory, and the refusal was printed.
+    /// The settings could not be made, the engine not be opened or closed, or a crash wanted memory, and the refusal was
+    /// printed.
     Opening,
 }
 
 type MemoryEngine = Engine<MemoryFileSystem>;
 
 type Opening = Result<MemoryEngine, Refused<MemoryFileSystem>>;
-
-const FOLDER: &str = "raft";
 
 /// Reads lines, does what each asks for over files in memory, and writes the answers.
 /// docs/ARCHITECTURE.md has the lines and their answers.
@@ -64,10 +68,19 @@ pub fn serve<R: Read + Drop, W: Write + Drop>(alloc: Global, reader: R, writer: 
 fn serve_lines<R: BufRead, W: Write>(alloc: Global, input: &mut R, output: &mut W) -> Ended
     ensures lines { IfSome (R.Read.remaining input.old) (λ text. EndsOn text result) }
 {
+    let mut settings = Settings::new(alloc);
     let mut engine = None;
     let mut text = Vec::new(alloc);
     for number in 1..u64::MAX {
-        if let Some(ended) = serve_line(alloc, &mut engine, number, &mut text, input, output) {
+        if let Some(ended) = serve_next(
+            alloc,
+            &mut settings,
+            &mut engine,
+            number,
+            &mut text,
+            input,
+            output,
+        ) {
             return ended;
         }
     }
@@ -75,8 +88,9 @@ fn serve_lines<R: BufRead, W: Write>(alloc: Global, input: &mut R, output: &mut 
 }
 
 // The next line, which has this number, and how the program ended if it ends there. The text is the line's, used again.
-fn serve_line<R: BufRead, W: Write>(
+fn serve_next<R: BufRead, W: Write>(
     alloc: Global,
+    settings: &mut Settings,
     engine: &mut Option<MemoryEngine>,
     number: u64,
     text: &mut Vec<u8>,
@@ -84,25 +98,70 @@ fn serve_line<R: BufRead, W: Write>(
     output: &mut W,
 ) -> Option<Ended>
     ensures lines { (known : Option (List ℕ)) → IsReading known (R.Read.remaining input.old) number
-        → GoesOnOrEnds known (R.Read.remaining input.new) number result }
+        (were_read settings.old) → GoesOnOrEnds known (R.Read.remaining input.new) number
+        (were_read settings.new) result }
 {
     match read_line(input, text) {
-        Ok(true) => {}
-        Ok(false) => return Some(Ended::Done),
-        Err(_) => return Some(Ended::Input),
+        Ok(true) => serve_line(alloc, settings, engine, number, text, output),
+        Ok(false) => Some(Ended::Done),
+        Err(_) => Some(Ended::Input),
     }
+}
+
+fn serve_line<W: Write>(
+    alloc: Global,
+    settings: &mut Settings,
+    engine: &mut Option<MemoryEngine>,
+    number: u64,
+    text: &[u8],
+    output: &mut W,
+) -> Option<Ended>
+    ensures lines { let asked = were_read settings.old in IsServed (is_bad asked text.now)
+        (asked || asks text.now) number (were_read settings.new) result }
+{
+    match text_set(text) {
+        Some(set) => serve_set(settings, number, set),
+        None => serve_asked(alloc, settings, engine, number, text, output),
+    }
+}
+
+// A line that sets this text.
+fn serve_set(settings: &mut Settings, number: u64, set: &[u8]) -> Option<Ended>
+    ensures lines { let asked = were_read settings.old in
+        IsServed asked asked number (were_read settings.new) result }
+{
+    match settings.add(set) {
+        Ok(true) => None,
+        Ok(false) => Some(Ended::BadLine(number)),
+        Err(_) => Some(Ended::Input),
+    }
+}
+
+// Any other line.
+fn serve_asked<W: Write>(
+    alloc: Global,
+    settings: &mut Settings,
+    engine: &mut Option<MemoryEngine>,
+    number: u64,
+    text: &[u8],
+    output: &mut W,
+) -> Option<Ended>
+    ensures lines { let asked = asked_in text.now in IsServed (is_none asked)
+        (were_read settings.old || is_asked asked) number (were_read settings.new) result }
+{
     let Some(line) = parse_line(text) else {
         return Some(Ended::BadLine(number));
     };
-    let Ok(answer) = answer_line(alloc, engine, &line) else {
+    let Ok(answer) = answer_line(alloc, settings, engine, &line) else {
         return Some(Ended::Input);
     };
     if print(output, &answer).is_err() {
         return Some(Ended::Output);
     }
-    match answer {
-        Answer::Fatal(_) => Some(Ended::Opening),
-        _ => None,
+    if answer.is_fatal() {
+        Some(Ended::Opening)
+    } else {
+        None
     }
 }
 
@@ -121,69 +180,96 @@ fn read_line<R: BufRead>(input: &mut R, line: &mut Vec<u8>) -> io::Result<bool>
     Ok(true)
 }
 
-// The engine is opened at the first line that asks for something.
+// The settings are read and the engine is opened at the first line that asks for something.
 fn answer_line(
     alloc: Global,
+    settings: &mut Settings,
     engine: &mut Option<MemoryEngine>,
     line: &Line<'_>,
 ) -> Result<Answer, AllocError>
-    ensures value { IfOk result (λ answer.
-        AnswersLine (asked_of line.now) answer engine.old engine.new) }
+    ensures value { IfOk result (λ answer. AnswersLine settings.old settings.new
+        (asked_of line.now) answer engine.old engine.new) }
+    ensures read { IfOk result (λ answer. is_fatal answer ≡ false → were_read settings.new
+        ≡ (were_read settings.old || is_asked (Some (asked_of line.now)))) }
 {
     if let Line::Nothing = line {
         return Ok(Answer::Nothing);
     }
-    match take_or_open(alloc, engine)? {
-        Ok(opened) => answer_asked(alloc, engine, opened, line),
+    match settings.read(alloc) {
+        Ok(()) => answer_by(alloc, settings.config(), engine, line),
+        Err(Fault::Memory) => Err(AllocError),
+        Err(fault) => Ok(Answer::Fatal(fault)),
+    }
+}
+
+// What the line asks for, where these are the settings.
+fn answer_by(
+    alloc: Global,
+    config: &Config,
+    engine: &mut Option<MemoryEngine>,
+    line: &Line<'_>,
+) -> Result<Answer, AllocError>
+    requires { line.now ≡ Line.Nothing → ⊥ }
+    ensures value { IfOk result (λ answer.
+        AnswersBy config.now (asked_of line.now) answer engine.old engine.new) }
+{
+    match take_or_open(alloc, config, engine)? {
+        Ok(met) => answer_asked(alloc, config, engine, met, line),
         Err(refused) => Ok(Answer::Fatal(refused.fault)),
     }
 }
 
-fn take_or_open(alloc: Global, engine: &mut Option<MemoryEngine>) -> Result<Opening, AllocError>
-    ensures value { IfOk result (λ opening. IfOk opening (IsMetBy engine.old)) }
+fn take_or_open(
+    alloc: Global,
+    config: &Config,
+    engine: &mut Option<MemoryEngine>,
+) -> Result<Opening, AllocError>
+    ensures value { IfOk result (λ opening. MatchResult opening (IsMetBy config.now engine.old)
+        (λ r. (engine.old ≡ None) × IsOpeningFault config.now no_files r.fault)) }
 {
     match engine.take() {
-        Some(opened) => Ok(Ok(opened)),
-        None => open(alloc),
+        Some(met) => Ok(Ok(met)),
+        None => open(alloc, config),
     }
 }
 
 // What the line asks for, of the engine that it meets.
 fn answer_asked(
     alloc: Global,
+    config: &Config,
     engine: &mut Option<MemoryEngine>,
-    opened: MemoryEngine,
+    met: MemoryEngine,
     line: &Line<'_>,
 ) -> Result<Answer, AllocError>
     requires { line.now ≡ Line.Nothing → ⊥ }
     ensures value { IfOk result (λ answer.
-        AnswersFrom (asked_of line.now) answer opened engine.new) }
+        AnswersFrom config.now (asked_of line.now) answer met engine.new) }
 {
     match line {
-        Line::Reopen => Ok(reopen(engine, opened)),
-        Line::Crash(choice) => crash(alloc, engine, opened, choice),
+        Line::Reopen => Ok(reopen(engine, met)),
+        Line::Crash(left) => crash(alloc, config, engine, met, left),
         Line::Call(call) => {
-            let mut opened = opened;
-            let outcome = answer_call(alloc, &mut opened, call)?;
-            *engine = Some(opened);
+            let mut met = met;
+            let outcome = answer_call(alloc, &mut met, call)?;
+            *engine = Some(met);
             Ok(Answer::Outcome(outcome))
         }
-        Line::Range(group) => {
-            let range = range_of(&opened, *group);
-            *engine = Some(opened);
-            Ok(Answer::Range(range))
-        }
-        Line::Scan(group) => {
-            let pairs = pairs_of(alloc, &opened, *group);
-            *engine = Some(opened);
-            Ok(Answer::Pairs(pairs))
-        }
-        Line::Span(queue) => {
-            let span = opened.file_span(*queue);
-            *engine = Some(opened);
-            Ok(Answer::Span(span))
+        Line::Look(look) => {
+            let answer = answer_look(alloc, &met, look);
+            *engine = Some(met);
+            Ok(answer)
         }
         Line::Nothing => Ok(Answer::Nothing),
+    }
+}
+
+fn answer_look<F: FileSystem>(alloc: Global, engine: &Engine<F>, look: &Look) -> Answer
+    ensures value { AnswersLook (asked_of_look look.now) result engine.now }
+{
+    match look {
+        Look::Range(group) => Answer::Range(range_of(engine, *group)),
+        Look::Scan(group) => Answer::Pairs(pairs_of(alloc, engine, *group)),
+        Look::Span(queue) => Answer::Span(engine.file_span(*queue)),
     }
 }
 
@@ -197,36 +283,38 @@ fn range_of<F: FileSystem>(engine: &Engine<F>, group: u64) -> Option<(u64, u64)>
     Some((first, last))
 }
 
-fn settings(alloc: Global) -> Result<Config, AllocError>
-    ensures folder { IfOk result (λ config. folders_in config ≡ program_folders) }
+fn open(alloc: Global, config: &Config) -> Result<Opening, AllocError>
+    ensures value { IfOk result (λ opening. MatchResult opening (IsMetBy config.now None)
+        (λ r. IsOpeningFault config.now no_files r.fault)) }
 {
-    let mut config = Config::fresh(alloc);
-    config.dir.push_str(FOLDER)?;
-    config.target_file_size = ReadableSize::kb(1);
-    config.purge_threshold = ReadableSize::kb(10);
-    Ok(config)
+    let copy = copied(config)?;
+    Ok(Engine::open_in_order(alloc, copy, MemoryFileSystem::new(alloc)))
 }
 
-fn open(alloc: Global) -> Result<Opening, AllocError>
-    ensures value { IfOk result (λ opening. IfOk opening (IsMetBy None)) }
+fn copied(config: &Config) -> Result<Config, AllocError>
+    ensures value { IfOk result (IsCopy config.now) }
 {
-    let config = settings(alloc)?;
-    Ok(Engine::open_in_order(alloc, config, MemoryFileSystem::new(alloc)))
+    match config.clone() {
+        Ok(copy) => Ok(copy),
+        Err(_) => Err(AllocError),
+    }
 }
 
 // The engine goes as it is, and its files as the crash leaves them are opened again.
 fn crash(
     alloc: Global,
+    config: &Config,
     engine: &mut Option<MemoryEngine>,
-    opened: MemoryEngine,
+    met: MemoryEngine,
     left: &CrashChoice,
 ) -> Result<Answer, AllocError>
-    ensures value { IfOk result (λ answer. OpensTo answer engine.new (HoldsAfterCrash opened)) }
+    ensures value { IfOk result (λ answer. OpensTo answer engine.new
+        (HoldsAfterCrash (folders_in config.now) met) (IsCrashFault config.now met)) }
 {
     crash_leaves_contents();
-    let config = settings(alloc)?;
-    match crashed(alloc, opened.give_up(), left) {
-        Ok(files) => Ok(open_again(alloc, engine, config, files)),
+    let copy = copied(config)?;
+    match crashed(alloc, config, met.give_up(), left) {
+        Ok(files) => Ok(open_again(alloc, engine, copy, files)),
         Err(fault) => Ok(Answer::Fatal(fault)),
     }
 }
@@ -238,15 +326,16 @@ fn open_again<F: FileSystem + Drop>(
     files: F,
 ) -> Answer
     ensures value { let dir = folders_in config in OpensTo result engine.new (IsNewWith dir
-        (contents_at dir (F.directory files)) (known_at dir (F.directory files))) }
+        (contents_at dir (F.directory files)) (known_at dir (F.directory files)))
+        (IsOpeningFault config (F.directory files)) }
 {
     answer_opening(engine, Engine::open_in_order(alloc, config, files))
 }
 
-fn reopen<F: FileSystem + Drop>(engine: &mut Option<Engine<F>>, opened: Engine<F>) -> Answer
-    ensures value { OpensTo result engine.new (IsReopened opened) }
+fn reopen<F: FileSystem + Drop>(engine: &mut Option<Engine<F>>, met: Engine<F>) -> Answer
+    ensures value { OpensTo result engine.new (IsReopened met) (IsReopenFault met) }
 {
-    answer_opening(engine, opened.reopen())
+    answer_opening(engine, met.reopen())
 }
 
 fn answer_opening<F: FileSystem + Drop>(
@@ -268,31 +357,55 @@ fn answer_opening<F: FileSystem + Drop>(
 // What a crash leaves where it does the same to every file.
 fn crashed(
     alloc: Global,
+    config: &Config,
     mut files: MemoryFileSystem,
     left: &CrashChoice,
 ) -> Result<MemoryFileSystem, Fault>
     ensures value { IfOk result (λ again. (image : CrashImage)
         × Leaves (memory_directory files) image
         × IsRestarted (memory_directory files) image (memory_directory again)) }
+    ensures cause { IfErr result IsStorageOrMemory }
 {
-    let count = count_files(alloc, &mut files)?;
+    let count = count_files(alloc, config, &mut files)?;
+    files.crash(&choices_of(alloc, count, left)?)
+}
+
+// The same for so many files.
+fn choices_of(alloc: Global, count: usize, left: &CrashChoice) -> Result<Vec<Choice>, AllocError>
+    ensures bytes { IfOk result (λ choices. NameNoBytes choices.items) }
+{
     let mut choices = Vec::with_capacity(alloc, count)?;
     for _ in 0..count {
         choices.push(choice_of(left))?;
     }
-    files.crash(&choices)
+    Ok(choices)
 }
 
-fn count_files<F: FileSystem>(alloc: Global, files: &mut F) -> Result<usize, Fault>
+// How many files stand in the folders of the settings.
+fn count_files<F: FileSystem>(alloc: Global, config: &Config, files: &mut F) -> Result<usize, Fault>
     ensures unchanged { F.directory files.new ≡ F.directory files.old }
+    ensures cause { IfErr result IsStorageOrMemory }
 {
-    match files.list(FOLDER) {
-        Ok(names) => Ok(names.len()),
-        Err(fault) => Err(fault.with_path(alloc, FOLDER)),
+    let count = count_in(alloc, config.dir.as_str(), files)?;
+    match &config.spill_dir {
+        Some(spill) => Ok(count.saturating_add(count_in(alloc, spill.as_str(), files)?)),
+        None => Ok(count),
     }
 }
 
-fn choice_of(left: &CrashChoice) -> Choice {
+fn count_in<F: FileSystem>(alloc: Global, folder: &str, files: &mut F) -> Result<usize, Fault>
+    ensures unchanged { F.directory files.new ≡ F.directory files.old }
+    ensures cause { IfErr result IsStorageOrMemory }
+{
+    match files.list(folder) {
+        Ok(names) => Ok(names.len()),
+        Err(fault) => Err(fault.with_path(alloc, folder)),
+    }
+}
+
+fn choice_of(left: &CrashChoice) -> Choice
+    ensures bytes { NamesNoBytes result }
+{
     match left {
         CrashChoice::All => Choice::All,
         CrashChoice::Synced => Choice::Synced,

@@ -14,20 +14,8 @@ answer_call-requires-send-F c = λ κs. search (sendable, memory_send) depth 20
 pub answer_call-requires-sync-F : goal.answer_call-requires-sync-F
 answer_call-requires-sync-F c = λ κs. search (sendable, memory_sync) depth 20
 
-pub range_of-range-requires-send-F : goal.range_of-range-requires-send-F
-range_of-range-requires-send-F c = λ κs. search (sendable, memory_send) depth 20
+pub answer_look-answer-requires-send-F : goal.answer_look-answer-requires-send-F
+answer_look-answer-requires-send-F c = λ κs. search (sendable, memory_send) depth 20
 
-pub range_of-range-requires-sync-F : goal.range_of-range-requires-sync-F
-range_of-range-requires-sync-F c = λ κs. search (sendable, memory_sync) depth 20
-
-pub pairs_of-pairs-requires-send-F : goal.pairs_of-pairs-requires-send-F
-pairs_of-pairs-requires-send-F c = λ κs. search (sendable, memory_send) depth 20
-
-pub pairs_of-pairs-requires-sync-F : goal.pairs_of-pairs-requires-sync-F
-pairs_of-pairs-requires-sync-F c = λ κs. search (sendable, memory_sync) depth 20
-
-pub file_span-span-requires-send-F : goal.file_span-span-requires-send-F
-file_span-span-requires-send-F c = λ κs. search (sendable, memory_send) depth 20
-
-pub file_span-span-requires-sync-F : goal.file_span-span-requires-sync-F
-file_span-span-requires-sync-F c = λ κs. search (sendable, memory_sync) depth 20
+pub answer_look-answer-requires-sync-F : goal.answer_look-answer-requires-sync-F
+answer_look-answer-requires-sync-F c = λ κs. search (sendable, memory_sync) depth 20

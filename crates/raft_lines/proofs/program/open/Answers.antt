@@ -1,7 +1,7 @@
 use denote.Param.Send.{sendable}
-use Rattle.std.proofs.Common.{◌≡◌, ◌∙◌, []}
+use Rattle.std.proofs.Common.{◌≡◌, ◌∙◌, [], None}
 use Rattle.raft_memory.proofs.Sent.{memory_send, memory_sync}
-use Rattle.raft_memory.specs.Memory.{memory_directory}
+use Rattle.raft_memory.specs.Memory.{memory_directory, memory_refusals, no_files}
 use Rattle.raft_base.specs.declared.pipe_log.LogQueue.{LogQueue}
 use Rattle.raft_base.specs.declared.pipe_log.LogQueue.TheVariants.{Append, Rewrite}
 use Rattle.raft_records.specs.Contents.{no_contents}
@@ -10,9 +10,9 @@ use Rattle.raft_pipes.specs.Folder.{readable_queue}
 use Rattle.raft_config.specs.Folders.{folders_in}
 use Rattle.raft_recovery.proofs.ContentsLemmas.{recovered-nothing_rewritten}
 use Rattle.raft_log_engine.proofs.CrashLemmas.{same_groups, same_queues}
-use Rattle.raft_lines.proofs.ProgramLemmas.{opened_in, opened_with}
-use Rattle.raft_script.proofs.TrialLemmas.{none_readable}
-use Rattle.raft_lines.specs.Program.{program_folders}
+use Rattle.raft_lines.proofs.ProgramLemmas.{opened_in, opened_or_copy, opened_or_refused, opened_with}
+use Rattle.raft_script.proofs.TrialLemmas.{none_readable, same_folders}
+use Rattle.raft_lines.specs.Program.{IsMetBy}
 use Rattle.raft_lines.proofs.program.open.Goals as goal
 
 pub open_in_order-requires-send-F : goal.open_in_order-requires-send-F
@@ -23,10 +23,12 @@ open_in_order-requires-sync-F c = λ κs. search (sendable, memory_sync) depth 2
 
 pub returns : goal.returns
 returns c =
-    let dir = folders_in c.in_ok-config.config in
+    let config = c.args.config.now in
+    let copy = c.in_ok-copy.copy in
+    let dir = folders_in copy in
     let files = memory_directory c.new.result in
+    let same = same_folders config copy c.in_ok-copy.ensures.value in
     let none : (queue : LogQueue) → readable_queue queue dir files ≡ [] = λ queue. none_readable queue dir files c.new.ensures.value in
-    record {
-      value = opened_in dir program_folders files no_contents (known_in []) c.open_in_order.result c.in_ok-config.ensures.folder (same_queues dir files [] [] (none Rewrite) (none Append) ∙ recovered-nothing_rewritten []) (same_groups dir files [] [] (none Rewrite) (none Append))
-          (opened_with dir files c.open_in_order.result c.open_in_order.ensures.ok c.open_in_order.ensures.value);
-    }
+    let opened = opened_in dir (folders_in config) files no_contents (known_in []) c.open_in_order.result same (same_queues dir files [] [] (none Rewrite) (none Append) ∙ recovered-nothing_rewritten []) (same_groups dir files [] [] (none Rewrite) (none Append))
+    (opened_with dir files c.open_in_order.result c.open_in_order.ensures.ok c.open_in_order.ensures.value) in
+    record { value = opened_or_copy (IsMetBy config None) config copy files no_files c.open_in_order.result c.in_ok-copy.ensures.value c.new.ensures.value (opened_or_refused (IsMetBy config None) _ copy files (memory_refusals c.new.result) memory_refusals c.open_in_order.result opened c.open_in_order.ensures.refused) }
