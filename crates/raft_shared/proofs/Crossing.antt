@@ -191,7 +191,7 @@ module _ (F H R W : RattleType) (g : Ghosts F.Denot H.Denot R.Denot W.Denot) whe
       struct_send (shape (engine.the_type F H R W g)) (engine_parts f w),
       (
         search (sendable, items.crosses, recorded_call_send) depth 20,
-        (search sendable, (search sendable, (history_send (engine.the_row F H R W g) (engine_send f w), tt))),
+        (search sendable, (search sendable, (history_send (engine.the_row F H R W g) (engine_send f w), (history_send (engine.the_row F H R W g) (engine_send f w), tt)))),
       ),
     ),
   )

@@ -1,5 +1,5 @@
 -- What there was of an engine when it was shared.
-use Rattle.std.specs.Prelude.{suc, nat_le, ◌||◌, ◌+◌, ◌-◌, ◌^◌, ◌≤◌, min, Bool, false, List, [], ◌∷◌}
+use Rattle.std.specs.Prelude.{suc, nat_le, ◌+◌, ◌-◌, ◌^◌, ◌≤◌, min, Bool, false, List, [], ◌∷◌}
 use Rattle.raft_records.specs.Contents.{Contents, no_contents}
 use Rattle.raft_env.specs.Refusal.{Refusals, no_refusals}
 use Rattle.raft_env.specs.declared.env.FileSystem.{Ghosts}
@@ -24,10 +24,14 @@ module _ {F H R W : Type 0} {g : Ghosts F H R W} where
   refusals_in [] = no_refusals
   refusals_in (engine ∷ _) = refusals_of engine
 
-  -- no number may be left for a log file behind its last one; of one that has failed it isn't known
-  abbrev pub may_lack_numbers : Engine F H R W g → Bool
-  may_lack_numbers engine =
-      has_failed engine || nat_le (10 ^ 16) (suc (last_seq (queue_of engine)))
+  -- no number is left for a log file behind the last one
+  abbrev pub lacks_numbers : Engine F H R W g → Bool
+  lacks_numbers engine = nat_le (10 ^ 16) (suc (last_seq (queue_of engine)))
+
+  -- .. of an engine as it was
+  abbrev pub lacks_numbers_in : List (Engine F H R W g) → Bool
+  lacks_numbers_in [] = false
+  lacks_numbers_in (engine ∷ _) = lacks_numbers engine
 
 -- storage refused at least as many calls since as the history has answers that say so, or its count
 -- is full

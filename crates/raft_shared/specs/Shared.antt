@@ -1,5 +1,5 @@
 -- What a shared engine shows, and what its calls add to its history.
-use Rattle.std.specs.Prelude.{◌≡◌, ℕ, Bool, List, [], ◌∷◌, ◌++◌, length, map, Option, Result, Vec, option_map}
+use Rattle.std.specs.Prelude.{◌≡◌, ℕ, Bool, List, [], ◌∷◌, ◌++◌, if◌then◌else◌, length, map, Option, Result, Vec, option_map}
 use Rattle.std.specs.declared.alloc.Global.{Global}
 use Rattle.raft_base.specs.declared.errors.Fault.{Fault}
 use Rattle.raft_env.specs.Refusal.{Refusals}
@@ -8,7 +8,7 @@ use Rattle.raft_records.specs.Contents.{Contents}
 use Rattle.raft_records.specs.Item.{Batch}
 use Rattle.raft_log_engine.specs.Engine.{has_failed}
 use Rattle.raft_log_engine.specs.declared.engine.Engine.{Engine}
-use Rattle.raft_shared.specs.Begun.{contents_in, failed_in, refusals_in}
+use Rattle.raft_shared.specs.Begun.{contents_in, failed_in, lacks_numbers, lacks_numbers_in, refusals_in}
 use Rattle.raft_shared.specs.Calls.{IsGet, IsSync, IsWrite}
 use Rattle.raft_shared.specs.History.{Answer, Asked, Done, Event, Get, Index, Size, Sync, Value, Write}
 use Rattle.raft_shared.specs.Words.{Told, answer_by, event_of, told_by}
@@ -48,6 +48,10 @@ module _ {F H R W : Type 0} {g : Ghosts F H R W} where
   abbrev pub refusals_at_new : Shared F H R W g → Refusals
   refusals_at_new shared = refusals_in shared.begun.items
 
+  -- whether numbers of log files had ended when a write last left the engine standing, or at `new`
+  abbrev pub had_ended : Shared F H R W g → Bool
+  had_ended shared = lacks_numbers_in shared.written.items
+
   -- what it was at `new`, its limit and its seats are as before
   pub record IsSameShared (old new : Shared F H R W g) : Type 0 where
     pub base : base_of new ≡ base_of old
@@ -63,12 +67,14 @@ module _ {F H R W : Type 0} {g : Ghosts F H R W} where
     pub base : base_of new ≡ base_of old
     pub failed : had_failed new ≡ had_failed old
     pub refusals : refusals_at_new new ≡ refusals_at_new old
+    pub ended : had_ended new ≡ had_ended old
     pub limit : limit_of new ≡ limit_of old
 
   -- nothing was recorded, and the engine is as it was
   pub record HasRecordedNothing (old new : Shared F H R W g) (seat seat' : Seat) : Type 0 where
     pub same : IsSameShared old new
     pub engine : engine_of new ≡ engine_of old
+    pub ended : had_ended new ≡ had_ended old
     pub history : history_of new ≡ history_of old
     pub number : seat'.number ≡ seat.number
     pub receipts : receipts_of seat' ≡ receipts_of seat
@@ -89,6 +95,8 @@ module _ {F H R W : Type 0} {g : Ghosts F H R W} where
       (seat seat' : Seat) (receipt : Receipt) : Type 0 where
     pub result : Result ℕ Fault
     pub write : IsWrite items rest sync (engine_of old) (engine_of new) result
+    pub ended : had_ended new ≡ (if has_failed (engine_of new) then had_ended old
+        else lacks_numbers (engine_of new))
     pub recorded : HasRecorded (Write items sync) (Size (answer_by (λ n. n) result)) old new seat
         seat' receipt
 
@@ -97,6 +105,7 @@ module _ {F H R W : Type 0} {g : Ghosts F H R W} where
       : Type 0 where
     pub result : Result (Unit {0}) Fault
     pub sync : IsSync (engine_of old) (engine_of new) result
+    pub ended : had_ended new ≡ had_ended old
     pub recorded : HasRecorded Sync (Done (answer_by (λ _. tt) result)) old new seat seat' receipt
 
   -- .. looked a key up
@@ -105,6 +114,7 @@ module _ {F H R W : Type 0} {g : Ghosts F H R W} where
     pub result : Result (Option (Vec ℕ Global)) Fault
     pub get : IsGet group key (engine_of old) result
     pub engine : engine_of new ≡ engine_of old
+    pub ended : had_ended new ≡ had_ended old
     pub recorded : HasRecorded (Get group key) (Value (answer_by (option_map (λ v. v.items)) result))
         old new seat seat' receipt
 
@@ -114,4 +124,5 @@ module _ {F H R W : Type 0} {g : Ghosts F H R W} where
     pub index : Option ℕ
     pub index_is : has_failed (engine_of old) ≡ Bool.false → index ≡ is
     pub engine : engine_of new ≡ engine_of old
+    pub ended : had_ended new ≡ had_ended old
     pub recorded : HasRecorded asked (Index index) old new seat seat' receipt
