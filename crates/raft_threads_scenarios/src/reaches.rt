@@ -27,7 +27,7 @@ struct Case {
     left: &'static [u64],
 }
 
-static CASES: [Case; 9] = [
+static CASES: [Case; 4] = [
     Case {
         name: "a hole in the newer chunk, and a compaction",
         older: &[Step::Entries(1, 10)],
@@ -43,13 +43,6 @@ static CASES: [Case; 9] = [
         left: &[1, 2],
     },
     Case {
-        name: "entries right behind",
-        older: &[Step::Entries(1, 2)],
-        newer: &[Step::Entries(3, 4)],
-        replaces: false,
-        left: &[1, 2],
-    },
-    Case {
         name: "the least start isn't the first one",
         older: &[Step::Entries(1, 5)],
         newer: &[Step::Entries(4, 6), Step::Entries(2, 2)],
@@ -57,39 +50,11 @@ static CASES: [Case; 9] = [
         left: &[1],
     },
     Case {
-        name: "the older end is that of the latest item",
-        older: &[Step::Entries(1, 5), Step::Entries(2, 3)],
-        newer: &[Step::Entries(5, 5)],
-        replaces: true,
-        left: &[1, 2, 3, 4],
-    },
-    Case {
-        name: "a compaction alone",
-        older: &[Step::Entries(1, 5)],
-        newer: &[Step::Compact(4)],
-        replaces: false,
-        left: &[4, 5, 6, 7, 8, 9],
-    },
-    Case {
         name: "a clean leaves nothing",
         older: &[Step::Entries(1, 5)],
         newer: &[Step::Entries(6, 6), Step::Clean, Step::Put],
         replaces: false,
         left: &[],
-    },
-    Case {
-        name: "entries behind a clean",
-        older: &[Step::Entries(1, 2), Step::Clean],
-        newer: &[Step::Entries(7, 8)],
-        replaces: false,
-        left: &[1, 2, 3, 4, 5, 6],
-    },
-    Case {
-        name: "puts reach nothing",
-        older: &[Step::Put],
-        newer: &[Step::Put, Step::Put],
-        replaces: false,
-        left: &[1, 2, 3, 4, 5, 6, 7, 8, 9],
     },
 ];
 
