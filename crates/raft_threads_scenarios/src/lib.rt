@@ -1,0 +1,7 @@
+//! Tests of chunks of batches, and of workers in threads.
+#![tactic(auto)]
+
+#[cfg(test)]
+mod meeting;
+#[cfg(test)]
+mod reaches;
