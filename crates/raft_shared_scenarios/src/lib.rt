@@ -1,0 +1,5 @@
+//! Tests of threads over one engine.
+#![tactic(auto)]
+
+#[cfg(test)]
+mod threads;
