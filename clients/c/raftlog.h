@@ -9,7 +9,8 @@
  * A log may be used by many threads: a mutex in it lets one call in at a time. A batch, a buffer and what points into it
  * belong to one thread at a time. No log may be used in a child that was forked, or in a signal's handler.
  *
- * What the engine does is proved: of a call that answers 0, that the log has done what is said here. Trusted are the
+ * What the engine does is proved: of a call that answers 0, that the log has done what is said here, but for a close and
+ * for the numbers of indexes and counts, which no clause of the exports says yet. Trusted are the
  * files beside this one: that one call at a time is let in, with pointers that are valid and a log that is open; that
  * their prototypes of the proved functions are these functions'; and that each change of a file that a call ordered was
  * carried out before the call is answered. */
