@@ -7,11 +7,11 @@ use Rattle.raft_tables.specs.Table.{TableView, value_at}
 use Rattle.raft_tables.specs.Tables.{or_empty}
 use Rattle.raft_log_engine.specs.Image.{entries_of}
 use Rattle.raft_log_engine.specs.Reads.{are_readable_at}
-use Rattle.raft_queues.specs.Dual.{both_blocks_now}
+use Rattle.raft_entry_blocks.specs.Reader.{blocks_of}
 use Rattle.raft_log_engine.proofs.engine.image.group_image.Goals as goal
 
 pub returns-in_default-clause-value : goal.returns-in_default-clause-value
-returns-in_default-clause-value g c = c.in_default.ensures.none (both_blocks_now c.args.pipes.now (g.F.FileSystem.directory c.args.file_system.now))
+returns-in_default-clause-value g c = c.in_default.ensures.none (blocks_of c.args.reader.now)
 
 pub group_entries-requires-clause-readable : goal.group_entries-requires-clause-readable
 group_entries-requires-clause-readable g c = λ lifetimes order blocks has.
@@ -19,7 +19,7 @@ group_entries-requires-clause-readable g c = λ lifetimes order blocks has.
 
 pub returns-clause-value : goal.returns-clause-value
 returns-clause-value g c =
-    let blocks = both_blocks_now c.args.pipes.now (g.F.FileSystem.directory c.args.file_system.now) in
+    let blocks = blocks_of c.args.reader.now in
     let is = c.in-Some.ensures.value in
     let entries = c.in_ok-entries.ensures.ok ∙ ap (λ (o : Option TableView). entries_in blocks (or_empty o).entries) (sym is) in
     let keys = subst (λ (o : Option TableView). IsListing (value_at (or_empty o)) (listed c.in_ok-pairs.pairs.items)) (sym is) c.in_ok-pairs.ensures.value in (
