@@ -12,13 +12,14 @@ use std::test::Fail;
 /// A file of a queue, where bytes begin in it and how many, and these bytes or the code with which reading them fails.
 type Row = (LogQueue, u64, u64, usize, Result<&'static [u8], u8>);
 
-static ROWS: [Row; 7] = [
+static ROWS: [Row; 8] = [
     (LogQueue::Append, 1, 69, 28, Ok(PUT_1)),
     (LogQueue::Append, 2, 69, 28, Ok(PUT_2)),
     (LogQueue::Rewrite, 1, 69, 28, Ok(PUT_1)),
     (LogQueue::Rewrite, 1, 97, 28, Ok(b"")),
     (LogQueue::Append, 0, 69, 28, Err(14)),
     (LogQueue::Append, 3, 69, 28, Err(14)),
+    (LogQueue::Append, 12, 69, 13, Err(14)),
     (LogQueue::Rewrite, 2, 69, 28, Err(14)),
 ];
 

@@ -20,6 +20,10 @@ const MAIN_2: Stored = ("data", "data/0000000000000002.raftlog", &[HEADER, PUT_2
 
 const MAIN_3: Stored = ("data", "data/0000000000000003.raftlog", &[HEADER]);
 
+const MAIN_11: Stored = ("data", "data/0000000000000011.raftlog", &[HEADER]);
+
+const MAIN_12: Stored = ("data", "data/0000000000000012.raftlog", &[HEADER]);
+
 const SPILL_1: Stored = ("more", "more/0000000000000001.raftlog", &[HEADER, PUT_1]);
 
 const SPILL_2: Stored = (
@@ -37,7 +41,7 @@ struct Scan {
     kept: &'static [(&'static str, bool)],
 }
 
-static SCANS: [Scan; 8] = [
+static SCANS: [Scan; 9] = [
     Scan {
         name: "no files",
         stored: &[],
@@ -79,6 +83,14 @@ static SCANS: [Scan; 8] = [
         name: "a doubled number before a hole",
         stored: &[MAIN_1, SPILL_1, MAIN_3],
         kept: &[("data/0000000000000003.raftlog", true)],
+    },
+    Scan {
+        name: "three files before a hole of seven numbers",
+        stored: &[MAIN_1, MAIN_2, MAIN_3, MAIN_11, MAIN_12],
+        kept: &[
+            ("data/0000000000000011.raftlog", true),
+            ("data/0000000000000012.raftlog", true),
+        ],
     },
     Scan {
         name: "a file of the other queue",

@@ -21,14 +21,13 @@ ghost use Rattle.raft_config.specs.declared.config.RecoveryMode.TheVariants.{Abs
 use crate::Engine;
 use raft_env::FileSystem;
 
-/// Folders that keep contents through a crash leave them then, possibly with a prefix of the batches
-/// after them, where damage is detectable. A restart after a crash finds what the crash left. Where
-/// that is sound, it keeps it, its log can be opened in each mode but the absolute one, and no
-/// folder's place is taken (`AreClear`), nor does a kept number stand in both folders
-/// (`AreSingleIn`). Where no log stands, nothing is read and nothing is kept.
-/// Files that no crash met, as an engine gave them up, stand for what a crash could leave, and their
-/// log can be opened, where their damage is detectable: what a failed write left of its record may
-/// be any bytes.
+/// Folders that keep contents through a crash leave them then, possibly with a prefix of the
+/// batches after them, where damage is detectable. A restart after a crash finds what the crash
+/// left. Where that is sound, it keeps it, its log can be opened in each mode but the absolute one,
+/// and no folder's place is taken (`AreClear`), nor does a kept number stand in both folders
+/// (`AreSingleIn`). Where no log stands, nothing is read and nothing is kept. Files that no crash
+/// met, as an engine gave them up, stand for what a crash could leave, and their log can be opened,
+/// where their damage is detectable: what a failed write left of its record may be any bytes.
 pub fn crash_leaves_contents()
     ensures left { (folders : Folders) (m : Contents) (batches : List Batch) (n : Directory)
         → RecoversContents folders m batches n → LeavesAllowed folders m batches n }
@@ -58,8 +57,9 @@ pub fn crash_leaves_contents()
     raft_queues::laws::crash_leaves_a_prefix();
 }
 
-/// What an engine keeps a crash leaves now: what is durable, and a prefix of what is unsynced, and so while no call
-/// changes its files, with any batches more. Both make up what an engine holds that hasn't failed.
+/// What an engine keeps a crash leaves now: what is durable, and a prefix of what is unsynced, and
+/// so while no call changes its files, with any batches more. Both make up what an engine holds
+/// that hasn't failed.
 pub fn an_engine_recovers_what_it_keeps<F: FileSystem>(engine: &Engine<F>)
     ensures crash { LeavesAllowed (folders_of engine.now) (durable_of engine.now)
         (unsynced_of engine.now) (directory_of engine.now) }
@@ -71,10 +71,11 @@ pub fn an_engine_recovers_what_it_keeps<F: FileSystem>(engine: &Engine<F>)
 {}
 
 /// The premise on damage can be met of an engine that hasn't failed. If its opening found no record
-/// of a failed call in the log (as after a crash, where no log stood, or after a `close` or `reopen`
-/// of an engine of which that is true), and of the log's calls, also those before the opening, only
-/// writes failed, and the log was never renamed, the damage of a crash that leaves every file with all its
-/// bytes now, or with those of its last sync, is detectable (`AreConsistent`: as in memory always).
+/// of a failed call in the log (as after a crash, where no log stood, or after a `close` or
+/// `reopen` of an engine of which that is true), and of the log's calls, also those before the
+/// opening, only writes failed, and the log was never renamed, the damage of a crash that leaves
+/// every file with all its bytes now, or with those of its last sync, is detectable
+/// (`AreConsistent`: as in memory always).
 pub fn the_damage_of_an_engine_is_detectable<F: FileSystem>(engine: &Engine<F>)
     ensures crash { let folders = folders_of engine.now in let n = directory_of engine.now in
         has_failed engine.now ≡ false → FoundCompletedRecords engine.now
@@ -84,7 +85,8 @@ pub fn the_damage_of_an_engine_is_detectable<F: FileSystem>(engine: &Engine<F>)
     raft_damage::laws::damage_of_a_queue_is_detectable();
 }
 
-/// A next log file that the queue of an engine that hasn't failed goes on to has the settings' version.
+/// A next log file that the queue of an engine that hasn't failed goes on to has the settings'
+/// version.
 pub fn new_files_have_the_settings_version<F: FileSystem>(engine: &Engine<F>)
     ensures version { has_failed engine.now ≡ false → (queue_of engine.now).format_version
         ≡ (settings_of engine.now).format_version }

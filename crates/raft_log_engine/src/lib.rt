@@ -1,5 +1,5 @@
-//! The engine: writes batches to its log, keeps an index of what they hold, and finds it again at an
-//! opening. What its public calls name is named here again.
+//! The engine: writes batches to its log, keeps an index of what they hold, and finds it again at
+//! an opening. What its public calls name is named here again.
 #![tactic(auto)]
 
 pub mod engine;

@@ -29,7 +29,8 @@ enum Call {
     Message(&'static [u8], bool),
     /// .. or no message: it fails with this code.
     NoMessage(&'static [u8], u8),
-    /// So many batches with so many flags fail as a group with this code, and the first keeps its item.
+    /// So many batches with so many flags fail as a group with this code, and the first keeps its
+    /// item.
     Group(usize, usize, u8),
 }
 
@@ -72,7 +73,11 @@ fn puts(alloc: Global, batch: &mut LogBatch, call: &Call) -> Result<(), Fault> {
     }
 }
 
-fn writes<F: FileSystem>(alloc: Global, engine: &mut Engine<F>, call: &Call) -> Result<bool, Fault> {
+fn writes<F: FileSystem>(
+    alloc: Global,
+    engine: &mut Engine<F>,
+    call: &Call,
+) -> Result<bool, Fault> {
     let mut batch = LogBatch::new(alloc);
     puts(alloc, &mut batch, call)?;
     Ok(engine.write(&mut batch, false)? > 0)

@@ -54,8 +54,8 @@ impl Blocks {
     }
 }
 
-/// What as many blocks of as many bytes take through checksum and copy alone: the ceilings of records or of values.
-/// Answers the checksum of all passes.
+/// What as many blocks of as many bytes take through checksum and copy alone: the ceilings of
+/// records or of values. Answers the checksum of all passes.
 pub(crate) fn add_ceilings<R: Host>(
     rt: &R,
     report: &mut Report,

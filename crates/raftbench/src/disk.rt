@@ -1,4 +1,5 @@
-//! Workloads over a folder of the operating system, each beside bare calls on one file of as many bytes.
+//! Workloads over a folder of the operating system, each beside bare calls on one file of as many
+//! bytes.
 
 use crate::blocks::filled;
 use crate::log::open;
@@ -121,7 +122,8 @@ fn put_all<F: FileSystem>(
     Ok(Run { opening, puts })
 }
 
-// As many bytes at the end of a new file: a write, and a sync where there is one, for the puts that share a sync.
+// As many bytes at the end of a new file: a write, and a sync where there is one, for the puts that
+// share a sync.
 fn write_bare(rt: &HostRuntime, place: &str, load: Load, bytes: u64) -> Result<Taken> {
     let path = format!(in rt.alloc(); "{place}.bare")?;
     let each = load.sync_each.max(1);

@@ -17,8 +17,16 @@ use std::io;
 /// How many entries a fetch asks for.
 const FETCH_LEN: u64 = 100;
 
+/// How many blocks a read of few blocks comes back to.
+const BLOCKS: u64 = 12;
+
 /// What is read of the entries that were appended.
-const READS: [Part; 3] = [Part::Entry, Part::EntryInOrder, Part::Fetch];
+const READS: [Part; 4] = [
+    Part::Entry,
+    Part::EntryInOrder,
+    Part::EntryAgain,
+    Part::Fetch,
+];
 
 /// An entry: its bytes, of which the first eight are its index.
 #[derive(Drop)]
@@ -65,8 +73,8 @@ pub(crate) struct Place {
     index: u64,
 }
 
-/// Appends of entries, reads of them in no order and in order, and fetches, over one engine. Answers the bytes of log
-/// for each entry.
+/// Appends of entries, reads of them in no order and in order, and fetches, over one engine.
+/// Answers the bytes of log for each entry.
 pub(crate) fn append_entry_fetch<R: Host, F: FileSystem + Drop>(
     rt: &R,
     report: &mut Report,
@@ -84,7 +92,7 @@ fn append_and_read<R: Host, F: FileSystem>(
     load: Load,
 ) -> Result<usize> {
     let len = run_part(rt, report, engine, Part::Append, load)?;
-    let mut read = [0; 3];
+    let mut read = [0; 4];
     for (part, figure) in READS.iter().zip(read.iter_mut()) {
         *figure = run_part(rt, report, engine, *part, load)?;
     }
@@ -97,13 +105,14 @@ fn print_figures<R: Host>(
     name: &str,
     count: u64,
     len: u64,
-    read: [u64; 3],
+    read: [u64; 4],
 ) -> io::Result<()> {
-    let [sum, sum_in_order, fetched] = read;
+    let [sum, sum_in_order, sum_again, fetched] = read;
     println!(rt;
         "{name}: {count} entries, {len} bytes of log\n  \
          entry: checksum {sum:08x}\n  \
          entry-in-order: checksum {sum_in_order:08x}\n  \
+         entry-again: checksum {sum_again:08x}\n  \
          fetch: {fetched} entries"
     )
 }
@@ -159,6 +168,20 @@ pub(crate) fn places_in_order<F: FileSystem>(
     Ok(places)
 }
 
+/// Places in the first blocks of twelve groups, a block after another, over and over.
+pub(crate) fn places_again(alloc: Global, load: Load) -> Result<Vec<Place>, AllocError> {
+    let mut places = Vec::new(alloc);
+    let mut state = 1u64;
+    for number in 0..load.count {
+        state = next_state(state);
+        places.push(Place {
+            group: number % BLOCKS,
+            index: (state >> 32) % load.batch_len.max(1) + 1,
+        })?;
+    }
+    Ok(places)
+}
+
 /// The checksum of the entries at these places.
 pub(crate) fn read_each<F: FileSystem>(
     engine: &mut Engine<F>,
@@ -173,7 +196,8 @@ pub(crate) fn read_each<F: FileSystem>(
     Ok(sum as u64)
 }
 
-/// Fetches from every hundredth place on, as far as its group goes. Answers how many entries they had.
+/// Fetches from every hundredth place on, as far as its group goes. Answers how many entries they
+/// had.
 pub(crate) fn fetch_each<F: FileSystem>(
     alloc: Global,
     engine: &mut Engine<F>,

@@ -23,7 +23,8 @@ struct Figures {
     len: usize,
 }
 
-/// Puts, reads of keys in no order, and a close and an opening, over one engine. Answers the length of a record.
+/// Puts, reads of keys in no order, and a close and an opening, over one engine. Answers the length
+/// of a record.
 pub(crate) fn put_get_reopen<R: Host, F: FileSystem + Drop>(
     rt: &R,
     report: &mut Report,

@@ -1,5 +1,6 @@
-//! Measures the engine over files in memory, or in a folder. Figures that are the same on each run go to standard
-//! output, times to standard error. docs/PERFORMANCE.md has the workloads and what they showed.
+//! Measures the engine over files in memory, or in a folder. Figures that are the same on each run
+//! go to standard output, times to standard error. docs/PERFORMANCE.md has the workloads and what
+//! they showed.
 #![tactic(auto)]
 
 mod blocks;

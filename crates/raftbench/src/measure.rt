@@ -1,4 +1,5 @@
-//! What the parts of a workload took, and how it is printed: on standard error, in one form for all workloads.
+//! What the parts of a workload took, and how it is printed: on standard error, in one form for all
+//! workloads.
 
 use crate::system::{page_faults, value_of};
 use anyhow::Result;
@@ -65,7 +66,8 @@ pub(crate) struct Measure {
     pub longest: Option<u64>,
 }
 
-/// The parts of a workload, and ceilings of the same run, of which the last of each list is held against parts.
+/// The parts of a workload, and ceilings of the same run, of which the last of each list is held
+/// against parts.
 #[derive(Drop)]
 pub(crate) struct Report {
     pub parts: Vec<Measure>,
@@ -87,7 +89,8 @@ impl Report {
         }
     }
 
-    /// Notes the most memory that the program had so far: ceilings, which need memory too, come later.
+    /// Notes the most memory that the program had so far: ceilings, which need memory too, come
+    /// later.
     pub(crate) fn note_memory<R: Host>(&mut self, rt: &R) {
         self.memory = value_of(rt, "/proc/self/status", "VmHWM");
     }

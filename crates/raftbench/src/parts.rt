@@ -2,7 +2,8 @@
 
 use crate::blocks::{filled, mark, next_state};
 use crate::entries::{
-    Entries, Entry, Place, entries_of, fetch_each, places_in_order, places_of, read_each,
+    Entries, Entry, Place, entries_of, fetch_each, places_again, places_in_order, places_of,
+    read_each,
 };
 use crate::log::{Key, get_each, key_of, keys_of};
 use crate::measure::{Against, Host, Measure, Report, Stopwatch, micros_since};
@@ -21,9 +22,10 @@ pub(crate) enum Part {
     Put,
     Get,
     Append,
-    /// Reads of entries in no order, and in order.
+    /// Reads of entries in no order, in order, and of few blocks in turn.
     Entry,
     EntryInOrder,
+    EntryAgain,
     Fetch,
     /// Each group is compacted to its last entries.
     Compact,
@@ -39,6 +41,7 @@ impl Part {
             Part::Get => "  get",
             Part::Entry => "  entry",
             Part::EntryInOrder => "  entry-in-order",
+            Part::EntryAgain => "  entry-again",
             Part::Fetch => "  fetch",
             Part::Compact => "  compact",
             Part::RewriteAppend => "  rewrite-append",
@@ -67,8 +70,8 @@ enum Data {
     Purge(Purge),
 }
 
-/// Does a part and reports what it took. Answers the bytes of records, the keys or entries found, or the checksum of
-/// the entries read.
+/// Does a part and reports what it took. Answers the bytes of records, the keys or entries found,
+/// or the checksum of the entries read.
 pub(crate) fn run_part<R: Host, F: FileSystem>(
     rt: &R,
     report: &mut Report,
@@ -93,7 +96,9 @@ fn run_timed<R: Host, F: FileSystem>(
     let taken = watch.stop(rt)?;
     let (count, bytes, against) = match part {
         Part::Put | Part::Append => (load.count, figure, Against::Records),
-        Part::Get | Part::Entry | Part::EntryInOrder => (load.count, load.bytes(), Against::Values),
+        Part::Get | Part::Entry | Part::EntryInOrder | Part::EntryAgain => {
+            (load.count, load.bytes(), Against::Values)
+        }
         Part::Fetch => (
             figure,
             figure.saturating_mul(load.size as u64),
@@ -133,6 +138,7 @@ fn data_of<F: FileSystem>(
         Part::Get => Ok(Data::Keys(keys_of(alloc, load)?)),
         Part::Entry => Ok(Data::Entries(places_of(alloc, engine, load.count)?)),
         Part::EntryInOrder => Ok(Data::Entries(places_in_order(alloc, engine)?)),
+        Part::EntryAgain => Ok(Data::Entries(places_again(alloc, load)?)),
         Part::Fetch => Ok(Data::Fetches(places_of(alloc, engine, load.count)?)),
         Part::Compact => Ok(Data::Compactions(kept_of(load))),
         Part::RewriteAppend => Ok(Data::Purge(Purge::RewriteAppend)),
@@ -161,7 +167,8 @@ pub(crate) fn batches_of(
     Ok(batches)
 }
 
-// The next number; or the next of a generator whose period is the power of two above all keys, past what is no key.
+// The next number; or the next of a generator whose period is the power of two above all keys, past
+// what is no key.
 fn next_key(key: u64, load: Load) -> u64 {
     if load.is_in_order {
         return key.saturating_add(1) % load.keys.max(1);

@@ -46,7 +46,8 @@ pub(crate) fn compact_each<F: FileSystem>(engine: &mut Engine<F>, kept: u64) -> 
     Ok(dropped)
 }
 
-/// Appends of entries, compactions, and each purge, over one engine. Answers the bytes of log for each entry.
+/// Appends of entries, compactions, and each purge, over one engine. Answers the bytes of log for
+/// each entry.
 pub(crate) fn append_compact_purge<R: Host, F: FileSystem + Drop>(
     rt: &R,
     report: &mut Report,

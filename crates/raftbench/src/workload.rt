@@ -38,11 +38,12 @@ enum Kind {
     Purges,
 }
 
-/// Its name, what it does, after how many operations it syncs (0: never), and the size at which a log file is full.
+/// Its name, what it does, after how many operations it syncs (0: never), and the size at which a
+/// log file is full.
 pub(crate) struct Workload(&'static str, Kind, u64, u64);
 
-/// How many values are written, under how many keys, in order or not, of how many bytes, how many a batch, after how many
-/// to sync (0: never), and the size at which a log file is full.
+/// How many values are written, under how many keys, in order or not, of how many bytes, how many a
+/// batch, after how many to sync (0: never), and the size at which a log file is full.
 #[derive(Clone, Copy)]
 pub(crate) struct Load {
     pub name: &'static str,
@@ -116,7 +117,8 @@ impl Workload {
     }
 }
 
-// Below the parts of a workload stand the ceilings of as many records as it made, and of as many values.
+// Below the parts of a workload stand the ceilings of as many records as it made, and of as many
+// values.
 fn run_over<R: Host, F: FileSystem + Drop>(rt: &R, kind: Kind, files: F, load: Load) -> Result<()> {
     let mut report = Report::new(rt);
     let len = match kind {
