@@ -8,8 +8,8 @@ use Rattle.raft_log_engine.proofs.FaultLemmas.{dual_refusal_not_failed, failed_i
 use Rattle.raft_log_engine.proofs.HeldLemmas.{blocks_over, cached_over, completed_still, dual_over, files_over, has_over, holds_still, left_still, pipe_refusal, queues_still, stands_for}
 use Rattle.raft_log_engine.proofs.engine.Engine.image.Goals as goal
 
-pub new-requires-clause-holds : goal.new-requires-clause-holds
-new-requires-clause-holds g c = λ lifetimes order. c.args.self.now.cached c.if-self.false
+pub new-reader-requires-clause-holds : goal.new-reader-requires-clause-holds
+new-reader-requires-clause-holds g c = λ lifetimes order. c.args.self.now.cached c.if-self.false
 
 pub image_of-requires-clause-readable : goal.image_of-requires-clause-readable
 image_of-requires-clause-readable g c = λ lifetimes order blocks has.
