@@ -3,6 +3,7 @@ pub mod Attempt
 pub mod Batches
 pub mod Cause
 pub mod Engine
+pub mod Expired
 pub mod Indexed
 pub mod Group
 pub mod Durability

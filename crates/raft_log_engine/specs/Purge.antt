@@ -16,6 +16,7 @@ use Rattle.raft_tables.specs.GroupIds.{ids_bound}
 use Rattle.raft_tables.specs.declared.memtables.MemTables.{MemTables}
 use Rattle.raft_tables.specs.declared.rewritten.GroupsMet.{GroupsMet}
 use Rattle.raft_purge.specs.Dropping.{HasDroppedOld}
+use Rattle.raft_purge.specs.Expired.{HasDroppedExpired}
 use Rattle.raft_purge.specs.Faults.{IsPurgeRefusal}
 use Rattle.raft_purge.specs.OpenGroup.{EndsOpen, HasNoId, IsAtomicRefusal}
 use Rattle.raft_purge.specs.Scope.{HasRewritten}
@@ -25,7 +26,7 @@ use Rattle.raft_purge.specs.declared.fault.StepFault.{StepFault}
 use Rattle.raft_log_engine.specs.Engine.{directory_of}
 use Rattle.raft_log_engine.specs.declared.engine.Engine.{Engine}
 use Rattle.raft_log_engine.specs.declared.engine.purge_kind.Purge.{Purge}
-use Rattle.raft_log_engine.specs.declared.engine.purge_kind.Purge.TheVariants.{RewriteAppend, RewriteRewrite, DropStale}
+use Rattle.raft_log_engine.specs.declared.engine.purge_kind.Purge.TheVariants.{RewriteAppend, RewriteRewrite, DropStale, DropExpired}
 
 -- so many files left the queue of which a purge answers
 abbrev pub HasFreed : Purge → PipeState → PipeState → PipeState → PipeState → ℕ → Type 0
@@ -34,6 +35,7 @@ HasFreed (RewriteAppend scope) append rewrite append' rewrite' count =
 HasFreed RewriteRewrite append rewrite append' rewrite' count =
     rewrite.first + count ≡ rewrite'.first
 HasFreed DropStale append rewrite append' rewrite' count = append.first + count ≡ append'.first
+HasFreed (DropExpired x) append rewrite append' rewrite' count = append.first + count ≡ append'.first
 
 -- where the batches of each atomic group stand together, none of the queue's files is left, else all are
 pub record HasRenewed (together : Bool) (p p' : PipeState) : Type 0 where
@@ -49,30 +51,36 @@ pub record HasDroppedStale (together : Bool) (m : MemTables) (append rewrite app
       ≡ max append.first (first_of_tables Append (suc (last_seq append)) m)
   pub old : HasDroppedOld together m rewrite rewrite'
 
--- what a purge leaves of both queues
-abbrev pub HasPurged : Purge → Bool → MemTables → PipeState → PipeState → PipeState → PipeState
-    → Type 0
-HasPurged (RewriteAppend scope) together m append rewrite append' rewrite' =
+-- what a purge leaves of both queues, by the tables before and after it
+abbrev pub HasPurged : Purge → Bool → MemTables → MemTables → PipeState → PipeState → PipeState
+    → PipeState → Type 0
+HasPurged (RewriteAppend scope) together m m' append rewrite append' rewrite' =
     HasRewritten scope append append'
-HasPurged RewriteRewrite together m append rewrite append' rewrite' =
+HasPurged RewriteRewrite together m m' append rewrite append' rewrite' =
     HasRenewed together rewrite rewrite' × (append' ≡ append)
-HasPurged DropStale together m append rewrite append' rewrite' =
+HasPurged DropStale together m m' append rewrite append' rewrite' =
     HasDroppedStale together m append rewrite append' rewrite'
+HasPurged (DropExpired x) together m m' append rewrite append' rewrite' =
+    HasDroppedExpired x together m' append rewrite append' rewrite'
 
--- the rewriting of the Rewrite queue may leave an atomic group there that isn't ended, no other purge
+-- a rewriting of the Rewrite queue may leave an atomic group there that isn't ended, no other purge
 abbrev pub MayLeaveOpen : Purge → DualState → Directory → Type 0
 MayLeaveOpen RewriteRewrite d n = EndsOpen d n
+MayLeaveOpen (DropExpired x) d n = EndsOpen d n
 MayLeaveOpen _ d n = ⊥
 
 -- it alone may need an id for an atomic group where none is left
 abbrev pub MayLackId : Purge → GroupsMet → Type 0
 MayLackId RewriteRewrite groups = ids_bound groups.ids ≡ 2 ^ 64
+MayLackId (DropExpired x) groups = ids_bound groups.ids ≡ 2 ^ 64
 MayLackId _ groups = ⊥
 
 -- why the steps of a purge fail
 abbrev pub IsRunRefusal : Purge → GroupsMet → DualState → DualState → Directory → Refusals → Refusals
     → (Fault → Type 0) → StepFault → Type 0
 IsRunRefusal RewriteRewrite groups d d' n' old new U f =
+    IsAtomicRefusal d d' n' old new (λ e. HasNoId groups e ⊎ U e) f
+IsRunRefusal (DropExpired x) groups d d' n' old new U f =
     IsAtomicRefusal d d' n' old new (λ e. HasNoId groups e ⊎ U e) f
 IsRunRefusal _ groups d d' n' old new U f = IsPurgeRefusal d d' old new U f
 
