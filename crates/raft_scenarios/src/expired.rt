@@ -46,7 +46,7 @@ pub(crate) fn writes_apart<F: FileSystem>(
 }
 
 // A record of an entry of 10 bytes has 40 bytes, so that a log file, which is full at 1 KB and begins with a header of
-// 24 bytes, takes 25 of them. One of an entry of 1 KB has a file of its own.
+// 69 bytes, takes 24 of them. One of an entry of 1 KB fills a file.
 
 const OPEN: &[Step] = &[Step::OpenTo(1)];
 
