@@ -6,6 +6,7 @@
 Records the file calls of two loads, and builds for each call what a crash then may leave: all bytes,
 the synced ones, torn sectors, garbage where nothing was synced. In each of these folders the program
 must find every key that it had answered as synced, without a gap and with its value, twice alike.
+So it must where log files are small, and are rewritten and deleted between and after the loads.
 The same with the syncs not counted has to find bad outcomes. Then each kind of call fails in turn,
 the program is killed, and a folder is opened twice. A program of these tests renames and deletes files,
 and what a crash leaves of their names is judged in the same way. Status 1 where any of it is wrong.
@@ -27,6 +28,18 @@ SECTOR = 512
 SIZE = 40
 LOADS = [["30", "--sync-each", "3"], ["60", "--sync-each", "7"]]
 COUNT = 60
+# The same in log files of 1 KB, with each way to free them.
+SMALL = 'target-file-size = "1KB"\npurge-threshold = "1KB"\n'
+PURGES = [
+    ["load", "30", SIZE, "--sync-each", "3"],
+    ["purge"],
+    ["load", "60", SIZE, "--sync-each", "7"],
+    ["rewrite", "append"],
+    ["rewrite", "rewrite"],
+    ["load", "60", SIZE, "--sync-each", "5"],
+    ["purge"],
+    ["rewrite", "stale"],
+]
 HERE = os.path.dirname(os.path.abspath(__file__))
 
 
@@ -223,11 +236,12 @@ class Tests:
         second = self.standing(folder)
         return None if first == second else f"{first} keys stand, and then {second}"
 
-    def record(self):
-        folder = os.path.join(self.work, "recorded")
-        record = os.path.join(self.work, "calls")
-        for words in LOADS:
-            ran = self.load(folder, *words, RECORD=record)
+    def record(self, name, commands):
+        """The calls of these commands on a folder."""
+        folder = os.path.join(self.work, name)
+        record = os.path.join(self.work, name + "-calls")
+        for words in commands:
+            ran = self.run(folder, *words, RECORD=record)
             assert ran.returncode == 0, ran.stderr
         with open(record, encoding="ascii") as lines:
             return list(lines)
@@ -253,6 +267,12 @@ class Tests:
                         print(f"call {place}, {how} {turn}: {wrong}")
                 shutil.rmtree(folder)
         return outcomes, bad
+
+    def with_settings(self, text, commands):
+        path = os.path.join(self.work, "settings.toml")
+        with open(path, "w", encoding="ascii") as out:
+            out.write(text)
+        return [[*words, "--settings", path] for words in commands]
 
     def record_names(self):
         """The calls of a program that renames and deletes files, and whether they lead to what it left."""
@@ -383,13 +403,16 @@ def main():
     given = parser.parse_args()
     with tempfile.TemporaryDirectory(prefix="disk-tests-") as work:
         tests = Tests(given.program, work)
-        calls = tests.record()
+        calls = tests.record("recorded", [["load", words[0], SIZE, *words[1:]] for words in LOADS])
+        purges = tests.record("purged", tests.with_settings(SMALL, PURGES))
+        assert any(line.startswith("unlink ") for line in purges), "no log file was deleted"
         names, good = tests.record_names()
         if not good:
             print("renamed and deleted files: the calls that were recorded don't lead to what was left")
         for name, (tried, bad) in [
             (f"renamed and deleted files, crashes at {len(names)} calls", tests.replay(names, True, given.seeds, judge=wrong_names)),
             (f"crashes at {len(calls)} calls", tests.replay(calls, True, given.seeds, given.step)),
+            (f"crashes at {len(purges)} calls with purges", tests.replay(purges, True, given.seeds, given.step)),
             ("calls that fail", tests.fail_each()),
             ("kills", tests.kill_each()),
             ("openings to be refused", tests.refuse_each()),
@@ -399,6 +422,7 @@ def main():
         for name, (tried, bad) in [
             ("renamed and deleted files", tests.replay(names, False, 1, judge=wrong_names)),
             ("crashes", tests.replay(calls, False, 1, max(given.step, 2))),
+            ("crashes with purges", tests.replay(purges, False, 1, max(given.step, 2))),
         ]:
             print(f"{name}, with the syncs not counted: {tried} tried, {bad} bad, as wanted")
             good = good and bad > 0

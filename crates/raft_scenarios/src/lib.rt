@@ -16,6 +16,8 @@ mod kept;
 #[cfg(test)]
 mod opening;
 #[cfg(test)]
+mod purge_steps;
+#[cfg(test)]
 mod purges;
 #[cfg(test)]
 mod queues;

@@ -9,7 +9,7 @@ use raft_plans::{Answer, Change, Left, Plan};
 use std::test::Fail;
 
 /// Three files of the Append queue, with a key in each.
-const KEY_IN_EACH: &[Step] = &[
+pub(crate) const KEY_IN_EACH: &[Step] = &[
     Step::Open,
     Step::Run(
         &[
@@ -35,7 +35,7 @@ const TEN_ENTRIES: &[Step] = &[
 ];
 
 /// .. of 70,000 bytes each, where a log file is full at 256 KB.
-const TEN_LONG_ENTRIES: &[Step] = &[
+pub(crate) const TEN_LONG_ENTRIES: &[Step] = &[
     Step::OpenTo(256),
     Step::Run(
         &[
