@@ -25,3 +25,4 @@ pub mod ScanLemmas
 pub mod StandsLemmas
 pub mod RoomLemmas
 pub mod AttemptLemmas
+pub mod ExpiredLemmas

@@ -7,6 +7,8 @@ mod hook;
 #[cfg(test)]
 mod listeners;
 #[cfg(test)]
+mod plans;
+#[cfg(test)]
 mod rows;
 #[cfg(test)]
 mod rules;

@@ -24,6 +24,7 @@ use Rattle.raft_tables.specs.contracts.memtable.MemTable as table
 use Rattle.raft_tables.specs.contracts.owed.OwedMarks as owed
 use Rattle.raft_tables.specs.contracts.rewritten.GroupsMet as groups
 use Rattle.raft_tables.specs.contracts.stats.GlobalStats as stats
+use Rattle.raft_purge_rules.specs.contracts.rounds.Rounds as rounds
 use Rattle.raft_log_engine.specs.contracts.engine.Engine as engine
 use Rattle.raft_base.specs.contracts.errors.Fault as fault
 use Rattle.raft_shared.specs.contracts.call.Call as call
@@ -129,6 +130,12 @@ stats_send = search (sendable, items.crosses) depth 20
 groups_send : IsSend (groups.the_field).row
 groups_send = search (sendable, items.crosses) depth 20
 
+rounds_parts : AllSend (shape rounds.the_type).fields
+rounds_parts = (search (sendable, items.crosses) depth 20, (search (sendable, items.crosses, maps.crosses) depth 20, tt))
+
+rounds_send : IsSend (rounds.the_field).row
+rounds_send = struct_send (shape rounds.the_type) rounds_parts
+
 pub fault_send : IsSend (fault.the_field).row
 fault_send = search (sendable, items.crosses, maps.crosses) depth 20
 
@@ -179,7 +186,7 @@ module _ (F H R W : RattleType) (g : Ghosts F.Denot H.Denot R.Denot W.Denot) whe
   pipes_send w = view_send (pipes.TheInside.the_row F H R W g) _ _ _ _ (recorded_send _ _ _ (pipes.TheInside.the_type F H R W g).to_one (struct_send (shape (pipes.TheInside.the_type F H R W g)) (pipes_parts w)))
 
   engine_parts : IsSend F → IsSend W → AllSend (shape (engine.the_type F H R W g)).fields
-  engine_parts f w = (search (sendable, items.crosses) depth 20, (config_field_send, (f, (pipes_send w, (tables_field_send, (stats_send, (owed_send, (groups_send, (search sendable, (cache_field_send, (search (sendable, items.crosses, item_send) depth 20, (search sendable, (search (sendable, history_send, batch_send) depth 20, (search (sendable, history_send, batch_send) depth 20, (search (sendable, history_send, batch_send) depth 20, (search (sendable, history_send) depth 20, tt))))))))))))))))
+  engine_parts f w = (search (sendable, items.crosses) depth 20, (config_field_send, (f, (pipes_send w, (tables_field_send, (stats_send, (owed_send, (groups_send, (rounds_send, (search sendable, (cache_field_send, (search (sendable, items.crosses, item_send) depth 20, (search sendable, (search (sendable, history_send, batch_send) depth 20, (search (sendable, history_send, batch_send) depth 20, (search (sendable, history_send, batch_send) depth 20, (search (sendable, history_send) depth 20, tt)))))))))))))))))
 
   pub engine_send : IsSend F → IsSend W → IsSend (engine.the_row F H R W g)
   engine_send f w = recorded_send _ _ _ (engine.the_type F H R W g).to_one (struct_send (shape (engine.the_type F H R W g)) (engine_parts f w))

@@ -1,0 +1,96 @@
+//! Plans of purges in a row: which groups are asked for, and which are rewritten.
+
+use crate::rows::{Row, each_holds};
+use raft_base::{FileBlockHandle, FileId, LogQueue};
+use raft_purge_rules::{Needs, Rounds, Watermarks, plan_purge};
+use raft_records::{EntryIndex, Fault, LogItem, LogItemContent};
+use raft_tables::{GlobalStats, MemTables};
+use std::alloc::{AllocError, Global};
+use std::test::Fail;
+
+/// A group that has entries in a file of the Append queue: so many, from index 1 on.
+struct Placed(u64, u64, u64);
+
+/// The first is old and heavy, the second has little before the watermark, and the third nothing.
+static PLACED: [Placed; 3] = [Placed(1, 1, 40), Placed(2, 5, 31), Placed(3, 9, 50)];
+
+/// Whether the Append queue needs a rewriting, the groups that are asked for then, and those that are
+/// rewritten.
+struct Round(bool, &'static [u64], &'static [u64]);
+
+static ROUNDS: [Round; 13] = [
+    Round(true, &[1], &[2]),
+    Round(true, &[1], &[2]),
+    Round(true, &[1], &[2]),
+    Round(true, &[1], &[2]),
+    Round(false, &[], &[]),
+    Round(true, &[1], &[2]),
+    Round(true, &[1], &[2]),
+    Round(true, &[1], &[2]),
+    Round(true, &[1], &[2]),
+    Round(true, &[1], &[2]),
+    Round(true, &[1], &[1, 2]),
+    Round(false, &[], &[]),
+    Round(true, &[1], &[2]),
+];
+
+fn entries_of(alloc: Global, id: FileId, count: u64) -> Result<Vec<EntryIndex>, AllocError> {
+    let mut entries = Vec::new(alloc);
+    for index in 0..count {
+        entries.push(EntryIndex {
+            index: index + 1,
+            entries: Some(FileBlockHandle {
+                id,
+                offset: 16,
+                len: 9,
+            }),
+            entry_offset: 0,
+            entry_len: 5,
+            lz4: false,
+        })?;
+    }
+    Ok(entries)
+}
+
+fn tables_of(alloc: Global, placed: &[Placed]) -> Result<MemTables, Fault> {
+    let mut tables = MemTables::new(alloc);
+    for Placed(group, seq, count) in placed {
+        let id = FileId::new(LogQueue::Append, *seq);
+        let mut items = Vec::new(alloc);
+        items.push(LogItem {
+            raft_group_id: *group,
+            content: LogItemContent::EntryIndexes(entries_of(alloc, id, *count)?),
+        })?;
+        tables.apply_append_writes(&mut items, id, &mut GlobalStats::new())?;
+    }
+    Ok(tables)
+}
+
+impl Row for Round {
+    type State = (MemTables, Rounds);
+
+    fn holds(&self, alloc: Global, state: &mut (MemTables, Rounds)) -> Result<bool, Fault> {
+        let Round(is_due, asked, rewritten) = self;
+        let watermarks = Watermarks {
+            rewrite: 8,
+            compact: 3,
+        };
+        let needs = Needs {
+            rewrite: false,
+            append: if *is_due { Some(watermarks) } else { None },
+        };
+        let plan = plan_purge(alloc, &state.0, &needs, &state.1)?;
+        let is_wanted = plan.asked.as_slice() == *asked && plan.rewritten.as_slice() == *rewritten;
+        if let Some(rounds) = plan.rounds {
+            state.1 = rounds;
+        }
+        Ok(is_wanted)
+    }
+}
+
+#[test]
+fn a_group_that_was_asked_for_in_vain_is_rewritten(rt: HostRuntime) -> Result<(), Fail> {
+    let alloc = rt.alloc();
+    let mut state = (tables_of(alloc, &PLACED)?, Rounds::new(alloc));
+    each_holds(&rt, &mut state, &ROUNDS)
+}
