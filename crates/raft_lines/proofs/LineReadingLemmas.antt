@@ -130,6 +130,11 @@ module _ (known left after : Option (List ℕ)) (line : List ℕ) (number : ℕ)
     served then_asked None on = reads_on then_asked on.0 on.1
     served then_asked (Some how) ends = ends_at how ends
 
+-- nothing is said of a text whose lines weren't read to their end
+pub ends_early : (known : Option (List ℕ)) → IfSome known (λ text. EndsOn text ended.Input)
+ends_early None = tt
+ends_early (Some text) = tt
+
 or_false : (b : Bool) → (b || false) ≡ b
 or_false true = refl
 or_false false = refl

@@ -34,7 +34,7 @@ use Rattle.raft_records.specs.Item.{Batch}
 use Rattle.raft_script.proofs.TrialLemmas.{same_folders}
 use Rattle.raft_script.specs.Run.{IsStorageOrMemory}
 use Rattle.raft_lines.specs.Line.{Asked, asked_of, is_asked}
-use Rattle.raft_lines.specs.Program.{AnswersBy, AnswersFrom, AnswersLine, HoldsAfterCrash, IsCrashFault, IsMetBy, IsNewWith, IsOpeningFault, IsReopenFault, IsReopened, OpensTo}
+use Rattle.raft_lines.specs.Program.{AnswersBy, AnswersFrom, AnswersLine, HoldsAfterCrash, IsCrashFault, IsMetBy, IsNewWith, IsOpeningFault, IsReopenFault, IsReopened, OpensTo, is_fatal}
 use Rattle.raft_lines.specs.Settings.{AreMet, SetsOwn, were_read}
 use Rattle.raft_lines.specs.declared.line.Call.TheVariants as call
 use Rattle.raft_lines.specs.declared.line.Line.{Line}
@@ -46,7 +46,7 @@ use Rattle.raft_lines.specs.declared.answer.Answer.TheVariants as answer
 
 -- settings fail as those of which they are a copy
 fault_of_copy : (c copy : Config) (n : Directory) (e : Fault) → IsCopy c copy → IsOpeningFault copy n e → IsOpeningFault c n e
-fault_of_copy c copy n e is (inl no) = inl (same_contradiction c copy e (contradiction-copy c copy is) no)
+fault_of_copy c copy n e is (inl against) = inl (same_contradiction c copy e (contradiction-copy c copy is) against)
 fault_of_copy c copy n e is (inr (old, new, why)) =
     let mode : copy.recovery_mode ≡ c.recovery_mode = ap (λ (x : Config). x.recovery_mode) is.others in
     inr (old, new, subst (λ (m : RecoveryMode). IsOpeningRefusal m (folders_in c) n old new e) mode (subst (λ (p : Folders). IsOpeningRefusal copy.recovery_mode p n old new e) (same_folders c copy is) why))
@@ -72,7 +72,7 @@ module _ {F H R W : Type 0} {g : Ghosts F H R W} where
   pub opened_or_refused : (P Q : Engine F H R W g → Type 0) (config : Config) (n : Directory) (old : Refusals) (new : F → Refusals) (opening : Result (Engine F H R W g) (Refused F)) → IfOk opening P
       → MatchResult opening Q (λ r. IsContradiction config r.fault ⊎ IsOpeningRefusal config.recovery_mode (folders_in config) n old (new r.file_system) r.fault) → MatchResult opening P (λ r. IsOpeningFault config n r.fault)
   opened_or_refused P Q config n old new (Ok e) opened told = opened
-  opened_or_refused P Q config n old new (Err r) opened (inl no) = inl no
+  opened_or_refused P Q config n old new (Err r) opened (inl against) = inl against
   opened_or_refused P Q config n old new (Err r) opened (inr why) = inr (old, new r.file_system, why)
 
   -- .. by settings of which these are a copy, over no files
@@ -194,11 +194,20 @@ asked_then set made l some is = is ∙ sym (ap (λ (b : Bool). set || b) (asks_s
     or_true true = refl
     or_true false = refl
 
+-- what is so after each answer is so after one with which the program goes on
+pub unless_fatal : (P : Type 0) → P → (r : Result Answer AllocError) → IfOk r (λ a. is_fatal a ≡ false → P)
+unless_fatal P is (Ok a) = λ _. is
+unless_fatal P is (Err e) = tt
+
 -- choices that name no bytes are refused for lack of memory alone
-pub crash_fault : (choices : List Choice) (n : Directory) → NameNoBytes choices → AreConsistent n → (e : Fault) → RefusesUnless (Leaves n (left_by choices n)) e → IsStorageOrMemory e
+crash_fault : (choices : List Choice) (n : Directory) → NameNoBytes choices → AreConsistent n → (e : Fault) → RefusesUnless (Leaves n (left_by choices n)) e → IsStorageOrMemory e
 crash_fault choices n none all (fault.InvalidArgument text) unless = absurd (unless (choices_may_leave choices n none all))
 crash_fault choices n none all fault.Memory unless = tt
 crash_fault choices n none all _ unless = absurd unless
+
+pub crash_refused : {T : Type 0} (choices : List Choice) (n : Directory) → NameNoBytes choices → AreConsistent n → (r : Result T Fault) → IfErr r (RefusesUnless (Leaves n (left_by choices n))) → IfErr r IsStorageOrMemory
+crash_refused choices n none all (Ok x) refused = tt
+crash_refused choices n none all (Err e) refused = crash_fault choices n none all e refused
 
 -- a fault of a call on storage
 pub storage_fault : (path : List ℕ) (told : FsFault) (e : Fault) → IsFaultOf path told e → IsStorageOrMemory e
