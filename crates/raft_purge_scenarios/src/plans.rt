@@ -6,6 +6,7 @@ use raft_purge_rules::{Needs, Rounds, Watermarks, plan_purge};
 use raft_records::{EntryIndex, Fault, LogItem, LogItemContent};
 use raft_tables::{GlobalStats, MemTables};
 use std::alloc::{AllocError, Global};
+use std::mem;
 use std::test::Fail;
 
 /// A group that has entries in a file of the Append queue: so many, from index 1 on.
@@ -66,25 +67,38 @@ fn tables_of(alloc: Global, placed: &[Placed]) -> Result<MemTables, Fault> {
     Ok(tables)
 }
 
+fn are(groups: &[u64], wanted: &[u64]) -> bool {
+    groups == wanted
+}
+
+/// Plans a purge, and keeps its counts: whether these groups are asked for and rewritten.
+fn plans(
+    alloc: Global,
+    tables: &MemTables,
+    rounds: &mut Rounds,
+    round: &Round,
+) -> Result<bool, Fault> {
+    let watermarks = Watermarks {
+        rewrite: 8,
+        compact: 3,
+    };
+    let needs = Needs {
+        rewrite: false,
+        append: if round.0 { Some(watermarks) } else { None },
+    };
+    let plan = plan_purge(alloc, tables, &needs, rounds)?;
+    let is_wanted = are(&plan.asked, round.1) && are(&plan.rewritten, round.2);
+    let before = mem::replace(rounds, Rounds::new(alloc));
+    *rounds = plan.rounds.unwrap_or(before);
+    Ok(is_wanted)
+}
+
 impl Row for Round {
     type State = (MemTables, Rounds);
 
     fn holds(&self, alloc: Global, state: &mut (MemTables, Rounds)) -> Result<bool, Fault> {
-        let Round(is_due, asked, rewritten) = self;
-        let watermarks = Watermarks {
-            rewrite: 8,
-            compact: 3,
-        };
-        let needs = Needs {
-            rewrite: false,
-            append: if *is_due { Some(watermarks) } else { None },
-        };
-        let plan = plan_purge(alloc, &state.0, &needs, &state.1)?;
-        let is_wanted = plan.asked.as_slice() == *asked && plan.rewritten.as_slice() == *rewritten;
-        if let Some(rounds) = plan.rounds {
-            state.1 = rounds;
-        }
-        Ok(is_wanted)
+        let (tables, rounds) = state;
+        plans(alloc, tables, rounds, self)
     }
 }
 
