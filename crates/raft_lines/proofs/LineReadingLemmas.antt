@@ -80,7 +80,7 @@ reading_begun (Some text) asked none = (text, refl, ap (λ (b : Bool). first_bad
 
 module _ (known left after : Option (List ℕ)) (line : List ℕ) (number : ℕ) (asked : Bool) (reading : IsReading known left number asked) where
   -- there is none left
-  pub ends_done : IfSome left (λ text. IsNextLine false text line after) → IfSome known (λ text. EndsOn text ended.Done)
+  ends_done : IfSome left (λ text. IsNextLine false text line after) → IfSome known (λ text. EndsOn text ended.Done)
   ends_done none = by_known known reading
     where
       by_known : (k : Option (List ℕ)) → IsReading k left number asked → IfSome k (λ text. EndsOn text ended.Done)
@@ -126,9 +126,20 @@ module _ (known left after : Option (List ℕ)) (line : List ℕ) (number : ℕ)
             by_how text found.0 how ends (same ∙ ap (first_bad asked number) found.2)
 
     -- one of both
-    pub served : (then_asked : Bool) (r : Option Ended) → IsServed (is_bad asked line) (asked || asks line) number then_asked r → GoesOnOrEnds known after number then_asked r
+    served : (then_asked : Bool) (r : Option Ended) → IsServed (is_bad asked line) (asked || asks line) number then_asked r → GoesOnOrEnds known after number then_asked r
     served then_asked None on = reads_on then_asked on.0 on.1
     served then_asked (Some how) ends = ends_at how ends
+
+-- .. where a line was found, or none
+module _ (known left after : Option (List ℕ)) (line : List ℕ) (number : ℕ) (asked : Bool) (reading : IsReading known left number asked) (found : Bool) (next : IfSome left (λ text. IsNextLine found text line after)) where
+  next_is : (is : Bool) → found ≡ is → IfSome left (λ text. IsNextLine is text line after)
+  next_is is same = subst (λ (b : Bool). IfSome left (λ text. IsNextLine b text line after)) same next
+
+  pub found_served : found ≡ true → (text : List ℕ) → text ≡ line → (then_asked : Bool) (r : Option Ended) → IsServed (is_bad asked text) (asked || asks text) number then_asked r → GoesOnOrEnds known after number then_asked r
+  found_served is text same then_asked r so = served known left after line number asked reading (next_is true is) then_asked r (subst (λ (l : List ℕ). IsServed (is_bad asked l) (asked || asks l) number then_asked r) same so)
+
+  pub none_found : found ≡ false → IfSome known (λ text. EndsOn text ended.Done)
+  none_found is = ends_done known left after line number asked reading (next_is false is)
 
 -- nothing is said of a text whose lines weren't read to their end
 pub ends_early : (known : Option (List ℕ)) → IfSome known (λ text. EndsOn text ended.Input)

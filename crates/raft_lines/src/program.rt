@@ -72,9 +72,15 @@ fn serve_lines<R: BufRead, W: Write>(alloc: Global, input: &mut R, output: &mut 
     let mut engine = None;
     let mut text = Vec::new(alloc);
     for number in 1..u64::MAX {
-        if let Some(ended) =
-            serve_next(alloc, &mut settings, &mut engine, number, &mut text, input, output)
-        {
+        if let Some(ended) = serve_next(
+            alloc,
+            &mut settings,
+            &mut engine,
+            number,
+            &mut text,
+            input,
+            output,
+        ) {
             return ended;
         }
     }
@@ -152,7 +158,11 @@ fn serve_asked<W: Write>(
     if print(output, &answer).is_err() {
         return Some(Ended::Output);
     }
-    if answer.is_fatal() { Some(Ended::Opening) } else { None }
+    if answer.is_fatal() {
+        Some(Ended::Opening)
+    } else {
+        None
+    }
 }
 
 // The next line without its newline, if there is one.
@@ -361,11 +371,7 @@ fn crashed(
 }
 
 // The same for so many files.
-fn choices_of(
-    alloc: Global,
-    count: usize,
-    left: &CrashChoice,
-) -> Result<Vec<Choice>, AllocError>
+fn choices_of(alloc: Global, count: usize, left: &CrashChoice) -> Result<Vec<Choice>, AllocError>
     ensures bytes { IfOk result (λ choices. NameNoBytes choices.items) }
 {
     let mut choices = Vec::with_capacity(alloc, count)?;

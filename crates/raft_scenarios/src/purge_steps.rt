@@ -151,10 +151,7 @@ static ATOMIC_GROUPS: [Story; 3] = [
                 Step::OpenTo(256),
             ],
             FIRST_AND_LAST,
-            &[
-                Step::Run(&[Plan::RewriteRewrite], &[]),
-                Step::Reopen,
-            ],
+            &[Step::Run(&[Plan::RewriteRewrite], &[]), Step::Reopen],
             FIRST_AND_LAST,
         ],
     },
@@ -163,7 +160,10 @@ static ATOMIC_GROUPS: [Story; 3] = [
         parts: &[
             TEN_LONG_ENTRIES,
             &[
-                Step::Run(&[Plan::RewriteRewrite, Plan::RewriteRewrite], &[Answer::Dropped(3), Answer::Dropped(3)]),
+                Step::Run(
+                    &[Plan::RewriteRewrite, Plan::RewriteRewrite],
+                    &[Answer::Dropped(3), Answer::Dropped(3)],
+                ),
                 Step::RewriteSpan(7, 9),
                 Step::Reopen,
             ],
