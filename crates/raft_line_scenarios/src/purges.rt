@@ -26,14 +26,15 @@ static PURGES: [Script; 12] = [
         Ended::Done,
     ),
     Script("purge\nspan append\n", "ask\nspan 1 1\n", Ended::Done),
-    // Each record has a file of its own: of five files the first two tenths are old, and seven tenths are rewritten.
+    // A header has 69 bytes and a put's record 28, so that each record has a file of its own. Of five files the first one is
+    // old, and the first four are rewritten.
     Script(
-        "set target-file-size = 1\nset purge-threshold = 1\nent 1 1 32 w\nput 2 a 1\nput 2 b 1\nput 2 c 1\nput 2 d 1\npurge\nspan append\nreopen\nget 2 a\n",
+        "set target-file-size = 97\nset purge-threshold = 97\nent 1 1 32 w\nput 2 a 1\nput 2 b 1\nput 2 c 1\nput 2 d 1\npurge\nspan append\nreopen\nget 2 a\n",
         "ok\nok\nok\nok\nok\nask 1\nspan 1 5\nok\nvalue 1\n",
         Ended::Done,
     ),
     Script(
-        "set target-file-size = 1\nset purge-threshold = 1\nent 1 1 31 w\nput 2 a 1\nput 2 b 1\nput 2 c 1\nput 2 d 1\npurge\nspan append\nreopen\nrange 1\n",
+        "set target-file-size = 97\nset purge-threshold = 97\nent 1 1 31 w\nput 2 a 1\nput 2 b 1\nput 2 c 1\nput 2 d 1\npurge\nspan append\nreopen\nrange 1\n",
         "ok\nok\nok\nok\nok\nask\nspan 5 5\nok\nrange 1 31\n",
         Ended::Done,
     ),
