@@ -179,6 +179,7 @@ asks_something (line.Call call.Sync) some = refl
 asks_something (line.Call call.RewriteAppend) some = refl
 asks_something (line.Call call.RewriteRewrite) some = refl
 asks_something (line.Call call.PurgeStale) some = refl
+asks_something (line.Call call.Purge) some = refl
 asks_something (line.Look (look.Range group)) some = refl
 asks_something (line.Look (look.Scan group)) some = refl
 asks_something (line.Look (look.Span queue)) some = refl

@@ -41,6 +41,7 @@ pub data Asked : Type 0 where
   RewriteAppend : Asked
   RewriteRewrite : Asked
   PurgeStale : Asked
+  Purge : Asked
   Reopen : Asked
   Crash : (left : CrashChoice) → Asked
 
@@ -167,6 +168,7 @@ asked_of_call call.Sync = Sync
 asked_of_call call.RewriteAppend = RewriteAppend
 asked_of_call call.RewriteRewrite = RewriteRewrite
 asked_of_call call.PurgeStale = PurgeStale
+asked_of_call call.Purge = Purge
 
 -- what words ask for, by the first of them
 abbrev pub parsed_words : List (List ℕ) → Option Asked
@@ -185,6 +187,7 @@ parsed_words (verb ∷ words) =
     else if bytes_eq verb (codes "scan") then option_map Scan (number_by words)
     else if bytes_eq verb (codes "span") then option_map Span (queue_by words)
     else if bytes_eq verb (codes "rewrite") then option_map asked_of_call (rewrite_by words)
+    else if bytes_eq verb (codes "purge") then if_last Purge words
     else if bytes_eq verb (codes "reopen") then if_last Reopen words
     else if bytes_eq verb (codes "crash") then option_map Crash (left_by words)
     else None
@@ -230,6 +233,7 @@ asked_by_op op.Groups = Some Groups
 asked_by_op (op.RewriteAppend None None) = Some RewriteAppend
 asked_by_op op.RewriteRewrite = Some RewriteRewrite
 asked_by_op op.PurgeStale = Some PurgeStale
+asked_by_op op.Purge = Some Purge
 asked_by_op _ = None
 
 -- no word begins the text

@@ -66,7 +66,8 @@ fn print_outcome<W: Write>(output: &mut W, outcome: &Outcome) -> io::Result<()> 
         Outcome::Count(Ok(count)) => writeln!(output, "dropped {count}"),
         Outcome::Entry(Ok(Some(entry))) => print_entry(output, entry),
         Outcome::Index(Some(index)) => writeln!(output, "index {index}"),
-        Outcome::Groups(Ok(groups)) => print_groups(output, groups),
+        Outcome::Groups(Ok(groups)) => print_groups(output, b"groups", groups),
+        Outcome::ToCompact(Ok(groups)) => print_groups(output, b"ask", groups),
         Outcome::Size(Err(fault))
         | Outcome::Sizes(Err(fault))
         | Outcome::Done(Err(fault))
@@ -74,7 +75,8 @@ fn print_outcome<W: Write>(output: &mut W, outcome: &Outcome) -> io::Result<()> 
         | Outcome::Count(Err(fault))
         | Outcome::Entry(Err(fault))
         | Outcome::Groups(Err(fault))
-        | Outcome::Dropped(Err(fault)) => print_fault(output, fault),
+        | Outcome::Dropped(Err(fault))
+        | Outcome::ToCompact(Err(fault)) => print_fault(output, fault),
     }
 }
 
@@ -85,8 +87,8 @@ fn print_entry<W: Write>(output: &mut W, entry: &TextEntry) -> io::Result<()> {
     output.write_all(b"\n")
 }
 
-fn print_groups<W: Write>(output: &mut W, groups: &[u64]) -> io::Result<()> {
-    output.write_all(b"groups")?;
+fn print_groups<W: Write>(output: &mut W, word: &[u8], groups: &[u64]) -> io::Result<()> {
+    output.write_all(word)?;
     for group in groups {
         write!(output, " {group}")?;
     }

@@ -75,6 +75,8 @@ pub(crate) enum Call<'a> {
     RewriteRewrite,
     /// Files in front in which nothing stands go.
     PurgeStale,
+    /// What the queues need is rewritten, and files go.
+    Purge,
 }
 
 impl Call<'_> {
@@ -119,6 +121,7 @@ impl Call<'_> {
             Call::RewriteAppend => Ok(Op::RewriteAppend(None, None)),
             Call::RewriteRewrite => Ok(Op::RewriteRewrite),
             Call::PurgeStale => Ok(Op::PurgeStale),
+            Call::Purge => Ok(Op::Purge),
         }
     }
 }
@@ -176,6 +179,9 @@ fn parse_asked<'a>(verb: &[u8], rest: &'a [u8]) -> Option<Line<'a>>
         Some(Line::Look(Look::Span(parse_queue(rest)?)))
     } else if verb == b"rewrite".as_slice() {
         Some(Line::Call(parse_rewrite(rest)?))
+    } else if verb == b"purge".as_slice() {
+        ends(rest)?;
+        Some(Line::Call(Call::Purge))
     } else if verb == b"reopen".as_slice() {
         ends(rest)?;
         Some(Line::Reopen)

@@ -33,6 +33,7 @@ pub enum Plan {
     RewriteAppend(Option<u64>, Option<u64>),
     RewriteRewrite,
     PurgeStale,
+    Purge,
 }
 
 /// What a crash is to leave of a log file.
@@ -56,6 +57,8 @@ pub enum Answer {
     Groups(&'static [u64]),
     /// So many log files went.
     Dropped(usize),
+    /// The compaction of these groups is asked for.
+    ToCompact(&'static [u64]),
     /// It fails with this code.
     Fails(u8),
 }
@@ -115,6 +118,7 @@ fn op_of(alloc: Global, plan: &Plan) -> Result<Op, AllocError> {
         Plan::RewriteAppend(watermark, step) => Ok(Op::RewriteAppend(*watermark, *step)),
         Plan::RewriteRewrite => Ok(Op::RewriteRewrite),
         Plan::PurgeStale => Ok(Op::PurgeStale),
+        Plan::Purge => Ok(Op::Purge),
     }
 }
 
@@ -156,6 +160,7 @@ pub fn fault_of(outcome: &Outcome) -> Option<&Fault> {
         Outcome::Index(_) => None,
         Outcome::Groups(answer) => answer.as_ref().err(),
         Outcome::Dropped(answer) => answer.as_ref().err(),
+        Outcome::ToCompact(answer) => answer.as_ref().err(),
     }
 }
 
@@ -186,6 +191,7 @@ fn is_answer(outcome: &Outcome, answer: &Answer) -> bool {
         (Outcome::Index(index), Answer::Index(wanted)) => *index == *wanted,
         (Outcome::Groups(Ok(groups)), Answer::Groups(wanted)) => groups.as_slice() == *wanted,
         (Outcome::Dropped(Ok(count)), Answer::Dropped(wanted)) => *count == *wanted,
+        (Outcome::ToCompact(Ok(groups)), Answer::ToCompact(wanted)) => groups.as_slice() == *wanted,
         (_, Answer::Fails(code)) => match fault_of(outcome) {
             Some(fault) => fault.code() == *code,
             None => false,

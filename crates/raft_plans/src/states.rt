@@ -170,7 +170,7 @@ pub fn after(state: State, op: &Op) -> State {
         Op::CompactTo(group, index) => state = compacted(state, *group, *index),
         Op::Sync | Op::Get(_, _) | Op::Entry(_, _) | Op::First(_) | Op::Last(_) | Op::Groups => {}
         // A purge changes nothing.
-        Op::RewriteAppend(_, _) | Op::RewriteRewrite | Op::PurgeStale => {}
+        Op::RewriteAppend(_, _) | Op::RewriteRewrite | Op::PurgeStale | Op::Purge => {}
     }
     state
 }
@@ -215,6 +215,7 @@ pub fn is_done(outcome: &Outcome) -> bool {
         Outcome::Index(_) => true,
         Outcome::Groups(answer) => answer.is_ok(),
         Outcome::Dropped(answer) => answer.is_ok(),
+        Outcome::ToCompact(answer) => answer.is_ok(),
     }
 }
 
@@ -228,7 +229,11 @@ fn covers(op: &Op) -> bool {
     match op {
         Op::Write(_, sync) => *sync,
         Op::WriteGroup(parts) => parts.iter().any(|part| part.1),
-        Op::Sync | Op::RewriteAppend(_, _) | Op::RewriteRewrite | Op::PurgeStale => true,
+        Op::Sync
+        | Op::RewriteAppend(_, _)
+        | Op::RewriteRewrite
+        | Op::PurgeStale
+        | Op::Purge => true,
         _ => false,
     }
 }
@@ -258,11 +263,12 @@ pub fn is_allowed(
 /// No more log files than this come of the operations, also where one of them finds no space and goes on to a next one.
 pub const MAX_FILES: usize = 16;
 
-/// A log file is full once it has 1 KB.
+/// A log file is full once it has 1 KB, and two of them are purged.
 pub fn settings(alloc: Global) -> Result<Config, AllocError> {
     let mut config = Config::fresh(alloc);
     config.dir.push_str("raft")?;
     config.target_file_size = ReadableSize::kb(1);
+    config.purge_threshold = ReadableSize::kb(1);
     Ok(config)
 }
 
@@ -329,6 +335,31 @@ pub const PURGES: [Plan; 14] = [
     Plan::RewriteAppend(None, None),
     Plan::Entry(3, 3),
     Plan::PurgeStale,
+];
+
+/// .. with purges of what the queues need: of the Append queue each time, of the Rewrite queue once most of what was
+/// rewritten is garbage.
+pub const EXPIRED: [Plan; 13] = [
+    Plan::Write(&[Change::Put(1, b"a", &[1; 900]), Change::Put(2, b"c", &[1; 90])], false),
+    Plan::Write(&[Change::Entries(3, 1, 6, b"x"), Change::Put(2, b"d", &[1; 900])], true),
+    Plan::Write(&[Change::Put(1, b"b", &[2; 900])], false),
+    Plan::Purge,
+    Plan::Write(
+        &[
+            Change::Put(1, b"a", &[3]),
+            Change::Delete(2, b"d"),
+            Change::Entries(3, 2, 6, b"y"),
+        ],
+        true,
+    ),
+    Plan::Write(&[Change::Put(2, b"c", &[4; 1000])], false),
+    Plan::Purge,
+    Plan::CompactTo(3, 6),
+    Plan::Write(&[Change::Clean(1), Change::Put(1, b"b", &[5; 1000])], false),
+    Plan::Purge,
+    Plan::Write(&[Change::Delete(1, b"b")], false),
+    Plan::Entry(3, 6),
+    Plan::Purge,
 ];
 
 /// Entries of one group that are too many for one batch where they are rewritten first.

@@ -8,6 +8,8 @@ mod contradictions;
 #[cfg(test)]
 mod crashes;
 #[cfg(test)]
+mod expired;
+#[cfg(test)]
 mod folders;
 #[cfg(test)]
 mod held;

@@ -122,10 +122,11 @@ pub(crate) fn settings_in(alloc: Global, mode: RecoveryMode) -> Result<Config, A
     Ok(config)
 }
 
-/// The same where a log file is full at so many KB.
+/// The same where a log file is full at so many KB, and ten times as many are purged.
 pub(crate) fn settings_to(alloc: Global, size: u64) -> Result<Config, AllocError> {
     let mut config = settings(alloc)?;
     config.target_file_size = ReadableSize(size.saturating_mul(1024));
+    config.purge_threshold = ReadableSize(size.saturating_mul(10 * 1024));
     Ok(config)
 }
 

@@ -1,5 +1,6 @@
 //! Stories as rows of tables: steps on an engine over files in memory, each with what it comes to.
 
+use crate::expired::{Apart, writes_apart};
 use crate::folders::TAIL;
 use crate::held::{Failing, Faulty, Held};
 use crate::reads::{Fetch, fetches};
@@ -17,7 +18,7 @@ use std::alloc::Global;
 pub(crate) enum Step {
     /// Opens the files, which an engine gives up first.
     Open,
-    /// .. where a log file is full at so many KB.
+    /// .. where a log file is full at so many KB, and ten times as many are purged.
     OpenTo(u64),
     /// .. of both folders.
     OpenBoth,
@@ -39,6 +40,8 @@ pub(crate) enum Step {
     PutMessage(u64, &'static [u8]),
     /// Writes the batch, synced where that is asked: the length of its record, or the code of the refusal.
     Write(bool, Result<usize, u8>),
+    /// Writes these entries.
+    Apart(Apart),
     /// Operations and their answers; with no answers each is done.
     Run(&'static [Plan], &'static [Answer]),
     /// The operations before it again.
@@ -126,6 +129,7 @@ fn is_answered<F: FileSystem>(
         Step::PutMessage(group, key) => put_message(alloc, batch, *group, key).is_ok(),
         Step::Write(sync, wanted) => writes(engine, batch, *sync, wanted),
         Step::Run(plans, answers) => matches!(runs(alloc, engine, plans, answers), Ok(true)),
+        Step::Apart(apart) => matches!(writes_apart(alloc, engine, apart), Ok(true)),
         Step::Failed(wanted) => engine.failed() == *wanted,
         Step::Span(first, last) => engine.file_span(LogQueue::Append) == (*first, *last),
         Step::RewriteSpan(first, last) => engine.file_span(LogQueue::Rewrite) == (*first, *last),

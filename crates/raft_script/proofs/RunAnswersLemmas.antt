@@ -22,7 +22,7 @@ use Rattle.raft_script.specs.Run.{IsFailing, IsGiven, IsUnnoted, MayBeInFlight, 
 use Rattle.raft_script.specs.declared.operation.Op.{Op}
 use Rattle.raft_script.specs.declared.operation.Op.TheVariants.{CompactTo}
 use Rattle.raft_script.specs.declared.operation.Outcome.{Outcome}
-use Rattle.raft_script.specs.declared.operation.Outcome.TheVariants.{Count, Dropped}
+use Rattle.raft_script.specs.declared.operation.Outcome.TheVariants.{Count}
 use Rattle.raft_script.proofs.DurabilityLemmas.{compaction_progress}
 
 -- operations after others
@@ -135,9 +135,9 @@ module _ {F H R W : Type 0} {g : Ghosts F H R W} (old new : Engine F H R W g) (g
       }
 
 -- what a purge has done
-module _ {F H R W : Type 0} {g : Ghosts F H R W} (old new : Engine F H R W g) (op : Op) (result : Result ℕ Fault) where
-  pub does_purge : MayBeInFlight (contents_of old) op [] → IsGiven (has_failed old) (contents_of old) op [] → Progresses (accepted_of (contents_of old) op (Dropped result)) (is_covering op (Dropped result)) [] (durability_of old) (durability_of new)
-      → HoldsThroughout (moments_of old) (moments_of new) (directory_of new) (LeavesAllowed (folders_of old) (durable_of old) (unsynced_of old)) → answered_of new ≡ answer_now [] new ∷ answered_of old → (has_failed old ≡ true → StaysFailed old new) → Does op (Dropped result) old new
+module _ {F H R W : Type 0} {g : Ghosts F H R W} (old new : Engine F H R W g) (op : Op) (outcome : Outcome) where
+  pub does_purge : MayBeInFlight (contents_of old) op [] → IsGiven (has_failed old) (contents_of old) op [] → Progresses (accepted_of (contents_of old) op outcome) (is_covering op outcome) [] (durability_of old) (durability_of new)
+      → HoldsThroughout (moments_of old) (moments_of new) (directory_of new) (LeavesAllowed (folders_of old) (durable_of old) (unsynced_of old)) → answered_of new ≡ answer_now [] new ∷ answered_of old → (has_failed old ≡ true → StaysFailed old new) → Does op outcome old new
   does_purge may_be is_given progress moments noted stays = record {
     flight = [];
     may_be = may_be;
@@ -152,7 +152,7 @@ module _ {F H R W : Type 0} {g : Ghosts F H R W} (old new : Engine F H R W g) (o
   }
 
 -- one that is answered leaves the engine standing
-pub purge_stands : (result : Result ℕ Fault) (d d' : Durability) → Progresses [] (is_ok result) [] d d' → IfOk result (λ _. d'.failed ≡ false)
+pub purge_stands : {T : Type 0} (result : Result T Fault) (d d' : Durability) → Progresses [] (is_ok result) [] d d' → IfOk result (λ _. d'.failed ≡ false)
 purge_stands (Ok count) d d' (inl rests) = absurd (let clash : true ≡ false = rests.covers_none in cc)
 purge_stands (Ok count) d d' (inr (inl added)) = added.stands
 purge_stands (Ok count) d d' (inr (inr (inl synced))) = synced.stands

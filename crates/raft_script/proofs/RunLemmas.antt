@@ -33,10 +33,10 @@ use Rattle.raft_script.specs.declared.text_entry.TextEntry.{TextEntry}
 use Rattle.raft_script.specs.declared.operation.Act.{Act}
 use Rattle.raft_script.specs.declared.operation.Op.{Op}
 use Rattle.raft_script.specs.declared.operation.Op.TheVariants as operation
-use Rattle.raft_script.specs.declared.operation.Op.TheVariants.{Write, WriteGroup, Sync, Get, CompactTo, First, Last, RewriteAppend, RewriteRewrite, PurgeStale}
+use Rattle.raft_script.specs.declared.operation.Op.TheVariants.{Write, WriteGroup, Sync, Get, CompactTo, First, Last, RewriteAppend, RewriteRewrite, PurgeStale, Purge}
 use Rattle.raft_script.specs.declared.operation.Outcome.{Outcome}
 use Rattle.raft_script.specs.declared.operation.Outcome.TheVariants as reply
-use Rattle.raft_script.specs.declared.operation.Outcome.TheVariants.{Size, Sizes, Done, Value, Count, Index, Dropped}
+use Rattle.raft_script.specs.declared.operation.Outcome.TheVariants.{Size, Sizes, Done, Value, Count, Index, Dropped, ToCompact}
 use Rattle.raft_config.specs.Folders.{Folders}
 
 -- items before others, where there are both
@@ -227,7 +227,7 @@ compaction_fails P R Q failed fails folders p old new result ok told still cause
     caused (Err e) ok cause alive dies = by_fault e (cause alive) dies
 
 -- a purge
-module _ (x : Contents) (append rewrite : PipeState) (ends_open no_id : Type 0) (failed fails : Bool) (folders : Folders) (old new : Refusals) (result : Result ℕ Fault) (told : (result ≡ Err fault.Failed) ↔ (failed ≡ true)) (cause : failed ≡ false → IfErr result (purges.IsPurgeFault x append rewrite ends_open no_id folders fails old new)) where
+module _ {T : Type 0} (x : Contents) (append rewrite : PipeState) (ends_open no_id : Type 0) (failed fails : Bool) (folders : Folders) (old new : Refusals) (result : Result T Fault) (told : (result ≡ Err fault.Failed) ↔ (failed ≡ true)) (cause : failed ≡ false → IfErr result (purges.IsPurgeFault x append rewrite ends_open no_id folders fails old new)) where
   abbrev IsCaused : Fault → Type 0
   IsCaused e = purges.IsPurgeFault x append rewrite ends_open no_id folders fails old new e
 
@@ -243,7 +243,7 @@ module _ (x : Contents) (append rewrite : PipeState) (ends_open no_id : Type 0) 
       by_fault is fault.Range h = tt
       by_fault is _ h = absurd h
 
-      by_result : (r : Result ℕ Fault) → ((r ≡ Err fault.Failed) ↔ (failed ≡ true)) → (failed ≡ false → IfErr r IsCaused) → IsPurgeAnswer m r
+      by_result : (r : Result T Fault) → ((r ≡ Err fault.Failed) ↔ (failed ≡ true)) → (failed ≡ false → IfErr r IsCaused) → IsPurgeAnswer m r
       by_result (Ok count) told cause = tt
       by_result (Err e) told cause = elim (cases_Bool failed) [
         | inl gone ↦ let e_is : e ≡ fault.Failed = same_err (Err e) refl (told.1 gone) in subst (IsRefusedPurge m) (sym e_is) tt
@@ -254,7 +254,7 @@ module _ (x : Contents) (append rewrite : PipeState) (ends_open no_id : Type 0) 
   pub purge_rose : is_io result ≡ true → StorageRefusalsRose old new
   purge_rose io = by_result result told cause io
     where
-      by_result : (r : Result ℕ Fault) → ((r ≡ Err fault.Failed) ↔ (failed ≡ true)) → (failed ≡ false → IfErr r IsCaused) → is_io r ≡ true → StorageRefusalsRose old new
+      by_result : (r : Result T Fault) → ((r ≡ Err fault.Failed) ↔ (failed ≡ true)) → (failed ≡ false → IfErr r IsCaused) → is_io r ≡ true → StorageRefusalsRose old new
       by_result (Ok count) told cause io = absurd cc
       by_result (Err (fault.Io kind path)) told cause io = elim (cases_Bool failed) [
         | inl gone ↦ absurd (let clash = told.1 gone in cc)
@@ -275,7 +275,7 @@ module _ (x : Contents) (append rewrite : PipeState) (ends_open no_id : Type 0) 
     cause = by_result result told cause ok;
   }
     where
-      by_result : (r : Result ℕ Fault) → ((r ≡ Err fault.Failed) ↔ (failed ≡ true)) → (failed ≡ false → IfErr r IsCaused) → IfOk r (λ _. fails ≡ false) → failed ≡ false → fails ≡ true → IsErrAnd r P
+      by_result : (r : Result T Fault) → ((r ≡ Err fault.Failed) ↔ (failed ≡ true)) → (failed ≡ false → IfErr r IsCaused) → IfOk r (λ _. fails ≡ false) → failed ≡ false → fails ≡ true → IsErrAnd r P
       by_result (Ok count) told cause ok alive dies = absurd (let clash = sym dies ∙ ok in cc)
       by_result (Err e) told cause ok alive dies = by_fault e (cause alive) dies
 
@@ -347,6 +347,7 @@ module _ (m n : Contents) (op : Op) (failed : Bool) (same : failed ≡ false →
       by_op (RewriteAppend watermark step) is = is
       by_op RewriteRewrite is = is
       by_op PurgeStale is = is
+      by_op Purge is = is
       by_op (CompactTo group index) is = elim (cases_Bool failed) [
         | inl gone ↦ is ∙ ap (λ (b : Bool). if b then [] else written_batch (compaction_in m group index)) gone ∙ sym (ap (λ (b : Bool). if b then [] else written_batch (compaction_in n group index)) gone)
         | inr stands ↦ is ∙ ap (λ (c : Contents). if failed then [] else written_batch (compaction_in c group index)) (same stands)
@@ -418,6 +419,7 @@ still_by operation.Groups (reply.Groups answer) fails is = is.0.still refl
 still_by (RewriteAppend watermark step) (Dropped answer) fails is = is.still refl
 still_by RewriteRewrite (Dropped answer) fails is = is.still refl
 still_by PurgeStale (Dropped answer) fails is = is.still refl
+still_by Purge (ToCompact answer) fails is = is.still refl
 still_by _ _ fails is = absurd is
 
 pub still_failing : (op : Op) (outcome : Outcome) (failed fails : Bool) → IsFailing failed op outcome fails → failed ≡ true → fails ≡ true

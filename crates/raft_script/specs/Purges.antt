@@ -1,45 +1,35 @@
 -- What purges leave of an engine's queues, one operation after the other.
-use Rattle.std.specs.Prelude.{◌≡◌, ◌+◌, Bool, List, ◌∷◌, Ok}
+use Rattle.std.specs.Prelude.{◌≡◌, ◌+◌, ◌-◌, ◌^◌, List, ◌∷◌, Ok}
 use Rattle.raft_env.specs.declared.env.FileSystem.{Ghosts}
-use Rattle.raft_pipes.specs.PipeState.{PipeState}
 use Rattle.raft_purge.specs.Scope.{HasRewritten}
-use Rattle.raft_tables.specs.declared.memtables.MemTables.{MemTables}
 use Rattle.raft_log_engine.specs.Engine.{has_groups_together, queue_of, rewrite_queue_of}
+use Rattle.raft_log_engine.specs.Expired.{HasPurgedExpired}
 use Rattle.raft_log_engine.specs.Purge.{HasDroppedStale, HasRenewed, tables_in}
 use Rattle.raft_log_engine.specs.declared.engine.Engine.{Engine}
 use Rattle.raft_script.specs.declared.operation.Op.{Op}
-use Rattle.raft_script.specs.declared.operation.Op.TheVariants.{RewriteAppend, RewriteRewrite, PurgeStale}
+use Rattle.raft_script.specs.declared.operation.Op.TheVariants.{RewriteAppend, RewriteRewrite, PurgeStale, Purge}
 use Rattle.raft_script.specs.declared.operation.Outcome.{Outcome}
-use Rattle.raft_script.specs.declared.operation.Outcome.TheVariants.{Dropped}
+use Rattle.raft_script.specs.declared.operation.Outcome.TheVariants.{Dropped, ToCompact}
 
--- both queues of an engine, and by what a purge says which of their files stay
-pub record QueuesView : Type 0 where
-  pub append : PipeState
-  pub rewrite : PipeState
-  pub together : Bool
-  pub tables : MemTables
+module _ {F H R W : Type 0} {g : Ghosts F H R W} where
+  -- where the operation is a purge that was answered: so many files left its queue, or these groups are
+  -- to be compacted, and what it leaves
+  abbrev pub HasPurgedAs : Op → Outcome → Engine F H R W g → Engine F H R W g → Type 0
+  HasPurgedAs (RewriteAppend watermark step) (Dropped (Ok count)) e e' =
+      ((queue_of e).first + count ≡ (queue_of e').first)
+      × HasRewritten (record { watermark = watermark; step = step }) (queue_of e) (queue_of e')
+  HasPurgedAs RewriteRewrite (Dropped (Ok count)) e e' =
+      ((rewrite_queue_of e).first + count ≡ (rewrite_queue_of e').first)
+      × HasRenewed (has_groups_together e) (rewrite_queue_of e) (rewrite_queue_of e')
+  HasPurgedAs PurgeStale (Dropped (Ok count)) e e' =
+      ((queue_of e).first + count ≡ (queue_of e').first)
+      × HasDroppedStale (has_groups_together e) (tables_in e) (queue_of e) (rewrite_queue_of e)
+      (queue_of e') (rewrite_queue_of e')
+  HasPurgedAs Purge (ToCompact (Ok groups)) e e' = HasPurgedExpired (2 ^ 64 - 1) e e' groups.items
+  HasPurgedAs _ _ e e' = Unit {0}
 
-abbrev pub queues_view : {F H R W : Type 0} {g : Ghosts F H R W} → Engine F H R W g → QueuesView
-queues_view e = record {
-  append = queue_of e;
-  rewrite = rewrite_queue_of e;
-  together = has_groups_together e;
-  tables = tables_in e;
-}
-
--- where the operation is a purge that was answered: so many files left its queue, and what it leaves
-abbrev pub HasPurgedAs : Op → Outcome → QueuesView → QueuesView → Type 0
-HasPurgedAs (RewriteAppend watermark step) (Dropped (Ok count)) a b =
-    (a.append.first + count ≡ b.append.first)
-    × HasRewritten (record { watermark = watermark; step = step }) a.append b.append
-HasPurgedAs RewriteRewrite (Dropped (Ok count)) a b =
-    (a.rewrite.first + count ≡ b.rewrite.first) × HasRenewed a.together a.rewrite b.rewrite
-HasPurgedAs PurgeStale (Dropped (Ok count)) a b = (a.append.first + count ≡ b.append.first)
-    × HasDroppedStale a.together a.tables a.append a.rewrite b.append b.rewrite
-HasPurgedAs _ _ a b = Unit {0}
-
--- .. of each of the operations, in order
-abbrev pub HavePurgedAs : List Op → List Outcome → QueuesView → QueuesView → Type 0
-HavePurgedAs (op ∷ ops) (outcome ∷ outcomes) a c =
-    (b : QueuesView) × HasPurgedAs op outcome a b × HavePurgedAs ops outcomes b c
-HavePurgedAs _ _ a c = a ≡ c
+  -- .. of each of the operations, in order
+  abbrev pub HavePurgedAs : List Op → List Outcome → Engine F H R W g → Engine F H R W g → Type 0
+  HavePurgedAs (op ∷ ops) (outcome ∷ outcomes) a c =
+      (b : Engine F H R W g) × HasPurgedAs op outcome a b × HavePurgedAs ops outcomes b c
+  HavePurgedAs _ _ a c = a ≡ c

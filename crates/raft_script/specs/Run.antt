@@ -23,10 +23,10 @@ use Rattle.raft_script.specs.declared.operation.Act.{Act}
 use Rattle.raft_script.specs.declared.operation.Act.TheVariants as act
 use Rattle.raft_script.specs.declared.operation.Op.{Op}
 use Rattle.raft_script.specs.declared.operation.Op.TheVariants as operation
-use Rattle.raft_script.specs.declared.operation.Op.TheVariants.{Write, WriteGroup, Sync, Get, CompactTo, First, Last, RewriteAppend, RewriteRewrite, PurgeStale}
+use Rattle.raft_script.specs.declared.operation.Op.TheVariants.{Write, WriteGroup, Sync, Get, CompactTo, First, Last, RewriteAppend, RewriteRewrite, PurgeStale, Purge}
 use Rattle.raft_script.specs.declared.operation.Outcome.{Outcome}
 use Rattle.raft_script.specs.declared.operation.Outcome.TheVariants as reply
-use Rattle.raft_script.specs.declared.operation.Outcome.TheVariants.{Size, Sizes, Done, Value, Count, Index, Dropped}
+use Rattle.raft_script.specs.declared.operation.Outcome.TheVariants.{Size, Sizes, Done, Value, Count, Index, Dropped, ToCompact}
 
 -- entries as one item, and nothing for none
 abbrev pub entries_items : ℕ → List Entry → Batch
@@ -119,6 +119,7 @@ is_covering Sync (Done (Ok x)) = true
 is_covering (RewriteAppend watermark step) (Dropped (Ok count)) = true
 is_covering RewriteRewrite (Dropped (Ok count)) = true
 is_covering PurgeStale (Dropped (Ok count)) = true
+is_covering Purge (ToCompact (Ok groups)) = true
 is_covering _ _ = false
 
 -- what may have been written in part, or whole, when a crash came in the operation
@@ -145,6 +146,7 @@ IsUnasked operation.Groups = Unit {0}
 IsUnasked (RewriteAppend watermark step) = ⊥
 IsUnasked RewriteRewrite = ⊥
 IsUnasked PurgeStale = ⊥
+IsUnasked Purge = ⊥
 
 -- no batch of these acts could be built: one of them can't be done, there was no memory, or they
 -- have too many bytes of entries
@@ -246,8 +248,9 @@ abbrev pub IsRefusedPurge : Contents → Fault → Type 0
 IsRefusedPurge m (fault.InvalidArgument text) = IsUnfit m (fault.InvalidArgument text)
 IsRefusedPurge m e = IsCompactRefusal e
 
--- a purge is answered so: how many files went is said of the engine's queues
-abbrev pub IsPurgeAnswer : Contents → Result ℕ Fault → Type 0
+-- a purge is answered so: how many files went, and which groups are to be compacted, is said of the
+-- engine's queues
+abbrev pub IsPurgeAnswer : {T : Type 0} → Contents → Result T Fault → Type 0
 IsPurgeAnswer m answer = MatchResult answer (λ _. Unit {0}) (IsRefusedPurge m)
 
 abbrev pub IsGetRefusal : Fault → Type 0
@@ -284,6 +287,7 @@ IsAnswer failed m known operation.Groups (reply.Groups answer) =
 IsAnswer failed m known (RewriteAppend watermark step) (Dropped answer) = IsPurgeAnswer m answer
 IsAnswer failed m known RewriteRewrite (Dropped answer) = IsPurgeAnswer m answer
 IsAnswer failed m known PurgeStale (Dropped answer) = IsPurgeAnswer m answer
+IsAnswer failed m known Purge (ToCompact answer) = IsPurgeAnswer m answer
 IsAnswer failed m known _ _ = ⊥
 
 -- whether an engine that had failed or not has failed after an operation, where it fails in the one
@@ -326,6 +330,7 @@ is_refused_by_storage (reply.Entry answer) = is_io answer
 is_refused_by_storage (Index index) = false
 is_refused_by_storage (reply.Groups answer) = is_io answer
 is_refused_by_storage (Dropped answer) = is_io answer
+is_refused_by_storage (ToCompact answer) = is_io answer
 
 -- how many of an operation's answers storage refused: of a group those of its batches
 abbrev pub io_in : Outcome → ℕ
@@ -382,7 +387,7 @@ abbrev pub FailsBy : {T : Type 0} → Bool → Result T Fault → Bool → (Faul
 FailsBy failed answer fails Other = FailsFor IsStorageOrMemory failed answer fails Other
 
 -- .. in a purge, for such a cause
-abbrev pub FailsInPurge : (Fault → Type 0) → Bool → Result ℕ Fault → Bool → Type 0
+abbrev pub FailsInPurge : {T : Type 0} → (Fault → Type 0) → Bool → Result T Fault → Bool → Type 0
 FailsInPurge IsCause failed answer fails = FailsFor IsCause failed answer fails (λ _. ⊥)
 
 -- .. and has failed or not as before
@@ -410,6 +415,8 @@ IsFailing failed (RewriteAppend watermark step) (Dropped answer) fails =
 IsFailing failed RewriteRewrite (Dropped answer) fails =
     FailsInPurge IsRenewalFailure failed answer fails
 IsFailing failed PurgeStale (Dropped answer) fails = FailsInPurge IsPurgeFailure failed answer fails
+IsFailing failed Purge (ToCompact answer) fails =
+    FailsInPurge IsRenewalFailure failed answer fails
 IsFailing failed _ _ fails = ⊥
 
 -- each of the operations leaves the engine as it found it, failed or standing

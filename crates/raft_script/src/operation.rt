@@ -42,6 +42,8 @@ pub enum Op {
     RewriteRewrite,
     /// Files in front in which nothing stands go.
     PurgeStale,
+    /// What the queues need is rewritten, and files go; nobody keeps any.
+    Purge,
 }
 
 /// What an operation was answered: a write with the length of its record.
@@ -60,6 +62,8 @@ pub enum Outcome {
     Groups(Result<Vec<u64>, Fault>),
     /// How many log files went.
     Dropped(Result<usize, Fault>),
+    /// The groups whose compaction is asked for.
+    ToCompact(Result<Vec<u64>, Fault>),
 }
 
 /// What a trial showed.

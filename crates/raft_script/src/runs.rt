@@ -10,7 +10,7 @@ ghost use Rattle.raft_log_engine.specs.Group.{items_of};
 ghost use Rattle.raft_log_engine.specs.Engine.{begun_of, contents_of, directory_of, durable_of, folders_of, has_failed, refusals_of, unsynced_of};
 ghost use Rattle.raft_script.specs.Entry.{indexed_bytes};
 ghost use Rattle.raft_script.specs.Durability.{AreAllowedInside, Does, HaveRun, IsAnswerOf, Runs};
-ghost use Rattle.raft_script.specs.Purges.{HasPurgedAs, queues_view};
+ghost use Rattle.raft_script.specs.Purges.{HasPurgedAs};
 ghost use Rattle.raft_script.specs.Run.{IsUnbuilt, IsUnbuiltGroup, IsFailing, IsUnasked, Refuses, accepted_of, batch_of_acts, batches_of_parts, items_of_act};
 
 use crate::operation::{Act, Op, Outcome};
@@ -18,7 +18,7 @@ use crate::text_entry::TextEntry;
 use raft_env::FileSystem;
 use raft_log_engine::Engine;
 use raft_log_engine::laws::an_engine_recovers_what_it_keeps;
-use raft_records::{Command, EntryIndex, Fault, LogBatch};
+use raft_records::{Command, EntryIndex, Fault, FileSeq, LogBatch};
 use std::alloc::{AllocError, Global};
 
 /// Outcomes, and the place of the operation in which the engine failed.
@@ -110,7 +110,7 @@ pub fn step<F: FileSystem>(alloc: Global, engine: &mut Engine<F>, op: &Op) -> Ou
         ≡ after_batches (contents_of engine.old)
         (accepted_of (contents_of engine.old) op.now result) }
     ensures progress { Does op.now result engine.old engine.new }
-    ensures purged { HasPurgedAs op.now result (queues_view engine.old) (queues_view engine.new) }
+    ensures purged { HasPurgedAs op.now result engine.old engine.new }
     ensures folder { folders_of engine.new ≡ folders_of engine.old }
     ensures others { begun_of engine.new ≡ begun_of engine.old }
 {
@@ -136,6 +136,7 @@ pub fn step<F: FileSystem>(alloc: Global, engine: &mut Engine<F>, op: &Op) -> Ou
         }
         Op::RewriteRewrite => Outcome::Dropped(engine.must_rewrite_rewrite_queue()),
         Op::PurgeStale => Outcome::Dropped(engine.must_purge_all_stale()),
+        Op::Purge => Outcome::ToCompact(engine.purge_expired_files(FileSeq::MAX)),
     }
 }
 

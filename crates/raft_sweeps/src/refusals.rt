@@ -4,7 +4,7 @@ use raft_env::{FileSystem, IoKind};
 use raft_log_engine::Engine;
 use raft_memory::{FsCall, MemoryFileSystem};
 use raft_plans::{
-    EMPTY, Left, MAX_FILES, OPERATIONS, PURGES, Plan, State, after, choices_of, count_below,
+    EMPTY, EXPIRED, Left, MAX_FILES, OPERATIONS, PURGES, Plan, State, after, choices_of, count_below,
     fault_of, first_refused, is_allowed, is_done, ops_of, settings, state_of, value_of,
 };
 use raft_records::Fault;
@@ -222,6 +222,11 @@ fn each_call_may_be_refused(rt: HostRuntime) -> Result<(), Fail> {
 #[test]
 fn each_call_of_purges_may_be_refused(rt: HostRuntime) -> Result<(), Fail> {
     refuse_each(&rt, rt.alloc(), &PURGES, &[IoKind::Other])
+}
+
+#[test]
+fn each_call_of_purges_by_watermarks_may_be_refused(rt: HostRuntime) -> Result<(), Fail> {
+    refuse_each(&rt, rt.alloc(), &EXPIRED, &[IoKind::Other])
 }
 
 #[test]

@@ -1,8 +1,8 @@
 //! Operations that are stopped at each call that changes files, and then crashed in many ways.
 
 use raft_plans::{
-    Left, MAX_FILES, OPERATIONS, PURGES, Plan, REWRITTEN_IN_PARTS, choices_of, is_allowed, is_done,
-    ops_of, settings, state_of,
+    EXPIRED, Left, MAX_FILES, OPERATIONS, PURGES, Plan, REWRITTEN_IN_PARTS, choices_of, is_allowed,
+    is_done, ops_of, settings, state_of,
 };
 use raft_script::{Op, Outcome, Trial, trial};
 use std::alloc::Global;
@@ -24,7 +24,7 @@ const MIN_CHANGES_IN_PARTS: u64 = 25;
 
 // Where the engine stands after it: a purge may have been refused then.
 fn leaves_standing(outcome: &Outcome) -> bool {
-    is_done(outcome) || matches!(outcome, Outcome::Dropped(_))
+    is_done(outcome) || matches!(outcome, Outcome::Dropped(_) | Outcome::ToCompact(_))
 }
 
 // The engine failed in this operation, and stood before; or it stood after all.
@@ -103,6 +103,11 @@ fn every_stop_and_crash_finds_what_may_be_found(rt: HostRuntime) -> Result<(), F
 #[test]
 fn every_stop_of_purges_finds_what_may_be_found(rt: HostRuntime) -> Result<(), Fail> {
     stop_each(&rt, rt.alloc(), &PURGES, 9, MIN_CHANGES_OF_PURGES)
+}
+
+#[test]
+fn every_stop_of_purges_by_watermarks_finds_what_may_be_found(rt: HostRuntime) -> Result<(), Fail> {
+    stop_each(&rt, rt.alloc(), &EXPIRED, 9, MIN_CHANGES_OF_PURGES)
 }
 
 #[test]

@@ -12,7 +12,7 @@ use Rattle.raft_held.specs.Contents.{known_from}
 use Rattle.raft_held.specs.Crash.{LeavesAllowed}
 use Rattle.raft_script.specs.Durability.{Answers, AreAllowedInside, IsDurableAfter, LeavesInFlight, Progress, progress_after, progress_after_all, progress_from}
 use Rattle.raft_log_engine.specs.Durability.{Progresses, durability_of}
-use Rattle.raft_script.specs.Purges.{HavePurgedAs, queues_view}
+use Rattle.raft_script.specs.Purges.{HavePurgedAs}
 use Rattle.raft_script.proofs.PurgesLemmas.{purged_more}
 use Rattle.raft_script.specs.Run.{AreAnswers, IsFailurePlace, IsUnasked, MayBeInFlight, accepted_of, batches_after_all, is_covering}
 use Rattle.raft_script.specs.declared.operation.Op.{Op}
@@ -101,7 +101,7 @@ loop-op-preserved g c =
       record { leaves = subst (λ (f : Contents). LeavesAllowed (folders_of new) (after_batches f (base_of new)) (unsynced_of new) (directory_of new)) after law.crash; holds = λ alive. after-append found (base_of new) (unsynced_of new) },
       step.others ∙ kept.11,
       rw (taken, c.in_ok-push.ensures.items) answers,
-      rw (taken, c.in_ok-push.ensures.items) (purged_more ops outcomes kept.0.len op outcome (queues_view begun) (queues_view old) (queues_view new) kept.13 step.purged),
+      rw (taken, c.in_ok-push.ensures.items) (purged_more ops outcomes kept.0.len op outcome begun old new kept.13 step.purged),
     )
 
 pub loop-op-init : goal.loop-op-init
@@ -144,7 +144,7 @@ returns-clause-ok g c =
       batches = running.batches;
       now = leaves_after (found_of old) (durable_of old) (unsynced_of old) ops outcomes failed_at (durability_of e) way (folders_of old) (directory_of e) (subst (λ (f : Folders). LeavesAllowed f (after_batches (found_of old) (base_of e)) (unsynced_of e) (directory_of e)) kept.3 kept.10.leaves);
       progress = subst (λ (f : Contents). IsDurableAfter failed_at (durable_of old) (unsynced_of old) ops outcomes (after_batches f (base_of e)) (unsynced_of e)) (sym (found_same e old kept.3 kept.11)) (durable_after (found_of old) (durable_of old) (unsynced_of old) ops outcomes failed_at (durability_of e) way);
-      purged = subst (λ (l : List Op). HavePurgedAs l outcomes (queues_view old) (queues_view e)) whole kept.13;
+      purged = subst (λ (l : List Op). HavePurgedAs l outcomes old e) whole kept.13;
     }
 
 pub returns-clause-any_moment : goal.returns-clause-any_moment

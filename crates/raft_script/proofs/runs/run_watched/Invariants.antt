@@ -2,7 +2,7 @@ use Rattle.std.proofs.Common.{All, ◌≡◌, ◌||◌, ◌≤◌, is_some, leng
 use Rattle.raft_script.specs.Durability.{AreAllowedInside, progress_after_all, progress_from}
 use Rattle.raft_log_engine.specs.Durability.{durability_of}
 use Rattle.raft_log_engine.specs.Engine.{all_batches, begun_of, directory_of, durable_of, folders_of, found_groups_of, found_of, has_failed, refusals_of, unsynced_of}
-use Rattle.raft_script.specs.Purges.{HavePurgedAs, queues_view}
+use Rattle.raft_script.specs.Purges.{HavePurgedAs}
 use Rattle.raft_script.specs.Run.{AreAnswers, IsFailurePlace, IsUnasked, StorageRefusalsRoseBy, io_count}
 use Rattle.raft_script.proofs.RunAnswersLemmas.{Keeps}
 use Rattle.raft_script.proofs.DurabilityLemmas.{IsUnderWay}
@@ -24,4 +24,4 @@ invariant-loop-op g l =
     × Keeps (folders_of l.engine) (found_of l.initial.engine) (durability_of l.engine) (directory_of l.engine)
     × (begun_of l.engine ≡ begun_of l.initial.engine)
     × AreAnswers (has_failed l.initial.engine) l.failed_at (found_of l.initial.engine) (found_groups_of l.initial.engine) (all_batches l.initial.engine) (take l.op-index l.ops) l.outcomes.items
-    × HavePurgedAs (take l.op-index l.ops) l.outcomes.items (queues_view l.initial.engine) (queues_view l.engine)
+    × HavePurgedAs (take l.op-index l.ops) l.outcomes.items l.initial.engine l.engine

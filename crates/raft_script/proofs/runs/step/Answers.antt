@@ -4,11 +4,11 @@ use Rattle.raft_records.specs.Contents.{Contents, first_index_of, last_index_of}
 use Rattle.raft_records.specs.Item.{Batch}
 use Rattle.raft_log_engine.specs.Durability.{Durability, durability_of}
 use Rattle.raft_log_engine.specs.Engine.{answer_now, answered_of, contents_of, directory_of, durable_of, folders_of, has_failed, is_known_in, moments_of, queue_of, refusals_of, rewrite_queue_of, unsynced_of}
-use Rattle.raft_script.specs.Purges.{queues_view}
-use Rattle.raft_script.proofs.PurgesLemmas.{purged_append, purged_rewrite, purged_stale}
+use Rattle.raft_script.proofs.PurgesLemmas.{purged_append, purged_expired, purged_rewrite, purged_stale}
 use Rattle.raft_script.specs.Run.{IsUnbuiltGroup, Part, batch_of_acts, batches_of_parts, group_batches, items_of_acts}
 use Rattle.raft_held.specs.Crash.{pending_of, written_batch}
-use Rattle.raft_script.specs.declared.operation.Op.TheVariants.{PurgeStale, RewriteAppend, RewriteRewrite, Sync, Write}
+use Rattle.raft_script.specs.declared.operation.Op.TheVariants.{Purge, PurgeStale, RewriteAppend, RewriteRewrite, Sync, Write}
+use Rattle.raft_script.specs.declared.operation.Outcome.TheVariants.{Dropped, ToCompact}
 use Rattle.raft_script.proofs.DurabilityLemmas.{moments_of_batch, written_progress}
 use Rattle.raft_script.proofs.RunAnswersLemmas.{does_compact, does_purge, does_read, in_flight, purge_stands, read_same}
 use Rattle.raft_script.proofs.RunLemmas.{compaction_answered, compaction_fails, entry_answered, entry_rose, groups_answered, purge_answered, purge_fails, purge_rose, renewal_fails, steady_by, write_answered}
@@ -182,7 +182,7 @@ returns-in-RewriteAppend-clause-progress g c =
     let e = c.args.engine.now in
     let n = c.must_rewrite_append_queue.new.self in
     let purged = c.must_rewrite_append_queue.ensures in
-    rw c.in-RewriteAppend.is (does_purge e n (RewriteAppend c.in-RewriteAppend.watermark c.in-RewriteAppend.step) c.must_rewrite_append_queue.result refl refl purged.progress purged.any_moment purged.answered purged.unchanged)
+    rw c.in-RewriteAppend.is (does_purge e n (RewriteAppend c.in-RewriteAppend.watermark c.in-RewriteAppend.step) (Dropped c.must_rewrite_append_queue.result) refl refl purged.progress purged.any_moment purged.answered purged.unchanged)
 
 pub returns-in-RewriteRewrite-clause-value : goal.returns-in-RewriteRewrite-clause-value
 returns-in-RewriteRewrite-clause-value g c =
@@ -210,7 +210,7 @@ returns-in-RewriteRewrite-clause-progress g c =
     let e = c.args.engine.now in
     let n = c.must_rewrite_rewrite_queue.new.self in
     let purged = c.must_rewrite_rewrite_queue.ensures in
-    rw c.in-RewriteRewrite.is (does_purge e n (RewriteRewrite) c.must_rewrite_rewrite_queue.result refl refl purged.progress purged.any_moment purged.answered purged.unchanged)
+    rw c.in-RewriteRewrite.is (does_purge e n (RewriteRewrite) (Dropped c.must_rewrite_rewrite_queue.result) refl refl purged.progress purged.any_moment purged.answered purged.unchanged)
 
 pub returns-in-PurgeStale-clause-value : goal.returns-in-PurgeStale-clause-value
 returns-in-PurgeStale-clause-value g c =
@@ -238,22 +238,55 @@ returns-in-PurgeStale-clause-progress g c =
     let e = c.args.engine.now in
     let n = c.must_purge_all_stale.new.self in
     let purged = c.must_purge_all_stale.ensures in
-    rw c.in-PurgeStale.is (does_purge e n (PurgeStale) c.must_purge_all_stale.result refl refl purged.progress purged.any_moment purged.answered purged.unchanged)
+    rw c.in-PurgeStale.is (does_purge e n (PurgeStale) (Dropped c.must_purge_all_stale.result) refl refl purged.progress purged.any_moment purged.answered purged.unchanged)
 
 pub returns-in-RewriteAppend-clause-purged : goal.returns-in-RewriteAppend-clause-purged
 returns-in-RewriteAppend-clause-purged g c =
     let purged = c.must_rewrite_append_queue.ensures in
-    rw c.in-RewriteAppend.is (purged_append c.in-RewriteAppend.watermark c.in-RewriteAppend.step c.must_rewrite_append_queue.result (queues_view c.args.engine.now) (queues_view c.must_rewrite_append_queue.new.self) purged.value purged.files)
+    rw c.in-RewriteAppend.is (purged_append c.in-RewriteAppend.watermark c.in-RewriteAppend.step c.must_rewrite_append_queue.result c.args.engine.now c.must_rewrite_append_queue.new.self purged.value purged.files)
 
 pub returns-in-RewriteRewrite-clause-purged : goal.returns-in-RewriteRewrite-clause-purged
 returns-in-RewriteRewrite-clause-purged g c =
     let purged = c.must_rewrite_rewrite_queue.ensures in
-    rw c.in-RewriteRewrite.is (purged_rewrite c.must_rewrite_rewrite_queue.result (queues_view c.args.engine.now) (queues_view c.must_rewrite_rewrite_queue.new.self) purged.value purged.files)
+    rw c.in-RewriteRewrite.is (purged_rewrite c.must_rewrite_rewrite_queue.result c.args.engine.now c.must_rewrite_rewrite_queue.new.self purged.value purged.files)
 
 pub returns-in-PurgeStale-clause-purged : goal.returns-in-PurgeStale-clause-purged
 returns-in-PurgeStale-clause-purged g c =
     let purged = c.must_purge_all_stale.ensures in
-    rw c.in-PurgeStale.is (purged_stale c.must_purge_all_stale.result (queues_view c.args.engine.now) (queues_view c.must_purge_all_stale.new.self) purged.value purged.files)
+    rw c.in-PurgeStale.is (purged_stale c.must_purge_all_stale.result c.args.engine.now c.must_purge_all_stale.new.self purged.value purged.files)
+
+pub returns-in-Purge-clause-value : goal.returns-in-Purge-clause-value
+returns-in-Purge-clause-value g c =
+    let e = c.args.engine.now in
+    let n = c.purge_expired_files.new.self in
+    let purged = c.purge_expired_files.ensures in
+    rw c.in-Purge.is (λ m known same same_known. purge_answered (contents_of e) (queue_of n) (rewrite_queue_of n) (HasOpenGroup n) (HasLastId n) (has_failed e) (has_failed n) (folders_of e) (refusals_of e) (refusals_of n) c.purge_expired_files.result purged.failed purged.cause m same)
+
+pub returns-in-Purge-clause-failed : goal.returns-in-Purge-clause-failed
+returns-in-Purge-clause-failed g c =
+    let e = c.args.engine.now in
+    let n = c.purge_expired_files.new.self in
+    let purged = c.purge_expired_files.ensures in
+    rw c.in-Purge.is (renewal_fails (contents_of e) (queue_of n) (rewrite_queue_of n) (HasOpenGroup n) (HasLastId n) (has_failed e) (has_failed n) (folders_of e) (refusals_of e) (refusals_of n) c.purge_expired_files.result purged.failed purged.cause (purge_stands c.purge_expired_files.result (durability_of e) (durability_of n) purged.progress) (λ gone. (purged.unchanged gone).failed))
+
+pub returns-in-Purge-clause-refused : goal.returns-in-Purge-clause-refused
+returns-in-Purge-clause-refused g c =
+    let e = c.args.engine.now in
+    let n = c.purge_expired_files.new.self in
+    let purged = c.purge_expired_files.ensures in
+    (purged.others.counts, purge_rose (contents_of e) (queue_of n) (rewrite_queue_of n) (HasOpenGroup n) (HasLastId n) (has_failed e) (has_failed n) (folders_of e) (refusals_of e) (refusals_of n) c.purge_expired_files.result purged.failed purged.cause)
+
+pub returns-in-Purge-clause-progress : goal.returns-in-Purge-clause-progress
+returns-in-Purge-clause-progress g c =
+    let e = c.args.engine.now in
+    let n = c.purge_expired_files.new.self in
+    let purged = c.purge_expired_files.ensures in
+    rw c.in-Purge.is (does_purge e n Purge (ToCompact c.purge_expired_files.result) refl refl purged.progress purged.any_moment purged.answered purged.unchanged)
+
+pub returns-in-Purge-clause-purged : goal.returns-in-Purge-clause-purged
+returns-in-Purge-clause-purged g c =
+    let purged = c.purge_expired_files.ensures in
+    rw c.in-Purge.is (purged_expired c.purge_expired_files.result c.args.engine.now c.purge_expired_files.new.self purged.value)
 
 -- The batches of a group.
 
