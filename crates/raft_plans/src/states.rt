@@ -229,11 +229,8 @@ fn covers(op: &Op) -> bool {
     match op {
         Op::Write(_, sync) => *sync,
         Op::WriteGroup(parts) => parts.iter().any(|part| part.1),
-        Op::Sync
-        | Op::RewriteAppend(_, _)
-        | Op::RewriteRewrite
-        | Op::PurgeStale
-        | Op::Purge => true,
+        Op::Sync | Op::RewriteAppend(_, _) | Op::RewriteRewrite | Op::PurgeStale | Op::Purge =>
+            true,
         _ => false,
     }
 }
@@ -340,8 +337,20 @@ pub const PURGES: [Plan; 14] = [
 /// .. with purges of what the queues need: of the Append queue each time, of the Rewrite queue once most of what was
 /// rewritten is garbage.
 pub const EXPIRED: [Plan; 13] = [
-    Plan::Write(&[Change::Put(1, b"a", &[1; 900]), Change::Put(2, b"c", &[1; 90])], false),
-    Plan::Write(&[Change::Entries(3, 1, 6, b"x"), Change::Put(2, b"d", &[1; 900])], true),
+    Plan::Write(
+        &[
+            Change::Put(1, b"a", &[1; 900]),
+            Change::Put(2, b"c", &[1; 90]),
+        ],
+        false,
+    ),
+    Plan::Write(
+        &[
+            Change::Entries(3, 1, 6, b"x"),
+            Change::Put(2, b"d", &[1; 900]),
+        ],
+        true,
+    ),
     Plan::Write(&[Change::Put(1, b"b", &[2; 900])], false),
     Plan::Purge,
     Plan::Write(

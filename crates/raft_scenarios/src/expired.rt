@@ -104,7 +104,12 @@ static ASKINGS: [Story; 3] = [
                 Step::Span(39, 53),
                 Step::Reopen,
                 Step::Run(
-                    &[Plan::First(1), Plan::Last(1), Plan::Last(35), Plan::Last(50)],
+                    &[
+                        Plan::First(1),
+                        Plan::Last(1),
+                        Plan::Last(35),
+                        Plan::Last(50),
+                    ],
                     &[
                         Answer::Index(Some(1)),
                         Answer::Index(Some(50)),

@@ -4,8 +4,9 @@ use raft_env::{FileSystem, IoKind};
 use raft_log_engine::Engine;
 use raft_memory::{FsCall, MemoryFileSystem};
 use raft_plans::{
-    EMPTY, EXPIRED, Left, MAX_FILES, OPERATIONS, PURGES, Plan, State, after, choices_of, count_below,
-    fault_of, first_refused, is_allowed, is_done, ops_of, settings, state_of, value_of,
+    EMPTY, EXPIRED, Left, MAX_FILES, OPERATIONS, PURGES, Plan, State, after, choices_of,
+    count_below, fault_of, first_refused, is_allowed, is_done, ops_of, settings, state_of,
+    value_of,
 };
 use raft_records::Fault;
 use raft_script::{Op, Outcome, run};
@@ -128,14 +129,14 @@ fn are_answers(rt: &impl Abort, ops: &[Op], outcomes: &[Outcome], kind: IoKind) 
     refused
 }
 
-// Up to the first failed one the outcomes are those that were wanted, but for how many files went, which goes by how
-// many were begun.
+// Up to the first failed one the outcomes are those that were wanted, but for what purges answer, which goes by how
+// many files were begun.
 fn begin_as_wanted(rt: &impl Abort, outcomes: &[Outcome], wanted: &[Outcome]) {
     for (outcome, wanted) in outcomes.iter().zip(wanted.iter()) {
         if !is_done(outcome) {
             return;
         }
-        if !matches!(outcome, Outcome::Dropped(_)) {
+        if !matches!(outcome, Outcome::Dropped(_) | Outcome::ToCompact(_)) {
             assert_eq!(rt; *outcome, *wanted);
         }
     }
