@@ -170,6 +170,15 @@ asked_of_call call.RewriteRewrite = RewriteRewrite
 asked_of_call call.PurgeStale = PurgeStale
 asked_of_call call.Purge = Purge
 
+-- what words behind this one ask for of the whole log
+abbrev pub asked_of_log : List ℕ → List (List ℕ) → Option Asked
+asked_of_log verb words =
+    if bytes_eq verb (codes "rewrite") then option_map asked_of_call (rewrite_by words)
+    else if bytes_eq verb (codes "purge") then if_last Purge words
+    else if bytes_eq verb (codes "reopen") then if_last Reopen words
+    else if bytes_eq verb (codes "crash") then option_map Crash (left_by words)
+    else None
+
 -- what words ask for, by the first of them
 abbrev pub parsed_words : List (List ℕ) → Option Asked
 parsed_words [] = None
@@ -186,11 +195,7 @@ parsed_words (verb ∷ words) =
     else if bytes_eq verb (codes "range") then option_map Range (number_by words)
     else if bytes_eq verb (codes "scan") then option_map Scan (number_by words)
     else if bytes_eq verb (codes "span") then option_map Span (queue_by words)
-    else if bytes_eq verb (codes "rewrite") then option_map asked_of_call (rewrite_by words)
-    else if bytes_eq verb (codes "purge") then if_last Purge words
-    else if bytes_eq verb (codes "reopen") then if_last Reopen words
-    else if bytes_eq verb (codes "crash") then option_map Crash (left_by words)
-    else None
+    else asked_of_log verb words
 
 -- what a line asks for: nothing where it is empty or begins with #
 abbrev pub asked_in : List ℕ → Option Asked

@@ -2,7 +2,7 @@
 ghost use Rattle.std.specs.Prelude.{◌≡◌, ◌==◌, ◌≤◌, List, ℕ, length, None, Some, [], ◌∷◌, IfOk, MatchOption, option_map, option_and_then};
 ghost use Rattle.std.specs.List.{position_or_len};
 ghost use Rattle.raft_script.specs.Number.{number_in};
-ghost use Rattle.raft_lines.specs.Line.{Crash, BeginsWith, HasNoWord, if_last, parsed_words, asked_in, asked_of, asked_of_call, clean_by, compact_by, delete_by, entries_by, entry_by, get_by, is_word, left_by, number_by, numbers_by, put_by, queue_by, rewrite_by, sync_by, torn_by, words_by, words_in};
+ghost use Rattle.raft_lines.specs.Line.{Crash, BeginsWith, HasNoWord, if_last, parsed_words, asked_in, asked_of, asked_of_call, asked_of_log, clean_by, compact_by, delete_by, entries_by, entry_by, get_by, is_word, left_by, number_by, numbers_by, put_by, queue_by, rewrite_by, sync_by, torn_by, words_by, words_in};
 
 use raft_records::LogQueue;
 use raft_script::{Act, Op, entries_between, number_of};
@@ -177,7 +177,17 @@ fn parse_asked<'a>(verb: &[u8], rest: &'a [u8]) -> Option<Line<'a>>
         Some(Line::Look(Look::Scan(parse_last_number(rest)?)))
     } else if verb == b"span".as_slice() {
         Some(Line::Look(Look::Span(parse_queue(rest)?)))
-    } else if verb == b"rewrite".as_slice() {
+    } else {
+        parse_of_log(verb, rest)
+    }
+}
+
+// A line that asks for something of the whole log.
+fn parse_of_log<'a>(verb: &[u8], rest: &[u8]) -> Option<Line<'a>>
+    ensures value { option_map asked_of result
+        ≡ option_and_then (λ words. asked_of_log verb.now words) (words_in rest.now) }
+{
+    if verb == b"rewrite".as_slice() {
         Some(Line::Call(parse_rewrite(rest)?))
     } else if verb == b"purge".as_slice() {
         ends(rest)?;
