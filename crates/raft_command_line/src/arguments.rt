@@ -109,6 +109,7 @@ fn read_verb<'a>(name: &str, matches: &ArgMatches<'a>) -> Option<Verb<'a>> {
     match name {
         "load" => return Some(Verb::Load(read_load(matches)?)),
         "repair" => return Some(Verb::Repair),
+        "purge" => return Some(Verb::Purge),
         "settings" => return Some(Verb::Settings),
         "fork" => return Some(Verb::Fork(matches.get_str("TARGET")?)),
         _ => {}

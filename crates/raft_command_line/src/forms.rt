@@ -84,7 +84,7 @@ const SIZE: Word = Word("SIZE", Kind::Number, "The bytes of each value");
 
 const LIMIT: Word = Word("limit", Kind::Named, "Prints so many lines at most");
 
-pub(crate) const FORMS: [Form; 22] = [
+pub(crate) const FORMS: [Form; 23] = [
     Form {
         name: "put",
         about: "Puts a value at a key of a group, and syncs it",
@@ -252,6 +252,12 @@ pub(crate) const FORMS: [Form; 22] = [
             "append or rewrite, the files of this queue; stale, those of which nothing counts",
         )],
         example: "Example: raftctl log rewrite append",
+    },
+    Form {
+        name: "purge",
+        about: "Frees log files where the settings' thresholds are passed; prints the groups to compact, and what was freed",
+        words: &[],
+        example: "Example: raftctl log purge",
     },
     Form {
         name: "settings",

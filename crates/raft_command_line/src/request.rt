@@ -48,6 +48,8 @@ pub enum Verb<'a> {
     Clean(u64),
     Load(Load),
     Rewrite(Purge),
+    /// What the settings ask for is rewritten, and log files go.
+    Purge,
     Repair,
     /// The settings in force.
     Settings,

@@ -9,6 +9,7 @@ mod looks;
 mod numbered;
 mod opening;
 mod pictures;
+mod purging;
 mod repair;
 mod stat;
 mod writing;

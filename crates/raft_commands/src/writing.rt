@@ -5,6 +5,7 @@ use crate::entries::{append, compact};
 use crate::lines::put_lines;
 use crate::numbered::load;
 use crate::opening::{close, open};
+use crate::purging::purge;
 use crate::repair::repair;
 use anyhow::{Result, bail};
 use raft_command_line::{Purge, Request, Verb};
@@ -32,6 +33,9 @@ fn change_files<F: FileSystem + Drop>(
     let mut out = Output::new(*rt, &request.options);
     if let Verb::Repair = request.verb {
         return repair(rt.alloc(), files, &request.options, &mut out);
+    }
+    if let Verb::Purge = request.verb {
+        return purge(rt, files, &request.options, &mut out);
     }
     let mut engine = open(rt.alloc(), files, &request.options)?;
     carry_out(rt, &mut engine, request, &mut out)?;
@@ -61,7 +65,7 @@ fn carry_out<F: FileSystem>(
         Verb::Load(numbers) => load(rt, engine, *numbers, request.options.quiet),
         Verb::Rewrite(files) => rewrite(engine, *files, out),
         // Done elsewhere.
-        Verb::Repair | Verb::Settings | Verb::Fork(_) | Verb::Look(_) => Ok(()),
+        Verb::Repair | Verb::Purge | Verb::Settings | Verb::Fork(_) | Verb::Look(_) => Ok(()),
     }
 }
 
@@ -123,13 +127,13 @@ fn clean<F: FileSystem>(
 
 // Prints how many log files were deleted.
 fn rewrite<F: FileSystem>(engine: &mut Engine<F>, files: Purge, out: &mut Output) -> Result<()> {
-    match purge(engine, files) {
+    match free(engine, files) {
         Ok(count) => out.line(&[("deleted", Word::Number(count as u64))]),
         Err(fault) => Err(failure("the files cannot be rewritten", &fault)),
     }
 }
 
-fn purge<F: FileSystem>(engine: &mut Engine<F>, files: Purge) -> Result<usize, Fault> {
+fn free<F: FileSystem>(engine: &mut Engine<F>, files: Purge) -> Result<usize, Fault> {
     match files {
         Purge::Append => engine.must_rewrite_append_queue(None, None),
         Purge::Rewrite => engine.must_rewrite_rewrite_queue(),
