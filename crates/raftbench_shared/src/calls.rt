@@ -28,9 +28,7 @@ fn print_outcome<R: Host>(rt: &R, name: &str, load: Load, outcome: Outcome) -> R
     let count = load.count.max(1);
     println!(rt;
         "{name}: {} puts, {} bytes of records, {} found",
-        load.count,
-        outcome.put.total,
-        outcome.get.total
+        load.count, outcome.put.total, outcome.get.total
     )?;
     eprintln!(rt;
         "{name}: put {} ns each, get {} ns each",
