@@ -183,11 +183,15 @@ fn join_putters<R: Threads>(rt: &R, putters: Vec<Putter>) -> Result<(), Fault> {
     Ok(())
 }
 
+fn keys_of(mut engine: Engine<MemoryFileSystem>) -> Option<usize> {
+    keys_in(&mut engine)
+}
+
 // How many keys an engine without a history has, once threads have put theirs.
 fn keys_put<R: Crew>(rt: &R, alloc: Global) -> Result<Option<usize>, Fault> {
     let together = Arc::new(alloc, Mutex::new(open(alloc)?))?;
     join_putters(rt, start_putters(rt, alloc, &together)?)?;
-    Ok(Arc::into_inner(together).and_then(|lock| keys_in(&mut lock.into_inner())))
+    Ok(Arc::into_inner(together).and_then(|lock| keys_of(lock.into_inner())))
 }
 
 /// Four threads that share an engine without a history put ten keys each: the image has forty.
