@@ -1,8 +1,6 @@
 //! Threads over one engine, with a history and without.
 
-use crate::asked::put_of;
-use crate::held::keys_in;
-use raft_log_engine::{Config, Engine, Fault, Fresh, MemoryFileSystem};
+use raft_log_engine::{Config, Engine, Fault, Fresh, LogBatch, MemoryFileSystem};
 use raft_shared::{Call, Finished, Recorded, Reply, Seat, Shared};
 use std::alloc::{AllocError, Global};
 use std::sync::{Arc, Mutex, Wait};
@@ -32,6 +30,12 @@ const GROUPS: [u64; 4] = [1, 2, 3, 4];
 trait Crew: Threads + Wait + Copy + Send + 'static {}
 
 impl<R: Threads + Wait + Copy + Send + 'static> Crew for R {}
+
+fn put_of(alloc: Global, group: u64, key: &[u8], value: &[u8]) -> Result<LogBatch, Fault> {
+    let mut batch = LogBatch::new(alloc);
+    batch.put(group, key.to_vec(alloc)?, value.to_vec(alloc)?)?;
+    Ok(batch)
+}
 
 fn open(alloc: Global) -> Result<Engine<MemoryFileSystem>, Fault> {
     let files = MemoryFileSystem::new(alloc);
@@ -183,11 +187,25 @@ fn join_putters<R: Threads>(rt: &R, putters: Vec<Putter>) -> Result<(), Fault> {
     Ok(())
 }
 
+// How many keys the groups hold, where the engine stands.
+fn keys_in(mut engine: Engine<MemoryFileSystem>) -> Option<usize> {
+    match engine.image() {
+        Ok(image) => {
+            let mut keys = 0usize;
+            for group in &image.groups {
+                keys = keys.saturating_add(group.pairs.len());
+            }
+            Some(keys)
+        }
+        Err(_) => None,
+    }
+}
+
 // How many keys an engine without a history has, once threads have put theirs.
 fn keys_put<R: Crew>(rt: &R, alloc: Global) -> Result<Option<usize>, Fault> {
     let together = Arc::new(alloc, Mutex::new(open(alloc)?))?;
     join_putters(rt, start_putters(rt, alloc, &together)?)?;
-    Ok(Arc::into_inner(together).and_then(|lock| keys_in(&mut lock.into_inner())))
+    Ok(Arc::into_inner(together).and_then(|lock| keys_in(lock.into_inner())))
 }
 
 /// Four threads that share an engine without a history put ten keys each: the image has forty.
