@@ -35,7 +35,7 @@ use Rattle.raft_script.proofs.TrialLemmas.{same_folders}
 use Rattle.raft_script.specs.Run.{IsStorageOrMemory}
 use Rattle.raft_lines.specs.Line.{Asked, asked_of, is_asked}
 use Rattle.raft_lines.specs.Program.{AnswersBy, AnswersFrom, AnswersLine, HoldsAfterCrash, IsCrashFault, IsMetBy, IsNewWith, IsOpeningFault, IsReopenFault, IsReopened, OpensTo, is_fatal}
-use Rattle.raft_lines.specs.Settings.{AreMet, SetsOwn, were_read}
+use Rattle.raft_lines.specs.Settings.{SetsOwn, were_read}
 use Rattle.raft_lines.specs.declared.line.Call.TheVariants as call
 use Rattle.raft_lines.specs.declared.line.Line.{Line}
 use Rattle.raft_lines.specs.declared.line.Line.TheVariants as line
