@@ -1,4 +1,5 @@
 pub mod ApartLemmas
+pub mod BeginLemmas
 pub mod BlocksLemmas
 pub mod ByFileCallsLemmas
 pub mod ByFileLemmas
@@ -40,6 +41,7 @@ pub mod SealedFileLemmas
 pub mod SettledFilesLemmas
 pub mod SettledQueueLemmas
 pub mod SingleLemmas
+pub mod SpareLemmas
 pub mod StepsLemmas
 pub mod TakenLemmas
 pub mod WrittenLemmas
