@@ -33,10 +33,10 @@ pub record KeepsStale (id : FileId) (file : File) : Type 0 where
   pub stale : (i : ℕ) → IsStaleAfter file.renamed_after (file.changes ++ file.older) i
 
 -- such is a file that was just renamed, at each moment since its last sync
-pub renamed_stale : (id : FileId) (file : File) → file.now ≡ bytes_after file.synced file.changes → KeepsStale id (renamed_of file)
-renamed_stale id file latest = record {
+pub renamed_stale : (id : FileId) (file : File) → KeepsStale id (renamed_of file)
+renamed_stale id file = record {
   none = record {
-    latest = latest;
+    now = λ format left read. nothing_fresh _ (file.changes ++ file.older) left (stale [] file.changes refl) read.fresh;
     moments = λ newer upto e format left read. nothing_fresh _ (upto ++ file.older) left (stale newer upto e) read.fresh;
   };
   stale = stale [] file.changes refl;
@@ -137,22 +137,17 @@ module _ (id : FileId) (format : LogFileFormat) (has : HasHeader format) (fits :
 
 -- At a path.
 
-module _ (src path : Path) (other : FileId) (batches : List Batch) (synced : ℕ) (old : Directory) (kept : RecoversPrefixAt src other batches synced old) (has : HasFile old src) where
+module _ (src path : Path) (old : Directory) (has : HasFile old src) where
   record IsRenamedFrom : Type 0 where
     file : File
     stood : file_at old src ≡ Some file
-    latest : file.now ≡ bytes_after file.synced file.changes
-
-  latest_of : (file : File) → file_at old src ≡ Some file → RecoversPrefixAt src other batches synced old → file.now ≡ bytes_after file.synced file.changes
-  latest_of file stood (inl log) = subst (λ (f : File). f.now ≡ bytes_after f.synced f.changes) (same_some (sym log.stands ∙ stood)) log.keeps.latest
-  latest_of file stood (inr (nothing, none)) = (nothing file stood).latest
 
   renamed_file : IsRenamedFrom
   renamed_file = by_file (file_at old src) refl has
     where
       by_file : (found : Option File) → file_at old src ≡ found → IsSome found → IsRenamedFrom
       by_file None e none = absurd cc
-      by_file (Some file) e some = record { file = file; stood = e; latest = latest_of file e kept }
+      by_file (Some file) e some = record { file = file; stood = e }
 
   stands_renamed : file_at (after_rename src path old) path ≡ Some (renamed_of renamed_file.file)
   stands_renamed =
@@ -160,14 +155,14 @@ module _ (src path : Path) (other : FileId) (batches : List Batch) (synced : ℕ
       ∙ file_at-placed_same path (renamed_of renamed_file.file) (without_file src old)
 
   pub kept_renamed : (id : FileId) → RecoversPrefixAt path id [] 0 (after_rename src path old)
-  kept_renamed id = inr (λ file stands. subst (RecoversNoRecord id) (same_some (sym stands_renamed ∙ stands)) (renamed_stale id renamed_file.file renamed_file.latest).none, refl)
+  kept_renamed id = inr (λ file stands. subst (RecoversNoRecord id) (same_some (sym stands_renamed ∙ stands)) (renamed_stale id renamed_file.file).none, refl)
 
   module _ (id : FileId) (format : LogFileFormat) (room new_room : ℕ) (header_fits : HasHeader format) (fits : format.alignment < 2 ^ 64) where
     pub kept_reusing : (new : Directory) → HasChanged path (IsAppending room new_room 0 (header_bytes format)) (after_rename src path old) new → RecoversPrefixAt path id [] 0 new
     kept_reusing new change =
         let R = IsAppending room new_room 0 (header_bytes format) in
         let how = was_file path (after_rename src path old) new R change (renamed_of renamed_file.file) stands_renamed in
-        let none = none_reusing id format header_fits fits room new_room (renamed_of renamed_file.file) change.after (renamed_stale id renamed_file.file renamed_file.latest) how in
+        let none = none_reusing id format header_fits fits room new_room (renamed_of renamed_file.file) change.after (renamed_stale id renamed_file.file) how in
         inr (λ file stands. subst (RecoversNoRecord id) (same_some (sym (stands_after path (after_rename src path old) new R change) ∙ stands)) none, refl)
 
     pub log_reused : (mid new : Directory) → HasChanged path (IsAppended room new_room 0 (header_bytes format)) (after_rename src path old) mid → HasChanged path IsSynced mid new → HasLog path id format [] 0 (header_len format.version) new
@@ -180,5 +175,5 @@ module _ (src path : Path) (other : FileId) (batches : List Batch) (synced : ℕ
           stands = stands_after path mid new IsSynced change;
           records = [];
           holds = refl;
-          written = written_reused id format header_fits fits room new_room (renamed_of renamed_file.file) first.after change.after (renamed_stale id renamed_file.file renamed_file.latest) how then;
+          written = written_reused id format header_fits fits room new_room (renamed_of renamed_file.file) first.after change.after (renamed_stale id renamed_file.file) how then;
         }
