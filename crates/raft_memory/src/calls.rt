@@ -15,9 +15,9 @@ use crate::memory::MemoryFileSystem;
 use raft_env::{FileSystem, FsFault, IoKind, Permission};
 
 impl FileSystem for MemoryFileSystem {
-    ghost use Rattle.raft_memory.specs.Memory.{memory_directory, memory_free, memory_metadata, memory_moments, memory_refusals, armed_of, set_at, stop_of, LeavesHalf};
+    ghost use Rattle.raft_memory.specs.Memory.{memory_directory, memory_free, memory_metadata, memory_moments, memory_refusals, armed_of, stop_of, LeavesHalf};
     ghost use Rattle.raft_memory.specs.Armed.{arms_after, injected, stop_after};
-    ghost use Rattle.raft_env.specs.Directory.{HasFile, IsAllocating, IsMakingFolder, IsOneOf, IsTruncating, ReadsAt, after_create, after_rename, without_file, file_at, folder_made, names_in};
+    ghost use Rattle.raft_env.specs.Directory.{HasFile, IsAllocating, IsMakingFolder, IsOneOf, IsTruncating, Path, ReadsAt, after_create, after_rename, without_file, file_at, folder_made, names_in};
     ghost use Rattle.raft_env.specs.Outcomes.{File, pad_to, file_after_resize, synced_of};
     ghost use Rattle.raft_env.specs.Refusal.{CountsRefusalOf, added_count, no_refusals};
     ghost use Rattle.raft_memory.specs.Refused.{HasNoFolder, HasNoPlace, HasNoRoom, IsAbsent, IsBarred, IsMissing, RefusesAs, WasArmed};
@@ -460,9 +460,11 @@ impl FileSystem for MemoryFileSystem {
     }
 
     fn delete_metadata(&mut self, path: &str) -> Result<(), FsFault>
-        ensures ok { OnOk result (memory_metadata self.new
-            ≡ set_at path.now false (memory_metadata self.old)) }
-        ensures err { OnErr result (memory_metadata self.new ≡ memory_metadata self.old) }
+        ensures ok { OnOk result (memory_metadata self.new path.now ≡ false) }
+        ensures err { OnErr result ((p : Path) → memory_metadata self.new p
+            ≡ memory_metadata self.old p) }
+        ensures others { (p : Path) → (p ≡ path.now → ⊥)
+            → memory_metadata self.new p ≡ memory_metadata self.old p }
         ensures unchanged { OnlyReads memory_directory memory_moments self.old self.new }
         ensures cause { CountsRefusalOf result (memory_refusals self.old)
             (memory_refusals self.new) }
