@@ -9,6 +9,7 @@ pub mod FileListLemmas
 pub mod FilesLemmas
 pub mod FolderLemmas
 pub mod FolderQueueLemmas
+pub mod FrontLemmas
 pub mod KeepsLogLemmas
 pub mod KeepsQueueLemmas
 pub mod KeptLemmas
