@@ -1,11 +1,13 @@
 -- What a pipe's queue keeps where a step keeps its files.
-use Rattle.std.proofs.Common.{◌≡◌, ℕ, suc, ◌≤◌, List, [], ◌∷◌, ◌++◌, length, refl, ap, sym, ◌∙◌, arith}
+use Rattle.std.proofs.Common.{◌≡◌, ℕ, suc, ◌≤◌, List, [], ◌∷◌, ◌++◌, length, refl, ap, sym, ◌∙◌, arith, length-append}
 use Rattle.raft_records.specs.Item.{Batch}
 use Rattle.raft_base.specs.declared.pipe_log.LogQueue.{LogQueue}
 use Rattle.raft_env.specs.Directory.{Directory, Path}
 use Rattle.raft_pipes.specs.Counts.{QueueCounts}
-use Rattle.raft_pipes.specs.PipeState.{PipeState, WritesFiles, files_from}
+use Rattle.raft_pipes.specs.PipeState.{PipeState, WritesFiles, files_from, last_seq, sealed_paths}
 use Rattle.raft_pipes.specs.QueueFiles.{HasFilesAfter, HasFilesBefore, IsKeptQueue, QueueFile}
+use Rattle.raft_pipes.proofs.PipeNamesLemmas.{length-sealed_paths}
+use Rattle.raft_pipes.proofs.StepsLemmas.{length-places_of}
 
 pub length-files_from : (seq : ℕ) (paths : List Path) → length (files_from seq paths) ≡ length paths
 length-files_from seq [] = refl
@@ -33,6 +35,11 @@ kept_as folders queue batches counts n k all after are dropped synced = record {
   dropped = omega (arith, k.dropped, dropped);
   synced = omega (arith, k.synced, synced);
 }
+
+-- the number of the last file
+pub last_is : (p : PipeState) (batches : List Batch) (counts : QueueCounts) (n : Directory) (w : WritesFiles p batches counts n) → w.last.seq ≡ last_seq p
+last_is p batches counts n w =
+    omega (arith, w.files.files.next, w.files.own_is, length-append w.files.front w.before, length-places_of w.before, ap length w.sealed_are, length-files_from p.first (sealed_paths p), length-sealed_paths p)
 
 pub written_fewer : (p : PipeState) (batches : List Batch) (counts : QueueCounts) (n : Directory) → WritesFiles p batches counts n → (fewer : ℕ) → fewer ≤ counts.synced → WritesFiles p batches (record counts { synced = fewer }) n
 written_fewer p batches counts n w fewer less = record {

@@ -35,6 +35,7 @@ pub mod QueueFilesLemmas
 pub mod QueueLemmas
 pub mod QueueRotationLemmas
 pub mod RefusalLemmas
+pub mod ReservedLemmas
 pub mod RestartLemmas
 pub mod RotationLemmas
 pub mod SealedFileLemmas

@@ -226,7 +226,7 @@ module _ (folders : List Path) (queue : LogQueue) (first : ℕ) (before : List Q
     stood_goes : StandsAbove folders queue k first before seq path new
     stood_goes = elim (less_or_not k first) [ inl less ↦ below_goes less | inr more ↦ own_goes more ]
 
-  pub gone_below : StandsAbove folders queue k first before seq path (without_file spare old)
+  gone_below : StandsAbove folders queue k first before seq path (without_file spare old)
   gone_below = elim (cases_Bool (has_file old spare)) [ inl stood ↦ stood_goes stood | inr none ↦ nothing_goes none ]
 
 -- Batches.
