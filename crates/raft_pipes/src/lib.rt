@@ -4,13 +4,17 @@
 pub mod file_list;
 mod files;
 mod log_folders;
+mod metadata;
 mod pipe;
 mod pipe_builder;
+pub mod prefill;
 mod replay;
 pub mod rotation;
 
 pub use files::read_files;
 pub use log_folders::LogFolders;
+pub use metadata::clear_metadata;
 pub use pipe::{AppendFault, RotationFault, SinglePipe};
 pub use pipe_builder::{DEFAULT_FIRST_FILE_SEQ, settle_or_begin};
+pub use prefill::{SpareFile, SpareLimits};
 pub use replay::{ReplayMachine, ReplayedLog};
