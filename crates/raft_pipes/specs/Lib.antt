@@ -1,6 +1,7 @@
 pub mod Blocks
 pub mod ByFile
 pub mod Completed
+pub mod Counts
 pub mod FileList
 pub mod Files
 pub mod Folder
@@ -18,4 +19,5 @@ pub mod Purge
 pub mod Read
 pub mod Refused
 pub mod Rotation
+pub mod Spare
 pub mod Written

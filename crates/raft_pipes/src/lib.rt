@@ -10,6 +10,8 @@ mod pipe_builder;
 pub mod prefill;
 mod replay;
 pub mod rotation;
+mod spare;
+pub mod spare_laws;
 
 pub use files::read_files;
 pub use log_folders::LogFolders;
@@ -18,3 +20,4 @@ pub use pipe::{AppendFault, RotationFault, SinglePipe};
 pub use pipe_builder::{DEFAULT_FIRST_FILE_SEQ, settle_or_begin};
 pub use prefill::{SpareFile, SpareLimits};
 pub use replay::{ReplayMachine, ReplayedLog};
+pub use spare::{SealedFile, SpareFile};
