@@ -18,6 +18,6 @@ pub use log_folders::LogFolders;
 pub use metadata::clear_metadata;
 pub use pipe::{AppendFault, RotationFault, SinglePipe};
 pub use pipe_builder::{DEFAULT_FIRST_FILE_SEQ, settle_or_begin};
-pub use prefill::{SpareFile, SpareLimits};
+pub use prefill::SpareLimits;
 pub use replay::{ReplayMachine, ReplayedLog};
 pub use spare::{SealedFile, SpareFile};
