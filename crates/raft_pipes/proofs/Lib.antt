@@ -5,6 +5,7 @@ pub mod ByFileLemmas
 pub mod ByFileOpeningLemmas
 pub mod ByFileRotationLemmas
 pub mod CompletedLemmas
+pub mod FileCallsLemmas
 pub mod FileListLemmas
 pub mod FilesLemmas
 pub mod FolderLemmas
@@ -12,8 +13,10 @@ pub mod FolderQueueLemmas
 pub mod KeepsLogLemmas
 pub mod KeepsQueueLemmas
 pub mod KeptLemmas
+pub mod KindLemmas
 pub mod ListedLemmas
 pub mod LogFileLemmas
+pub mod MetadataLemmas
 pub mod NamesInLemmas
 pub mod NamesLemmas
 pub mod NumberedLemmas
@@ -28,6 +31,7 @@ pub mod PipeQueueLemmas
 pub mod PipeResultLemmas
 pub mod PipeRotationLemmas
 pub mod PlacesLemmas
+pub mod PrefillLemmas
 pub mod PurgeLemmas
 pub mod QueueAppendLemmas
 pub mod QueueFilesLemmas
