@@ -11,6 +11,7 @@ pub mod AdvanceLemmas
 pub mod GroupLemmas
 pub mod GroupRunLemmas
 pub mod OpeningLemmas
+pub mod OpensLemmas
 pub mod RecoveryLemmas
 pub mod PlacedLemmas
 pub mod PurgeFaultLemmas
