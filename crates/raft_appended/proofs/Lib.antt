@@ -1,2 +1,1 @@
 pub mod AppendedLemmas
-pub mod DeletedLemmas
