@@ -8,6 +8,7 @@ pub mod Listing
 pub mod LogFile
 pub mod Numbered
 pub mod Open
+pub mod OpenedLogs
 pub mod Pipe
 pub mod Queue
 pub mod QueueFiles

@@ -4,6 +4,7 @@
 pub mod file_list;
 mod files;
 mod log_folders;
+mod opened_log;
 mod pipe;
 mod pipe_builder;
 mod replay;
@@ -11,6 +12,7 @@ pub mod rotation;
 
 pub use files::read_files;
 pub use log_folders::LogFolders;
+pub use opened_log::{OpenedLog, end_logs, open_logs, replay_logs};
 pub use pipe::{AppendFault, RotationFault, SinglePipe};
 pub use pipe_builder::{DEFAULT_FIRST_FILE_SEQ, settle_or_begin};
 pub use replay::{ReplayMachine, ReplayedLog};
