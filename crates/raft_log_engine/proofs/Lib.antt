@@ -13,6 +13,8 @@ pub mod GroupRunLemmas
 pub mod OpeningLemmas
 pub mod OpensLemmas
 pub mod RecoveryLemmas
+pub mod ReadingLemmas
+pub mod SettledLemmas
 pub mod PlacedLemmas
 pub mod PurgeFaultLemmas
 pub mod PurgeLemmas
