@@ -15,4 +15,5 @@ pub mod PipeState
 pub mod Purge
 pub mod Read
 pub mod Rotation
+pub mod Spare
 pub mod Written

@@ -7,6 +7,7 @@ mod log_folders;
 mod pipe;
 mod pipe_builder;
 mod replay;
+pub mod spare_laws;
 pub mod rotation;
 
 pub use files::read_files;
