@@ -9,19 +9,19 @@ use Rattle.std.specs.List.{AllByRecursion}
 use Rattle.std.proofs.lemmas.Bool.{cases_Bool}
 use Rattle.std.proofs.lemmas.List.{append-nil, map-append}
 use Rattle.raft_base.specs.declared.pipe_log.LogQueue.{LogQueue}
-use Rattle.raft_env.specs.Directory.{CrashImage, Directory, HasFile, Path, after_rename, after_rename_at, file_at, with_file, without_file}
+use Rattle.raft_env.specs.Directory.{Directory, HasFile, Path, after_rename, after_rename_at, file_at, with_file, without_file}
 use Rattle.raft_env.specs.Outcomes.{File, renamed_of}
-use Rattle.raft_files.specs.Records.{FirstOf, RecoversPrefixAt}
+use Rattle.raft_files.specs.Records.{RecoversPrefixAt}
 use Rattle.raft_env.proofs.DirectoryLemmas.{file_at-placed_other, file_at-placed_same, file_at-removed_same, file_at-removed_other}
 use Rattle.raft_files.specs.Sealed.{IsSealed}
 use Rattle.raft_files.specs.Name.{file_name}
 use Rattle.raft_pipes.specs.Folder.{LeavesOthers}
 use Rattle.raft_pipes.specs.Numbered.{AreNumbered, IsPathOf, IsRun, end_of_numbers, has_file, in_queue, paths_of}
-use Rattle.raft_pipes.specs.QueueFiles.{HasFilesBefore, IsDetectableQueue, LeavesSynced, QueueFile, batches_in, batches_with, if_standing, places_of, queue_after_crash, synced_with}
-use Rattle.raft_pipes.specs.Spare.{HasFilesAfter, IsLeftOf, IsNoPathOf, KeepsBatches, QueueCounts, StandsAbove}
+use Rattle.raft_pipes.specs.Counts.{IsLeftOf, QueueCounts}
+use Rattle.raft_pipes.specs.QueueFiles.{HasFilesAfter, HasFilesBefore, IsKeptQueue, IsNoPathOf, QueueFile, batches_in, batches_with, counts_after, if_standing, places_of, synced_with}
 use Rattle.raft_pipes.proofs.NumberedLemmas.{numbered_dropped, run_at, run_back, run_front, run_same}
 use Rattle.raft_pipes.proofs.PlacesLemmas.{among_passing, one_of, path_cases, paths_of-other, paths_of-removed}
-use Rattle.raft_pipes.proofs.QueueFilesLemmas.{all_back, files_first}
+use Rattle.raft_pipes.proofs.QueueFilesLemmas.{all_back}
 use Rattle.raft_pipes.proofs.StepsLemmas.{files_beside, files_stay, length-places_of, paths_apart, run_before, sealed_apart}
 
 found_file : (path : Path) (n : Directory) → HasFile n path → (file : File) × (file_at n path ≡ Some file)
@@ -62,6 +62,15 @@ found_in here k seq (f ∷ files) low high run = by_test (less_or_not seq k) (λ
     by_test (inl less) more =
         let found = more less in
         record { front = f ∷ found.front; f = found.f; rest = found.rest; split = ap (λ fs. f ∷ fs) found.split; seq_is = found.seq_is }
+
+-- without the file of a number the queue consists of the files after it
+record StandsAbove (folders : List Path) (queue : LogQueue) (k first : ℕ) (before : List QueueFile) (seq : ℕ) (path : Path) (n : Directory) : Type 0 where
+  from : ℕ
+  out : List QueueFile
+  kept : List QueueFile
+  split : before ≡ out ++ kept
+  few : length out ≤ suc k - first
+  files : HasFilesBefore folders queue from kept seq path n
 
 module _ (folders : List Path) (queue : LogQueue) (first : ℕ) (before : List QueueFile) (seq : ℕ) (path : Path) (old : Directory) (files : HasFilesBefore folders queue first before seq path old) (k : ℕ) (spare : Path) (is_path : IsPathOf folders queue k spare) (low : k < seq) (behind_it : (suc k < seq) ⊎ HasFile old path) where
   abbrev new : Directory
@@ -225,24 +234,6 @@ module _ (folders : List Path) (queue : LogQueue) (first : ℕ) (before : List Q
 batches-append : (xs ys : List QueueFile) → batches_in (xs ++ ys) ≡ batches_in xs ++ batches_in ys
 batches-append xs ys = flat_map-append (λ (f : QueueFile). f.batches) xs ys
 
-drop-gone : (gone bs : List Batch) (count : ℕ) → drop (length gone) (take (length gone + count) (gone ++ bs)) ≡ take count bs
-drop-gone [] bs count = ap (λ c. take c bs) (let e : 0 + count ≡ count = omega arith in e)
-drop-gone (b ∷ bs0) bs count = ap (λ c. drop (length (b ∷ bs0)) (take c (b ∷ bs0 ++ bs))) (let e : suc (length bs0) + count ≡ suc (length bs0 + count) = omega arith in e) ∙ drop-gone bs0 bs count
-
-pub left_of : (folders : List Path) (queue : LogQueue) (batches : List Batch) (counts : QueueCounts) (n : Directory) → KeepsBatches folders queue batches counts n → (d : CrashImage) → LeavesSynced n d → IsDetectableQueue folders queue n d → IsLeftOf batches counts (queue_after_crash folders queue n d)
-left_of folders queue batches counts n k d leaves detectable = by_first (files_first folders queue k.first k.before k.last k.more n k.keeps d leaves detectable)
-  where
-    by_first : FirstOf (batches_in k.before ++ k.last.batches) (length (batches_in k.before) + k.more) (queue_after_crash folders queue n d) → IsLeftOf batches counts (queue_after_crash folders queue n d)
-    by_first (count, low, high, is) = record {
-      from = length k.gone;
-      count = length k.gone + count;
-      few = k.few;
-      dropped = omega (arith, k.dropped, low);
-      synced = omega (arith, k.synced, low);
-      within = omega (arith, high, ap length k.are, length-append k.gone (batches_in k.before ++ k.last.batches));
-      is = is ∙ sym (ap (λ bs. drop (length k.gone) (take (length k.gone + count) bs)) k.are ∙ drop-gone k.gone (batches_in k.before ++ k.last.batches) count);
-    }
-
 -- files at the front of two lists of which one is no longer than the front
 record FrontSplit (front before out kept : List QueueFile) : Type 0 where
   rest : List QueueFile
@@ -337,7 +328,7 @@ module _ (folders : List Path) (queue : LogQueue) (own : ℕ) (dropped : List Ba
       there = ap is_some (ap (λ m. file_at m path) is ∙ file_at-placed_same path (renamed_of file) (without_file spare old))
 
 pub after_keeps : (folders : List Path) (queue : LogQueue) (own : ℕ) (dropped : List Batch) (before : List QueueFile) (last : QueueFile) (more : ℕ) (n : Directory) → HasFilesAfter folders queue own dropped before last.seq last.path n → RecoversPrefixAt last.path (in_queue queue last.seq) last.batches more n
-    → KeepsBatches folders queue (dropped ++ batches_with before last) (record { dropped = length dropped; synced = length dropped + synced_with before more }) n
+    → IsKeptQueue folders queue (dropped ++ batches_with before last) (counts_after dropped before more) n
 after_keeps folders queue own dropped before last more n a end = record {
   first = a.first;
   before = a.front ++ before;

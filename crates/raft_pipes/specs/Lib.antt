@@ -1,6 +1,7 @@
 pub mod Blocks
 pub mod ByFile
 pub mod Completed
+pub mod Counts
 pub mod FileList
 pub mod Files
 pub mod Folder

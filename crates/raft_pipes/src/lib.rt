@@ -7,11 +7,13 @@ mod log_folders;
 mod pipe;
 mod pipe_builder;
 mod replay;
-pub mod spare_laws;
 pub mod rotation;
+mod spare;
+pub mod spare_laws;
 
 pub use files::read_files;
 pub use log_folders::LogFolders;
 pub use pipe::{AppendFault, RotationFault, SinglePipe};
 pub use pipe_builder::{DEFAULT_FIRST_FILE_SEQ, settle_or_begin};
 pub use replay::{ReplayMachine, ReplayedLog};
+pub use spare::{SealedFile, SpareFile};

@@ -5,8 +5,8 @@ ghost use Rattle.raft_base.specs.declared.pipe_log.LogQueue.{LogQueue};
 ghost use Rattle.raft_env.specs.Directory.{CrashImage, Directory, HasFile, Path, after_rename, file_at, without_file};
 ghost use Rattle.raft_files.specs.Records.{RecoversPrefixAt};
 ghost use Rattle.raft_pipes.specs.Numbered.{IsPathOf, in_queue};
-ghost use Rattle.raft_pipes.specs.QueueFiles.{HasFilesBefore, IsDetectableQueue, LeavesSynced, QueueFile, batches_with, queue_after_crash, synced_with};
-ghost use Rattle.raft_pipes.specs.Spare.{HasFilesAfter, IsLeftOf, IsNoPathOf, KeepsBatches, QueueCounts};
+ghost use Rattle.raft_pipes.specs.QueueFiles.{HasFilesAfter, HasFilesBefore, IsDetectableQueue, IsKeptQueue, IsNoPathOf, LeavesSynced, QueueFile, batches_with, counts_after, queue_after_crash};
+ghost use Rattle.raft_pipes.specs.Counts.{IsLeftOf, QueueCounts};
 
 /// A queue with files of dropped batches right before its own. Any file with a number below its own
 /// may go (`gone`), and come under the number after the last one (`renamed`). Its first own file may
@@ -47,12 +47,10 @@ pub fn files_below_may_go()
         (before : List QueueFile) (last : QueueFile) (more : ℕ) (n : Directory)
         → HasFilesAfter folders queue own dropped before last.seq last.path n
         → RecoversPrefixAt last.path (in_queue queue last.seq) last.batches more n
-        → KeepsBatches folders queue (dropped ++ batches_with before last) (record {
-          dropped = length dropped;
-          synced = length dropped + synced_with before more;
-        }) n }
+        → IsKeptQueue folders queue (dropped ++ batches_with before last)
+        (counts_after dropped before more) n }
     ensures left { (folders : List Path) (queue : LogQueue) (batches : List Batch)
-        (counts : QueueCounts) (n : Directory) → KeepsBatches folders queue batches counts n
+        (counts : QueueCounts) (n : Directory) → IsKeptQueue folders queue batches counts n
         → (d : CrashImage) → LeavesSynced n d → IsDetectableQueue folders queue n d
         → IsLeftOf batches counts (queue_after_crash folders queue n d) }
     ensures split { (older synced since found : List Batch)

@@ -1,4 +1,5 @@
-use Rattle.raft_pipes.proofs.SpareLemmas.{after_dropped, after_gone, after_keeps, after_own, after_renamed, after_reserved, after_set_aside, left_of, left_split}
+use Rattle.raft_pipes.proofs.SpareLemmas.{after_dropped, after_gone, after_keeps, after_own, after_renamed, after_reserved, after_set_aside, left_split}
+use Rattle.raft_pipes.proofs.QueueFilesLemmas.{queue_left}
 use Rattle.raft_pipes.proofs.spare_laws.files_below_may_go.Goals as goal
 
 pub returns-clause-own : goal.returns-clause-own
@@ -18,7 +19,7 @@ pub returns-clause-keeps : goal.returns-clause-keeps
 returns-clause-keeps c = after_keeps
 
 pub returns-clause-left : goal.returns-clause-left
-returns-clause-left c = left_of
+returns-clause-left c = λ folders queue batches counts n keeps d leaves detectable. (queue_left folders queue batches counts n keeps d leaves).1 detectable
 
 pub returns-clause-split : goal.returns-clause-split
 returns-clause-split c = left_split
