@@ -1,5 +1,6 @@
 //! Reserved files, the folder that a new file goes to, and metadata of files that are gone.
 
+use crate::folders;
 use crate::two_folders::settings;
 use raft_env::{FileSystem, FsFault, IoKind, Permission};
 use raft_memory::{FsCall, MemoryFileSystem};
@@ -246,7 +247,7 @@ fn is_cleared(alloc: Global, row: &Cleared) -> Result<bool, Fail> {
     if let Some(nth) = row.refused {
         fs.refuse(FsCall::DeleteMetadata, nth, IoKind::Other)?;
     }
-    let folders = LogFolders::new(&settings(alloc, &("data", "more"))?)?;
+    let folders = LogFolders::new(&folders::settings(alloc)?)?;
     clear_metadata(alloc, &folders, LogQueue::Append, row.first, &mut fs)?;
     let mut is_so = true;
     for seq in row.had {
