@@ -4,14 +4,13 @@ use Rattle.std.proofs.lemmas.Bool.{cases_lt}
 use Rattle.std.proofs.lemmas.Bool.Decides.{nat_tests}
 use Rattle.std.proofs.lemmas.List.{length-take-le, length-replicate, get_or-take, get_or-drop, get_or-replicate, ext_get_or}
 use Rattle.std.specs.Int.{w64, from_be_bytes}
-use Rattle.raft_records.specs.Item.{Batch}
-use Rattle.raft_records.specs.Record.{Header, header_in, record_header, record_of}
+use Rattle.raft_records.specs.Record.{Header, header_in, record_header}
 use Rattle.raft_base.specs.declared.pipe_log.FileId.{FileId}
 use Rattle.raft_env.specs.Outcomes.{Change}
 use Rattle.raft_files.specs.Scan.{PlacedRecord, record_at}
 use Rattle.raft_files.specs.Detectable.{HasNoByteOfFailedCall, IsFromCompletedCall, IsFreshAfter}
 use Rattle.raft_files.specs.Records.{IsRefusedAt, IsEmptyFrom, HasNothingFrom}
-use Rattle.raft_files.proofs.ScanExtentLemmas.{record_header_is, record_header_long, record_of_header}
+use Rattle.raft_files.proofs.ScanExtentLemmas.{record_header_is, record_header_long}
 use Rattle.raft_files.proofs.ScanLemmas.{found_record, read_in}
 use Rattle.raft_files.proofs.DetectableStaleLemmas.{GivesNoneFrom, fresh_before, not_given, untried_not_fresh}
 

@@ -1,11 +1,10 @@
 -- A log file that is renamed and begun anew: nothing of what it held under its old name is found.
 use Rattle.std.proofs.Common.{◌≡◌, ℕ, ◌+◌, ◌-◌, ◌^◌, ◌<◌, ◌≤◌, true, false, List, [], ◌∷◌, ◌++◌, length, take, Option, Some, None, IsSome, Contains, refl, ap, sym, subst, ◌∙◌, inl, inr, arith}
 use Rattle.std.proofs.lemmas.List.{take_at, length-append, length-take}
-use Rattle.raft_records.specs.Item.{Batch}
 use Rattle.raft_base.specs.declared.pipe_log.FileId.{FileId}
 use Rattle.raft_files.specs.declared.format.LogFileFormat.{LogFileFormat}
 use Rattle.raft_files.specs.Header.{HasHeader, header_bytes, header_len}
-use Rattle.raft_env.specs.Outcomes.{File, Change, is_written, IsPartOf, changed_by, file_after_write, overlay, synced_of, renamed_of, bytes_after, resized_change, lengthened_change, written_change}
+use Rattle.raft_env.specs.Outcomes.{File, Change, is_written, IsPartOf, changed_by, file_after_write, overlay, synced_of, renamed_of, resized_change, lengthened_change, written_change}
 use Rattle.raft_env.specs.Directory.{Directory, Path, HasFile, file_at, without_file, after_rename, after_rename_at}
 use Rattle.raft_files.specs.Scan.{PlacedRecord, ScanResult, scan_file, records_of, readable_records}
 use Rattle.raft_files.specs.Detectable.{signature_by, AreFresh, IsFreshAfter}
