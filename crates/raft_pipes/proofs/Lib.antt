@@ -5,6 +5,7 @@ pub mod ByFileLemmas
 pub mod ByFileOpeningLemmas
 pub mod ByFileRotationLemmas
 pub mod CompletedLemmas
+pub mod DroppedLemmas
 pub mod FileListLemmas
 pub mod FilesLemmas
 pub mod FolderLemmas
