@@ -1,2 +1,4 @@
 pub mod AppendedLemmas
-pub mod DeletedLemmas
+pub mod CodedLemmas
+pub mod HoleLemmas
+pub mod OverLemmas

@@ -1,4 +1,5 @@
 pub mod ApartLemmas
+pub mod BeginLemmas
 pub mod BlocksLemmas
 pub mod ByFileCallsLemmas
 pub mod ByFileLemmas
@@ -6,6 +7,7 @@ pub mod ByFileOpeningLemmas
 pub mod ByFileRotationLemmas
 pub mod CompletedLemmas
 pub mod DroppedLemmas
+pub mod FileCallsLemmas
 pub mod FileListLemmas
 pub mod FilesLemmas
 pub mod FolderLemmas
@@ -14,12 +16,14 @@ pub mod FrontLemmas
 pub mod KeepsLogLemmas
 pub mod KeepsQueueLemmas
 pub mod KeptLemmas
+pub mod KindLemmas
 pub mod ListedLemmas
 pub mod LogFileLemmas
+pub mod MetadataLemmas
 pub mod NamesInLemmas
 pub mod NamesLemmas
 pub mod NumberedLemmas
-mod OnlyLemmas
+pub mod OnlyLemmas
 pub mod OpenLemmas
 pub mod OpenMomentsLemmas
 pub mod OpenReplayLemmas
@@ -30,6 +34,7 @@ pub mod PipeQueueLemmas
 pub mod PipeResultLemmas
 pub mod PipeRotationLemmas
 pub mod PlacesLemmas
+pub mod PrefillLemmas
 pub mod PurgeLemmas
 pub mod QueueAppendLemmas
 pub mod QueueFilesLemmas
