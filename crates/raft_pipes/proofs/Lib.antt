@@ -10,6 +10,7 @@ pub mod FileListLemmas
 pub mod FilesLemmas
 pub mod FolderLemmas
 pub mod FolderQueueLemmas
+pub mod FrontLemmas
 pub mod KeepsLogLemmas
 pub mod KeepsQueueLemmas
 pub mod KeptLemmas
@@ -35,6 +36,7 @@ pub mod QueueFilesLemmas
 pub mod QueueLemmas
 pub mod QueueRotationLemmas
 pub mod RefusalLemmas
+pub mod ReservedLemmas
 pub mod RestartLemmas
 pub mod RotationLemmas
 pub mod SealedFileLemmas
