@@ -6,6 +6,7 @@ pub mod ByFileLemmas
 pub mod ByFileOpeningLemmas
 pub mod ByFileRotationLemmas
 pub mod CompletedLemmas
+pub mod DroppedLemmas
 pub mod FileListLemmas
 pub mod FilesLemmas
 pub mod FolderLemmas
