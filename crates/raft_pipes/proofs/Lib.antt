@@ -21,6 +21,7 @@ mod OnlyLemmas
 pub mod OpenLemmas
 pub mod OpenMomentsLemmas
 pub mod OpenReplayLemmas
+pub mod OpenedLogsLemmas
 pub mod OpenedQueueLemmas
 pub mod PipeDoubtLemmas
 pub mod PipeNamesLemmas
@@ -33,6 +34,7 @@ pub mod QueueAppendLemmas
 pub mod QueueFilesLemmas
 pub mod QueueLemmas
 pub mod QueueRotationLemmas
+pub mod ReadFilesLemmas
 pub mod RefusalLemmas
 pub mod RestartLemmas
 pub mod RotationLemmas
