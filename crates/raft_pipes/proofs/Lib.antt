@@ -27,6 +27,7 @@ pub mod OnlyLemmas
 pub mod OpenLemmas
 pub mod OpenMomentsLemmas
 pub mod OpenReplayLemmas
+pub mod OpenedLogsLemmas
 pub mod OpenedQueueLemmas
 pub mod PipeDoubtLemmas
 pub mod PipeNamesLemmas
@@ -40,6 +41,7 @@ pub mod QueueAppendLemmas
 pub mod QueueFilesLemmas
 pub mod QueueLemmas
 pub mod QueueRotationLemmas
+pub mod ReadFilesLemmas
 pub mod RefusalLemmas
 pub mod ReservedLemmas
 pub mod RestartLemmas
