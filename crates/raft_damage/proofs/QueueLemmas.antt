@@ -10,6 +10,7 @@ use Rattle.raft_memory.specs.declared.crash.Choice.{Choice}
 use Rattle.raft_files.specs.Detectable.{IsDetectable}
 use Rattle.raft_files.proofs.ScanExtentLemmas.{same_some}
 use Rattle.raft_pipes.specs.Completed.{HasSimplePastOf, PipeHasCompletedLogIfSimple}
+use Rattle.raft_pipes.specs.Counts.{QueueCounts}
 use Rattle.raft_config.specs.Folders.{Folders, all_of}
 use Rattle.raft_pipes.specs.Counts.{QueueCounts}
 use Rattle.raft_pipes.specs.Numbered.{in_queue}
