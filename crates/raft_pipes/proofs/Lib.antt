@@ -43,6 +43,7 @@ pub mod QueueLemmas
 pub mod QueueRotationLemmas
 pub mod ReadFilesLemmas
 pub mod RefusalLemmas
+pub mod ReserveLemmas
 pub mod ReservedLemmas
 pub mod RestartLemmas
 pub mod RotationLemmas
