@@ -22,7 +22,7 @@ use Rattle.raft_recovery.specs.Recovered.{recovered}
 use Rattle.raft_recovery.specs.Stands.{Queues, Stands}
 use Rattle.raft_recovery.proofs.StandsLemmas.{all_rewritten, found_prefix, stands_front_dropped, stands_older_gone, stands_rewritten, stands_rewritten_synced}
 use Rattle.raft_held.specs.Crash.{KeepsContents, RecoversContents}
-use Rattle.raft_held.specs.Held.{HoldsContents, HoldsQueues, appends, batches_in, drops, synced_in, syncs}
+use Rattle.raft_held.specs.Held.{HoldsContents, HoldsQueues, appends, batches_in, drops, counts_in, syncs}
 use Rattle.raft_recovery.specs.Takes.{CanDropFront, RewriteTakes}
 use Rattle.raft_held.proofs.StepsLemmas.{drop_nothing, have_both, recover_both, queues_appended, queues_appending, queues_synced, some_none, take_nothing}
 
@@ -124,7 +124,7 @@ module _ (d : DualState) (old : Directory) (most count : ℕ) (few : count ≤ m
   same_rest Append = sym (ap (λ bs. stay ++ bs) synced ∙ append-nil stay)
   same_rest Rewrite = refl
 
-  same_synced : (queue : LogQueue) → with_queue Append (synced_in q Append - length gone) (synced_in q) queue ≡ synced_in (drops stay q) queue
+  same_synced : (queue : LogQueue) → with_queue Append (counts_in q Append - length gone) (counts_in q) queue ≡ counts_in (drops stay q) queue
   same_synced Append = omega (arith, ap length (split ∙ append_assoc gone later.0 can.rest), length-append gone stay)
   same_synced Rewrite = refl
 
@@ -143,9 +143,9 @@ module _ (d : DualState) (folders : Folders) (m : Contents) (P : Queues → Type
         queues = drops rest q;
         stands = dropped_stands d old most count few q m h.stands h.since_are c;
         since_are = h.since_are;
-        has = have_both d' folders new (with_queue Append rest (batches_in q)) (batches_in (drops rest q)) (with_queue Append (synced_in q Append - length (gone d old most count few q m h.stands h.since_are c)) (synced_in q)) (synced_in (drops rest q))
+        has = have_both d' folders new (with_queue Append rest (batches_in q)) (batches_in (drops rest q)) (with_queue Append (counts_in q Append - length (gone d old most count few q m h.stands h.since_are c)) (counts_in q)) (counts_in (drops rest q))
             (same_rest d old most count few q m h.stands h.since_are c) (λ queue. let same = same_synced d old most count few q m h.stands h.since_are c queue in omega (arith, same))
-            ((done.keeps folders (batches_in q) (synced_in q) h.has).1 rest (all_split d old most count few q m h.stands h.since_are c));
+            ((done.keeps folders (batches_in q) (counts_in q) h.has).1 rest (all_split d old most count few q m h.stands h.since_are c));
         more = more q rest h.more (split d old most count few q m h.stands h.since_are c ∙ append_assoc _ _ c.rest);
       }))
 
@@ -162,7 +162,7 @@ module _ (d : DualState) (folders : Folders) (m : Contents) (P : Queues → Type
         queues = drops rest q;
         stands = dropped_stands d old most count few q m h.stands h.since_are c;
         since_are = h.since_are;
-        recovers = recover_both folders n (with_queue Append rest (batches_in q)) (batches_in (drops rest q)) (with_queue Append (synced_in q Append - length (gone d old most count few q m h.stands h.since_are c)) (synced_in q)) (synced_in (drops rest q))
+        recovers = recover_both folders n (with_queue Append rest (batches_in q)) (batches_in (drops rest q)) (with_queue Append (counts_in q Append - length (gone d old most count few q m h.stands h.since_are c)) (counts_in q)) (counts_in (drops rest q))
             (same_rest d old most count few q m h.stands h.since_are c) (same_synced d old most count few q m h.stands h.since_are c)
-            ((keeps.1.2 folders (batches_in q) (synced_in q) h.has).1 rest (all_split d old most count few q m h.stands h.since_are c));
+            ((keeps.1.2 folders (batches_in q) (counts_in q) h.has).1 rest (all_split d old most count few q m h.stands h.since_are c));
       }))

@@ -40,6 +40,7 @@ pub mod SealedFileLemmas
 pub mod SettledFilesLemmas
 pub mod SettledQueueLemmas
 pub mod SingleLemmas
+pub mod SpareLemmas
 pub mod StepsLemmas
 pub mod TakenLemmas
 pub mod WrittenLemmas

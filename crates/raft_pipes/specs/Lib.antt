@@ -1,6 +1,7 @@
 pub mod Blocks
 pub mod ByFile
 pub mod Completed
+pub mod Counts
 pub mod FileList
 pub mod Files
 pub mod Folder
@@ -16,4 +17,5 @@ pub mod PipeState
 pub mod Purge
 pub mod Read
 pub mod Rotation
+pub mod Spare
 pub mod Written

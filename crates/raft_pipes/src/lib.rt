@@ -9,6 +9,8 @@ mod pipe;
 mod pipe_builder;
 mod replay;
 pub mod rotation;
+mod spare;
+pub mod spare_laws;
 
 pub use files::read_files;
 pub use log_folders::LogFolders;
@@ -16,3 +18,4 @@ pub use opened_log::{OpenedLog, end_logs, open_logs, replay_logs};
 pub use pipe::{AppendFault, RotationFault, SinglePipe};
 pub use pipe_builder::{DEFAULT_FIRST_FILE_SEQ, settle_or_begin};
 pub use replay::{ReplayMachine, ReplayedLog};
+pub use spare::{SealedFile, SpareFile};
