@@ -3,7 +3,7 @@ use Rattle.raft_env.specs.Directory.{without_file}
 use Rattle.raft_memory.specs.Files.{namespace_directory}
 use Rattle.raft_env.proofs.MomentsLemmas.{passes_one}
 use Rattle.raft_memory.proofs.MemoryInvariantLemmas.{invariant-deleted, invariant-same}
-use Rattle.raft_memory.proofs.memory.MemoryFileSystemFileSystem.delete.Goals as goal
+use Rattle.raft_memory.proofs.calls.MemoryFileSystemFileSystem.delete.Goals as goal
 
 pub returns-clause-any_moment : goal.returns-clause-any_moment
 returns-clause-any_moment c =

@@ -3,7 +3,7 @@ use Rattle.std.specs.BTreeMap as tree
 use Rattle.std.specs.String.{string_bytes}
 use Rattle.raft_env.specs.Directory.{ReadsAt, IsReading}
 use Rattle.raft_memory.proofs.MemoryLemmas.{file_at-namespace_directory}
-use Rattle.raft_memory.proofs.memory.MemoryFileSystemFileSystem.read.Goals as goal
+use Rattle.raft_memory.proofs.calls.MemoryFileSystemFileSystem.read.Goals as goal
 
 pub returns-in-Some-get-clause-ok : goal.returns-in-Some-get-clause-ok
 returns-in-Some-get-clause-ok c =

@@ -3,7 +3,7 @@ use Rattle.raft_env.specs.Directory.{after_rename}
 use Rattle.raft_memory.specs.Files.{namespace_directory}
 use Rattle.raft_env.proofs.MomentsLemmas.{passes_one}
 use Rattle.raft_memory.proofs.MemoryInvariantLemmas.{invariant-renamed, invariant-same}
-use Rattle.raft_memory.proofs.memory.MemoryFileSystemFileSystem.rename.Goals as goal
+use Rattle.raft_memory.proofs.calls.MemoryFileSystemFileSystem.rename.Goals as goal
 
 pub returns-clause-any_moment : goal.returns-clause-any_moment
 returns-clause-any_moment c =

@@ -6,7 +6,7 @@ use Rattle.raft_memory.specs.Files.{namespace_directory}
 use Rattle.raft_env.proofs.MomentsLemmas.{passes_one}
 use Rattle.raft_memory.proofs.MemoryLemmas.{changing}
 use Rattle.raft_memory.proofs.MemoryInvariantLemmas.{invariant-cut, invariant-same}
-use Rattle.raft_memory.proofs.memory.MemoryFileSystemFileSystem.truncate.Goals as goal
+use Rattle.raft_memory.proofs.calls.MemoryFileSystemFileSystem.truncate.Goals as goal
 
 pub returns-clause-any_moment : goal.returns-clause-any_moment
 returns-clause-any_moment c =

@@ -4,7 +4,7 @@ use Rattle.std.specs.String.{string_bytes}
 use Rattle.raft_memory.specs.Memory.{memory_directory}
 use Rattle.raft_memory.specs.Refused.{IsAbsent}
 use Rattle.raft_memory.proofs.MemoryLemmas.{file_at-namespace_directory}
-use Rattle.raft_memory.proofs.memory.MemoryFileSystemFileSystem.file_size.Goals as goal
+use Rattle.raft_memory.proofs.calls.MemoryFileSystemFileSystem.file_size.Goals as goal
 
 pub returns-in-Some-get-clause-size : goal.returns-in-Some-get-clause-size
 returns-in-Some-get-clause-size c =

@@ -4,7 +4,7 @@ use Rattle.raft_memory.specs.Files.{namespace_directory}
 use Rattle.raft_memory.proofs.FilesFolderLemmas.{making_done, making_none}
 use Rattle.raft_env.proofs.MomentsLemmas.{passes_none, passes_one}
 use Rattle.raft_memory.proofs.MemoryInvariantLemmas.{invariant-folder_made, invariant-same}
-use Rattle.raft_memory.proofs.memory.MemoryFileSystemFileSystem.make_dir.Goals as goal
+use Rattle.raft_memory.proofs.calls.MemoryFileSystemFileSystem.make_dir.Goals as goal
 
 pub returns-clause-any_moment : goal.returns-clause-any_moment
 returns-clause-any_moment c =
