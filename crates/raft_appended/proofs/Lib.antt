@@ -1,1 +1,4 @@
 pub mod AppendedLemmas
+pub mod CodedLemmas
+pub mod HoleLemmas
+pub mod OverLemmas

@@ -226,7 +226,7 @@ module _ (folders : List Path) (queue : LogQueue) (first : ℕ) (before : List Q
     stood_goes : StandsAbove folders queue k first before seq path new
     stood_goes = elim (less_or_not k first) [ inl less ↦ below_goes less | inr more ↦ own_goes more ]
 
-  pub gone_below : StandsAbove folders queue k first before seq path (without_file spare old)
+  gone_below : StandsAbove folders queue k first before seq path (without_file spare old)
   gone_below = elim (cases_Bool (has_file old spare)) [ inl stood ↦ stood_goes stood | inr none ↦ nothing_goes none ]
 
 -- Batches.
@@ -256,6 +256,22 @@ front_split (g ∷ front) before (f ∷ out) kept is few =
     head_or : QueueFile → List QueueFile → QueueFile
     head_or x [] = x
     head_or x (y ∷ ys) = y
+
+-- Files below the first one.
+
+-- without a front no file below the first one is any of the queue's
+pub below_gone : (folders : List Path) (queue : LogQueue) (first : ℕ) (before : List QueueFile) (seq : ℕ) (path : Path) (old : Directory) → HasFilesBefore folders queue first before seq path old → (k : ℕ) (spare : Path) → IsPathOf folders queue k spare → k < first → (suc k < seq) ⊎ HasFile old path
+    → HasFilesBefore folders queue first before seq path (without_file spare old)
+below_gone folders queue first before seq path old files k spare is_path low behind_it = by_out above.out above.kept above.split above.few above.files
+  where
+    above : StandsAbove folders queue k first before seq path (without_file spare old)
+    above = gone_below folders queue first before seq path old files k spare is_path (omega (arith, files.next, low)) behind_it
+
+    by_out : (out kept : List QueueFile) → before ≡ out ++ kept → length out ≤ suc k - first → HasFilesBefore folders queue above.from kept seq path (without_file spare old) → HasFilesBefore folders queue first before seq path (without_file spare old)
+    by_out [] kept split few there =
+        subst (λ fs. HasFilesBefore folders queue first fs seq path (without_file spare old)) (sym split)
+        (subst (λ from. HasFilesBefore folders queue from kept seq path (without_file spare old)) (let same : above.from ≡ first = omega (arith, there.next, files.next, ap length split) in same) there)
+    by_out (f ∷ out) kept split few there = absurd (omega (arith, few, low))
 
 -- Files with a front.
 
@@ -327,6 +343,13 @@ module _ (folders : List Path) (queue : LogQueue) (own : ℕ) (dropped : List Ba
       there : HasFile (after_rename spare path old) path
       there = ap is_some (ap (λ m. file_at m path) is ∙ file_at-placed_same path (renamed_of file) (without_file spare old))
 
+-- the batches that stand follow those that are gone
+pub after_batches : (folders : List Path) (queue : LogQueue) (own : ℕ) (dropped : List Batch) (before : List QueueFile) (last : QueueFile) (n : Directory) (a : HasFilesAfter folders queue own dropped before last.seq last.path n) → dropped ++ batches_with before last ≡ a.gone ++ batches_with (a.front ++ before) last
+after_batches folders queue own dropped before last n a =
+    ap (λ bs. bs ++ batches_with before last) a.dropped_is
+    ∙ append_assoc a.gone (batches_in a.front) (batches_with before last)
+    ∙ ap (λ bs. a.gone ++ bs) (sym (append_assoc (batches_in a.front) (batches_in before) last.batches) ∙ ap (λ bs. bs ++ last.batches) (sym (batches-append a.front before)))
+
 pub after_keeps : (folders : List Path) (queue : LogQueue) (own : ℕ) (dropped : List Batch) (before : List QueueFile) (last : QueueFile) (more : ℕ) (n : Directory) → HasFilesAfter folders queue own dropped before last.seq last.path n → RecoversPrefixAt last.path (in_queue queue last.seq) last.batches more n
     → IsKeptQueue folders queue (dropped ++ batches_with before last) (counts_after dropped before more) n
 after_keeps folders queue own dropped before last more n a end = record {
@@ -336,10 +359,7 @@ after_keeps folders queue own dropped before last more n a end = record {
   more = more;
   keeps = record { files = a.files; end = end };
   gone = a.gone;
-  are =
-      ap (λ bs. bs ++ batches_with before last) a.dropped_is
-      ∙ append_assoc a.gone (batches_in a.front) (batches_with before last)
-      ∙ ap (λ bs. a.gone ++ bs) (sym (append_assoc (batches_in a.front) (batches_in before) last.batches) ∙ ap (λ bs. bs ++ last.batches) (sym (batches-append a.front before)));
+  are = after_batches folders queue own dropped before last n a;
   few = omega (arith, both);
   dropped = omega (arith, both, all);
   synced = omega (arith, both, all);

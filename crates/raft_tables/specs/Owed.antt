@@ -67,8 +67,8 @@ owed_after id t (item ∷ items) owed =
 abbrev pub marks_then : Marks → Marks → Marks
 marks_then older newer = if newer.cleaned then newer else record {
   cleaned = older.cleaned;
-  compacted = older.compacted || newer.compacted;
-  deleted = λ k. older.deleted k || newer.deleted k;
+  compacted = newer.compacted || older.compacted;
+  deleted = λ k. newer.deleted k || older.deleted k;
 }
 
 -- a written mark is owed no more
