@@ -56,7 +56,7 @@ module _ {F H R W : Type 0} {g : Ghosts F H R W} where
       now = tt;
       any_moment = passes_none _ _ _ (g.directory found) refl (λ m batches kept. kept);
       unchanged = left_alone (g.directory found) (g.directory found) why (λ path. refl);
-      others = λ q none. refl;
+      others = λ q none reserved. refl;
     };
     refused = inl against;
   }
