@@ -6,6 +6,7 @@ pub mod ByFileOpeningLemmas
 pub mod ByFileRotationLemmas
 pub mod CompletedLemmas
 pub mod DroppedLemmas
+pub mod FileCallsLemmas
 pub mod FileListLemmas
 pub mod FilesLemmas
 pub mod FolderLemmas
@@ -14,8 +15,10 @@ pub mod FrontLemmas
 pub mod KeepsLogLemmas
 pub mod KeepsQueueLemmas
 pub mod KeptLemmas
+pub mod KindLemmas
 pub mod ListedLemmas
 pub mod LogFileLemmas
+pub mod MetadataLemmas
 pub mod NamesInLemmas
 pub mod NamesLemmas
 pub mod NumberedLemmas
@@ -30,6 +33,7 @@ pub mod PipeQueueLemmas
 pub mod PipeResultLemmas
 pub mod PipeRotationLemmas
 pub mod PlacesLemmas
+pub mod PrefillLemmas
 pub mod PurgeLemmas
 pub mod QueueAppendLemmas
 pub mod QueueFilesLemmas
