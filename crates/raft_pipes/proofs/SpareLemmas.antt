@@ -399,7 +399,7 @@ left_split older synced since found left = (left.from, k, omega (arith, left.wit
 
 module _ (folders : List Path) (queue : LogQueue) (own : ℕ) (dropped : List Batch) (before : List QueueFile) (seq : ℕ) (path : Path) (old : Directory) (a : HasFilesAfter folders queue own dropped before seq path old) where
   -- a file that is none of the queue's changes
-  after_beside : (p : Path) (new : Directory) → IsNoPathOf folders queue p → LeavesOthers p old new → HasFilesAfter folders queue own dropped before seq path new
+  pub after_beside : (p : Path) (new : Directory) → IsNoPathOf folders queue p → LeavesOthers p old new → HasFilesAfter folders queue own dropped before seq path new
   after_beside p new apart only = record {
     first = a.first;
     front = a.front;
@@ -410,7 +410,7 @@ module _ (folders : List Path) (queue : LogQueue) (own : ℕ) (dropped : List Ba
   }
 
   -- the next file comes
-  after_stays : (new : Directory) → LeavesOthers path old new → HasFile new path → HasFilesAfter folders queue own dropped before seq path new
+  pub after_stays : (new : Directory) → LeavesOthers path old new → HasFile new path → HasFilesAfter folders queue own dropped before seq path new
   after_stays new only there = record {
     first = a.first;
     front = a.front;
