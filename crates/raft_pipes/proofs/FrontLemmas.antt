@@ -1,5 +1,5 @@
 -- What a pipe's queue keeps where a step keeps its files.
-use Rattle.std.proofs.Common.{◌≡◌, ℕ, suc, ◌≤◌, List, [], ◌∷◌, ◌++◌, length, refl, ap, sym, ◌∙◌, arith, length-append}
+use Rattle.std.proofs.Common.{◌≡◌, ℕ, suc, ◌+◌, ◌≤◌, List, [], ◌∷◌, ◌++◌, length, refl, ap, sym, ◌∙◌, arith, length-append}
 use Rattle.raft_records.specs.Item.{Batch}
 use Rattle.raft_base.specs.declared.pipe_log.LogQueue.{LogQueue}
 use Rattle.raft_env.specs.Directory.{Directory, Path}
@@ -12,6 +12,10 @@ use Rattle.raft_pipes.proofs.StepsLemmas.{length-places_of}
 pub length-files_from : (seq : ℕ) (paths : List Path) → length (files_from seq paths) ≡ length paths
 length-files_from seq [] = refl
 length-files_from seq (path ∷ paths) = ap suc (length-files_from (suc seq) paths)
+
+pub files_from-append : (seq last : ℕ) (paths : List Path) (path : Path) → last ≡ seq + length paths → files_from seq (paths ++ path ∷ []) ≡ files_from seq paths ++ (last, path) ∷ []
+files_from-append seq last [] path is = ap (λ k. (k, path) ∷ []) (let e : seq ≡ last = omega arith in e)
+files_from-append seq last (p ∷ paths) path is = ap (λ fs. (seq, p) ∷ fs) (files_from-append (suc seq) last paths path (omega arith))
 
 -- what keeps files before the last one keeps them behind dropped ones
 pub after_steps : (folders : List Path) (queue : LogQueue) (own : ℕ) (dropped : List Batch) (before : List QueueFile) (seq : ℕ) (path : Path) (old new : Directory)

@@ -6,6 +6,7 @@ pub mod ByFileLemmas
 pub mod ByFileOpeningLemmas
 pub mod ByFileRotationLemmas
 pub mod CompletedLemmas
+pub mod DroppedLemmas
 pub mod FileCallsLemmas
 pub mod FileListLemmas
 pub mod FilesLemmas
@@ -22,10 +23,11 @@ pub mod MetadataLemmas
 pub mod NamesInLemmas
 pub mod NamesLemmas
 pub mod NumberedLemmas
-mod OnlyLemmas
+pub mod OnlyLemmas
 pub mod OpenLemmas
 pub mod OpenMomentsLemmas
 pub mod OpenReplayLemmas
+pub mod OpenedLogsLemmas
 pub mod OpenedQueueLemmas
 pub mod PipeDoubtLemmas
 pub mod PipeNamesLemmas
@@ -39,7 +41,9 @@ pub mod QueueAppendLemmas
 pub mod QueueFilesLemmas
 pub mod QueueLemmas
 pub mod QueueRotationLemmas
+pub mod ReadFilesLemmas
 pub mod RefusalLemmas
+pub mod ReserveLemmas
 pub mod ReservedLemmas
 pub mod RestartLemmas
 pub mod RotationLemmas

@@ -399,7 +399,7 @@ left_split older synced since found left = (left.from, k, omega (arith, left.wit
 
 module _ (folders : List Path) (queue : LogQueue) (own : ℕ) (dropped : List Batch) (before : List QueueFile) (seq : ℕ) (path : Path) (old : Directory) (a : HasFilesAfter folders queue own dropped before seq path old) where
   -- a file that is none of the queue's changes
-  after_beside : (p : Path) (new : Directory) → IsNoPathOf folders queue p → LeavesOthers p old new → HasFilesAfter folders queue own dropped before seq path new
+  pub after_beside : (p : Path) (new : Directory) → IsNoPathOf folders queue p → LeavesOthers p old new → HasFilesAfter folders queue own dropped before seq path new
   after_beside p new apart only = record {
     first = a.first;
     front = a.front;
@@ -410,7 +410,7 @@ module _ (folders : List Path) (queue : LogQueue) (own : ℕ) (dropped : List Ba
   }
 
   -- the next file comes
-  after_stays : (new : Directory) → LeavesOthers path old new → HasFile new path → HasFilesAfter folders queue own dropped before seq path new
+  pub after_stays : (new : Directory) → LeavesOthers path old new → HasFile new path → HasFilesAfter folders queue own dropped before seq path new
   after_stays new only there = record {
     first = a.first;
     front = a.front;
@@ -428,7 +428,7 @@ module _ (spare to : Path) (old : Directory) (stood : HasFile old spare) where
   unfolding moved_file
   moved_is = ap (λ found. after_rename_at spare to found old) (found_file spare old stood).1
 
-  moved_only : LeavesOthers to (without_file spare old) (after_rename spare to old)
+  pub moved_only : LeavesOthers to (without_file spare old) (after_rename spare to old)
   moved_only q other = ap (λ m. file_at m q) moved_is ∙ file_at-placed_other to (renamed_of moved_file) (without_file spare old) q other
 
   moved_there : HasFile (after_rename spare to old) to

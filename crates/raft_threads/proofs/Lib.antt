@@ -1,3 +1,4 @@
+pub mod CountLemmas
 pub mod GatherLemmas
 pub mod JobLemmas
-pub mod ReplayLemmas
+pub mod PartLemmas

@@ -9,7 +9,6 @@ use Rattle.raft_env.specs.Refusal.{Refusals}
 use Rattle.raft_files.specs.Writer.{bytes_at}
 use Rattle.raft_pipes.specs.ByFile.{numbered_of}
 use Rattle.raft_pipes.specs.Files.{AreReplaysOf, EachFile, HasDamageAmong, HaveBlocks, IsFilesRefusal, IsOpenableFile}
-use Rattle.raft_pipes.specs.LogFile.{IsDamage}
 use Rattle.raft_pipes.specs.OpenedLogs.{AreInQueue, HaveLogBlocks, IsOpenableIn, IsReplayIn, OpenedLogState, logged_batches}
 use Rattle.raft_pipes.specs.declared.replay.ReplayedLog.{ReplayedLog}
 use Rattle.raft_records.specs.FileBatches.{FileBatch}
@@ -35,18 +34,7 @@ pub record IsQueueRead {M : Type 0}
   pub stands : (blocks : Blocks) → HaveBlocks queue n files blocks
       → stands_for queue blocks [] machine (numbered_of queue n files)
 
--- the first of these files that can't be opened is damaged so
-abbrev pub HasDamageIn : Directory → List OpenedLogState → Fault → Type 0
-HasDamageIn n [] e = ⊥
-HasDamageIn n (log ∷ logs) e = IsDamage log.id log.is_tolerant (bytes_at log.path n) e
-    ⊎ (IsOpenableIn n log × HasDamageIn n logs e)
-
--- these files are refused: for lack of memory, by a read of one of them, or for damage
-abbrev pub IsLogsFault : Directory → List OpenedLogState → Refusals → Refusals → Fault → Type 0
-IsLogsFault n logs before after e =
-    IsFilesRefusal (map (λ log. log.path) logs) before after e ⊎ HasDamageIn n logs e
-
--- .. those of a queue
+-- the files of a queue are refused: for lack of memory, by a call on one of them, or for damage
 abbrev pub IsQueueFault : RecoveryMode → LogQueue → Directory → List (ℕ × Path) → Refusals
     → Refusals → Fault → Type 0
 IsQueueFault mode queue n files before after e =

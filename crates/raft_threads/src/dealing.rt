@@ -17,31 +17,25 @@ pub(crate) fn deal<F: FileSystem, M: Drop, FA: Factory<M>>(
     part_len: usize,
     factory: &FA,
 ) -> Result<Vec<PartJob<F, M>>, Fault>
+    requires { 0 < part_len }
     ensures parts { IfOk result (λ jobs.
         flat_map (λ job. job.logs.items) jobs.items ≡ logs.items) }
+    ensures length { IfOk result (λ jobs.
+        AllByRecursion (λ job. length job.logs.items ≤ part_len) jobs.items) }
     ensures machines { IfOk result (λ jobs.
         AllByRecursion (λ job. FA.is_new job.machine) jobs.items) }
     ensures memory { IfErr result (λ e. e ≡ Memory) }
 {
     let mut jobs = Vec::new(alloc);
-    let mut part = Vec::new(alloc);
-    for log in logs {
-        part.push(log)?;
-        if part.len() >= part_len {
-            let machine = factory.new_target()?;
-            jobs.push(PartJob {
-                logs: part,
-                machine,
-            })?;
-            part = Vec::new(alloc);
-        }
-    }
-    if !part.is_empty() {
+    let mut part = logs;
+    while !part.is_empty() {
+        let rest = part.split_off(part_len.min(part.len()))?;
         let machine = factory.new_target()?;
         jobs.push(PartJob {
             logs: part,
             machine,
         })?;
+        part = rest;
     }
     Ok(jobs)
 }
