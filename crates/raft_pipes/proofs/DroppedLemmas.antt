@@ -66,7 +66,7 @@ module _ (room : ℕ) (files : List SealedFile) (at : ℕ) (f : SealedFile) (old
       ap (deleted_of room) one_more ∙ deleted_of-append room (take at files) (f ∷ []) ∙ ap (λ r. deleted_of room (take at files) ++ deleted_of r (f ∷ [])) (sym left_is)
       ∙ ap (λ t. deleted_of room (take at files) ++ (if t then [] else f.path ∷ [])) test
 
-  left_then : (b : Bool) → is_spared left f.version ≡ b → room_left room (take (at + 1) files) ≡ (if b then left - 1 else left)
+  pub left_then : (b : Bool) → is_spared left f.version ≡ b → room_left room (take (at + 1) files) ≡ (if b then left - 1 else left)
   left_then b test =
       ap (room_left room) one_more ∙ room_left-append room (take at files) (f ∷ []) ∙ ap (λ r. room_left r (f ∷ [])) (sym left_is)
       ∙ ap (λ t. if t then left - 1 else left) test

@@ -38,6 +38,7 @@ pub mod QueueFilesLemmas
 pub mod QueueLemmas
 pub mod QueueRotationLemmas
 pub mod RefusalLemmas
+pub mod ReserveLemmas
 pub mod ReservedLemmas
 pub mod RestartLemmas
 pub mod RotationLemmas

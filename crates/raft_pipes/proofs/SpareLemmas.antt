@@ -428,7 +428,7 @@ module _ (spare to : Path) (old : Directory) (stood : HasFile old spare) where
   unfolding moved_file
   moved_is = ap (λ found. after_rename_at spare to found old) (found_file spare old stood).1
 
-  moved_only : LeavesOthers to (without_file spare old) (after_rename spare to old)
+  pub moved_only : LeavesOthers to (without_file spare old) (after_rename spare to old)
   moved_only q other = ap (λ m. file_at m q) moved_is ∙ file_at-placed_other to (renamed_of moved_file) (without_file spare old) q other
 
   moved_there : HasFile (after_rename spare to old) to
