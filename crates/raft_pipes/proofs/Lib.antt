@@ -5,8 +5,10 @@ pub mod ByFileCallsLemmas
 pub mod ByFileLemmas
 pub mod ByFileOpeningLemmas
 pub mod ByFileRotationLemmas
+pub mod CloseLemmas
 pub mod CompletedLemmas
 pub mod DroppedLemmas
+pub mod FileCallsLemmas
 pub mod FileListLemmas
 pub mod FilesLemmas
 pub mod FolderLemmas
@@ -15,8 +17,10 @@ pub mod FrontLemmas
 pub mod KeepsLogLemmas
 pub mod KeepsQueueLemmas
 pub mod KeptLemmas
+pub mod KindLemmas
 pub mod ListedLemmas
 pub mod LogFileLemmas
+pub mod MetadataLemmas
 pub mod NamesInLemmas
 pub mod NamesLemmas
 pub mod NumberedLemmas
@@ -32,6 +36,7 @@ pub mod PipeQueueLemmas
 pub mod PipeResultLemmas
 pub mod PipeRotationLemmas
 pub mod PlacesLemmas
+pub mod PrefillLemmas
 pub mod PurgeLemmas
 pub mod QueueAppendLemmas
 pub mod QueueFilesLemmas
