@@ -29,6 +29,7 @@ pub mod OpenLemmas
 pub mod OpenMomentsLemmas
 pub mod OpenReplayLemmas
 pub mod OpenedQueueLemmas
+pub mod ParentLemmas
 pub mod PipeDoubtLemmas
 pub mod PipeNamesLemmas
 pub mod PipeQueueLemmas
