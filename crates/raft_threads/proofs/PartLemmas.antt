@@ -93,6 +93,10 @@ module _ {J X M : Type 0} (logs_of : J → List OpenedLogState) (machine_of : J 
       here (Ok done) ok refused later first = fault_behind (logs_of job) (flat_map logs_of jobs) before after e ok.openable (later first)
       here (Err f) ok refused later first = fault_before (logs_of job) (flat_map logs_of jobs) before after e (subst (IsLogsFault n (logs_of job) before after) first (fault_after n (logs_of job) (left_of r) before after f refused rose.0))
 
+  pub gathered_fault : (jobs : List J) (read : List X) (before after : Refusals) (e : Fault) → AllZip WasRead jobs read → PartsRose left_of before after read → (e ≡ Memory) ⊎ IsFirstRefusal (map read_of read) e → IsLogsFault n (flat_map logs_of jobs) before after e
+  gathered_fault jobs read before after e zip rose (inl memory) = inl (inl memory)
+  gathered_fault jobs read before after e zip rose (inr first) = parts_refused jobs read before after e zip rose first
+
   -- parts of which each was read from nothing
   pub parts_openable : (jobs : List J) (read : List X) (done : List (M × Vec ReplayedLog Global)) → AllZip WasRead jobs read → map Ok done ≡ map read_of read → AllByRecursion (IsOpenableIn n) (flat_map logs_of jobs)
   parts_openable [] read done zip are = tt

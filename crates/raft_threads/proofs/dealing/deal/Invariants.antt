@@ -1,4 +1,4 @@
-use Rattle.std.proofs.Common.{◌≡◌, ◌≤◌, ◌++◌, ℕ, length}
+use Rattle.std.proofs.Common.{◌≡◌, ◌++◌, length}
 use Rattle.std.specs.List.{AllByRecursion, flat_map}
 use Rattle.raft_threads.proofs.dealing.deal.Given as goal
 
@@ -6,7 +6,6 @@ use Rattle.raft_threads.proofs.dealing.deal.Given as goal
 abbrev pub invariant-loop-part : goal.invariant-loop-part
 invariant-loop-part g l = record {
   parts : flat_map (λ job. job.logs.items) l.jobs.items ++ l.part.items ≡ l.fn.logs.items;
-  lengths : AllByRecursion (λ job. length job.logs.items ≤ l.part_len) l.jobs.items;
   machines : AllByRecursion (λ job. g.FA.Factory.is_new job.machine) l.jobs.items;
 }
 
