@@ -101,7 +101,7 @@ delete_refused paths at path first before after e path_is within rose refused =
     subst (λ (ps : List Path). IsDeleteRefusal ps first after e) (sym (drop_more paths at path within)) (subst (λ (q : Path). IsFileRefusal q first after e) path_is (refused_later path first before after e rose refused))
 
 -- the first of those that stay of some front stays of all
-front_refused : (count asked : ℕ) (paths : List Path) (first after : Refusals) (e : Fault) → IsDeleteRefusal (drop count (take asked paths)) first after e → IsDeleteRefusal (drop count paths) first after e
+pub front_refused : (count asked : ℕ) (paths : List Path) (first after : Refusals) (e : Fault) → IsDeleteRefusal (drop count (take asked paths)) first after e → IsDeleteRefusal (drop count paths) first after e
 front_refused zero zero paths first after e refused = absurd refused
 front_refused zero (suc asked) [] first after e refused = absurd refused
 front_refused zero (suc asked) (path ∷ paths) first after e refused = refused
@@ -110,7 +110,7 @@ front_refused (suc count) (suc asked) [] first after e refused = absurd refused
 front_refused (suc count) (suc asked) (path ∷ paths) first after e refused = front_refused count asked paths first after e refused
 
 -- it is one of them
-refused_among : (count : ℕ) (paths : List Path) (first after : Refusals) (e : Fault) → IsDeleteRefusal (drop count paths) first after e → (path : Path) × Contains paths path × IsFileRefusal path first after e
+pub refused_among : (count : ℕ) (paths : List Path) (first after : Refusals) (e : Fault) → IsDeleteRefusal (drop count paths) first after e → (path : Path) × Contains paths path × IsFileRefusal path first after e
 refused_among zero [] first after e refused = absurd refused
 refused_among zero (path ∷ paths) first after e refused = (path, (0, omega arith, refl), refused)
 refused_among (suc count) [] first after e refused = absurd refused

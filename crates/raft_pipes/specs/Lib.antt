@@ -19,6 +19,7 @@ pub mod Prefill
 pub mod Purge
 pub mod Read
 pub mod Refused
+pub mod Reserve
 pub mod Rotation
 pub mod Spare
 pub mod Written
