@@ -203,9 +203,11 @@ static REFUSED: [Story; 1] = [Story {
             }),
             Step::Span(1, 47),
             Step::Fail(Failing::Nth(FsCall::Delete, 2, IoKind::Other)),
+            // Beside the 13 files that will be left two more are kept to be used again, so that file 4 is the second to
+            // be deleted.
             Step::Run(&[Plan::Purge], &[Answer::Fails(3)]),
             Step::Failed(false),
-            Step::Span(2, 47),
+            Step::Span(4, 47),
         ],
         NONE_ASKED,
         &[
