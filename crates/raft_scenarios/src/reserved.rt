@@ -211,10 +211,10 @@ fn files_of_either_version(rt: HostRuntime) -> Result<(), Fail> {
     each_holds(&rt, Rows::Stories(&VERSIONS))
 }
 
-static FIRST_IN_SPILL: [Stored; 1] = [("spill/0000000000000001.raftlog", &[HEADER_2])];
+const FIRST_IN_SPILL: &[Stored] = &[("spill/0000000000000001.raftlog", &[HEADER_2])];
 
 /// Log files that aren't there.
-static OLD_LOGS: [&str; 3] = [
+const OLD_LOGS: &[&str] = &[
     "raft/0000000000000007.raftlog",
     "raft/0000000000000008.raftlog",
     "raft/0000000000000009.raftlog",
@@ -262,7 +262,7 @@ static FOLDERS: [Story; 5] = [
         name: "a file that is used again stays in its folder",
         parts: &[
             &[
-                Step::Spill(&FIRST_IN_SPILL),
+                Step::Spill(FIRST_IN_SPILL),
                 Step::OpenKeeping(Keeping::InBoth),
             ],
             THREE,
@@ -289,7 +289,7 @@ static FOLDERS: [Story; 5] = [
         name: "a close moves those of both folders to the first one",
         parts: &[
             &[
-                Step::Spill(&FIRST_IN_SPILL),
+                Step::Spill(FIRST_IN_SPILL),
                 Step::OpenKeeping(Keeping::InBoth),
             ],
             THREE,
@@ -309,17 +309,17 @@ static FOLDERS: [Story; 5] = [
         name: "metadata before the first file are cleared, from the greatest number on",
         parts: &[&[
             Step::Store(&[("raft/0000000000000200.raftlog", &[HEADER_2])]),
-            Step::NoteMetadata(&OLD_LOGS),
+            Step::NoteMetadata(OLD_LOGS),
             Step::OpenKeeping(Keeping::Dropped),
             Step::Span(200, 200),
             Step::GiveUp,
-            Step::HaveMetadata(&OLD_LOGS, &[]),
+            Step::HaveMetadata(OLD_LOGS, &[]),
             // Of the numbers from 199 down, number 8 is the 192nd.
-            Step::NoteMetadata(&OLD_LOGS),
+            Step::NoteMetadata(OLD_LOGS),
             Step::Fail(Failing::Nth(FsCall::DeleteMetadata, 192, IoKind::Other)),
             Step::OpenKeeping(Keeping::Dropped),
             Step::GiveUp,
-            Step::HaveMetadata(&OLD_LOGS, &["raft/0000000000000008.raftlog"]),
+            Step::HaveMetadata(OLD_LOGS, &["raft/0000000000000008.raftlog"]),
         ]],
     },
 ];
