@@ -10,7 +10,7 @@ use std::alloc::{AllocError, Global};
 pub(crate) const HEADER: &[u8] =
     b"RAFT-LOG-FILE-HEADER-9986AB3E47F320B394C8E84916EB0ED5\0\0\0\0\0\0\0\x02\0\0\0\0\0\0\0\0";
 
-/// No dropped file is kept to be used again.
+/// Those of one folder, in which no file is used again.
 pub(crate) fn settings(alloc: Global) -> Result<Config, AllocError> {
     let mut config = Config::fresh(alloc);
     config.dir.push_str("data")?;
