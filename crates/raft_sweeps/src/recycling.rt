@@ -117,6 +117,7 @@ fn sit<F: FileSystem + Drop>(
 }
 
 /// Both sittings, and their operations with a sync in place of each close.
+#[derive(Drop)]
 struct Sittings {
     first: Vec<Op>,
     second: Vec<Op>,
