@@ -115,7 +115,7 @@ torn_is_detectable id format records synced at file left completed latest never 
       let whole : ScanResult = record { format = format; records = take torn.count records; end = torn.end } in
       let same : r ≡ whole = same_some (sym e ∙ whole_read) in
       torn.broken.1 (subst (λ (q : ScanResult). HasCompressedAt (signature_by id q.format) left (record_place q.format.alignment left q.end)) same marked);
-  none_stale = λ r has. never_stale file.renamed_after (file.changes ++ file.older) r.at never;
+  none_stale = λ other is r has stale. absurd (never_stale file.renamed_after (file.changes ++ file.older) r.at never stale);
 }
   where
     whole_read : scan_file id left ≡ Some (record { format = format; records = take torn.count records; end = torn.end })

@@ -152,7 +152,7 @@ own_is_detectable id file left consistent never own may long reads = record {
   completed = λ format is r has. own_completed id (signature_by id format) (bytes_after file.synced m.upto) (m.upto ++ file.older) (past_at file consistent m.newer m.upto m.split) (λ c among. own format reads.bytes reads.moment (format_then format is) c (of_file c among)) r (read_then r has);
   untouched = untouched_is_read id file left may long;
   unmarked = reads.unmarked;
-  none_stale = λ r has. never_stale file.renamed_after (m.upto ++ file.older) r.at never;
+  none_stale = λ other is r has stale. absurd (never_stale file.renamed_after (m.upto ++ file.older) r.at never stale);
 }
   where
     m : IsMoment file.synced file.changes reads.bytes

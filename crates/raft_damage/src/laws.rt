@@ -15,6 +15,7 @@ ghost use Rattle.raft_premise.specs.Completed.{EndsInZeros, HasCompletedLog, Has
 ghost use Rattle.raft_damage.specs.DetectableDamage.{EachAddsOnlyItsRecord, IsBrokenFrom, IsReadAsBefore, IsTornAfter};
 ghost use Rattle.raft_pipes.specs.Completed.{HasSimplePastOf, PipeHasCompletedLogIfSimple};
 ghost use Rattle.raft_config.specs.Folders.{Folders, all_of};
+ghost use Rattle.raft_pipes.specs.Counts.{QueueCounts};
 ghost use Rattle.raft_pipes.specs.Pipe.{HasQueueOf};
 ghost use Rattle.raft_pipes.specs.PipeState.{PipeState};
 ghost use Rattle.raft_pipes.specs.QueueFiles.{IsDetectableQueue};
@@ -72,11 +73,12 @@ pub fn premise_can_be_met()
 
 /// The damage of a crash that leaves each file with all its bytes now or those of its last sync is
 /// detectable of a queue whose last file was never renamed, of which only writes failed, and no
-/// failed call brought a record (`detectable`). Openings of `raft_pipes` give such queues, and the calls of pipes keep them.
+/// failed call brought a record (`detectable`). Openings of `raft_pipes` give such queues, and the
+/// calls of pipes keep them.
 pub fn damage_of_a_queue_is_detectable()
     ensures detectable { (queue : LogQueue) (p : PipeState) (folders : Folders)
-        (batches : List Batch) (synced : ℕ) (n : Directory)
-        → HasQueueOf queue p folders batches synced n
+        (batches : List Batch) (counts : QueueCounts) (n : Directory)
+        → HasQueueOf queue p folders batches counts n
         → PipeHasCompletedLogIfSimple p n → HasSimplePastOf queue folders n → AreConsistent n
         → (choices : List Choice) → AreWhole choices
         → ∥ IsDetectableQueue (all_of folders) queue n (left_by choices n) ∥₁ }

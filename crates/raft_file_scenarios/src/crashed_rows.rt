@@ -199,7 +199,7 @@ static STAGED_ROWS: [Opening; 9] = [
     },
     Opening {
         name: "a second scan fails",
-        refused: Some((FsCall::List, 3)),
+        refused: Some((FsCall::List, 4)),
         stages: &[
             Stage::Scan,
             Stage::Read(Append),

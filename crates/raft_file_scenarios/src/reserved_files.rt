@@ -1,13 +1,16 @@
 //! Reserved files, the folder that a new file goes to, and metadata of files that are gone.
 
-use crate::folders;
+use crate::folders::{self, store};
 use crate::two_folders::settings;
+use crate::two_queues::read;
+use raft_config::Config;
 use raft_env::{FileSystem, FsFault, IoKind, Permission};
+use raft_files::FileNameExt;
 use raft_memory::{FsCall, MemoryFileSystem};
 use raft_pipes::prefill::{SpareLimits, prefill};
 use raft_pipes::{LogFolders, SpareFile, clear_metadata};
-use raft_files::FileNameExt;
-use raft_records::{Fault, FileId, LogQueue};
+use raft_queues::DualPipesBuilder;
+use raft_records::{Fault, FileId, LogQueue, ReadableSize};
 use std::alloc::Global;
 use std::test::Fail;
 
@@ -279,7 +282,10 @@ fn len_at<F: FileSystem>(fs: &mut F, path: &str) -> Result<Option<usize>, FsFaul
 
 fn are_spare(spare: &[SpareFile], wanted: &[&str]) -> bool {
     spare.len() == wanted.len()
-        && spare.iter().zip(wanted.iter()).all(|(file, path)| file.path() == *path)
+        && spare
+            .iter()
+            .zip(wanted.iter())
+            .all(|(file, path)| file.path() == *path)
 }
 
 fn is_answer(answer: Result<Vec<SpareFile>, Fault>, wanted: &Answer) -> bool {
@@ -307,12 +313,84 @@ fn is_prefilled(alloc: Global, row: &Prefilled) -> Result<bool, Fail> {
         prefill: row.limits.1,
     };
     let size = row.target_size;
-    let answer = prefill(alloc, &folders, found, row.append_files, limits, size, &mut fs);
+    let answer = prefill(
+        alloc,
+        &folders,
+        found,
+        row.append_files,
+        limits,
+        size,
+        &mut fs,
+    );
     let mut is_so = is_answer(answer, &row.spare);
     for (path, len) in row.after {
         is_so = len_at(&mut fs, path)? == *len && is_so;
     }
     Ok(is_so)
+}
+
+// The files after an opening in these settings.
+fn opened(
+    alloc: Global,
+    config: &Config,
+    files: MemoryFileSystem,
+) -> Result<MemoryFileSystem, Fault> {
+    let mut builder = match DualPipesBuilder::new(alloc, config, files) {
+        Ok(builder) => builder,
+        Err((fault, _files)) => return Err(fault),
+    };
+    builder.scan()?;
+    read(&mut builder, LogQueue::Append)?;
+    read(&mut builder, LogQueue::Rewrite)?;
+    match builder.finish() {
+        Ok((_pipes, files)) => Ok(files),
+        Err((fault, _files)) => Err(fault),
+    }
+}
+
+// Settings with four spare files of 1024 bytes, which are made ahead or not.
+fn spare_settings(alloc: Global, is_prefilling: bool) -> Result<Config, Fault> {
+    let mut config = folders::settings(alloc)?;
+    config.enable_log_recycle = true;
+    config.target_file_size = ReadableSize(1024);
+    config.purge_threshold = ReadableSize(3072);
+    config.prefill_for_recycle = is_prefilling;
+    config.sanitize()?;
+    Ok(config)
+}
+
+#[test]
+fn an_opening_makes_reserved_files(rt: HostRuntime) -> Result<(), Fail> {
+    let mut files = MemoryFileSystem::new(rt.alloc());
+    for (is_prefilling, len) in &[(true, Some(1024)), (false, None)] {
+        let config = spare_settings(rt.alloc(), *is_prefilling)?;
+        files = opened(rt.alloc(), &config, files)?;
+        for path in &[RESERVED_1, RESERVED_2, RESERVED_3, RESERVED_4] {
+            assert!(rt; len_at(&mut files, path)? == *len, "{path}");
+        }
+    }
+    Ok(())
+}
+
+#[test]
+fn a_scan_clears_metadata(rt: HostRuntime) -> Result<(), Fail> {
+    let mut files = MemoryFileSystem::new(rt.alloc());
+    store(
+        &mut files,
+        path_of(rt.alloc(), 200)?.as_str(),
+        &[folders::HEADER],
+    )?;
+    for seq in &[7, 8, 9] {
+        files.set_metadata(path_of(rt.alloc(), *seq)?.as_str())?;
+    }
+    let files = opened(rt.alloc(), &folders::settings(rt.alloc())?, files)?;
+    for seq in &[7, 8, 9] {
+        assert!(rt;
+            !files.exists_metadata(path_of(rt.alloc(), *seq)?.as_str()),
+            "{seq}"
+        );
+    }
+    Ok(())
 }
 
 #[test]

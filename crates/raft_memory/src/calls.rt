@@ -2,10 +2,7 @@
 ghost use Rattle.std.specs.Prelude.{◌≡◌, ◌⊎◌, ◌≤◌, ◌<◌, ◌+◌, ◌^◌, ◌↔◌, [], ◌∷◌, length, map, refl, take, IfErr, IfOk, IsTrue, None, OnErr, OnOk, Some, false, true};
 ghost use Rattle.std.specs.String.{string_bytes};
 ghost use Rattle.raft_memory.specs.Files.{namespace_directory};
-ghost use Rattle.raft_env.specs.Outcomes.{overlay, file_after_write};
-ghost use Rattle.raft_env.specs.Directory.{IsReading, IsWriting, update_file};
 ghost use Rattle.raft_env.specs.Moments.{MovesBy, OnlyReads};
-ghost use Rattle.raft_env.specs.Refusal.{CountsRefusal};
 ghost use Rattle.raft_memory.specs.Counted.{by_storage};
 
 use crate::armed::FsCall;
@@ -17,8 +14,8 @@ use raft_env::{FileSystem, FsFault, IoKind, Permission};
 impl FileSystem for MemoryFileSystem {
     ghost use Rattle.raft_memory.specs.Memory.{memory_directory, memory_free, memory_metadata, memory_moments, memory_refusals, armed_of, stop_of, LeavesHalf};
     ghost use Rattle.raft_memory.specs.Armed.{arms_after, injected, stop_after};
-    ghost use Rattle.raft_env.specs.Directory.{HasFile, IsAllocating, IsMakingFolder, IsOneOf, IsTruncating, Path, ReadsAt, after_create, after_rename, without_file, file_at, folder_made, names_in};
-    ghost use Rattle.raft_env.specs.Outcomes.{File, pad_to, file_after_resize, synced_of};
+    ghost use Rattle.raft_env.specs.Directory.{HasFile, IsAllocating, IsMakingFolder, IsOneOf, IsTruncating, IsWriting, Path, ReadsAt, after_create, after_rename, without_file, file_at, folder_made, names_in, update_file};
+    ghost use Rattle.raft_env.specs.Outcomes.{File, file_after_write, overlay, pad_to, file_after_resize, synced_of};
     ghost use Rattle.raft_env.specs.Refusal.{CountsRefusalOf, added_count, no_refusals};
     ghost use Rattle.raft_memory.specs.Refused.{HasNoFolder, HasNoPlace, HasNoRoom, IsAbsent, IsBarred, IsMissing, RefusesAs, WasArmed};
 
@@ -439,7 +436,9 @@ impl FileSystem for MemoryFileSystem {
     }
 
     fn free_space(&mut self, dir: &str) -> Result<u64, FsFault>
-        ensures value { IfOk result (λ n. n ≡ memory_free self.old dir.now) }
+        ensures value { IfOk result (λ n. n ≡ memory_free self.new dir.now) }
+        ensures others { (p : Path) → (p ≡ dir.now → ⊥)
+            → memory_free self.new p ≡ memory_free self.old p }
         ensures free { memory_free self.new ≡ memory_free self.old }
         ensures unchanged { OnlyReads memory_directory memory_moments self.old self.new }
         ensures cause { CountsRefusalOf result (memory_refusals self.old)

@@ -24,10 +24,11 @@ pub mod MetadataLemmas
 pub mod NamesInLemmas
 pub mod NamesLemmas
 pub mod NumberedLemmas
-mod OnlyLemmas
+pub mod OnlyLemmas
 pub mod OpenLemmas
 pub mod OpenMomentsLemmas
 pub mod OpenReplayLemmas
+pub mod OpenedLogsLemmas
 pub mod OpenedQueueLemmas
 pub mod ParentLemmas
 pub mod PipeDoubtLemmas
@@ -42,6 +43,7 @@ pub mod QueueAppendLemmas
 pub mod QueueFilesLemmas
 pub mod QueueLemmas
 pub mod QueueRotationLemmas
+pub mod ReadFilesLemmas
 pub mod RefusalLemmas
 pub mod ReserveLemmas
 pub mod ReservedLemmas

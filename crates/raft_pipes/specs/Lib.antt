@@ -10,6 +10,7 @@ pub mod LogFile
 pub mod Metadata
 pub mod Numbered
 pub mod Open
+pub mod OpenedLogs
 pub mod Pipe
 pub mod Queue
 pub mod QueueFiles
