@@ -5,6 +5,7 @@ pub mod ByFileCallsLemmas
 pub mod ByFileLemmas
 pub mod ByFileOpeningLemmas
 pub mod ByFileRotationLemmas
+pub mod CloseLemmas
 pub mod CompletedLemmas
 pub mod DroppedLemmas
 pub mod FileCallsLemmas
