@@ -30,6 +30,7 @@ pub mod OpenMomentsLemmas
 pub mod OpenReplayLemmas
 pub mod OpenedLogsLemmas
 pub mod OpenedQueueLemmas
+pub mod ParentLemmas
 pub mod PipeDoubtLemmas
 pub mod PipeNamesLemmas
 pub mod PipeQueueLemmas
