@@ -85,7 +85,7 @@ static FILLED: [Filled; 4] = [
 ];
 
 /// From these changes on none is done, or all are.
-const STOPS: [u64; 5] = [9, 21, 34, 47, u64::MAX];
+const STOPS: [u64; 3] = [21, 47, u64::MAX];
 
 /// Files of which a byte is broken: their paths, and its place.
 struct Broken {
