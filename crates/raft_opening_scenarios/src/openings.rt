@@ -40,7 +40,7 @@ pub(crate) fn settings_of(
     Ok(config)
 }
 
-fn opened<F: FileSystem + Drop>(opening: Result<Engine<F>, Refused<F>>) -> Opened<F> {
+fn outcome_of<F: FileSystem + Drop>(opening: Result<Engine<F>, Refused<F>>) -> Opened<F> {
     match opening {
         Ok(mut engine) => Opened {
             answer: engine.image(),
@@ -59,7 +59,7 @@ pub(crate) fn open_in_order<F: FileSystem + Drop>(
     files: F,
 ) -> Result<Opened<F>, AllocError> {
     let config = settings_of(alloc, mode, 1)?;
-    Ok(opened(Engine::open_in_order(alloc, config, files)))
+    Ok(outcome_of(Engine::open_in_order(alloc, config, files)))
 }
 
 pub(crate) fn open_by_workers<R: Threads + Sync, F: FileSystem + Drop>(
@@ -70,7 +70,7 @@ pub(crate) fn open_by_workers<R: Threads + Sync, F: FileSystem + Drop>(
     files: F,
 ) -> Result<Opened<F>, AllocError> {
     let config = settings_of(alloc, mode, workers)?;
-    Ok(opened(Engine::open_with_file_system(rt, alloc, config, files)))
+    Ok(outcome_of(Engine::open_with_file_system(rt, alloc, config, files)))
 }
 
 /// Why an opening by workers fails, if it does, and the files after it.
