@@ -10,10 +10,12 @@ use std::alloc::{AllocError, Global};
 use std::test::Fail;
 use std::thread::Threads;
 
+pub(crate) const TOLERANT: RecoveryMode = RecoveryMode::TolerateAnyCorruption;
+
 pub(crate) const MODES: [RecoveryMode; 3] = [
     RecoveryMode::AbsoluteConsistency,
     RecoveryMode::TolerateTailCorruption,
-    RecoveryMode::TolerateAnyCorruption,
+    TOLERANT,
 ];
 
 /// So many workers read the files.
@@ -38,7 +40,7 @@ pub(crate) fn settings_of(
     Ok(config)
 }
 
-fn opened<F: FileSystem + Drop>(opening: Result<Engine<F>, Refused<F>>) -> Opened<F> {
+fn outcome_of<F: FileSystem + Drop>(opening: Result<Engine<F>, Refused<F>>) -> Opened<F> {
     match opening {
         Ok(mut engine) => Opened {
             answer: engine.image(),
@@ -57,7 +59,7 @@ pub(crate) fn open_in_order<F: FileSystem + Drop>(
     files: F,
 ) -> Result<Opened<F>, AllocError> {
     let config = settings_of(alloc, mode, 1)?;
-    Ok(opened(Engine::open_in_order(alloc, config, files)))
+    Ok(outcome_of(Engine::open_in_order(alloc, config, files)))
 }
 
 pub(crate) fn open_by_workers<R: Threads + Sync, F: FileSystem + Drop>(
@@ -68,7 +70,22 @@ pub(crate) fn open_by_workers<R: Threads + Sync, F: FileSystem + Drop>(
     files: F,
 ) -> Result<Opened<F>, AllocError> {
     let config = settings_of(alloc, mode, workers)?;
-    Ok(opened(Engine::open_with_file_system(rt, alloc, config, files)))
+    Ok(outcome_of(Engine::open_with_file_system(rt, alloc, config, files)))
+}
+
+/// Why an opening by workers fails, if it does, and the files after it.
+pub(crate) fn refusal_by_workers<R: Threads + Sync, F: FileSystem + Drop>(
+    rt: &R,
+    alloc: Global,
+    mode: RecoveryMode,
+    workers: usize,
+    files: F,
+) -> Result<(Option<Fault>, F), AllocError> {
+    let config = settings_of(alloc, mode, workers)?;
+    match Engine::open_with_file_system(rt, alloc, config, files) {
+        Ok(engine) => Ok((None, engine.give_up())),
+        Err(refused) => Ok((Some(refused.fault), refused.file_system)),
+    }
 }
 
 fn read_all<F: FileSystem>(

@@ -1,7 +1,8 @@
 //! Workers find, cut and refuse what an opening in order does.
 
 use crate::openings::{
-    MODES, WORKERS, are_same_files, break_byte, left, open_by_workers, open_in_order, written,
+    MODES, TOLERANT, WORKERS, are_same_files, break_byte, left, open_by_workers, open_in_order,
+    refusal_by_workers, written,
 };
 use raft_env::{FileSystem, IoKind};
 use raft_memory::{FsCall, MemoryFileSystem};
@@ -84,7 +85,7 @@ static FILLED: [Filled; 4] = [
 ];
 
 /// From these changes on none is done, or all are.
-const STOPS: [u64; 5] = [9, 21, 34, 47, u64::MAX];
+const STOPS: [u64; 3] = [21, 47, u64::MAX];
 
 /// Files of which a byte is broken: their paths, and its place.
 struct Broken {
@@ -193,10 +194,6 @@ fn workers_cut_and_refuse_what_is_broken(rt: HostRuntime) -> Result<(), Fail> {
     Ok(())
 }
 
-fn is_refusal(answer: &Result<(), Fault>) -> bool {
-    matches!(answer, Err(Fault::Io(IoKind::Other, _)))
-}
-
 // With the nth read failing: whether there were so many. The opening changes no file then.
 fn refuse_read<R: Threads + Sync + Abort>(
     rt: &R,
@@ -208,18 +205,17 @@ fn refuse_read<R: Threads + Sync + Abort>(
     let mut before = left(alloc, found, &Left::All)?;
     let mut files = left(alloc, found, &Left::All)?;
     files.refuse(FsCall::Read, nth, IoKind::Other)?;
-    let mode = MODES[2];
-    let mut opened = open_by_workers(rt, alloc, mode, workers, files)?;
-    if opened.files.refusals() == 0 {
-        assert!(rt; opened.answer.is_ok());
+    let (fault, mut files) = refusal_by_workers(rt, alloc, TOLERANT, workers, files)?;
+    if files.refusals() == 0 {
+        assert!(rt; fault.is_none(), "{workers} workers, read {nth}");
         return Ok(false);
     }
     assert!(rt;
-        is_refusal(&opened.answer.map(|_| ())),
+        matches!(fault, Some(Fault::Io(IoKind::Other, _))),
         "{workers} workers, read {nth}"
     );
     assert!(rt;
-        are_same_files(alloc, &mut opened.files, &mut before)?,
+        are_same_files(alloc, &mut files, &mut before)?,
         "{workers} workers, read {nth}"
     );
     Ok(true)

@@ -259,10 +259,15 @@ impl<F: Faulty> Held<F> {
 
     /// Gives metadata to these paths.
     pub(crate) fn note_metadata(&mut self, paths: &[&str]) -> bool {
-        match self.files() {
-            Some(files) => paths.iter().all(|path| files.note(path).is_ok()),
-            None => false,
+        let Some(files) = self.files() else {
+            return false;
+        };
+        for path in paths {
+            if files.note(path).is_err() {
+                return false;
+            }
         }
+        true
     }
 
     /// Makes files. Answers how many the log's folder has.

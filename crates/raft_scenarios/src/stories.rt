@@ -185,11 +185,14 @@ fn are_there<F: Faulty>(held: &mut Held<F>, lengths: &[Length]) -> bool {
 }
 
 fn have_metadata<F: Faulty>(held: &mut Held<F>, paths: &[&str], wanted: &[&str]) -> bool {
-    match held.files() {
-        Some(files) => paths.iter().all(|path| files.exists_metadata(path)
-            == wanted.contains(path)),
-        None => false,
+    let Some(files) = held.files() else {
+        return false;
+    };
+    let mut are_so = true;
+    for path in paths {
+        are_so = are_so && files.exists_metadata(path) == wanted.contains(path);
     }
+    are_so
 }
 
 fn closes<F: Faulty>(held: &mut Held<F>, code: Option<u8>) -> bool {

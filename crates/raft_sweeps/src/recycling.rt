@@ -124,7 +124,7 @@ struct Sittings {
     all: Vec<Op>,
 }
 
-fn sittings(alloc: Global) -> Result<Sittings, Fail> {
+fn both_sittings(alloc: Global) -> Result<Sittings, Fail> {
     let mut all = ops_of(alloc, &FIRST)?;
     all.push(Op::Sync)?;
     for op in ops_of(alloc, &SECOND)? {
@@ -222,7 +222,7 @@ fn refuse_one(
 
 #[test]
 fn every_stop_of_recycling_finds_what_may_be_found(rt: HostRuntime) -> Result<(), Fail> {
-    let sittings = sittings(rt.alloc())?;
+    let sittings = both_sittings(rt.alloc())?;
     let mut stopped = true;
     for nth in 1..MAX_CALLS {
         if stopped {
@@ -236,7 +236,7 @@ fn every_stop_of_recycling_finds_what_may_be_found(rt: HostRuntime) -> Result<()
 
 #[test]
 fn each_call_of_recycling_may_be_refused(rt: HostRuntime) -> Result<(), Fail> {
-    let sittings = sittings(rt.alloc())?;
+    let sittings = both_sittings(rt.alloc())?;
     for call in CALLS {
         let mut met = true;
         for nth in 1..MAX_CALLS {

@@ -1,6 +1,6 @@
 -- Parts that were read, put together.
-use Rattle.std.proofs.Common.{◌≡◌, ◌⊎◌, ◌≤◌, ◌+◌, ℕ, suc, List, [], ◌∷◌, ◌++◌, length, get_or, map, take, drop, inl, inr, refl, sym, ◌∙◌, ap, subst, arith}
-use Rattle.std.specs.Prelude.{Contains, Result, Ok, Err, IfErr, IfOk, Vec}
+use Rattle.std.proofs.Common.{◌≡◌, ◌⊎◌, ◌≤◌, suc, List, [], ◌∷◌, ◌++◌, length, get_or, map, take, drop, inl, inr, refl, sym, ◌∙◌, ap, subst, arith}
+use Rattle.std.specs.Prelude.{Contains, Ok, Err, IfErr, IfOk, Vec}
 use Rattle.std.specs.declared.alloc.Global.{Global}
 use Rattle.std.specs.List.{All, AllByRecursion, AllZip, flat_map}
 use Rattle.std.proofs.lemmas.Grind.{flat_map-append}
@@ -11,9 +11,9 @@ use Rattle.raft_base.specs.declared.errors.Fault.TheVariants.{Memory}
 use Rattle.raft_base.specs.declared.pipe_log.LogQueue.{LogQueue}
 use Rattle.raft_env.specs.Directory.{Directory}
 use Rattle.raft_env.specs.Refusal.{Refusals}
-use Rattle.raft_pipes.specs.OpenedLogs.{AreInQueue, AreReplayed, HasDamageIn, HaveLogBlocks, IsLogsFault, IsLogsRefusal, IsOpenableIn, IsReplayIn, IsUnread, OpenedLogState, logged_batches}
+use Rattle.raft_pipes.specs.OpenedLogs.{AreInQueue, AreReplayed, HasDamageIn, HaveLogBlocks, IsLogsFault, IsLogsRefusal, IsOpenableIn, IsReplayIn, OpenedLogState, logged_batches}
 use Rattle.raft_pipes.specs.declared.replay.ReplayedLog.{ReplayedLog}
-use Rattle.raft_pipes.proofs.OpenedLogsLemmas.{RoseBy, all_append, zip_append}
+use Rattle.raft_pipes.proofs.OpenedLogsLemmas.{all_append, zip_append}
 use Rattle.raft_pipes.proofs.QueueFilesLemmas.{all_back, all_front}
 use Rattle.raft_pipes.proofs.ReadFilesLemmas.{fault_after}
 use Rattle.raft_records.specs.FileBatches.{FileBatch}
