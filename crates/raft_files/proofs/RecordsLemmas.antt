@@ -132,7 +132,9 @@ pub read_of_left : (id : FileId) (format : LogFileFormat) (records : List Placed
 read_of_left id format records synced file left keeps detectable =
     let read = readable_records id left in
     let begins : IsPrefixOf read records = elim detectable.header [
-      | inl same ↦ keeps.moments detectable.newer detectable.upto detectable.moment read (record { prefix = detectable.prefix; completed = detectable.completed format (same ∙ keeps.header detectable.newer detectable.upto detectable.moment); fresh = detectable.none_stale })
+      | inl same ↦
+          let is = same ∙ keeps.header detectable.newer detectable.upto detectable.moment in
+          keeps.moments detectable.newer detectable.upto detectable.moment read (record { prefix = detectable.prefix; completed = detectable.completed format is; fresh = detectable.none_stale format is })
       | inr none ↦ subst (λ rs. IsPrefixOf rs records) (sym (readable_without_header id left none)) (records, refl)
     ] in
     let untouched = take (untouched_len file.synced file.changes) file.synced in

@@ -20,7 +20,7 @@ none_left id file left none detectable = ap (λ rs. map (λ (p : PlacedRecord). 
   where
     by_format : (format : Option LogFileFormat) → format_of left ≡ format → readable_records id left ≡ []
     by_format None e = readable_without_header id left e
-    by_format (Some format) e = none.moments detectable.newer detectable.upto detectable.moment format (readable_records id left) (record { prefix = detectable.prefix; completed = detectable.completed format e; fresh = detectable.none_stale })
+    by_format (Some format) e = none.moments detectable.newer detectable.upto detectable.moment format (readable_records id left) (record { prefix = detectable.prefix; completed = detectable.completed format e; fresh = detectable.none_stale format e })
 
 -- the same bytes under an equal name
 pub read_of_bytes : {id : FileId} {signature : Option ℕ} {a b : List ℕ} {renamed : Option ℕ} {changes : List Change} {left : List PlacedRecord} → a ≡ b → AreReadAt id signature a renamed changes left → AreReadAt id signature b renamed changes left

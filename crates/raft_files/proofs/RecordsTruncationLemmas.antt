@@ -81,7 +81,7 @@ left_before id by old c renamed changes r e behind left read =
     record {
       prefix = subst (λ rs. IsPrefixOf left rs) (sym (ap (λ q. records_of q) e)) first;
       completed = λ q has. done_before id by c changes q (before q has) (read.completed q has);
-      fresh = λ q has. fresh_before renamed c changes q.at q.at (ungiven q.at c behind.given) (omega arith) (read.fresh q has);
+      fresh = λ q has. fresh_before by renamed c changes q.at q (ungiven q.at c behind.given) (omega arith) (read.fresh q has);
     }
 
 -- .. so the records are kept

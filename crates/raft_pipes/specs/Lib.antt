@@ -1,11 +1,13 @@
 pub mod Blocks
 pub mod ByFile
 pub mod Completed
+pub mod Counts
 pub mod FileList
 pub mod Files
 pub mod Folder
 pub mod Listing
 pub mod LogFile
+pub mod Metadata
 pub mod Numbered
 pub mod Open
 pub mod OpenedLogs
@@ -13,7 +15,11 @@ pub mod Pipe
 pub mod Queue
 pub mod QueueFiles
 pub mod PipeState
+pub mod Prefill
 pub mod Purge
 pub mod Read
+pub mod Refused
+pub mod Reserve
 pub mod Rotation
+pub mod Spare
 pub mod Written
