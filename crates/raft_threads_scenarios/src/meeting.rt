@@ -40,6 +40,8 @@ impl MergingMachine for Meeting {
     }
 }
 
+/// Makes machines that wait for one another.
+#[derive(Drop)]
 struct Meetings {
     begun: Arc<AtomicU64, Global>,
 }

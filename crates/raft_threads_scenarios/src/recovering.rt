@@ -101,9 +101,11 @@ fn finds_all<R: Threads + Sync>(
     let (appended, rewritten) = builder.recover(rt, &DefaultMachineFactory::new(alloc))?;
     let files = usize::from(case.append) + usize::from(case.rewrite);
     let all: (Keys, Keys) = (appended, rewritten);
-    Ok(are_all(&all.0, case.append)
-        && are_all(&all.1, case.rewrite)
-        && builder.cuts().len() == files)
+    Ok(
+        are_all(&all.0, case.append)
+            && are_all(&all.1, case.rewrite)
+            && builder.cuts().len() == files,
+    )
 }
 
 #[test]

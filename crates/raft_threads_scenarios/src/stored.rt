@@ -36,11 +36,7 @@ fn store<F: FileSystem>(alloc: Global, fs: &mut F, queue: LogQueue, key: u8) -> 
     batch.finish_populate()?;
     batch.prepare_write(&LogFileContext::new(id, Version::V2));
     let path = id.build_file_path(alloc, FOLDER)?;
-    match write(
-        fs,
-        path.as_str(),
-        &[HEADER, batch.encoded_bytes(), TORN],
-    ) {
+    match write(fs, path.as_str(), &[HEADER, batch.encoded_bytes(), TORN]) {
         Ok(()) => Ok(()),
         Err(fault) => Err(fault.with_path(alloc, path.as_str())),
     }
