@@ -3,8 +3,9 @@ ghost use Rattle.std.specs.Prelude.{◌≡◌};
 
 use crate::checker::ConsistencyChecker;
 use raft_pipes::ReplayMachine;
-use raft_records::{Fault, FileId, LogItem, LogQueue};
+use raft_records::{Fault, FileId, Fresh, LogItem, LogQueue};
 use raft_workers::MergingMachine;
+use std::alloc::Global;
 
 impl ReplayMachine for ConsistencyChecker {
     ghost use Rattle.raft_consistency.specs.Holes.{HasTaken};
@@ -16,6 +17,17 @@ impl ReplayMachine for ConsistencyChecker {
     fn replay(&mut self, items: &mut Vec<LogItem>, _file: FileId) -> Result<(), Fault> {
         self.take(items)?;
         Ok(())
+    }
+}
+
+impl Fresh for ConsistencyChecker {
+    ghost use Rattle.std.specs.Prelude.{[]};
+    ghost use Rattle.raft_consistency.specs.Holes.{HasTaken};
+
+    ghost is_fresh = { λ checker. HasTaken [] checker };
+
+    fn fresh(alloc: Global) -> ConsistencyChecker {
+        ConsistencyChecker::new(alloc)
     }
 }
 

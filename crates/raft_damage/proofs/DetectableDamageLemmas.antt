@@ -102,10 +102,10 @@ synced_left id format records synced at file left completed may =
 -- the damage of an outcome can be told that holds the first records as they stand now and is broken after them
 pub torn_is_detectable : (id : FileId) (format : LogFileFormat) (records : List PlacedRecord) (synced at : ℕ) (file : File) (left : List ℕ) → HoldsCompletedRecords id format records synced at file → file.now ≡ bytes_after file.synced file.changes → file.renamed_after ≡ None → MayLeave file left → IsTornAfter id format records file left → IsDetectableFile id file left
 torn_is_detectable id format records synced at file left completed latest never may torn = record {
-  header = inl (header ∙ sym (format_of-held id format records at file.now completed.holds));
   newer = [];
   upto = file.changes;
   moment = refl;
+  header = inl (header ∙ sym (format_of-held id format records at file.now completed.holds) ∙ ap format_of latest);
   prefix = subst (λ b. IsPrefixOf read (readable_records id b)) latest prefix;
   completed = λ other is.
       let same : other ≡ format = same_some (sym is ∙ header) in
@@ -115,7 +115,7 @@ torn_is_detectable id format records synced at file left completed latest never 
       let whole : ScanResult = record { format = format; records = take torn.count records; end = torn.end } in
       let same : r ≡ whole = same_some (sym e ∙ whole_read) in
       torn.broken.1 (subst (λ (q : ScanResult). HasCompressedAt (signature_by id q.format) left (record_place q.format.alignment left q.end)) same marked);
-  none_stale = λ r has. never_stale file.renamed_after (file.changes ++ file.older) r.at never;
+  none_stale = λ other is r has stale. absurd (never_stale file.renamed_after (file.changes ++ file.older) r.at never stale);
 }
   where
     whole_read : scan_file id left ≡ Some (record { format = format; records = take torn.count records; end = torn.end })
@@ -153,7 +153,7 @@ torn_is_detectable id format records synced at file left completed latest never 
 pub now_is_torn : (id : FileId) (format : LogFileFormat) (records : List PlacedRecord) (synced at : ℕ) (file : File) → IsWrittenByCompletedCalls id format records synced at file → IsTornAfter id format records file file.now
 now_is_torn id format records synced at file completed =
     let all : take (length records) records ≡ records = take_all (length records) records (omega arith) in
-    let ends = only_zeros at file.now file.renamed_after (file.changes ++ file.older) completed.never_renamed completed.written.empty completed.past.only_writes in
+    let ends = only_zeros at file.now file.renamed_after (file.changes ++ file.older) completed.past.never_renamed completed.written.empty completed.past.only_writes in
     record {
       count = length records;
       end = at;

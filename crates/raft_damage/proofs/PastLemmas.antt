@@ -133,9 +133,9 @@ now_is_read id file is unmarked = record {
   unmarked = unmarked;
 }
 
-pub synced_is_read : (id : FileId) (file : File) → (format_of file.synced ≡ format_of file.now) ⊎ (format_of file.synced ≡ None) → EndsWithoutCompressed id file.synced → IsReadAsBefore id file file.synced
-synced_is_read id file header unmarked = record {
-  header = header;
+pub synced_is_read : (id : FileId) (file : File) → EndsWithoutCompressed id file.synced → IsReadAsBefore id file file.synced
+synced_is_read id file unmarked = record {
+  header = inl refl;
   bytes = file.synced;
   moment = Contains-append_right (map (λ (c : Change). c.after) file.changes) (file.synced ∷ []) file.synced (0, omega arith, refl);
   prefix = prefix_itself (readable_records id file.synced);
@@ -144,15 +144,15 @@ synced_is_read id file header unmarked = record {
 
 own_is_detectable : (id : FileId) (file : File) (left : List ℕ) → IsConsistent file → file.renamed_after ≡ None → EachAddsOnlyItsRecord id file → MayLeave file left → untouched_len file.synced file.changes ≤ length left → IsReadAsBefore id file left → IsDetectableFile id file left
 own_is_detectable id file left consistent never own may long reads = record {
-  header = reads.header;
+  header = header;
   newer = m.newer;
   upto = m.upto;
   moment = m.split;
   prefix = begins;
-  completed = λ format is r has. own_completed id (signature_by id format) (bytes_after file.synced m.upto) (m.upto ++ file.older) (past_at file consistent m.newer m.upto m.split) (λ c among. own format (format_now format is) c (of_file c among)) r (read_then r has);
+  completed = λ format is r has. own_completed id (signature_by id format) (bytes_after file.synced m.upto) (m.upto ++ file.older) (past_at file consistent m.newer m.upto m.split) (λ c among. own format reads.bytes reads.moment (format_then format is) c (of_file c among)) r (read_then r has);
   untouched = untouched_is_read id file left may long;
   unmarked = reads.unmarked;
-  none_stale = λ r has. never_stale file.renamed_after (m.upto ++ file.older) r.at never;
+  none_stale = λ other is r has stale. absurd (never_stale file.renamed_after (m.upto ++ file.older) r.at never stale);
 }
   where
     m : IsMoment file.synced file.changes reads.bytes
@@ -164,8 +164,11 @@ own_is_detectable id file left consistent never own may long reads = record {
     read_then : (r : PlacedRecord) → Contains (readable_records id left) r → Contains (readable_records id (bytes_after file.synced m.upto)) r
     read_then r has = subst (λ rs. Contains rs r) (sym begins.1) (Contains-append_left (readable_records id left) begins.0 r has)
 
-    format_now : (format : LogFileFormat) → format_of left ≡ Some format → format_of file.now ≡ Some format
-    format_now format is = elim reads.header [
+    header : (format_of left ≡ format_of (bytes_after file.synced m.upto)) ⊎ (format_of left ≡ None)
+    header = subst (λ b. (format_of left ≡ format_of b) ⊎ (format_of left ≡ None)) (sym m.is) reads.header
+
+    format_then : (format : LogFileFormat) → format_of left ≡ Some format → format_of reads.bytes ≡ Some format
+    format_then format is = elim reads.header [
       | inl same ↦ sym same ∙ is
       | inr none ↦ let some : Some format ≡ None = sym is ∙ none in absurd cc
     ]

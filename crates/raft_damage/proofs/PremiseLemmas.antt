@@ -61,7 +61,7 @@ module _ (path : Path) (id : FileId) (format : LogFileFormat) (batches : List Ba
 pub log_whole : (path : Path) (id : FileId) (format : LogFileFormat) (batches : List Batch) (synced at : ℕ) (n : Directory) → HasCompletedLog path id format batches synced at n → AreConsistent n → (choices : List Choice) → AreWhole choices →
     IsDetectable path id n (left_by choices n)
 log_whole path id format batches synced at n log consistent choices whole = elim (whole_choice choices whole _) [
-  | inl all ↦ detectable choice.All all tt (now_is_torn id format held.records synced at held.file (record { written = log.written; held = held.held; past = log.past; never_renamed = log.never_renamed }))
+  | inl all ↦ detectable choice.All all tt (now_is_torn id format held.records synced at held.file (record { written = log.written; held = held.held; past = log.past }))
   | inr old ↦ detectable choice.Synced old tt (synced_is_torn id format held.records synced at held.file (consistent path held.file held.stands) held.held)
 ]
   where
@@ -69,4 +69,4 @@ log_whole path id format batches synced at n log consistent choices whole = elim
     held = log.held
 
     detectable : (c : Choice) → choice_for choices (finite.keys n.files) path ≡ c → NamesNoBytes c → IsTornAfter id format held.records held.file (bytes_by_choice c held.file) → IsDetectable path id n (left_by choices n)
-    detectable = detectable_by path id format batches synced at n held log.never_renamed consistent choices
+    detectable = detectable_by path id format batches synced at n held log.past.never_renamed consistent choices

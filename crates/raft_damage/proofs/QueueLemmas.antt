@@ -10,7 +10,9 @@ use Rattle.raft_memory.specs.declared.crash.Choice.{Choice}
 use Rattle.raft_files.specs.Detectable.{IsDetectable}
 use Rattle.raft_files.proofs.ScanExtentLemmas.{same_some}
 use Rattle.raft_pipes.specs.Completed.{HasSimplePastOf, PipeHasCompletedLogIfSimple}
+use Rattle.raft_pipes.specs.Counts.{QueueCounts}
 use Rattle.raft_config.specs.Folders.{Folders, all_of}
+use Rattle.raft_pipes.specs.Counts.{QueueCounts}
 use Rattle.raft_pipes.specs.Numbered.{in_queue}
 use Rattle.raft_pipes.specs.Pipe.{HasQueueOf}
 use Rattle.raft_pipes.specs.PipeState.{PipeState, WritesFiles, last_file, last_seq}
@@ -18,12 +20,12 @@ use Rattle.raft_pipes.specs.QueueFiles.{IsDetectableQueue, last_kept}
 use Rattle.raft_pipes.proofs.QueueLemmas.{last_kept-written}
 use Rattle.raft_damage.proofs.PremiseLemmas.{log_whole}
 
-module _ (which : LogQueue) (p : PipeState) (folders : Folders) (batches : List Batch) (synced : ℕ) (n : Directory) (queue : HasQueueOf which p folders batches synced n) where
+module _ (which : LogQueue) (p : PipeState) (folders : Folders) (batches : List Batch) (counts : QueueCounts) (n : Directory) (queue : HasQueueOf which p folders batches counts n) where
   -- the pipe's last file is the folders' last one
-  last_kept-queue : WritesFiles p batches synced n → last_kept (all_of folders) which n ≡ Some (last_seq p, p.writer.path)
+  last_kept-queue : WritesFiles p batches counts n → last_kept (all_of folders) which n ≡ Some (last_seq p, p.writer.path)
   last_kept-queue writes =
       subst (λ f. last_kept (all_of f) which n ≡ Some (last_seq p, p.writer.path)) queue.folders_are
-      (subst (λ k. last_kept (all_of p.folders) k n ≡ Some (last_seq p, p.writer.path)) queue.queue_is (last_kept-written p batches synced n writes))
+      (subst (λ k. last_kept (all_of p.folders) k n ≡ Some (last_seq p, p.writer.path)) queue.queue_is (last_kept-written p batches counts n writes))
 
   pub queue_whole : PipeHasCompletedLogIfSimple p n → HasSimplePastOf which folders n → AreConsistent n → (choices : List Choice) → AreWhole choices → ∥ IsDetectableQueue (all_of folders) which n (left_by choices n) ∥₁
   queue_whole completed past consistent choices whole = ∥∥₁_elim queue.files ∥∥₁_prop (λ writes.

@@ -30,17 +30,17 @@ abbrev pub AddsOnlyItsRecord : FileId → Option ℕ → Change → Type 0
 AddsOnlyItsRecord id signature c = (r : PlacedRecord) → Contains (readable_records id c.after) r
     → Contains (readable_records id c.before) r ⊎ IsGivenBy signature r c
 
--- .. and so each change of the file, judged by the format in its header
+-- .. and so each change of the file, judged by a format that its header had since the last sync
 abbrev pub EachAddsOnlyItsRecord : FileId → File → Type 0
-EachAddsOnlyItsRecord id file = (format : LogFileFormat) → format_of file.now ≡ Some format
-    → (c : Change)
+EachAddsOnlyItsRecord id file = (format : LogFileFormat) (bytes : List ℕ)
+    → Contains (bytes_since_sync file) bytes → format_of bytes ≡ Some format → (c : Change)
     → Contains (file.changes ++ file.older) c → AddsOnlyItsRecord id (signature_by id format) c
 
 -- a crash left a prefix of the records that could be read at a moment since the last sync, under
--- the header now or none, and broken bytes after them
+-- the header then or none, and broken bytes after them
 pub record IsReadAsBefore (id : FileId) (file : File) (left : List ℕ) : Type 0 where
-  pub header : (format_of left ≡ format_of file.now) ⊎ (format_of left ≡ None)
   pub bytes : List ℕ
   pub moment : Contains (bytes_since_sync file) bytes
+  pub header : (format_of left ≡ format_of bytes) ⊎ (format_of left ≡ None)
   pub prefix : IsPrefixOf (readable_records id left) (readable_records id bytes)
   pub unmarked : EndsWithoutCompressed id left

@@ -15,6 +15,7 @@ ghost use Rattle.raft_premise.specs.Completed.{EndsInZeros, HasCompletedLog, Has
 ghost use Rattle.raft_damage.specs.DetectableDamage.{EachAddsOnlyItsRecord, IsBrokenFrom, IsReadAsBefore, IsTornAfter};
 ghost use Rattle.raft_pipes.specs.Completed.{HasSimplePastOf, PipeHasCompletedLogIfSimple};
 ghost use Rattle.raft_config.specs.Folders.{Folders, all_of};
+ghost use Rattle.raft_pipes.specs.Counts.{QueueCounts};
 ghost use Rattle.raft_pipes.specs.Pipe.{HasQueueOf};
 ghost use Rattle.raft_pipes.specs.PipeState.{PipeState};
 ghost use Rattle.raft_pipes.specs.QueueFiles.{IsDetectableQueue};
@@ -30,8 +31,8 @@ ghost use Rattle.raft_files.specs.declared.format.LogFileFormat.{LogFileFormat};
 /// (`zeros`); so of a log with all bytes or those of its last sync it is detectable (`detectable`).
 /// Of a file in any state it is detectable where no call brought a record but the one that it was
 /// to write, and what such an outcome leaves is read as a prefix of what was read at a moment since
-/// the last sync (`own`), as all bytes are (`read_now`), and those of the last sync under the same
-/// header or none (`read_synced`).
+/// the last sync (`own`), as all bytes are (`read_now`), and those of the last sync
+/// (`read_synced`).
 pub fn premise_can_be_met()
     ensures allowed { (choices : List Choice) (n : Directory) → NameNoBytes choices
         → AreConsistent n → Leaves n (left_by choices n) }
@@ -66,18 +67,18 @@ pub fn premise_can_be_met()
     ensures read_now { (id : FileId) (file : File) → IsConsistent file
         → EndsWithoutCompressed id file.now
         → IsReadAsBefore id file file.now }
-    ensures read_synced { (id : FileId) (file : File) → (format_of file.synced ≡ format_of file.now)
-        ⊎ (format_of file.synced ≡ None) → EndsWithoutCompressed id file.synced
+    ensures read_synced { (id : FileId) (file : File) → EndsWithoutCompressed id file.synced
         → IsReadAsBefore id file file.synced }
 {}
 
 /// The damage of a crash that leaves each file with all its bytes now or those of its last sync is
-/// detectable of a queue of whose last file only writes failed, and no failed call brought a
-/// record (`detectable`). Openings of `raft_pipes` give such queues, and the calls of pipes keep them.
+/// detectable of a queue whose last file was never renamed, of which only writes failed, and no
+/// failed call brought a record (`detectable`). Openings of `raft_pipes` give such queues, and the
+/// calls of pipes keep them.
 pub fn damage_of_a_queue_is_detectable()
     ensures detectable { (queue : LogQueue) (p : PipeState) (folders : Folders)
-        (batches : List Batch) (synced : ℕ) (n : Directory)
-        → HasQueueOf queue p folders batches synced n
+        (batches : List Batch) (counts : QueueCounts) (n : Directory)
+        → HasQueueOf queue p folders batches counts n
         → PipeHasCompletedLogIfSimple p n → HasSimplePastOf queue folders n → AreConsistent n
         → (choices : List Choice) → AreWhole choices
         → ∥ IsDetectableQueue (all_of folders) queue n (left_by choices n) ∥₁ }

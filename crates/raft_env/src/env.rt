@@ -99,6 +99,12 @@ pub trait FileSystem: Send + Sync {
 
     ghost writer_path: { Self.Writer → Path };
 
+    /// Whether a path has metadata, which stand apart from the files.
+    ghost metadata_of: { Self → Path → Bool };
+
+    /// The free space of a folder, as it was told last.
+    ghost free_at: { Self → Path → ℕ };
+
     /// Makes a file without bytes. A path that stands keeps its file.
     fn create(&mut self, path: &str) -> Result<Self::Handle, FsFault>
         ensures handle { IfOk result (λ h. (handle_path h ≡ path.now) × (may_write h ≡ true)) }
@@ -261,6 +267,25 @@ pub trait FileSystem: Send + Sync {
     fn list(&mut self, dir: &str) -> Result<Vec<String>, FsFault>
         ensures names { IfOk result (λ names. map string_bytes names.items
             ≡ names_in dir.now (directory self.old)) }
+        ensures unchanged { OnlyReads directory moments self.old self.new }
+        ensures cause { CountsRefusalOf result (refusals_of self.old) (refusals_of self.new) };
+
+    /// The bytes that a folder has room for.
+    fn free_space(&mut self, dir: &str) -> Result<u64, FsFault>
+        ensures value { IfOk result (λ n. n ≡ free_at self.new dir.now) }
+        ensures others { (p : Path) → (p ≡ dir.now → ⊥) → free_at self.new p ≡ free_at self.old p }
+        ensures unchanged { OnlyReads directory moments self.old self.new }
+        ensures cause { CountsRefusalOf result (refusals_of self.old) (refusals_of self.new) };
+
+    fn exists_metadata(&self, path: &str) -> bool
+        ensures value { result ≡ metadata_of self.now path.now };
+
+    /// Takes a path's metadata away, where there are any.
+    fn delete_metadata(&mut self, path: &str) -> Result<(), FsFault>
+        ensures ok { OnOk result (metadata_of self.new path.now ≡ false) }
+        ensures err { OnErr result ((p : Path) → metadata_of self.new p ≡ metadata_of self.old p) }
+        ensures others { (p : Path) → (p ≡ path.now → ⊥)
+            → metadata_of self.new p ≡ metadata_of self.old p }
         ensures unchanged { OnlyReads directory moments self.old self.new }
         ensures cause { CountsRefusalOf result (refusals_of self.old) (refusals_of self.new) };
 

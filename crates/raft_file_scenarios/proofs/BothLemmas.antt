@@ -1,5 +1,5 @@
 -- Two queues side by side, after calls on one of them.
-use Rattle.std.proofs.Common.{◌≡◌, ◌∙◌, ℕ, ◌-◌, ◌<◌, ◌^◌, Bool, true, List, [], length, Some, ap, subst, sym}
+use Rattle.std.proofs.Common.{◌≡◌, ◌∙◌, ℕ, ◌<◌, ◌^◌, Bool, true, List, [], length, Some, ap, subst, sym}
 use Rattle.std.specs.Prelude.{unwrap_or}
 use Rattle.std.proofs.Math.Logic.{∥∥₁_elim, ∥∥₁_map, ∥∥₁_prop}
 use Rattle.std.proofs.lemmas.Bool.{lt-ltb}
@@ -9,10 +9,10 @@ use Rattle.raft_base.specs.declared.pipe_log.LogQueue.{LogQueue}
 use Rattle.raft_env.specs.Directory.{Directory}
 use Rattle.raft_queues.specs.Dual.{DualState, HasAppendedIn, HasBoth, HasSyncedIn, StandSideBySide, StillHasBoth, counted, grown, pipe_of}
 use Rattle.raft_config.specs.Folders.{Folders}
+use Rattle.raft_pipes.specs.Counts.{QueueCounts}
 use Rattle.raft_pipes.specs.Pipe.{IsPipeOf, IsRecordOf}
 use Rattle.raft_pipes.specs.PipeState.{PipeState, context_of}
-use Rattle.raft_pipes.specs.Purge.{dropped_batches}
-use Rattle.raft_queues.specs.DualPurge.{HasDroppedIn, with_queue}
+use Rattle.raft_queues.specs.DualPurge.{HasDroppedIn, counts_after_drop}
 use Rattle.raft_records.specs.Batch.{BatchView, populated, signed_for}
 use Rattle.raft_records.specs.Item.{Batch}
 use Rattle.raft_records.specs.Layout.{entry_bytes}
@@ -23,8 +23,8 @@ use Rattle.raft_records.specs.RecordLimits.{FitsRecord}
 pub each_stands : (queue : LogQueue) (d : DualState) (n : Directory) → StandSideBySide d n → IsPipeOf (pipe_of queue d) n
 each_stands queue d n stand = ∥∥₁_elim stand ∥∥₁_prop (λ w. (w.3 queue).writes)
 
-pub stand_opened : (d : DualState) (n : Directory) (folders : Folders) (batches : LogQueue → List Batch) (synced : LogQueue → ℕ) → HasBoth d folders batches synced n → StandSideBySide d n
-stand_opened d n folders batches synced has = ∣ (folders, batches, synced, has) ∣₁
+pub stand_opened : (d : DualState) (n : Directory) (folders : Folders) (batches : LogQueue → List Batch) (counts : LogQueue → QueueCounts) → HasBoth d folders batches counts n → StandSideBySide d n
+stand_opened d n folders batches counts has = ∣ (folders, batches, counts, has) ∣₁
 
 pub stand_appended : (queue : LogQueue) (sync : Bool) (d d' : DualState) (given : List ℕ) (batch : Batch) (old new : Directory) → HasAppendedIn queue sync d d' given old new → IsRecordOf (pipe_of queue d) given batch → StandSideBySide d old → StandSideBySide d' new
 stand_appended queue sync d d' given batch old new appended is stand =
@@ -36,10 +36,8 @@ stand_synced queue d d' old new synced stand = ∥∥₁_map stand (λ w. (w.0, 
 pub stand_still : (d d' : DualState) (old new : Directory) → StillHasBoth d d' old new → StandSideBySide d old → StandSideBySide d' new
 stand_still d d' old new still stand = ∥∥₁_map stand (λ w. (w.0, w.1, w.2, still w.0 w.1 w.2 w.3))
 
-pub stand_dropped : (queue : LogQueue) (count : ℕ) (d d' : DualState) (old new : Directory) → HasDroppedIn queue count d d' old new → StandSideBySide d old → StandSideBySide d' new
-stand_dropped queue count d d' old new dropped stand =
-    ∥∥₁_elim stand ∥∥₁_prop (λ w. let keeps = dropped.keeps w.0 w.1 w.2 w.3 in
-    ∥∥₁_map keeps.0 (λ rest. (w.0, with_queue queue rest.0 w.1, with_queue queue (w.2 queue - length (dropped_batches count (pipe_of queue d) old)) w.2, keeps.1 rest.0 rest.1)))
+pub stand_dropped : (queue : LogQueue) (seq count : ℕ) (d d' : DualState) (old new : Directory) → HasDroppedIn queue seq count d d' old new → StandSideBySide d old → StandSideBySide d' new
+stand_dropped queue seq count d d' old new dropped stand = ∥∥₁_map stand (λ w. (w.0, w.1, counts_after_drop queue count d old w.2, dropped.keeps w.0 w.1 w.2 w.3))
 
 -- a batch that was populated and then signed for the last file of a pipe is encoded to its record
 pub signed_record : (p : PipeState) (context : LogFileContext) (given : List ℕ) (batch full signed : BatchView) → full ≡ populated batch → signed ≡ signed_for (file_signature context) full → given ≡ unwrap_or signed.encoded [] → FitsRecord batch.items

@@ -10,7 +10,10 @@ use raft_env::{FileSystem, IoKind};
 use raft_memory::{Choice, MemoryFileSystem};
 use raft_pipes::{AppendFault, ReplayMachine, RotationFault};
 use raft_queues::{DualPipes, DualPipesBuilder};
-use raft_records::{Fault, FileId, KeyValue, LogBatch, LogItem, LogItemContent, LogQueue};
+use raft_records::{
+    Fault, FileId, Fresh, KeyValue, LogBatch, LogItem, LogItemContent, LogQueue,
+};
+use raft_workers::DefaultMachineFactory;
 use std::alloc::Global;
 use std::test::Fail;
 
@@ -41,13 +44,23 @@ impl ReplayMachine for Keys {
     }
 }
 
+impl Fresh for Keys {
+    ghost is_fresh = { λ keys. Unit {0} };
+
+    fn fresh(alloc: Global) -> Keys {
+        Keys {
+            found: Vec::new(alloc),
+        }
+    }
+}
+
+// The keys of the Append queue, and those of the Rewrite queue.
 fn recover<F: FileSystem>(
+    alloc: Global,
     builder: &mut DualPipesBuilder<F>,
-    append: &mut Keys,
-    rewrite: &mut Keys,
-) -> Result<(), Fault> {
+) -> Result<(Keys, Keys), Fault> {
     builder.scan()?;
-    builder.recover_in_order(append, rewrite)
+    builder.recover_in_order(&DefaultMachineFactory::new(alloc))
 }
 
 // Opens both queues; what is read of each goes to its machine.
@@ -60,7 +73,9 @@ fn opened<F: FileSystem + Drop>(
     ensures stands { IfOk result (λ done. StandSideBySide done.0 (F.directory done.1)) }
 {
     let mut builder = begun(alloc, fs)?;
-    recover(&mut builder, append, rewrite)?;
+    let (appended, rewritten) = recover(alloc, &mut builder)?;
+    *append = appended;
+    *rewrite = rewritten;
     match builder.finish() {
         Ok((pipes, fs)) => Ok((pipes, fs)),
         Err((fault, _fs)) => Err(fault),
@@ -139,12 +154,8 @@ fn take_each<F: FileSystem>(
 
 // The files once the steps were taken, of which no pipe was closed.
 fn written<F: FileSystem + Drop>(alloc: Global, fs: F, steps: &[Step]) -> Result<F, Fault> {
-    let mut append = Keys {
-        found: Vec::new(alloc),
-    };
-    let mut rewrite = Keys {
-        found: Vec::new(alloc),
-    };
+    let mut append = Keys::fresh(alloc);
+    let mut rewrite = Keys::fresh(alloc);
     let (mut pipes, mut fs) = opened(alloc, fs, &mut append, &mut rewrite)?;
     take_each(alloc, &mut fs, &mut pipes, steps)?;
     Ok(fs)
@@ -157,12 +168,8 @@ fn reads<F: FileSystem + Drop>(
     in_append: &[(u64, u8)],
     in_rewrite: &[(u64, u8)],
 ) -> Result<Option<F>, Fault> {
-    let mut append = Keys {
-        found: Vec::new(alloc),
-    };
-    let mut rewrite = Keys {
-        found: Vec::new(alloc),
-    };
+    let mut append = Keys::fresh(alloc);
+    let mut rewrite = Keys::fresh(alloc);
     let (_pipes, fs) = opened(alloc, fs, &mut append, &mut rewrite)?;
     let are_same = append.found.as_slice() == in_append && rewrite.found.as_slice() == in_rewrite;
     Ok(are_same.then_some(fs))
@@ -182,9 +189,7 @@ fn reads_one<F: FileSystem>(
     queue: LogQueue,
     code: Option<u8>,
 ) -> Result<bool, Fault> {
-    let mut machine = Keys {
-        found: Vec::new(alloc),
-    };
+    let mut machine = Keys::fresh(alloc);
     let answer = builder.recover_queue(queue, &mut machine);
     if let Some(code) = code {
         return Ok(is_refused(answer, code));

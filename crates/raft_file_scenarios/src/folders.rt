@@ -10,9 +10,11 @@ use std::alloc::{AllocError, Global};
 pub(crate) const HEADER: &[u8] =
     b"RAFT-LOG-FILE-HEADER-9986AB3E47F320B394C8E84916EB0ED5\0\0\0\0\0\0\0\x02\0\0\0\0\0\0\0\0";
 
+/// Those of one folder, in which no file is used again.
 pub(crate) fn settings(alloc: Global) -> Result<Config, AllocError> {
     let mut config = Config::fresh(alloc);
     config.dir.push_str("data")?;
+    config.enable_log_recycle = false;
     Ok(config)
 }
 

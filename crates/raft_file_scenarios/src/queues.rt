@@ -133,7 +133,10 @@ fn opened<F: FileSystem>(alloc: Global, fs: &mut F) -> Result<SinglePipe<F>, Fau
     let mode = config.recovery_mode;
     let replayed = read_files(alloc, queue, &files, mode, 512, fs, &mut NoMachine {})?;
     let version = config.format_version;
-    settle_or_begin(alloc, queue, folders, files, replayed, version, fs)
+    let spare = Vec::new(alloc);
+    settle_or_begin(
+        alloc, queue, folders, files, replayed, version, spare, 0, 0, fs,
+    )
 }
 
 fn append<F: FileSystem>(

@@ -5,7 +5,7 @@ use crate::two_queues::{PUT_1, PUT_2, Wanted, are_cuts, read_both};
 use raft_config::Config;
 use raft_env::{FileSystem, FsFault, Permission};
 use raft_memory::MemoryFileSystem;
-use raft_pipes::file_list::{FoundFile, scan};
+use raft_pipes::file_list::{FileKind, FoundFile, scan};
 use raft_queues::DualPipesBuilder;
 use raft_records::{Fault, Fresh, LogQueue};
 use std::alloc::{AllocError, Global};
@@ -254,11 +254,12 @@ fn are_kept(found: &[FoundFile], wanted: &[(&str, bool)]) -> bool {
 fn is_scanned<F: FileSystem>(alloc: Global, fs: &mut F, row: &Scan) -> Result<bool, Fail> {
     store_all(fs, row.stored)?;
     let folders = both_folders(alloc, fs)?;
-    let found = scan(alloc, &folders, LogQueue::Append, fs)?;
+    let found = scan(alloc, &folders, FileKind::Log(LogQueue::Append), fs)?;
     Ok(are_kept(found.as_slice(), row.kept))
 }
 
-fn settings(alloc: Global, folders: &(&str, &str)) -> Result<Config, AllocError> {
+/// Those of these two folders.
+pub(crate) fn settings(alloc: Global, folders: &(&str, &str)) -> Result<Config, AllocError> {
     let mut config = Config::fresh(alloc);
     config.dir.push_str(folders.0)?;
     let mut spill = String::new(alloc);

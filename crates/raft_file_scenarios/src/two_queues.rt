@@ -5,7 +5,7 @@ use raft_env::{FileSystem, FsFault};
 use raft_memory::MemoryFileSystem;
 use raft_pipes::ReplayMachine;
 use raft_queues::{Cut, DualPipes, DualPipesBuilder};
-use raft_records::{Fault, FileId, LogItem, LogQueue};
+use raft_records::{Factory, Fault, FileId, LogItem, LogQueue};
 use std::alloc::Global;
 use std::test::Fail;
 
@@ -134,6 +134,16 @@ impl ReplayMachine for Counter {
     }
 }
 
+struct CounterFactory {}
+
+impl Factory<Counter> for CounterFactory {
+    ghost is_new = { λ counter. Unit {0} };
+
+    fn new_target(&self) -> Result<Counter, Fault> {
+        Ok(Counter { batches: 0 })
+    }
+}
+
 // How many batches are read of the queue.
 pub(super) fn read<F: FileSystem>(
     builder: &mut DualPipesBuilder<F>,
@@ -148,9 +158,7 @@ pub(super) fn read<F: FileSystem>(
 pub(super) fn read_both<F: FileSystem>(
     builder: &mut DualPipesBuilder<F>,
 ) -> Result<(u64, u64), Fault> {
-    let mut appended = Counter { batches: 0 };
-    let mut rewritten = Counter { batches: 0 };
-    builder.recover_in_order(&mut appended, &mut rewritten)?;
+    let (appended, rewritten) = builder.recover_in_order(&CounterFactory {})?;
     Ok((appended.batches, rewritten.batches))
 }
 

@@ -10,7 +10,7 @@ use Rattle.raft_files.specs.Header.{header_bytes, header_len}
 use Rattle.raft_env.specs.Outcomes.{File, file_after_resize, cut_to, synced_of, synced_file, bytes_after}
 use Rattle.raft_env.specs.Directory.{Directory, CrashImage, Path, file_at, with_file, after_create, update_file, update_at, IsOneOf, IsTruncating, IsRestarted}
 use Rattle.raft_files.specs.Scan.{PlacedRecord, ScanResult, records_after, end_of_records, scan_file, records_of, readable_records, readable_batches, end_of_scan, ends_with, is_read_to_end}
-use Rattle.raft_files.specs.Detectable.{IsPrefixOf, signature_by, IsDetectable}
+use Rattle.raft_files.specs.Detectable.{IsPrefixOf, format_of, signature_by, IsDetectable}
 use Rattle.raft_files.specs.Records.{ReadsFirst, RecoversRecords, HoldsRecords, IsWrittenTo, HasLog, HasTornLog, image_of_file, bytes_after_crash, FirstOf, RecoversLog, RecoversNoRecord, RecoversNothingAt, RecoversPrefixAt}
 use Rattle.raft_files.specs.Writer.{HasChanged, IsOpening, IsAppending, IsCutting, IsSynced, IsSyncing, IsClosing, capacity_for, bytes_of, bytes_at}
 use Rattle.raft_files.proofs.DetectableLemmas.{prefix_trans, prefix_append, prefix_take}
@@ -111,8 +111,8 @@ reads_all id bytes r e = record { all = r.records; end = r.end; read = e; first 
 
 keeps_settled : (id : FileId) (bytes : List ℕ) (r : ScanResult) → scan_file id bytes ≡ Some r → RecoversRecords id r.format r.records (length r.records) (synced_file bytes)
 keeps_settled id bytes r e = record {
-  header = format_of_read id bytes r e;
   latest = refl;
+  header = only_moment (λ changes. format_of (bytes_after bytes changes) ≡ Some r.format) (format_of_read id bytes r e);
   moments = λ newer upto moment left read. subst (λ rs. IsPrefixOf left rs) (only_moment (λ changes. readable_records id (bytes_after bytes changes) ≡ r.records) (ap (λ q. records_of q) e) newer upto moment) read.prefix;
   few = omega arith;
   covered = subst (λ b. ReadsFirst id r.format (take (length r.records) r.records) b) (sym (take_all (length bytes) bytes (omega arith))) (reads_all id bytes r e);
@@ -155,8 +155,8 @@ kept_restarted path id n m d restarted = by_file (file_at n path) refl
 -- a sync changes nothing of what a crash may leave, but for the moments before it
 keeps_synced : (id : FileId) (format : LogFileFormat) (records : List PlacedRecord) (synced : ℕ) (file : File) → RecoversRecords id format records synced file → ReadsFirst id format (take synced records) file.now → RecoversRecords id format records synced (synced_of file)
 keeps_synced id format records synced file keeps reads = record {
-  header = keeps.header;
   latest = refl;
+  header = only_moment (λ changes. format_of (bytes_after file.now changes) ≡ Some format) (ap format_of keeps.latest ∙ keeps.header [] file.changes refl);
   moments = moments_synced (λ left. IsPrefixOf left records) id (signature_by id format) file keeps.latest keeps.moments;
   few = keeps.few;
   covered = subst (λ b. ReadsFirst id format (take synced records) b) (sym (take_all (length file.now) file.now (omega arith))) reads;

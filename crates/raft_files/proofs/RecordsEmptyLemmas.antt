@@ -4,16 +4,15 @@ use Rattle.std.proofs.lemmas.Bool.{cases_lt}
 use Rattle.std.proofs.lemmas.Bool.Decides.{nat_tests}
 use Rattle.std.proofs.lemmas.List.{length-take-le, length-replicate, get_or-take, get_or-drop, get_or-replicate, ext_get_or}
 use Rattle.std.specs.Int.{w64, from_be_bytes}
-use Rattle.raft_records.specs.Item.{Batch}
-use Rattle.raft_records.specs.Record.{Header, header_in, record_header, record_of}
+use Rattle.raft_records.specs.Record.{Header, header_in, record_header}
 use Rattle.raft_base.specs.declared.pipe_log.FileId.{FileId}
 use Rattle.raft_env.specs.Outcomes.{Change}
 use Rattle.raft_files.specs.Scan.{PlacedRecord, record_at}
 use Rattle.raft_files.specs.Detectable.{HasNoByteOfFailedCall, IsFromCompletedCall, IsFreshAfter}
 use Rattle.raft_files.specs.Records.{IsRefusedAt, IsEmptyFrom, HasNothingFrom}
-use Rattle.raft_files.proofs.ScanExtentLemmas.{record_header_is, record_header_long, record_of_header}
+use Rattle.raft_files.proofs.ScanExtentLemmas.{record_header_is, record_header_long}
 use Rattle.raft_files.proofs.ScanLemmas.{found_record, read_in}
-use Rattle.raft_files.proofs.DetectableStaleLemmas.{GivesNoneFrom, fresh_before}
+use Rattle.raft_files.proofs.DetectableStaleLemmas.{GivesNoneFrom, fresh_before, not_given, untried_not_fresh}
 
 header_in_zero : (footer : ℕ) → header_in 0 footer ≡ None
 header_in_zero footer = grind (arith, nat_tests)
@@ -50,15 +49,9 @@ search_bytes Q bytes (suc n) at each =
       ]
     ]
 
-record_of_none : (signature : Option ℕ) (batch : Batch) (len : ℕ) → record_of signature [] ≡ Some (batch, len) → ⊥
-record_of_none signature batch len e =
-    let found = record_of_header signature [] batch len e in
-    let has = record_header_is [] found.0 found.1 in
-    absurd (omega (arith, has.long))
-
 -- what is read where zeros and bytes of failed calls stand, or stale ones, isn't done or begins at a stale place, by whatever signature what these calls were to write is judged
-pub none_done : (signature by : Option ℕ) (bytes : List ℕ) (renamed : Option ℕ) (changes : List Change) (from : ℕ) → IsEmptyFrom from bytes renamed changes → (r : PlacedRecord) → from ≤ r.at → record_at signature bytes r.at ≡ Some r → HasNoByteOfFailedCall by changes r → IsFreshAfter renamed changes r.at → ⊥
-none_done signature by bytes renamed changes from (inr stale) r behind is no_byte fresh = fresh (stale r.at behind)
+pub none_done : (signature by : Option ℕ) (bytes : List ℕ) (renamed : Option ℕ) (changes : List Change) (from : ℕ) → IsEmptyFrom from bytes renamed changes → (r : PlacedRecord) → from ≤ r.at → record_at signature bytes r.at ≡ Some r → HasNoByteOfFailedCall by changes r → IsFreshAfter by renamed changes r → ⊥
+none_done signature by bytes renamed changes from (inr untried) r behind is no_byte fresh = untried_not_fresh by renamed changes r (untried r.at behind) fresh
 none_done signature by bytes renamed changes from (inl empty) r behind is no_byte fresh =
     let found = found_record signature bytes r.at r is in
     elim (search_bytes (IsRefusedAt changes) bytes 8 r.at (λ i above below. empty i (omega arith) (omega (arith, found.long, found.within)))) [
@@ -67,7 +60,7 @@ none_done signature by bytes renamed changes from (inl empty) r behind is no_byt
           let i = refused.0 in
           let q : IsRefusedAt changes i = refused.3 in
           let given = no_byte q.0 q.1 q.2 q.3 q.4 (i, refused.1, omega (arith, refused.2, found.long), q.6, q.7) in
-          record_of_none by r.batch r.len (sym (ap (λ b. record_of by b) q.5) ∙ given.1)
+          not_given by r q.1 q.5 given
     ]
 
 pub done_without_byte : (id : FileId) (by : Option ℕ) (changes : List Change) (r : PlacedRecord) → HasNoByteOfFailedCall by changes r → IsFromCompletedCall id by changes r
@@ -78,7 +71,7 @@ done_without_byte id by (c ∷ changes) r no_byte = inl no_byte
 pub has_nothing_after : (id : FileId) (from at : ℕ) (c : Change) (renamed : Option ℕ) (changes : List Change) → HasNothingFrom id from c.before renamed changes → from ≤ at → GivesNoneFrom at c → IsEmptyFrom at c.after renamed (c ∷ changes) → HasNothingFrom id at c.after renamed (c ∷ changes)
 has_nothing_after id from at c renamed changes nothing further none empty by r has behind completed fresh = elim completed [
   | inl no_byte ↦ let is = read_in id c.after r has in none_done is.signature by c.after renamed (c ∷ changes) at empty r behind is.is no_byte fresh
-  | inr earlier ↦ nothing by r earlier.0 (omega arith) earlier.1 (fresh_before renamed c changes at r.at none behind fresh)
+  | inr earlier ↦ nothing by r earlier.0 (omega arith) earlier.1 (fresh_before by renamed c changes at r none behind fresh)
 ]
 
 -- nothing is read after the end of the bytes

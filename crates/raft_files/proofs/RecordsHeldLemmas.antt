@@ -86,7 +86,7 @@ prefix_of_one id format bytes at (r ∷ q ∷ left) others few begins among =
 
 -- where at most one record is done after these, a crash leaves a prefix of all
 pub left_of_torn : (id : FileId) (format : LogFileFormat) (by : Option ℕ) (records others : List PlacedRecord) (at : ℕ) (bytes : List ℕ) (renamed : Option ℕ) (changes : List Change) → HoldsRecords id format records at bytes → length others ≤ 1 →
-    ((r : PlacedRecord) → Contains (readable_records id bytes) r → at ≤ r.at → IsFromCompletedCall id by changes r → IsFreshAfter renamed changes r.at → Contains others r) →
+    ((r : PlacedRecord) → Contains (readable_records id bytes) r → at ≤ r.at → IsFromCompletedCall id by changes r → IsFreshAfter by renamed changes r → Contains others r) →
     (left : List PlacedRecord) → AreReadAt id by bytes renamed changes left → IsPrefixOf left (records ++ others)
 left_of_torn id format by records others at bytes renamed changes holds few only left read =
     let begins = read.prefix in

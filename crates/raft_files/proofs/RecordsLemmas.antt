@@ -7,7 +7,7 @@ use Rattle.raft_records.specs.Item.{Batch}
 use Rattle.raft_base.specs.declared.pipe_log.FileId.{FileId}
 use Rattle.raft_files.specs.declared.format.LogFileFormat.{LogFileFormat}
 use Rattle.raft_files.specs.Header.{header_len, header_of}
-use Rattle.raft_env.specs.Outcomes.{File, Change, untouched_len, changed_by}
+use Rattle.raft_env.specs.Outcomes.{File, Change, bytes_after, untouched_len, changed_by}
 use Rattle.raft_env.specs.Directory.{Directory, CrashImage, Path, file_at}
 use Rattle.raft_files.specs.Scan.{PlacedRecord, end_of_records, ScanResult, records_after, scan_after_header, records_of, readable_records, readable_batches}
 use Rattle.raft_files.specs.Detectable.{IsPrefixOf, format_of, signature_by, IsDetectableFile, IsDetectable}
@@ -69,13 +69,17 @@ pub keeps_more : (id : FileId) (format : LogFileFormat) (old all : List PlacedRe
     format_of c.after ≡ Some format → ((left : List PlacedRecord) → AreReadAt id (signature_by id format) c.after file.renamed_after (c ∷ file.changes ++ file.older) left → IsPrefixOf left all) →
     end_of_records (header_len format.version) (take synced old) ≤ c.from → RecoversRecords id format all synced (changed_by c file)
 keeps_more id format old all synced file c keeps more header moment behind = record {
-  header = header;
   latest = refl;
+  header = headers;
   moments = moments_more (λ left. IsPrefixOf left all) id (signature_by id format) file c (λ newer upto e left read. prefix_trans left old all (keeps.moments newer upto e left read) more) moment;
   few = omega (arith, keeps.few, prefix_length old all more);
   covered = subst (λ records. ReadsFirst id format records (take (untouched_len file.synced (c ∷ file.changes)) file.synced)) same (covered_more id format (take synced old) file.synced c file.changes keeps.covered behind);
 }
   where
+    headers : (newer upto : List Change) → c ∷ file.changes ≡ newer ++ upto → format_of (bytes_after file.synced upto) ≡ Some format
+    headers [] upto e = subst (λ changes. format_of (bytes_after file.synced changes) ≡ Some format) e header
+    headers (x ∷ newer) upto e = keeps.header newer upto (cc)
+
     same : take synced old ≡ take synced all
     same = sym (ap (λ rs. take synced rs) more.1 ∙ take-append-le synced old more.0 keeps.few)
 
@@ -128,7 +132,9 @@ pub read_of_left : (id : FileId) (format : LogFileFormat) (records : List Placed
 read_of_left id format records synced file left keeps detectable =
     let read = readable_records id left in
     let begins : IsPrefixOf read records = elim detectable.header [
-      | inl same ↦ keeps.moments detectable.newer detectable.upto detectable.moment read (record { prefix = detectable.prefix; completed = detectable.completed format (same ∙ keeps.header); fresh = detectable.none_stale })
+      | inl same ↦
+          let is = same ∙ keeps.header detectable.newer detectable.upto detectable.moment in
+          keeps.moments detectable.newer detectable.upto detectable.moment read (record { prefix = detectable.prefix; completed = detectable.completed format is; fresh = detectable.none_stale format is })
       | inr none ↦ subst (λ rs. IsPrefixOf rs records) (sym (readable_without_header id left none)) (records, refl)
     ] in
     let untouched = take (untouched_len file.synced file.changes) file.synced in

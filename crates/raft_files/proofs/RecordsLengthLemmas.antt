@@ -73,10 +73,10 @@ torn_changed id format records in_flight synced at file c torn behind =
     past : List Change
     past = file.changes ++ file.older
 
-    only : (r : PlacedRecord) → Contains (readable_records id c.after) r → at ≤ r.at → IsFromCompletedCall id (signature_by id format) (c ∷ past) r → IsFreshAfter file.renamed_after (c ∷ past) r.at → Contains in_flight r
+    only : (r : PlacedRecord) → Contains (readable_records id c.after) r → at ≤ r.at → IsFromCompletedCall id (signature_by id format) (c ∷ past) r → IsFreshAfter (signature_by id format) file.renamed_after (c ∷ past) r → Contains in_flight r
     only r has after completed fresh = elim completed [
       | inl no_byte ↦ let is = read_in id c.after r has in absurd (none_done is.signature (signature_by id format) c.after file.renamed_after (c ∷ past) at behind.empty r after is.is no_byte fresh)
-      | inr earlier ↦ torn.only r (subst (λ b. Contains (readable_records id b) r) behind.was earlier.0) after earlier.1 (fresh_before file.renamed_after c past at r.at (ungiven at c behind.given) after fresh)
+      | inr earlier ↦ torn.only r (subst (λ b. Contains (readable_records id b) r) behind.was earlier.0) after earlier.1 (fresh_before (signature_by id format) file.renamed_after c past at r (ungiven at c behind.given) after fresh)
     ]
 
 -- Allocations.

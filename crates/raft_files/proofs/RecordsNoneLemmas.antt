@@ -20,7 +20,7 @@ none_left id file left none detectable = ap (λ rs. map (λ (p : PlacedRecord). 
   where
     by_format : (format : Option LogFileFormat) → format_of left ≡ format → readable_records id left ≡ []
     by_format None e = readable_without_header id left e
-    by_format (Some format) e = none.moments detectable.newer detectable.upto detectable.moment format (readable_records id left) (record { prefix = detectable.prefix; completed = detectable.completed format e; fresh = detectable.none_stale })
+    by_format (Some format) e = none.moments detectable.newer detectable.upto detectable.moment format (readable_records id left) (record { prefix = detectable.prefix; completed = detectable.completed format e; fresh = detectable.none_stale format e })
 
 -- the same bytes under an equal name
 pub read_of_bytes : {id : FileId} {signature : Option ℕ} {a b : List ℕ} {renamed : Option ℕ} {changes : List Change} {left : List PlacedRecord} → a ≡ b → AreReadAt id signature a renamed changes left → AreReadAt id signature b renamed changes left
@@ -40,7 +40,7 @@ only_moment P holds (c ∷ newer) upto e = cc
 
 pub none_settled : (id : FileId) (bytes : List ℕ) → readable_records id bytes ≡ [] → RecoversNoRecord id (synced_file bytes)
 none_settled id bytes none = record {
-  latest = refl;
+  now = λ format left read. nothing_of _ left none read.prefix;
   moments = λ newer upto e format left read. nothing_of _ left (only_moment (λ changes. readable_records id (bytes_after bytes changes) ≡ []) none newer upto e) read.prefix;
 }
 
@@ -48,14 +48,17 @@ pub moments_synced : (P : List PlacedRecord → Type 0) (id : FileId) (by : Opti
 moments_synced P id by file latest before = only_moment (λ upto. (left : List PlacedRecord) → AreReadAfter id by (synced_of file) upto left → P left) (λ left read. before [] file.changes refl left (read_of_bytes latest read))
 
 pub none_synced : (id : FileId) (file : File) → RecoversNoRecord id file → RecoversNoRecord id (synced_of file)
-none_synced id file none = record { latest = refl; moments = λ newer upto e format. moments_synced (λ left. left ≡ []) id (signature_by id format) file none.latest (λ newer upto e left. none.moments newer upto e format left) newer upto e }
+none_synced id file none = record {
+  now = none.now;
+  moments = λ newer upto e format. only_moment (λ changes. (left : List PlacedRecord) → AreReadAfter id (signature_by id format) (synced_of file) changes left → left ≡ []) (none.now format) newer upto e;
+}
 
 -- Changes.
 
 pub none_more : (id : FileId) (file : File) (c : Change) → RecoversNoRecord id file →
     ((format : LogFileFormat) (left : List PlacedRecord) → AreReadAt id (signature_by id format) c.after file.renamed_after (c ∷ file.changes ++ file.older) left → left ≡ []) → RecoversNoRecord id (changed_by c file)
 none_more id file c none moment = record {
-  latest = refl;
+  now = moment;
   moments = λ newer upto e format. moments_more (λ left. left ≡ []) id (signature_by id format) file c (λ newer upto e left. none.moments newer upto e format left) (moment format) newer upto e;
 }
 

@@ -5,7 +5,7 @@ use Rattle.std.proofs.lemmas.List.{take_all}
 use Rattle.raft_base.specs.declared.pipe_log.FileId.{FileId}
 use Rattle.raft_files.specs.declared.format.LogFileFormat.{LogFileFormat}
 use Rattle.raft_files.specs.Header.{HasHeader, header_bytes, header_len}
-use Rattle.raft_env.specs.Outcomes.{File, Change, synced_of}
+use Rattle.raft_env.specs.Outcomes.{File, Change, bytes_after, synced_of}
 use Rattle.raft_files.specs.Scan.{PlacedRecord, end_of_records, ScanResult, records_after, scan_file, records_of, readable_records, ends_with, is_read_to_end}
 use Rattle.raft_files.specs.Detectable.{IsPrefixOf, format_of, signature_by}
 use Rattle.raft_files.specs.Records.{AreReadAfter, ReadsFirst, IsEmptyFrom, HasNothingFrom, HoldsRecords, IsWrittenTo, IsTornFrom}
@@ -32,8 +32,8 @@ written_to_still id format records at bytes older renamed holds empty nothing =
     } in
     record {
       keeps = record {
-        header = format_of-held id format records at bytes holds;
         latest = refl;
+        header = headers;
         moments = moments;
         few = omega arith;
         covered = subst (λ b. ReadsFirst id format (take (length records) records) b) (sym whole) first;
@@ -43,6 +43,11 @@ written_to_still id format records at bytes older renamed holds empty nothing =
       nothing = nothing;
     }
   where
+    headers : (newer upto : List Change) → [] ≡ newer ++ upto → format_of (bytes_after bytes upto) ≡ Some format
+    headers [] [] e = format_of-held id format records at bytes holds
+    headers [] (x ∷ upto) e = cc
+    headers (x ∷ newer) upto e = cc
+
     moments : (newer upto : List Change) → [] ≡ newer ++ upto → (left : List PlacedRecord) → AreReadAfter id (signature_by id format) (still bytes older renamed) upto left → IsPrefixOf left records
     moments [] [] e = left_of_held id format (signature_by id format) records at bytes renamed older holds nothing
     moments [] (x ∷ upto) e = cc

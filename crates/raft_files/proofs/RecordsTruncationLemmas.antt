@@ -81,7 +81,7 @@ left_before id by old c renamed changes r e behind left read =
     record {
       prefix = subst (λ rs. IsPrefixOf left rs) (sym (ap (λ q. records_of q) e)) first;
       completed = λ q has. done_before id by c changes q (before q has) (read.completed q has);
-      fresh = λ q has. fresh_before renamed c changes q.at q.at (ungiven q.at c behind.given) (omega arith) (read.fresh q has);
+      fresh = λ q has. fresh_before by renamed c changes q.at q (ungiven q.at c behind.given) (omega arith) (read.fresh q has);
     }
 
 -- .. so the records are kept
@@ -111,7 +111,7 @@ keeps_after id format records synced file c keeps reads behind =
 none_after : (id : FileId) (file : File) (c : Change) (r : ScanResult) → RecoversNoRecord id file → scan_file id file.now ≡ Some r → IsBehind r.end file.now c file.renamed_after (file.changes ++ file.older) → RecoversNoRecord id (changed_by c file)
 none_after id file c r none e behind = none_more id file c none (λ format left read.
     let old = left_before id (signature_by id format) file.now c file.renamed_after (file.changes ++ file.older) r e behind left read in
-    none.moments [] file.changes refl format left (read_of_bytes none.latest old))
+    none.now format left old)
 
 -- nothing is read and done where nothing was read before
 nothing_read : (id : FileId) (by : Option ℕ) (c : Change) (renamed : Option ℕ) (changes : List Change) → scan_file id c.before ≡ None → GivesNoneFrom 0 c → IsEmptyFrom 0 c.after renamed (c ∷ changes) → (left : List PlacedRecord) → AreReadAt id by c.after renamed (c ∷ changes) left → left ≡ []

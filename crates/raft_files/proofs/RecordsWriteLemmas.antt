@@ -12,12 +12,12 @@ use Rattle.raft_files.specs.Detectable.{signature_by, IsGivenBy, IsFromCompleted
 use Rattle.raft_files.specs.Records.{IsEmptyFrom, HasNothingFrom, HoldsRecords, IsWrittenTo, IsTornFrom}
 use Rattle.raft_env.proofs.OutcomesLemmas.{within_is, not_within, same_front}
 use Rattle.raft_files.proofs.DetectableLemmas.{prefix_itself, prefix_append}
-use Rattle.raft_files.proofs.ScanExtentLemmas.{same_some}
+use Rattle.raft_files.proofs.ScanExtentLemmas.{record_header_is, record_of_header, same_some}
 use Rattle.raft_files.proofs.ScanLemmas.{reading-append, read_in}
 use Rattle.raft_env.proofs.OutcomesOverlayLemmas.{length-overlaid, overlaid_outside}
 use Rattle.raft_env.proofs.DirectoryLemmas.{writing_part}
 use Rattle.raft_files.proofs.WriterPartLemmas.{part_keeps, take-overlaid_whole}
-use Rattle.raft_files.proofs.DetectableStaleLemmas.{GivesNoneFrom, refused_gives_none, gives_none_before, stale_from_more, fresh_before}
+use Rattle.raft_files.proofs.DetectableStaleLemmas.{GivesNoneFrom, refused_at, refused_gives_none, gives_none_before, given_before, stale_more, stale_from_more, stale_or_not}
 use Rattle.raft_files.proofs.RecordsEmptyLemmas.{none_done, has_nothing_after}
 use Rattle.raft_files.proofs.RecordsHeldLemmas.{format_of-held, left_of_torn}
 use Rattle.raft_files.proofs.RecordsLemmas.{keeps_more, keeps_held, synced_within}
@@ -49,22 +49,37 @@ record_given at given batch = record { at = at; len = length given; batch = batc
 same_placed : (r : PlacedRecord) (at len : ℕ) (batch : Batch) → r.at ≡ at → batch ≡ r.batch → len ≡ r.len → r ≡ record { at = at; len = len; batch = batch }
 same_placed r at len batch stands same_batch same_len = rw (← stands, same_batch, same_len) refl
 
+record_long : (signature : Option ℕ) (given : List ℕ) (batch : Batch) (len : ℕ) → record_of signature given ≡ Some (batch, len) → 1 ≤ length given
+record_long signature given batch len e =
+    let found = record_of_header signature given batch len e in
+    let has = record_header_is given found.0 found.1 in
+    omega (arith, has.long)
+
 -- after the records a crash leaves nothing but the record that the write was to write
 only_given : (id : FileId) (signature : Option ℕ) (c : Change) (renamed : Option ℕ) (changes : List Change) (batch : Batch) → HasNothingFrom id c.from c.before renamed changes → c.is_done ≡ false → c.size ≡ length c.given → record_of signature c.given ≡ Some (batch, length c.given) →
-    IsEmptyFrom (c.from + c.size) c.after renamed (c ∷ changes) → (r : PlacedRecord) → Contains (readable_records id c.after) r → c.from ≤ r.at → IsFromCompletedCall id signature (c ∷ changes) r → IsFreshAfter renamed (c ∷ changes) r.at → Contains (record_given c.from c.given batch ∷ []) r
+    IsEmptyFrom (c.from + c.size) c.after renamed (c ∷ changes) → (r : PlacedRecord) → Contains (readable_records id c.after) r → c.from ≤ r.at → IsFromCompletedCall id signature (c ∷ changes) r → IsFreshAfter signature renamed (c ∷ changes) r → Contains (record_given c.from c.given batch ∷ []) r
 only_given id signature c renamed changes batch nothing refused size given empty r has behind completed fresh = elim completed [
-  | inr earlier ↦ absurd (nothing signature r earlier.0 behind earlier.1 (fresh_before renamed c changes c.from r.at (refused_gives_none c.from c refused) behind fresh))
+  | inr earlier ↦ elim (stale_or_not renamed changes r.at) [
+    | inr not_stale ↦ absurd (nothing signature r earlier.0 behind earlier.1 (λ stale. absurd (not_stale stale)))
+    | inl stale ↦ elim (given_before signature renamed c changes r (fresh (stale_more renamed c changes r.at (refused_at c r.at refused) stale))) [
+      | inr since ↦ absurd (nothing signature r earlier.0 behind earlier.1 (λ again. since))
+      | inl own ↦ is_own own
+    ]
+  ]
   | inl no_byte ↦
       let is = read_in id c.after r has in
       elim (cases_lt r.at (c.from + c.size)) [
         | inr past ↦ absurd (none_done is.signature signature c.after renamed (c ∷ changes) (c.from + c.size) empty r past is.is no_byte fresh)
         | inl here ↦
-            let own : IsGivenBy signature r c = no_byte [] c changes refl refused (r.at, omega arith, omega (arith, is.long), within_is c.from c.size r.at behind here, refl) in
-            let found = same_some (sym given ∙ own.1) in
-            let same : r ≡ record_given c.from c.given batch = same_placed r c.from (length c.given) batch own.0 (ap (λ (x : Batch × ℕ). x.0) found) (ap (λ (x : Batch × ℕ). x.1) found) in
-            subst (Contains (record_given c.from c.given batch ∷ [])) (sym same) (0, omega arith, refl)
+            is_own (no_byte [] c changes refl refused (r.at, omega arith, omega (arith, is.long), within_is c.from c.size r.at behind here, refl))
       ]
 ]
+  where
+    is_own : IsGivenBy signature r c → Contains (record_given c.from c.given batch ∷ []) r
+    is_own own =
+        let found = same_some (sym given ∙ own.1) in
+        let same : r ≡ record_given c.from c.given batch = same_placed r c.from (length c.given) batch own.0 (ap (λ (x : Batch × ℕ). x.0) found) (ap (λ (x : Batch × ℕ). x.1) found) in
+        subst (Contains (record_given c.from c.given batch ∷ [])) (sym same) (0, omega arith, refl)
 
 -- a write that fails
 pub written_to_refused : (id : FileId) (format : LogFileFormat) (records : List PlacedRecord) (synced at : ℕ) (file : File) (given : List ℕ) (batch : Batch) (after : List ℕ) → IsWrittenTo id format records synced at file →
@@ -77,7 +92,7 @@ written_to_refused id format records synced at file given batch after written_to
     let same = same_front at file.now after long still (λ i within. sym (part.elsewhere i (omega arith) (not_within at (length given) i (inl within)))) in
     let holds = holds_same id format records at file.now after written_to.holds same still in
     let past = file.changes ++ file.older in
-    let empty = empty_written at file.now after c file.renamed_after past written_to.empty refl (kept_part at (length given) file.now after part) (refused_gives_none (at + length given) c refl) in
+    let empty = empty_written at file.now after c file.renamed_after past written_to.empty refl (kept_part at (length given) file.now after part) (refused_gives_none (at + length given) c refl (omega (arith, record_long (signature_by id format) given batch (length given) is))) in
     let only = only_given id (signature_by id format) c file.renamed_after past batch written_to.nothing refl refl is empty in
     record {
       keeps = keeps_more id format records (records ++ one) synced file c written_to.keeps (prefix_append records one) (format_of-held id format records at after holds)

@@ -40,7 +40,7 @@ torn_from_more id format records in_flight synced at end file few holds enough w
   only = only;
 }
   where
-    only : (r : PlacedRecord) → Contains (readable_records id file.now) r → at ≤ r.at → IsFromCompletedCall id (signature_by id format) (file.changes ++ file.older) r → IsFreshAfter file.renamed_after (file.changes ++ file.older) r.at → Contains in_flight r
+    only : (r : PlacedRecord) → Contains (readable_records id file.now) r → at ≤ r.at → IsFromCompletedCall id (signature_by id format) (file.changes ++ file.older) r → IsFreshAfter (signature_by id format) file.renamed_after (file.changes ++ file.older) r → Contains in_flight r
     only r has behind completed fresh = elim (read_of_held id format (records ++ in_flight) end file.now w.holds r has) [
       | inr further ↦ absurd (w.nothing (signature_by id format) r has further completed fresh)
       | inl inside ↦ elim (Contains-append_cases records in_flight r inside) [

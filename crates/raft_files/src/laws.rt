@@ -181,20 +181,16 @@ pub fn opening_keeps_the_log()
         ≡ take r.end (bytes_at path old)
         → HasChanged path IsSynced cut new
         → HasLog path id r.format found (length found) r.end new }
-    ensures renamed { (src path : Path) (id other : FileId) (batches : List Batch) (synced : ℕ)
-        (old : Directory)
-        → RecoversPrefixAt src other batches synced old → HasFile old src
+    ensures renamed { (src path : Path) (id : FileId) (old : Directory) → HasFile old src
         → RecoversPrefixAt path id [] 0 (after_rename src path old) }
-    ensures reusing { (src path : Path) (id other : FileId) (format : LogFileFormat)
-        (batches : List Batch) (synced : ℕ) (old n : Directory) (capacity new_capacity : ℕ)
-        → RecoversPrefixAt src other batches synced old → HasFile old src → HasHeader format
+    ensures reusing { (src path : Path) (id : FileId) (format : LogFileFormat) (old n : Directory)
+        (capacity new_capacity : ℕ) → HasFile old src → HasHeader format
         → format.alignment < 2 ^ 64
         → HasChanged path (IsAppending capacity new_capacity 0 (header_bytes format))
         (after_rename src path old) n → RecoversPrefixAt path id [] 0 n }
-    ensures reused { (src path : Path) (id other : FileId) (format : LogFileFormat)
-        (batches : List Batch) (synced : ℕ) (old mid new : Directory) (capacity new_capacity : ℕ)
-        → RecoversPrefixAt src other batches synced old → HasFile old src → HasHeader format
-        → format.alignment < 2 ^ 64
+    ensures reused { (src path : Path) (id : FileId) (format : LogFileFormat)
+        (old mid new : Directory) (capacity new_capacity : ℕ) → HasFile old src
+        → HasHeader format → format.alignment < 2 ^ 64
         → HasChanged path (IsAppended capacity new_capacity 0 (header_bytes format))
         (after_rename src path old) mid → HasChanged path IsSynced mid new
         → HasLog path id format [] 0 (header_len format.version) new }

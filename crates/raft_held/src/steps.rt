@@ -65,9 +65,9 @@ pub fn steps_of_a_purge_keep_contents()
         → HasSyncedIn Rewrite d d' old new
         → HoldsContents d' folders m since (IsSyncedIn Rewrite) new }
     ensures dropped { (d d' : DualState) (folders : Folders) (m : Contents) (old new : Directory)
-        (most : ℕ)
+        (seq most : ℕ)
         → HoldsContents d folders m [] (CanDropFront (dropped_batches most d.append old)) old
-        → HasDroppedUpToIn Append most d d' old new → HoldsContents d' folders m [] (λ q. ⊤) new }
+        → HasDroppedUpToIn Append seq most d d' old new → HoldsContents d' folders m [] (λ q. ⊤) new }
     ensures dropping { (d : DualState) (folders : Folders) (m : Contents) (old n : Directory)
         (most : ℕ)
         → HoldsContents d folders m [] (CanDropFront (dropped_batches most d.append old)) old

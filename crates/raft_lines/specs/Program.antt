@@ -7,13 +7,12 @@ use Rattle.raft_env.specs.Directory.{CrashImage, Directory, IsRestarted, Leaves}
 use Rattle.raft_env.specs.Refusal.{Refusals}
 use Rattle.raft_env.specs.declared.env.FileSystem.{Ghosts}
 use Rattle.raft_log_engine.specs.declared.engine.Engine.{Engine}
-use Rattle.raft_log_engine.specs.Engine.{begun_of, contents_of, directory_of, folders_of, has_failed, is_known_in, refusals_of}
+use Rattle.raft_log_engine.specs.Engine.{IsSpanOf, begun_of, contents_of, directory_of, folders_of, has_failed, is_known_in, refusals_of}
 use Rattle.raft_log_engine.specs.Opening.{IsNewIn}
 use Rattle.raft_config.specs.Folders.{Folders, folders_in}
 use Rattle.raft_config.specs.Sanitized.{IsContradiction}
 use Rattle.raft_config.specs.declared.config.Config.{Config}
 use Rattle.raft_memory.specs.Memory.{no_files}
-use Rattle.raft_pipes.specs.Folder.{IsQueueSpan}
 use Rattle.raft_pipes.specs.Queue.{IsFolderRefusal}
 use Rattle.raft_records.specs.Contents.{Contents, after_batches, no_contents}
 use Rattle.raft_tables.specs.Known.{known_in}
@@ -105,8 +104,7 @@ module _ {F H R W : Type 0} {g : Ghosts F H R W} where
   AnswersLook (Range group) (answer.Range range) e =
       has_failed e ≡ false → range ≡ range_of ((contents_of e).entries group)
   AnswersLook (Scan group) (answer.Pairs result) e = IsScanAnswer e group result
-  AnswersLook (Span queue) (answer.Span span) e =
-      has_failed e ≡ false → IsQueueSpan queue (folders_of e) (directory_of e) span
+  AnswersLook (Span queue) (answer.Span span) e = IsSpanOf queue e span
   AnswersLook asked _ e = ⊥
 
   -- the engine answers so, and is there afterwards

@@ -10,4 +10,5 @@ pub mod MemoryFileLemmas
 pub mod MemoryInvariantLemmas
 pub mod MemoryLemmas
 pub mod Sent
+pub mod SetAtLemmas
 pub mod SettledLemmas

@@ -110,7 +110,7 @@ armed_field_sync : IsSync (armed.the_field).row
 armed_field_sync = search (sendable, items.crosses, refusal_send, refusal_sync) depth 20
 
 pub memory_send : IsSend fs.the_row
-memory_send = search (sendable, items.crosses, tree_send, tree_field_send, armed_field_send, history_send) depth 20
+memory_send = search (sendable, items.crosses, maps.crosses, tree_send, tree_field_send, armed_field_send, history_send) depth 20
 
 pub memory_sync : IsSync fs.the_row
-memory_sync = search (sendable, items.crosses, tree_send, tree_field_send, tree_sync, tree_field_sync, armed_field_send, armed_field_sync, history_send, history_sync) depth 20
+memory_sync = search (sendable, items.crosses, maps.crosses, tree_send, tree_field_send, tree_sync, tree_field_sync, armed_field_send, armed_field_sync, history_send, history_sync) depth 20

@@ -1,5 +1,9 @@
 -- What a file system in memory shows.
-use Rattle.std.specs.Prelude.{◌≡◌, ℕ, ◌+◌, ◌^◌, ◌==◌, ◌/◌, false, nat_le, if◌then◌else◌, List, ◌∷◌, length, map, take, Option, Some}
+use Rattle.std.specs.Prelude.{◌≡◌, ℕ, ◌+◌, ◌^◌, ◌-◌, ◌==◌, ◌/◌, Bool, cond, false, nat_le, if◌then◌else◌, List, ◌∷◌, length, map, take, Option, Some, String, unwrap_or}
+use Rattle.std.specs.declared.alloc.Global.{Global}
+use Rattle.std.specs.BTreeMap.{BTreeMap, get_by_text}
+use Rattle.std.specs.BTreeSet.{contains_text}
+use Rattle.std.specs.Str.{bytes_eq}
 use Rattle.std.specs.FinMap as finite
 use Rattle.raft_env.specs.Outcomes.{File, file_after_write, overlay}
 use Rattle.raft_env.specs.Directory.{Directory, Path, update_file}
@@ -25,6 +29,21 @@ memory_moments memory =
 -- how many calls failed
 abbrev pub memory_refusals : MemoryFileSystem → Refusals
 memory_refusals memory = refusals_in memory.refusals
+
+-- the free space that a folder was given, and else room for all
+abbrev pub free_in : BTreeMap (String Global) ℕ → Path → ℕ
+free_in given folder = unwrap_or (get_by_text given folder) (2 ^ 64 - 1)
+
+abbrev pub memory_free : MemoryFileSystem → Path → ℕ
+memory_free memory = free_in memory.free
+
+-- whether a path was given metadata
+abbrev pub memory_metadata : MemoryFileSystem → Path → Bool
+memory_metadata memory = contains_text memory.metadata
+
+-- all as before, but for this at that path
+abbrev pub set_at : {X : Type 0} → Path → X → (Path → X) → Path → X
+set_at path x before q = cond (bytes_eq path q) x (before q)
 
 -- no file, and only the root folder
 abbrev pub no_files : Directory

@@ -32,11 +32,12 @@ pub enum Choice {
 
 impl MemoryFileSystem {
     ghost use Rattle.raft_memory.specs.Choice.{left_by, RefusesUnless};
-    ghost use Rattle.raft_memory.specs.Memory.{memory_directory, memory_moments, memory_refusals, armed_of, stop_of};
+    ghost use Rattle.raft_memory.specs.Memory.{memory_directory, memory_free, memory_metadata, memory_moments, memory_refusals, armed_of, stop_of};
     ghost use Rattle.raft_env.specs.Refusal.{no_refusals};
 
     /// The files after a crash now. The choices go to the files in the order of their paths' bytes,
-    /// and a file that is left over keeps what was synced. Folders stay. The files are consistent,
+    /// and a file that is left over keeps what was synced. Folders stay, and so do free
+    /// space and metadata. The files are consistent,
     /// and of their changes only writes failed. So by `raft_damage::laws::premise_can_be_met` the
     /// damage of `All` and `Synced` is detectable of a log that
     /// `raft_premise::laws::failed_calls_add_no_record` keeps, and that of `Torn` where the torn
@@ -46,6 +47,8 @@ impl MemoryFileSystem {
             (left_by choices.now (memory_directory self.now)) (memory_directory m)) }
         ensures any_moment { IfOk result (λ m. memory_moments m ≡ memory_directory m ∷ []) }
         ensures cause { IfOk result (λ m. memory_refusals m ≡ no_refusals) }
+        ensures free { IfOk result (λ m. memory_free m ≡ memory_free self.now) }
+        ensures metadata { IfOk result (λ m. memory_metadata m ≡ memory_metadata self.now) }
         ensures others { IfOk result (λ m. (armed_of m ≡ []) × (stop_of m ≡ None)) }
         ensures consistent { AreConsistent (memory_directory self.now) }
         ensures only_writes { OnlyWritesFailedIn (memory_directory self.now) }
@@ -61,6 +64,8 @@ impl MemoryFileSystem {
             past: History::new(),
             refusals: RefusalCount::new(),
             armed: Armed::new(self.alloc),
+            free: self.free.clone()?,
+            metadata: self.metadata.clone()?,
         })
     }
 }

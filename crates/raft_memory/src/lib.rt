@@ -3,6 +3,7 @@
 
 mod armed;
 mod before_images;
+mod calls;
 mod crash;
 mod ghost_file;
 mod half_write;

@@ -1,5 +1,5 @@
 //! Files in memory that are made of bytes that stand already.
-ghost use Rattle.std.specs.Prelude.{◌≡◌, [], ◌∷◌, IfOk, None};
+ghost use Rattle.std.specs.Prelude.{◌≡◌, ◌-◌, ◌^◌, [], ◌∷◌, IfOk, None, false};
 ghost use Rattle.raft_memory.specs.Files.{namespace_directory};
 ghost use Rattle.raft_memory.specs.Settled.{settled_files};
 
@@ -10,10 +10,10 @@ use crate::namespace::Namespace;
 use crate::refusals::RefusalCount;
 use raft_base::History;
 use std::alloc::{AllocError, Global};
-use std::collections::BTreeMap;
+use std::collections::{BTreeMap, BTreeSet};
 
 impl MemoryFileSystem {
-    ghost use Rattle.raft_memory.specs.Memory.{memory_directory, memory_moments, memory_refusals, armed_of, stop_of};
+    ghost use Rattle.raft_memory.specs.Memory.{memory_directory, memory_free, memory_metadata, memory_moments, memory_refusals, armed_of, stop_of};
     ghost use Rattle.raft_env.specs.Refusal.{no_refusals};
 
     /// Files of these bytes by their paths, which a crash leaves as they are, and these folders with
@@ -28,6 +28,8 @@ impl MemoryFileSystem {
             ≡ settled_files files.items folders.items) }
         ensures any_moment { IfOk result (λ m. memory_moments m ≡ memory_directory m ∷ []) }
         ensures cause { IfOk result (λ m. memory_refusals m ≡ no_refusals) }
+        ensures free { IfOk result (λ m. memory_free m ≡ λ _. 2 ^ 64 - 1) }
+        ensures metadata { IfOk result (λ m. memory_metadata m ≡ λ _. false) }
         ensures others { IfOk result (λ m. (armed_of m ≡ []) × (stop_of m ≡ None)) }
     {
         Ok(MemoryFileSystem {
@@ -36,6 +38,8 @@ impl MemoryFileSystem {
             past: History::new(),
             refusals: RefusalCount::new(),
             armed: Armed::new(alloc),
+            free: BTreeMap::new(alloc),
+            metadata: BTreeSet::new(alloc),
         })
     }
 }

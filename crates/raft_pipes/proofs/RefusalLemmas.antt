@@ -1,22 +1,22 @@
 -- Which file a call failed on.
-use Rattle.std.proofs.Common.{◌≡◌, ◌∙◌, ◌<◌, ◌⊎◌, [], true, false, Bool, cond, is_some, ap, arith, inl, inr, refl, subst, sym}
-use Rattle.std.specs.Prelude.{Err, IfErr, Ok, Result}
+use Rattle.std.proofs.Common.{◌≡◌, ◌∙◌, ◌<◌, [], suc, length, true, false, Bool, cond, is_some, ap, arith, inl, inr, refl, subst, sym}
 use Rattle.raft_base.specs.declared.errors.Fault.{Fault}
 use Rattle.raft_base.specs.declared.errors.Fault.TheVariants as fault
 use Rattle.raft_env.specs.Directory.{Directory, HasFile, Path, after_create, file_at, with_file}
 use Rattle.raft_env.specs.Outcomes.{synced_file}
-use Rattle.raft_env.specs.Refusal.{CountsRefusal, IsFaultOf, IsFileRefusal, NoFewer, Refusals, RefusalsRoseForFault, StorageRefusalsRose}
+use Rattle.raft_env.specs.Refusal.{CountsRefusal, IsFaultOf, IsFileRefusal, NoFewer, Refusals, RefusalsRoseForFault}
 use Rattle.raft_env.specs.declared.env.FsFault.{FsFault}
 use Rattle.raft_env.specs.declared.env.FsFault.TheVariants.{Io, Memory}
 use Rattle.raft_env.proofs.DirectoryLemmas.{file_at-placed_same}
 use Rattle.raft_files.specs.Writer.{IsOpening}
 use Rattle.raft_files.specs.declared.format.LogFileFormat.{LogFileFormat}
-use Rattle.raft_pipes.specs.Numbered.{has_file}
-use Rattle.raft_pipes.specs.Pipe.{IsAppendRefusalOf, IsChangeRefusal, IsStopCause}
-use Rattle.raft_pipes.specs.PipeState.{PipeState, WritesSameFile, last_seq, next_path}
-use Rattle.raft_pipes.specs.Rotation.{IsBeginRefusal, IsRotationRefusal}
+use Rattle.raft_config.specs.Folders.{all_of}
+use Rattle.raft_pipes.specs.Numbered.{IsPathOf, has_file, in_queue, path_of}
+use Rattle.raft_pipes.proofs.ApartLemmas.{main_among}
+use Rattle.raft_pipes.specs.Pipe.{IsAppendRefusalOf, IsChangeRefusal}
+use Rattle.raft_pipes.specs.PipeState.{IsNextPath, PipeState, WritesSameFile, last_seq}
+use Rattle.raft_pipes.specs.Rotation.{IsBeginRefusal, IsNextRefusal, IsRotationRefusal}
 use Rattle.raft_pipes.specs.declared.pipe.AppendFault.{AppendFault}
-use Rattle.raft_pipes.specs.declared.pipe.AppendFault.TheVariants.{InDoubt, RolledBack}
 use Rattle.raft_pipes.proofs.KeepsLogLemmas.{stands_opening}
 
 -- A next file is begun.
@@ -51,10 +51,12 @@ close_refused path next n old new (fault.Io kind text) h = (h.0, inl h.1)
 close_refused path next n old new fault.Memory h = inl h
 close_refused path next n old new _ h = absurd h
 
-pub begin_refused : (path next : Path) (n : Directory) (old mid new : Refusals) (f : FsFault) (e : Fault) → NoFewer old mid → IsBeginRefusal next n mid new f → IsFaultOf next f e → IsRotationRefusal path next n old new e
-begin_refused path next n old mid new (Io kind) e before h (text, is, names) = subst (λ (x : Fault). IsRotationRefusal path next n old new x) (sym is) (omega (arith, h, before.0), inr names)
-begin_refused path next n old mid new Memory e before (inl more) is = subst (λ (x : Fault). IsRotationRefusal path next n old new x) (sym is) (inl (omega (arith, more, before.1)))
-begin_refused path next n old mid new Memory e before (inr stands) is = subst (λ (x : Fault). IsRotationRefusal path next n old new x) (sym is) (inr stands)
+-- the next file isn't begun
+pub next_stopped : (path next : Path) (n : Directory) (old mid new : Refusals) (e : Fault) → NoFewer old mid → IsNextRefusal next n mid new e → IsRotationRefusal path next n old new e
+next_stopped path next n old mid new (fault.Io kind text) before h = (omega (arith, h.0, before.0), inr h.1)
+next_stopped path next n old mid new fault.Memory before (inl more) = inl (omega (arith, more, before.1))
+next_stopped path next n old mid new fault.Memory before (inr stands) = inr stands
+next_stopped path next n old mid new _ before h = absurd h
 
 -- An append is refused.
 
@@ -72,20 +74,27 @@ append_at path there old new e same = subst (λ p. IsAppendRefusalOf p old new e
 
 -- The last file of a pipe, and the one after it, have the same names.
 
-pub next_same : (p p' : PipeState) → WritesSameFile p p' → next_path p' ≡ next_path p
-next_same p p' same = rw (same.folders, same.queue, same.first, same.sealed) refl
+pub next_same : (p p' : PipeState) → WritesSameFile p p' → (next : Path) → IsNextPath p next → IsNextPath p' next
+next_same p p' same next is =
+    subst (λ f. IsPathOf (all_of f) p'.queue (suc (last_seq p')) next) (sym same.folders)
+    (subst (λ q. IsPathOf (all_of p.folders) q (suc (last_seq p')) next) (sym same.queue)
+    (subst (λ k. IsPathOf (all_of p.folders) p.queue k next) (let e : suc (last_seq p) ≡ suc (last_seq p') = omega (arith, same.first, ap length same.sealed) in e) is))
 
 pub change_same : (p p' : PipeState) (n : Directory) (old new : Refusals) (e : Fault) → WritesSameFile p p' → IsChangeRefusal p n old new e → IsChangeRefusal p' n old new e
-change_same p p' n old new e same h =
-    subst (λ (path : Path). IsRotationRefusal path (next_path p') n old new e) (sym same.path) (subst (λ (path : Path). IsRotationRefusal p.writer.path path n old new e) (sym (next_same p p' same)) h)
+change_same p p' n old new e same (next, is_next, h) = (next, next_same p p' same next is_next, subst (λ (path : Path). IsRotationRefusal path next n old new e) (sym same.path) h)
 
 -- a call on the last file alone
 pub last_refused : (p : PipeState) (n : Directory) (old new : Refusals) (e : Fault) → IsFileRefusal p.writer.path old new e → IsChangeRefusal p n old new e
-last_refused p n old new e h = close_refused p.writer.path (next_path p) n old new e h
+last_refused p n old new e h =
+    let next = path_of p.folders.main (in_queue p.queue (suc (last_seq p))) in
+    (next, (p.folders.main, main_among p.folders, refl), close_refused p.writer.path next n old new e h)
 
 -- after a step that was done
+pub rotation_since : (path next : Path) (n : Directory) (old mid new : Refusals) (e : Fault) → NoFewer old mid → IsRotationRefusal path next n mid new e → IsRotationRefusal path next n old new e
+rotation_since path next n old mid new (fault.Io kind text) before h = (omega (arith, h.0, before.0), h.1)
+rotation_since path next n old mid new fault.Memory before (inl more) = inl (omega (arith, more, before.1))
+rotation_since path next n old mid new fault.Memory before (inr stands) = inr stands
+rotation_since path next n old mid new _ before h = absurd h
+
 pub change_since : (p : PipeState) (n : Directory) (old mid new : Refusals) (e : Fault) → NoFewer old mid → IsChangeRefusal p n mid new e → IsChangeRefusal p n old new e
-change_since p n old mid new (fault.Io kind text) before h = (omega (arith, h.0, before.0), h.1)
-change_since p n old mid new fault.Memory before (inl more) = inl (omega (arith, more, before.1))
-change_since p n old mid new fault.Memory before (inr stands) = inr stands
-change_since p n old mid new _ before h = absurd h
+change_since p n old mid new e before (next, is_next, h) = (next, is_next, rotation_since p.writer.path next n old mid new e before h)

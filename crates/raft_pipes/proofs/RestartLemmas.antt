@@ -14,12 +14,14 @@ use Rattle.raft_files.specs.Scan.{is_read_to_end, readable_batches}
 use Rattle.raft_files.specs.Records.{image_of_file, bytes_after_crash, batches_after_crash}
 use Rattle.raft_files.proofs.RecordsCrashLemmas.{kept_none, kept_restarted}
 use Rattle.raft_files.specs.Sealed.{IsSealed}
+use Rattle.raft_pipes.specs.Counts.{synced_to}
 use Rattle.raft_pipes.specs.Numbered.{AreApart, AreNumbered, AreSingle, IsPathOf, IsRun, end_of_numbers, has_file, in_queue, kept_files, path_of, paths_of}
 use Rattle.raft_pipes.specs.QueueFiles.{AreReadToEnd, IsKeptQueue, KeepsFiles, QueueFile, batches_in, but_last, if_standing, places_of, queue_after_crash}
 use Rattle.raft_pipes.proofs.FolderQueueLemmas.{restarted_stands}
 use Rattle.raft_pipes.proofs.NumberedLemmas.{numbered_same, run_at, run_back, run_front}
 use Rattle.raft_pipes.proofs.PlacesLemmas.{found_is_path, found_stands, here_first, none_stands, paths_of-same}
 use Rattle.raft_pipes.proofs.SingleLemmas.{single_numbered}
+use Rattle.raft_pipes.proofs.QueueAppendLemmas.{files_kept}
 use Rattle.raft_pipes.proofs.QueueFilesLemmas.{left_in, no_file}
 
 -- a list is empty or has a last element
@@ -79,13 +81,13 @@ module _ (folders : List Path) (queue : LogQueue) (n m : Directory) (d : CrashIm
   -- with a last file
   with_last : AreApart folders → (first : ℕ) (front : List (ℕ × Path)) (last : ℕ × Path) → AreNumbered (paths_of folders queue n) first (front ++ last ∷ [])
       → AllByRecursion (λ (f : ℕ × Path). is_read_to_end (in_queue queue f.0) (bytes_after_crash f.1 n d) ≡ true) front
-      → let found = left_in queue n d (front ++ last ∷ []) in IsKeptQueue folders queue found (length found) m
-  with_last are first front last numbered read = (
-    first,
-    files_of queue n d front,
-    file,
-    length file.batches,
-    record {
+      → let found = left_in queue n d (front ++ last ∷ []) in IsKeptQueue folders queue found (synced_to (length found)) m
+  with_last are first front last numbered read = record {
+    first = first;
+    before = files_of queue n d front;
+    last = file;
+    more = length file.batches;
+    keeps = record {
       files = record {
         apart = are;
         numbered = subst (λ b. AreNumbered (paths_of folders queue m) first (places_of (files_of queue n d front) ++ if_standing b last.0 last.1)) (sym (restarted_stands n m d restarted last.1 ∙ stands))
@@ -96,10 +98,13 @@ module _ (folders : List Path) (queue : LogQueue) (n m : Directory) (d : CrashIm
         sealed = all_sealed first front (run_front (paths_of folders queue n) first front (last ∷ []) numbered.run) read;
       };
       end = kept_restarted last.1 (in_queue queue last.0) n m d restarted;
-    },
-    all,
-    omega (arith, ap length all, length-append (batches_in (files_of queue n d front)) file.batches),
-  )
+    };
+    gone = [];
+    are = all;
+    few = omega arith;
+    dropped = omega arith;
+    synced = omega (arith, ap length all, length-append (batches_in (files_of queue n d front)) file.batches);
+  }
     where
       file : QueueFile
       file = record { seq = last.0; path = last.1; batches = batches_after_crash last.1 (in_queue queue last.0) n d }
@@ -145,7 +150,7 @@ nat_le_or a b = elim (leb_tells a b) [ inl low ↦ inl low.1 | inr high ↦ inr 
 
 -- after a crash all that is found stays, where each kept file but the last is read to its end
 pub queue_restarted : (folder : Path) (folders : List Path) (queue : LogQueue) → AreApart (folder ∷ folders) → (n m : Directory) (d : CrashImage) → AreSingle (folder ∷ folders) queue n → IsRestarted n d m
-    → AreReadToEnd (folder ∷ folders) queue n d → let found = queue_after_crash (folder ∷ folders) queue n d in IsKeptQueue (folder ∷ folders) queue found (length found) m
+    → AreReadToEnd (folder ∷ folders) queue n d → let found = queue_after_crash (folder ∷ folders) queue n d in IsKeptQueue (folder ∷ folders) queue found (synced_to (length found)) m
 queue_restarted folder folders queue are n m d single restarted read = by_end (kept_files all queue n) (ends (kept_files all queue n)) numbered.1 read
   where
     all : List Path
@@ -157,21 +162,15 @@ queue_restarted folder folders queue are n m d single restarted read = by_end (k
     numbered : (first : ℕ) × AreNumbered (paths_of all queue n) first (kept_files all queue n)
     numbered = single_numbered all queue n single
 
-    by_end : (files : List (ℕ × Path)) → Ends files → AreNumbered (paths_of all queue n) numbered.0 files → AllByRecursion IsRead (but_last files) → let found = left_in queue n d files in IsKeptQueue all queue found (length found) m
-    by_end files end = elim end as (λ files end. AreNumbered (paths_of all queue n) numbered.0 files → AllByRecursion IsRead (but_last files) → let found = left_in queue n d files in IsKeptQueue all queue found (length found) m) [
+    by_end : (files : List (ℕ × Path)) → Ends files → AreNumbered (paths_of all queue n) numbered.0 files → AllByRecursion IsRead (but_last files) → let found = left_in queue n d files in IsKeptQueue all queue found (synced_to (length found)) m
+    by_end files end = elim end as (λ files end. AreNumbered (paths_of all queue n) numbered.0 files → AllByRecursion IsRead (but_last files) → let found = left_in queue n d files in IsKeptQueue all queue found (synced_to (length found)) m) [
       | nothing ↦ λ are_numbered read.
           let none_stand : (k : ℕ) → k < end_of_numbers → paths_of all queue n k ≡ [] = λ k within. elim (nat_le_or numbered.0 k) [
             | inl low ↦ are_numbered.above k (omega (arith, low)) within
             | inr high ↦ are_numbered.none refl k high
-          ] in (
-            1,
-            [],
-            record { seq = 1; path = path_of folder (in_queue queue 1); batches = [] },
-            0,
-            keeps_none all queue are 1 (path_of folder (in_queue queue 1)) m one_fits (folder, here_first folder folders, refl) (λ k within. paths_of-same all queue n m (restarted_stands n m d restarted) k ∙ none_stand k within),
-            refl,
-            omega arith,
-          )
+          ] in
+          files_kept all queue 1 [] (record { seq = 1; path = path_of folder (in_queue queue 1); batches = [] }) 0 m
+          (keeps_none all queue are 1 (path_of folder (in_queue queue 1)) m one_fits (folder, here_first folder folders, refl) (λ k within. paths_of-same all queue n m (restarted_stands n m d restarted) k ∙ none_stand k within))
       | behind front last ↦ λ are_numbered read.
           with_last all queue n m d restarted are numbered.0 front last are_numbered (subst (AllByRecursion IsRead) (but_last-behind front last) read)
     ]

@@ -5,6 +5,7 @@ use Rattle.std.proofs.lemmas.Bool.Decides.{eqb_tells}
 use Rattle.raft_records.specs.Item.{Batch}
 use Rattle.raft_base.specs.declared.pipe_log.LogQueue.{LogQueue}
 use Rattle.raft_env.specs.Directory.{Directory, Path}
+use Rattle.raft_pipes.specs.Counts.{QueueCounts}
 use Rattle.raft_pipes.specs.Numbered.{AreNumbered, AreSingle, IsRun, StandAlone, end_of_numbers, found_or, has_file, joined, kept_files, last_run, paths_of, run_below}
 use Rattle.raft_pipes.specs.QueueFiles.{IsKeptQueue, if_standing, places_of}
 use Rattle.raft_pipes.proofs.NumberedLemmas.{kept-numbered, last_run-suc, last_run-zero, run_below-suc, run_push}
@@ -106,8 +107,8 @@ pub single_numbered : (folders : List Path) (queue : LogQueue) (n : Directory) �
 single_numbered folders queue n single = last_run_numbered (paths_of folders queue n) end_of_numbers (omega arith) (λ k low high. absurd (omega arith)) single
 
 -- the kept files of a queue stand alone
-pub queue_single : (folders : List Path) (queue : LogQueue) (batches : List Batch) (synced : ℕ) (n : Directory) → IsKeptQueue folders queue batches synced n → AreSingle folders queue n
-queue_single folders queue batches synced n (first, before, last, more, keeps, are, few) =
-    let numbered = keeps.files.numbered in
-    let files = places_of before ++ if_standing (has_file n last.path) last.seq last.path in
-    subst (StandAlone (paths_of folders queue n)) (sym (kept-numbered (paths_of folders queue n) first files numbered)) (run_alone (paths_of folders queue n) first files numbered.run)
+pub queue_single : (folders : List Path) (queue : LogQueue) (batches : List Batch) (counts : QueueCounts) (n : Directory) → IsKeptQueue folders queue batches counts n → AreSingle folders queue n
+queue_single folders queue batches counts n k =
+    let numbered = k.keeps.files.numbered in
+    let files = places_of k.before ++ if_standing (has_file n k.last.path) k.last.seq k.last.path in
+    subst (StandAlone (paths_of folders queue n)) (sym (kept-numbered (paths_of folders queue n) k.first files numbered)) (run_alone (paths_of folders queue n) k.first files numbered.run)

@@ -4,7 +4,6 @@ ghost use Rattle.raft_records.specs.Item.{Batch};
 ghost use Rattle.raft_records.specs.Record.{record_of};
 ghost use Rattle.raft_base.specs.declared.pipe_log.FileId.{FileId};
 ghost use Rattle.raft_files.specs.Detectable.{signature_by};
-ghost use Rattle.raft_env.specs.Consistent.{IsNeverRenamedAt};
 ghost use Rattle.raft_env.specs.Directory.{Directory, IsRestarted, CrashImage, Path};
 ghost use Rattle.raft_files.specs.Header.{HasHeader, header_bytes, header_len};
 ghost use Rattle.raft_files.specs.Scan.{PlacedRecord, ScanResult, readable_batches, scan_file};
@@ -25,26 +24,24 @@ pub fn failed_calls_add_no_record()
         → HasLog path id format batches synced at n }
     ensures made { (path : Path) (id : FileId) (format : LogFileFormat) (old new : Directory)
         → HasHeader format → format.alignment < 2 ^ 64 → bytes_at path old ≡ header_bytes format
-        → HasSimplePastAt path old → IsNeverRenamedAt path old → HasChanged path IsSynced old new
+        → HasSimplePastAt path old → HasChanged path IsSynced old new
         → HasCompletedLog path id format [] 0 (header_len format.version) new }
     ensures restarted { (path : Path) (id : FileId) (format : LogFileFormat)
         (records : List PlacedRecord)
         (n m : Directory) (d : CrashImage) → IsRestarted n d m
         → AreFromCompletedCallsAt path id format records m
-        × HasSimplePastAt path m × IsNeverRenamedAt path m }
+        × HasSimplePastAt path m }
     ensures cut { (path : Path) (id : FileId) (r : ScanResult) (size : ℕ) (old cut : Directory)
         → scan_file id (bytes_at path old) ≡ Some r
         → AreFromCompletedCallsAt path id r.format r.records old
-        → HasSimplePastAt path old → IsNeverRenamedAt path old
-        → HasChanged path (IsCut size) old cut
-        → AreFromCompletedCallsAt path id r.format r.records cut × HasSimplePastAt path cut
-        × IsNeverRenamedAt path cut }
+        → HasSimplePastAt path old → HasChanged path (IsCut size) old cut
+        → AreFromCompletedCallsAt path id r.format r.records cut × HasSimplePastAt path cut }
     ensures found { (path : Path) (id : FileId) (r : ScanResult) (old cut new : Directory)
         → let found = readable_batches id (bytes_at path old) in
         scan_file id (bytes_at path old) ≡ Some r → bytes_at path cut
         ≡ take r.end (bytes_at path old)
         → AreFromCompletedCallsAt path id r.format r.records cut → HasSimplePastAt path cut
-        → IsNeverRenamedAt path cut → HasChanged path IsSynced cut new
+        → HasChanged path IsSynced cut new
         → HasCompletedLog path id r.format found (length found) r.end new }
     ensures appended { (path : Path) (id : FileId) (format : LogFileFormat) (batches : List Batch)
         (synced at : ℕ) (old new : Directory) (capacity new_capacity : ℕ) (given : List ℕ)

@@ -15,7 +15,7 @@ use Rattle.raft_recovery.proofs.DropFrontLemmas.{recovered-without}
 use Rattle.raft_recovery.proofs.FixedLemmas.{consecutive_parts}
 use Rattle.raft_recovery.proofs.GroupLemmas.{effect-unmarked}
 use Rattle.raft_recovery.proofs.MarkLemmas.{each_changes_nothing}
-use Rattle.raft_recovery.proofs.StandsLemmas.{all_rewritten, stands_standing}
+use Rattle.raft_recovery.proofs.StandsLemmas.{all_rewritten}
 use Rattle.raft_recovery.proofs.TogetherLemmas.{old_may_go}
 
 -- marks, and what is there, item by item
@@ -30,14 +30,13 @@ rewritten_found : (q : Queues) (m : Contents) → Stands q m → q.rewritten_sin
 rewritten_found q m s none = ap (λ bs. recovered bs q.appended) (sym (append-nil q.rewritten) ∙ ap (λ bs. q.rewritten ++ bs) (sym none)) ∙ all_rewritten q m s
 
 -- a front, where the Rewrite queue holds what the rest leaves alone
-pub can_drop_front : (q : Queues) (m : Contents) (front rest : List Batch) → Stands q m → q.rewritten_since ≡ [] → q.older ++ q.appended ≡ front ++ rest → HoldsDropped (effect q.rewritten) rest m → CanDropFront front q
+pub can_drop_front : (q : Queues) (m : Contents) (front rest : List Batch) → Stands q m → q.rewritten_since ≡ [] → q.appended ≡ front ++ rest → HoldsDropped (effect q.rewritten) rest m → CanDropFront front q
 can_drop_front q m front rest s none is held =
-    let whole : Queues = record q { older = []; appended = q.older ++ q.appended } in
-    let all : recovered q.rewritten (front ++ rest) ≡ m = ap (recovered q.rewritten) (sym is) ∙ rewritten_found whole m (stands_standing q m s) none in
+    let all : recovered q.rewritten (front ++ rest) ≡ m = ap (recovered q.rewritten) (sym is) ∙ rewritten_found q m s none in
     record {
       rest = rest;
       is = is;
-      found = recovered-without q.rewritten front rest (consecutive_parts q.rewritten q.rewritten_since s.rewritten_consecutive).0 (subst HaveConsecutiveEntries is s.appended_consecutive) (subst (HoldsDropped (effect q.rewritten) rest) (sym all) held);
+      found = recovered-without q.rewritten front rest (consecutive_parts q.rewritten q.rewritten_since s.rewritten_consecutive).0 (subst HaveConsecutiveEntries is (consecutive_parts q.older q.appended s.appended_consecutive).1) (subst (HoldsDropped (effect q.rewritten) rest) (sym all) held);
       synced = none;
     }
 

@@ -20,7 +20,7 @@ pub fn what_a_purge_may_do()
         → EachChangesNothing (effect (q.rewritten ++ q.rewritten_since)) q.appended batch
         → RewriteTakes batch q }
     ensures front { (q : Queues) (m : Contents) (front rest : List Batch) → Stands q m
-        → q.rewritten_since ≡ [] → q.older ++ q.appended ≡ front ++ rest
+        → q.rewritten_since ≡ [] → q.appended ≡ front ++ rest
         → HoldsDropped (effect q.rewritten) rest m → CanDropFront front q }
     ensures old { (q : Queues) (m : Contents) (old new : List Batch) → Stands q m
         → q.rewritten_since ≡ [] → q.rewritten ≡ old ++ new → StandTogether old

@@ -264,7 +264,6 @@ pub old_lost : (blocks : Blocks) (numbered : List FileBatch) (owed : Owed) (t : 
     → old ≡ front ++ rest → StandForQueues blocks numbered owed t (record q { rewritten = rest ++ new })
 old_lost blocks numbered owed t q first bound old new front rest s h none none_rewritten from split =
     record {
-      none_older = s.none_older;
       batches = s.batches;
       appended_consecutive = s.appended_consecutive;
       rewritten_consecutive = subst HaveConsecutiveEntries (sym no_more) (consecutive_parts front (rest ++ new) (subst HaveConsecutiveEntries all s.rewritten_consecutive)).1;

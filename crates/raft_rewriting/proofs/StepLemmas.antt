@@ -64,7 +64,6 @@ with_rewritten_batch batch q = record q { rewritten_since = q.rewritten_since ++
 pub one_more : (blocks : Blocks) (numbered : List FileBatch) (owed owed' : Owed) (t u : Tables) (q : Queues) (batch : Batch) → StandForQueues blocks numbered owed t q → list_all (λ i. content_is_consecutive i.content) batch ≡ true → AreItemsBelow (2 ^ 64 - 1) batch
     → TablesStandFor blocks (effect (rewrites q ++ batch ∷ [])) numbered owed' u → StandForQueues blocks numbered owed' u (with_rewritten_batch batch q)
 one_more blocks numbered owed owed' t u q batch s run below stands = record {
-  none_older = s.none_older;
   batches = s.batches;
   appended_consecutive = s.appended_consecutive;
   rewritten_consecutive = subst HaveConsecutiveEntries same (consecutive-append (rewrites q) (batch ∷ []) s.rewritten_consecutive (consecutive_one batch run));
@@ -205,7 +204,6 @@ key_owed left m n held key (Some stored) cleaned deleted stands = at stored.1.qu
 
 pub forgotten : (blocks : Blocks) (numbered : List FileBatch) (owed : Owed) (t : Tables) (q : Queues) → StandForQueues blocks numbered (owed_again t owed) t q → StandForQueues blocks numbered (λ g. without_pending (owed g)) t q
 forgotten blocks numbered owed t q s = record {
-  none_older = s.none_older;
   batches = s.batches;
   appended_consecutive = s.appended_consecutive;
   rewritten_consecutive = s.rewritten_consecutive;
@@ -225,7 +223,7 @@ pub front_can : (blocks : Blocks) (numbered : List FileBatch) (owed : Owed) (t :
     → batches_of numbered ≡ front ++ batches_of (from_file first numbered) → CanDropFront front q
 front_can blocks numbered owed t q first front s none none_rewritten nothing entries keys parts = record {
   rest = rest;
-  is = ap (λ bs. bs ++ q.appended) s.none_older ∙ sym (all_synced blocks numbered owed t q s none) ∙ parts;
+  is = sym (all_synced blocks numbered owed t q s none) ∙ parts;
   found = subst (λ (bs : List Batch). recovered bs rest ≡ recovered bs (front ++ rest)) (ap (λ bs. q.rewritten ++ bs) none_rewritten ∙ append-nil q.rewritten)
       (subst (λ (bs : List Batch). recovered (rewrites q) rest ≡ recovered (rewrites q) bs) parts (front_may_go blocks (rewrites q) numbered front owed t first s.rewritten_consecutive s.appended_consecutive parts nothing entries keys s.stand));
   synced = none_rewritten;
@@ -251,16 +249,15 @@ key_from least first None low is = tt
 key_from least first (Some stored) low is = λ queue. let from = is queue in omega (arith, low, from)
 
 pub front_lost : (blocks : Blocks) (numbered : List FileBatch) (owed : Owed) (t : Tables) (q : Queues) (first least : ℕ) (front stay : List Batch) → StandForQueues blocks numbered owed t q → q.appended_since ≡ [] → OwesNothing owed → AreEntriesPlacedFrom first t → AreKeysPlacedFrom first t
-    → least ≤ first → batches_of numbered ≡ front ++ batches_of (from_file least numbered) → q.older ++ q.appended ≡ front ++ stay → StandForQueues blocks (from_file least numbered) owed t (record q { older = []; appended = stay })
+    → least ≤ first → batches_of numbered ≡ front ++ batches_of (from_file least numbered) → q.appended ≡ front ++ stay → StandForQueues blocks (from_file least numbered) owed t (record q { older = q.older ++ front; appended = stay })
 front_lost blocks numbered owed t q first least front stay s none nothing entries keys low parts split =
     let x = effect (rewrites q) in
     let rest = batches_of (from_file least numbered) in
     let from_entries : AreEntriesPlacedFrom least t = λ g. entries_from least first (or_empty (t g)).entries low (entries g) in
     let from_keys : AreKeysPlacedFrom least t = λ g k. key_from least first ((or_empty (t g)).keys k) low (keys g k) in
     let same = front_may_go blocks (rewrites q) numbered front owed t least s.rewritten_consecutive s.appended_consecutive parts nothing from_entries from_keys s.stand in
-    let is_stay : rest ≡ stay = same_rest front rest stay (sym parts ∙ all_synced blocks numbered owed t q s none ∙ ap (λ bs. bs ++ q.appended) (sym s.none_older) ∙ split) in
+    let is_stay : rest ≡ stay = same_rest front rest stay (sym parts ∙ all_synced blocks numbered owed t q s none ∙ split) in
     record {
-      none_older = refl;
       batches = is_stay ∙ sym (ap (λ bs. stay ++ bs) none ∙ append-nil stay);
       appended_consecutive = (consecutive_parts front rest (subst HaveConsecutiveEntries parts s.appended_consecutive)).1;
       rewritten_consecutive = s.rewritten_consecutive;

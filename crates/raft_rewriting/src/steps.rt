@@ -72,7 +72,7 @@ pub fn the_append_queue_may_lose_a_front()
         → StandForQueues blocks numbered owed t q → q.appended_since ≡ [] → OwesNothing owed
         → AreEntriesPlacedFrom first t → AreKeysPlacedFrom first t → least ≤ first
         → batches_of numbered ≡ front ++ batches_of (from_file least numbered)
-        → q.older ++ q.appended ≡ front ++ stay
+        → q.appended ≡ front ++ stay
         → StandForQueues blocks (from_file least numbered) owed t
-        (record q { older = []; appended = stay }) }
+        (record q { older = q.older ++ front; appended = stay }) }
 {}

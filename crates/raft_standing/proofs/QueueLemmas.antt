@@ -31,10 +31,9 @@ use Rattle.raft_standing.proofs.TotalLemmas.{written}
 -- The lists of both queues.
 
 -- what is known of the Rewrite queue's batches, where they are the same in another division
-pub rewritten_again : (blocks : Blocks) (numbered : List FileBatch) (owed : Owed) (t : Tables) (q p : Queues) → q.rewritten ++ q.rewritten_since ≡ p.rewritten ++ p.rewritten_since → p.older ≡ q.older → q.appended ++ q.appended_since ≡ p.appended ++ p.appended_since
+pub rewritten_again : (blocks : Blocks) (numbered : List FileBatch) (owed : Owed) (t : Tables) (q p : Queues) → q.rewritten ++ q.rewritten_since ≡ p.rewritten ++ p.rewritten_since → q.appended ++ q.appended_since ≡ p.appended ++ p.appended_since
     → StandForQueues blocks numbered owed t q → StandForQueues blocks numbered owed t p
-rewritten_again blocks numbered owed t q p same older appended s = record {
-  none_older = older ∙ s.none_older;
+rewritten_again blocks numbered owed t q p same appended s = record {
   batches = s.batches ∙ appended;
   appended_consecutive = s.appended_consecutive;
   rewritten_consecutive = subst HaveConsecutiveEntries same s.rewritten_consecutive;
@@ -45,7 +44,6 @@ rewritten_again blocks numbered owed t q p same older appended s = record {
 pub opened : (blocks : Blocks) (rewritten : List Batch) (numbered : List FileBatch) (owed : Owed) (t : Tables) → HaveConsecutiveEntries (batches_of numbered) → HaveConsecutiveEntries rewritten → AreItemsBelow (2 ^ 64 - 1) (items_of rewritten)
     → TablesStandFor blocks (effect rewritten) numbered owed t → StandForQueues blocks numbered owed t (synced_queues rewritten (batches_of numbered))
 opened blocks rewritten numbered owed t run_a run_r below stands = record {
-  none_older = refl;
   batches = sym (append-nil (batches_of numbered));
   appended_consecutive = run_a;
   rewritten_consecutive = subst HaveConsecutiveEntries (sym (append-nil rewritten)) run_r;
@@ -57,7 +55,6 @@ pub queue_written : (blocks : Blocks) (numbered : List FileBatch) (owed : Owed) 
     → IsValidBatch (contents_in blocks t) (map (item_in blocks) items) → StandForQueues blocks numbered owed t q
     → StandForQueues blocks (numbered ++ (seq, map (item_in blocks) items) ∷ []) (owed_noted owed items) (tables_after (in_append seq) t items) (record q { appended_since = q.appended_since ++ map (item_in blocks) items ∷ [] })
 queue_written blocks numbered owed t q seq items files in_order placed valid s = record {
-  none_older = s.none_older;
   batches = grown ∙ ap (λ bs. bs ++ batch ∷ []) s.batches ∙ append_assoc q.appended q.appended_since (batch ∷ []);
   appended_consecutive = subst HaveConsecutiveEntries (sym grown) (consecutive-append (batches_of numbered) (batch ∷ []) s.appended_consecutive (consecutive_one batch (valid_is_consecutive (contents_in blocks t) batch valid)));
   rewritten_consecutive = s.rewritten_consecutive;
@@ -73,10 +70,10 @@ queue_written blocks numbered owed t q seq items files in_order placed valid s =
     grown = map-append (λ (b : FileBatch). b.1) numbered ((seq, batch) ∷ [])
 
 pub queue_synced : (blocks : Blocks) (numbered : List FileBatch) (owed : Owed) (t : Tables) (q : Queues) → StandForQueues blocks numbered owed t q → StandForQueues blocks numbered owed t (record q { appended = q.appended ++ q.appended_since; appended_since = [] })
-queue_synced blocks numbered owed t q s = rewritten_again blocks numbered owed t q (record q { appended = q.appended ++ q.appended_since; appended_since = [] }) refl refl (sym (append-nil (q.appended ++ q.appended_since))) s
+queue_synced blocks numbered owed t q s = rewritten_again blocks numbered owed t q (record q { appended = q.appended ++ q.appended_since; appended_since = [] }) refl (sym (append-nil (q.appended ++ q.appended_since))) s
 
 pub queue_rewritten_synced : (blocks : Blocks) (numbered : List FileBatch) (owed : Owed) (t : Tables) (q : Queues) → StandForQueues blocks numbered owed t q → StandForQueues blocks numbered owed t (record q { rewritten = q.rewritten ++ q.rewritten_since; rewritten_since = [] })
-queue_rewritten_synced blocks numbered owed t q s = rewritten_again blocks numbered owed t q (record q { rewritten = q.rewritten ++ q.rewritten_since; rewritten_since = [] }) (sym (append-nil (q.rewritten ++ q.rewritten_since))) refl refl s
+queue_rewritten_synced blocks numbered owed t q s = rewritten_again blocks numbered owed t q (record q { rewritten = q.rewritten ++ q.rewritten_since; rewritten_since = [] }) (sym (append-nil (q.rewritten ++ q.rewritten_since))) refl s
 
 -- Blocks with the same bytes where entries stand.
 
@@ -102,7 +99,6 @@ alike old new x numbered owed t same s = record {
 
 pub queue_alike : (old new : Blocks) (numbered : List FileBatch) (owed : Owed) (t : Tables) (q : Queues) → ((group : ℕ) → Each (λ e. entry_in old e ≡ entry_in new e) (or_empty (t group)).entries) → StandForQueues old numbered owed t q → StandForQueues new numbered owed t q
 queue_alike old new numbered owed t q same s = record {
-  none_older = s.none_older;
   batches = s.batches;
   appended_consecutive = s.appended_consecutive;
   rewritten_consecutive = s.rewritten_consecutive;
@@ -153,7 +149,6 @@ unowed blocks numbered owed owed' t s = record {
 
 pub queue_unowed : (blocks : Blocks) (numbered : List FileBatch) (owed owed' : Owed) (t : Tables) (q : Queues) → q.rewritten ++ q.rewritten_since ≡ [] → StandForQueues blocks numbered owed t q → StandForQueues blocks numbered owed' t q
 queue_unowed blocks numbered owed owed' t q none s = record {
-  none_older = s.none_older;
   batches = s.batches;
   appended_consecutive = s.appended_consecutive;
   rewritten_consecutive = s.rewritten_consecutive;

@@ -14,7 +14,6 @@ use Rattle.raft_standing.specs.Standing.{TablesStandFor}
 -- numbers of files
 pub record StandForQueues (blocks : Blocks) (numbered : List FileBatch) (owed : Owed) (t : Tables)
     (q : Queues) : Type 0 where
-  pub none_older : q.older ≡ []
   pub batches : batches_of numbered ≡ q.appended ++ q.appended_since
   pub appended_consecutive : HaveConsecutiveEntries (batches_of numbered)
   pub rewritten_consecutive : HaveConsecutiveEntries (q.rewritten ++ q.rewritten_since)

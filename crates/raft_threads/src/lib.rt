@@ -1,12 +1,10 @@
-//! Parts of a queue, each replayed in a thread of its own.
+//! The files of both queues, read by several threads side by side.
 #![tactic(auto)]
 
-pub mod gathering;
-pub mod part;
-pub mod replaying;
-pub mod side_by_side;
+mod dealing;
+mod gathering;
+mod part;
+mod reading;
+mod side_by_side;
 
-pub use gathering::{GatheredParts, gather};
-pub use part::{PartJob, QueuePart, ReadPart, read_part};
-pub use replaying::replay_parts;
-pub use side_by_side::read_side_by_side;
+pub use reading::{QueueRead, ReadSettings, read_both};

@@ -8,4 +8,4 @@ pub returns-in-Ok : goal.returns-in-Ok
 returns-in-Ok g c =
     let old = g.F.FileSystem.directory c.args.fs.now in
     let new = g.F.FileSystem.directory c.purge_to.new.file_system in
-    record { stands = stand_dropped c.args.queue c.in-Ok._count c.args.pipes.now c.purge_to.new.self old new c.in-Ok.ensures.ok c.requires }
+    record { stands = stand_dropped c.args.queue c.args.seq c.in-Ok._count c.args.pipes.now c.purge_to.new.self old new c.in-Ok.ensures.ok c.requires }

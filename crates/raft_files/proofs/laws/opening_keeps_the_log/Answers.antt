@@ -16,12 +16,12 @@ pub returns-clause-found : goal.returns-clause-found
 returns-clause-found c = log_found_cut
 
 pub returns-clause-renamed : goal.returns-clause-renamed
-returns-clause-renamed c = λ src path id other batches synced old kept has. kept_renamed src path other batches synced old kept has id
+returns-clause-renamed c = λ src path id old has. kept_renamed src path old has id
 
 pub returns-clause-reusing : goal.returns-clause-reusing
-returns-clause-reusing c = λ src path id other format batches synced old n room new_room kept has header_fits fits change.
-    kept_reusing src path other batches synced old kept has id format room new_room header_fits fits n change
+returns-clause-reusing c = λ src path id format old n room new_room has header_fits fits change.
+    kept_reusing src path old has id format room new_room header_fits fits n change
 
 pub returns-clause-reused : goal.returns-clause-reused
-returns-clause-reused c = λ src path id other format batches synced old mid new room new_room kept has header_fits fits first change.
-    log_reused src path other batches synced old kept has id format room new_room header_fits fits mid new first change
+returns-clause-reused c = λ src path id format old mid new room new_room has header_fits fits first change.
+    log_reused src path old has id format room new_room header_fits fits mid new first change

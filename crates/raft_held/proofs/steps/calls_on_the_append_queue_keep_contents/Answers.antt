@@ -2,7 +2,7 @@ use Rattle.std.proofs.Common.{[], ◌∷◌, refl}
 use Rattle.raft_base.specs.declared.pipe_log.LogQueue.TheVariants.{Append}
 use Rattle.raft_held.specs.Contents.{known_from}
 use Rattle.raft_held.specs.Held.{LeaveKnown, syncs}
-use Rattle.raft_held.proofs.StepsLemmas.{held_appended, held_appending, held_begins, held_kept, held_recovers, held_still, held_synced, known_more, known_same, synced_batches_in}
+use Rattle.raft_held.proofs.StepsLemmas.{held_appended, held_appending, held_begins, held_kept, held_recovers, held_still, held_synced, known_more, known_synced}
 use Rattle.raft_held.proofs.steps.calls_on_the_append_queue_keep_contents.Goals as goal
 
 pub returns-clause-now : goal.returns-clause-now
@@ -14,7 +14,7 @@ returns-clause-written c = λ d d' folders m since known old new held given b do
 
 pub returns-clause-synced : goal.returns-clause-synced
 returns-clause-synced c = λ d d' folders m since known old new held done.
-    held_synced d d' folders m since (LeaveKnown known) (LeaveKnown known) old new held done (λ q h. known_same known known q (syncs Append q) (synced_batches_in Append q) (λ group. refl) h)
+    held_synced d d' folders m since (LeaveKnown known) (LeaveKnown known) old new held done (λ q h. known_synced known Append q h)
 
 pub returns-clause-rotated : goal.returns-clause-rotated
 returns-clause-rotated c = λ d d' folders m since known old new held done. held_still d d' folders m since (LeaveKnown known) (LeaveKnown known) old new held done (λ q h. h)

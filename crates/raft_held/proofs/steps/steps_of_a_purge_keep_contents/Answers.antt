@@ -1,4 +1,4 @@
-use Rattle.std.proofs.Common.{refl}
+use Rattle.std.proofs.Common.{[], refl}
 use Rattle.std.specs.Prelude.{⊤}
 use Rattle.raft_base.specs.declared.pipe_log.LogQueue.TheVariants.{Rewrite}
 use Rattle.raft_pipes.specs.Purge.{dropped_batches}
@@ -17,7 +17,7 @@ pub returns-clause-synced : goal.returns-clause-synced
 returns-clause-synced c = λ d d' folders m since old new held done. held_rewrite_synced d d' folders m since (λ q. ⊤) (IsSyncedIn Rewrite) old new held done (λ q h. refl)
 
 pub returns-clause-dropped : goal.returns-clause-dropped
-returns-clause-dropped c = λ d d' folders m old new most held done. held_dropped d folders m (CanDropFront (dropped_batches most d.append old)) old held most (λ q h. h) d' (λ q. ⊤) new done (λ q stay h is. tt)
+returns-clause-dropped c = λ d d' folders m old new seq most held done. held_dropped d folders m [] (CanDropFront (dropped_batches most d.append old)) old held most (λ q h. h) d' (λ q. ⊤) new seq done (λ q stay h is. tt)
 
 pub returns-clause-dropping : goal.returns-clause-dropping
-returns-clause-dropping c = λ d folders m old n most held keeps. held_dropping d folders m (CanDropFront (dropped_batches most d.append old)) old held most (λ q h. h) n keeps
+returns-clause-dropping c = λ d folders m old n most held keeps. held_dropping d folders m [] (CanDropFront (dropped_batches most d.append old)) old held most (λ q h. h) n keeps

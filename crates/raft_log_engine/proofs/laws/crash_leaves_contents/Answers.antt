@@ -4,6 +4,7 @@ use Rattle.raft_base.specs.declared.pipe_log.LogQueue.TheVariants.{Append, Rewri
 use Rattle.raft_records.specs.Contents.{Contents}
 use Rattle.raft_records.specs.Item.{Batch}
 use Rattle.raft_files.specs.Records.{as_it_is}
+use Rattle.raft_pipes.specs.Counts.{synced_to}
 use Rattle.raft_pipes.specs.Folder.{readable_queue}
 use Rattle.raft_pipes.specs.Queue.{RecoversPrefixOf}
 use Rattle.raft_pipes.proofs.QueueFilesLemmas.{now_leaves_synced}
@@ -30,7 +31,7 @@ returns-clause-known c = λ folders n m d restarted.
 pub returns-clause-restarted : goal.returns-clause-restarted
 returns-clause-restarted c = λ folders n m d restarted sound.
     let left : (queue : LogQueue) → readable_queue queue folders m ≡ left_of_queue queue folders n d = λ queue. c.crash_leaves_a_prefix.ensures.contents queue folders n m d restarted in
-    let kept : (queue : LogQueue) → RecoversPrefixOf queue folders (left_of_queue queue folders n d) (length (left_of_queue queue folders n d)) m = λ queue. c.crash_leaves_a_prefix.ensures.restarted queue folders n m d restarted (sound queue) in
+    let kept : (queue : LogQueue) → RecoversPrefixOf queue folders (left_of_queue queue folders n d) (synced_to (length (left_of_queue queue folders n d))) m = λ queue. c.crash_leaves_a_prefix.ensures.restarted queue folders n m d restarted (sound queue) in
     keeps_found folders m (left_of_queue Rewrite folders n d) (left_of_queue Append folders n d) (left Rewrite) (left Append) (kept Rewrite) (kept Append)
 
 pub returns-clause-opens : goal.returns-clause-opens
@@ -57,7 +58,7 @@ returns-clause-as_they_are c = λ folders m batches n keeps detectable.
 -- folders without a log keep nothing
 pub returns-clause-none : goal.returns-clause-none
 returns-clause-none c = λ folders n none clear.
-    let found : (queue : LogQueue) → (readable_queue queue folders n ≡ []) × RecoversPrefixOf queue folders [] 0 n = λ queue. c.crash_leaves_a_prefix.ensures.none queue folders n none clear in
+    let found : (queue : LogQueue) → (readable_queue queue folders n ≡ []) × RecoversPrefixOf queue folders [] (synced_to 0) n = λ queue. c.crash_leaves_a_prefix.ensures.none queue folders n none clear in
     let is = recovered-nothing_rewritten [] in (
       same_queues folders n [] [] (found Rewrite).0 (found Append).0 ∙ is,
       subst (λ (m : Contents). RecoversContents folders m [] n) is (keeps_found folders n [] [] (found Rewrite).0 (found Append).0 (found Rewrite).1 (found Append).1),
