@@ -167,7 +167,7 @@ pub(crate) struct Opening {
     pub finished: Option<u8>,
 }
 
-static STAGED_ROWS: [Opening; 9] = [
+static STAGED_ROWS: [Opening; 10] = [
     Opening {
         name: "nothing is read",
         refused: None,
@@ -210,8 +210,18 @@ static STAGED_ROWS: [Opening; 9] = [
         finished: Some(15),
     },
     Opening {
-        name: "the second half of a scan fails",
+        name: "a scan fails for the Rewrite queue",
         refused: Some((FsCall::List, 2)),
+        stages: &[
+            Stage::ScanRefused(3),
+            Stage::ReadRefused(Append, 15),
+            Stage::ReadRefused(Rewrite, 15),
+        ],
+        finished: Some(15),
+    },
+    Opening {
+        name: "a scan fails for the reserved files",
+        refused: Some((FsCall::List, 3)),
         stages: &[
             Stage::ScanRefused(3),
             Stage::ReadRefused(Append, 15),

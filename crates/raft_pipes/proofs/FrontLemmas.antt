@@ -1,11 +1,12 @@
 -- What a pipe's queue keeps where a step keeps its files.
-use Rattle.std.proofs.Common.{◌≡◌, ℕ, suc, ◌+◌, ◌≤◌, List, [], ◌∷◌, ◌++◌, length, refl, ap, sym, ◌∙◌, arith, length-append}
+use Rattle.std.proofs.Common.{◌≡◌, ℕ, suc, ◌+◌, ◌≤◌, List, [], ◌∷◌, ◌++◌, length, refl, ap, ◌∙◌, arith, length-append}
 use Rattle.raft_records.specs.Item.{Batch}
 use Rattle.raft_base.specs.declared.pipe_log.LogQueue.{LogQueue}
 use Rattle.raft_env.specs.Directory.{Directory, Path}
 use Rattle.raft_pipes.specs.Counts.{QueueCounts}
 use Rattle.raft_pipes.specs.PipeState.{PipeState, WritesFiles, files_from, last_seq, sealed_paths}
-use Rattle.raft_pipes.specs.QueueFiles.{HasFilesAfter, HasFilesBefore, IsKeptQueue, QueueFile}
+use Rattle.raft_pipes.specs.QueueFiles.{HasFilesAfter, HasFilesBefore, IsKeptQueue, QueueFile, batches_in, batches_with}
+use Rattle.raft_files.proofs.RecordsLogLemmas.{count_of}
 use Rattle.raft_pipes.proofs.PipeNamesLemmas.{length-sealed_paths}
 use Rattle.raft_pipes.proofs.StepsLemmas.{length-places_of}
 
@@ -62,3 +63,8 @@ written_fewer p batches counts n w fewer less = record {
   few = omega (arith, w.few, less);
   alone = w.alone;
 }
+
+-- no more are synced than were written
+pub written_few : (p : PipeState) (batches : List Batch) (counts : QueueCounts) (n : Directory) → WritesFiles p batches counts n → counts.synced ≤ length batches
+written_few p batches counts n w =
+    omega (arith, w.few, ap length w.batches_are, length-append w.dropped (batches_with w.before w.last), length-append (batches_in w.before) w.last.batches, w.log.written.keeps.few, count_of w.log.records w.last.batches w.log.holds)

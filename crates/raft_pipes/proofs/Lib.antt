@@ -5,6 +5,7 @@ pub mod ByFileCallsLemmas
 pub mod ByFileLemmas
 pub mod ByFileOpeningLemmas
 pub mod ByFileRotationLemmas
+pub mod CloseLemmas
 pub mod CompletedLemmas
 pub mod DroppedLemmas
 pub mod FileCallsLemmas
@@ -29,6 +30,7 @@ pub mod OpenMomentsLemmas
 pub mod OpenReplayLemmas
 pub mod OpenedLogsLemmas
 pub mod OpenedQueueLemmas
+pub mod ParentLemmas
 pub mod PipeDoubtLemmas
 pub mod PipeNamesLemmas
 pub mod PipeQueueLemmas

@@ -1,11 +1,10 @@
 -- Which file a call failed on.
-use Rattle.std.proofs.Common.{◌≡◌, ◌∙◌, ◌<◌, ◌⊎◌, [], suc, length, true, false, Bool, cond, is_some, ap, arith, inl, inr, refl, subst, sym}
-use Rattle.std.specs.Prelude.{Err, IfErr, Ok, Result}
+use Rattle.std.proofs.Common.{◌≡◌, ◌∙◌, ◌<◌, [], suc, length, true, false, Bool, cond, is_some, ap, arith, inl, inr, refl, subst, sym}
 use Rattle.raft_base.specs.declared.errors.Fault.{Fault}
 use Rattle.raft_base.specs.declared.errors.Fault.TheVariants as fault
 use Rattle.raft_env.specs.Directory.{Directory, HasFile, Path, after_create, file_at, with_file}
 use Rattle.raft_env.specs.Outcomes.{synced_file}
-use Rattle.raft_env.specs.Refusal.{CountsRefusal, IsFaultOf, IsFileRefusal, NoFewer, Refusals, RefusalsRoseForFault, StorageRefusalsRose}
+use Rattle.raft_env.specs.Refusal.{CountsRefusal, IsFaultOf, IsFileRefusal, NoFewer, Refusals, RefusalsRoseForFault}
 use Rattle.raft_env.specs.declared.env.FsFault.{FsFault}
 use Rattle.raft_env.specs.declared.env.FsFault.TheVariants.{Io, Memory}
 use Rattle.raft_env.proofs.DirectoryLemmas.{file_at-placed_same}
@@ -14,11 +13,10 @@ use Rattle.raft_files.specs.declared.format.LogFileFormat.{LogFileFormat}
 use Rattle.raft_config.specs.Folders.{all_of}
 use Rattle.raft_pipes.specs.Numbered.{IsPathOf, has_file, in_queue, path_of}
 use Rattle.raft_pipes.proofs.ApartLemmas.{main_among}
-use Rattle.raft_pipes.specs.Pipe.{IsAppendRefusalOf, IsChangeRefusal, IsStopCause}
+use Rattle.raft_pipes.specs.Pipe.{IsAppendRefusalOf, IsChangeRefusal}
 use Rattle.raft_pipes.specs.PipeState.{IsNextPath, PipeState, WritesSameFile, last_seq}
 use Rattle.raft_pipes.specs.Rotation.{IsBeginRefusal, IsNextRefusal, IsRotationRefusal}
 use Rattle.raft_pipes.specs.declared.pipe.AppendFault.{AppendFault}
-use Rattle.raft_pipes.specs.declared.pipe.AppendFault.TheVariants.{InDoubt, RolledBack}
 use Rattle.raft_pipes.proofs.KeepsLogLemmas.{stands_opening}
 
 -- A next file is begun.

@@ -17,8 +17,8 @@ use Rattle.raft_files.specs.Sealed.{IsSealed}
 use Rattle.raft_files.specs.Name.{file_name}
 use Rattle.raft_pipes.specs.Folder.{LeavesOthers}
 use Rattle.raft_pipes.specs.Numbered.{AreNumbered, IsPathOf, IsRun, end_of_numbers, has_file, in_queue, paths_of}
-use Rattle.raft_pipes.specs.Counts.{IsLeftOf, QueueCounts}
-use Rattle.raft_pipes.specs.QueueFiles.{HasFilesAfter, HasFilesBefore, IsKeptQueue, IsNoPathOf, QueueFile, batches_in, batches_with, counts_after, if_standing, places_of, synced_with}
+use Rattle.raft_pipes.specs.Counts.{IsLeftOf}
+use Rattle.raft_pipes.specs.QueueFiles.{HasFilesAfter, HasFilesBefore, IsKeptQueue, IsNoPathOf, QueueFile, batches_in, batches_with, counts_after, if_standing, places_of}
 use Rattle.raft_pipes.proofs.NumberedLemmas.{numbered_dropped, run_at, run_back, run_front, run_same}
 use Rattle.raft_pipes.proofs.PlacesLemmas.{among_passing, one_of, path_cases, paths_of-other, paths_of-removed}
 use Rattle.raft_pipes.proofs.QueueFilesLemmas.{all_back}

@@ -203,9 +203,11 @@ static REFUSED: [Story; 1] = [Story {
             }),
             Step::Span(1, 47),
             Step::Fail(Failing::Nth(FsCall::Delete, 2, IoKind::Other)),
+            // Files up to 33 are to go. Beside the 14 that are left there is room for one more, so that file 3 is the second
+            // to be deleted.
             Step::Run(&[Plan::Purge], &[Answer::Fails(3)]),
             Step::Failed(false),
-            Step::Span(2, 47),
+            Step::Span(3, 47),
         ],
         NONE_ASKED,
         &[

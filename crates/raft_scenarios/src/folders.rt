@@ -287,7 +287,6 @@ static NAMES: [Folder; 1] = [Folder {
         LOG_3,
         ("raft/+000000000000004.raftlog", &[HEADER_2, PUT_4]),
         ("raft/10000000000000000.raftlog", &[HEADER_2, PUT_4]),
-        ("raft/0000000000000004.raftlog.reserved", &[&[0; 80]]),
         ("raft/0000000000000004.rewritten", &[HEADER_2, PUT_4]),
         ("raft/random_file", &[b"x"]),
         ("raft/more/0000000000000004.raftlog", &[HEADER_2, PUT_4]),

@@ -1,6 +1,6 @@
 -- Parts that were read, put together.
-use Rattle.std.proofs.Common.{◌≡◌, ◌⊎◌, ◌≤◌, ◌+◌, ℕ, suc, List, [], ◌∷◌, ◌++◌, length, get_or, map, take, drop, inl, inr, refl, sym, ◌∙◌, ap, subst, arith}
-use Rattle.std.specs.Prelude.{Contains, Result, Ok, Err, IfErr, IfOk, Vec}
+use Rattle.std.proofs.Common.{◌≡◌, ◌⊎◌, ◌≤◌, suc, List, [], ◌∷◌, ◌++◌, length, get_or, map, take, drop, inl, inr, refl, sym, ◌∙◌, ap, subst, arith}
+use Rattle.std.specs.Prelude.{Contains, Ok, Err, IfErr, IfOk, Vec}
 use Rattle.std.specs.declared.alloc.Global.{Global}
 use Rattle.std.specs.List.{All, AllByRecursion, AllZip, flat_map}
 use Rattle.std.proofs.lemmas.Grind.{flat_map-append}
@@ -11,9 +11,9 @@ use Rattle.raft_base.specs.declared.errors.Fault.TheVariants.{Memory}
 use Rattle.raft_base.specs.declared.pipe_log.LogQueue.{LogQueue}
 use Rattle.raft_env.specs.Directory.{Directory}
 use Rattle.raft_env.specs.Refusal.{Refusals}
-use Rattle.raft_pipes.specs.OpenedLogs.{AreInQueue, AreReplayed, HasDamageIn, HaveLogBlocks, IsLogsFault, IsLogsRefusal, IsOpenableIn, IsReplayIn, IsUnread, OpenedLogState, logged_batches}
+use Rattle.raft_pipes.specs.OpenedLogs.{AreInQueue, AreReplayed, HasDamageIn, HaveLogBlocks, IsLogsFault, IsLogsRefusal, IsOpenableIn, IsReplayIn, OpenedLogState, logged_batches}
 use Rattle.raft_pipes.specs.declared.replay.ReplayedLog.{ReplayedLog}
-use Rattle.raft_pipes.proofs.OpenedLogsLemmas.{RoseBy, all_append, zip_append}
+use Rattle.raft_pipes.proofs.OpenedLogsLemmas.{all_append, zip_append}
 use Rattle.raft_pipes.proofs.QueueFilesLemmas.{all_back, all_front}
 use Rattle.raft_pipes.proofs.ReadFilesLemmas.{fault_after}
 use Rattle.raft_records.specs.FileBatches.{FileBatch}
@@ -87,11 +87,15 @@ module _ {J X M : Type 0} (logs_of : J → List OpenedLogState) (machine_of : J 
   parts_refused [] [] before after e zip rose first = absurd first
   parts_refused [] (r ∷ read) before after e zip rose first = absurd zip
   parts_refused (job ∷ jobs) [] before after e zip rose first = absurd zip
-  parts_refused (job ∷ jobs) (r ∷ read) before after e zip rose first = here (read_of r) zip.0.ok zip.0.refused first
+  parts_refused (job ∷ jobs) (r ∷ read) before after e zip rose first = here (read_of r) zip.0.ok zip.0.refused (parts_refused jobs read before after e zip.1 rose.1) first
     where
-      here : (answer : Answer M) → IfOk answer (λ done. AreReplayed stands_for n (logs_of job) (machine_of job) done.0 done.1.items) → IfErr answer (IsLogsRefusal n (logs_of job) (left_of r)) → IsFirstRefusal (answer ∷ map read_of read) e → IsLogsFault n (logs_of job ++ flat_map logs_of jobs) before after e
-      here (Ok done) ok refused first = fault_behind (logs_of job) (flat_map logs_of jobs) before after e ok.openable (parts_refused jobs read before after e zip.1 rose.1 first)
-      here (Err f) ok refused first = fault_before (logs_of job) (flat_map logs_of jobs) before after e (subst (IsLogsFault n (logs_of job) before after) first (fault_after n (logs_of job) (left_of r) before after f refused rose.0))
+      here : (answer : Answer M) → IfOk answer (λ done. AreReplayed stands_for n (logs_of job) (machine_of job) done.0 done.1.items) → IfErr answer (IsLogsRefusal n (logs_of job) (left_of r)) → (IsFirstRefusal (map read_of read) e → IsLogsFault n (flat_map logs_of jobs) before after e) → IsFirstRefusal (answer ∷ map read_of read) e → IsLogsFault n (logs_of job ++ flat_map logs_of jobs) before after e
+      here (Ok done) ok refused later first = fault_behind (logs_of job) (flat_map logs_of jobs) before after e ok.openable (later first)
+      here (Err f) ok refused later first = fault_before (logs_of job) (flat_map logs_of jobs) before after e (subst (IsLogsFault n (logs_of job) before after) first (fault_after n (logs_of job) (left_of r) before after f refused rose.0))
+
+  pub gathered_fault : (jobs : List J) (read : List X) (before after : Refusals) (e : Fault) → AllZip WasRead jobs read → PartsRose left_of before after read → (e ≡ Memory) ⊎ IsFirstRefusal (map read_of read) e → IsLogsFault n (flat_map logs_of jobs) before after e
+  gathered_fault jobs read before after e zip rose (inl memory) = inl (inl memory)
+  gathered_fault jobs read before after e zip rose (inr first) = parts_refused jobs read before after e zip rose first
 
   -- parts of which each was read from nothing
   pub parts_openable : (jobs : List J) (read : List X) (done : List (M × Vec ReplayedLog Global)) → AllZip WasRead jobs read → map Ok done ≡ map read_of read → AllByRecursion (IsOpenableIn n) (flat_map logs_of jobs)

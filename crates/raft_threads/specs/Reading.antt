@@ -1,5 +1,5 @@
 -- The files of both queues, as an opening reads them.
-use Rattle.std.specs.Prelude.{◌≡◌, ◌⊎◌, ℕ, List, [], ◌∷◌, map}
+use Rattle.std.specs.Prelude.{◌⊎◌, ℕ, List, [], map}
 use Rattle.std.specs.List.{AllByRecursion, AllZip}
 use Rattle.raft_base.specs.declared.errors.Fault.{Fault}
 use Rattle.raft_base.specs.declared.pipe_log.LogQueue.{LogQueue}

@@ -1,5 +1,5 @@
 //! A queue's files, dealt out to workers.
-ghost use Rattle.std.specs.Prelude.{◌≡◌, ◌<◌, ◌≤◌, length, IfErr, IfOk};
+ghost use Rattle.std.specs.Prelude.{◌≡◌, ◌<◌, IfErr, IfOk};
 ghost use Rattle.std.specs.List.{AllByRecursion, flat_map};
 ghost use Rattle.raft_base.specs.declared.errors.Fault.TheVariants.{Memory};
 
@@ -20,8 +20,6 @@ pub(crate) fn deal<F: FileSystem, M: Drop, FA: Factory<M>>(
     requires { 0 < part_len }
     ensures parts { IfOk result (λ jobs.
         flat_map (λ job. job.logs.items) jobs.items ≡ logs.items) }
-    ensures length { IfOk result (λ jobs.
-        AllByRecursion (λ job. length job.logs.items ≤ part_len) jobs.items) }
     ensures machines { IfOk result (λ jobs.
         AllByRecursion (λ job. FA.is_new job.machine) jobs.items) }
     ensures memory { IfErr result (λ e. e ≡ Memory) }

@@ -5,3 +5,7 @@
 mod meeting;
 #[cfg(test)]
 mod reaches;
+#[cfg(test)]
+mod recovering;
+#[cfg(test)]
+mod stored;

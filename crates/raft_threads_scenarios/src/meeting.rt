@@ -1,8 +1,8 @@
 //! Two workers that wait for one another.
 
+use crate::stored::{scanned, stored};
 use raft_pipes::ReplayMachine;
-use raft_records::{Fault, FileId, LogItem, LogQueue};
-use raft_threads::{PartJob, QueuePart, read_side_by_side};
+use raft_records::{Factory, Fault, FileId, LogItem, LogQueue};
 use raft_workers::MergingMachine;
 use std::alloc::Global;
 use std::sync::Arc;
@@ -40,51 +40,30 @@ impl MergingMachine for Meeting {
     }
 }
 
-/// A part of one batch without items.
+/// Makes machines that wait for one another.
 #[derive(Drop)]
-struct OneBatch {
-    alloc: Global,
-    file: FileId,
+struct Meetings {
+    begun: Arc<AtomicU64, Global>,
 }
 
-impl QueuePart<Meeting> for OneBatch {
-    ghost use Rattle.std.specs.Prelude.{[], ◌∷◌};
+impl Factory<Meeting> for Meetings {
+    ghost is_new = { λ meeting. Unit {0} };
 
-    ghost queue_of = { λ part. part.file.queue };
-
-    ghost batches = { λ part. (part.file.seq, []) ∷ [] };
-
-    ghost has_blocks = { λ part blocks. Unit {0} };
-
-    ghost can_be_read = { λ part. Unit {0} };
-
-    ghost leaves = { λ old new. Unit {0} };
-
-    ghost refuses = { λ old e new. Unit {0} };
-
-    fn replay_to(&mut self, machine: &mut Meeting) -> Result<(), Fault> {
-        machine.replay(&mut Vec::new(self.alloc), self.file)
+    fn new_target(&self) -> Result<Meeting, Fault> {
+        Ok(Meeting {
+            begun: Arc::try_clone(&self.begun)?,
+        })
     }
 }
 
 #[test]
 fn two_workers_meet(rt: HostRuntime) -> Result<(), Fail> {
     let alloc = rt.alloc();
-    let begun = Arc::new(alloc, AtomicU64::new(0))?;
-    let mut jobs = Vec::new(alloc);
-    for seq in 1..3 {
-        jobs.push(PartJob {
-            part: OneBatch {
-                alloc,
-                file: FileId::new(LogQueue::Append, seq),
-            },
-            machine: Meeting {
-                begun: Arc::try_clone(&begun)?,
-            },
-        })?;
-    }
-    for part in read_side_by_side(&rt, jobs)? {
-        assert!(rt; part.read.is_ok(), "each machine met the other one");
-    }
+    let factory = Meetings {
+        begun: Arc::new(alloc, AtomicU64::new(0))?,
+    };
+    let mut builder = scanned(alloc, stored(alloc, 2, 0)?, 2)?;
+    let met: Result<(Meeting, Meeting), Fault> = builder.recover(&rt, &factory);
+    assert!(rt; met.is_ok(), "each machine met the other one");
     Ok(())
 }

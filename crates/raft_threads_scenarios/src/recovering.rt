@@ -1,0 +1,175 @@
+//! Both queues, read by so many workers.
+
+use crate::stored::{scanned, stored};
+use raft_env::IoKind;
+use raft_memory::{FsCall, MemoryFileSystem};
+use raft_pipes::ReplayMachine;
+use raft_queues::DualPipesBuilder;
+use raft_records::{Fault, FileId, Fresh, KeyValue, LogItem, LogItemContent, LogQueue};
+use raft_workers::{DefaultMachineFactory, MergingMachine};
+use std::alloc::Global;
+use std::test::Fail;
+use std::thread::Threads;
+
+/// Takes the keys that batches put, each with the number of its file.
+#[derive(Drop)]
+struct Keys {
+    found: Vec<(u64, u8)>,
+}
+
+impl ReplayMachine for Keys {
+    ghost stands_for = { λ queue blocks earlier machine batches. Unit {0} };
+
+    fn replay(&mut self, items: &mut Vec<LogItem>, file: FileId) -> Result<(), Fault> {
+        for item in items.iter() {
+            if let LogItemContent::Kv(KeyValue::Put { key, value: _ }) = &item.content {
+                for byte in key {
+                    self.found.push((file.seq, *byte))?;
+                }
+            }
+        }
+        Ok(())
+    }
+}
+
+impl MergingMachine for Keys {
+    fn merge(&mut self, newer: Keys, _queue: LogQueue) -> Result<(), Fault> {
+        let mut newer = newer;
+        self.found.append(&mut newer.found)?;
+        Ok(())
+    }
+}
+
+impl Fresh for Keys {
+    ghost is_fresh = { λ keys. Unit {0} };
+
+    fn fresh(alloc: Global) -> Keys {
+        Keys {
+            found: Vec::new(alloc),
+        }
+    }
+}
+
+/// How many files each queue has.
+struct Case {
+    append: u8,
+    rewrite: u8,
+}
+
+static CASES: [Case; 5] = [
+    Case {
+        append: 5,
+        rewrite: 0,
+    },
+    Case {
+        append: 0,
+        rewrite: 3,
+    },
+    Case {
+        append: 5,
+        rewrite: 3,
+    },
+    Case {
+        append: 1,
+        rewrite: 4,
+    },
+    Case {
+        append: 0,
+        rewrite: 0,
+    },
+];
+
+/// Five files make chunks of 5, of 3 and 2, of 2, 2 and 1, and of 1.
+const THREADS: [usize; 5] = [0, 1, 2, 3, 8];
+
+/// Whether these are the keys of so many files, in order.
+fn are_all(keys: &Keys, files: u8) -> bool {
+    keys.found.len() == usize::from(files)
+        && (1..files.saturating_add(1))
+            .zip(keys.found.iter())
+            .all(|(key, found)| *found == (u64::from(key), key))
+}
+
+/// Whether so many workers find all keys, and all files are to be cut.
+fn finds_all<R: Threads + Sync>(
+    rt: &R,
+    alloc: Global,
+    case: &Case,
+    threads: usize,
+) -> Result<bool, Fault> {
+    let mut builder = scanned(alloc, stored(alloc, case.append, case.rewrite)?, threads)?;
+    let (appended, rewritten) = builder.recover(rt, &DefaultMachineFactory::new(alloc))?;
+    let files = usize::from(case.append) + usize::from(case.rewrite);
+    let all: (Keys, Keys) = (appended, rewritten);
+    Ok(
+        are_all(&all.0, case.append)
+            && are_all(&all.1, case.rewrite)
+            && builder.cuts().len() == files,
+    )
+}
+
+#[test]
+fn each_number_of_workers_finds_the_same(rt: HostRuntime) -> Result<(), Fail> {
+    for case in &CASES {
+        for threads in THREADS {
+            assert!(rt;
+                finds_all(&rt, rt.alloc(), case, threads)?,
+                "{} and {} files, {threads} threads",
+                case.append,
+                case.rewrite
+            );
+        }
+    }
+    Ok(())
+}
+
+/// With the nth call of a sort refused: whether the reading fails as `Io`, and cuts nothing.
+fn is_refused<R: Threads + Sync>(
+    rt: &R,
+    alloc: Global,
+    call: FsCall,
+    nth: u64,
+    threads: usize,
+) -> Result<bool, Fault> {
+    let mut fs = stored(alloc, 3, 2)?;
+    fs.refuse(call, nth, IoKind::Other)?;
+    let mut builder = scanned(alloc, fs, threads)?;
+    let refused = fails(rt, alloc, &mut builder);
+    let cuts = builder.cuts().len();
+    let finished = match builder.finish() {
+        Ok((_pipes, _fs)) => 0,
+        Err((fault, _fs)) => fault.code(),
+    };
+    Ok(refused == 3 && cuts == 0 && finished == 15)
+}
+
+fn fails<R: Threads + Sync>(
+    rt: &R,
+    alloc: Global,
+    builder: &mut DualPipesBuilder<MemoryFileSystem>,
+) -> u8 {
+    let read: Result<(Keys, Keys), Fault> = builder.recover(rt, &DefaultMachineFactory::new(alloc));
+    match read {
+        Ok(_keys) => 0,
+        Err(fault) => fault.code(),
+    }
+}
+
+#[test]
+fn a_refused_reading_cuts_nothing(rt: HostRuntime) -> Result<(), Fail> {
+    for threads in THREADS {
+        for nth in 1..6 {
+            for call in [FsCall::Open, FsCall::NewReader, FsCall::FileSize] {
+                assert!(rt;
+                    is_refused(&rt, rt.alloc(), call, nth, threads)?,
+                    "call {nth}, {threads} threads"
+                );
+            }
+        }
+        assert!(rt;
+            is_refused(&rt, rt.alloc(), FsCall::Read, 1, threads)?,
+            "a read, {threads} threads"
+        );
+    }
+    Ok(())
+}

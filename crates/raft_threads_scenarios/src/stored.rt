@@ -1,0 +1,78 @@
+//! Log files that the tests of workers read.
+
+use raft_config::Config;
+use raft_env::{FileSystem, FsFault};
+use raft_files::FileNameExt;
+use raft_memory::MemoryFileSystem;
+use raft_queues::DualPipesBuilder;
+use raft_records::{Fault, FileId, Fresh, LogBatch, LogFileContext, LogQueue, Version};
+use std::alloc::Global;
+
+/// That of a file in version 2.
+pub(crate) const HEADER: &[u8] =
+    b"RAFT-LOG-FILE-HEADER-9986AB3E47F320B394C8E84916EB0ED5\0\0\0\0\0\0\0\x02\0\0\0\0\0\0\0\0";
+
+/// Bytes in which no record can be read.
+const TORN: &[u8] = &[7; 5];
+
+const FOLDER: &str = "data";
+
+fn write<F: FileSystem>(fs: &mut F, path: &str, parts: &[&[u8]]) -> Result<(), FsFault> {
+    let handle = fs.create(path)?;
+    let mut writer = fs.new_writer(&handle)?;
+    let mut at = 0;
+    for part in parts {
+        fs.write(&mut writer, at, part)?;
+        at = at.saturating_add(part.len());
+    }
+    Ok(())
+}
+
+// A file of one batch, which puts this key, and of bytes that can't be read.
+fn store<F: FileSystem>(alloc: Global, fs: &mut F, queue: LogQueue, key: u8) -> Result<(), Fault> {
+    let id = FileId::new(queue, u64::from(key));
+    let mut batch = LogBatch::new(alloc);
+    batch.put(1, vec![in alloc; key]?, Vec::new(alloc))?;
+    batch.finish_populate()?;
+    batch.prepare_write(&LogFileContext::new(id, Version::V2));
+    let path = id.build_file_path(alloc, FOLDER)?;
+    match write(fs, path.as_str(), &[HEADER, batch.encoded_bytes(), TORN]) {
+        Ok(()) => Ok(()),
+        Err(fault) => Err(fault.with_path(alloc, path.as_str())),
+    }
+}
+
+/// So many files of each queue, the nth of which puts the key n, and ends in bytes that can't be
+/// read.
+pub(crate) fn stored(alloc: Global, append: u8, rewrite: u8) -> Result<MemoryFileSystem, Fault> {
+    let mut fs = MemoryFileSystem::new(alloc);
+    match fs.make_dir(FOLDER) {
+        Ok(()) => {}
+        Err(fault) => return Err(fault.with_path(alloc, FOLDER)),
+    }
+    for key in 1..append.saturating_add(1) {
+        store(alloc, &mut fs, LogQueue::Append, key)?;
+    }
+    for key in 1..rewrite.saturating_add(1) {
+        store(alloc, &mut fs, LogQueue::Rewrite, key)?;
+    }
+    Ok(fs)
+}
+
+/// An opening of both queues that has found their files, for so many threads.
+pub(crate) fn scanned(
+    alloc: Global,
+    fs: MemoryFileSystem,
+    threads: usize,
+) -> Result<DualPipesBuilder<MemoryFileSystem>, Fault> {
+    let mut config = Config::fresh(alloc);
+    config.dir.push_str(FOLDER)?;
+    config.recovery_mode = raft_config::RecoveryMode::TolerateAnyCorruption;
+    config.recovery_threads = threads;
+    let mut builder = match DualPipesBuilder::new(alloc, &config, fs) {
+        Ok(builder) => builder,
+        Err((fault, _fs)) => return Err(fault),
+    };
+    builder.scan()?;
+    Ok(builder)
+}
