@@ -24,8 +24,8 @@ returns-then-are_only-clause-single g c =
     let each : list_all (λ f. f.is_only) files ≡ true = ap (λ (xs : List FoundFile). list_all (λ f. f.is_only) xs) (sym c.deref.ensures.value) ∙ sym c.if-are_only.ensures.value in
     subst (StandAlone here) c.in_ok-files.ensures.value (alone_if here files c.in_ok-files.ensures.alone each)
 
-pub returns-clause-refused : goal.returns-clause-refused
-returns-clause-refused g c = (
+pub returns-else-are_only-clause-refused : goal.returns-else-are_only-clause-refused
+returns-else-are_only-clause-refused g c = (
   c.args.queue,
   λ single.
       (let here = paths_of (map string_bytes c.args.folders.now) c.args.queue (g.F.FileSystem.directory c.args.file_system.now) in

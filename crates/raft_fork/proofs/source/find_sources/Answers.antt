@@ -6,6 +6,11 @@ use Rattle.raft_pipes.specs.Numbered.{AreSingle}
 use Rattle.raft_fork.proofs.RefusedLemmas.{later_source, single_both}
 use Rattle.raft_fork.proofs.source.find_sources.Goals as goal
 
+pub returns-in_err-add_queue-clause-refused : goal.returns-in_err-add_queue-clause-refused
+returns-in_err-add_queue-clause-refused g c =
+    let p = err_from_is_err_and c.from_residual.result c.from_residual.ensures.1 in
+    rw (p.1, p.2) c.in_err-add_queue.ensures.refused
+
 pub returns-in_err-add_queue-2-clause-refused : goal.returns-in_err-add_queue-2-clause-refused
 returns-in_err-add_queue-2-clause-refused g c =
     let f = g.F.FileSystem in
