@@ -57,7 +57,7 @@ pub fn trial(
     })
 }
 
-/// A folder alone hasn't the path of a log file: of it all that is said of a trial is true.
+/// A folder alone hasn't the path of a log file or of a reserved one: of it all that is said of a trial is true.
 pub fn a_folder_alone_has_no_log_path()
     ensures one { (folders : Folders) → folders.spill ≡ None → HaveNoLogPath folders }
 {}

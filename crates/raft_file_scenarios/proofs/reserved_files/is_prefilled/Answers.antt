@@ -1,0 +1,9 @@
+use denote.Param.Send.{sendable}
+use Rattle.raft_memory.proofs.Sent.{memory_send, memory_sync}
+use Rattle.raft_file_scenarios.proofs.reserved_files.is_prefilled.Goals as goal
+
+pub find_reserved-requires-send-F : goal.find_reserved-requires-send-F
+find_reserved-requires-send-F c = λ κs. search (sendable, memory_send) depth 20
+
+pub find_reserved-requires-sync-F : goal.find_reserved-requires-sync-F
+find_reserved-requires-sync-F c = λ κs. search (sendable, memory_send, memory_sync) depth 20
