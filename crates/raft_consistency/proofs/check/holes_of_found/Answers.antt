@@ -12,9 +12,9 @@ pub returns-in-Ok-clause-value : goal.returns-in-Ok-clause-value
 returns-in-Ok-clause-value g c =
     let b = c.args.builder.now in
     let n = g.F.FileSystem.directory b.file_system in
-    let read = c.in_ok-recover_in_order.ensures.read c.requires.scanned in
-    let appended = c.in_ok-recover_in_order.appended in
-    let rewritten = c.in_ok-recover_in_order.rewritten in
+    let read = c.in_ok-appended.ensures.read c.requires.scanned in
+    let appended = c.in_ok-appended.appended in
+    let rewritten = c.in_ok-appended.rewritten in
     let a = found_holes Append b.folders n appended (c.requires.single Append) (read.stand Append) in
     let r = found_holes Rewrite b.folders n rewritten (c.requires.single Rewrite) (read.stand Rewrite) in
     holes_same (λ group. option_or (hole_in rewritten group) (hole_in appended group)) (log_holes b.folders n) c.in-Ok.pairs.items

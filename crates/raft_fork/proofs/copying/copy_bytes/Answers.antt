@@ -4,7 +4,8 @@ use Rattle.raft_env.proofs.MomentsLemmas.{passes_weaker}
 use Rattle.raft_files.specs.Reader.{IsReadTo}
 use Rattle.raft_files.specs.Writer.{bytes_at, bytes_of}
 use Rattle.raft_fork.proofs.FoldersLemmas.{updated_folders}
-use Rattle.raft_fork.proofs.StepsLemmas.{appended, moments_then, others_writing, read_next, read_some}
+use Rattle.raft_pipes.proofs.FileCallsLemmas.{appended, moments_then, others_writing}
+use Rattle.raft_fork.proofs.StepsLemmas.{read_next, read_some}
 use Rattle.raft_fork.proofs.copying.copy_bytes.Goals as goal
 
 pub loop-at-preserved : goal.loop-at-preserved
