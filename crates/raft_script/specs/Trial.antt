@@ -103,10 +103,10 @@ pub record IsTrialOf (config : Config) (ops : List Op) (stop : Option ℕ) (choi
   -- storage may leave of them what the choices say
   pub left : let files = memory_directory last in Leaves files (left_by choices files)
   -- where an engine answered and none failed, choices that leave each file whole, as it is now or as
-  -- it was synced, leave detectable damage
+  -- it was synced, leave detectable damage of queues whose last files were never renamed
   pub detectable : t.failed_at ≡ None → (t.outcomes.items ≡ [] → ⊥) → AreWhole choices
-      → let files = memory_directory last in
-      ∥ AreDetectableIn (folders_in config) files (left_by choices files) ∥₁
+      → let files = memory_directory last in HaveSimplePastIn (folders_in config) files
+      → ∥ AreDetectableIn (folders_in config) files (left_by choices files) ∥₁
   -- the opening found what the choices leave
   pub found : let files = memory_directory last in
       IfOk t.opened (λ image.

@@ -30,7 +30,7 @@ use std::alloc::Global;
 /// no folder has the path of a log file (`HaveNoLogPath`), and the damage of what the crash leaves is detectable, a
 /// tolerant opening fails by storage or for lack of memory alone; any other opening only for these, for what is left of
 /// the log, or where settings contradict one another. The damage is detectable where an engine answered and didn't fail,
-/// and the choices leave each file whole, as it is at the crash or as it was synced.
+/// the last log files were never renamed, and the choices leave each file whole, as it is at the crash or as it was synced.
 pub fn trial(
     alloc: Global,
     config: Config,
