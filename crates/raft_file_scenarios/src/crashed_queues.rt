@@ -10,9 +10,7 @@ use raft_env::{FileSystem, IoKind};
 use raft_memory::{Choice, MemoryFileSystem};
 use raft_pipes::{AppendFault, ReplayMachine, RotationFault};
 use raft_queues::{DualPipes, DualPipesBuilder};
-use raft_records::{
-    Fault, FileId, Fresh, KeyValue, LogBatch, LogItem, LogItemContent, LogQueue,
-};
+use raft_records::{Fault, FileId, Fresh, KeyValue, LogBatch, LogItem, LogItemContent, LogQueue};
 use raft_workers::DefaultMachineFactory;
 use std::alloc::Global;
 use std::test::Fail;

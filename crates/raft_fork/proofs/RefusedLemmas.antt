@@ -10,14 +10,13 @@ use Rattle.raft_base.specs.declared.pipe_log.LogQueue.{LogQueue}
 use Rattle.raft_base.specs.declared.pipe_log.LogQueue.TheVariants.{Append, Rewrite}
 use Rattle.raft_env.specs.Directory.{Directory, HasFile, Path, file_at}
 use Rattle.raft_env.specs.Refusal.{IsRefusal, NoFewer, Refusals}
-use Rattle.raft_config.specs.Folders.{Folders, all_of, folders_in}
+use Rattle.raft_config.specs.Folders.{folders_in}
 use Rattle.raft_config.specs.declared.config.Config.{Config}
 use Rattle.raft_pipes.specs.FileList.{IsListRefusal}
 use Rattle.raft_pipes.specs.Numbered.{AreSingle, end_of_numbers, in_queue, kept_files, path_of, paths_of}
-use Rattle.raft_pipes.specs.Queue.{IsFindRefusalIn, LeavesAll}
+use Rattle.raft_pipes.specs.Queue.{LeavesAll}
 use Rattle.raft_pipes.proofs.KeptLemmas.{IsKept, kept_all}
 use Rattle.raft_pipes.proofs.NamesInLemmas.{has_cases, has_later}
-use Rattle.raft_pipes.proofs.NumberedLemmas.{kept-numbered}
 use Rattle.raft_pipes.proofs.PlacesLemmas.{here_first, none_stands, one_of}
 use Rattle.raft_pipes.proofs.QueueFilesLemmas.{no_file}
 use Rattle.raft_pipes.proofs.SingleLemmas.{single_numbered}
@@ -42,13 +41,6 @@ none_kept folder queue n empty seq short =
     by_place : (first : ℕ) → AreNumbered (paths_of (folder ∷ []) queue n) first [] → (first ≤ seq) ⊎ (seq < first) → paths_of (folder ∷ []) queue n seq ≡ []
     by_place first are (inl low) = are.above seq (omega (arith, low)) short
     by_place first are (inr high) = are.none refl seq high
-
--- none is kept where no folder is
-pub none_without : (queue : LogQueue) (n : Directory) → kept_files [] queue n ≡ []
-none_without queue n = kept-numbered (paths_of [] queue n) 0 [] (record { run = tt; hole = λ k is. refl; above = λ k low high. refl; none = λ is k low. refl; fits = omega arith })
-
-pub single_without : (queue : LogQueue) (n : Directory) → AreSingle [] queue n
-single_without queue n = subst (StandAlone (paths_of [] queue n)) (sym (none_without queue n)) tt
 
 pub single_both : (there : List Path) (n : Directory) → AreSingle there Append n → AreSingle there Rewrite n → (queue : LogQueue) → AreSingle there queue n
 single_both there n append rewrite Append = append
@@ -91,11 +83,19 @@ later_target target n m old mid new (fault.Io kind text) same fewer refused = (o
 later_target target n m old mid new _ same fewer refused = refused
 
 -- refusals of the source
-pub source_refused : (queue : LogQueue) (folders : Folders) (n : Directory) (old mid new : Refusals) (e : Fault) → NoFewer old mid → IsFindRefusalIn queue folders n mid new e → IsSourceRefusal (all_of folders) n old new e
-source_refused queue folders n old mid new (fault.InvalidArgument text) fewer refused = (queue, refused)
-source_refused queue folders n old mid new (fault.Io kind text) fewer (rose, inl (folder, among, names)) = (omega (arith, fewer.0, rose), (folder, (folder, among, inl refl), names))
-source_refused queue folders n old mid new (fault.Io kind text) fewer (rose, inr (path, (folder, among, log), names)) = (omega (arith, fewer.0, rose), (path, (folder, among, inr log), names))
-source_refused queue folders n old mid new _ fewer refused = refused
+pub listed_source : (there : List Path) (n : Directory) (old new : Refusals) (e : Fault) → IsListRefusal there old new e → IsSourceRefusal there n old new e
+listed_source there n old new e (inl is) = subst (IsSourceRefusal there n old new) (sym is) tt
+listed_source there n old new e (inr (folder, among, refused)) = by_fault e refused
+  where
+    by_fault : (e : Fault) → IsRefusal folder old new e → IsSourceRefusal there n old new e
+    by_fault (fault.InvalidArgument text) refused = absurd refused
+    by_fault (fault.Io kind text) refused = (refused.0, (folder, (folder, among, inl refl), refused.1))
+    by_fault _ refused = refused
+
+pub later_source : (there : List Path) (n : Directory) (old mid new : Refusals) (e : Fault) → NoFewer old mid → IsSourceRefusal there n mid new e → IsSourceRefusal there n old new e
+later_source there n old mid new (fault.InvalidArgument text) fewer refused = refused
+later_source there n old mid new (fault.Io kind text) fewer refused = (omega (arith, fewer.0, refused.0), refused.1)
+later_source there n old mid new _ fewer refused = refused
 
 -- a source file is in one of the folders, and its copy in the target
 module _ (target : Path) (there : List Path) (n : Directory) (path : Path) where

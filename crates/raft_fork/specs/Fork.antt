@@ -1,5 +1,5 @@
 -- What a fork of log files is.
-use Rattle.std.specs.Prelude.{◌≡◌, ◌⊎◌, ◌++◌, ◌||◌, true, Contains, List, [], Option, Some, None, map, take}
+use Rattle.std.specs.Prelude.{◌≡◌, ◌⊎◌, ◌++◌, ◌||◌, true, Contains, List, [], None, map, take}
 use Rattle.std.specs.List.{AllByRecursion, filter}
 use Rattle.std.specs.String.{string_bytes}
 use Rattle.raft_base.specs.declared.pipe_log.FileId.{FileId}
@@ -25,11 +25,6 @@ source_of f = (f.id, string_bytes f.path)
 -- those of the folders that are there
 abbrev pub standing : Folders → Directory → List Path
 standing folders n = filter n.is_folder (all_of folders)
-
--- each of the folders, if there are any
-abbrev pub all_there : Option Folders → List Path
-all_there None = []
-all_there (Some folders) = all_of folders
 
 -- the files of a queue that an opening of these folders keeps, by number
 abbrev pub sources_in : LogQueue → List Path → Directory → List Source

@@ -31,7 +31,7 @@ use Rattle.raft_pipes.specs.Folder.{AreClear, HasFileFor, HasNoLog, readable_of,
 use Rattle.raft_script.specs.Durability.{LeavesAllowedAfter, Progress, progress_after_all, progress_from}
 use Rattle.raft_pipes.proofs.FolderQueueLemmas.{log_files-no_log}
 use Rattle.raft_pipes.proofs.TakenLemmas.{one_free}
-use Rattle.raft_pipes.specs.Queue.{IsOpenRefusalOf}
+use Rattle.raft_pipes.specs.Queue.{IsOpenRefusalOf, IsRefusalIn}
 use Rattle.raft_held.specs.Queues.{AreOpenableIn, AreSingleIn, HaveDamageIn, HaveLeftDamage, IsOpeningRefusal, ReadCompletedRecordsIn}
 use Rattle.raft_log_engine.proofs.CrashLemmas.{clear_restarted, same_groups, same_queues, single_restarted}
 use Rattle.raft_log_engine.proofs.OpeningLemmas.{undamaged}
@@ -143,6 +143,12 @@ refused_inside mode folders n old new e (queue, refused) clear single = by_fault
     by_fault _ refused = absurd refused
 
 -- an opening of files that a crash left sound
+-- what a read of an engine's image fails as
+pub read_fails : (folders : Folders) (old new : Refusals) (e : Fault) → IsRefusalIn folders old new e → IsStorageOrMemory e
+read_fails folders old new (fault.Io kind text) refused = tt
+read_fails folders old new fault.Memory refused = tt
+read_fails folders old new _ refused = absurd refused
+
 pub opened_outside : (mode again : RecoveryMode) (folders dir : Folders) (m : Directory) (opened : Result Image Fault) → again ≡ mode → dir ≡ folders → AreOpenableIn mode folders m → AreClear folders m → AreSingleIn folders m
     → IfErr opened (λ e. AreOpenableIn again dir m → AreClear dir m → AreSingleIn dir m → IsStorageOrMemory e) → IfErr opened IsStorageOrMemory
 opened_outside mode again folders dir m opened mode_is dir_is opens clear single refused =

@@ -14,7 +14,7 @@ use Rattle.raft_log_engine.specs.Image.{IsImageOf}
 use Rattle.raft_script.specs.Durability.{LeavesAllowedAfter}
 use Rattle.raft_held.specs.Queues.{AreDetectableIn, AreSingleIn, HaveDamageIn, HaveLeftDamage, HaveSimplePastIn}
 use Rattle.raft_script.specs.Run.{AreAnswers, IsFailurePlace, IsStorageOrMemory}
-use Rattle.raft_pipes.specs.Folder.{AreClear, IsLogPath}
+use Rattle.raft_pipes.specs.Folder.{AreClear, IsLogPath, IsReservedPath}
 use Rattle.raft_config.specs.Folders.{Folders, all_of, folders_in}
 use Rattle.raft_config.specs.Sanitized.{IsContradiction, contradiction}
 use Rattle.raft_config.specs.declared.config.Config.{Config}
@@ -51,10 +51,10 @@ pub record RunsOver (folders : Folders) (m : Contents) (known : ℕ → Bool) (o
   pub clear : AreClear folders files
   pub single : AreSingleIn folders files
 
--- no folder has the path of a log file, as one can have that stands in the other
+-- no folder has the path of a log file or of a reserved one, as one can have that stands in the other
 abbrev pub HaveNoLogPath : Folders → Type 0
-HaveNoLogPath folders =
-    (folder : Path) → Contains (all_of folders) folder → IsLogPath folders folder → ⊥
+HaveNoLogPath folders = (folder : Path) → Contains (all_of folders) folder
+    → IsLogPath folders folder ⊎ IsReservedPath folders folder → ⊥
 
 -- operations over files in memory that were empty, with this stop for the calls from the first
 -- opening on: the files once they are done
@@ -66,7 +66,7 @@ pub record RunsFromEmpty (folders : Folders) (ops : List Op) (stop : Option ℕ)
   -- the moments there were by then follow those of the first files
   pub added : List Directory
   pub later : memory_moments last ≡ added ++ memory_moments first
-  -- said of folders of which none has the path of a log file
+  -- said of folders of which none has such a path
   pub ran : HaveNoLogPath folders
       → RunsOver folders no_contents (known_in []) ops outcomes failed_at (memory_directory last)
 
@@ -103,10 +103,10 @@ pub record IsTrialOf (config : Config) (ops : List Op) (stop : Option ℕ) (choi
   -- storage may leave of them what the choices say
   pub left : let files = memory_directory last in Leaves files (left_by choices files)
   -- where an engine answered and none failed, choices that leave each file whole, as it is now or as
-  -- it was synced, leave detectable damage
+  -- it was synced, leave detectable damage of queues whose last files were never renamed
   pub detectable : t.failed_at ≡ None → (t.outcomes.items ≡ [] → ⊥) → AreWhole choices
-      → let files = memory_directory last in
-      ∥ AreDetectableIn (folders_in config) files (left_by choices files) ∥₁
+      → let files = memory_directory last in HaveSimplePastIn (folders_in config) files
+      → ∥ AreDetectableIn (folders_in config) files (left_by choices files) ∥₁
   -- the opening found what the choices leave
   pub found : let files = memory_directory last in
       IfOk t.opened (λ image.

@@ -30,7 +30,7 @@ use std::alloc::Global;
 /// no folder has the path of a log file (`HaveNoLogPath`), and the damage of what the crash leaves is detectable, a
 /// tolerant opening fails by storage or for lack of memory alone; any other opening only for these, for what is left of
 /// the log, or where settings contradict one another. The damage is detectable where an engine answered and didn't fail,
-/// and the choices leave each file whole, as it is at the crash or as it was synced.
+/// the last log files were never renamed, and the choices leave each file whole, as it is at the crash or as it was synced.
 pub fn trial(
     alloc: Global,
     config: Config,
@@ -57,7 +57,7 @@ pub fn trial(
     })
 }
 
-/// A folder alone hasn't the path of a log file: of it all that is said of a trial is true.
+/// A folder alone hasn't the path of a log file or of a reserved one: of it all that is said of a trial is true.
 pub fn a_folder_alone_has_no_log_path()
     ensures one { (folders : Folders) → folders.spill ≡ None → HaveNoLogPath folders }
 {}

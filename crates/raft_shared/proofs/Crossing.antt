@@ -171,7 +171,7 @@ module _ (F H R W : RattleType) (g : Ghosts F.Denot H.Denot R.Denot W.Denot) whe
   writer_send w = view_send (writer.TheInside.the_row F H R W g) _ _ _ _ (search (sendable, items.crosses) depth 20)
 
   pipe_parts : IsSend W → AllSend (shape (pipe.TheInside.the_type F H R W g)).fields
-  pipe_parts w = (search (sendable, items.crosses, maps.crosses) depth 20, (folders_field_send, (search (sendable, items.crosses, maps.crosses) depth 20, (search (sendable, items.crosses, maps.crosses) depth 20, (search (sendable, items.crosses, maps.crosses) depth 20, (search (sendable, items.crosses, maps.crosses) depth 20, (search (sendable, items.crosses, maps.crosses) depth 20, (search (sendable, items.crosses, maps.crosses) depth 20, (writer_send w, tt)))))))))
+  pipe_parts w = (search (sendable, items.crosses, maps.crosses) depth 20, (folders_field_send, (search (sendable, items.crosses, maps.crosses) depth 20, (search (sendable, items.crosses, maps.crosses) depth 20, (search (sendable, items.crosses, maps.crosses) depth 20, (search (sendable, items.crosses, maps.crosses) depth 20, (search (sendable, items.crosses, maps.crosses) depth 20, (search (sendable, items.crosses, maps.crosses) depth 20, (writer_send w, (search (sendable, items.crosses, maps.crosses) depth 20, (search sendable, (search sendable, tt))))))))))))
 
   pipe_send : IsSend W → IsSend (pipe.the_row F H R W g)
   pipe_send w = view_send (pipe.TheInside.the_row F H R W g) _ _ _ _ (recorded_send _ _ _ (pipe.TheInside.the_type F H R W g).to_one (struct_send (shape (pipe.TheInside.the_type F H R W g)) (pipe_parts w)))

@@ -1,6 +1,8 @@
 //! Two workers that wait for one another.
 
-use crate::stored::{scanned, stored};
+use crate::stored::{scanned, store_both};
+use raft_env::FileSystem;
+use raft_memory::MemoryFileSystem;
 use raft_pipes::ReplayMachine;
 use raft_records::{Factory, Fault, FileId, LogItem, LogQueue};
 use raft_workers::MergingMachine;
@@ -9,6 +11,7 @@ use std::sync::Arc;
 use std::sync::atomic::{AtomicU64, Ordering};
 use std::test::Fail;
 use std::thread;
+use std::thread::Threads;
 
 /// How often a machine looks for the other one.
 const TURNS: u64 = 10_000_000;
@@ -56,14 +59,26 @@ impl Factory<Meeting> for Meetings {
     }
 }
 
-#[test]
-fn two_workers_meet(rt: HostRuntime) -> Result<(), Fail> {
-    let alloc = rt.alloc();
+/// Whether the machines of two Append files meet.
+fn meet<R: Threads + Sync, F: FileSystem + Drop>(
+    rt: &R,
+    alloc: Global,
+    fs: F,
+) -> Result<bool, Fault> {
     let factory = Meetings {
         begun: Arc::new(alloc, AtomicU64::new(0))?,
     };
-    let mut builder = scanned(alloc, stored(alloc, 2, 0)?, 2)?;
-    let met: Result<(Meeting, Meeting), Fault> = builder.recover(&rt, &factory);
-    assert!(rt; met.is_ok(), "each machine met the other one");
+    let mut fs = fs;
+    store_both(alloc, &mut fs, 2, 0)?;
+    let mut builder = scanned(alloc, fs, 2)?;
+    let met: Result<(Meeting, Meeting), Fault> = builder.recover(rt, &factory);
+    Ok(met.is_ok())
+}
+
+#[test]
+fn two_workers_meet(rt: HostRuntime) -> Result<(), Fail> {
+    let alloc = rt.alloc();
+    let met = meet(&rt, alloc, MemoryFileSystem::new(alloc))?;
+    assert!(rt; met, "each machine met the other one");
     Ok(())
 }

@@ -1,10 +1,9 @@
 //! Both queues, read by so many workers.
 
-use crate::stored::{scanned, stored};
-use raft_env::IoKind;
+use crate::stored::{scanned, store_both};
+use raft_env::{FileSystem, IoKind};
 use raft_memory::{FsCall, MemoryFileSystem};
 use raft_pipes::ReplayMachine;
-use raft_queues::DualPipesBuilder;
 use raft_records::{Fault, FileId, Fresh, KeyValue, LogItem, LogItemContent, LogQueue};
 use raft_workers::{DefaultMachineFactory, MergingMachine};
 use std::alloc::Global;
@@ -91,19 +90,24 @@ fn are_all(keys: &Keys, files: u8) -> bool {
 }
 
 /// Whether so many workers find all keys, and all files are to be cut.
-fn finds_all<R: Threads + Sync>(
+fn finds_all<R: Threads + Sync, F: FileSystem + Drop>(
     rt: &R,
     alloc: Global,
+    fs: F,
     case: &Case,
     threads: usize,
 ) -> Result<bool, Fault> {
-    let mut builder = scanned(alloc, stored(alloc, case.append, case.rewrite)?, threads)?;
-    let (appended, rewritten) = builder.recover(rt, &DefaultMachineFactory::new(alloc))?;
+    let mut fs = fs;
+    store_both(alloc, &mut fs, case.append, case.rewrite)?;
+    let mut builder = scanned(alloc, fs, threads)?;
+    let (appended, rewritten): (Keys, Keys) = builder.recover(
+        rt,
+        &DefaultMachineFactory::new(alloc),
+    )?;
     let files = usize::from(case.append) + usize::from(case.rewrite);
-    let all: (Keys, Keys) = (appended, rewritten);
     Ok(
-        are_all(&all.0, case.append)
-            && are_all(&all.1, case.rewrite)
+        are_all(&appended, case.append)
+            && are_all(&rewritten, case.rewrite)
             && builder.cuts().len() == files,
     )
 }
@@ -113,7 +117,13 @@ fn each_number_of_workers_finds_the_same(rt: HostRuntime) -> Result<(), Fail> {
     for case in &CASES {
         for threads in THREADS {
             assert!(rt;
-                finds_all(&rt, rt.alloc(), case, threads)?,
+                finds_all(
+                    &rt,
+                    rt.alloc(),
+                    MemoryFileSystem::new(rt.alloc()),
+                    case,
+                    threads
+                )?,
                 "{} and {} files, {threads} threads",
                 case.append,
                 case.rewrite
@@ -123,18 +133,19 @@ fn each_number_of_workers_finds_the_same(rt: HostRuntime) -> Result<(), Fail> {
     Ok(())
 }
 
-/// With the nth call of a sort refused: whether the reading fails as `Io`, and cuts nothing.
-fn is_refused<R: Threads + Sync>(
+/// Whether reading both queues fails as `Io`, cuts nothing, and leaves the opening unfinished.
+fn fails<R: Threads + Sync, F: FileSystem + Drop>(
     rt: &R,
     alloc: Global,
-    call: FsCall,
-    nth: u64,
+    fs: F,
     threads: usize,
 ) -> Result<bool, Fault> {
-    let mut fs = stored(alloc, 3, 2)?;
-    fs.refuse(call, nth, IoKind::Other)?;
     let mut builder = scanned(alloc, fs, threads)?;
-    let refused = fails(rt, alloc, &mut builder);
+    let read: Result<(Keys, Keys), Fault> = builder.recover(rt, &DefaultMachineFactory::new(alloc));
+    let refused = match read {
+        Ok(_keys) => 0,
+        Err(fault) => fault.code(),
+    };
     let cuts = builder.cuts().len();
     let finished = match builder.finish() {
         Ok((_pipes, _fs)) => 0,
@@ -143,16 +154,18 @@ fn is_refused<R: Threads + Sync>(
     Ok(refused == 3 && cuts == 0 && finished == 15)
 }
 
-fn fails<R: Threads + Sync>(
+/// The same with the nth call of a sort refused.
+fn is_refused<R: Threads + Sync>(
     rt: &R,
     alloc: Global,
-    builder: &mut DualPipesBuilder<MemoryFileSystem>,
-) -> u8 {
-    let read: Result<(Keys, Keys), Fault> = builder.recover(rt, &DefaultMachineFactory::new(alloc));
-    match read {
-        Ok(_keys) => 0,
-        Err(fault) => fault.code(),
-    }
+    call: FsCall,
+    nth: u64,
+    threads: usize,
+) -> Result<bool, Fault> {
+    let mut fs = MemoryFileSystem::new(alloc);
+    store_both(alloc, &mut fs, 3, 2)?;
+    fs.refuse(call, nth, IoKind::Other)?;
+    fails(rt, alloc, fs, threads)
 }
 
 #[test]

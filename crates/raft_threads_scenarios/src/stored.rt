@@ -1,9 +1,8 @@
 //! Log files that the tests of workers read.
 
-use raft_config::Config;
+use raft_config::{Config, RecoveryMode};
 use raft_env::{FileSystem, FsFault};
 use raft_files::FileNameExt;
-use raft_memory::MemoryFileSystem;
 use raft_queues::DualPipesBuilder;
 use raft_records::{Fault, FileId, Fresh, LogBatch, LogFileContext, LogQueue, Version};
 use std::alloc::Global;
@@ -42,32 +41,37 @@ fn store<F: FileSystem>(alloc: Global, fs: &mut F, queue: LogQueue, key: u8) -> 
     }
 }
 
-/// So many files of each queue, the nth of which puts the key n, and ends in bytes that can't be
-/// read.
-pub(crate) fn stored(alloc: Global, append: u8, rewrite: u8) -> Result<MemoryFileSystem, Fault> {
-    let mut fs = MemoryFileSystem::new(alloc);
+/// Stores so many files of each queue, the nth of which puts the key n, and ends in bytes that
+/// can't be read.
+pub(crate) fn store_both<F: FileSystem>(
+    alloc: Global,
+    fs: &mut F,
+    append: u8,
+    rewrite: u8,
+) -> Result<(), Fault> {
     match fs.make_dir(FOLDER) {
         Ok(()) => {}
         Err(fault) => return Err(fault.with_path(alloc, FOLDER)),
     }
     for key in 1..append.saturating_add(1) {
-        store(alloc, &mut fs, LogQueue::Append, key)?;
+        store(alloc, fs, LogQueue::Append, key)?;
     }
     for key in 1..rewrite.saturating_add(1) {
-        store(alloc, &mut fs, LogQueue::Rewrite, key)?;
+        store(alloc, fs, LogQueue::Rewrite, key)?;
     }
-    Ok(fs)
+    Ok(())
 }
 
-/// An opening of both queues that has found their files, for so many threads.
-pub(crate) fn scanned(
+/// An opening of both queues that has found their files, for so many threads, and tolerates all
+/// damage.
+pub(crate) fn scanned<F: FileSystem + Drop>(
     alloc: Global,
-    fs: MemoryFileSystem,
+    fs: F,
     threads: usize,
-) -> Result<DualPipesBuilder<MemoryFileSystem>, Fault> {
+) -> Result<DualPipesBuilder<F>, Fault> {
     let mut config = Config::fresh(alloc);
     config.dir.push_str(FOLDER)?;
-    config.recovery_mode = raft_config::RecoveryMode::TolerateAnyCorruption;
+    config.recovery_mode = RecoveryMode::TolerateAnyCorruption;
     config.recovery_threads = threads;
     let mut builder = match DualPipesBuilder::new(alloc, &config, fs) {
         Ok(builder) => builder,

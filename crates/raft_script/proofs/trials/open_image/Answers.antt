@@ -1,8 +1,22 @@
-use Rattle.std.proofs.Common.{inl, inr}
+use Rattle.std.proofs.Common.{inl, inr, subst}
+use Rattle.std.proofs.lemmas.Result.{IfErr-weaker, IfOk-weaker}
+use Rattle.raft_log_engine.specs.Engine.{folders_of, refusals_of}
+use Rattle.raft_log_engine.specs.Image.{IsImageOf}
 use Rattle.raft_config.proofs.ConfigLemmas.{no_contradiction}
-use Rattle.raft_script.proofs.TrialLemmas.{refused_inside, refused_outside}
+use Rattle.raft_script.proofs.TrialLemmas.{read_fails, refused_inside, refused_outside}
 use Rattle.raft_config.specs.Folders.{folders_in}
 use Rattle.raft_script.proofs.trials.open_image.Goals as goal
+
+pub returns-in-Ok-clause-value : goal.returns-in-Ok-clause-value
+returns-in-Ok-clause-value g c = IfOk-weaker c.image.result _ _ (λ image is. subst (IsImageOf image.groups.items) c.in-Ok.ensures.opened.contents is) c.image.ensures.value
+
+pub returns-in-Ok-clause-refused : goal.returns-in-Ok-clause-refused
+returns-in-Ok-clause-refused g c = λ fine. IfErr-weaker c.image.result _ _
+    (λ e fails openable clear single. read_fails (folders_of c.in-Ok.engine) (refusals_of c.in-Ok.engine) (refusals_of c.image.new.self) e (fails c.in-Ok.ensures.opened.ok.stands)) c.image.ensures.cause
+
+pub returns-in-Ok-clause-cause : goal.returns-in-Ok-clause-cause
+returns-in-Ok-clause-cause g c = IfErr-weaker c.image.result _ _
+    (λ e fails clear single. inr (inl (read_fails (folders_of c.in-Ok.engine) (refusals_of c.in-Ok.engine) (refusals_of c.image.new.self) e (fails c.in-Ok.ensures.opened.ok.stands)))) c.image.ensures.cause
 
 pub returns-in-Err-clause-refused : goal.returns-in-Err-clause-refused
 returns-in-Err-clause-refused g c =

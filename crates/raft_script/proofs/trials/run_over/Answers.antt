@@ -1,4 +1,5 @@
 use Rattle.std.proofs.Common.{◌≡◌, ◌∷◌, ◌||◌, ℕ, Option, false, is_some, List, ◌++◌, ap, append_assoc, ◌∙◌, Bool, [], inl, inr, refl, sym, subst}
+use Rattle.std.proofs.lemmas.Result.{err_from_is_err_and}
 use Rattle.raft_records.specs.Contents.{Contents}
 use Rattle.raft_records.specs.Item.{Batch}
 use Rattle.raft_env.specs.Directory.{Directory}
@@ -90,3 +91,8 @@ returns-in_ok-ran-in-Ok-clause-any_moment g c =
 
 pub returns-in-Err-clause-any_moment : goal.returns-in-Err-clause-any_moment
 returns-in-Err-clause-any_moment g c = (c.in-Err.ensures.opened.any_moment.added, c.in-Err.ensures.opened.any_moment.is)
+
+pub returns-in_err-ran-in-Ok-clause-cause : goal.returns-in_err-ran-in-Ok-clause-cause
+returns-in_err-ran-in-Ok-clause-cause g c =
+    let p = err_from_is_err_and c.from_residual.result c.from_residual.ensures.1 in
+    rw (p.1, p.2) c.in_err-ran-in-Ok.ensures.cause

@@ -50,8 +50,7 @@ returns-clause-value c =
       last = c.in_ok-ran.files;
       runs = record { first = c.new_files.result; stop_is = search rules; none = none; added = c.in_ok-ran.ensures.any_moment.0; later = c.in_ok-ran.ensures.any_moment.1; ran = shown };
       left = leaves;
-      detectable = λ none some whole. c.in_ok-ran.ensures.crash (none_done dir before (λ absent queue. (c.a_queue_recovers_its_batches.ensures.none queue dir before absent).0) c.new_files.ensures.files) none some
-          (λ queue f last file stands. record { only_writes = c.in_ok-left.ensures.only_writes f.1 file stands })
+      detectable = λ none some whole past. c.in_ok-ran.ensures.crash (none_done dir before (λ absent queue. (c.a_queue_recovers_its_batches.ensures.none queue dir before absent).0) c.new_files.ensures.files) none some past
           c.in_ok-left.ensures.consistent c.args.choices.now whole;
       found = image_restarted (folders_in again) dir files m left c.open_image.result same (c.crash_leaves_contents.ensures.found dir files m left restarted) c.open_image.ensures.value;
       refused = λ free detectable tolerant fine.
