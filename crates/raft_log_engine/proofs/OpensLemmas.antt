@@ -19,32 +19,26 @@ use Rattle.raft_pipes.specs.Folder.{LeavesAllButOpened}
 use Rattle.raft_pipes.specs.Queue.{IsUntouched}
 use Rattle.raft_queues.specs.Builder.{CanBeOpenedIn}
 use Rattle.raft_log_engine.specs.Engine.{directory_of, moments_of}
-use Rattle.raft_log_engine.specs.Opening.{Opens, OpensWith}
+use Rattle.raft_log_engine.specs.Opening.{AnswersOpening, Opens, OpensWith}
 use Rattle.raft_log_engine.specs.declared.engine.Engine.{Engine}
 use Rattle.raft_log_engine.specs.declared.engine.Refused.{Refused}
 
 module _ {F H R W : Type 0} {g : Ghosts F H R W} where
-  -- why an opening with settings as they are used was refused, and how it can be opened
-  IsRefusedWith : Config → F → Result (Engine F H R W g) (Refused F) → Type 0
-  IsRefusedWith config found result =
-      MatchResult result (λ e. CanBeOpenedIn config.recovery_mode (folders_in config) (g.directory found))
-      (λ r. IsOpeningRefusal config.recovery_mode (folders_in config) (g.directory found) (g.refusals_of found) (g.refusals_of r.file_system) r.fault)
-
   -- settings that don't contradict one another are used as sanitizing leaves them
-  pub opens_sanitized : (config used : Config) (found : F) (result : Result (Engine F H R W g) (Refused F)) → contradiction config ≡ None → used ≡ sanitized config → OpensWith used found result → IsRefusedWith used found result → Opens config found result
+  pub opens_sanitized : (config used : Config) (found : F) (result : Result (Engine F H R W g) (Refused F)) → contradiction config ≡ None → used ≡ sanitized config → OpensWith used found result → AnswersOpening used found result → Opens config found result
   opens_sanitized config used found result clean is opened refused = record {
     opened = subst (λ (x : Config). OpensWith x found result) is opened;
-    refused = by_result result (subst (λ (x : Config). IsRefusedWith x found result) is refused);
+    refused = by_result result (subst (λ (x : Config). AnswersOpening x found result) is refused);
   }
     where
-      by_result : (result : Result (Engine F H R W g) (Refused F)) → IsRefusedWith (sanitized config) found result
+      by_result : (result : Result (Engine F H R W g) (Refused F)) → AnswersOpening (sanitized config) found result
           → MatchResult result (λ e. (contradiction config ≡ None) × CanBeOpenedIn config.recovery_mode (folders_in config) (g.directory found))
           (λ r. IsContradiction config r.fault ⊎ IsOpeningRefusal config.recovery_mode (folders_in config) (g.directory found) (g.refusals_of found) (g.refusals_of r.file_system) r.fault)
       by_result (Ok e) can = (clean, can)
       by_result (Err r) why = inr why
 
   -- where they do, nothing is opened
-  pub opens_contradictory : (config : Config) (found : F) (why : Fault) → IsContradiction config why → Opens {F} {H} {R} {W} {g} config found (Err (record { fault = why; file_system = found }))
+  pub opens_contradictory : (config : Config) (found : F) (why : Fault) → IsContradiction config why → Opens {g = g} config found (Err (record { fault = why; file_system = found }))
   opens_contradictory config found why against = record {
     opened = record {
       contents = tt;
@@ -63,7 +57,7 @@ module _ {F H R W : Type 0} {g : Ghosts F H R W} where
 
   -- an opened engine that is given up for lack of memory
   pub opens_given_up : (config : Config) (found : F) (e : Engine F H R W g) (files : F) (why : Fault) → why ≡ fault.Memory → g.directory files ≡ directory_of e → g.moments files ≡ moments_of e → Opens config found (Ok e)
-      → Opens {F} {H} {R} {W} {g} config found (Err (record { fault = why; file_system = files }))
+      → Opens {g = g} config found (Err (record { fault = why; file_system = files }))
   opens_given_up config found e files why is now moments opens = record {
     opened = record {
       contents = tt;
