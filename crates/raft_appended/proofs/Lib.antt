@@ -1,2 +1,5 @@
 pub mod AppendedLemmas
-pub mod DeletedLemmas
+pub mod CodedLemmas
+pub mod HoleLemmas
+mod JoinedLemmas
+pub mod OverLemmas

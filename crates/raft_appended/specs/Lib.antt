@@ -1,2 +1,2 @@
+pub mod Placed
 pub mod Appended
-pub mod Deleted

@@ -2,10 +2,8 @@
 #![tactic(auto)]
 
 pub mod chunk_list;
-pub mod deleted_keys;
 pub mod own_tables;
 mod replaying;
 
 pub use chunk_list::AppendedChunks;
-pub use deleted_keys::DeletedKeys;
 pub use own_tables::AppendedBatches;

@@ -189,13 +189,13 @@ left_by_reach g i batches = sym (fold_leaves g i (items_of batches) no_reach ∙
 
 -- The reach of changes of one group's entries.
 
-abbrev reach_of : EntryChange → Reach
+abbrev pub reach_of : EntryChange → Reach
 reach_of Stay = no_reach
 reach_of (Place e es) = record { cleaned = false; compacted = 0; starts = Some (record { first = e.0; least = e.0; end = e.0 + length (e ∷ es); has_hole = false }) }
 reach_of Empty = record { cleaned = true; compacted = 0; starts = None }
 reach_of (Cut index) = record { cleaned = false; compacted = index; starts = None }
 
-abbrev reach_all : Reach → List EntryChange → Reach
+abbrev pub reach_all : Reach → List EntryChange → Reach
 reach_all r cs = fold (λ q c. reach_then q (reach_of c)) r cs
 
 all_from : (cs : List EntryChange) (r : Reach) → reach_all r cs ≡ reach_then r (reach_all no_reach cs)
@@ -214,7 +214,7 @@ content_reach (Compact index) = refl
 content_reach (Put key value) = refl
 content_reach (Delete key) = refl
 
-reach_of_items : (g : ℕ) (items : List Item) (r : Reach) → fold (reach_after g) r items ≡ reach_all r (changes_of g items)
+pub reach_of_items : (g : ℕ) (items : List Item) (r : Reach) → fold (reach_after g) r items ≡ reach_all r (changes_of g items)
 reach_of_items g [] r = refl
 reach_of_items g (item ∷ items) r = reach_of_items g items (reach_after g r item) ∙ ap (λ q. reach_all q (changes_of g items)) (go (eqb g item.group))
   where
@@ -223,7 +223,7 @@ reach_of_items g (item ∷ items) r = reach_of_items g items (reach_after g r it
     go false = sym (then_nothing r)
 
 -- where entries stand, the latest brought them to the end that is known of it
-abbrev KnowsEnd : List Entry → ℕ → Reach → Type 0
+abbrev pub KnowsEnd : List Entry → ℕ → Reach → Type 0
 KnowsEnd xs end r = (xs ≡ []) ⊎ ((s : Starts) × (r.starts ≡ Some s) × (s.end ≡ end))
 
 starts_after : (o n : Reach) → n.cleaned ≡ false → (reach_then o n).starts ≡ starts_then o.starts n.starts
@@ -233,7 +233,7 @@ placed_end : (o : Option Starts) (n : Starts) → (s : Starts) × (starts_then o
 placed_end None n = (n, refl, refl)
 placed_end (Some o) n = (_, refl, refl)
 
-knows_after : (xs : List Entry) (end : ℕ) (r : Reach) (c : EntryChange) → KnowsEnd xs end r → KnowsEnd (after_change xs c) (end_after end c) (reach_then r (reach_of c))
+pub knows_after : (xs : List Entry) (end : ℕ) (r : Reach) (c : EntryChange) → KnowsEnd xs end r → KnowsEnd (after_change xs c) (end_after end c) (reach_then r (reach_of c))
 knows_after xs end r Stay knows = subst (KnowsEnd xs end) (sym (then_nothing r)) knows
 knows_after xs end r (Place e es) knows = inr (placed_end r.starts (record { first = e.0; least = e.0; end = e.0 + length (e ∷ es); has_hole = false }))
 knows_after xs end r Empty knows = inl refl

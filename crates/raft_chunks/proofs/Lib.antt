@@ -2,3 +2,4 @@ pub mod ChunkLemmas
 pub mod KnownLemmas
 pub mod NotedLemmas
 pub mod ReachLemmas
+mod OlderLemmas

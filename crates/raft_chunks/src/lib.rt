@@ -5,6 +5,7 @@
 pub mod chunk_reach;
 pub mod group_reaches;
 pub mod laws;
+mod leaving;
 
 pub use chunk_reach::{Reach, Starts};
 pub use group_reaches::Reaches;

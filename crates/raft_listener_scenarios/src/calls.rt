@@ -147,7 +147,7 @@ fn heard_over<F: FileSystem + Drop>(alloc: Global, row: &Heard, files: F) -> Res
     let mut listeners = Listeners::new(alloc, given);
     let mut config = Config::fresh(alloc);
     config.target_file_size = ReadableSize(row.0);
-    let mut engine = Engine::open_with_listeners(alloc, config, files, &mut listeners)?;
+    let mut engine = Engine::open_in_order_with_listeners(alloc, config, files, &mut listeners)?;
     for step in row.2 {
         done(alloc, &mut engine, &mut listeners, *step)?;
     }

@@ -11,7 +11,10 @@ pub mod AdvanceLemmas
 pub mod GroupLemmas
 pub mod GroupRunLemmas
 pub mod OpeningLemmas
+pub mod OpensLemmas
 pub mod RecoveryLemmas
+pub mod ReadingLemmas
+pub mod SettledLemmas
 pub mod PlacedLemmas
 pub mod PurgeFaultLemmas
 pub mod PurgeLemmas

@@ -13,7 +13,6 @@ pub mod Need
 pub mod Opening
 pub mod Purge
 pub mod Recovery
-pub mod Read
 pub mod Write
 pub mod Image
 pub mod Reads

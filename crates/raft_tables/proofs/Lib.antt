@@ -18,5 +18,6 @@ pub mod JoiningLemmas
 pub mod RewrittenLemmas
 pub mod OwedLemmas
 pub mod FirstFileLemmas
+pub mod TakingLemmas
 pub mod WrittenLemmas
 pub mod GroupIdsLemmas

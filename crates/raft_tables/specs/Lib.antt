@@ -19,3 +19,5 @@ pub mod FirstFile
 pub mod FirstFiles
 pub mod MovedEntries
 pub mod Moving
+pub mod Deleting
+pub mod Replayed

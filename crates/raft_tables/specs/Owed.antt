@@ -63,6 +63,14 @@ owed_after id t [] owed = owed
 owed_after id t (item ∷ items) owed =
     owed_after id (tables_after_item id t item) items (owed_after_item t item owed)
 
+-- those of older changes of a group and then of newer ones
+abbrev pub marks_then : Marks → Marks → Marks
+marks_then older newer = if newer.cleaned then newer else record {
+  cleaned = older.cleaned;
+  compacted = newer.compacted || older.compacted;
+  deleted = λ k. newer.deleted k || older.deleted k;
+}
+
 -- a written mark is owed no more
 abbrev pub without_delete : List ℕ → Marks → Marks
 without_delete key m = record m { deleted = λ k. not (bytes_eq k key) && m.deleted k }

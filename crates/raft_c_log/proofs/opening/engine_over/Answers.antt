@@ -7,7 +7,7 @@ returns-in-Ok-open_in_order g c = record {
   value = record {
     settings = c.in_ok-config.config;
     read = subst (λ (text : List ℕ). ReadsAlone text c.in_ok-config.config) c.in-Ok.ensures.cases.0 c.in_ok-config.ensures.value;
-    contents = c.in-Ok-open_in_order.ensures.contents;
-    new = c.in-Ok-open_in_order.ensures.ok;
+    contents = c.in-Ok-open_in_order.ensures.opened.contents;
+    new = c.in-Ok-open_in_order.ensures.opened.ok;
   };
 }

@@ -30,5 +30,5 @@ returns c =
     let same = same_folders config copy c.in_ok-copy.ensures.value in
     let none : (queue : LogQueue) → readable_queue queue dir files ≡ [] = λ queue. none_readable queue dir files c.new.ensures.value in
     let opened = opened_in dir (folders_in config) files no_contents (known_in []) c.open_in_order.result same (same_queues dir files [] [] (none Rewrite) (none Append) ∙ recovered-nothing_rewritten []) (same_groups dir files [] [] (none Rewrite) (none Append))
-    (opened_with dir files c.open_in_order.result c.open_in_order.ensures.ok c.open_in_order.ensures.value) in
+    (opened_with dir files c.open_in_order.result c.open_in_order.ensures.opened.ok c.open_in_order.ensures.opened.value) in
     record { value = opened_or_copy (IsMetBy config None) config copy files no_files c.open_in_order.result c.in_ok-copy.ensures.value c.new.ensures.value (opened_or_refused (IsMetBy config None) _ copy files (memory_refusals c.new.result) memory_refusals c.open_in_order.result opened c.open_in_order.ensures.refused) }

@@ -24,26 +24,26 @@ returns-in_ok-ran-in-Ok-clause-ok g c =
     let files = g.F.FileSystem.directory c.args.files in
     let m = contents_at dir files in
     let e = c.in-Ok.engine in
-    let found : found_of e ≡ m = ap (λ (f : Folders). found_contents f (begun_of e)) c.in-Ok.ensures.ok.folders_are ∙ ap (found_contents dir) c.in-Ok.ensures.value in
-    let groups : found_groups_of e ≡ known_at dir files = ap (λ (f : Folders). found_groups f (begun_of e)) c.in-Ok.ensures.ok.folders_are ∙ ap (found_groups dir) c.in-Ok.ensures.value in
+    let found : found_of e ≡ m = ap (λ (f : Folders). found_contents f (begun_of e)) c.in-Ok.ensures.opened.ok.folders_are ∙ ap (found_contents dir) c.in-Ok.ensures.opened.value in
+    let groups : found_groups_of e ≡ known_at dir files = ap (λ (f : Folders). found_groups f (begun_of e)) c.in-Ok.ensures.opened.ok.folders_are ∙ ap (found_groups dir) c.in-Ok.ensures.opened.value in
     let ops = c.args.ops.now in
     let ran = c.in_ok-ran-in-Ok.ran in
     let outcomes = ran.outcomes.items in
     let run = c.in_ok-ran-in-Ok.ensures in
     let after = opened_after (folders_of e) dir m (durable_of e) (unsynced_of e) ops outcomes ran.failed_at (directory_of c.run_watched.new.engine)
-    c.in-Ok.ensures.ok.folders_are (c.in-Ok.ensures.ok.synced.0 ∙ c.in-Ok.ensures.contents) c.in-Ok.ensures.ok.synced.1 run.ok.now in
+    c.in-Ok.ensures.opened.ok.folders_are (c.in-Ok.ensures.opened.ok.synced.0 ∙ c.in-Ok.ensures.opened.contents) c.in-Ok.ensures.opened.ok.synced.1 run.ok.now in
     λ _. record {
       answered = inl (record {
-        answers = subst (λ (b : Bool). AreAnswers b ran.failed_at m (known_at dir files) [] ops outcomes) c.in-Ok.ensures.ok.stands
+        answers = subst (λ (b : Bool). AreAnswers b ran.failed_at m (known_at dir files) [] ops outcomes) c.in-Ok.ensures.opened.ok.stands
             (subst (λ (x : Contents). AreAnswers (has_failed e) ran.failed_at x (known_at dir files) [] ops outcomes) found
             (subst (λ (k : ℕ → Bool). AreAnswers (has_failed e) ran.failed_at (found_of e) k [] ops outcomes) groups
-            (subst (λ (l : List Batch). AreAnswers (has_failed e) ran.failed_at (found_of e) (found_groups_of e) l ops outcomes) c.in-Ok.ensures.ok.none run.ok.answers)));
-        place = subst (λ (b : Bool). IsFailurePlace b ops outcomes ran.failed_at) c.in-Ok.ensures.ok.stands run.ok.failures.1;
+            (subst (λ (l : List Batch). AreAnswers (has_failed e) ran.failed_at (found_of e) (found_groups_of e) l ops outcomes) c.in-Ok.ensures.opened.ok.none run.ok.answers)));
+        place = subst (λ (b : Bool). IsFailurePlace b ops outcomes ran.failed_at) c.in-Ok.ensures.opened.ok.stands run.ok.failures.1;
       });
       after = subst (λ (n : Directory). LeavesAllowedAfter ran.failed_at dir m [] ops outcomes n) (sym c.give_up.ensures.unchanged.0) after;
-      clear = subst (λ (p : Folders). AreClear p (g.F.FileSystem.directory c.give_up.result)) (run.folder ∙ c.in-Ok.ensures.ok.folders_are)
+      clear = subst (λ (p : Folders). AreClear p (g.F.FileSystem.directory c.give_up.result)) (run.folder ∙ c.in-Ok.ensures.opened.ok.folders_are)
           (c.crash_leaves_contents.ensures.clear (folders_of c.run_watched.new.engine) (durable_of c.run_watched.new.engine) (unsynced_of c.run_watched.new.engine) (g.F.FileSystem.directory c.give_up.result) c.give_up.ensures.crash);
-      single = subst (λ (p : Folders). AreSingleIn p (g.F.FileSystem.directory c.give_up.result)) (run.folder ∙ c.in-Ok.ensures.ok.folders_are)
+      single = subst (λ (p : Folders). AreSingleIn p (g.F.FileSystem.directory c.give_up.result)) (run.folder ∙ c.in-Ok.ensures.opened.ok.folders_are)
           (c.crash_leaves_contents.ensures.single (folders_of c.run_watched.new.engine) (durable_of c.run_watched.new.engine) (unsynced_of c.run_watched.new.engine) (g.F.FileSystem.directory c.give_up.result) c.give_up.ensures.crash);
     }
 
@@ -53,7 +53,7 @@ returns-in-Err-clause-ok g c =
     let m = contents_at dir (g.F.FileSystem.directory c.args.files) in
     let files = g.F.FileSystem.directory c.in-Err.refused.file_system in
     λ keeps.
-    let kept = c.in-Err.ensures.any_moment.here m [] keeps in
+    let kept = c.in-Err.ensures.opened.any_moment.here m [] keeps in
     record {
       answered = inr (record { none = c.new.ensures.items; stands = refl; files_keep = kept });
       after = rw c.new.ensures.items (refused_after dir m c.args.ops.now files (c.crash_leaves_contents.ensures.left dir m [] files kept));
@@ -67,9 +67,9 @@ returns-in_ok-ran-in-Ok-clause-crash g c = λ done none some.
     let dir = folders_in c.args.config in
     let ran = c.run_watched.new.engine in
     let failures = c.in_ok-ran-in-Ok.ensures.ok.failures.0 in
-    let folders : folders_of ran ≡ dir = c.in_ok-ran-in-Ok.ensures.folder ∙ c.in-Ok.ensures.ok.folders_are in
-    let stands : has_failed ran ≡ false = failures ∙ ap (λ (b : Bool). b || is_some c.in_ok-ran-in-Ok.ran.failed_at) c.in-Ok.ensures.ok.stands ∙ ap (λ (o : Option ℕ). is_some o) none in
-    let begun : begun_of ran ≡ g.F.FileSystem.directory c.args.files ∷ [] = c.in_ok-ran-in-Ok.ensures.others ∙ c.in-Ok.ensures.value in
+    let folders : folders_of ran ≡ dir = c.in_ok-ran-in-Ok.ensures.folder ∙ c.in-Ok.ensures.opened.ok.folders_are in
+    let stands : has_failed ran ≡ false = failures ∙ ap (λ (b : Bool). b || is_some c.in_ok-ran-in-Ok.ran.failed_at) c.in-Ok.ensures.opened.ok.stands ∙ ap (λ (o : Option ℕ). is_some o) none in
+    let begun : begun_of ran ≡ g.F.FileSystem.directory c.args.files ∷ [] = c.in_ok-ran-in-Ok.ensures.others ∙ c.in-Ok.ensures.opened.value in
     let all : (queue : LogQueue) → AllByRecursion (ReadsCompletedRecordsIfSimpleOf queue dir) (begun_of ran) = λ queue. subst (λ (l : List Directory). AllByRecursion (ReadsCompletedRecordsIfSimpleOf queue dir) l) (sym begun) ((λ past. done queue), tt) in
     let told : LeavesDetectable dir (directory_of ran) = subst (λ (p : Folders). ((queue : LogQueue) → AllByRecursion (ReadsCompletedRecordsIfSimpleOf queue p) (begun_of ran)) → LeavesDetectable p (directory_of ran)) folders (c.the_damage_of_an_engine_is_detectable.ensures.crash stands) all in
     subst (λ (n : Directory). LeavesDetectable dir n) (sym c.give_up.ensures.unchanged.0) told
@@ -81,7 +81,7 @@ pub returns-in_ok-ran-in-Ok-clause-any_moment : goal.returns-in_ok-ran-in-Ok-cla
 returns-in_ok-ran-in-Ok-clause-any_moment g c =
     let e = c.in-Ok.engine in
     let before = g.F.FileSystem.moments c.args.files in
-    let opened = c.in-Ok.ensures.any_moment in
+    let opened = c.in-Ok.ensures.opened.any_moment in
     let outcomes = c.in_ok-ran-in-Ok.ran.outcomes.items in
     let run = through_moments (folders_of e) (durable_of e) (progress_from (unsynced_of e)) (snapshot_of e) (answered_of e) c.args.ops.now outcomes (snapshot_of c.run_watched.new.engine) (answered_of c.run_watched.new.engine) c.in_ok-ran-in-Ok.ensures.any_moment in (
       run.0 ++ opened.added,
@@ -89,4 +89,4 @@ returns-in_ok-ran-in-Ok-clause-any_moment g c =
     )
 
 pub returns-in-Err-clause-any_moment : goal.returns-in-Err-clause-any_moment
-returns-in-Err-clause-any_moment g c = (c.in-Err.ensures.any_moment.added, c.in-Err.ensures.any_moment.is)
+returns-in-Err-clause-any_moment g c = (c.in-Err.ensures.opened.any_moment.added, c.in-Err.ensures.opened.any_moment.is)
