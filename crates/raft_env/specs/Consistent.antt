@@ -1,7 +1,7 @@
 -- What every call keeps of a file: outside the ranges of its changes it holds the bytes of the last
 -- sync, and each change began with what the one before it left. Files in memory keep more: of their
 -- changes only writes failed.
-use Rattle.std.specs.Prelude.{◌≡◌, ℕ, ◌<◌, ◌≤◌, ◌++◌, false, List, [], ◌∷◌, length, Some, None, slice_index}
+use Rattle.std.specs.Prelude.{◌≡◌, ℕ, ◌<◌, ◌≤◌, ◌++◌, false, List, [], ◌∷◌, length, Some, slice_index}
 use Rattle.std.proofs.Props.{props}
 use Rattle.raft_env.specs.Outcomes.{File, Change, OnlyWritesFailed, bytes_after, is_touched}
 use Rattle.raft_env.specs.Directory.{Directory, Path, file_at}
@@ -44,7 +44,3 @@ OnlyWritesFailedAt path n = (file : File) → file_at n path ≡ Some file
 -- .. of the files at all paths
 abbrev pub OnlyWritesFailedIn : Directory → Type 0
 OnlyWritesFailedIn n = (path : Path) → OnlyWritesFailedAt path n
-
--- the file at a path was never renamed
-abbrev pub IsNeverRenamedAt : Path → Directory → Type 0
-IsNeverRenamedAt path n = (file : File) → file_at n path ≡ Some file → file.renamed_after ≡ None
