@@ -1,8 +1,10 @@
 //! Looks at a folder: its log files are read into memory, and nothing of it is changed.
 
-use crate::opening::open;
+use crate::holes::print_holes;
+use crate::opening::open_image;
 use crate::pictures::print_picture;
 use crate::stat::stat;
+use crate::stored::Total;
 use crate::{entries, keys, numbered};
 use anyhow::Result;
 use raft_command_line::{Look, Options, Request};
@@ -23,6 +25,7 @@ pub fn look(rt: HostRuntime, request: &Request<'_>, look: Look<'_>) -> Result<St
     let status = match look {
         Look::Check => check(rt.alloc(), &folder, options, &mut progress, &mut out)?,
         Look::Dump(name) => dump(rt.alloc(), &folder, name, &mut progress, &mut out)?,
+        Look::Consistency => print_holes(rt.alloc(), &folder, &mut progress, &mut out)?,
         _ => look_in_memory(&rt, &folder, request, look, &mut progress, &mut out)?,
     };
     out.print()?;
@@ -53,10 +56,18 @@ fn show<F: FileSystem + Drop>(
 ) -> Result<Status> {
     note_cuts(rt, folder, &mut image, &request.options)?;
     match look {
-        Look::Stat => stat(rt.alloc(), image, &request.options, out),
+        Look::Stat => stat(rt, image, reserved_in(folder), &request.options, out),
         Look::Picture => print_picture(rt, &mut image, request),
         _ => read(rt, image, &request.options, look, out),
     }
+}
+
+fn reserved_in(folder: &Folder) -> Total {
+    let mut total = Total::new();
+    for file in &folder.reserved {
+        total.add(file.len);
+    }
+    total
 }
 
 // Says what of the files an opening leaves out, where it doesn't fail.
@@ -87,7 +98,7 @@ fn read<F: FileSystem + Drop>(
     look: Look<'_>,
     out: &mut Output,
 ) -> Result<Status> {
-    let mut engine = open(rt.alloc(), image, options)?;
+    let mut engine = open_image(rt, image, options)?;
     let is_found = find(rt, &mut engine, options, look, out)?;
     Ok(if is_found {
         Status::Done
@@ -116,6 +127,6 @@ fn find<F: FileSystem>(
         Look::Groups => entries::groups(engine, out),
         Look::Verify(load) => numbered::verify(rt, engine, load, options.quiet, out),
         // Done before.
-        Look::Stat | Look::Dump(_) | Look::Check | Look::Picture => Ok(true),
+        Look::Stat | Look::Dump(_) | Look::Check | Look::Consistency | Look::Picture => Ok(true),
     }
 }

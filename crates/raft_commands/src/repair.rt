@@ -12,11 +12,12 @@ use std::alloc::Global;
 /// Prints what an opening in the mode of the options cuts off, keeps these bytes, and opens the
 /// log.
 pub(crate) fn repair<F: FileSystem + Drop>(
-    alloc: Global,
+    rt: &HostRuntime,
     mut files: F,
     options: &Options<'_>,
     out: &mut Output,
 ) -> Result<Status> {
+    let alloc = rt.alloc();
     let cuts = match all_cuts(alloc, &mut files, options) {
         Ok(cuts) => cuts,
         Err(fault) => return Err(failure("the files cannot be checked", &fault)),
@@ -32,7 +33,7 @@ pub(crate) fn repair<F: FileSystem + Drop>(
             return Err(failure("what is cut off cannot be kept", &fault));
         }
     }
-    close(open(alloc, files, options)?)?;
+    close(open(rt, files, options)?)?;
     Ok(Status::Done)
 }
 
