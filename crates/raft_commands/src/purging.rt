@@ -10,22 +10,25 @@ use raft_inspect::Word;
 use raft_log_engine::Engine;
 use raft_records::{Fault, FileSeq};
 use std::alloc::Global;
+use std::thread::Threads;
 
 /// Purges the log, and prints a line for each group that is to be compacted, how many log files were
 /// dropped, and how many reserved files are kept to be used as next ones.
-pub(crate) fn purge<F: FileSystem + Drop>(
+pub(crate) fn purge<R: Threads + Sync, F: FileSystem + Drop>(
     rt: &HostRuntime,
+    threads: &R,
     mut files: F,
     purge: Purge,
     options: &Options<'_>,
     out: &mut Output,
 ) -> Result<Status> {
+    let alloc = rt.alloc();
     let mut progress = Progress::new(*rt, options.quiet)?;
-    let before = find(rt.alloc(), &mut files, options)?;
+    let before = find(alloc, &mut files, options)?;
     progress.begin("the log is being opened")?;
-    let engine = open(rt, files, options)?;
-    let mut left = purge_and_close(rt.alloc(), engine, purge, &mut progress, out)?;
-    let after = find(rt.alloc(), &mut left, options)?;
+    let engine = open(threads, alloc, files, options)?;
+    let mut left = purge_and_close(alloc, engine, purge, &mut progress, out)?;
+    let after = find(alloc, &mut left, options)?;
     add_total("dropped", before.gone(&left), out)?;
     add_total("reserved", after.reserved, out)?;
     out.print()?;

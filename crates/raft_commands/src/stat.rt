@@ -11,6 +11,7 @@ use raft_inspect::{Outlook, Word, inspect};
 use raft_log_engine::Engine;
 use raft_records::{Fault, LogQueue};
 use std::alloc::Global;
+use std::thread::Threads;
 
 /// The log files, how many of them an opening would pass over, and what it would cut off.
 #[derive(Clone, Copy)]
@@ -31,19 +32,19 @@ struct Held {
 
 /// Prints how much the log holds, how many bytes an opening would cut from its files, what is kept to
 /// be used again, and a line for each group.
-pub(crate) fn stat<F: FileSystem + Drop>(
-    rt: &HostRuntime,
+pub(crate) fn stat<R: Threads + Sync, F: FileSystem + Drop>(
+    threads: &R,
+    alloc: Global,
     mut files: F,
     reserved: Total,
     options: &Options<'_>,
     out: &mut Output,
 ) -> Result<Status> {
-    let alloc = rt.alloc();
     let sizes = match measure(alloc, &mut files, options) {
         Ok(sizes) => sizes,
         Err(fault) => return Err(failure("the log cannot be measured", &fault)),
     };
-    let engine = open_image(rt, files, options)?;
+    let engine = open_image(threads, alloc, files, options)?;
     let held = match held_of(alloc, &engine) {
         Ok(held) => held,
         Err(fault) => return Err(failure("the log cannot be read", &fault)),

@@ -13,28 +13,36 @@ use raft_console::{Output, Status, bytes_of, failure};
 use raft_disk::DiskFileSystem;
 use raft_env::FileSystem;
 use raft_log_engine::Engine;
+use std::thread::Threads;
 
 /// Does what changes the log in the folder of the request. The folder is made where it is missing,
-/// and its lock is held meanwhile; the opening cuts what its mode lets it cut.
-pub fn change(rt: HostRuntime, request: &Request<'_>) -> Result<Status> {
+/// and its lock is held meanwhile; the opening cuts what its mode lets it cut, and reads the files by
+/// threads of the handle.
+pub fn change<R: Threads + Sync>(
+    rt: HostRuntime,
+    threads: &R,
+    request: &Request<'_>,
+) -> Result<Status> {
     match DiskFileSystem::open(rt, request.folder) {
-        Ok(files) => change_files(&rt, files, request),
+        Ok(files) => change_files(&rt, threads, files, request),
         Err(fault) => bail!("{fault}"),
     }
 }
 
-fn change_files<F: FileSystem + Drop>(
+fn change_files<R: Threads + Sync, F: FileSystem + Drop>(
     rt: &HostRuntime,
+    threads: &R,
     files: F,
     request: &Request<'_>,
 ) -> Result<Status> {
-    let mut out = Output::new(*rt, &request.options);
+    let options = &request.options;
+    let mut out = Output::new(*rt, options);
     match &request.verb {
-        Verb::Repair => return repair(rt, files, &request.options, &mut out),
-        Verb::Purge(which) => return purge(rt, files, *which, &request.options, &mut out),
+        Verb::Repair => return repair(threads, rt.alloc(), files, options, &mut out),
+        Verb::Purge(which) => return purge(rt, threads, files, *which, options, &mut out),
         _ => {}
     }
-    let mut engine = open(rt, files, &request.options)?;
+    let mut engine = open(threads, rt.alloc(), files, options)?;
     carry_out(rt, &mut engine, request, &mut out)?;
     out.print()?;
     if request.sync {
