@@ -46,8 +46,10 @@ pub mod QueueRotationLemmas
 pub mod ReadFilesLemmas
 pub mod RefusalLemmas
 pub mod ReserveLemmas
+pub mod ReserveNamesLemmas
 pub mod ReservedLemmas
 pub mod RestartLemmas
+pub mod RoomLemmas
 pub mod RotationLemmas
 pub mod SealedFileLemmas
 pub mod SettledFilesLemmas
