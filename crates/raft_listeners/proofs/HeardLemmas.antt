@@ -1,9 +1,11 @@
 -- What listeners are told and answer, one by one.
-use Rattle.std.proofs.Common.{append_assoc, length-append, sym, ◌++◌, ◌∙◌, ◌≡◌, ◌≤◌, ◌<◌, ◌-◌, ℕ, zero, suc, true, false, List, [], ◌∷◌, length, min, refl, ap, arith, Option, Some, None}
+use Rattle.std.proofs.Common.{append_assoc, length-append, sym, ◌++◌, ◌∙◌, ◌≡◌, ◌≤◌, ◌<◌, ◌-◌, ℕ, zero, suc, true, false, List, [], ◌∷◌, length, map, min, refl, Bool, ◌&&◌, ap, arith, Option, Some, None}
+use Rattle.std.specs.List.{list_all}
 use Rattle.std.specs.Option.{option_map_or}
 use Rattle.raft_base.specs.declared.pipe_log.LogQueue.{LogQueue}
 use Rattle.raft_base.specs.declared.pipe_log.LogQueue.TheVariants.{Append, Rewrite}
 use Rattle.raft_listeners.specs.Heard.{HasHeard, Heard, least_of, new_files}
+use Rattle.raft_listeners.specs.Told.{found_in, is_of_rewrite}
 use Rattle.raft_listeners.specs.Waiting.{is_append}
 use Rattle.raft_listeners.specs.declared.listener.Event.{Event}
 
@@ -41,3 +43,11 @@ heard_then first more a b c one two = record {
   asked = two.asked ∙ one.asked;
   room = let long = length-append more first in let spent = one.room in let next = two.room in omega arith;
 }
+
+-- one event more since listeners were found
+pub told_more : {L : Type 0} (heard : L → Heard) (found : List L) (event : Event) (told : List Event) (a b : Heard) → (found ≡ [] → ⊥) → HasHeard told (found_in (map heard found) a) a → HasHeard (event ∷ []) a b → HasHeard (event ∷ told) (found_in (map heard found) b) b
+told_more heard [] event told a b some first more = absurd (some refl)
+told_more heard (l ∷ earlier) event told a b some first more = heard_then told (event ∷ []) (heard l) a b first more
+
+pub rewrite_more : (event : Event) (told : List Event) → is_of_rewrite event ≡ true → list_all is_of_rewrite told ≡ true → list_all is_of_rewrite (event ∷ told) ≡ true
+rewrite_more event told is all = ap (λ (b : Bool). b && list_all is_of_rewrite told) is ∙ all
