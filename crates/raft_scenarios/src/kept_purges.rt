@@ -31,7 +31,6 @@ const READ_FIRST: Step = Step::Fetch(Fetch(1, 1, 2, None, Ok(1)));
 const READ_SECOND: Step = Step::Fetch(Fetch(2, 1, 2, None, Ok(1)));
 const READ_THIRD: Step = Step::Fetch(Fetch(3, 1, 2, None, Ok(1)));
 const FIRST_REFUSED: Step = Step::Fetch(Fetch(1, 1, 2, None, Err(3)));
-const SECOND_REFUSED: Step = Step::Fetch(Fetch(2, 1, 2, None, Err(3)));
 
 static KEPT: [Story; 6] = [
     Story {
@@ -157,7 +156,7 @@ static KEPT: [Story; 6] = [
         ]],
     },
     Story {
-        name: "a read that fails in a purge leaves the blocks that it found",
+        name: "a purge that fails keeps no block",
         parts: &[
             THREE_FILES,
             &[
@@ -165,10 +164,10 @@ static KEPT: [Story; 6] = [
                 NO_SECOND_READ,
                 Step::Run(&[Plan::RewriteAppend(None, None)], &[Answer::Fails(3)]),
                 NO_READ,
+                FIRST_REFUSED,
                 READ_FIRST,
-                READ_THIRD,
-                SECOND_REFUSED,
                 READ_SECOND,
+                READ_THIRD,
             ],
         ],
     },
