@@ -1,0 +1,12 @@
+//! Log files of which one part at a time is in memory.
+#![tactic(auto)]
+
+mod check;
+mod image;
+mod source;
+mod wanted;
+
+pub use check::check_parts;
+pub use image::image_of_part;
+pub use source::{FilePart, PartSource, read_whole_part};
+pub use wanted::{PART_LEN, wanted_behind};
