@@ -29,14 +29,16 @@ SIZE = 40
 LOADS = [["30", "--sync-each", "3"], ["60", "--sync-each", "7"]]
 COUNT = 60
 # The same in log files of 1 KB, with each way to free them.
-SMALL = ["--target", "1KB"]
+SMALL = 'target-file-size = "1KB"\npurge-threshold = "1KB"\n'
 PURGES = [
-    ["load", "30", SIZE, "--sync-each", "3", *SMALL],
-    ["rewrite", "append", *SMALL],
-    ["load", "60", SIZE, "--sync-each", "7", *SMALL],
-    ["rewrite", "append", *SMALL],
-    ["rewrite", "rewrite", *SMALL],
-    ["rewrite", "stale", *SMALL],
+    ["load", "30", SIZE, "--sync-each", "3"],
+    ["purge"],
+    ["load", "60", SIZE, "--sync-each", "7"],
+    ["rewrite", "append"],
+    ["rewrite", "rewrite"],
+    ["load", "60", SIZE, "--sync-each", "5"],
+    ["purge"],
+    ["rewrite", "stale"],
 ]
 HERE = os.path.dirname(os.path.abspath(__file__))
 
@@ -266,6 +268,12 @@ class Tests:
                 shutil.rmtree(folder)
         return outcomes, bad
 
+    def with_settings(self, text, commands):
+        path = os.path.join(self.work, "settings.toml")
+        with open(path, "w", encoding="ascii") as out:
+            out.write(text)
+        return [[*words, "--settings", path] for words in commands]
+
     def record_names(self):
         """The calls of a program that renames and deletes files, and whether they lead to what it left."""
         program = os.path.join(self.work, "change_names")
@@ -396,7 +404,7 @@ def main():
     with tempfile.TemporaryDirectory(prefix="disk-tests-") as work:
         tests = Tests(given.program, work)
         calls = tests.record("recorded", [["load", words[0], SIZE, *words[1:]] for words in LOADS])
-        purges = tests.record("purged", PURGES)
+        purges = tests.record("purged", tests.with_settings(SMALL, PURGES))
         assert any(line.startswith("unlink ") for line in purges), "no log file was deleted"
         names, good = tests.record_names()
         if not good:
