@@ -1,16 +1,18 @@
 //! A folder that is looked at: its log files, one by one or all in memory.
 
 use crate::reserved::is_reserved;
+use crate::source::FileSource;
 use anyhow::{Result, bail};
 use raft_command_line::Options;
 use raft_config::RecoveryMode;
 use raft_console::Progress;
 use raft_disk::{FolderView, OpenFault, image_of};
-use raft_dump::{LogFile, check_file, log_files};
+use raft_dump::{FileCheck, LogFile, check_file, log_files};
 use raft_env::FileSystem;
 use raft_files::FileNameExt;
 use raft_inspect::{Cut, QueueFiles, cuts_of};
 use raft_memory::MemoryFileSystem;
+use raft_parts::check_parts;
 use raft_records::{Fault, LogQueue};
 use std::alloc::{AllocError, Global};
 use std::io::ErrorKind;
@@ -133,13 +135,6 @@ impl Folder {
         }
     }
 
-    /// One file in memory.
-    pub fn image_of_file(&self, file: &LogFile) -> Result<MemoryFileSystem> {
-        let path = file.path.clone()?;
-        let bytes = self.read(path.as_str())?;
-        self.files_in_memory(vec![in self.alloc; (path, bytes)]?)
-    }
-
     /// All log files in memory.
     pub fn image(&self, progress: &mut Progress) -> Result<MemoryFileSystem> {
         let mut files = Vec::new(self.alloc);
@@ -187,19 +182,29 @@ impl Folder {
         Ok(files)
     }
 
-    /// The log files of a queue, and what can be read of each; one at a time is in memory.
+    /// The log files of a queue, and what can be read of each; one part of one is in memory at a time.
     pub fn inspect(&self, queue: LogQueue, progress: &mut Progress) -> Result<QueueFiles> {
         let files = self.files_of(queue)?;
         let mut checks = Vec::new(self.alloc);
         for (place, file) in files.iter().enumerate() {
             progress.at("files checked", place as u64, files.len() as u64)?;
-            let mut image = self.image_of_file(file)?;
-            match check_file(self.alloc, file, &mut image) {
-                Ok(check) => checks.push(check)?,
-                Err(fault) => bail!("{fault}"),
-            }
+            checks.push(self.check(file)?)?;
         }
         Ok(QueueFiles::new(queue, files, checks))
+    }
+
+    fn check(&self, file: &LogFile) -> Result<FileCheck> {
+        let mut source = self.source_of(file);
+        let size = source.size()?;
+        match check_parts(self.alloc, file, size, &mut source) {
+            Ok(check) => Ok(check),
+            Err(fault) => Err(source.failure(&fault)),
+        }
+    }
+
+    /// A file whose bytes are read part by part.
+    pub fn source_of<'a>(&'a self, file: &'a LogFile) -> FileSource<'a> {
+        FileSource::new(self.alloc, &self.view, file.path.as_str())
     }
 
     /// What an opening in a mode cuts off of the files of a queue; it reads those alone that it may cut.
