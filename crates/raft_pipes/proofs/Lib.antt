@@ -38,6 +38,7 @@ pub mod PipeResultLemmas
 pub mod PipeRotationLemmas
 pub mod PlacesLemmas
 pub mod PrefillLemmas
+pub mod PrefillMadeLemmas
 pub mod PurgeLemmas
 pub mod QueueAppendLemmas
 pub mod QueueFilesLemmas
