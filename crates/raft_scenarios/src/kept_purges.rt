@@ -16,14 +16,17 @@ const NO_READ: Step = Step::Fail(Failing::Nth(FsCall::Read, 1, IoKind::Other));
 /// .. the one after it.
 const NO_SECOND_READ: Step = Step::Fail(Failing::Nth(FsCall::Read, 2, IoKind::Other));
 
-/// Files 1 to 3, each full of the one entry of a group.
+/// Files 1 to 3, each full of the entries of a group.
 const THREE_FILES: &[Step] = &[
     Step::OpenTo(1),
-    Step::Apart(Apart {
-        groups: (1, 3),
-        indexes: (1, 1),
-        len: 1024,
-    }),
+    Step::Run(
+        &[
+            Plan::Write(&[Change::Entries(1, 1, 250, b"w")], false),
+            Plan::Write(&[Change::Entries(2, 1, 250, b"w")], false),
+            Plan::Write(&[Change::Entries(3, 1, 250, b"w")], false),
+        ],
+        &[],
+    ),
     Step::Span(1, 3),
 ];
 
@@ -119,8 +122,8 @@ static KEPT: [Story; 6] = [
             &[READ_FIRST, READ_SECOND, READ_THIRD],
             &[
                 Step::Run(
-                    &[Plan::CompactTo(1, 2), Plan::PurgeStale],
-                    &[Answer::Count(1), Answer::Dropped(1)],
+                    &[Plan::CompactTo(1, 251), Plan::PurgeStale],
+                    &[Answer::Count(250), Answer::Dropped(1)],
                 ),
                 NO_READ,
                 READ_SECOND,

@@ -19,7 +19,7 @@ mod threads;
 mod workload;
 
 use anyhow::{Result, bail};
-use measure::Host;
+use measure::WorkersHost;
 use std::env;
 use system::print_system;
 use workload::{Amount, SMALL, Workload};
@@ -60,7 +60,7 @@ fn amount(words: &[String]) -> Result<Amount> {
     Ok(amount)
 }
 
-fn run_named<R: Host>(rt: &R, name: &str, amount: Amount) -> Result<()> {
+fn run_named<R: WorkersHost>(rt: &R, name: &str, amount: Amount) -> Result<()> {
     match Workload::named(name) {
         Some(workload) => workload.run(rt, amount),
         None => bail!(
@@ -69,7 +69,7 @@ fn run_named<R: Host>(rt: &R, name: &str, amount: Amount) -> Result<()> {
     }
 }
 
-fn run_all<R: Host>(rt: &R) -> Result<()> {
+fn run_all<R: WorkersHost>(rt: &R) -> Result<()> {
     for workload in &Workload::ALL {
         workload.run(rt, SMALL)?;
     }

@@ -8,9 +8,14 @@ use std::thread::Threads;
 use std::time::Instant;
 
 /// What the program asks of its runtime.
-pub(crate) trait Host: Print + Eprint + AllocGlobal + Clock + Files + Threads + Sync {}
+pub(crate) trait Host: Print + Eprint + AllocGlobal + Clock + Files {}
 
-impl<R: Print + Eprint + AllocGlobal + Clock + Files + Threads + Sync> Host for R {}
+impl<R: Print + Eprint + AllocGlobal + Clock + Files> Host for R {}
+
+/// .. where workers open a log.
+pub(crate) trait WorkersHost: Host + Threads + Sync {}
+
+impl<R: Host + Threads + Sync> WorkersHost for R {}
 
 /// A clock that runs, and the page faults before it.
 #[derive(Clone, Copy)]

@@ -1,7 +1,7 @@
 //! The workload of openings by workers, of a log in many files.
 
 use crate::log::{config_of, has_last, open};
-use crate::measure::{Against, Host, Measure, Report, Stopwatch};
+use crate::measure::{Against, Host, Measure, Report, Stopwatch, WorkersHost};
 use crate::parts::{Part, batches_of, write_all};
 use crate::workload::Load;
 use anyhow::Result;
@@ -19,7 +19,7 @@ const WORKERS: [(&str, usize); 4] = [
 ];
 
 /// Puts, and openings of their log. Answers the length of a record.
-pub(crate) fn put_and_open<R: Host, F: FileSystem + Drop>(
+pub(crate) fn put_and_open<R: WorkersHost, F: FileSystem + Drop>(
     rt: &R,
     report: &mut Report,
     files: F,
@@ -50,7 +50,7 @@ fn close<F: FileSystem + Drop>(engine: Engine<F>) -> Result<F, Fault> {
 }
 
 // The clock runs while the log is opened. Answers whether the last key is found.
-fn reopen<R: Host, F: FileSystem + Drop>(
+fn reopen<R: WorkersHost, F: FileSystem + Drop>(
     rt: &R,
     report: &mut Report,
     files: F,
@@ -73,7 +73,7 @@ fn reopen<R: Host, F: FileSystem + Drop>(
 }
 
 // Without workers the files are read in order.
-fn open_by<R: Host, F: FileSystem + Drop>(
+fn open_by<R: WorkersHost, F: FileSystem + Drop>(
     rt: &R,
     files: F,
     workers: usize,
@@ -92,7 +92,5 @@ fn open_by<R: Host, F: FileSystem + Drop>(
 
 fn print_figures<R: Host>(rt: &R, load: Load, bytes: u64, found: u64) -> io::Result<()> {
     let Load { name, count, .. } = load;
-    println!(rt;
-        "{name}: {count} operations, {bytes} bytes of records, found by {found} openings"
-    )
+    println!(rt; "{name}: {count} operations, {bytes} bytes of records, found by {found} openings")
 }

@@ -33,7 +33,12 @@ pub(crate) fn put_beside_purges<R: Host, F: FileSystem + Drop>(
     let mut engine = open_to_purge(rt.alloc(), files, load.file_size, recycles)?;
     let steady = run_timed(rt, report, &mut engine, load)?;
     let (first, last) = engine.file_span(LogQueue::Append);
-    print_figures(rt, load, steady, last.saturating_sub(first).saturating_add(1))?;
+    print_figures(
+        rt,
+        load,
+        steady,
+        last.saturating_sub(first).saturating_add(1),
+    )?;
     Ok((steady.bytes / load.count.max(1)) as usize)
 }
 
@@ -80,7 +85,10 @@ fn put_and_purge<F: FileSystem>(
     file_size: u64,
 ) -> Result<Steady, Fault> {
     let mut batch = LogBatch::new(alloc);
-    let mut steady = Steady { bytes: 0, purges: 0 };
+    let mut steady = Steady {
+        bytes: 0,
+        purges: 0,
+    };
     let mut since = 0u64;
     for written in batches {
         add(&mut batch, written)?;

@@ -4,7 +4,7 @@ use crate::blocks::add_ceilings;
 use crate::entries::append_entry_fetch;
 use crate::files::append;
 use crate::log::put_get_reopen;
-use crate::measure::{Against, Host, Report};
+use crate::measure::{Against, Report, WorkersHost};
 use crate::openings::put_and_open;
 use crate::purges::append_compact_purge;
 use crate::shared::put_get_shared;
@@ -105,7 +105,7 @@ impl Workload {
         Workload::ALL.iter().find(|workload| workload.0 == name)
     }
 
-    pub(crate) fn run<R: Host>(&self, rt: &R, amount: Amount) -> Result<()> {
+    pub(crate) fn run<R: WorkersHost>(&self, rt: &R, amount: Amount) -> Result<()> {
         let Workload(name, kind, sync_each, file_size) = self;
         let Amount { count, size } = amount;
         let size = match kind {
@@ -135,7 +135,12 @@ impl Workload {
 
 // Below the parts of a workload stand the ceilings of as many records as it made, and of as many
 // values.
-fn run_over<R: Host, F: FileSystem + Drop>(rt: &R, kind: Kind, files: F, load: Load) -> Result<()> {
+fn run_over<R: WorkersHost, F: FileSystem + Drop>(
+    rt: &R,
+    kind: Kind,
+    files: F,
+    load: Load,
+) -> Result<()> {
     let mut report = Report::new(rt);
     let len = match kind {
         Kind::Blocks => None,
@@ -147,13 +152,7 @@ fn run_over<R: Host, F: FileSystem + Drop>(rt: &R, kind: Kind, files: F, load: L
         Kind::PutsShared => Some(put_get_shared(rt, &mut report, files, load)?),
         Kind::Entries(_) => Some(append_entry_fetch(rt, &mut report, files, load)?),
         Kind::Purges => Some(append_compact_purge(rt, &mut report, files, load)?),
-        Kind::Steady(recycles) => Some(put_beside_purges(
-            rt,
-            &mut report,
-            files,
-            load,
-            recycles,
-        )?),
+        Kind::Steady(recycles) => Some(put_beside_purges(rt, &mut report, files, load, recycles)?),
         Kind::Openings => Some(put_and_open(rt, &mut report, files, load)?),
     };
     report.note_memory(rt);
