@@ -35,13 +35,10 @@ fn told(alloc: Global, found: &Checked, mode: RecoveryMode) -> Result<Wanted, Fa
     let mut outlook = Outlook::new();
     outlook.add_queue(alloc, &found.append, mode)?;
     outlook.add_queue(alloc, &found.rewrite, mode)?;
-    Ok(Wanted {
-        opens: !outlook.fails,
-        cut: if outlook.fails {
-            [0, 0, 0]
-        } else {
-            [outlook.files, outlook.bytes, outlook.zeros]
-        },
+    Ok(if outlook.fails {
+        Wanted::Fails
+    } else {
+        Wanted::Opens(outlook.files, outlook.bytes, outlook.zeros)
     })
 }
 
@@ -101,17 +98,14 @@ fn are_left<F: FileSystem>(
     mode: RecoveryMode,
     opens: bool,
 ) -> Result<bool, Fault> {
-    Ok(is_left(alloc, fs, &found.append, mode, opens)?
-        && is_left(alloc, fs, &found.rewrite, mode, opens)?)
+    Ok(
+        is_left(alloc, fs, &found.append, mode, opens)?
+            && is_left(alloc, fs, &found.rewrite, mode, opens)?,
+    )
 }
 
 // Whether a check tells what is wanted, and an opening does it.
-fn agree(
-    alloc: Global,
-    case: &Case,
-    mode: RecoveryMode,
-    wanted: Wanted,
-) -> Result<bool, Fault> {
+fn agree(alloc: Global, case: &Case, mode: RecoveryMode, wanted: Wanted) -> Result<bool, Fault> {
     let mut fs = MemoryFileSystem::new(alloc);
     fill(&mut fs, alloc, case.files)?;
     let found = checked(alloc, &mut fs)?;
@@ -119,7 +113,7 @@ fn agree(
         return Ok(false);
     }
     let (opens, mut left) = opened(alloc, mode, fs)?;
-    Ok(opens == wanted.opens && are_left(alloc, &mut left, &found, mode, opens)?)
+    Ok(opens == (wanted != Wanted::Fails) && are_left(alloc, &mut left, &found, mode, opens)?)
 }
 
 #[test]
@@ -128,7 +122,8 @@ fn a_check_tells_what_an_opening_does(rt: HostRuntime) -> Result<(), Fail> {
         for (mode, wanted) in MODES.iter().zip(&case.wanted) {
             assert!(rt;
                 agree(rt.alloc(), case, *mode, *wanted)?,
-                "{}: {mode:?}", case.name
+                "{}: {mode:?}",
+                case.name
             );
         }
     }

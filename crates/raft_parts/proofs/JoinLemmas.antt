@@ -21,21 +21,18 @@ use Rattle.raft_files.proofs.ScanLemmas.{found_record, header_of-kept, header_wi
 use Rattle.raft_dump.specs.Check.{EndsReading, IsCheckOf, IsReadFrom, IsReadIn, records_read}
 use Rattle.raft_dump.specs.declared.check.FileCheck.{FileCheck}
 use Rattle.raft_dump.proofs.CheckLemmas.{IsReadTo, next_is_further, read_one, reading_goes_on}
+use Rattle.raft_parts.specs.Given.{cursor}
 use Rattle.raft_parts.specs.Parts.{BeginsWith}
 use Rattle.raft_parts.proofs.FrontLemmas.{tells_one}
 
-not_padded : (alignment : ℕ) (bytes : List ℕ) (at : ℕ) → alignment ≡ 0 → is_padding alignment bytes at ≡ false
+pub not_padded : (alignment : ℕ) (bytes : List ℕ) (at : ℕ) → alignment ≡ 0 → is_padding alignment bytes at ≡ false
 not_padded alignment bytes at none = rw none refl
 
--- a reader of a file of these bytes
-abbrev pub cursor : FileId → LogFileFormat → List ℕ → ℕ → RecordCursor
-cursor id format bytes at = record { id = id; format = format; bytes = bytes; at = at }
-
 -- the bytes of the other file from a place on are the next ones of the file from another place on
-abbrev IsAhead : List ℕ → ℕ → List ℕ → ℕ → Type 0
+abbrev pub IsAhead : List ℕ → ℕ → List ℕ → ℕ → Type 0
 IsAhead whole a part b = drop b part ≡ take (length (drop b part)) (drop a whole)
 
-ahead_on : (whole part : List ℕ) (a b len : ℕ) → IsAhead whole a part b → len ≤ length (drop b part) → IsAhead whole (a + len) part (b + len)
+pub ahead_on : (whole part : List ℕ) (a b len : ℕ) → IsAhead whole a part b → len ≤ length (drop b part) → IsAhead whole (a + len) part (b + len)
 ahead_on whole part a b len same within =
     let k = length (drop b part) - len in
     let sum : length (drop b part) ≡ len + k = omega (arith, within) in
@@ -122,7 +119,7 @@ module _ (id : FileId) (format : LogFileFormat) (unaligned : format.alignment �
       there = omega (arith, others.behind, at_is)
 
 -- bytes that were cut from the front are as many as they are
-cut_to : (len : ℕ) (xs part : List ℕ) → part ≡ take len xs → part ≡ take (length part) xs
+pub cut_to : (len : ℕ) (xs part : List ℕ) → part ≡ take len xs → part ≡ take (length part) xs
 cut_to len xs part is = elim (cases_Bool (nat_lt len (length xs))) [
   | inl fewer ↦
       let less = ltb-true len (length xs) fewer in

@@ -3,6 +3,7 @@
 
 mod check;
 mod image;
+pub mod laws;
 mod parts;
 mod source;
 mod wanted;
