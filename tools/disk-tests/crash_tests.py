@@ -307,6 +307,12 @@ class Tests:
     def crash(self, run, counts_syncs, seeds, step):
         return self.replay(run.calls, counts_syncs, seeds, lambda *it: self.wrong_with(*it, run), step)
 
+    def told(self, name, counts, wants_bad=False):
+        """Prints how many were tried, and how many of them are bad; whether that is as wanted."""
+        tried, bad = counts
+        print(f"{name}: {tried} tried, {bad} bad" + (", as wanted" if wants_bad else ""), flush=True)
+        return (bad > 0) == wants_bad
+
     def replay(self, calls, counts_syncs, seeds, judge, step=1):
         """Tries what a crash at each call may leave. `judge` says what is wrong with a folder, or None."""
         disk = Disk(counts_syncs)
@@ -483,29 +489,25 @@ def main():
         names, good = tests.record_names()
         if not good:
             print("renamed and deleted files: the calls that were recorded don't lead to what was left")
-        cases = [("renamed and deleted files", len(names), tests.replay(names, True, given.seeds, wrong_names))]
+        good = tests.told("renamed and deleted files, crashes", tests.replay(names, True, given.seeds, wrong_names)) and good
         for run in RUNS:
-            cases.append((run.name, len(run.calls), tests.crash(run, True, given.seeds, given.step)))
-        for name, count, (tried, bad) in cases:
-            print(f"{name}, crashes at {count} calls: {tried} tried, {bad} bad")
-            good = good and bad == 0
+            crashes = f"{run.name}, crashes at {len(run.calls)} calls"
+            good = tests.told(crashes, tests.crash(run, True, given.seeds, given.step)) and good
         plain, recycled = RUNS[0], RUNS[2]
         recycling = load(90, 3, "--purge-each", 10)
-        for name, (tried, bad) in [
-            ("calls that fail", tests.fail_each(plain, load(30, 3), FAILURES)),
-            ("calls that fail, recycled files", tests.fail_each(recycled, recycling, FAILURES + NAME_FAILURES)),
-            ("kills", tests.kill_each(plain, load(60, 2), 12)),
-            ("kills, recycled files", tests.kill_each(recycled, load(90, 2, "--purge-each", 10), 40)),
-            ("openings to be refused", tests.refuse_each()),
+        for name, run, words, kinds in [
+            ("calls that fail", plain, load(30, 3), FAILURES),
+            ("calls that fail, recycled files", recycled, recycling, FAILURES + NAME_FAILURES),
         ]:
-            print(f"{name}: {tried} tried, {bad} bad")
-            good = good and bad == 0
-        cases = [("renamed and deleted files", tests.replay(names, False, 1, wrong_names))]
+            good = tests.told(name, tests.fail_each(run, words, kinds)) and good
+        good = tests.told("kills", tests.kill_each(plain, load(60, 2), 12)) and good
+        good = tests.told("kills, recycled files", tests.kill_each(recycled, recycling, 40)) and good
+        good = tests.told("openings to be refused", tests.refuse_each()) and good
+        # What has to find bad outcomes.
+        uncounted = ", with the syncs not counted"
+        good = tests.told("renamed and deleted files" + uncounted, tests.replay(names, False, 1, wrong_names), True) and good
         for run in RUNS:
-            cases.append((run.name, tests.crash(run, False, 1, max(given.step, 2))))
-        for name, (tried, bad) in cases:
-            print(f"{name}, with the syncs not counted: {tried} tried, {bad} bad, as wanted")
-            good = good and bad > 0
+            good = tests.told(run.name + uncounted, tests.crash(run, False, 1, max(given.step, 2)), True) and good
     return 0 if good else 1
 
 
