@@ -31,8 +31,11 @@ const THREE_FILES: &[Step] = &[
 ];
 
 const READ_FIRST: Step = Step::Fetch(Fetch(1, 1, 2, None, Ok(1)));
+
 const READ_SECOND: Step = Step::Fetch(Fetch(2, 1, 2, None, Ok(1)));
+
 const READ_THIRD: Step = Step::Fetch(Fetch(3, 1, 2, None, Ok(1)));
+
 const FIRST_REFUSED: Step = Step::Fetch(Fetch(1, 1, 2, None, Err(3)));
 
 static KEPT: [Story; 6] = [
@@ -40,7 +43,10 @@ static KEPT: [Story; 6] = [
         name: "what is rewritten is read through the cache",
         parts: &[&[
             Step::Open,
-            Step::Run(&[Plan::Write(&[Change::Entries(1, 1, 3, b"w")], false)], &[]),
+            Step::Run(
+                &[Plan::Write(&[Change::Entries(1, 1, 3, b"w")], false)],
+                &[],
+            ),
             Step::Run(&[Plan::Entry(1, 2)], &[Answer::Entry(2, b"w")]),
             NO_READ,
             Step::Run(
@@ -53,11 +59,7 @@ static KEPT: [Story; 6] = [
             ),
             NO_READ,
             Step::Run(
-                &[
-                    Plan::RewriteRewrite,
-                    Plan::Entry(1, 2),
-                    Plan::Entry(1, 2),
-                ],
+                &[Plan::RewriteRewrite, Plan::Entry(1, 2), Plan::Entry(1, 2)],
                 &[Answer::Dropped(1), Answer::Fails(3), Answer::Entry(2, b"w")],
             ),
         ]],
@@ -135,10 +137,19 @@ static KEPT: [Story; 6] = [
         name: "a file that is used again isn't answered from what it was",
         parts: &[&[
             Step::Open,
-            Step::Run(&[Plan::Write(&[Change::Entries(1, 1, 1, b"a")], false)], &[]),
+            Step::Run(
+                &[Plan::Write(&[Change::Entries(1, 1, 1, b"a")], false)],
+                &[],
+            ),
             Step::Run(&[Plan::Entry(1, 1)], &[Answer::Entry(1, b"a")]),
-            Step::Run(&[Plan::RewriteAppend(None, None), Plan::RewriteRewrite], &[]),
-            Step::Run(&[Plan::Write(&[Change::Entries(2, 1, 1, b"b")], false)], &[]),
+            Step::Run(
+                &[Plan::RewriteAppend(None, None), Plan::RewriteRewrite],
+                &[],
+            ),
+            Step::Run(
+                &[Plan::Write(&[Change::Entries(2, 1, 1, b"b")], false)],
+                &[],
+            ),
             Step::Span(2, 2),
             Step::RewriteSpan(2, 2),
             Step::Run(
@@ -146,7 +157,10 @@ static KEPT: [Story; 6] = [
                 &[Answer::Entry(1, b"a"), Answer::Entry(1, b"b")],
             ),
             Step::Run(&[Plan::RewriteAppend(None, None)], &[Answer::Dropped(1)]),
-            Step::Run(&[Plan::Write(&[Change::Entries(3, 1, 1, b"c")], false)], &[]),
+            Step::Run(
+                &[Plan::Write(&[Change::Entries(3, 1, 1, b"c")], false)],
+                &[],
+            ),
             Step::Span(3, 3),
             Step::Run(
                 &[Plan::Entry(3, 1), Plan::Entry(2, 1), Plan::Entry(1, 1)],
