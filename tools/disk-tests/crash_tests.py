@@ -22,6 +22,7 @@ import subprocess
 import sys
 import tempfile
 import time
+from concurrent.futures import ThreadPoolExecutor
 
 SECTOR = 512
 SIZE = 40
@@ -318,20 +319,26 @@ class Tests:
         disk = Disk(counts_syncs)
         outcomes = bad = 0
         hows = ["all", "synced"] + ["torn", "garbage"] * seeds
-        for place, line in enumerate(calls):
-            disk.carry_out(line)
-            if place % step or line.startswith(USER):
-                continue
-            for turn, how in enumerate(hows):
-                folder = os.path.join(self.work, "left")
-                disk.leave(folder, how, random.Random(f"{place} {turn}"))
-                wrong = judge(folder, disk.answered)
-                outcomes += 1
-                if wrong:
-                    bad += 1
-                    if counts_syncs:
-                        print(f"call {place}, {how} {turn}: {wrong}")
-                shutil.rmtree(folder)
+
+        def wrong_after(place, turn):
+            folder = os.path.join(self.work, f"left-{turn}")
+            disk.leave(folder, hows[turn], random.Random(f"{place} {turn}"))
+            wrong = judge(folder, disk.answered)
+            shutil.rmtree(folder)
+            return wrong
+
+        with ThreadPoolExecutor(os.cpu_count()) as pool:
+            for place, line in enumerate(calls):
+                disk.carry_out(line)
+                if place % step or line.startswith(USER):
+                    continue
+                turns = range(len(hows))
+                for turn, wrong in zip(turns, pool.map(wrong_after, [place] * len(hows), turns)):
+                    outcomes += 1
+                    if wrong:
+                        bad += 1
+                        if counts_syncs:
+                            print(f"call {place}, {hows[turn]} {turn}: {wrong}")
         return outcomes, bad
 
     def record_names(self):
