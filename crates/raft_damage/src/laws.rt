@@ -1,5 +1,5 @@
 //! The premise on damage can be met.
-ghost use Rattle.std.specs.Prelude.{◌≡◌, ◌⊎◌, ◌≤◌, ℕ, List, [], ◌∷◌, Some, None, take};
+ghost use Rattle.std.specs.Prelude.{◌≡◌, ◌⊎◌, ◌≤◌, ℕ, List, [], ◌∷◌, length, Option, Some, None, take};
 ghost use Rattle.raft_records.specs.Item.{Batch};
 ghost use Rattle.raft_base.specs.declared.pipe_log.FileId.{FileId};
 ghost use Rattle.raft_base.specs.declared.pipe_log.LogQueue.{LogQueue};
@@ -7,9 +7,9 @@ ghost use Rattle.raft_base.specs.declared.pipe_log.Version.{Version};
 ghost use Rattle.std.specs.FinMap as finite;
 ghost use Rattle.raft_memory.specs.Choice.{AreWhole, choice_for, left_by, touched_before, NameNoBytes};
 ghost use Rattle.raft_env.specs.Consistent.{AreConsistent, IsConsistent};
-ghost use Rattle.raft_files.specs.Detectable.{EndsWithoutCompressed, IsDetectable, format_of};
+ghost use Rattle.raft_files.specs.Detectable.{AreFresh, EndsWithoutCompressed, IsDetectable, IsFreshAfter, IsGivenBy, format_of};
 ghost use Rattle.raft_env.specs.Directory.{Directory, Leaves, CrashImage, Path, file_at};
-ghost use Rattle.raft_env.specs.Outcomes.{File, is_touched};
+ghost use Rattle.raft_env.specs.Outcomes.{Change, File, is_touched};
 ghost use Rattle.raft_files.specs.Records.{HoldsRecords};
 ghost use Rattle.raft_files.specs.Scan.{PlacedRecord};
 ghost use Rattle.raft_premise.specs.Completed.{EndsInZeros, HasCompletedLog, HasCompletedRecords};
@@ -96,4 +96,16 @@ pub fn damage_of_a_queue_is_detectable()
         → PipeHasCompletedLogIfSimple p n → HasSimplePastOf queue folders n → AreConsistent n
         → (choices : List Choice) → AreWhole choices
         → ∥ IsDetectableQueue (all_of folders) queue n (left_by choices n) ∥₁ }
+{}
+
+/// The records of a renamed file, of which so many changes came before the renaming, stay fresh
+/// after each later change (`stay`), and a record that a write was to bring is fresh (`written`).
+pub fn records_stay_fresh()
+    ensures stay { (signature : Option ℕ) (count : ℕ) (c : Change) (changes : List Change)
+        (records : List PlacedRecord) → count ≤ length changes
+        → AreFresh signature (Some count) changes records
+        → AreFresh signature (Some count) (c ∷ changes) records }
+    ensures written { (signature : Option ℕ) (count : ℕ) (c : Change) (changes : List Change)
+        (r : PlacedRecord) → count ≤ length changes → IsGivenBy signature r c
+        → IsFreshAfter signature (Some count) (c ∷ changes) r }
 {}
