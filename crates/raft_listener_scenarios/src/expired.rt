@@ -108,7 +108,7 @@ fn after_ten(alloc: Global, keeps: Option<FileSeq>) -> Result<(u64, FileSeq, u64
     let mut asked = 0;
     for _ in 0..10 {
         let groups = engine.purge_expired_files_with_listeners(&mut listeners)?;
-        if groups.as_slice() == &[1, 2, 3] {
+        if groups.as_slice() == [1, 2, 3].as_slice() {
             asked += 1;
         }
     }
