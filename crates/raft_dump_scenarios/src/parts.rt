@@ -54,7 +54,7 @@ static CASES: [Case; 4] = [
         end: 117,
         zeros: true,
         stop: None,
-        most: 262_144,
+        most: 69,
     },
     // 560,061 bytes are three parts.
     Case {
@@ -122,12 +122,14 @@ fn code_of(fault: Option<&Fault>) -> Option<u8> {
 fn is_checked(alloc: Global, bytes: &[u8], case: &Case) -> Result<bool, Fault> {
     let mut source = source_of(alloc, bytes);
     let check = check_parts(alloc, &file(alloc)?, bytes.len(), &mut source)?;
-    Ok(check.records == case.records
-        && check.end == case.end
-        && check.len == bytes.len()
-        && check.zeros == case.zeros
-        && code_of(check.stop.as_ref()) == case.stop
-        && source.most == case.most)
+    Ok(
+        check.records == case.records
+            && check.end == case.end
+            && check.len == bytes.len()
+            && check.zeros == case.zeros
+            && code_of(check.stop.as_ref()) == case.stop
+            && source.most == case.most,
+    )
 }
 
 /// How many items a dump of the parts gives, where it stops, and why.
@@ -138,7 +140,7 @@ struct Dumped {
     stop: Option<Fault>,
 }
 
-fn dumped(alloc: Global, bytes: &[u8]) -> Result<Dumped, Fault> {
+fn dump_parts(alloc: Global, bytes: &[u8]) -> Result<Dumped, Fault> {
     let mut source = source_of(alloc, bytes);
     let mut parts = LogFileParts::open(alloc, bytes.len(), &mut source)?;
     let mut items = 0;
@@ -171,10 +173,12 @@ fn dumped(alloc: Global, bytes: &[u8]) -> Result<Dumped, Fault> {
 }
 
 fn is_dumped(alloc: Global, bytes: &[u8], case: &Case) -> Result<bool, Fault> {
-    let found = dumped(alloc, bytes)?;
-    Ok(found.items == case.records
-        && code_of(found.stop.as_ref()) == case.stop
-        && (case.stop.is_none() || found.end == case.end))
+    let found = dump_parts(alloc, bytes)?;
+    Ok(
+        found.items == case.records
+            && code_of(found.stop.as_ref()) == case.stop
+            && (case.stop.is_none() || found.end == case.end),
+    )
 }
 
 #[test]

@@ -20,7 +20,7 @@ const TORN: &[u8] = b"torn";
 pub(crate) type FileParts = (&'static str, &'static [&'static [u8]]);
 
 /// Two queues, a file that is no log's, and the file of a lock.
-pub(crate) static WHOLE: [FileParts; 5] = [
+pub(crate) const WHOLE: &[FileParts] = &[
     ("0000000000000001.raftlog", &[HEADER, PUT, ENTRY]),
     ("0000000000000002.raftlog", &[HEADER, PUT]),
     ("0000000000000004.rewrite", &[HEADER, PUT, PUT]),
@@ -29,12 +29,12 @@ pub(crate) static WHOLE: [FileParts; 5] = [
 ];
 
 /// Torn bytes in the last file, and in the first.
-pub(crate) static TORN_END: [FileParts; 2] = [
+pub(crate) const TORN_END: &[FileParts] = &[
     ("0000000000000001.raftlog", &[HEADER, PUT, ENTRY]),
     ("0000000000000002.raftlog", &[HEADER, PUT, TORN]),
 ];
 
-pub(crate) static TORN_FRONT: [FileParts; 2] = [
+pub(crate) const TORN_FRONT: &[FileParts] = &[
     ("0000000000000001.raftlog", &[HEADER, PUT, TORN]),
     ("0000000000000002.raftlog", &[HEADER, PUT]),
 ];

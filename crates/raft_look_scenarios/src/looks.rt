@@ -72,55 +72,55 @@ const DUMP_ONE: &str = "\
 static CASES: [Case; 9] = [
     Case {
         name: "check",
-        files: &WHOLE,
+        files: WHOLE,
         look: Look::Check,
         told: Some((0, CHECK)),
     },
     Case {
         name: "check-torn-end",
-        files: &TORN_END,
+        files: TORN_END,
         look: Look::Check,
         told: Some((4, CHECK_TORN_END)),
     },
     Case {
         name: "check-torn-front",
-        files: &TORN_FRONT,
+        files: TORN_FRONT,
         look: Look::Check,
         told: Some((5, CHECK_TORN_FRONT)),
     },
     Case {
         name: "dump",
-        files: &WHOLE,
+        files: WHOLE,
         look: Look::Dump(None),
         told: Some((0, DUMP)),
     },
     Case {
         name: "dump-torn-end",
-        files: &TORN_END,
+        files: TORN_END,
         look: Look::Dump(None),
         told: Some((4, DUMP_TORN_END)),
     },
     Case {
         name: "dump-torn-front",
-        files: &TORN_FRONT,
+        files: TORN_FRONT,
         look: Look::Dump(None),
         told: Some((4, DUMP_TORN_FRONT)),
     },
     Case {
         name: "dump-one",
-        files: &WHOLE,
+        files: WHOLE,
         look: Look::Dump(Some("0000000000000002.raftlog")),
         told: Some((0, DUMP_ONE)),
     },
     Case {
         name: "dump-none",
-        files: &WHOLE,
+        files: WHOLE,
         look: Look::Dump(Some("notes")),
         told: None,
     },
     Case {
         name: "image",
-        files: &TORN_FRONT,
+        files: TORN_FRONT,
         look: Look::Image,
         told: Some((0, "")),
     },
@@ -140,12 +140,7 @@ const OPTIONS: Options<'static> = Options {
 };
 
 // The status of a look.
-fn looked(
-    rt: HostRuntime,
-    folder: &str,
-    look: Look,
-    out: &mut Output,
-) -> anyhow::Result<u8> {
+fn looked(rt: HostRuntime, folder: &str, look: Look, out: &mut Output) -> anyhow::Result<u8> {
     let mut progress = Progress::new(rt, true)?;
     let folder = Folder::open(rt, folder, &OPTIONS)?;
     let status = match look {
@@ -186,8 +181,9 @@ fn looks_tell_what_stands_there_and_leave_it(rt: HostRuntime) -> Result<(), Fail
     for case in &CASES {
         let folder = make(&rt, case.name, case.files)?;
         let held = holds(rt, folder.as_str(), case);
-        fs::remove_dir_all(&rt, folder.as_str())?;
+        let removed = fs::remove_dir_all(&rt, folder.as_str());
         assert!(rt; held?, "{}", case.name);
+        removed?;
     }
     Ok(())
 }

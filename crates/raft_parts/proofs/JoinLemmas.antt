@@ -253,7 +253,7 @@ module _ (id : FileId) (format : LogFileFormat) (header bytes part : List ℕ) (
   unfolding next_place
   part_added total total_is fits = (
     subst (λ (n : ℕ). IsReadTo id bytes (cursor id format bytes n) (min (count + c.records) (2 ^ 64 - 1))) next_is
-    (subst (IsReadTo id bytes (cursor id format bytes (at + (c.end - length header)))) (omega (arith, part_joined.to.few, part_joined.within, total_is, fits)) part_joined.to),
+        (subst (IsReadTo id bytes (cursor id format bytes (at + (c.end - length header)))) (omega (arith, part_joined.to.few, part_joined.within, total_is, fits)) part_joined.to),
     λ tells.
         let front : drop (c.end - length header) part ≡ drop (at + min (c.end - length header) (length part) - at) part = ap (λ (n : ℕ). drop n part) (omega (arith, part_joined.inside)) in
         let size_left : length (drop (at + (c.end - length header)) bytes) ≡ total - (at + min (c.end - length header) (length part)) = length-drop (at + (c.end - length header)) bytes ∙ omega (arith, next_is, total_is) in

@@ -90,12 +90,7 @@ fn check_whole<S: PartSource>(
 }
 
 // What can be read of a part behind the header.
-fn check_part(
-    alloc: Global,
-    file: &LogFile,
-    header: &[u8],
-    part: &[u8],
-) -> Result<FileCheck, Fault>
+fn check_part(alloc: Global, file: &LogFile, header: &[u8], part: &[u8]) -> Result<FileCheck, Fault>
     ensures value { IfOk result (IsCheckOf file.now.id (header.now ++ part.now)) }
     ensures refused { IfErr result IsReadRefusal }
 {

@@ -1,5 +1,5 @@
 //! A log file that is read part by part, each behind the file's header.
-ghost use Rattle.std.specs.Prelude.{◌≡◌, ◌++◌, ◌+◌, ◌-◌, ◌^◌, ℕ, List, IfErr, IfOk, OnOk, drop, length, min, take};
+ghost use Rattle.std.specs.Prelude.{◌≡◌, ◌++◌, ◌+◌, ◌-◌, ◌^◌, ℕ, List, [], IfErr, IfOk, OnOk, drop, length, min, take};
 ghost use Rattle.raft_memory.specs.Memory.{memory_directory};
 ghost use Rattle.raft_files.specs.Header.{header_of};
 ghost use Rattle.raft_files.specs.Writer.{bytes_at};
@@ -55,24 +55,37 @@ impl LogFileParts {
             → AreOf bytes (S.given source.new) → p ≡ begun_with bytes (header_of bytes)) }
         ensures refused { IfErr result IsReadRefusal }
     {
-        let front = source.read_part(0, LogFileFormat::max_encoded_len())?;
-        let mut header = Vec::new(alloc);
-        let (size, at, len) = match LogFileFormat::decode(&mut front.bytes.as_slice()) {
-            Ok(format) if format.alignment == 0 => {
-                let end = LogFileFormat::encoded_len(format.version);
-                header.extend_from_slice(&front.bytes[..end])?;
-                (size, end, PART_LEN.min(size.saturating_sub(end)))
-            }
-            Ok(_) => (size, 0, size),
-            Err(_) => (front.bytes.len(), 0, front.bytes.len()),
+        let longest = LogFileFormat::max_encoded_len();
+        let front = source.read_part(0, longest)?;
+        let Ok(format) = LogFileFormat::decode(&mut front.bytes.as_slice()) else {
+            return Ok(LogFileParts::whole(alloc, longest.min(size)));
         };
+        if format.alignment != 0 {
+            return Ok(LogFileParts::whole(alloc, size));
+        }
+        let end = LogFileFormat::encoded_len(format.version);
+        let mut header = Vec::new(alloc);
+        header.extend_from_slice(&front.bytes[..end])?;
         Ok(LogFileParts {
             header,
             size,
-            at,
-            len,
+            at: end,
+            len: PART_LEN.min(size.saturating_sub(end)),
             part: Vec::new(alloc),
         })
+    }
+
+    // The first so many bytes in one part.
+    fn whole(alloc: Global, size: usize) -> LogFileParts
+        ensures value { result ≡ record { header = []; size = size; at = 0; len = size; part = [] } }
+    {
+        LogFileParts {
+            header: Vec::new(alloc),
+            size,
+            at: 0,
+            len: size,
+            part: Vec::new(alloc),
+        }
     }
 
     /// The next part behind the header, as a file of this path in memory.

@@ -24,18 +24,18 @@ parts-preserved g c =
     let e = c.in_ok-part.ensures in
     let inv = c.parts.invariant in
     let a = c.go_on-wanted.ensures.added in
-    let wants = subst (λ (n : ℕ). IsWanted (n - c.go_on-wanted.new.check.end) (drop (c.go_on-wanted.new.check.end - c.parts.check.end) c.deref-2.result.now) c.go_on-wanted.result) inv.1 c.go_on-wanted.ensures.wanted in
+    let wants = subst (λ (n : ℕ). IsWanted (n - c.go_on-wanted.new.check.end) (drop (c.go_on-wanted.new.check.end - c.parts.check.end) c.deref-in-Some.result.now) c.go_on-wanted.result) inv.1 c.go_on-wanted.ensures.wanted in
     let some : c.in-Some.len ≤ c.args.size - c.parts.check.end = rw c.in-Some.is at inv.4 in (
       ap (λ (x : FileCheck). x.id) a ∙ inv.0,
       ap (λ (x : FileCheck). x.len) a ∙ inv.1,
       ap (λ (x : FileCheck). x.format) a ∙ inv.2,
-      omega (arith, ap (λ (x : FileCheck). x.end) a, some, inv.3, e.value.2, ap length c.deref-2.ensures.value),
+      omega (arith, ap (λ (x : FileCheck). x.end) a, some, inv.3, e.value.2, ap length c.deref-in-Some.ensures.value),
       wanted_within _ _ c.go_on-wanted.result wants,
       λ bytes size_is are begins.
           let split = subst (AreOf bytes) e.ok are in
           let part = bytes_of_part bytes c.in_ok-part.part c.parts.check.end c.in-Some.len e.value.0 e.value.1 split.0 in
           let check = subst (λ (l : List ℕ). IsCheckOf c.args.file.now.id (c.args.header.now ++ l) c.in_ok-read.read) c.deref.ensures.value c.in_ok-read.ensures.value in
-          goes_on c.args.file.now.id c.args.format c.args.header.now bytes c.in_ok-part.part.bytes.items c.deref-2.result.now c.args.size c.in-Some.len c.parts.check c.in_ok-read.read c.go_on-wanted.new.check c.go_on-wanted.result begins size_is (omega arith) inv.3 part check (inv.5 bytes size_is split.1 begins).0 c.deref-2.ensures.value a wants,
+          goes_on c.args.file.now.id c.args.format c.args.header.now bytes c.in_ok-part.part.bytes.items c.deref-in-Some.result.now c.args.size c.in-Some.len c.parts.check c.in_ok-read.read c.go_on-wanted.new.check c.go_on-wanted.result begins size_is (omega arith) inv.3 part check (inv.5 bytes size_is split.1 begins).0 c.deref-in-Some.ensures.value a wants,
       λ bytes are. inv.6 bytes (subst (AreOf bytes) e.ok are).1,
     )
 
