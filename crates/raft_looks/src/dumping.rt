@@ -71,7 +71,10 @@ fn dump_file(alloc: Global, folder: &Folder, file: &LogFile, out: &mut Output) -
         let Some((place, fault)) = stop else {
             return Ok(true);
         };
-        let place = RecordPlace { id: place.id, offset: before };
+        let place = RecordPlace {
+            id: place.id,
+            offset: before,
+        };
         if let Err(fault) = add_fault(Some(place), &fault, &mut out.lines) {
             return Err(failure(path, &fault));
         }
@@ -114,8 +117,14 @@ fn dump_part(
             id: place.id,
             offset: parts.place_of(place.offset),
         };
-        if let Err(fault) = add_item(alloc, image, &mut reader, Some(there), &item, &mut out.lines)
-        {
+        if let Err(fault) = add_item(
+            alloc,
+            image,
+            &mut reader,
+            Some(there),
+            &item,
+            &mut out.lines,
+        ) {
             return Err(failure(path, &fault));
         }
         out.print_if_full()?;

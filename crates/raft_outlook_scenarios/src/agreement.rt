@@ -18,12 +18,13 @@ static MODES: [RecoveryMode; 3] = [
 ];
 
 /// What is told of both queues.
+#[derive(Drop)]
 struct Checked {
     append: QueueFiles,
     rewrite: QueueFiles,
 }
 
-fn checked<F: FileSystem>(alloc: Global, fs: &mut F) -> Result<Checked, Fault> {
+fn check_both<F: FileSystem>(alloc: Global, fs: &mut F) -> Result<Checked, Fault> {
     Ok(Checked {
         append: inspect(alloc, fs, &["a", "b"], LogQueue::Append)?,
         rewrite: inspect(alloc, fs, &["a", "b"], LogQueue::Rewrite)?,
@@ -42,16 +43,20 @@ fn told(alloc: Global, found: &Checked, mode: RecoveryMode) -> Result<Wanted, Fa
     })
 }
 
-// Whether an opening goes through, and what it leaves.
-fn opened<F: FileSystem>(alloc: Global, mode: RecoveryMode, fs: F) -> Result<(bool, F), Fault> {
+fn config(alloc: Global, mode: RecoveryMode) -> Result<Config, Fault> {
     let mut config = Config::fresh(alloc);
     config.dir = String::from_str(alloc, "a")?;
     config.spill_dir = Some(String::from_str(alloc, "b")?);
     config.recovery_mode = mode;
-    Ok(match Engine::open_in_order(alloc, config, fs) {
+    Ok(config)
+}
+
+// Whether an opening goes through, and what it leaves.
+fn opened<F: FileSystem>(alloc: Global, config: Config, fs: F) -> (bool, F) {
+    match Engine::open_in_order(alloc, config, fs) {
         Ok(engine) => (true, engine.give_up()),
         Err(refused) => (false, refused.file_system),
-    })
+    }
 }
 
 fn len_of<F: FileSystem>(fs: &mut F, path: &str) -> Result<usize, FsFault> {
@@ -108,11 +113,11 @@ fn are_left<F: FileSystem>(
 fn agree(alloc: Global, case: &Case, mode: RecoveryMode, wanted: Wanted) -> Result<bool, Fault> {
     let mut fs = MemoryFileSystem::new(alloc);
     fill(&mut fs, alloc, case.files)?;
-    let found = checked(alloc, &mut fs)?;
+    let found = check_both(alloc, &mut fs)?;
     if told(alloc, &found, mode)? != wanted {
         return Ok(false);
     }
-    let (opens, mut left) = opened(alloc, mode, fs)?;
+    let (opens, mut left) = opened(alloc, config(alloc, mode)?, fs);
     Ok(opens == (wanted != Wanted::Fails) && are_left(alloc, &mut left, &found, mode, opens)?)
 }
 

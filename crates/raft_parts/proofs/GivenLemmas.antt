@@ -1,5 +1,5 @@
 -- What a dump gives of a part is what it gives of its file.
-use Rattle.std.proofs.Common.{◌≡◌, ℕ, ◌+◌, ◌-◌, ◌≤◌, ◌++◌, cond, Bool, true, false, List, [], ◌∷◌, length, take, drop, append_assoc, Option, Some, option_and_then, Ok, refl, sym, ap, subst, ◌∙◌, arith}
+use Rattle.std.proofs.Common.{◌≡◌, ℕ, ◌+◌, ◌-◌, ◌≤◌, ◌++◌, cond, Bool, true, false, List, [], ◌∷◌, length, take, drop, append_assoc, Option, Some, None, option_and_then, Ok, refl, sym, ap, subst, ◌∙◌, arith}
 use Rattle.std.proofs.lemmas.List.{map-append}
 use Rattle.std.proofs.Math.Seq.{drop-append_seam}
 use Rattle.raft_base.specs.FileId.{signature_in}
@@ -100,10 +100,12 @@ module _ (id : FileId) (format : LogFileFormat) (unaligned : format.alignment �
     behind = omega arith;
     gives = ap (λ (n : ℕ). given_after (cursor id format whole n)) (omega arith);
   }
-  given_too (p ∷ ps) from to a b place begun same is = record {
-    behind = omega (arith, others.behind, at_is, found.long);
-    gives = first ∙ ap (λ (gs : List Given). items_at a p.batch ++ gs) others.gives ∙ sym (append_assoc (items_at a p.batch) _ _) ∙ rest;
-  }
+  given_too (p ∷ ps) from to a b place begun same is =
+      let others : IsGivenToo from to (a + p.len) (p.at + p.len) ps = given_too ps from to (a + p.len) (p.at + p.len) (omega (arith, place, at_is, begun)) (omega (arith, at_is, begun)) further one.rest in
+      record {
+        behind = omega (arith, others.behind, at_is, found.long);
+        gives = first ∙ ap (λ (gs : List Given). items_at a p.batch ++ gs) others.gives ∙ sym (append_assoc (items_at a p.batch) _ _) ∙ rest (omega (arith, others.behind, at_is));
+      }
     where
       one : TakesOne (cursor id format part b) p ps
       one = take_one (cursor id format part b) p ps is
@@ -126,9 +128,6 @@ module _ (id : FileId) (format : LogFileFormat) (unaligned : format.alignment �
       further : IsAhead whole (a + p.len) part (p.at + p.len)
       further = subst (λ (n : ℕ). IsAhead whole (a + p.len) part (n + p.len)) (sym at_is) (ahead_on whole part a b p.len same there.within)
 
-      others : IsGivenToo from to (a + p.len) (p.at + p.len) ps
-      others = given_too ps from to (a + p.len) (p.at + p.len) (omega (arith, place, at_is, begun)) (omega (arith, at_is, begun)) further one.rest
-
       next_at : next.0.at + next.0.len ≡ a + p.len
       next_at = ap (λ (x : RecordCursor). x.at) (sym next.3)
 
@@ -138,12 +137,9 @@ module _ (id : FileId) (format : LogFileFormat) (unaligned : format.alignment �
           ∙ ap (λ (b : Batch). items_at a b ++ given_of (cursor id format whole (next.0.at + next.0.len)) (replayed_left (cursor id format whole (a + p.len)))) next.1
           ∙ ap (λ (n : ℕ). items_at a p.batch ++ given_of (cursor id format whole n) (replayed_left (cursor id format whole (a + p.len)))) next_at
 
-      end : a + p.len + (end_of_records (p.at + p.len) ps - (p.at + p.len)) ≡ a + (end_of_records (p.at + p.len) ps - b)
-      end = omega (arith, others.behind, at_is)
-
-      rest : (items_at a p.batch ++ moved from to (items_from (p.at + p.len) ps)) ++ given_after (cursor id format whole (a + p.len + (end_of_records (p.at + p.len) ps - (p.at + p.len))))
+      rest : a + p.len + (end_of_records (p.at + p.len) ps - (p.at + p.len)) ≡ a + (end_of_records (p.at + p.len) ps - b) → (items_at a p.batch ++ moved from to (items_from (p.at + p.len) ps)) ++ given_after (cursor id format whole (a + p.len + (end_of_records (p.at + p.len) ps - (p.at + p.len))))
           ≡ moved from to (items_from b (p ∷ ps)) ++ given_after (cursor id format whole (a + (end_of_records b (p ∷ ps) - b)))
-      rest =
+      rest end =
           ap (λ (gs : List Given). (gs ++ moved from to (items_from (p.at + p.len) ps)) ++ given_after (cursor id format whole (a + p.len + (end_of_records (p.at + p.len) ps - (p.at + p.len))))) (sym (moved_items from to b a p.batch (sym place)))
           ∙ ap (λ (gs : List Given). gs ++ given_after (cursor id format whole (a + p.len + (end_of_records (p.at + p.len) ps - (p.at + p.len))))) (sym (map-append _ (items_at b p.batch) (items_from (p.at + p.len) ps)))
           ∙ ap (λ (n : ℕ). moved from to (items_from b (p ∷ ps)) ++ given_after (cursor id format whole n)) end

@@ -1,5 +1,5 @@
 -- What is read of a part is what is read of its file.
-use Rattle.std.proofs.Common.{◌≡◌, ℕ, ◌+◌, ◌-◌, ◌<◌, ◌≤◌, ◌++◌, nat_lt, false, List, [], ◌∷◌, length, take, drop, Option, Some, None, option_and_then, refl, sym, ap, subst, ◌∙◌, arith, length-drop, inl, inr}
+use Rattle.std.proofs.Common.{◌≡◌, ℕ, ◌+◌, ◌-◌, ◌^◌, ◌<◌, ◌≤◌, ◌++◌, min, nat_lt, false, List, [], ◌∷◌, length, take, drop, Option, Some, None, option_and_then, refl, sym, ap, subst, ◌∙◌, arith, length-drop, inl, inr}
 use Rattle.std.proofs.lemmas.Bool.{cases_Bool, ltb-false, ltb-true}
 use Rattle.std.proofs.lemmas.List.{drop-drop, drop-take, length-append, length-take, take_all}
 use Rattle.std.proofs.Math.Seq.{drop-append-add, drop-append_seam, take-append_seam}
@@ -9,20 +9,20 @@ use Rattle.raft_base.specs.declared.pipe_log.FileId.{FileId}
 use Rattle.raft_records.specs.Front.{HasRecordOf}
 use Rattle.raft_records.specs.Item.{Batch}
 use Rattle.raft_records.specs.ItemBatch.{parts_refusal, record_refusal}
-use Rattle.raft_records.specs.Record.{batch_by, record_of, record_parts}
+use Rattle.raft_records.specs.Record.{Header, batch_by, record_header, record_of, record_parts}
 use Rattle.raft_records.proofs.FrontLemmas.{front_parts}
 use Rattle.raft_files.specs.Header.{header_len, header_of}
-use Rattle.raft_files.specs.RecordReader.{IsNext, RecordCursor, bytes_ahead, next_refusal, records_left}
+use Rattle.raft_files.specs.RecordReader.{IsNext, RecordCursor, bytes_ahead, cursor_after_header, next_refusal, records_left}
 use Rattle.raft_files.specs.Scan.{PlacedRecord, end_of_records, is_padding, record_place}
 use Rattle.raft_files.specs.declared.format.LogFileFormat.{LogFileFormat}
 use Rattle.raft_files.proofs.RecordReaderLemmas.{readable_next}
 use Rattle.raft_files.proofs.ScanExtentLemmas.{record_of_header}
-use Rattle.raft_files.proofs.ScanLemmas.{found_record, header_of-kept, header_within, reading_after_header, record_place_here}
+use Rattle.raft_files.proofs.ScanLemmas.{IsRecordAt, found_record, header_of-kept, header_within, reading_after_header, record_place_here}
 use Rattle.raft_dump.specs.Check.{EndsReading, IsCheckOf, IsReadFrom, IsReadIn, records_read}
 use Rattle.raft_dump.specs.declared.check.FileCheck.{FileCheck}
-use Rattle.raft_dump.proofs.CheckLemmas.{IsReadTo, next_is_further, read_one, reading_goes_on}
+use Rattle.raft_dump.proofs.CheckLemmas.{IsReadTo, ReadsOne, read_one, reading_begins, reading_goes_on}
 use Rattle.raft_parts.specs.Given.{cursor}
-use Rattle.raft_parts.specs.Parts.{BeginsWith}
+use Rattle.raft_parts.specs.Parts.{BeginsWith, IsWanted, TellsNext}
 use Rattle.raft_parts.proofs.FrontLemmas.{tells_one}
 
 pub not_padded : (alignment : ℕ) (bytes : List ℕ) (at : ℕ) → alignment ≡ 0 → is_padding alignment bytes at ≡ false
@@ -72,6 +72,7 @@ module _ (id : FileId) (format : LogFileFormat) (unaligned : format.alignment �
     pub same : IsAhead whole (a + (end_of_records b ps - b)) part (end_of_records b ps)
 
   joined : (ps : List PlacedRecord) (a b count : ℕ) → IsAhead whole a part b → records_read (cursor id format part b) ≡ ps → IsReadTo id whole (cursor id format whole a) count → Joined a b count ps
+  unfolding signature
   joined [] a b count same is to =
       let stays : a ≡ a + (b - b) = omega arith in
       record {
@@ -80,15 +81,20 @@ module _ (id : FileId) (format : LogFileFormat) (unaligned : format.alignment �
         to = subst (λ (n : ℕ). IsReadTo id whole (cursor id format whole n) (count + 0)) stays (subst (IsReadTo id whole (cursor id format whole a)) (omega arith) to);
         same = subst (λ (n : ℕ). IsAhead whole n part b) stays same;
       }
-  joined (p ∷ ps) a b count same is to = record {
-    behind = omega (arith, others.behind, at_is, found.long);
-    inside = omega (arith, others.inside, at_is, length-drop b part, length-drop (p.at + p.len) part, h.3);
-    to = subst (λ (n : ℕ). IsReadTo id whole (cursor id format whole n) (count + length (p ∷ ps))) there (subst (IsReadTo id whole (cursor id format whole (a + p.len + (end_of_records (p.at + p.len) ps - (p.at + p.len))))) (omega arith) others.to);
-    same = subst (λ (n : ℕ). IsAhead whole n part (end_of_records (p.at + p.len) ps)) there others.same;
-  }
+  joined (p ∷ ps) a b count same is to =
+      let others : Joined (a + p.len) (p.at + p.len) (count + 1) ps = joined ps (a + p.len) (p.at + p.len) (count + 1) further one.rest on in
+      let there : a + p.len + (end_of_records (p.at + p.len) ps - (p.at + p.len)) ≡ a + (end_of_records (p.at + p.len) ps - b) = omega (arith, others.behind, at_is) in
+      record {
+        behind = omega (arith, others.behind, at_is, found.long);
+        inside = omega (arith, others.inside, at_is, length-drop b part, length-drop (p.at + p.len) part, h.3);
+        to = subst (λ (n : ℕ). IsReadTo id whole (cursor id format whole n) (count + length (p ∷ ps))) there (subst (IsReadTo id whole (cursor id format whole (a + p.len + (end_of_records (p.at + p.len) ps - (p.at + p.len))))) (omega arith) others.to);
+        same = subst (λ (n : ℕ). IsAhead whole n part (end_of_records (p.at + p.len) ps)) there others.same;
+      }
     where
+      one : ReadsOne (cursor id format part b) p ps
       one = read_one (cursor id format part b) p ps is
 
+      found : IsRecordAt (signature_in format.version id.seq) part (record_place format.alignment part b) p
       found = found_record (signature_in format.version id.seq) part (record_place format.alignment part b) p one.found
 
       at_is : p.at ≡ b
@@ -97,13 +103,13 @@ module _ (id : FileId) (format : LogFileFormat) (unaligned : format.alignment �
       stands : record_of (signature_in format.version id.seq) (drop b part) ≡ Some (p.batch, p.len)
       stands = ap (λ (n : ℕ). record_of (signature_in format.version id.seq) (drop n part)) (sym (here part b)) ∙ found.is
 
+      h : (header : Header) × (record_header (drop b part) ≡ Some header) × (header.len ≡ p.len) × (p.len ≤ length (drop b part))
       h = record_of_header (signature_in format.version id.seq) (drop b part) p.batch p.len stands
 
       has : HasRecordOf (drop a whole) (drop b part)
       has = tells_one (drop a whole) (drop b part) same h.0 (omega (arith, found.long, h.3)) h.1 (λ _. omega (arith, h.2, h.3))
 
       next : IsNext records_left (cursor id format whole a) p.batch (cursor id format whole (a + p.len))
-      unfolding signature
       next = readable_next (cursor id format whole a) a p.batch p.len (sym (here whole a)) (record_told a b has ∙ stands)
 
       on : IsReadTo id whole (cursor id format whole (a + p.len)) (count + 1)
@@ -112,11 +118,17 @@ module _ (id : FileId) (format : LogFileFormat) (unaligned : format.alignment �
       further : IsAhead whole (a + p.len) part (p.at + p.len)
       further = subst (λ (n : ℕ). IsAhead whole (a + p.len) part (n + p.len)) (sym at_is) (ahead_on whole part a b p.len same h.3)
 
-      others : Joined (a + p.len) (p.at + p.len) (count + 1) ps
-      others = joined ps (a + p.len) (p.at + p.len) (count + 1) further one.rest on
+-- the header of a file is as long as its version has it
+header_size : (id : FileId) (format : LogFileFormat) (header bytes : List ℕ) → BeginsWith header format bytes → length header ≡ header_len format.version
+header_size id format header bytes begins =
+    let long = header_within id bytes _ (reading_after_header id bytes format begins.rest begins.read) in
+    omega (arith, ap length begins.header_is, length-take (header_len format.version) bytes, long)
 
-      there : a + p.len + (end_of_records (p.at + p.len) ps - (p.at + p.len)) ≡ a + (end_of_records (p.at + p.len) ps - b)
-      there = omega (arith, others.behind, at_is)
+-- nothing is read yet behind the header
+pub begins_read : (id : FileId) (format : LogFileFormat) (header bytes : List ℕ) → BeginsWith header format bytes → IsReadTo id bytes (cursor id format bytes (length header)) 0
+begins_read id format header bytes begins =
+    subst (λ (n : ℕ). IsReadTo id bytes (cursor id format bytes n) 0) (sym (header_size id format header bytes begins))
+    (reading_begins id (cursor_after_header id format bytes) (record { rest = begins.rest; header = begins.read; is = refl }))
 
 -- bytes that were cut from the front are as many as they are
 pub cut_to : (len : ℕ) (xs part : List ℕ) → part ≡ take len xs → part ≡ take (length part) xs
@@ -148,12 +160,9 @@ module _ (id : FileId) (format : LogFileFormat) (header bytes part : List ℕ) (
   place : ℕ
   place = at + (c.end - length header)
 
-  long : header_len format.version ≤ length bytes
-  long = header_within id bytes _ (reading_after_header id bytes format begins.rest begins.read)
-
   size_is : length header ≡ size
   unfolding size
-  size_is = omega (arith, ap length begins.header_is, length-take (header_len format.version) bytes, long)
+  size_is = header_size id format header bytes begins
 
   front_is : take size bytes ≡ take size image
   unfolding size image
@@ -168,6 +177,7 @@ module _ (id : FileId) (format : LogFileFormat) (header bytes part : List ℕ) (
   read = subst (λ h. IsReadIn id (header ++ part) h c) again check.reading.read
 
   ps : List PlacedRecord
+  unfolding size image
   ps = records_read (cursor id format image size)
 
   begin_same : IsAhead bytes at image size
@@ -177,6 +187,7 @@ module _ (id : FileId) (format : LogFileFormat) (header bytes part : List ℕ) (
       all ∙ cut_to len (drop at bytes) part part_is ∙ ap (λ (l : List ℕ). take (length l) (drop at bytes)) (sym all)
 
   join : Joined id format begins.unaligned bytes image at size count ps
+  unfolding ps size image
   join = joined id format begins.unaligned bytes image ps at size count begin_same refl to
 
   end_is : c.end ≡ end_of_records size ps
@@ -228,3 +239,42 @@ module _ (id : FileId) (format : LogFileFormat) (header bytes part : List ℕ) (
     same = sym rest_is ∙ same ∙ ap (λ (l : List ℕ). take (length l) (drop place bytes)) rest_is;
     ends = λ has. ends c.stop refl (subst (HasRecordOf (drop place bytes)) (sym rest_is) has);
   }
+
+  next_place : ℕ
+  next_place = at + min (c.end - length header) (length part)
+
+  next_is : at + (c.end - length header) ≡ next_place
+  unfolding next_place
+  next_is = omega (arith, part_joined.inside)
+
+  -- what a check gains by the part, and why it stops there where the part tells what stands there
+  pub part_added : (size : ℕ) → length bytes ≡ size → size < 2 ^ 64 → IsReadTo id bytes (cursor id format bytes (at + min (c.end - length header) (length part))) (min (count + c.records) (2 ^ 64 - 1))
+      × (TellsNext (size - (at + min (c.end - length header) (length part))) (drop (at + min (c.end - length header) (length part) - at) part) → EndsReading (cursor id format bytes (at + min (c.end - length header) (length part))) c.stop)
+  unfolding next_place
+  part_added total total_is fits = (
+    subst (λ (n : ℕ). IsReadTo id bytes (cursor id format bytes n) (min (count + c.records) (2 ^ 64 - 1))) next_is
+        (subst (IsReadTo id bytes (cursor id format bytes (at + (c.end - length header)))) (omega (arith, part_joined.to.few, part_joined.within, total_is, fits)) part_joined.to),
+    λ tells.
+        let front : drop (c.end - length header) part ≡ drop (at + min (c.end - length header) (length part) - at) part = ap (λ (n : ℕ). drop n part) (omega (arith, part_joined.inside)) in
+        let size_left : length (drop (at + (c.end - length header)) bytes) ≡ total - (at + min (c.end - length header) (length part)) = length-drop (at + (c.end - length header)) bytes ∙ omega (arith, next_is, total_is) in
+        let told : HasRecordOf (drop (at + (c.end - length header)) bytes) (drop (at + min (c.end - length header) (length part) - at) part) =
+        tells (drop (at + (c.end - length header)) bytes) size_left (subst (λ (l : List ℕ). l ≡ take (length l) (drop (at + (c.end - length header)) bytes)) front part_joined.same) in
+        subst (λ (n : ℕ). EndsReading (cursor id format bytes n) c.stop) next_is
+        (part_joined.ends (subst (HasRecordOf (drop (at + (c.end - length header)) bytes)) (sym front) told)),
+  )
+
+-- a check that has gained what was read of a part
+pub goes_on : (id : FileId) (format : LogFileFormat) (header bytes part front : List ℕ) (size len : ℕ) (check read new : FileCheck) (wanted : Option ℕ) → BeginsWith header format bytes → length bytes ≡ size → size < 2 ^ 64 → check.end ≤ size → part ≡ take len (drop check.end bytes) → IsCheckOf id (header ++ part) read →
+    IsReadTo id bytes (cursor id format bytes check.end) check.records → front ≡ part →
+    new ≡ record check { records = min (check.records + read.records) (2 ^ 64 - 1); end = check.end + min (read.end - length header) (length front); stop = read.stop } →
+    IsWanted (size - new.end) (drop (new.end - check.end) front) wanted →
+    IsReadTo id bytes (cursor id format bytes new.end) new.records × (wanted ≡ None → EndsReading (cursor id format bytes new.end) new.stop)
+goes_on id format header bytes part front size len check read new wanted begins size_is fits within part_is check_is to front_is new_is wants =
+    let added = part_added id format header bytes part check.end len check.records read begins (omega (arith, within, size_is)) part_is check_is to size size_is fits in
+    let after : FileCheck = record check { records = min (check.records + read.records) (2 ^ 64 - 1); end = check.end + min (read.end - length header) (length part); stop = read.stop } in
+    let same : new ≡ after = new_is ∙ ap (λ (l : List ℕ). record check { records = min (check.records + read.records) (2 ^ 64 - 1); end = check.end + min (read.end - length header) (length l); stop = read.stop }) front_is in
+    let there : IsWanted (size - after.end) (drop (after.end - check.end) part) wanted =
+    subst (λ (x : FileCheck). IsWanted (size - x.end) (drop (x.end - check.end) part) wanted) same
+    (subst (λ (l : List ℕ). IsWanted (size - new.end) (drop (new.end - check.end) l) wanted) front_is wants) in
+    subst (λ (x : FileCheck). IsReadTo id bytes (cursor id format bytes x.end) x.records × (wanted ≡ None → EndsReading (cursor id format bytes x.end) x.stop)) (sym same)
+    (added.0, λ none. added.1 (subst (IsWanted (size - after.end) (drop (after.end - check.end) part)) none there))

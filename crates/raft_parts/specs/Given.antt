@@ -25,4 +25,4 @@ end_of_items r = end_of_records r.at (replayed_left r)
 
 -- each from a place behind the one on, at the other
 abbrev pub moved : ℕ → ℕ → List Given → List Given
-moved from to given = map (λ g. record g { offset = to + (g.offset - from) }) given
+moved from to given = map (λ (g : Given). record g { offset = to + (g.offset - from) }) given

@@ -90,12 +90,7 @@ fn check_whole<S: PartSource>(
 }
 
 // What can be read of a part behind the header.
-fn check_part(
-    alloc: Global,
-    file: &LogFile,
-    header: &[u8],
-    part: &[u8],
-) -> Result<FileCheck, Fault>
+fn check_part(alloc: Global, file: &LogFile, header: &[u8], part: &[u8]) -> Result<FileCheck, Fault>
     ensures value { IfOk result (IsCheckOf file.now.id (header.now ++ part.now)) }
     ensures refused { IfErr result IsReadRefusal }
 {
@@ -133,27 +128,28 @@ fn read_records<S: PartSource>(
     'parts: while let Some(len) = wanted {
         let part = read_whole_part(alloc, file.path.as_str(), source, check.end, len)?;
         let read = check_part(alloc, file, header, &part.bytes)?;
-        wanted = go_on(&mut check, read, header.len(), &part.bytes);
+        wanted = go_on(&mut check, read, header, &part.bytes);
     }
     Ok(check)
 }
 
 // Adds what was read of a part, and says how many bytes are to be read next, if any.
-fn go_on(check: &mut FileCheck, read: FileCheck, header_len: usize, part: &[u8]) -> Option<usize>
+fn go_on(check: &mut FileCheck, read: FileCheck, header: &[u8], part: &[u8]) -> Option<usize>
     requires { check.old.end + length part.now ≤ check.old.len }
     ensures added { check.new ≡ record check.old {
       records = min (check.old.records + read.records) (2 ^ 64 - 1);
-      end = check.old.end + min (read.end - header_len) (length part.now);
+      end = check.old.end + min (read.end - length header.now) (length part.now);
       stop = read.stop;
     } }
     ensures wanted { IsWanted (check.old.len - check.new.end)
         (drop (check.new.end - check.old.end) part.now) result }
 {
-    let read_len = read.end.saturating_sub(header_len).min(part.len());
+    let size = check.len;
+    let read_len = read.end.saturating_sub(header.len()).min(part.len());
     check.records = check.records.saturating_add(read.records);
     check.end += read_len;
     check.stop = read.stop;
-    let left = check.len - check.end;
+    let left = size - check.end;
     let wanted = wanted_behind(&part[read_len..], left)?;
     Some(wanted.max(PART_LEN).min(left))
 }
@@ -175,11 +171,12 @@ fn has_zeros<S: PartSource>(
 {
     let mut at = from;
     'parts: while at < size {
-        let part = read_whole_part(alloc, path, source, at, PART_LEN.min(size - at))?;
+        let len = PART_LEN.min(size - at);
+        let part = read_whole_part(alloc, path, source, at, len)?;
         if !are_zeros(&part.bytes) {
             return Ok(false);
         }
-        at += part.bytes.len();
+        at += len;
     }
     Ok(true)
 }

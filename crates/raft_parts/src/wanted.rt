@@ -14,13 +14,11 @@ pub fn wanted_behind(rest: &[u8], left: usize) -> Option<usize>
     if rest.len() >= left {
         return None;
     }
-    let wanted = match decode_header(rest) {
-        Ok(header) if header.len > left => return None,
-        Ok(header) => header.len,
-        Err(_) => RECORD_HEADER_LEN.min(left),
-    };
-    if wanted <= rest.len() {
-        return None;
+    match decode_header(rest) {
+        Ok(header) if header.len > left => None,
+        Ok(header) if header.len <= rest.len() => None,
+        Ok(header) => Some(header.len),
+        Err(_) if RECORD_HEADER_LEN <= rest.len() => None,
+        Err(_) => Some(RECORD_HEADER_LEN.min(left)),
     }
-    Some(wanted)
 }
