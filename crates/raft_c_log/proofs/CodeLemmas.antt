@@ -32,8 +32,8 @@ stored_code fault.NotRecovered = refl
 stored_code fault.TrailFull = refl
 stored_code fault.Layer = refl
 
-pub kept_code : {e : Fault} {code : ℤ} → code ≡ pos (fault_code e) → to_z w32 (of_z w32 code) ≡ pos (fault_code e)
-kept_code {e} is = ap (λ (c : ℤ). to_z w32 (of_z w32 c)) is ∙ stored_code e
+pub kept_code : (e : Fault) {code : ℤ} → code ≡ pos (fault_code e) → to_z w32 (of_z w32 code) ≡ pos (fault_code e)
+kept_code e is = ap (λ (c : ℤ). to_z w32 (of_z w32 c)) is ∙ stored_code e
 
-pub code_of : {e : Fault} {code : ℤ} {n : ℕ} → code ≡ pos (fault_code e) → code ≡ pos n → fault_code e ≡ n
-code_of {e} {n = n} is other = let same : pos (fault_code e) ≡ pos n = sym is ∙ other in cc
+pub code_of : (e : Fault) {code : ℤ} {n : ℕ} → code ≡ pos (fault_code e) → code ≡ pos n → fault_code e ≡ n
+code_of e {n = n} is other = let same : pos (fault_code e) ≡ pos n = sym is ∙ other in cc

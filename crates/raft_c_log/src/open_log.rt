@@ -127,7 +127,6 @@ impl<F: FileSystem> OpenLog<F> {
     }
 
     // Writes the batch of these bytes.
-    #[tactic(auto, using(crate::proofs::RefusalLemmas::written))]
     fn write(&mut self, bytes: &[u8], sync: bool) -> Result<(), Fault>
         ensures ok { OnOk result (IsWrittenBy bytes.now sync self.old.engine self.new.engine) }
         ensures err { OnErr result (has_failed self.new.engine ≡ false
