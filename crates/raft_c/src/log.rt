@@ -4,7 +4,6 @@ ghost use Rattle.std.specs.Prelude.{◌≡◌, ◌∷◌, [], Some, length, pos,
 ghost use Rattle.raft_env.specs.Refusal.{no_refusals};
 ghost use Rattle.raft_disk.specs.Mirror.{mirror_directory, mirror_moments, mirror_refusals};
 ghost use Rattle.raft_memory.specs.Settled.{settled_files};
-ghost use Rattle.raft_c.specs.declared.log.State.TheVariants.{Ended};
 ghost use Rattle.raft_c.specs.Logs.{GivesOrders, HasBegun, IsAdded, IsChange, IsClose, IsOpening, IsOpeningOver, IsRead, IsSettled};
 
 use crate::loading::{Found, Loading};
@@ -93,22 +92,29 @@ impl Log {
     {
         match std::mem::replace(&mut self.state, State::Ended) {
             State::Loading(loading) => self.open_over(loading, out, settings),
-            state => {
-                self.state = state;
+            State::Open(log) => {
+                self.state = State::Open(log);
                 NOT_OPEN
             }
+            State::Closed(files) => {
+                self.state = State::Closed(files);
+                NOT_OPEN
+            }
+            State::Ended => NOT_OPEN,
         }
     }
 
     fn open_over(&mut self, loading: Loading, out: i32, settings: &[u8]) -> i32
-        requires { self.old.state ≡ Ended }
         ensures value { IsOpeningOver settings.now
             (settled_files loading.files.items loading.folders.items) result self.new.state }
     {
         let out = if out < 0 { None } else { Some(out) };
         match ordered_files(self.alloc, out, loading.files, loading.folders) {
             Ok(files) => self.open_files(files, settings),
-            Err(_) => self.answer.keep(&Fault::Memory),
+            Err(_) => {
+                self.state = State::Ended;
+                self.answer.keep(&Fault::Memory)
+            }
         }
     }
 
@@ -178,7 +184,7 @@ impl Log {
                 self.standing = Standing::Settled;
                 code
             }
-            _ => FAILED,
+            Standing::Settled | Standing::Broken => FAILED,
         }
     }
 
