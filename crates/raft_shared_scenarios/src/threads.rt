@@ -1,8 +1,6 @@
 //! Threads over one engine, with a history and without.
 
-use crate::asked::put_of;
-use crate::seated::{Seated, keys_in, open, seat};
-use raft_log_engine::{Engine, Fault, MemoryFileSystem};
+use raft_log_engine::{Config, Engine, Fault, Fresh, LogBatch, MemoryFileSystem};
 use raft_shared::{Call, Finished, Recorded, Reply, Seat, Shared};
 use std::alloc::{AllocError, Global};
 use std::sync::{Arc, Mutex, Wait};
@@ -33,12 +31,27 @@ trait Crew: Threads + Wait + Copy + Send + 'static {}
 
 impl<R: Threads + Wait + Copy + Send + 'static> Crew for R {}
 
-fn open_new(alloc: Global) -> Result<Engine<MemoryFileSystem>, Fault> {
-    open(alloc, MemoryFileSystem::new(alloc))
+fn put_of(alloc: Global, group: u64, key: &[u8], value: &[u8]) -> Result<LogBatch, Fault> {
+    let mut batch = LogBatch::new(alloc);
+    batch.put(group, key.to_vec(alloc)?, value.to_vec(alloc)?)?;
+    Ok(batch)
 }
 
-fn begin(alloc: Global) -> Result<Seated<MemoryFileSystem>, Fault> {
-    seat(alloc, open_new(alloc)?, LIMIT, SEATS)
+fn open(alloc: Global) -> Result<Engine<MemoryFileSystem>, Fault> {
+    let files = MemoryFileSystem::new(alloc);
+    Ok(Engine::open_in_order(alloc, Config::fresh(alloc), files)?)
+}
+
+fn share(alloc: Global) -> Result<Shared<MemoryFileSystem>, Fault> {
+    Shared::new(alloc, open(alloc)?, LIMIT).map_err(|refused| refused.fault)
+}
+
+fn take_seats(alloc: Global, shared: &mut Shared<MemoryFileSystem>) -> Result<Vec<Seat>, Fault> {
+    let mut seats = Vec::new(alloc);
+    for _ in 0..SEATS {
+        seats.push(shared.seat()?)?;
+    }
+    Ok(seats)
 }
 
 fn write(
@@ -95,7 +108,8 @@ fn written<R: Crew>(
 
 // The history that threads make.
 fn history<R: Crew>(rt: &R, alloc: Global) -> Result<Option<Vec<Recorded>>, Fault> {
-    let Seated { shared, seats } = begin(alloc)?;
+    let mut shared = share(alloc)?;
+    let seats = take_seats(alloc, &mut shared)?;
     let together = Arc::new(alloc, Mutex::new(shared))?;
     let seats = written(rt, alloc, &together, seats)?;
     Ok(Arc::into_inner(together).and_then(|lock| finish(lock.into_inner(), seats)))
@@ -173,15 +187,25 @@ fn join_putters<R: Threads>(rt: &R, putters: Vec<Putter>) -> Result<(), Fault> {
     Ok(())
 }
 
-fn keys_of(mut engine: Engine<MemoryFileSystem>) -> Option<usize> {
-    keys_in(&mut engine)
+// How many keys the groups hold, where the engine stands.
+fn keys_in(mut engine: Engine<MemoryFileSystem>) -> Option<usize> {
+    match engine.image() {
+        Ok(image) => {
+            let mut keys = 0usize;
+            for group in &image.groups {
+                keys = keys.saturating_add(group.pairs.len());
+            }
+            Some(keys)
+        }
+        Err(_) => None,
+    }
 }
 
 // How many keys an engine without a history has, once threads have put theirs.
 fn keys_put<R: Crew>(rt: &R, alloc: Global) -> Result<Option<usize>, Fault> {
-    let together = Arc::new(alloc, Mutex::new(open_new(alloc)?))?;
+    let together = Arc::new(alloc, Mutex::new(open(alloc)?))?;
     join_putters(rt, start_putters(rt, alloc, &together)?)?;
-    Ok(Arc::into_inner(together).and_then(|lock| keys_of(lock.into_inner())))
+    Ok(Arc::into_inner(together).and_then(|lock| keys_in(lock.into_inner())))
 }
 
 /// Four threads that share an engine without a history put ten keys each: the image has forty.
