@@ -141,7 +141,7 @@ impl Log {
         }
         let code = match &mut self.state {
             State::Open(log) => log.change(change, &mut self.answer),
-            _ => NOT_OPEN,
+            State::Loading(_) | State::Closed(_) | State::Ended => NOT_OPEN,
         };
         self.standing = Standing::Waiting(code);
     }
@@ -160,7 +160,7 @@ impl Log {
                 self.state = State::Closed(files);
                 code
             }
-            _ => 0,
+            State::Loading(_) | State::Closed(_) | State::Ended => 0,
         };
         self.standing = Standing::Waiting(code);
     }
@@ -191,7 +191,7 @@ impl Log {
         }
         match &mut self.state {
             State::Open(log) => log.read(query, &mut self.answer),
-            _ => NOT_OPEN,
+            State::Loading(_) | State::Closed(_) | State::Ended => NOT_OPEN,
         }
     }
 

@@ -2,7 +2,6 @@
 use Rattle.std.specs.Prelude.{◌≡◌, ◌⊎◌, ℕ, List, ℤ, pos, Result, Err}
 use Rattle.raft_base.specs.Fault.{fault_code}
 use Rattle.raft_base.specs.declared.errors.Fault.{Fault}
-use Rattle.raft_base.specs.declared.errors.Fault.TheVariants as fault
 use Rattle.raft_config.specs.Folders.{folders_in}
 use Rattle.raft_config.specs.Sanitized.{IsContradiction}
 use Rattle.raft_config.specs.declared.config.Config.{Config}
@@ -17,11 +16,11 @@ use Rattle.raft_log_engine.specs.Engine.{contents_of}
 use Rattle.raft_log_engine.specs.Opening.{IsNewIn, Opens}
 use Rattle.raft_log_engine.specs.declared.engine.Engine.{Engine}
 use Rattle.raft_log_engine.specs.declared.engine.Refused.{Refused}
-use Rattle.raft_settings.specs.Reading.{ReadsAlone}
+use Rattle.raft_settings.specs.Reading.{IsLoneReadRefusal, ReadsAlone}
 
--- a text has no settings, or they aren't read for lack of memory
-abbrev pub IsTextRefusal : Fault → Type 0
-IsTextRefusal e = (fault_code e ≡ 1) ⊎ (e ≡ fault.Memory)
+-- bytes are no text, or no settings are read of them
+abbrev pub IsTextRefusal : List ℕ → Fault → Type 0
+IsTextRefusal text e = (fault_code e ≡ 1) ⊎ IsLoneReadRefusal text e
 
 -- the folders of a text's settings keep at each moment what they kept before; or no settings are read,
 -- and nothing changes
@@ -37,7 +36,7 @@ pub record IsUnopened (text : List ℕ) (code : ℤ) (n : Directory) (old new : 
   pub fails : Fault
   pub code_is : code ≡ pos (fault_code fails)
   pub cause :
-      IsTextRefusal fails ⊎ ((settings : Config) × ReadsAlone text settings
+      IsTextRefusal text fails ⊎ ((settings : Config) × ReadsAlone text settings
       × (IsContradiction settings fails
       ⊎ IsOpeningRefusal settings.recovery_mode (folders_in settings) n old new fails))
 
@@ -59,5 +58,5 @@ module _ {F H R W : Type 0} {g : Ghosts F H R W} where
   -- .. or the text is refused, and they stay
   abbrev pub OpensBy : List ℕ → F → Result (Engine F H R W g) (Refused F) → Type 0
   OpensBy text found result = OpensWithText text found result
-      ⊎ ((e : Fault) × IsTextRefusal e
+      ⊎ ((e : Fault) × IsTextRefusal text e
       × (result ≡ Err (record { fault = e; file_system = found })))

@@ -152,6 +152,7 @@ impl<F: FileSystem> OpenLog<F> {
         }
     }
 
+    #[tactic(auto, using(crate::proofs::RefusalLemmas::refusals, crate::proofs::RefusalLemmas::keeps))]
     fn sync(&mut self) -> Result<(), Fault>
         ensures ok { OnOk result (IsSynced self.old.engine self.new.engine) }
         ensures err { OnErr result
@@ -162,6 +163,7 @@ impl<F: FileSystem> OpenLog<F> {
         self.engine.sync()
     }
 
+    #[tactic(auto, using(crate::proofs::RefusalLemmas::refusals, crate::proofs::RefusalLemmas::keeps))]
     fn compact_to(&mut self, group: u64, index: u64, answer: &mut Answer) -> Result<(), Fault>
         ensures ok { OnOk result (IsCompacted group index self.old.engine self.new.engine
             answer.new) }
@@ -178,7 +180,7 @@ impl<F: FileSystem> OpenLog<F> {
         Ok(())
     }
 
-    #[tactic(auto, using(crate::proofs::CallLemmas::all_synced))]
+    #[tactic(auto, using(crate::proofs::CallLemmas::all_synced, crate::proofs::RefusalLemmas::refusals, crate::proofs::RefusalLemmas::keeps))]
     fn rewrite_append_queue(&mut self, answer: &mut Answer) -> Result<(), Fault>
         ensures ok { OnOk result (HasRewrittenAppend self.old.engine self.new.engine answer.new) }
         ensures err { OnErr result
@@ -191,7 +193,7 @@ impl<F: FileSystem> OpenLog<F> {
         Ok(())
     }
 
-    #[tactic(auto, using(crate::proofs::CallLemmas::all_synced))]
+    #[tactic(auto, using(crate::proofs::CallLemmas::all_synced, crate::proofs::RefusalLemmas::refusals, crate::proofs::RefusalLemmas::keeps))]
     fn rewrite_rewrite_queue(&mut self, answer: &mut Answer) -> Result<(), Fault>
         ensures ok { OnOk result (HasRewrittenRewrite self.old.engine self.new.engine answer.new) }
         ensures err { OnErr result
@@ -204,7 +206,7 @@ impl<F: FileSystem> OpenLog<F> {
         Ok(())
     }
 
-    #[tactic(auto, using(crate::proofs::CallLemmas::all_synced))]
+    #[tactic(auto, using(crate::proofs::CallLemmas::all_synced, crate::proofs::RefusalLemmas::refusals, crate::proofs::RefusalLemmas::keeps))]
     fn purge_all_stale(&mut self, answer: &mut Answer) -> Result<(), Fault>
         ensures ok { OnOk result (HasPurgedStale self.old.engine self.new.engine answer.new) }
         ensures err { OnErr result
@@ -217,7 +219,7 @@ impl<F: FileSystem> OpenLog<F> {
         Ok(())
     }
 
-    #[tactic(auto, using(crate::proofs::CallLemmas::all_synced))]
+    #[tactic(auto, using(crate::proofs::CallLemmas::all_synced, crate::proofs::RefusalLemmas::refusals, crate::proofs::RefusalLemmas::keeps))]
     fn purge_expired(&mut self, barrier: u64, answer: &mut Answer) -> Result<(), Fault>
         ensures ok { OnOk result (HasPurgedUpTo barrier self.old.engine self.new.engine
             answer.new) }
@@ -251,6 +253,7 @@ impl<F: FileSystem> OpenLog<F> {
         }
     }
 
+    #[tactic(auto, using(crate::proofs::RefusalLemmas::refusals))]
     fn get(&self, group: u64, key: &[u8], answer: &mut Answer) -> Result<bool, Fault>
         ensures value { IfOk result (λ found. answered found answer.new.bytes.items
             ≡ (contents_of self.now.engine).value group key.now) }
@@ -315,6 +318,7 @@ impl<F: FileSystem> OpenLog<F> {
         Ok(true)
     }
 
+    #[tactic(auto, using(crate::proofs::RefusalLemmas::refusals))]
     fn groups(&self, answer: &mut Answer) -> Result<bool, Fault>
         ensures value { OnOk result (IsGroupsAnswer self.now.engine answer.new.bytes.items) }
         ensures ok { IfOk result (λ found. found ≡ true) }

@@ -20,7 +20,7 @@ pub(crate) fn engine_over<F: FileSystem + Drop>(
     settings: &[u8],
     files: F,
 ) -> Result<Engine<F>, Refused<F>>
-    ensures { OpensBy settings.now files result }
+    ensures opens { OpensBy settings.now files result }
 {
     match config_of(alloc, settings) {
         Ok(config) => Engine::open_in_order(alloc, config, files),
@@ -33,7 +33,7 @@ pub(crate) fn engine_over<F: FileSystem + Drop>(
 
 fn config_of(alloc: Global, settings: &[u8]) -> Result<Config, Fault>
     ensures ok { IfOk result (ReadsAlone settings.now) }
-    ensures refused { IfErr result IsTextRefusal }
+    ensures refused { IfErr result (IsTextRefusal settings.now) }
 {
     match str::from_utf8(settings) {
         Ok(text) => raft_settings::read(alloc, text),

@@ -31,3 +31,4 @@ pub mod AttemptLemmas
 pub mod EventLemmas
 pub mod ExpiredLemmas
 pub mod Crossing
+pub mod PurgeEventLemmas

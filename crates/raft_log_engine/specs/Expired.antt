@@ -6,6 +6,7 @@ use Rattle.raft_env.specs.declared.env.FileSystem.{Ghosts}
 use Rattle.raft_base.specs.declared.pipe_log.LogQueue.TheVariants.{Append}
 use Rattle.raft_listeners.specs.Heard.{HasAnswered, HasHeard, Heard}
 use Rattle.raft_pipes.specs.PipeState.{last_seq}
+use Rattle.raft_purge.specs.Apart.{KeepsOthers}
 use Rattle.raft_purge.specs.Expired.{HasPurgedAppend, first_renewed}
 use Rattle.raft_purge_rules.specs.Choosing.{AreDecisions, groups_by}
 use Rattle.raft_purge_rules.specs.Plan.{rounds_after}
@@ -38,6 +39,10 @@ module _ {F H R W : Type 0} {g : Ghosts F H R W} where
         (queue_of e') (option_map (λ w. w.rewrite) (needs_of e).append)
     pub rewrite : (rewrite_queue_of e').first
         ≡ first_renewed (needs_of e).rewrite (has_groups_together e) (rewrite_queue_of e)
+    -- where only the Append queue is rewritten, of the others nothing is moved
+    pub others :
+        (needs_of e).rewrite ≡ false
+        → KeepsOthers (groups_by Rewritten decisions) (tables_of e.tables) (tables_of e'.tables)
     -- the queue has a file behind the watermark, and ends as before
     pub last : last_seq (queue_of e') ≡ last_seq (queue_of e)
     -- where no queue is to be rewritten nothing but the counts of rounds may change

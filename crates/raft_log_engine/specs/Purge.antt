@@ -16,6 +16,7 @@ use Rattle.raft_tables.specs.FirstFiles.{first_of_tables}
 use Rattle.raft_tables.specs.GroupIds.{ids_bound}
 use Rattle.raft_tables.specs.declared.memtables.MemTables.{MemTables}
 use Rattle.raft_tables.specs.declared.rewritten.GroupsMet.{GroupsMet}
+use Rattle.raft_purge.specs.Apart.{KeepsOthers}
 use Rattle.raft_purge.specs.Dropping.{HasDroppedOld, HasDroppedSome}
 use Rattle.raft_purge.specs.Expired.{HasDroppedExpired, IsIdle}
 use Rattle.raft_purge.specs.Faults.{IsByChange, IsPurgeRefusal}
@@ -79,6 +80,11 @@ HasLostSome RewriteRewrite m append rewrite append' rewrite' =
 HasLostSome DropStale m append rewrite append' rewrite' = HasLostFront None m append append'
 HasLostSome (DropExpired x) m append rewrite append' rewrite' =
     HasLostFront (Some x.barrier) m append append'
+
+-- where only the Append queue is rewritten, groups that aren't keep their places
+abbrev pub LeavesOthers : Purge → Tables → Tables → Type 0
+LeavesOthers (DropExpired x) t t' = x.renews ≡ false → KeepsOthers x.groups.items t t'
+LeavesOthers _ t t' = Unit {0}
 
 -- there is nothing to be rewritten
 abbrev pub IsIdlePurge : Purge → Type 0

@@ -9,15 +9,17 @@ mod entries;
 mod files;
 mod log;
 mod measure;
+mod openings;
 mod parts;
 mod purges;
 mod shared;
+mod steady;
 mod system;
 mod threads;
 mod workload;
 
 use anyhow::{Result, bail};
-use measure::Host;
+use measure::WorkersHost;
 use std::env;
 use system::print_system;
 use workload::{Amount, SMALL, Workload};
@@ -58,7 +60,7 @@ fn amount(words: &[String]) -> Result<Amount> {
     Ok(amount)
 }
 
-fn run_named<R: Host>(rt: &R, name: &str, amount: Amount) -> Result<()> {
+fn run_named<R: WorkersHost>(rt: &R, name: &str, amount: Amount) -> Result<()> {
     match Workload::named(name) {
         Some(workload) => workload.run(rt, amount),
         None => bail!(
@@ -67,7 +69,7 @@ fn run_named<R: Host>(rt: &R, name: &str, amount: Amount) -> Result<()> {
     }
 }
 
-fn run_all<R: Host>(rt: &R) -> Result<()> {
+fn run_all<R: WorkersHost>(rt: &R) -> Result<()> {
     for workload in &Workload::ALL {
         workload.run(rt, SMALL)?;
     }

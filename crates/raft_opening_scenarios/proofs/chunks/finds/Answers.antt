@@ -14,11 +14,11 @@ open_in_order-requires-send-F g c = λ κs. search (sendable, memory_send) depth
 pub open_in_order-requires-sync-F : goal.open_in_order-requires-sync-F
 open_in_order-requires-sync-F g c = λ κs. search (sendable, memory_send, memory_sync) depth 20
 
-pub store_both-requires-2-send-F : goal.store_both-requires-2-send-F
-store_both-requires-2-send-F g c = λ κs. search (sendable, memory_send) depth 20
+pub store_both-requires-in-loop-workers-send-F : goal.store_both-requires-in-loop-workers-send-F
+store_both-requires-in-loop-workers-send-F g c = λ κs. search (sendable, memory_send) depth 20
 
-pub store_both-requires-2-sync-F : goal.store_both-requires-2-sync-F
-store_both-requires-2-sync-F g c = λ κs. search (sendable, memory_send, memory_sync) depth 20
+pub store_both-requires-in-loop-workers-sync-F : goal.store_both-requires-in-loop-workers-sync-F
+store_both-requires-in-loop-workers-sync-F g c = λ κs. search (sendable, memory_send, memory_sync) depth 20
 
 pub open_by_workers-requires-send-F : goal.open_by_workers-requires-send-F
 open_by_workers-requires-send-F g c = λ κs. search (sendable, memory_send) depth 20
