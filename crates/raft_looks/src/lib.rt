@@ -5,7 +5,9 @@
 mod checking;
 mod dumping;
 mod folder;
+mod reserved;
 
 pub use checking::check;
 pub use dumping::dump;
-pub use folder::Folder;
+pub use folder::{Folder, ReservedFile};
+pub use reserved::is_reserved;
