@@ -1,13 +1,7 @@
-use Rattle.std.proofs.Common.{List, ℕ, subst}
-use Rattle.raft_settings.specs.Reading.{ReadsAlone}
+use Rattle.std.proofs.Common.{inl}
 use Rattle.raft_c_log.proofs.opening.engine_over.Goals as goal
 
-pub returns-in-Ok-open_in_order : goal.returns-in-Ok-open_in_order
-returns-in-Ok-open_in_order g c = record {
-  value = record {
-    settings = c.in_ok-config.config;
-    read = subst (λ (text : List ℕ). ReadsAlone text c.in_ok-config.config) c.in-Ok.ensures.cases.0 c.in_ok-config.ensures.value;
-    contents = c.in-Ok-open_in_order.ensures.opened.contents;
-    new = c.in-Ok-open_in_order.ensures.opened.ok;
-  };
+pub returns-in-Ok : goal.returns-in-Ok
+returns-in-Ok g c = record {
+  opens = inl (record { settings = c.in-Ok.config; read = c.in-Ok.ensures.ok; opens = c.open_in_order.ensures });
 }

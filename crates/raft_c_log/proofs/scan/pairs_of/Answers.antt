@@ -38,6 +38,7 @@ returns-then-pairs g c =
         scanned = ran.scan;
         bytes = kept_as limit ran.pairs ran.pairs _ (let kept = good.0 in let all = good.1 in search rules) (limited_all limit _ ran.pairs good.2);
       };
+      cause = tt;
     })
     (λ bad. ⊎_elim
     (λ broken. let kept = bad.3.0 in let clash : true ≡ false = search rules in absurd cc)
@@ -47,5 +48,6 @@ returns-then-pairs g c =
         scanned = ran.scan;
         bytes = kept_as limit bad.0 ran.pairs _ (let kept = bad.3.0 in let all = stops.0 in search rules) (ap (limited limit) bad.2 ∙ limited_first limit bad.0 bad.1 stops.1);
       };
+      cause = tt;
     })
     bad.3.1) met

@@ -1,0 +1,16 @@
+-- What a part tells of the bytes that it is of.
+use Rattle.std.proofs.Common.{◌≡◌, ◌∙◌, ◌≤◌, ℕ, List, drop, take, Option, Some, None, ap}
+use Rattle.std.specs.Option.{IfSome}
+use Rattle.raft_parts.specs.Parts.{IsPartOf, IsWanted}
+use Rattle.raft_parts.specs.declared.source.FilePart.{FilePart}
+
+pub bytes_of_part : (bytes : List ℕ) (part : FilePart) (at len : ℕ) → part.at ≡ at → part.len ≡ len → IsPartOf bytes part → part.bytes.items ≡ take len (drop at bytes)
+bytes_of_part bytes part at len at_is len_is is = is ∙ ap (λ (n : ℕ). take n (drop part.at bytes)) len_is ∙ ap (λ (n : ℕ). take len (drop n bytes)) at_is
+
+pub some_is_none : {A : Type 0} {x : A} → Some x ≡ None → ⊥
+some_is_none e = cc
+
+-- no more is wanted than the file has
+pub wanted_within : (left : ℕ) (front : List ℕ) (o : Option ℕ) → IsWanted left front o → IfSome o (λ w. w ≤ left)
+wanted_within left front None w = tt
+wanted_within left front (Some n) w = w.1
