@@ -16,6 +16,8 @@ mod held;
 #[cfg(test)]
 mod kept;
 #[cfg(test)]
+mod kept_purges;
+#[cfg(test)]
 mod opening;
 #[cfg(test)]
 mod purge_steps;
