@@ -7,11 +7,11 @@ use Rattle.raft_base.specs.declared.pipe_log.FileId.{FileId}
 use Rattle.raft_files.specs.declared.format.LogFileFormat.{LogFileFormat}
 use Rattle.raft_env.specs.Outcomes.{File, MayLeave, untouched_len, bytes_after}
 use Rattle.raft_files.specs.Scan.{PlacedRecord, record_place, record_at, next_record, end_of_records, ScanResult, records_after, scan_file, records_of, readable_records}
-use Rattle.raft_files.specs.Detectable.{IsPrefixOf, format_of, signature_by, AreFromCompletedCalls, HasCompressedAt, IsDetectableFile}
+use Rattle.raft_files.specs.Detectable.{IsPrefixOf, format_of, signature_by, AreFresh, AreFromCompletedCalls, HasCompressedAt, IsDetectableFile}
 use Rattle.raft_files.specs.Records.{ReadsFirst, HoldsRecords}
 use Rattle.raft_env.specs.Consistent.{IsConsistent}
 use Rattle.raft_premise.specs.Completed.{EndsInZeros, HoldsCompletedRecords}
-use Rattle.raft_damage.specs.DetectableDamage.{IsBrokenFrom, IsTornAfter}
+use Rattle.raft_damage.specs.DetectableDamage.{HoldsFreshRecords, IsBrokenFrom, IsTornAfter}
 use Rattle.raft_premise.proofs.CompletedZerosLemmas.{never_stale, only_zeros}
 use Rattle.raft_premise.proofs.CompletedLemmas.{IsWrittenByCompletedCalls}
 use Rattle.raft_files.proofs.DetectableLemmas.{prefix_itself, prefix_trans, prefix_append}
@@ -86,12 +86,12 @@ readable_records-take id n bytes = by_reading (scan_file id (take n bytes)) refl
         subst (λ rs. IsPrefixOf r.records rs) (sym (ap (λ q. records_of q) whole.read)) whole.first
 
 -- what the last sync found reads as the synced records
-readable-synced : (id : FileId) (format : LogFileFormat) (records : List PlacedRecord) (synced at : ℕ) (file : File) → HoldsCompletedRecords id format records synced at file → readable_records id file.synced ≡ take synced records
+readable-synced : (id : FileId) (format : LogFileFormat) (records : List PlacedRecord) (synced at : ℕ) (file : File) → HoldsFreshRecords id format records synced at file → readable_records id file.synced ≡ take synced records
 readable-synced id format records synced at file completed =
-    ap records_of (reading-broken id format (take synced records) completed.end file.synced completed.begins (broken_zeros id format completed.end file.synced completed.zeros))
+    ap records_of (reading-broken id format (take synced records) completed.end file.synced completed.begins completed.broken)
 
 -- .. so each outcome that storage allows begins with it
-synced_left : (id : FileId) (format : LogFileFormat) (records : List PlacedRecord) (synced at : ℕ) (file : File) (left : List ℕ) → (completed : HoldsCompletedRecords id format records synced at file) → MayLeave file left → (completed.end ≤ length left) × (take completed.end file.synced ≡ take completed.end left)
+synced_left : (id : FileId) (format : LogFileFormat) (records : List PlacedRecord) (synced at : ℕ) (file : File) (left : List ℕ) → (completed : HoldsFreshRecords id format records synced at file) → MayLeave file left → (completed.end ≤ length left) × (take completed.end file.synced ≡ take completed.end left)
 synced_left id format records synced at file left completed may =
     let apart = completed.apart in
     let within = completed.begins.within in
@@ -100,8 +100,8 @@ synced_left id format records synced at file left completed may =
     (long, same_front completed.end file.synced left within long each)
 
 -- the damage of an outcome can be told that holds the first records as they stand now and is broken after them
-pub torn_is_detectable : (id : FileId) (format : LogFileFormat) (records : List PlacedRecord) (synced at : ℕ) (file : File) (left : List ℕ) → HoldsCompletedRecords id format records synced at file → file.now ≡ bytes_after file.synced file.changes → file.renamed_after ≡ None → MayLeave file left → IsTornAfter id format records file left → IsDetectableFile id file left
-torn_is_detectable id format records synced at file left completed latest never may torn = record {
+pub torn_is_detectable : (id : FileId) (format : LogFileFormat) (records : List PlacedRecord) (synced at : ℕ) (file : File) (left : List ℕ) → HoldsFreshRecords id format records synced at file → file.now ≡ bytes_after file.synced file.changes → MayLeave file left → IsTornAfter id format records file left → IsDetectableFile id file left
+torn_is_detectable id format records synced at file left completed latest may torn = record {
   newer = [];
   upto = file.changes;
   moment = refl;
@@ -115,7 +115,9 @@ torn_is_detectable id format records synced at file left completed latest never 
       let whole : ScanResult = record { format = format; records = take torn.count records; end = torn.end } in
       let same : r ≡ whole = same_some (sym e ∙ whole_read) in
       torn.broken.1 (subst (λ (q : ScanResult). HasCompressedAt (signature_by id q.format) left (record_place q.format.alignment left q.end)) same marked);
-  none_stale = λ other is r has stale. absurd (never_stale file.renamed_after (file.changes ++ file.older) r.at never stale);
+  none_stale = λ other is.
+      let same : other ≡ format = same_some (sym is ∙ header) in
+      subst (λ f. AreFresh (signature_by id f) file.renamed_after (file.changes ++ file.older) read) (sym same) (λ r has. completed.fresh r (among r has));
 }
   where
     whole_read : scan_file id left ≡ Some (record { format = format; records = take torn.count records; end = torn.end })
@@ -149,22 +151,39 @@ torn_is_detectable id format records synced at file left completed latest never 
         let holds = holds_same id format (take synced records) completed.end file.synced left completed.begins begins.1 begins.0 in
         subst (λ rs. IsPrefixOf (take synced records) rs) (sym (readable-held id format (take synced records) completed.end left holds)) (prefix_append (take synced records) _)
 
--- what holds all bytes now is one
-pub now_is_torn : (id : FileId) (format : LogFileFormat) (records : List PlacedRecord) (synced at : ℕ) (file : File) → IsWrittenByCompletedCalls id format records synced at file → IsTornAfter id format records file file.now
-now_is_torn id format records synced at file completed =
+-- of a file that was never renamed all are fresh
+pub never_renamed_fresh : (id : FileId) (format : LogFileFormat) (records : List PlacedRecord) (synced at : ℕ) (file : File) → HoldsCompletedRecords id format records synced at file → file.renamed_after ≡ None → HoldsFreshRecords id format records synced at file
+never_renamed_fresh id format records synced at file completed never = record {
+  holds = completed.holds;
+  completed = completed.completed;
+  fresh = λ r has stale. absurd (never_stale file.renamed_after (file.changes ++ file.older) r.at never stale);
+  end = completed.end;
+  begins = completed.begins;
+  broken = broken_zeros id format completed.end file.synced completed.zeros;
+  apart = completed.apart;
+  long = completed.long;
+}
+
+-- what holds all bytes now is one, where none decodes after them
+pub whole_is_torn : (id : FileId) (format : LogFileFormat) (records : List PlacedRecord) (at : ℕ) (file : File) → HoldsRecords id format records at file.now → IsBrokenFrom id format at file.now → IsTornAfter id format records file file.now
+whole_is_torn id format records at file holds broken =
     let all : take (length records) records ≡ records = take_all (length records) records (omega arith) in
-    let ends = only_zeros at file.now file.renamed_after (file.changes ++ file.older) completed.past.never_renamed completed.written.empty completed.past.only_writes in
     record {
       count = length records;
       end = at;
-      holds = subst (λ rs. HoldsRecords id format rs at file.now) (sym all) completed.held.holds;
-      within = completed.held.holds.within;
+      holds = subst (λ rs. HoldsRecords id format rs at file.now) (sym all) holds;
+      within = holds.within;
       same = refl;
-      broken = broken_zeros id format at file.now ends;
+      broken = broken;
     }
 
+pub now_is_torn : (id : FileId) (format : LogFileFormat) (records : List PlacedRecord) (synced at : ℕ) (file : File) → IsWrittenByCompletedCalls id format records synced at file → IsTornAfter id format records file file.now
+now_is_torn id format records synced at file completed =
+    whole_is_torn id format records at file completed.held.holds
+    (broken_zeros id format at file.now (only_zeros at file.now file.renamed_after (file.changes ++ file.older) completed.past.never_renamed completed.written.empty completed.past.only_writes))
+
 -- .. and so is what holds those of the last sync
-pub synced_is_torn : (id : FileId) (format : LogFileFormat) (records : List PlacedRecord) (synced at : ℕ) (file : File) → IsConsistent file → HoldsCompletedRecords id format records synced at file → IsTornAfter id format records file file.synced
+pub synced_is_torn : (id : FileId) (format : LogFileFormat) (records : List PlacedRecord) (synced at : ℕ) (file : File) → IsConsistent file → HoldsFreshRecords id format records synced at file → IsTornAfter id format records file file.synced
 synced_is_torn id format records synced at file consistent completed =
     let begins = synced_left id format records synced at file file.now completed (now_may_be_left file consistent) in
     record {
@@ -173,5 +192,5 @@ synced_is_torn id format records synced at file consistent completed =
       holds = holds_same id format (take synced records) completed.end file.synced file.now completed.begins begins.1 begins.0;
       within = completed.begins.within;
       same = begins.1;
-      broken = broken_zeros id format completed.end file.synced completed.zeros;
+      broken = completed.broken;
     }

@@ -1,4 +1,5 @@
 pub mod DetectableDamageLemmas
+pub mod FreshLemmas
 pub mod PremiseLemmas
 pub mod PastLemmas
 pub mod QueueLemmas

@@ -2,9 +2,9 @@
 use Rattle.std.specs.Prelude.{◌≡◌, ◌⊎◌, ℕ, ◌≤◌, List, ◌++◌, length, take, Option, Some, None, Contains}
 use Rattle.raft_base.specs.declared.pipe_log.FileId.{FileId}
 use Rattle.raft_files.specs.declared.format.LogFileFormat.{LogFileFormat}
-use Rattle.raft_env.specs.Outcomes.{File, Change, bytes_since_sync}
+use Rattle.raft_env.specs.Outcomes.{File, Change, bytes_since_sync, least_len, untouched_len}
 use Rattle.raft_files.specs.Scan.{PlacedRecord, record_place, record_at, readable_records}
-use Rattle.raft_files.specs.Detectable.{IsPrefixOf, format_of, signature_by, IsGivenBy, HasCompressedAt, EndsWithoutCompressed}
+use Rattle.raft_files.specs.Detectable.{IsPrefixOf, format_of, signature_by, AreFresh, AreFromCompletedCalls, IsGivenBy, HasCompressedAt, EndsWithoutCompressed}
 use Rattle.raft_files.specs.Records.{HoldsRecords}
 
 -- where a record is looked for none can be decoded, nor is one barred by a mark of compression alone
@@ -13,6 +13,23 @@ IsBrokenFrom id format at bytes =
     let place = record_place format.alignment bytes at in
     (record_at (signature_by id format) bytes place ≡ None)
     × (HasCompressedAt (signature_by id format) bytes place → ⊥)
+
+-- a file that holds these records, each of them fresh and brought by no failed call, and held the
+-- first of them at its last sync, where none decoded after them
+pub record HoldsFreshRecords (id : FileId) (format : LogFileFormat) (records : List PlacedRecord)
+    (synced at : ℕ)
+    (file : File) : Type 0 where
+  pub holds : HoldsRecords id format records at file.now
+  pub completed : AreFromCompletedCalls id (signature_by id format)
+      (file.changes ++ file.older) records
+  pub fresh : AreFresh (signature_by id format) file.renamed_after (file.changes ++ file.older)
+      records
+  pub end : ℕ
+  pub begins : HoldsRecords id format (take synced records) end file.synced
+  pub broken : IsBrokenFrom id format end file.synced
+  -- no change touched what stands before that, and none left the file shorter
+  pub apart : end ≤ untouched_len file.synced file.changes
+  pub long : end ≤ least_len file.synced file.changes
 
 -- a crash left the first of these records of a file as they stand now, and after them no record
 pub record IsTornAfter (id : FileId) (format : LogFileFormat) (records : List PlacedRecord)

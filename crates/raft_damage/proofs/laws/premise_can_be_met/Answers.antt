@@ -1,5 +1,5 @@
 use Rattle.raft_memory.proofs.ChoiceTornLemmas.{choices_may_leave}
-use Rattle.raft_damage.proofs.PremiseLemmas.{records_detectable, records_torn, log_whole}
+use Rattle.raft_damage.proofs.PremiseLemmas.{fresh_detectable, log_whole, records_detectable, records_torn, reused_whole}
 use Rattle.raft_damage.proofs.PastLemmas.{own_detectable, now_is_read, synced_is_read}
 use Rattle.raft_damage.proofs.DetectableDamageLemmas.{broken_zeros}
 use Rattle.raft_damage.proofs.laws.premise_can_be_met.Goals as goal
@@ -18,6 +18,12 @@ returns-clause-zeros c = broken_zeros
 
 pub returns-clause-detectable : goal.returns-clause-detectable
 returns-clause-detectable c = log_whole
+
+pub returns-clause-fresh_records : goal.returns-clause-fresh_records
+returns-clause-fresh_records c path id format records synced at n file stands held consistent = fresh_detectable path id format records synced at n file stands held consistent
+
+pub returns-clause-reused : goal.returns-clause-reused
+returns-clause-reused c = reused_whole
 
 pub returns-clause-own : goal.returns-clause-own
 returns-clause-own c = own_detectable
