@@ -26,6 +26,10 @@ mod queues;
 #[cfg(test)]
 mod reads;
 #[cfg(test)]
+mod recycling;
+#[cfg(test)]
+mod reserved;
+#[cfg(test)]
 mod restarts;
 #[cfg(test)]
 mod rewritten;
