@@ -30,3 +30,4 @@ pub mod RoomLemmas
 pub mod AttemptLemmas
 pub mod EventLemmas
 pub mod ExpiredLemmas
+pub mod Crossing

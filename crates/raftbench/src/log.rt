@@ -90,8 +90,8 @@ fn sum_of_values<F: FileSystem>(
 
 #[derive(Drop)]
 pub(crate) struct Key {
-    group: u64,
-    key: Vec<u8>,
+    pub group: u64,
+    pub key: Vec<u8>,
 }
 
 /// Keys in no order.

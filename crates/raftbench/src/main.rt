@@ -11,7 +11,9 @@ mod log;
 mod measure;
 mod parts;
 mod purges;
+mod shared;
 mod system;
+mod threads;
 mod workload;
 
 use anyhow::{Result, bail};
@@ -27,6 +29,9 @@ fn main(rt: HostRuntime) -> Result<()> {
         [] => run_all(&rt),
         [word, folder, rest @ ..] if word.as_str() == "disk" => {
             disk::run_in(rt, folder.as_str(), amount(rest)?)
+        }
+        [word, folder, rest @ ..] if word.as_str() == "threads" => {
+            threads::run_in(&rt, rt, folder.as_str(), amount(rest)?)
         }
         [name, rest @ ..] => run_named(&rt, name.as_str(), amount(rest)?),
     }
@@ -56,7 +61,9 @@ fn amount(words: &[String]) -> Result<Amount> {
 fn run_named<R: Host>(rt: &R, name: &str, amount: Amount) -> Result<()> {
     match Workload::named(name) {
         Some(workload) => workload.run(rt, amount),
-        None => bail!("usage: raftbench [WORKLOAD [COUNT [SIZE]] | disk FOLDER [COUNT [SIZE]]]"),
+        None => bail!(
+            "usage: raftbench [WORKLOAD [COUNT [SIZE]] | disk|threads FOLDER [COUNT [SIZE]]]"
+        ),
     }
 }
 

@@ -6,6 +6,7 @@ use crate::files::append;
 use crate::log::put_get_reopen;
 use crate::measure::{Against, Host, Report};
 use crate::purges::append_compact_purge;
+use crate::shared::put_get_shared;
 use anyhow::Result;
 use raft_env::FileSystem;
 use raft_memory::MemoryFileSystem;
@@ -32,6 +33,8 @@ enum Kind {
     Puts(u64),
     /// Each under a key of its own, in no order.
     PutsInNoOrder,
+    /// Through a shared engine.
+    PutsShared,
     /// So many bytes of entries a batch, and one entry at the least.
     Entries(u64),
     /// Entries, one a batch, and then purges.
@@ -71,11 +74,12 @@ const BLOCK_SIZE: usize = 65536;
 pub(crate) const ONE_FILE: u64 = 1 << 40;
 
 impl Workload {
-    pub(crate) const ALL: [Workload; 12] = [
+    pub(crate) const ALL: [Workload; 13] = [
         Workload("crc", Kind::Blocks, 0, ONE_FILE),
         Workload("put", Kind::Puts(u64::MAX), 0, ONE_FILE),
         Workload("put-sync", Kind::Puts(u64::MAX), 1, ONE_FILE),
         Workload("put-random", Kind::PutsInNoOrder, 0, ONE_FILE),
+        Workload("put-shared", Kind::PutsShared, 0, ONE_FILE),
         Workload("overwrite", Kind::Puts(1000), 0, ONE_FILE),
         Workload("append", Kind::Entries(0), 0, ONE_FILE),
         Workload("append-sync", Kind::Entries(0), 1, ONE_FILE),
@@ -128,6 +132,7 @@ fn run_over<R: Host, F: FileSystem + Drop>(rt: &R, kind: Kind, files: F, load: L
             None
         }
         Kind::Puts(_) | Kind::PutsInNoOrder => Some(put_get_reopen(rt, &mut report, files, load)?),
+        Kind::PutsShared => Some(put_get_shared(rt, &mut report, files, load)?),
         Kind::Entries(_) => Some(append_entry_fetch(rt, &mut report, files, load)?),
         Kind::Purges => Some(append_compact_purge(rt, &mut report, files, load)?),
     };
