@@ -94,7 +94,7 @@ static void push_head(raftlog_batch *batch, uint8_t kind, uint64_t group) {
 
 int raftlog_batch_put(raftlog_batch *batch, uint64_t group, const void *key, size_t key_len, const void *value,
                       size_t value_len) {
-    if ((!key && key_len) || (!value && value_len)) return RAFTLOG_INVALID;
+    if (!batch || (!key && key_len) || (!value && value_len)) return RAFTLOG_INVALID;
     if (key_len > SIZE_MAX / 16 || value_len > SIZE_MAX / 16) return RAFTLOG_RANGE;
     if (!reserve(batch, 25 + key_len + value_len)) return RAFTLOG_NO_MEMORY;
     push_head(batch, 1, group);
@@ -104,7 +104,7 @@ int raftlog_batch_put(raftlog_batch *batch, uint64_t group, const void *key, siz
 }
 
 int raftlog_batch_delete(raftlog_batch *batch, uint64_t group, const void *key, size_t key_len) {
-    if (!key && key_len) return RAFTLOG_INVALID;
+    if (!batch || (!key && key_len)) return RAFTLOG_INVALID;
     if (key_len > SIZE_MAX / 16) return RAFTLOG_RANGE;
     if (!reserve(batch, 17 + key_len)) return RAFTLOG_NO_MEMORY;
     push_head(batch, 2, group);
@@ -114,7 +114,7 @@ int raftlog_batch_delete(raftlog_batch *batch, uint64_t group, const void *key, 
 
 int raftlog_batch_entries(raftlog_batch *batch, uint64_t group, const raftlog_entry *entries, size_t count) {
     size_t size = 17;
-    if (!entries && count) return RAFTLOG_INVALID;
+    if (!batch || (!entries && count)) return RAFTLOG_INVALID;
     if (!count) return RAFTLOG_OK;
     for (size_t i = 0; i < count; i++) {
         if (!entries[i].data && entries[i].len) return RAFTLOG_INVALID;
@@ -133,12 +133,14 @@ int raftlog_batch_entries(raftlog_batch *batch, uint64_t group, const raftlog_en
 }
 
 int raftlog_batch_clean(raftlog_batch *batch, uint64_t group) {
+    if (!batch) return RAFTLOG_INVALID;
     if (!reserve(batch, 9)) return RAFTLOG_NO_MEMORY;
     push_head(batch, 4, group);
     return RAFTLOG_OK;
 }
 
 int raftlog_batch_compact(raftlog_batch *batch, uint64_t group, uint64_t index) {
+    if (!batch) return RAFTLOG_INVALID;
     if (!reserve(batch, 17)) return RAFTLOG_NO_MEMORY;
     push_head(batch, 5, group);
     push_number(batch, index);
@@ -147,6 +149,7 @@ int raftlog_batch_compact(raftlog_batch *batch, uint64_t group, uint64_t index) 
 
 int raftlog_write(raftlog *log, raftlog_batch *batch, bool sync) {
     static const uint8_t empty[8];
+    if (!batch) return RAFTLOG_INVALID;
     uint64_t count = htobe64(batch->count);
     if (batch->len) memcpy(batch->data, &count, 8);
     int code = raftlog_write_bytes(log, batch->len ? batch->data : empty, batch->len ? batch->len : 8, sync);

@@ -10,7 +10,8 @@
 #include <sys/stat.h>
 #include <unistd.h>
 
-/* Reads a file whose bytes a process that was killed may have left in the system's memory alone. */
+/* Reads a file whose bytes a process that was killed may have left in the system's memory alone. EILSEQ: its name is no
+ * UTF-8. */
 static int read_file(raftlog *log, const char *place, const char *path) {
     int fd = open(place, O_RDONLY | O_CLOEXEC);
     if (fd < 0) return errno;
@@ -25,7 +26,10 @@ static int read_file(raftlog *log, const char *place, const char *path) {
         if (moved <= 0) error = moved ? errno : EIO;
         else len += (size_t)moved;
     }
-    if (!error && raft_c_add_file(&log->handle, (const uint8_t *)path, strlen(path), bytes, len)) error = ENOMEM;
+    if (!error) {
+        int code = raft_c_add_file(&log->handle, (const uint8_t *)path, strlen(path), bytes, len);
+        error = code == RAFTLOG_INVALID ? EILSEQ : code ? ENOMEM : 0;
+    }
     free(bytes);
     close(fd);
     return error;
@@ -37,6 +41,7 @@ static int read_folder(raftlog *log, const char *path, char *text, size_t room) 
     if (!place) return RAFTLOG_NO_MEMORY;
     int error = parts_sync(place), code = RAFTLOG_OK;
     if (!error) code = raft_c_add_folder(&log->handle, parts_some(path), strlen(path));
+    if (code == RAFTLOG_INVALID) code = RAFTLOG_NOT_PLAIN, parts_put_text(place, text, room);
     DIR *dir = error || code ? NULL : opendir(place);
     if (!error && !code && !dir) error = errno;
     while (!error && !code && dir) {
@@ -56,7 +61,7 @@ static int read_folder(raftlog *log, const char *path, char *text, size_t room) 
     }
     if (dir) closedir(dir);
     if (error && room && !*text) parts_put_text(place, text, room);
-    if (error) code = error == ENOMEM ? RAFTLOG_NO_MEMORY : RAFTLOG_FOLDER;
+    if (error) code = error == ENOMEM ? RAFTLOG_NO_MEMORY : error == EILSEQ ? RAFTLOG_NOT_PLAIN : RAFTLOG_FOLDER;
     free(place);
     return code;
 }

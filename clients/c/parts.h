@@ -25,6 +25,7 @@ void raft_c_compact_to(raft_c_handle *, uint64_t, uint64_t);
 void raft_c_must_rewrite_append_queue(raft_c_handle *);
 void raft_c_must_rewrite_rewrite_queue(raft_c_handle *);
 void raft_c_must_purge_all_stale(raft_c_handle *);
+void raft_c_purge_expired_files(raft_c_handle *, uint64_t);
 int32_t raft_c_settle(raft_c_handle *, bool);
 int32_t raft_c_span(raft_c_handle *, uint64_t);
 int32_t raft_c_get(raft_c_handle *, uint64_t, const uint8_t *, size_t, uint8_t *, size_t, uint64_t *);
@@ -39,7 +40,7 @@ void raft_c_numbers(raft_c_handle *, uint64_t *, uint64_t *);
 struct raftlog {
     raft_c_handle handle; /* of a log, from its opening to its close */
     pthread_mutex_t lock;
-    bool failed; /* the last call failed, so that its text is the answer */
+    bool failed; /* the last call failed below, so that its text is the answer */
     int code;
     char *folder;   /* NULL: in memory */
     int held;       /* the file of the folder's lock */

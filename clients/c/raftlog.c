@@ -21,6 +21,7 @@ const char *raftlog_code_text(int code) {
     case RAFTLOG_COMPACTED: return "entry compacted";
     case RAFTLOG_NO_ENTRY: return "entry not found";
     case RAFTLOG_WRONG_INDEX: return "wrong entry index";
+    case RAFTLOG_NOT_AN_ENTRY: return "no entry";
     case RAFTLOG_FAILED: return "the log failed";
     case RAFTLOG_NO_MEMORY: return "out of memory";
     case RAFTLOG_LZ4: return "lz4 block";
@@ -41,6 +42,7 @@ void parts_put_text(const char *from, char *text, size_t room) {
 }
 
 void raftlog_bytes_free(raftlog_bytes *bytes) {
+    if (!bytes) return;
     free(bytes->data);
     memset(bytes, 0, sizeof *bytes);
 }
@@ -132,13 +134,25 @@ int raftlog_close(raftlog *log) {
 
 /* ---- calls */
 
+static bool is_lacking(const void *bytes, size_t len) { return !bytes && len; }
+
 static void enter(raftlog *log) { pthread_mutex_lock(&log->lock); }
 
-static int leave(raftlog *log, int code) {
-    log->failed = code != RAFTLOG_OK && code != RAFTLOG_ABSENT;
+static int leave_as(raftlog *log, int code, bool has_text) {
+    log->failed = has_text;
     log->code = code;
     pthread_mutex_unlock(&log->lock);
     return code;
+}
+
+/* Ends a call with a code of the proved part. */
+static int leave(raftlog *log, int code) { return leave_as(log, code, code != RAFTLOG_OK && code != RAFTLOG_ABSENT); }
+
+/* Refuses a call by its arguments, or for want of memory here. */
+static int refuse(raftlog *log, int code) {
+    if (!log) return code;
+    enter(log);
+    return leave_as(log, code, false);
 }
 
 /* What a broken log answers: `raft_c_settle` gives no code of a call that it didn't carry out. */
@@ -149,6 +163,7 @@ static int settled(raftlog *log) {
 
 size_t raftlog_message(raftlog *log, char *text, size_t room) {
     if (!text) room = 0;
+    if (!log) return parts_put_text("", text, room), 0;
     enter(log);
     size_t len;
     if (log->failed) {
@@ -161,12 +176,20 @@ size_t raftlog_message(raftlog *log, char *text, size_t room) {
     return len;
 }
 
+/* Begins a call that answers bytes: a code where it can't. */
+static int begin(raftlog *log, raftlog_bytes *bytes) {
+    if (!log || !bytes) return refuse(log, RAFTLOG_INVALID);
+    if (!make_room(bytes, 1)) return refuse(log, RAFTLOG_NO_MEMORY);
+    enter(log);
+    return RAFTLOG_OK;
+}
+
 /* After a call that put as much of its answer in `bytes` as fits: the rest of it, where it is longer. */
 static int whole(raftlog *log, int code, raftlog_bytes *bytes, uint64_t len) {
     bytes->len = 0;
     if (code != RAFTLOG_OK) return leave(log, code);
     if (len > bytes->room) {
-        if (!make_room(bytes, len + len / 4)) return leave(log, RAFTLOG_NO_MEMORY);
+        if (len > SIZE_MAX / 2 || !make_room(bytes, len + len / 4)) return leave_as(log, RAFTLOG_NO_MEMORY, false);
         raft_c_answer(&log->handle, bytes->data, bytes->room);
     }
     bytes->len = len;
@@ -174,12 +197,14 @@ static int whole(raftlog *log, int code, raftlog_bytes *bytes, uint64_t len) {
 }
 
 int raftlog_write_bytes(raftlog *log, const void *bytes, size_t len, bool sync) {
+    if (!log || is_lacking(bytes, len)) return refuse(log, RAFTLOG_INVALID);
     enter(log);
-    raft_c_write(&log->handle, parts_some(bytes), bytes ? len : 0, sync);
+    raft_c_write(&log->handle, parts_some(bytes), len, sync);
     return leave(log, settled(log));
 }
 
 int raftlog_sync(raftlog *log) {
+    if (!log) return RAFTLOG_INVALID;
     enter(log);
     raft_c_sync(&log->handle);
     return leave(log, settled(log));
@@ -187,30 +212,31 @@ int raftlog_sync(raftlog *log) {
 
 int raftlog_get(raftlog *log, uint64_t group, const void *key, size_t key_len, raftlog_bytes *value) {
     uint64_t len = 0;
-    if (!make_room(value, 1)) return RAFTLOG_NO_MEMORY;
-    enter(log);
-    int code = raft_c_get(&log->handle, group, parts_some(key), key ? key_len : 0, value->data, value->room, &len);
+    int code = is_lacking(key, key_len) ? refuse(log, RAFTLOG_INVALID) : begin(log, value);
+    if (code) return code;
+    code = raft_c_get(&log->handle, group, parts_some(key), key_len, value->data, value->room, &len);
     return whole(log, code, value, len);
 }
 
 int raftlog_get_entry(raftlog *log, uint64_t group, uint64_t index, raftlog_bytes *value) {
     uint64_t len = 0;
-    if (!make_room(value, 1)) return RAFTLOG_NO_MEMORY;
-    enter(log);
-    int code = raft_c_get_entry(&log->handle, group, index, value->data, value->room, &len);
+    int code = begin(log, value);
+    if (code) return code;
+    code = raft_c_get_entry(&log->handle, group, index, value->data, value->room, &len);
     return whole(log, code, value, len);
 }
 
-int raftlog_fetch_entries(raftlog *log, uint64_t group, uint64_t begin, uint64_t end, uint64_t max_size,
+int raftlog_fetch_entries(raftlog *log, uint64_t group, uint64_t begin_at, uint64_t end, uint64_t max_size,
                           raftlog_bytes *entries) {
     uint64_t len = 0;
-    if (!make_room(entries, 1)) return RAFTLOG_NO_MEMORY;
-    enter(log);
-    int code = raft_c_fetch(&log->handle, group, begin, end, max_size, entries->data, entries->room, &len);
+    int code = begin(log, entries);
+    if (code) return code;
+    code = raft_c_fetch(&log->handle, group, begin_at, end, max_size, entries->data, entries->room, &len);
     return whole(log, code, entries, len);
 }
 
 static int span(raftlog *log, uint64_t group, uint64_t *first, uint64_t *last) {
+    if (!log || !first || !last) return refuse(log, RAFTLOG_INVALID);
     enter(log);
     int code = raft_c_span(&log->handle, group);
     if (code == RAFTLOG_OK) raft_c_numbers(&log->handle, first, last);
@@ -237,46 +263,65 @@ static int counted(raftlog *log, uint64_t *count) {
 }
 
 int raftlog_compact_to(raftlog *log, uint64_t group, uint64_t index, uint64_t *count) {
+    if (!log) return RAFTLOG_INVALID;
     enter(log);
     raft_c_compact_to(&log->handle, group, index);
     return counted(log, count);
 }
 
 int raftlog_must_rewrite_append_queue(raftlog *log, uint64_t *count) {
+    if (!log) return RAFTLOG_INVALID;
     enter(log);
     raft_c_must_rewrite_append_queue(&log->handle);
     return counted(log, count);
 }
 
 int raftlog_must_rewrite_rewrite_queue(raftlog *log, uint64_t *count) {
+    if (!log) return RAFTLOG_INVALID;
     enter(log);
     raft_c_must_rewrite_rewrite_queue(&log->handle);
     return counted(log, count);
 }
 
 int raftlog_must_purge_all_stale(raftlog *log, uint64_t *count) {
+    if (!log) return RAFTLOG_INVALID;
     enter(log);
     raft_c_must_purge_all_stale(&log->handle);
     return counted(log, count);
 }
 
+int raftlog_purge_expired_files(raftlog *log, raftlog_bytes *groups) {
+    raftlog_bytes none_asked = {0};
+    raftlog_bytes *asked = groups ? groups : &none_asked;
+    int code = begin(log, asked);
+    if (!code) {
+        /* No file is kept for anybody. */
+        raft_c_purge_expired_files(&log->handle, UINT64_MAX);
+        code = settled(log);
+        uint64_t len = code == RAFTLOG_OK ? raft_c_answer(&log->handle, asked->data, asked->room) : 0;
+        code = whole(log, code, asked, len);
+    }
+    raftlog_bytes_free(&none_asked);
+    return code;
+}
+
 int raftlog_scan(raftlog *log, uint64_t group, const raftlog_slice *start, const raftlog_slice *end, bool reverse,
                  uint64_t limit, raftlog_bytes *pairs) {
     raftlog_slice empty = {none, 0};
+    const raftlog_slice *from = start ? start : &empty, *to = end ? end : &empty;
     uint64_t len = 0;
-    if (!make_room(pairs, 1)) return RAFTLOG_NO_MEMORY;
-    if (!start) start = &empty;
-    const raftlog_slice *to = end ? end : &empty;
-    enter(log);
-    int code = raft_c_scan(&log->handle, group, parts_some(start->data), start->data ? start->len : 0, parts_some(to->data),
-                           to->data ? to->len : 0, end != NULL, reverse, limit, pairs->data, pairs->room, &len);
+    bool lacks = is_lacking(from->data, from->len) || is_lacking(to->data, to->len);
+    int code = lacks ? refuse(log, RAFTLOG_INVALID) : begin(log, pairs);
+    if (code) return code;
+    code = raft_c_scan(&log->handle, group, parts_some(from->data), from->len, parts_some(to->data), to->len, end != NULL,
+                       reverse, limit, pairs->data, pairs->room, &len);
     return whole(log, code, pairs, len);
 }
 
 int raftlog_groups(raftlog *log, raftlog_bytes *groups) {
     uint64_t len = 0;
-    if (!make_room(groups, 1)) return RAFTLOG_NO_MEMORY;
-    enter(log);
-    int code = raft_c_groups(&log->handle, groups->data, groups->room, &len);
+    int code = begin(log, groups);
+    if (code) return code;
+    code = raft_c_groups(&log->handle, groups->data, groups->room, &len);
     return whole(log, code, groups, len);
 }

@@ -41,6 +41,7 @@ for _name, _result, _arguments in [
     ("must_rewrite_append_queue", c_int, [c_void_p, POINTER(c_uint64)]),
     ("must_rewrite_rewrite_queue", c_int, [c_void_p, POINTER(c_uint64)]),
     ("must_purge_all_stale", c_int, [c_void_p, POINTER(c_uint64)]),
+    ("purge_expired_files", c_int, [c_void_p, POINTER(_Bytes)]),
     ("scan", c_int, [c_void_p, c_uint64, POINTER(_Slice), POINTER(_Slice), c_bool, c_uint64, POINTER(_Bytes)]),
     ("groups", c_int, [c_void_p, POINTER(_Bytes)]),
 ]:
@@ -179,16 +180,21 @@ class Engine:
     def compact_to(self, group, index):
         return self._count("compact_to", group, index)
 
+    def purge_expired_files(self):
+        """Purges by the settings' thresholds, to be called now and then: rewrites what old files still hold, and drops them.
+        Answers the groups that hold old entries and should be compacted."""
+        return _numbers(self._read("purge_expired_files"))
+
     def must_rewrite_append_queue(self):
-        """Writes what stands in the log files of the Append queue to the Rewrite queue, deletes them, and says how many."""
+        """Writes what stands in the log files of the Append queue to the Rewrite queue, drops them, and says how many."""
         return self._count("must_rewrite_append_queue")
 
     def must_rewrite_rewrite_queue(self):
-        """Writes what stands in the log files of the Rewrite queue to a new one, deletes them, and says how many."""
+        """Writes what stands in the log files of the Rewrite queue to a new one, drops them, and says how many."""
         return self._count("must_rewrite_rewrite_queue")
 
     def must_purge_all_stale(self):
-        """Deletes the log files in front in which nothing stands, of both queues, and says how many of the Append queue."""
+        """Drops the log files in front in which nothing stands, of both queues, and says how many of the Append queue."""
         return self._count("must_purge_all_stale")
 
     def scan(self, group, start=None, end=None, reverse=False, limit=0):

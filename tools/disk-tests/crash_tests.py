@@ -3,10 +3,9 @@
 
     tools/disk-tests/crash_tests.py crates/raftctl/out/raftctl [--seeds N] [--step N]
 
-Records the file calls of two loads, and builds for each call what a crash then may leave: all bytes,
-the synced ones, torn sectors, garbage where nothing was synced. In each of these folders the program
-must find every key that it had answered as synced, without a gap and with its value, twice alike.
-So it must where log files are small, and are rewritten and deleted between and after the loads.
+Records the file calls of each of the runs below, and builds for each call what a crash then may leave:
+all bytes, the synced ones, torn sectors, garbage where nothing was synced. In each of these folders the
+program must find every key that it had answered as synced, without a gap and with its value, twice alike.
 The same with the syncs not counted has to find bad outcomes. Then each kind of call fails in turn,
 the program is killed, and a folder is opened twice. A program of these tests renames and deletes files,
 and what a crash leaves of their names is judged in the same way. Status 1 where any of it is wrong.
@@ -26,19 +25,68 @@ import time
 
 SECTOR = 512
 SIZE = 40
-LOADS = [["30", "--sync-each", "3"], ["60", "--sync-each", "7"]]
-COUNT = 60
-# The same in log files of 1 KB, with each way to free them.
-SMALL = ["--target", "1KB"]
-PURGES = [
-    ["load", "30", SIZE, "--sync-each", "3", *SMALL],
-    ["rewrite", "append", *SMALL],
-    ["load", "60", SIZE, "--sync-each", "7", *SMALL],
-    ["rewrite", "append", *SMALL],
-    ["rewrite", "rewrite", *SMALL],
-    ["rewrite", "stale", *SMALL],
+# Log files of 1 KB, of which a purge drops the first.
+SMALL = 'target-file-size = "1KB"\npurge-threshold = "%s"\n'
+SPILL = "spill"
+
+
+class Run:
+    """Commands on a folder under these settings, how many keys they load at most, and what their calls must have.
+    The words `move` stand for a user who moves half of the log files to the second folder."""
+
+    def __init__(self, name, commands, settings="", count=60, wanted=()):
+        self.name = name
+        self.commands = commands
+        self.settings = settings
+        self.count = count
+        self.wanted = wanted
+        # The words that each command and each look at what is left takes.
+        self.words = []
+        self.calls = []
+
+
+def load(count, sync_each, *words):
+    return ["load", count, SIZE, "--sync-each", sync_each, *words]
+
+
+RUNS = [
+    Run("loads", [load(30, 3), load(60, 7)]),
+    Run(
+        "deleted files",
+        [load(30, 3), ["purge"], load(60, 7), ["rewrite", "append"], ["rewrite", "rewrite"]]
+        + [load(60, 5), ["purge"], ["rewrite", "stale"]],
+        SMALL % "1KB" + "enable-log-recycle = false\n",
+        wanted=[r"unlink \d+.raftlog ", r"unlink \d+.rewrite "],
+    ),
+    Run(
+        "recycled files",
+        [load(60, 3, "--purge-each", 10), load(90, 7, "--purge-each", 15), ["rewrite", "append"]]
+        + [load(60, 5, "--purge-each", 7), ["rewrite", "rewrite"], ["purge"], ["rewrite", "stale"]],
+        SMALL % "3KB",
+        count=90,
+        wanted=[r"rename \d+.raftlog \d+.raftlog$", r"rename \d+.raftlog \d+.raftlog.reserved$"],
+    ),
+    Run(
+        "reserved files",
+        [load(60, 3, "--purge-each", 10), ["rewrite", "append"], load(90, 7), ["purge"], load(60, 5)],
+        SMALL % "4KB" + "prefill-for-recycle = true\n",
+        count=90,
+        wanted=[r"rename \d+.raftlog.reserved \d+.raftlog$", r"rename \d+.raftlog \d+.raftlog.reserved$"],
+    ),
+    Run(
+        "two folders",
+        [load(60, 3), ["move"], ["purge"], load(90, 7), ["move"], load(60, 5, "--purge-each", 10), ["rewrite", "append"]],
+        SMALL % "3KB" + f'spill-dir = "{SPILL}"\n',
+        count=90,
+        wanted=[SPILL + r"/\d+.raftlog \d+.raftlog.reserved$", SPILL + r"/\d+.raftlog " + SPILL + r"/\d+.raftlog$"],
+    ),
 ]
 HERE = os.path.dirname(os.path.abspath(__file__))
+# Before a call that is no program's: no crash comes there.
+USER = "user "
+FAILURES = [("fdatasync", errno.EIO), ("fsync", errno.EIO), ("pwrite", errno.EIO), ("pwrite", errno.ENOSPC)]
+FAILURES += [("short", errno.ENOSPC), ("ftruncate", errno.ENOSPC), ("open", errno.EACCES), ("mkdir", errno.EROFS)]
+NAME_FAILURES = [("rename", errno.EIO), ("rename", errno.EACCES), ("unlink", errno.EACCES)]
 
 
 class File:
@@ -118,7 +166,7 @@ class Disk:
         self.answered = -1
 
     def carry_out(self, line):
-        kind, path, at, given = line.rstrip("\n").split(" ")
+        kind, path, at, given = line.removeprefix(USER).rstrip("\n").split(" ")
         if kind == "create":
             self.change(Change(File(), come=path))
         elif kind == "unlink":
@@ -207,52 +255,72 @@ class Tests:
         words = [program or self.program, folder, *map(str, words)]
         return subprocess.run(words, capture_output=True, text=True, env={**os.environ, **env}, timeout=120)
 
-    def load(self, folder, count, *words, **env):
-        return self.run(folder, "load", count, SIZE, *words, **env)
-
-    def standing(self, folder):
+    def standing(self, folder, run):
         """How many keys stand from 0 on, or what is wrong. A look makes no folder."""
         if not os.path.isdir(folder):
             return 0
-        ran = self.run(folder, "verify", COUNT, SIZE)
+        ran = self.run(folder, "verify", run.count, SIZE, *run.words)
         found = re.search(r"standing (\d+)", ran.stdout)
         if ran.returncode != 0 or not found:
             return f"status {ran.returncode}: {ran.stdout.split()} {ran.stderr.strip()}"
         return int(found[1])
 
-    def wrong_with(self, folder, answered):
+    def wrong_with(self, folder, answered, run):
         """What is wrong with a folder in which so many keys were answered as synced, or None."""
-        first = self.standing(folder)
+        first = self.standing(folder, run)
         if not isinstance(first, int):
             return first
         if first <= answered:
             return f"{first} keys stand, and {answered} was synced"
         # A look left the folder as it was: an opening that writes goes on from the same.
-        ran = self.run(folder, "put", 2, "key", "value")
+        ran = self.run(folder, "put", 2, "key", "value", *run.words)
         if ran.returncode != 0:
             return f"status {ran.returncode}: {ran.stderr.strip()}"
-        second = self.standing(folder)
+        second = self.standing(folder, run)
         return None if first == second else f"{first} keys stand, and then {second}"
 
-    def record(self, name, commands):
-        """The calls of these commands on a folder."""
-        folder = os.path.join(self.work, name)
-        record = os.path.join(self.work, name + "-calls")
-        for words in commands:
-            ran = self.run(folder, *words, RECORD=record)
+    def prepare(self, run):
+        """Writes the settings of a run."""
+        path = os.path.join(self.work, run.name.replace(" ", "-") + ".toml")
+        with open(path, "w", encoding="ascii") as out:
+            out.write(run.settings)
+        run.words = ["--settings", path]
+
+    def record(self, run):
+        """The calls of a run, and whether there are those that it is to make."""
+        folder = os.path.join(self.work, run.name.replace(" ", "-"))
+        record = folder + "-calls"
+        if SPILL in run.settings:
+            os.makedirs(os.path.join(folder, SPILL))
+            note(record, ["mkdir . 0 ", f"mkdir {SPILL} 0 ", "sync . 0 "])
+        for words in run.commands:
+            if words == ["move"]:
+                move_half(folder, record)
+                continue
+            ran = self.run(folder, *words, *run.words, RECORD=record)
             assert ran.returncode == 0, ran.stderr
         with open(record, encoding="ascii") as lines:
-            return list(lines)
+            run.calls = list(lines)
+        for wanted in run.wanted:
+            assert any(re.search(wanted, readable(line)) for line in run.calls), f"{run.name}: no call {wanted}"
 
-    def replay(self, calls, counts_syncs, seeds, step=1, judge=None):
+    def crash(self, run, counts_syncs, seeds, step):
+        return self.replay(run.calls, counts_syncs, seeds, lambda *it: self.wrong_with(*it, run), step)
+
+    def told(self, name, counts, wants_bad=False):
+        """Prints how many were tried, and how many of them are bad; whether that is as wanted."""
+        tried, bad = counts
+        print(f"{name}: {tried} tried, {bad} bad" + (", as wanted" if wants_bad else ""), flush=True)
+        return (bad > 0) == wants_bad
+
+    def replay(self, calls, counts_syncs, seeds, judge, step=1):
         """Tries what a crash at each call may leave. `judge` says what is wrong with a folder, or None."""
-        judge = judge or self.wrong_with
         disk = Disk(counts_syncs)
         outcomes = bad = 0
         hows = ["all", "synced"] + ["torn", "garbage"] * seeds
         for place, line in enumerate(calls):
             disk.carry_out(line)
-            if place % step:
+            if place % step or line.startswith(USER):
                 continue
             for turn, how in enumerate(hows):
                 folder = os.path.join(self.work, "left")
@@ -287,46 +355,44 @@ class Tests:
         shutil.rmtree(left)
         return calls, is_same
 
-    def fail_each(self):
+    def fail_each(self, run, words, kinds):
         """Each kind of call fails at its Nth time: nothing that was answered is lost."""
         bad = tried = 0
-        kinds = [("fdatasync", errno.EIO), ("fsync", errno.EIO), ("pwrite", errno.EIO), ("pwrite", errno.ENOSPC)]
-        kinds += [("short", errno.ENOSPC), ("ftruncate", errno.ENOSPC), ("open", errno.EACCES), ("mkdir", errno.EROFS)]
         for kind, code in kinds:
             for number in (1, 2, 3, 4, 7, 12):
                 folder = os.path.join(self.work, "failed")
-                ran = self.load(folder, 30, "--sync-each", 3, FAIL=f"{kind}:{number}:{code}")
+                ran = self.run(folder, *words, *run.words, FAIL=f"{kind}:{number}:{code}")
                 answered = [int(it) for it in re.findall(r"synced (\d+)", ran.stdout)]
                 is_told = ran.returncode == 0 or (ran.returncode == 1 and "raftctl: " in ran.stderr)
                 wrong = None if is_told else f"status {ran.returncode}: {ran.stderr}"
-                wrong = wrong or self.wrong_with(folder, max(answered, default=-1))
+                wrong = wrong or self.wrong_with(folder, max(answered, default=-1), run)
                 tried += 1
                 if wrong:
                     bad += 1
-                    print(f"{kind} {number} {errno.errorcode[code]}: {wrong}")
+                    print(f"{run.name}: {kind} {number} {errno.errorcode[code]}: {wrong}")
                 shutil.rmtree(folder, ignore_errors=True)
         return tried, bad
 
-    def kill_each(self):
+    def kill_each(self, run, words, turns):
         """The program is killed while it loads."""
         bad = 0
-        for turn in range(12):
+        for turn in range(turns):
             folder = os.path.join(self.work, "killed")
             said = os.path.join(self.work, "said")
             with open(said, "wb") as out:
-                words = [self.program, folder, "load", str(COUNT), str(SIZE), "--sync-each", "2"]
-                loading = subprocess.Popen(words, stdout=out, stderr=subprocess.DEVNULL)
+                command = [self.program, folder, *map(str, [*words, *run.words])]
+                loading = subprocess.Popen(command, stdout=out, stderr=subprocess.DEVNULL)
             time.sleep(0.001 + 0.003 * turn)
             loading.send_signal(signal.SIGKILL)
             loading.wait()
             with open(said, encoding="ascii") as lines:
                 answered = [int(it) for it in re.findall(r"synced (\d+)\n", lines.read())]
-            wrong = self.wrong_with(folder, max(answered, default=-1))
+            wrong = self.wrong_with(folder, max(answered, default=-1), run)
             if wrong:
                 bad += 1
-                print(f"killed in turn {turn}: {wrong}")
+                print(f"{run.name}: killed in turn {turn}: {wrong}")
             shutil.rmtree(folder, ignore_errors=True)
-        return 12, bad
+        return turns, bad
 
     def refuse_each(self):
         """What an opening has to refuse, with the words that say why."""
@@ -335,9 +401,9 @@ class Tests:
         place = lambda name: os.path.join(work, name)
         with open(place("file"), "wb"):
             pass
-        self.load(place("link"), 3)
+        self.run(place("link"), *load(3, 1))
         os.symlink("/etc/hostname", place("link/other"))
-        self.load(place("names"), 3)
+        self.run(place("names"), *load(3, 1))
         os.link(place("names/LOCK"), place("names/more"))
         cases = [("file", "raftctl: "), ("file/below", "raftctl: ")]
         cases += [("link", "neither a folder nor a file"), ("names", "neither a folder nor a file")]
@@ -361,6 +427,28 @@ class Tests:
             return 0
         print(f"opened twice: status {ran.returncode}: {ran.stderr}")
         return 1
+
+
+def note(record, lines):
+    """Adds calls that are no program's."""
+    with open(record, "a", encoding="ascii") as out:
+        out.writelines(f"{USER}{line}\n" for line in lines)
+
+
+def readable(line):
+    """A call that was recorded, with the second name of a renaming as text."""
+    kind, path, at, given = line.rstrip("\n").split(" ")[-4:]
+    return f"rename {path} {bytes.fromhex(given).decode()}" if kind == "rename" else f"{kind} {path} {at}"
+
+
+def move_half(folder, record):
+    """Each second log file goes to the second folder."""
+    names = sorted(it for it in os.listdir(folder) if it.endswith((".raftlog", ".rewrite")))
+    for name in names[::2]:
+        to = f"{SPILL}/{name}"
+        os.rename(os.path.join(folder, name), os.path.join(folder, to))
+        note(record, [f"rename {name} 0 {to.encode().hex()}"])
+    note(record, [f"sync {SPILL} 0 ", "sync . 0 "])
 
 
 def files_in(folder):
@@ -395,29 +483,31 @@ def main():
     given = parser.parse_args()
     with tempfile.TemporaryDirectory(prefix="disk-tests-") as work:
         tests = Tests(given.program, work)
-        calls = tests.record("recorded", [["load", words[0], SIZE, *words[1:]] for words in LOADS])
-        purges = tests.record("purged", PURGES)
-        assert any(line.startswith("unlink ") for line in purges), "no log file was deleted"
+        for run in RUNS:
+            tests.prepare(run)
+            tests.record(run)
         names, good = tests.record_names()
         if not good:
             print("renamed and deleted files: the calls that were recorded don't lead to what was left")
-        for name, (tried, bad) in [
-            (f"renamed and deleted files, crashes at {len(names)} calls", tests.replay(names, True, given.seeds, judge=wrong_names)),
-            (f"crashes at {len(calls)} calls", tests.replay(calls, True, given.seeds, given.step)),
-            (f"crashes at {len(purges)} calls with purges", tests.replay(purges, True, given.seeds, given.step)),
-            ("calls that fail", tests.fail_each()),
-            ("kills", tests.kill_each()),
-            ("openings to be refused", tests.refuse_each()),
+        good = tests.told("renamed and deleted files, crashes", tests.replay(names, True, given.seeds, wrong_names)) and good
+        for run in RUNS:
+            crashes = f"{run.name}, crashes at {len(run.calls)} calls"
+            good = tests.told(crashes, tests.crash(run, True, given.seeds, given.step)) and good
+        plain, recycled = RUNS[0], RUNS[2]
+        recycling = load(90, 3, "--purge-each", 10)
+        for name, run, words, kinds in [
+            ("calls that fail", plain, load(30, 3), FAILURES),
+            ("calls that fail, recycled files", recycled, recycling, FAILURES + NAME_FAILURES),
         ]:
-            print(f"{name}: {tried} tried, {bad} bad")
-            good = good and bad == 0
-        for name, (tried, bad) in [
-            ("renamed and deleted files", tests.replay(names, False, 1, judge=wrong_names)),
-            ("crashes", tests.replay(calls, False, 1, max(given.step, 2))),
-            ("crashes with purges", tests.replay(purges, False, 1, max(given.step, 2))),
-        ]:
-            print(f"{name}, with the syncs not counted: {tried} tried, {bad} bad, as wanted")
-            good = good and bad > 0
+            good = tests.told(name, tests.fail_each(run, words, kinds)) and good
+        good = tests.told("kills", tests.kill_each(plain, load(60, 2), 12)) and good
+        good = tests.told("kills, recycled files", tests.kill_each(recycled, recycling, 40)) and good
+        good = tests.told("openings to be refused", tests.refuse_each()) and good
+        # What has to find bad outcomes.
+        uncounted = ", with the syncs not counted"
+        good = tests.told("renamed and deleted files" + uncounted, tests.replay(names, False, 1, wrong_names), True) and good
+        for run in RUNS:
+            good = tests.told(run.name + uncounted, tests.crash(run, False, 1, max(given.step, 2)), True) and good
     return 0 if good else 1
 
 

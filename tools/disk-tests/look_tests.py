@@ -17,11 +17,11 @@ LOOKS = [
     "get 1 5", "get 1 none", "list", "list 3 --limit 2", "scan 1 --from 2 --to 3 --reverse --json",
     "entry 7 2", "entry 7 9", "entries 7", "groups", "stat", "dump", "dump 0000000000000003.raftlog",
     "check", "check --mode absolute --json", "check --mode any", "picture", "settings",
-    f"verify {KEYS} 40",
+    f"verify {KEYS} 40", "consistency", "list --threads 1",
 ]
 # What each of them ends with in the whole folder, and in one that is broken in its third file.
-WHOLE = [0, 3, 0, 0, 0, 0, 3, 0, 0, 0, 0, 0, 0, 0, 0, 0, 0, 0]
-BROKEN = [1, 1, 1, 1, 1, 1, 1, 1, 1, 1, 4, 4, 5, 5, 4, 1, 0, 1]
+WHOLE = [0, 3, 0, 0, 0, 0, 3, 0, 0, 0, 0, 0, 0, 0, 0, 0, 0, 0, 0, 0]
+BROKEN = [1, 1, 1, 1, 1, 1, 1, 1, 1, 1, 4, 4, 5, 5, 4, 1, 0, 1, 0, 1]
 
 
 def state_of(folder):
@@ -126,9 +126,54 @@ class Tests:
 
     def rewrites(self, whole):
         told = self.run(whole, "list").stdout
-        for files in ("append", "rewrite", "stale"):
-            self.expect(f"rewrite {files}", self.run(whole, "rewrite", files).returncode == 0)
-            self.expect(f"rewrite {files} loses a key", self.run(whole, "list").stdout == told)
+        for words in ("rewrite append", "rewrite rewrite", "rewrite stale", "purge"):
+            self.expect(words, self.run(whole, *words.split()).returncode == 0)
+            self.expect(f"{words} loses a key", self.run(whole, "list").stdout == told)
+
+    def purges(self, thresholds):
+        """Files that a purge dropped are told as kept, not as damage or as freed."""
+        folder = os.path.join(self.work, "purged")
+        words = ["--settings", thresholds]
+        self.run(folder, "load", 300, 40, "--sync-each", 100, *words)
+        before = logs_in(folder)
+        ran = self.run(folder, "purge", *words)
+        gone, reserved = before - logs_in(folder), reserved_in(folder)
+        self.expect("a purge drops files", ran.returncode == 0 and gone and reserved)
+        told = numbers_in(ran.stdout)
+        self.expect("how many are gone", told["dropped"] == len(gone))
+        self.expect("how many are kept", told["reserved"] == len(reserved))
+        checked = self.run(folder, "check", *words)
+        lines = [line.split()[1].decode() for line in checked.stdout.splitlines() if line.startswith(b"reserved ")]
+        self.expect("check tells reserved files", checked.returncode == 0 and set(lines) == reserved)
+        told = numbers_in(self.run(folder, "stat", *words).stdout)
+        self.expect("stat tells reserved files", told["reserved"] == len(reserved) and told["cut"] == 0)
+        sizes = sum(os.path.getsize(os.path.join(folder, name)) for name in reserved)
+        self.expect("stat tells their bytes", told["reserved-bytes"] == sizes)
+        self.leaves(folder, "stat --mode any", 0)
+        self.run(folder, "put", 1, "key", "value", *words)
+        self.expect("the next opening deletes them", not reserved_in(folder))
+
+    def holes(self):
+        folder = os.path.join(self.work, "holes")
+        for words in ("append 7 a b c", "append 8 a b", "compact 7 4", "append 7 d e --at 9"):
+            self.run(folder, *words.split())
+        ran = self.run(folder, "consistency")
+        self.expect("a hole", ran.returncode == 3 and ran.stdout == b"group 7 hole-after 3\n")
+        ran = self.run(folder, "consistency", "--json", "--threads", 1)
+        self.expect("a hole as an object", ran.stdout == b'{"group":7,"hole-after":3}\n')
+
+
+def logs_in(folder):
+    return {name for name in os.listdir(folder) if name.endswith((".raftlog", ".rewrite"))}
+
+
+def reserved_in(folder):
+    return {name for name in os.listdir(folder) if name.endswith(".reserved")}
+
+
+def numbers_in(told):
+    """Of lines of a word and a number, the number by the word."""
+    return {line.split()[0].decode(): int(line.split()[1]) for line in told.splitlines()}
 
 
 def main():
@@ -139,6 +184,11 @@ def main():
         tests.repairs(broken)
         tests.lines(whole)
         tests.rewrites(whole)
+        thresholds = os.path.join(work, "thresholds.toml")
+        with open(thresholds, "w", encoding="ascii") as file:
+            file.write('target-file-size = "1KB"\npurge-threshold = "8KB"\n')
+        tests.purges(thresholds)
+        tests.holes()
     print(f"{tests.tried} cases, {tests.bad} wrong")
     return 1 if tests.bad else 0
 

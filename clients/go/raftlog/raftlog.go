@@ -255,8 +255,22 @@ func (e *Engine) CompactTo(group, index uint64) (uint64, error) {
 	return uint64(count), err
 }
 
-// MustRewriteAppendQueue writes what stands in the log files of the Append queue to the Rewrite queue, and deletes them; it answers
-// how many they were.
+// PurgeExpiredFiles purges by the settings' thresholds, to be called now and then: it rewrites what old files still hold,
+// and drops them. It changes nothing that the log holds, and does nothing while the log is small. It answers the groups
+// that hold old entries and should be compacted.
+func (e *Engine) PurgeExpiredFiles() ([]uint64, error) {
+	if err := e.enter(); err != nil {
+		return nil, err
+	}
+	defer e.mutex.Unlock()
+	if code := C.raftlog_purge_expired_files(e.log, &e.bytes); code != 0 {
+		return nil, e.failure(code)
+	}
+	return e.numbers(), nil
+}
+
+// MustRewriteAppendQueue writes what stands in the log files of the Append queue to the Rewrite queue, and drops them; it
+// answers how many they were.
 func (e *Engine) MustRewriteAppendQueue() (uint64, error) {
 	if err := e.enter(); err != nil {
 		return 0, err
@@ -267,8 +281,8 @@ func (e *Engine) MustRewriteAppendQueue() (uint64, error) {
 	return uint64(count), err
 }
 
-// MustRewriteRewriteQueue writes what stands in the log files of the Rewrite queue to a new one, and deletes them; it answers how
-// many they were.
+// MustRewriteRewriteQueue writes what stands in the log files of the Rewrite queue to a new one, and drops them; it
+// answers how many they were.
 func (e *Engine) MustRewriteRewriteQueue() (uint64, error) {
 	if err := e.enter(); err != nil {
 		return 0, err
@@ -279,8 +293,8 @@ func (e *Engine) MustRewriteRewriteQueue() (uint64, error) {
 	return uint64(count), err
 }
 
-// MustPurgeAllStale deletes the log files of both queues in front in which nothing stands any more; it answers how many they were
-// of the Append queue.
+// MustPurgeAllStale drops the log files of both queues in front in which nothing stands any more; it answers how many they
+// were of the Append queue.
 func (e *Engine) MustPurgeAllStale() (uint64, error) {
 	if err := e.enter(); err != nil {
 		return 0, err
@@ -335,11 +349,15 @@ func (e *Engine) Groups() ([]uint64, error) {
 	if code := C.raftlog_groups(e.log, &e.bytes); code != 0 {
 		return nil, e.failure(code)
 	}
-	var groups []uint64
+	return e.numbers(), nil
+}
+
+// The numbers of the last answer.
+func (e *Engine) numbers() (numbers []uint64) {
 	for rest := e.answer(); len(rest) >= 8; rest = rest[8:] {
-		groups = append(groups, binary.BigEndian.Uint64(rest))
+		numbers = append(numbers, binary.BigEndian.Uint64(rest))
 	}
-	return groups, nil
+	return
 }
 
 // A Batch is written whole or not at all. Its bytes begin with the number of its items.

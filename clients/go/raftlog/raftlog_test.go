@@ -69,6 +69,18 @@ func exercise(t *testing.T, log *Engine) {
 		t.Fatal(err)
 	}
 	must(t, log.Sync())
+	if groups, err := log.PurgeExpiredFiles(); err != nil || len(groups) != 0 {
+		t.Fatal(groups, err)
+	}
+	if _, err = log.MustRewriteAppendQueue(); err != nil {
+		t.Fatal(err)
+	}
+	if _, err = log.MustRewriteRewriteQueue(); err != nil {
+		t.Fatal(err)
+	}
+	if _, last, _, err := log.Span(7); last != 14 || err != nil {
+		t.Fatal(last, err)
+	}
 }
 
 func TestMemory(t *testing.T) {

@@ -371,21 +371,31 @@ impl Engine {
         Ok(count)
     }
 
-    /// Writes what stands in the log files of the Append queue to the Rewrite queue, deletes them, and says how many.
+    /// Purges by the settings' thresholds, to be called now and then: rewrites what old files still hold, and drops them.
+    /// Changes nothing that the log holds, and does nothing while the log is small. Answers the groups that hold old
+    /// entries and should be compacted.
+    pub fn purge_expired_files(&self) -> Result<Vec<u64>> {
+        let mut groups = Bytes::new();
+        self.done(unsafe { sys::raftlog_purge_expired_files(self.log, &mut groups.0) })?;
+        let mut parts = groups.parts();
+        Ok(std::iter::from_fn(|| parts.number()).collect())
+    }
+
+    /// Writes what stands in the log files of the Append queue to the Rewrite queue, drops them, and says how many.
     pub fn must_rewrite_append_queue(&self) -> Result<u64> {
         let mut count = 0;
         self.done(unsafe { sys::raftlog_must_rewrite_append_queue(self.log, &mut count) })?;
         Ok(count)
     }
 
-    /// Writes what stands in the log files of the Rewrite queue to a new one, deletes them, and says how many.
+    /// Writes what stands in the log files of the Rewrite queue to a new one, drops them, and says how many.
     pub fn must_rewrite_rewrite_queue(&self) -> Result<u64> {
         let mut count = 0;
         self.done(unsafe { sys::raftlog_must_rewrite_rewrite_queue(self.log, &mut count) })?;
         Ok(count)
     }
 
-    /// Deletes the log files in front in which nothing stands, of both queues, and says how many of the Append queue.
+    /// Drops the log files in front in which nothing stands, of both queues, and says how many of the Append queue.
     pub fn must_purge_all_stale(&self) -> Result<u64> {
         let mut count = 0;
         self.done(unsafe { sys::raftlog_must_purge_all_stale(self.log, &mut count) })?;

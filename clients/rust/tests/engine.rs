@@ -39,6 +39,7 @@ fn exercise(log: &Engine) {
     assert_eq!(log.get(1, b"k").unwrap(), None);
     log.sync().unwrap();
     log.must_purge_all_stale().unwrap();
+    assert_eq!(log.purge_expired_files().unwrap(), []);
     log.must_rewrite_append_queue().unwrap();
     log.must_rewrite_rewrite_queue().unwrap();
     assert_eq!(log.last_index(7).unwrap(), Some(14));

@@ -20,6 +20,9 @@ impl Model for Handle {
     ghost also_owns = { λ h. handle_owns h.at h.value };
 }
 
+// What it owns names no thread.
+unsafe impl Send for Handle {}
+
 impl Handle {
     pub(crate) fn none() -> Handle
         ensures { result.value ≡ None }

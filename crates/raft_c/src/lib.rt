@@ -4,7 +4,7 @@
 
 ghost use Rattle.std.specs.Prelude.{◌≡◌, None, IsSome};
 ghost use Rattle.raft_c_log.specs.Calls.{fetch_of, scan_end, scan_of};
-ghost use Rattle.raft_c.specs.Logs.{EndsAfter, HasAdded, HasBegun, HasRead, HasSettled, IsCopied, OpensAfter, WaitsAfter};
+ghost use Rattle.raft_c.specs.Logs.{AreTold, EndsAfter, HasAdded, HasBegun, HasRead, HasSettled, IsCopied, OpensAfter, WaitsAfter};
 
 mod handle;
 mod loading;
@@ -144,7 +144,7 @@ pub extern "C" fn raft_c_compact_to(alloc: Global, handle: &mut Handle, group: u
     change(alloc, handle, Change::CompactTo(group, index));
 }
 
-/// Writes what stands in the log files of the Append queue to the Rewrite queue, and deletes them. The
+/// Writes what stands in the log files of the Append queue to the Rewrite queue, and drops them. The
 /// first number is how many they were.
 #[unsafe(no_mangle)]
 pub extern "C" fn raft_c_must_rewrite_append_queue(alloc: Global, handle: &mut Handle)
@@ -155,7 +155,7 @@ pub extern "C" fn raft_c_must_rewrite_append_queue(alloc: Global, handle: &mut H
     change(alloc, handle, Change::RewriteAppendQueue);
 }
 
-/// Writes what stands in the log files of the Rewrite queue to a new one, and deletes them. The first
+/// Writes what stands in the log files of the Rewrite queue to a new one, and drops them. The first
 /// number is how many they were.
 #[unsafe(no_mangle)]
 pub extern "C" fn raft_c_must_rewrite_rewrite_queue(alloc: Global, handle: &mut Handle)
@@ -166,8 +166,8 @@ pub extern "C" fn raft_c_must_rewrite_rewrite_queue(alloc: Global, handle: &mut 
     change(alloc, handle, Change::RewriteRewriteQueue);
 }
 
-/// Deletes the log files in front of the first one in which something stands, of both queues. The
-/// first number is how many they were of the Append queue.
+/// Drops the log files in front of the first one in which something stands, of both queues. The first
+/// number is how many they were of the Append queue.
 #[unsafe(no_mangle)]
 pub extern "C" fn raft_c_must_purge_all_stale(alloc: Global, handle: &mut Handle)
     requires { IsSome handle.old.value }
@@ -175,6 +175,18 @@ pub extern "C" fn raft_c_must_purge_all_stale(alloc: Global, handle: &mut Handle
     ensures waits { WaitsAfter Change.PurgeAllStale handle.old.value handle.new.value }
 {
     change(alloc, handle, Change::PurgeAllStale);
+}
+
+/// Rewrites the queues that are above the settings' thresholds, and drops no log file of the Append
+/// queue from this number on. The answer has the groups whose compaction is asked for, each in eight
+/// bytes, the greatest first.
+#[unsafe(no_mangle)]
+pub extern "C" fn raft_c_purge_expired_files(alloc: Global, handle: &mut Handle, barrier: u64)
+    requires { IsSome handle.old.value }
+    ensures some { IsSome handle.new.value }
+    ensures waits { WaitsAfter (Change.PurgeExpired barrier) handle.old.value handle.new.value }
+{
+    change(alloc, handle, Change::PurgeExpired(barrier));
 }
 
 /// The code of the last call that changes something, given to a caller that says whether it carried
@@ -350,7 +362,8 @@ pub extern "C" fn raft_c_numbers(
     second: &mut u64,
 )
     requires { IsSome handle.old.value }
-    ensures { handle.new.value ≡ handle.old.value }
+    ensures some { handle.new.value ≡ handle.old.value }
+    ensures numbers { AreTold handle.new.value first.new second.new }
 {
     let log = std::mem::replace(handle, Handle::none()).into_box(alloc);
     (*first, *second) = log.numbers();

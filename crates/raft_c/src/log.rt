@@ -1,10 +1,11 @@
 //! A log behind a handle. Its calls that change something give orders, and are answered once the
 //! caller has carried these out.
-ghost use Rattle.std.specs.Prelude.{◌≡◌, Some, length, pos, take};
-ghost use Rattle.raft_disk.specs.Mirror.{mirror_directory};
+ghost use Rattle.std.specs.Prelude.{◌≡◌, ◌∷◌, [], Some, length, pos, take};
+ghost use Rattle.raft_env.specs.Refusal.{no_refusals};
+ghost use Rattle.raft_disk.specs.Mirror.{mirror_directory, mirror_moments, mirror_refusals};
 ghost use Rattle.raft_memory.specs.Settled.{settled_files};
-ghost use Rattle.raft_c.specs.Logs.{GivesOrders, HasBegun, IsAdded, IsChangedBy, IsOpenOver, IsOpened, IsRead, IsSettled};
 ghost use Rattle.raft_c.specs.declared.log.State.TheVariants.{Ended};
+ghost use Rattle.raft_c.specs.Logs.{GivesOrders, HasBegun, IsAdded, IsChange, IsClose, IsOpening, IsOpeningOver, IsRead, IsSettled};
 
 use crate::loading::{Found, Loading};
 use raft_c_log::{Answer, Change, OpenLog, Query};
@@ -37,7 +38,9 @@ pub enum State {
     /// The files that were found so far.
     Loading(Loading),
     Open(OpenLog<OrderedFileSystem>),
-    /// Closed, or refused.
+    /// Closed, or refused: the files as they were left.
+    Closed(OrderedFileSystem),
+    /// Without files: closed before it was opened, or refused for want of memory for them.
     Ended,
 }
 
@@ -75,7 +78,7 @@ impl Log {
     /// none are written. The code waits for them. Nothing changes where one waits, or where the log is
     /// broken.
     pub(crate) fn open(&mut self, out: i32, settings: &[u8])
-        ensures orders { GivesOrders (IsOpened settings.now self.old.state self.new.state)
+        ensures orders { GivesOrders (IsOpening settings.now self.old.state self.new.state)
             self.old self.new }
     {
         if self.standing != Standing::Settled {
@@ -86,7 +89,7 @@ impl Log {
     }
 
     fn open_found(&mut self, out: i32, settings: &[u8]) -> i32
-        ensures ok { result ≡ pos 0 → IsOpened settings.now self.old.state self.new.state }
+        ensures value { IsOpening settings.now self.old.state self.new.state result }
     {
         match std::mem::replace(&mut self.state, State::Ended) {
             State::Loading(loading) => self.open_over(loading, out, settings),
@@ -98,8 +101,9 @@ impl Log {
     }
 
     fn open_over(&mut self, loading: Loading, out: i32, settings: &[u8]) -> i32
-        ensures ok { result ≡ pos 0 → IsOpenOver settings.now
-            (settled_files loading.files.items loading.folders.items) self.new.state }
+        requires { self.old.state ≡ Ended }
+        ensures value { IsOpeningOver settings.now
+            (settled_files loading.files.items loading.folders.items) result self.new.state }
     {
         let out = if out < 0 { None } else { Some(out) };
         match ordered_files(self.alloc, out, loading.files, loading.folders) {
@@ -109,22 +113,27 @@ impl Log {
     }
 
     fn open_files(&mut self, files: OrderedFileSystem, settings: &[u8]) -> i32
-        ensures ok { result ≡ pos 0
-            → IsOpenOver settings.now (mirror_directory files) self.new.state }
+        requires new { mirror_moments files ≡ mirror_directory files ∷ [] }
+        requires unrefused { mirror_refusals files ≡ no_refusals }
+        ensures value { IsOpeningOver settings.now (mirror_directory files) result
+            self.new.state }
     {
         match OpenLog::open(self.alloc, settings, files, &mut self.answer) {
             Ok(log) => {
                 self.state = State::Open(log);
                 0
             }
-            Err(code) => code,
+            Err(unopened) => {
+                self.state = State::Closed(unopened.files);
+                unopened.code
+            }
         }
     }
 
     /// Carries a change out. Its code waits for its orders. Nothing changes where one waits, or where
     /// the log is broken.
     pub(crate) fn change(&mut self, change: Change<'_>)
-        ensures orders { GivesOrders (IsChangedBy change.entry self.old.state self.new.state
+        ensures orders { GivesOrders (IsChange change.entry self.old.state self.new.state
             self.new.answer) self.old self.new }
     {
         if self.standing != Standing::Settled {
@@ -140,13 +149,17 @@ impl Log {
     /// Closes the log. The code waits for its orders. Nothing changes where one waits, or where the log
     /// is broken.
     pub(crate) fn close(&mut self)
-        ensures orders { GivesOrders (self.new.state ≡ Ended) self.old self.new }
+        ensures orders { GivesOrders (IsClose self.old.state self.new.state) self.old self.new }
     {
         if self.standing != Standing::Settled {
             return;
         }
         let code = match std::mem::replace(&mut self.state, State::Ended) {
-            State::Open(log) => log.close(&mut self.answer),
+            State::Open(log) => {
+                let (code, files) = log.close(&mut self.answer);
+                self.state = State::Closed(files);
+                code
+            }
             _ => 0,
         };
         self.standing = Standing::Waiting(code);

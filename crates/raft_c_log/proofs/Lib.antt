@@ -1,4 +1,5 @@
 pub mod CallLemmas
 pub mod CodeLemmas
 pub mod FetchLemmas
+pub mod RefusalLemmas
 pub mod ScanLemmas

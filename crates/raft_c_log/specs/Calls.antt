@@ -14,6 +14,7 @@ use Rattle.raft_c_batch.specs.Parts.{numbers_bytes, pairs_bytes}
 use Rattle.raft_log_engine.specs.Advance.{Advances, state_of}
 use Rattle.raft_log_engine.specs.Durability.{HasSynced, HasWritten, durability_of}
 use Rattle.raft_log_engine.specs.Engine.{contents_of, has_groups_together, is_known_in, queue_of, rewrite_queue_of}
+use Rattle.raft_log_engine.specs.Expired.{HasPurgedExpired}
 use Rattle.raft_log_engine.specs.Image.{IsWithout}
 use Rattle.raft_log_engine.specs.Purge.{HasDroppedStale, HasRenewed, tables_in}
 use Rattle.raft_log_engine.specs.Reads.{IsFetchable, IsGroupList, compact_batch, compact_count, entries_to_fetch, entry_of}
@@ -22,7 +23,7 @@ use Rattle.raft_log_engine.specs.declared.engine.Engine.{Engine}
 use Rattle.raft_c_log.specs.Limit.{limited, max_of}
 use Rattle.raft_c_log.specs.declared.answer.Answer.{Answer}
 use Rattle.raft_c_log.specs.declared.calls.Change.{Change}
-use Rattle.raft_c_log.specs.declared.calls.Change.TheVariants.{Write, Sync, CompactTo, RewriteAppendQueue, RewriteRewriteQueue, PurgeAllStale}
+use Rattle.raft_c_log.specs.declared.calls.Change.TheVariants.{Write, Sync, CompactTo, RewriteAppendQueue, RewriteRewriteQueue, PurgeAllStale, PurgeExpired}
 use Rattle.raft_c_log.specs.declared.calls.Fetch.{Fetch}
 use Rattle.raft_c_log.specs.declared.calls.Query.{Query}
 use Rattle.raft_c_log.specs.declared.calls.Query.TheVariants as query
@@ -115,6 +116,15 @@ module _ {F H R W : Type 0} {g : Ghosts F H R W} where
     pub files : HasDroppedStale (has_groups_together old) (tables_in old) (queue_of old)
         (rewrite_queue_of old) (queue_of new) (rewrite_queue_of new)
 
+  -- nothing that it holds has changed, and all is synced; the answer tells of which groups a compaction is
+  -- asked for
+  pub record HasPurgedUpTo (barrier : ℕ) (old new : Engine F H R W g) (answer : Answer) : Type 0 where
+    pub contents : contents_of new ≡ contents_of old
+    pub synced : HasSynced [] true (durability_of old) (durability_of new)
+    pub asked : List ℕ
+    pub purged : HasPurgedExpired barrier old new asked
+    pub bytes : answer.bytes.items ≡ numbers_bytes asked
+
   -- what a change did
   abbrev pub HasChanged : Change → Engine F H R W g → Engine F H R W g → Answer → Type 0
   HasChanged (Write bytes sync) old new answer = IsWrittenBy bytes.now sync old new
@@ -123,6 +133,7 @@ module _ {F H R W : Type 0} {g : Ghosts F H R W} where
   HasChanged RewriteAppendQueue old new answer = HasRewrittenAppend old new answer
   HasChanged RewriteRewriteQueue old new answer = HasRewrittenRewrite old new answer
   HasChanged PurgeAllStale old new answer = HasPurgedStale old new answer
+  HasChanged (PurgeExpired barrier) old new answer = HasPurgedUpTo barrier old new answer
 
   -- the known groups
   abbrev pub IsGroupsAnswer : Engine F H R W g → List ℕ → Type 0

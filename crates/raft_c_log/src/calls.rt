@@ -13,6 +13,8 @@ pub enum Change<'a> {
     RewriteAppendQueue,
     RewriteRewriteQueue,
     PurgeAllStale,
+    /// A purge by the settings' thresholds, which drops no file from this number on.
+    PurgeExpired(u64),
 }
 
 /// What is read of a log.

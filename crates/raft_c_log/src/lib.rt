@@ -11,3 +11,4 @@ mod scan;
 pub use answer::Answer;
 pub use calls::{Change, Fetch, Query, Scan};
 pub use open_log::OpenLog;
+pub use opening::Unopened;

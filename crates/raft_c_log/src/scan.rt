@@ -1,9 +1,11 @@
 //! Scans of a log's keys and values.
-ghost use Rattle.std.specs.Prelude.{◌≡◌, ◌⊎◌, ◌++◌, [], IfOk, Some, false, true};
+ghost use Rattle.std.specs.Prelude.{◌≡◌, ◌⊎◌, ◌++◌, [], IfErr, IfOk, Some, false, true};
 ghost use Rattle.raft_c_batch.specs.Batch.{part_bytes};
-ghost use Rattle.raft_log_engine.specs.Engine.{contents_of};
+ghost use Rattle.raft_base.specs.declared.errors.Fault.TheVariants.{Memory};
+ghost use Rattle.raft_log_engine.specs.Engine.{contents_of, has_failed};
 ghost use Rattle.raft_c_log.specs.Limit.{IsOneLess, max_of};
 ghost use Rattle.raft_c_log.specs.Calls.{IsScanAnswer};
+ghost use Rattle.raft_c_log.specs.Refusals.{IsRefusalFor};
 
 use crate::calls::Scan;
 use raft_c_batch::push_pair;
@@ -60,6 +62,7 @@ pub(crate) fn pairs_of<F: FileSystem>(
 ) -> Result<Vec<u8>, Fault>
     ensures value { IfOk result (λ bytes.
         IsScanAnswer scan.entry (contents_of engine.now) bytes.items) }
+    ensures cause { IfErr result (IsRefusalFor (has_failed engine.now) (λ e. e ≡ Memory)) }
 {
     let mut pairs = Pairs::new(alloc, scan.limit);
     let scanned = engine.scan_raw_messages(

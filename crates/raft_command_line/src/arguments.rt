@@ -40,7 +40,7 @@ fn read_request<'a>(alloc: Global, matches: &ArgMatches<'a>) -> Result<Option<Re
     let options = read_options(alloc, rest)?;
     let verb = match name {
         "append" => read_append(alloc, rest)?,
-        "rewrite" => Some(Verb::Rewrite(read_purge(alloc, rest)?)),
+        "rewrite" => Some(Verb::Purge(read_purge(alloc, rest)?)),
         _ => read_verb(name, rest),
     };
     match verb {
@@ -75,6 +75,7 @@ fn read_options<'a>(alloc: Global, matches: &ArgMatches<'a>) -> Result<Options<'
         settings: matches.get_str("settings"),
         base: None,
         target,
+        threads: matches.get_one("threads"),
         json: matches.get_flag("json"),
         hex: matches.get_flag("hex"),
         quiet: matches.get_flag("quiet"),
@@ -109,6 +110,7 @@ fn read_verb<'a>(name: &str, matches: &ArgMatches<'a>) -> Option<Verb<'a>> {
     match name {
         "load" => return Some(Verb::Load(read_load(matches)?)),
         "repair" => return Some(Verb::Repair),
+        "purge" => return Some(Verb::Purge(Purge::Expired)),
         "settings" => return Some(Verb::Settings),
         "fork" => return Some(Verb::Fork(matches.get_str("TARGET")?)),
         _ => {}
@@ -139,6 +141,7 @@ fn read_look<'a>(name: &str, matches: &ArgMatches<'a>) -> Option<Look<'a>> {
         "verify" => Some(Look::Verify(read_load(matches)?)),
         "dump" => Some(Look::Dump(matches.get_str("FILE"))),
         "check" => Some(Look::Check),
+        "consistency" => Some(Look::Consistency),
         "picture" => Some(Look::Picture),
         _ => None,
     }
@@ -168,6 +171,7 @@ fn read_load(matches: &ArgMatches<'_>) -> Option<Load> {
         count: matches.get_one("COUNT")?,
         size: matches.get_one("SIZE")?,
         sync_each: matches.get_one("sync-each").unwrap_or(1),
+        purge_each: matches.get_one("purge-each").unwrap_or(0),
     })
 }
 

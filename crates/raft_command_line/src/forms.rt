@@ -35,14 +35,15 @@ Statuses:
   0  done; of check: an opening in --mode would lose nothing
   1  a call failed; standard error says which, and where
   2  the command line can't be read
-  3  get, entry: no such key or entry; verify: a key after a gap, or with another value
+  3  get, entry: no such key or entry; verify: a key after a gap, or with another value;
+     consistency: a group's entries have a hole
   4  check: an opening would cut something off; dump: a file can't be read on
   5  check: an opening would fail
 
 `raftctl help COMMAND` has an example of each command.";
 
 /// The words that each command takes.
-pub(crate) const OPTIONS: [Word; 7] = [
+pub(crate) const OPTIONS: [Word; 8] = [
     Word(
         "settings",
         Kind::NamedText,
@@ -62,6 +63,11 @@ pub(crate) const OPTIONS: [Word; 7] = [
         "target",
         Kind::NamedText,
         "The size at which a log file is full, as 128MB",
+    ),
+    Word(
+        "threads",
+        Kind::Named,
+        "How many workers read the files at an opening; else recovery-threads of the settings",
     ),
     Word("json", Kind::Flag, "Prints each line as an object"),
     Word(
@@ -84,7 +90,7 @@ const SIZE: Word = Word("SIZE", Kind::Number, "The bytes of each value");
 
 const LIMIT: Word = Word("limit", Kind::Named, "Prints so many lines at most");
 
-pub(crate) const FORMS: [Form; 22] = [
+pub(crate) const FORMS: [Form; 24] = [
     Form {
         name: "put",
         about: "Puts a value at a key of a group, and syncs it",
@@ -232,6 +238,12 @@ pub(crate) const FORMS: [Form; 22] = [
         example: "Example: raftctl log check --mode absolute",
     },
     Form {
+        name: "consistency",
+        about: "Prints a line for each group whose entries have a hole, with the last index before the first one; status 3 where there is one",
+        words: &[],
+        example: "Example: raftctl log consistency --json",
+    },
+    Form {
         name: "picture",
         about: "Prints a picture in SVG: the files to scale, and what the index refers to of each",
         words: &[],
@@ -245,13 +257,19 @@ pub(crate) const FORMS: [Form; 22] = [
     },
     Form {
         name: "rewrite",
-        about: "Writes what still counts in log files anew, deletes these, and prints how many they were",
+        about: "Writes what still counts in log files anew, drops these, and prints how many, and which files are kept to be used again",
         words: &[Word(
             "FILES",
             Kind::Text,
             "append or rewrite, the files of this queue; stale, those of which nothing counts",
         )],
         example: "Example: raftctl log rewrite append",
+    },
+    Form {
+        name: "purge",
+        about: "Drops log files as `rewrite` does, as far as the settings' thresholds ask for it; prints the groups to compact before",
+        words: &[],
+        example: "Example: raftctl log purge",
     },
     Form {
         name: "settings",
@@ -279,6 +297,11 @@ pub(crate) const FORMS: [Form; 22] = [
                 "sync-each",
                 Kind::Named,
                 "Syncs after so many keys; 0: never; else after each",
+            ),
+            Word(
+                "purge-each",
+                Kind::Named,
+                "Purges after so many keys, as `purge` does; 0, else: never",
             ),
         ],
         example: "Example: raftctl log load 1000000 100 --sync-each 1000",

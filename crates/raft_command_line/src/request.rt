@@ -23,6 +23,8 @@ pub struct Options<'a> {
     pub mode_is_named: bool,
     /// The size at which a log file is full.
     pub target: Option<ReadableSize>,
+    /// How many workers read the files at an opening.
+    pub threads: Option<u64>,
     /// The file of the settings.
     pub settings: Option<&'a str>,
     /// The settings over which the other words are laid, once they were read.
@@ -47,7 +49,7 @@ pub enum Verb<'a> {
     Compact(u64, u64),
     Clean(u64),
     Load(Load),
-    Rewrite(Purge),
+    Purge(Purge),
     Repair,
     /// The settings in force.
     Settings,
@@ -56,7 +58,7 @@ pub enum Verb<'a> {
     Look(Look<'a>),
 }
 
-/// Which log files to free.
+/// Which log files are to go.
 #[derive(Clone, Copy)]
 pub enum Purge {
     /// The Append queue's, whose records that still count are written to the Rewrite queue.
@@ -65,6 +67,8 @@ pub enum Purge {
     Rewrite,
     /// The Append queue's first ones, of which nothing counts any more.
     Stale,
+    /// As far as the settings' thresholds ask for it.
+    Expired,
 }
 
 /// What to look at, without a change.
@@ -82,6 +86,8 @@ pub enum Look<'a> {
     /// Of one file, or of all.
     Dump(Option<&'a str>),
     Check,
+    /// The holes that entries leave.
+    Consistency,
     Picture,
 }
 
@@ -102,12 +108,13 @@ pub struct Range<'a> {
     pub reverse: bool,
 }
 
-/// How many keys, of how many bytes each, and after how many of them to sync.
+/// How many keys, of how many bytes each, and after how many of them to sync, and to purge; 0 stands for never.
 #[derive(Clone, Copy)]
 pub struct Load {
     pub count: u64,
     pub size: u64,
     pub sync_each: u64,
+    pub purge_each: u64,
 }
 
 impl<'a> Request<'a> {

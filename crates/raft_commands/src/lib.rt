@@ -3,14 +3,17 @@
 
 mod changes;
 mod entries;
+mod holes;
 mod keys;
 mod lines;
 mod looks;
 mod numbered;
 mod opening;
 mod pictures;
+mod purging;
 mod repair;
 mod stat;
+mod stored;
 mod writing;
 
 pub use looks::look;

@@ -1,8 +1,10 @@
 //! Looks at a folder: its log files are read into memory, and nothing of it is changed.
 
-use crate::opening::open;
+use crate::holes::print_holes;
+use crate::opening::open_image;
 use crate::pictures::print_picture;
 use crate::stat::stat;
+use crate::stored::Total;
 use crate::{entries, keys, numbered};
 use anyhow::Result;
 use raft_command_line::{Look, Options, Request};
@@ -11,11 +13,17 @@ use raft_env::FileSystem;
 use raft_log_engine::Engine;
 use raft_looks::{Folder, check, dump};
 use raft_records::LogQueue;
+use std::thread::Threads;
 
 /// Prints what is looked for in the folder of the request, and changes nothing of it: its log files
-/// are read into memory. It fails where there is no folder, where a file can't be read, and where
-/// the log can't be opened.
-pub fn look(rt: HostRuntime, request: &Request<'_>, look: Look<'_>) -> Result<Status> {
+/// are read into memory, and opened there by threads of the handle. It fails where there is no
+/// folder, where a file can't be read, and where the log can't be opened.
+pub fn look<R: Threads + Sync>(
+    rt: HostRuntime,
+    threads: &R,
+    request: &Request<'_>,
+    look: Look<'_>,
+) -> Result<Status> {
     let options = &request.options;
     let mut progress = Progress::new(rt, options.quiet)?;
     let folder = Folder::open(rt, request.folder, options)?;
@@ -23,14 +31,24 @@ pub fn look(rt: HostRuntime, request: &Request<'_>, look: Look<'_>) -> Result<St
     let status = match look {
         Look::Check => check(rt.alloc(), &folder, options, &mut progress, &mut out)?,
         Look::Dump(name) => dump(rt.alloc(), &folder, name, &mut progress, &mut out)?,
-        _ => look_in_memory(&rt, &folder, request, look, &mut progress, &mut out)?,
+        Look::Consistency => print_holes(rt.alloc(), &folder, &mut progress, &mut out)?,
+        _ => look_in_memory(
+            &rt,
+            threads,
+            &folder,
+            request,
+            look,
+            &mut progress,
+            &mut out,
+        )?,
     };
     out.print()?;
     Ok(status)
 }
 
-fn look_in_memory(
+fn look_in_memory<R: Threads + Sync>(
     rt: &HostRuntime,
+    threads: &R,
     folder: &Folder,
     request: &Request<'_>,
     look: Look<'_>,
@@ -39,12 +57,13 @@ fn look_in_memory(
 ) -> Result<Status> {
     let image = folder.image(progress)?;
     progress.begin("the log is being opened in memory")?;
-    show(rt, folder, image, request, look, out)
+    show(rt, threads, folder, image, request, look, out)
 }
 
 // What is found in files that are all in memory.
-fn show<F: FileSystem + Drop>(
+fn show<R: Threads + Sync, F: FileSystem + Drop>(
     rt: &HostRuntime,
+    threads: &R,
     folder: &Folder,
     mut image: F,
     request: &Request<'_>,
@@ -53,10 +72,21 @@ fn show<F: FileSystem + Drop>(
 ) -> Result<Status> {
     note_cuts(rt, folder, &mut image, &request.options)?;
     match look {
-        Look::Stat => stat(rt.alloc(), image, &request.options, out),
+        Look::Stat => {
+            let reserved = reserved_in(folder);
+            stat(threads, rt.alloc(), image, reserved, &request.options, out)
+        }
         Look::Picture => print_picture(rt, &mut image, request),
-        _ => read(rt, image, &request.options, look, out),
+        _ => read(rt, threads, image, &request.options, look, out),
     }
+}
+
+fn reserved_in(folder: &Folder) -> Total {
+    let mut total = Total::new();
+    for file in &folder.reserved {
+        total.add(file.len);
+    }
+    total
 }
 
 // Says what of the files an opening leaves out, where it doesn't fail.
@@ -80,14 +110,15 @@ fn note_cuts<F: FileSystem>(
     Ok(())
 }
 
-fn read<F: FileSystem + Drop>(
+fn read<R: Threads + Sync, F: FileSystem + Drop>(
     rt: &HostRuntime,
+    threads: &R,
     image: F,
     options: &Options<'_>,
     look: Look<'_>,
     out: &mut Output,
 ) -> Result<Status> {
-    let mut engine = open(rt.alloc(), image, options)?;
+    let mut engine = open_image(threads, rt.alloc(), image, options)?;
     let is_found = find(rt, &mut engine, options, look, out)?;
     Ok(if is_found {
         Status::Done
@@ -116,6 +147,6 @@ fn find<F: FileSystem>(
         Look::Groups => entries::groups(engine, out),
         Look::Verify(load) => numbered::verify(rt, engine, load, options.quiet, out),
         // Done before.
-        Look::Stat | Look::Dump(_) | Look::Check | Look::Picture => Ok(true),
+        Look::Stat | Look::Dump(_) | Look::Check | Look::Consistency | Look::Picture => Ok(true),
     }
 }

@@ -7,14 +7,14 @@ use raft_console::{Output, Progress, failure};
 use raft_env::FileSystem;
 use raft_inspect::Word;
 use raft_log_engine::Engine;
-use raft_records::Fault;
+use raft_records::{Fault, FileSeq};
 use std::alloc::{AllocError, Global};
 use std::time::Instant;
 
 const GROUP: u64 = 1;
 
 /// Puts the keys, syncs after so many of them and at the end, or never for 0, and prints the last
-/// key that each sync covers.
+/// key that each sync covers. It purges after so many of them too.
 pub(crate) fn load<F: FileSystem>(
     rt: &HostRuntime,
     engine: &mut Engine<F>,
@@ -46,6 +46,11 @@ fn put_next<F: FileSystem>(
     }
     if sync {
         println!(rt; "synced {number}")?;
+    }
+    if load.purge_each > 0 && nth % load.purge_each == 0 {
+        if let Err(fault) = engine.purge_expired_files(FileSeq::MAX) {
+            return Err(failure("the log cannot be purged", &fault));
+        }
     }
     Ok(())
 }

@@ -9,13 +9,39 @@ use raft_inspect::{QueueFiles, inspect};
 use raft_log_engine::{Engine, Refused};
 use raft_records::{Fault, Fresh, LogQueue};
 use std::alloc::{AllocError, Global};
+use std::thread::Threads;
 
-pub(crate) fn open<F: FileSystem + Drop>(
+/// Opens the log, whose files are read by as many workers as the settings in force have threads.
+pub(crate) fn open<R: Threads + Sync, F: FileSystem + Drop>(
+    threads: &R,
     alloc: Global,
     files: F,
     options: &Options<'_>,
 ) -> Result<Engine<F>> {
-    match Engine::open_in_order(alloc, config(alloc, options)?, files) {
+    open_over(threads, alloc, config(alloc, options)?, files, options)
+}
+
+/// Opens a log in memory, which is looked at alone: no file is made ahead there.
+pub(crate) fn open_image<R: Threads + Sync, F: FileSystem + Drop>(
+    threads: &R,
+    alloc: Global,
+    image: F,
+    options: &Options<'_>,
+) -> Result<Engine<F>> {
+    let mut config = config(alloc, options)?;
+    config.enable_log_recycle = false;
+    config.prefill_for_recycle = false;
+    open_over(threads, alloc, config, image, options)
+}
+
+fn open_over<R: Threads + Sync, F: FileSystem + Drop>(
+    threads: &R,
+    alloc: Global,
+    config: Config,
+    files: F,
+    options: &Options<'_>,
+) -> Result<Engine<F>> {
+    match Engine::open_with_file_system(threads, alloc, config, files) {
         Ok(engine) => Ok(engine),
         Err(refused) => Err(refusal(alloc, refused, options)),
     }
@@ -40,6 +66,9 @@ pub fn config(alloc: Global, options: &Options<'_>) -> Result<Config, AllocError
     }
     if let Some(target) = options.target {
         config.target_file_size = target;
+    }
+    if let Some(threads) = options.threads {
+        config.recovery_threads = threads as usize;
     }
     Ok(config)
 }

@@ -8,10 +8,12 @@ use raft_env::FileSystem;
 use raft_inspect::{Cut, cuts_of, inspect, keep_cut};
 use raft_records::{Fault, LogQueue};
 use std::alloc::Global;
+use std::thread::Threads;
 
 /// Prints what an opening in the mode of the options cuts off, keeps these bytes, and opens the
 /// log.
-pub(crate) fn repair<F: FileSystem + Drop>(
+pub(crate) fn repair<R: Threads + Sync, F: FileSystem + Drop>(
+    threads: &R,
     alloc: Global,
     mut files: F,
     options: &Options<'_>,
@@ -32,7 +34,7 @@ pub(crate) fn repair<F: FileSystem + Drop>(
             return Err(failure("what is cut off cannot be kept", &fault));
         }
     }
-    close(open(alloc, files, options)?)?;
+    close(open(threads, alloc, files, options)?)?;
     Ok(Status::Done)
 }
 

@@ -1,7 +1,8 @@
 //! What a folder holds, in numbers.
 
 use crate::keys::count;
-use crate::opening::open;
+use crate::opening::open_image;
+use crate::stored::Total;
 use anyhow::Result;
 use raft_command_line::Options;
 use raft_console::{Output, Status, failure};
@@ -10,12 +11,13 @@ use raft_inspect::{Outlook, Word, inspect};
 use raft_log_engine::Engine;
 use raft_records::{Fault, LogQueue};
 use std::alloc::Global;
+use std::thread::Threads;
 
-/// The log files, their bytes, and what of these an opening would cut off.
+/// The log files, how many of them an opening would pass over, and what it would cut off.
 #[derive(Clone, Copy)]
 struct Sizes {
-    files: u64,
-    bytes: u64,
+    log: Total,
+    passed: u64,
     outlook: Outlook,
 }
 
@@ -28,11 +30,13 @@ struct Held {
     span: Option<(u64, u64)>,
 }
 
-/// Prints how much the log holds, how many bytes an opening would cut from its files, and a line
-/// for each group.
-pub(crate) fn stat<F: FileSystem + Drop>(
+/// Prints how much the log holds, how many bytes an opening would cut from its files, what is kept to
+/// be used again, and a line for each group.
+pub(crate) fn stat<R: Threads + Sync, F: FileSystem + Drop>(
+    threads: &R,
     alloc: Global,
     mut files: F,
+    reserved: Total,
     options: &Options<'_>,
     out: &mut Output,
 ) -> Result<Status> {
@@ -40,12 +44,19 @@ pub(crate) fn stat<F: FileSystem + Drop>(
         Ok(sizes) => sizes,
         Err(fault) => return Err(failure("the log cannot be measured", &fault)),
     };
-    let engine = open(alloc, files, options)?;
+    let engine = open_image(threads, alloc, files, options)?;
     let held = match held_of(alloc, &engine) {
         Ok(held) => held,
         Err(fault) => return Err(failure("the log cannot be read", &fault)),
     };
     add_totals(&held, sizes, out)?;
+    add_counts(
+        &[
+            ("reserved", reserved.files),
+            ("reserved-bytes", reserved.bytes),
+        ],
+        out,
+    )?;
     for group in &held {
         add_group(*group, out)?;
     }
@@ -59,16 +70,16 @@ fn measure<F: FileSystem>(
 ) -> Result<Sizes, Fault> {
     let folders = options.folders(alloc)?;
     let mut sizes = Sizes {
-        files: 0,
-        bytes: 0,
+        log: Total::new(),
+        passed: 0,
         outlook: Outlook::new(),
     };
     for queue in [LogQueue::Append, LogQueue::Rewrite] {
         let found = inspect(alloc, files, &folders, queue)?;
         sizes.outlook.add_queue(alloc, &found, options.mode)?;
+        sizes.passed = sizes.passed.saturating_add(found.passed as u64);
         for check in &found.checks {
-            sizes.files = sizes.files.saturating_add(1);
-            sizes.bytes = sizes.bytes.saturating_add(check.len as u64);
+            sizes.log.add(check.len as u64);
         }
     }
     Ok(sizes)
@@ -99,16 +110,24 @@ fn add_totals(held: &[Held], sizes: Sizes, out: &mut Output) -> Result<()> {
             entries = entries.saturating_add(last.saturating_sub(first).saturating_add(1));
         }
     }
-    for (name, count) in [
-        ("files", sizes.files),
-        ("bytes", sizes.bytes),
-        ("groups", held.len() as u64),
-        ("keys", keys),
-        ("entries", entries),
-        ("cut", sizes.outlook.bytes),
-        ("zeros", sizes.outlook.zeros),
-    ] {
-        out.named(&[(name, Word::Number(count))])?;
+    add_counts(
+        &[
+            ("files", sizes.log.files),
+            ("bytes", sizes.log.bytes),
+            ("passed", sizes.passed),
+            ("groups", held.len() as u64),
+            ("keys", keys),
+            ("entries", entries),
+            ("cut", sizes.outlook.bytes),
+            ("zeros", sizes.outlook.zeros),
+        ],
+        out,
+    )
+}
+
+fn add_counts(counts: &[(&'static str, u64)], out: &mut Output) -> Result<()> {
+    for (name, count) in counts {
+        out.named(&[(name, Word::Number(*count))])?;
     }
     Ok(())
 }

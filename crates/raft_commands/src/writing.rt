@@ -5,35 +5,44 @@ use crate::entries::{append, compact};
 use crate::lines::put_lines;
 use crate::numbered::load;
 use crate::opening::{close, open};
+use crate::purging::purge;
 use crate::repair::repair;
 use anyhow::{Result, bail};
-use raft_command_line::{Purge, Request, Verb};
+use raft_command_line::{Request, Verb};
 use raft_console::{Output, Status, bytes_of, failure};
 use raft_disk::DiskFileSystem;
 use raft_env::FileSystem;
-use raft_inspect::Word;
 use raft_log_engine::Engine;
-use raft_records::Fault;
+use std::thread::Threads;
 
 /// Does what changes the log in the folder of the request. The folder is made where it is missing,
-/// and its lock is held meanwhile; the opening cuts what its mode lets it cut.
-pub fn change(rt: HostRuntime, request: &Request<'_>) -> Result<Status> {
+/// and its lock is held meanwhile; the opening cuts what its mode lets it cut, and reads the files by
+/// threads of the handle.
+pub fn change<R: Threads + Sync>(
+    rt: HostRuntime,
+    threads: &R,
+    request: &Request<'_>,
+) -> Result<Status> {
     match DiskFileSystem::open(rt, request.folder) {
-        Ok(files) => change_files(&rt, files, request),
+        Ok(files) => change_files(&rt, threads, files, request),
         Err(fault) => bail!("{fault}"),
     }
 }
 
-fn change_files<F: FileSystem + Drop>(
+fn change_files<R: Threads + Sync, F: FileSystem + Drop>(
     rt: &HostRuntime,
+    threads: &R,
     files: F,
     request: &Request<'_>,
 ) -> Result<Status> {
-    let mut out = Output::new(*rt, &request.options);
-    if let Verb::Repair = request.verb {
-        return repair(rt.alloc(), files, &request.options, &mut out);
+    let options = &request.options;
+    let mut out = Output::new(*rt, options);
+    match &request.verb {
+        Verb::Repair => return repair(threads, rt.alloc(), files, options, &mut out),
+        Verb::Purge(which) => return purge(rt, threads, files, *which, options, &mut out),
+        _ => {}
     }
-    let mut engine = open(rt.alloc(), files, &request.options)?;
+    let mut engine = open(threads, rt.alloc(), files, options)?;
     carry_out(rt, &mut engine, request, &mut out)?;
     out.print()?;
     if request.sync {
@@ -59,9 +68,8 @@ fn carry_out<F: FileSystem>(
         Verb::Compact(group, index) => compact(engine, *group, *index, request.sync, out),
         Verb::Clean(group) => clean(rt, engine, *group, request.sync),
         Verb::Load(numbers) => load(rt, engine, *numbers, request.options.quiet),
-        Verb::Rewrite(files) => rewrite(engine, *files, out),
         // Done elsewhere.
-        Verb::Repair | Verb::Settings | Verb::Fork(_) | Verb::Look(_) => Ok(()),
+        Verb::Repair | Verb::Purge(_) | Verb::Settings | Verb::Fork(_) | Verb::Look(_) => Ok(()),
     }
 }
 
@@ -118,21 +126,5 @@ fn clean<F: FileSystem>(
     match write(rt.alloc(), engine, group, Change::Clean, sync) {
         Ok(()) => Ok(()),
         Err(fault) => Err(failure("the group cannot be cleaned", &fault)),
-    }
-}
-
-// Prints how many log files were deleted.
-fn rewrite<F: FileSystem>(engine: &mut Engine<F>, files: Purge, out: &mut Output) -> Result<()> {
-    match purge(engine, files) {
-        Ok(count) => out.line(&[("deleted", Word::Number(count as u64))]),
-        Err(fault) => Err(failure("the files cannot be rewritten", &fault)),
-    }
-}
-
-fn purge<F: FileSystem>(engine: &mut Engine<F>, files: Purge) -> Result<usize, Fault> {
-    match files {
-        Purge::Append => engine.must_rewrite_append_queue(None, None),
-        Purge::Rewrite => engine.must_rewrite_rewrite_queue(),
-        Purge::Stale => engine.must_purge_all_stale(),
     }
 }

@@ -37,13 +37,12 @@ const MIN_RECOVERY_THREADS: usize = 1;
 /// How many files are kept for recycling at most.
 const MAX_SPARE_FILES: u64 = u32::MAX as u64;
 
-/// The settings of an engine. `specs/Config.antt` lists each with its default. Only `dir`, `spill_dir`,
-/// `recovery_mode`, `format_version` and `target_file_size` are used so far.
+/// The settings of an engine. `specs/Config.antt` lists each with its default.
 #[derive(Debug, PartialEq, Drop)]
 pub struct Config {
     /// The folder of the log files. The empty path is the root.
     pub dir: String,
-    /// A second folder, whose log files are read too. New ones are made in `dir`.
+    /// A second folder, whose log files are read too. A new file goes there where `dir` has no room for it.
     pub spill_dir: Option<String>,
     pub recovery_mode: RecoveryMode,
     /// How many bytes an opening reads at once.
@@ -62,8 +61,11 @@ pub struct Config {
     pub purge_rewrite_garbage_ratio: u64,
     /// Read and ignored.
     pub memory_limit: Option<ReadableSize>,
+    /// Whether files that a purge drops are kept, and used again for next ones.
     pub enable_log_recycle: bool,
+    /// Whether an opening makes such files ahead, filled with zeros.
     pub prefill_for_recycle: bool,
+    /// How many bytes such files take at most, as the purge threshold is for the Append queue.
     pub prefill_limit: Option<ReadableSize>,
 }
 

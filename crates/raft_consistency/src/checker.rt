@@ -88,8 +88,20 @@ impl ConsistencyChecker {
         Ok(())
     }
 
+    /// Of each group with a hole the last index before the first one.
+    pub fn finish(self, alloc: Global) -> Result<HashMap<u64, u64>, AllocError>
+        ensures value { IfOk result (λ holes. (group : ℕ)
+            → hash.get nat_eq holes group ≡ hole_in self group) }
+    {
+        let mut holes = HashMap::new(alloc);
+        for (group, entries) in self.groups {
+            note_hole(&mut holes, group, entries.hole)?;
+        }
+        Ok(holes)
+    }
+
     /// Sets of each group with a hole the last index before the first one.
-    pub fn finish(self, holes: &mut BTreeMap<u64, u64>) -> Result<(), AllocError>
+    pub(crate) fn add_holes(self, holes: &mut BTreeMap<u64, u64>) -> Result<(), AllocError>
         ensures ok { OnOk result ((group : ℕ) → tree.get nat_cmp holes.new group
             ≡ option_or (hole_in self group) (tree.get nat_cmp holes.old group)) }
     {
@@ -98,6 +110,18 @@ impl ConsistencyChecker {
         }
         Ok(())
     }
+}
+
+/// Notes the hole of a group, where it has one.
+fn note_hole(holes: &mut HashMap<u64, u64>, group: u64, hole: Option<u64>) -> Result<(), AllocError>
+    ensures ok { OnOk result ((one : ℕ) → hash.get nat_eq holes.new one
+        ≡ (if group == one then option_or hole (hash.get nat_eq holes.old one)
+        else hash.get nat_eq holes.old one)) }
+{
+    if let Some(last) = hole {
+        holes.insert(group, last)?;
+    }
+    Ok(())
 }
 
 /// Sets the hole of a group, where it has one.

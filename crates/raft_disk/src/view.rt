@@ -9,7 +9,7 @@ use crate::places::{LOCK, join};
 use raft_memory::MemoryFileSystem;
 use std::alloc::Global;
 use std::fs::{self, DirEntry, File, TryLockError};
-use std::io::{self, ErrorKind, Read};
+use std::io::{self, ErrorKind, Read, Seek, SeekFrom};
 
 /// A folder whose files can be read. It has no call that changes one, makes a name or waits for a
 /// lock. While it lasts, no process can begin to write to the folder.
@@ -98,6 +98,15 @@ impl FolderView {
         }
     }
 
+    /// So many bytes of the file at a path from here, from a place on, fewer where it ends.
+    pub fn read_part(&self, path: &str, at: u64, len: usize) -> Result<Vec<u8>, OpenFault> {
+        let place = self.place(path)?;
+        match read_part(&self.rt, place.as_str(), at, len) {
+            Ok(bytes) => Ok(bytes),
+            Err(e) => Err(OpenFault::Io(place, e)),
+        }
+    }
+
     /// How many bytes the file at a path from here has.
     pub fn size(&self, path: &str) -> Result<u64, OpenFault> {
         let place = self.place(path)?;
@@ -138,6 +147,14 @@ fn read_file(rt: &HostRuntime, place: &str) -> io::Result<Vec<u8>> {
         .saturating_add(1);
     let mut bytes = Vec::with_capacity(rt.alloc(), room)?;
     file.read_to_end(&mut bytes)?;
+    Ok(bytes)
+}
+
+fn read_part(rt: &HostRuntime, place: &str, at: u64, len: usize) -> io::Result<Vec<u8>> {
+    let mut file = File::open(rt, place)?;
+    file.seek(SeekFrom::Start(at))?;
+    let mut bytes = Vec::with_capacity(rt.alloc(), len.saturating_add(1))?;
+    file.take(len as u64).read_to_end(&mut bytes)?;
     Ok(bytes)
 }
 

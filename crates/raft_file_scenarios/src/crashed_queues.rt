@@ -188,7 +188,7 @@ fn reads_one<F: FileSystem>(
     code: Option<u8>,
 ) -> Result<bool, Fault> {
     let mut machine = Keys::fresh(alloc);
-    let answer = builder.recover_queue(queue, &mut machine);
+    let answer = builder.recover_queue_in_order(queue, &mut machine);
     if let Some(code) = code {
         return Ok(is_refused(answer, code));
     }

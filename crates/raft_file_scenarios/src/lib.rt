@@ -21,6 +21,8 @@ mod queues;
 #[cfg(test)]
 mod read_bytes;
 #[cfg(test)]
+mod reserved_files;
+#[cfg(test)]
 mod two_folders;
 #[cfg(test)]
 mod two_queues;

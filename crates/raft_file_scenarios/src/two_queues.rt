@@ -103,7 +103,7 @@ static THREE_FILES: [Case; 2] = [
         steps: &[
             Step::Scan,
             Step::ReadBoth(2, 1),
-            Step::Cuts(&[(LogQueue::Append, 2, 97), (LogQueue::Rewrite, 1, 97)]),
+            Step::Cuts(&[(LogQueue::Rewrite, 1, 97), (LogQueue::Append, 2, 97)]),
         ],
         finished: Ok((2, 1)),
         files: &[
@@ -114,9 +114,27 @@ static THREE_FILES: [Case; 2] = [
     },
 ];
 
+static EMPTY_FILE: [Case; 1] = [
+    Case {
+        name: "a file of no bytes is begun anew",
+        stored: &[APPEND_1, ("data/0000000000000002.raftlog", &[])],
+        steps: &[
+            Step::Scan,
+            Step::ReadBoth(1, 0),
+            Step::Cuts(&[(LogQueue::Append, 2, 0)]),
+        ],
+        finished: Ok((2, 1)),
+        files: &[
+            ("data/0000000000000001.raftlog", 97),
+            ("data/0000000000000002.raftlog", 61),
+            ("data/0000000000000001.rewrite", 69),
+        ],
+    },
+];
+
 // A function is checked with all of each table that it names, and that grows with the square of the table.
-fn cases() -> [&'static [Case]; 2] {
-    [&REFUSED, &THREE_FILES]
+fn cases() -> [&'static [Case]; 3] {
+    [&REFUSED, &THREE_FILES, &EMPTY_FILE]
 }
 
 /// Counts batches.
@@ -150,7 +168,7 @@ pub(super) fn read<F: FileSystem>(
     queue: LogQueue,
 ) -> Result<u64, Fault> {
     let mut machine = Counter { batches: 0 };
-    builder.recover_queue(queue, &mut machine)?;
+    builder.recover_queue_in_order(queue, &mut machine)?;
     Ok(machine.batches)
 }
 

@@ -5,7 +5,7 @@ use raft_env::{FileSystem, IoKind};
 use raft_listeners::{EventListener, EventSink, Listeners};
 use raft_log_engine::{Config, Engine};
 use raft_memory::{FsCall, MemoryFileSystem};
-use raft_records::{EntryIndex, Fault, Fresh, LogBatch, ReadableSize};
+use raft_records::{Command, EntryIndex, Fault, Fresh, LogBatch, ReadableSize};
 use std::alloc::Global;
 use std::sync::Arc;
 use std::sync::atomic::{AtomicU64, Ordering};
@@ -58,13 +58,18 @@ enum Step {
     Compact,
     /// A purge of all files in which nothing stands.
     Purge,
+    /// A rewriting of the Append queue, and of the Rewrite queue.
+    Rewrite,
+    Renew,
+    /// A write that removes the group of a put.
+    Clean,
 }
 
 /// The target size of files, which writes of a file find no space, counted from 1, what is done, and
 /// what is heard of it.
 struct Heard(u64, &'static [u64], &'static [Step], u64);
 
-static CALLS: [Heard; 11] = [
+static CALLS: [Heard; 14] = [
     // An opening: the first file of each queue.
     Heard(1024, &[], &[], 11),
     Heard(1024, &[], &[Step::Put, Step::Put], 112_323),
@@ -75,6 +80,12 @@ static CALLS: [Heard; 11] = [
     // Each queue goes on, and both lose a file, or the Rewrite queue alone.
     Heard(1024, &[], &[Step::Purge], 111_144),
     Heard(1024, &[], &[Step::Put, Step::Purge], 1_123_114),
+    // What stands in a file is written again, or all of the Rewrite queue: its record, as a put's, is
+    // heard before a new file of the Append queue, and that before the file that left.
+    Heard(1024, &[], &[Step::Put, Step::Rewrite], 11_232_314),
+    Heard(1024, &[], &[Step::Put, Step::Rewrite, Step::Renew], 112_323_141_234),
+    // A clean is owed once the Rewrite queue may have a batch: its mark is a record.
+    Heard(1024, &[], &[Step::Put, Step::Rewrite, Step::Clean, Step::Purge], 1_123_231_423_123_144),
     // Each file is full with its header.
     Heard(1, &[], &[Step::Put, Step::Group], 11_123_123_123),
     // Two headers are written before. The first attempt finds no space, and then, with the header of
@@ -126,10 +137,17 @@ fn done<F: FileSystem, L: EventSink>(
             let _ = engine.compact_to_with_listeners(2, 9, listeners);
         }
         Step::Purge => {
-            listeners.make_room(1)?;
-            let found = engine.file_spans();
-            let _ = engine.must_purge_all_stale();
-            found.tell_purged(&engine.file_spans(), listeners);
+            let _ = engine.must_purge_all_stale_with_listeners(listeners);
+        }
+        Step::Rewrite => {
+            let _ = engine.must_rewrite_append_queue_with_listeners(None, None, listeners);
+        }
+        Step::Renew => {
+            let _ = engine.must_rewrite_rewrite_queue_with_listeners(listeners);
+        }
+        Step::Clean => {
+            batch.add_command(1, Command::Clean)?;
+            let _ = engine.write_with_listeners(&mut batch, true, listeners);
         }
     }
     Ok(())

@@ -2,7 +2,7 @@
 use Rattle.std.specs.Prelude.{◌≡◌, ◌≤◌, ℕ, zero, suc, ◌+◌, min, List, [], ◌∷◌, ◌++◌, length, Option, Some, None}
 use Rattle.raft_base.specs.declared.history.History.{History}
 use Rattle.raft_base.specs.declared.pipe_log.LogQueue.{LogQueue}
-use Rattle.raft_listeners.specs.Waiting.{IsFirstWaiting, Waiting, after_event}
+use Rattle.raft_listeners.specs.Waiting.{IsFirstWaiting, Waiting, after_event, room_for}
 use Rattle.raft_listeners.specs.declared.listener.Event.{Event}
 use Rattle.raft_listeners.specs.declared.listener.Event.TheVariants as event
 
@@ -32,12 +32,17 @@ pub record IsSilent (given : ℕ) (heard : Heard) : Type 0 where
   pub told : heard.told ≡ []
   pub asked : heard.asked ≡ []
 
--- they were told these too, the newest first, each of which may take room for one file
+-- how much of the hook's room these take
+abbrev pub room_taken : List Event → ℕ
+room_taken [] = 0
+room_taken (told ∷ earlier) = room_for told + room_taken earlier
+
+-- they were told these too, the newest first
 pub record HasHeard (events : List Event) (old new : Heard) : Type 0 where
   pub given : new.given ≡ old.given
   pub told : new.told ≡ events ++ old.told
   pub asked : new.asked ≡ old.asked
-  pub room : old.room ≤ length events + new.room
+  pub room : old.room ≤ room_taken events + new.room
 
 -- so many new files of a queue from this number on, the newest first
 abbrev pub new_files : LogQueue → ℕ → ℕ → List Event

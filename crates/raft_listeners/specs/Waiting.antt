@@ -101,3 +101,7 @@ after_event files (event.Purge id) =
 abbrev pub needs_room : Event → Bool
 needs_room (event.NewLogFile id) = is_append id.queue
 needs_room told = false
+
+-- how much of its room an event takes
+abbrev pub room_for : Event → ℕ
+room_for told = if needs_room told then 1 else 0

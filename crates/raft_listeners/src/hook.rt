@@ -20,7 +20,7 @@ pub struct PurgeHook {
 }
 
 impl PurgeHook {
-    ghost use Rattle.raft_listeners.specs.Waiting.{IsFirstWaiting, after_event, can_drop, can_follow, can_lower, can_raise, is_held, needs_room, room_of, waiting_at, waiting_of, with_count, with_file, without_files};
+    ghost use Rattle.raft_listeners.specs.Waiting.{IsFirstWaiting, after_event, can_drop, can_follow, can_lower, can_raise, is_held, needs_room, room_for, room_of, waiting_at, waiting_of, with_count, with_file, without_files};
 
     /// A hook that holds no files. It takes no memory.
     pub fn new(alloc: Global) -> PurgeHook
@@ -159,7 +159,7 @@ impl PurgeHook {
     pub fn hear(&mut self, event: Event)
         ensures value { (needs_room event ≡ true → 0 < room_of self.old)
             → waiting_of self.new ≡ after_event (waiting_of self.old) event }
-        ensures room { room_of self.old ≤ suc (room_of self.new) }
+        ensures room { room_of self.old ≤ room_for event + room_of self.new }
     {
         match event {
             Event::NewLogFile(file_id) => self.post_new_log_file(file_id),
@@ -194,13 +194,14 @@ impl Fresh for PurgeHook {
 
 // Only what it is told of the Append queue counts, and what is out of order changes nothing.
 impl EventListener for PurgeHook {
-    ghost use Rattle.raft_listeners.specs.Waiting.{IsFirstWaiting, after_event, needs_room, room_of, waiting_of};
+    ghost use Rattle.raft_listeners.specs.Waiting.{IsFirstWaiting, after_event, needs_room, room_for, room_of, waiting_of};
     ghost use Rattle.raft_listeners.specs.declared.listener.Event.TheVariants as event;
 
     fn post_new_log_file(&mut self, file_id: FileId)
         ensures value { (needs_room (event.NewLogFile file_id) ≡ true → 0 < room_of self.old)
             → waiting_of self.new ≡ after_event (waiting_of self.old) (event.NewLogFile file_id) }
-        ensures room { room_of self.old ≤ suc (room_of self.new) }
+        ensures room { room_of self.old 
+            ≤ room_for (event.NewLogFile file_id) + room_of self.new }
     {
         if file_id.queue == LogQueue::Append {
             let _ = self.new_log_file(file_id.seq);

@@ -6,9 +6,11 @@ mod hook;
 mod listener;
 mod listeners;
 mod no_listeners;
+mod purge_events;
 
 pub use event_sink::{EventSink, tell_files};
 pub use hook::PurgeHook;
 pub use listener::{Event, EventListener};
 pub use listeners::Listeners;
 pub use no_listeners::NoListeners;
+pub use purge_events::PurgeEvents;

@@ -9,7 +9,8 @@ pub trait EventListener: Drop {
     /// told of once, those of the Append queue first, by their numbers.
     fn post_new_log_file(&mut self, _file_id: FileId) {}
 
-    /// A record was appended at this place, and is neither synced nor applied yet.
+    /// A record was appended at this place, and isn't applied yet. One of the Rewrite queue isn't synced
+    /// either, one of the Append queue is where its write asked for that.
     fn on_append_log_file(&mut self, _handle: FileBlockHandle) {}
 
     /// The tables have taken a record of this file.

@@ -30,3 +30,5 @@ pub mod RoomLemmas
 pub mod AttemptLemmas
 pub mod EventLemmas
 pub mod ExpiredLemmas
+pub mod Crossing
+pub mod PurgeEventLemmas

@@ -1,5 +1,5 @@
 -- What purges leave of the queues, and why they fail.
-use Rattle.std.specs.Prelude.{◌≡◌, ◌⊎◌, ◌^◌, ℕ, max, suc, ◌+◌, Bool, true, false, Some}
+use Rattle.std.specs.Prelude.{◌≡◌, ◌⊎◌, ◌^◌, ℕ, max, suc, ◌+◌, Bool, true, false, Some, None}
 use Rattle.raft_base.specs.declared.errors.Fault.{Fault}
 use Rattle.raft_base.specs.declared.errors.Fault.TheVariants as fault
 use Rattle.raft_base.specs.declared.pipe_log.LogQueue.{LogQueue}
@@ -16,12 +16,13 @@ use Rattle.raft_tables.specs.FirstFiles.{first_of_tables}
 use Rattle.raft_tables.specs.GroupIds.{ids_bound}
 use Rattle.raft_tables.specs.declared.memtables.MemTables.{MemTables}
 use Rattle.raft_tables.specs.declared.rewritten.GroupsMet.{GroupsMet}
+use Rattle.raft_purge.specs.Apart.{KeepsOthers}
 use Rattle.raft_purge.specs.Dropping.{HasDroppedOld, HasDroppedSome}
-use Rattle.raft_purge.specs.Expired.{HasDroppedExpired}
+use Rattle.raft_purge.specs.Expired.{HasDroppedExpired, IsIdle}
 use Rattle.raft_purge.specs.Faults.{IsByChange, IsPurgeRefusal}
 use Rattle.raft_purge.specs.OpenGroup.{EndsOpen, HasNoId, IsAtomicRefusal}
 use Rattle.raft_purge.specs.Emptied.{MovesOnly}
-use Rattle.raft_purge.specs.Scope.{HasRewritten, watermark_in}
+use Rattle.raft_purge.specs.Scope.{HasEmptied, HasLostFront, HasRewritten, watermark_in}
 use Rattle.raft_tables.specs.Tables.{Tables}
 use Rattle.raft_purge.specs.Steps.{IsLog, LogState, LogValue}
 use Rattle.raft_purge.specs.Unfit.{IsUnfit}
@@ -58,7 +59,7 @@ pub record HasDroppedStale (together : Bool) (m : MemTables) (append rewrite app
 abbrev pub HasPurged : Purge → Bool → MemTables → MemTables → PipeState → PipeState → PipeState
     → PipeState → Type 0
 HasPurged (RewriteAppend scope) together m m' append rewrite append' rewrite' =
-    HasRewritten scope append append'
+    HasRewritten scope append append' × HasEmptied scope m m' append rewrite append' rewrite'
 HasPurged RewriteRewrite together m m' append rewrite append' rewrite' =
     HasRenewed together rewrite rewrite' × (append' ≡ append)
 HasPurged DropStale together m m' append rewrite append' rewrite' =
@@ -71,10 +72,24 @@ abbrev pub queue_freed : Purge → LogQueue
 queue_freed RewriteRewrite = Rewrite
 queue_freed _ = Append
 
--- where the Rewrite queue begins once its rewriting was refused
-abbrev pub HasRenewedSome : Purge → MemTables → PipeState → PipeState → Type 0
-HasRenewedSome RewriteRewrite m p p' = HasDroppedSome (suc (last_seq p)) m p p'
-HasRenewedSome _ m p p' = Unit {0}
+-- where the queue of which a purge answers begins once that was refused
+abbrev pub HasLostSome : Purge → MemTables → PipeState → PipeState → PipeState → PipeState → Type 0
+HasLostSome (RewriteAppend scope) m append rewrite append' rewrite' = HasLostFront None m append append'
+HasLostSome RewriteRewrite m append rewrite append' rewrite' =
+    HasDroppedSome (suc (last_seq rewrite)) m rewrite rewrite'
+HasLostSome DropStale m append rewrite append' rewrite' = HasLostFront None m append append'
+HasLostSome (DropExpired x) m append rewrite append' rewrite' =
+    HasLostFront (Some x.barrier) m append append'
+
+-- where only the Append queue is rewritten, groups that aren't keep their places
+abbrev pub LeavesOthers : Purge → Tables → Tables → Type 0
+LeavesOthers (DropExpired x) t t' = x.renews ≡ false → KeepsOthers x.groups.items t t'
+LeavesOthers _ t t' = Unit {0}
+
+-- there is nothing to be rewritten
+abbrev pub IsIdlePurge : Purge → Type 0
+IsIdlePurge (DropExpired x) = IsIdle x
+IsIdlePurge _ = ⊥
 
 -- what stands behind the watermark of a rewriting of the Append queue isn't moved
 abbrev pub LeavesBehind : Purge → PipeState → Tables → Tables → Type 0

@@ -35,6 +35,12 @@ fn add_check(
 ) -> Result<Status, Fault> {
     add_queue(alloc, append, &mut out.lines)?;
     add_queue(alloc, rewrite, &mut out.lines)?;
+    for file in &folder.reserved {
+        out.lines.named(&[
+            ("reserved", Word::Bytes(file.path.as_bytes())),
+            ("size", Word::Number(file.len)),
+        ])?;
+    }
     for name in &folder.others {
         out.lines.named(&[("other", Word::Bytes(name.as_bytes()))])?;
     }

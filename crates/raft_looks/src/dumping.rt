@@ -1,12 +1,13 @@
-//! What each log file holds, item by item. One file at a time is in memory.
+//! What each log file holds, item by item. One part of a file at a time is in memory.
 
 use crate::folder::Folder;
 use anyhow::{Result, bail};
 use raft_console::{Output, Progress, Status, failure};
-use raft_dump::{LogFile, LogItemReader, build_file_reader};
-use raft_env::FileSystem;
+use raft_dump::{LogFile, LogItemReader, RecordPlace, build_file_reader};
 use raft_inspect::{add_fault, add_item};
-use raft_records::LogQueue;
+use raft_memory::MemoryFileSystem;
+use raft_parts::LogFileParts;
+use raft_records::{Fault, LogQueue};
 use std::alloc::Global;
 
 /// Prints a line for each item of one file, or of all: the Rewrite queue's first.
@@ -24,8 +25,7 @@ pub fn dump(
     let mut status = Status::Done;
     for (place, file) in files.iter().enumerate() {
         progress.at("files dumped", place as u64, files.len() as u64)?;
-        let mut image = folder.image_of_file(file)?;
-        if !dump_file(alloc, &mut image, file, out)? {
+        if !dump_file(alloc, folder, file, out)? {
             status = Status::WouldCut;
         }
     }
@@ -46,12 +46,48 @@ fn chosen(alloc: Global, folder: &Folder, name: Option<&str>) -> Result<Vec<LogF
 }
 
 // Prints the items of a file, and says whether it can be read to its end.
-fn dump_file<F: FileSystem>(
+fn dump_file(alloc: Global, folder: &Folder, file: &LogFile, out: &mut Output) -> Result<bool> {
+    let path = file.path.as_str();
+    let mut source = folder.source_of(file);
+    let size = source.size()?;
+    let mut parts = match LogFileParts::open(alloc, size, &mut source) {
+        Ok(parts) => parts,
+        Err(fault) => return Err(source.failure(&fault)),
+    };
+    for _ in 0..u64::MAX {
+        let mut image = match parts.next_image(alloc, path, &mut source) {
+            Ok(image) => image,
+            Err(fault) => return Err(source.failure(&fault)),
+        };
+        let stop = dump_part(alloc, &mut image, file, &parts, out)?;
+        let end = match &stop {
+            Some((place, _)) => place.offset,
+            None => usize::MAX,
+        };
+        let before = parts.place_of(end);
+        if parts.go_on(end) {
+            continue;
+        }
+        let Some((place, fault)) = stop else {
+            return Ok(true);
+        };
+        let place = RecordPlace { id: place.id, offset: before };
+        if let Err(fault) = add_fault(Some(place), &fault, &mut out.lines) {
+            return Err(failure(path, &fault));
+        }
+        return Ok(false);
+    }
+    Ok(true)
+}
+
+// Prints the items of a part, and says where and why the reading stops before its end.
+fn dump_part(
     alloc: Global,
-    image: &mut F,
+    image: &mut MemoryFileSystem,
     file: &LogFile,
+    parts: &LogFileParts,
     out: &mut Output,
-) -> Result<bool> {
+) -> Result<Option<(RecordPlace, Fault)>> {
     let path = file.path.as_str();
     let mut reader = match build_file_reader(alloc, image, path) {
         Ok(reader) => reader,
@@ -62,30 +98,28 @@ fn dump_file<F: FileSystem>(
         path: file.path.clone()?,
     };
     let mut items = LogItemReader::new(alloc, vec![in alloc; named]?);
-    let mut is_whole = true;
+    let mut stop = None;
     for _ in 0..u64::MAX {
-        let Some(next) = items.next(image) else {
+        let (Some(next), Some(place)) = (items.next(image), items.place()) else {
             break;
         };
-        let added = match next {
-            Ok(item) => add_item(
-                alloc,
-                image,
-                &mut reader,
-                items.place(),
-                &item,
-                &mut out.lines,
-            ),
+        let item = match next {
+            Ok(item) => item,
             Err(fault) => {
-                is_whole = false;
-                add_fault(items.place(), &fault, &mut out.lines)
+                stop = Some((place, fault));
+                break;
             }
         };
-        if let Err(fault) = added {
+        let there = RecordPlace {
+            id: place.id,
+            offset: parts.place_of(place.offset),
+        };
+        if let Err(fault) = add_item(alloc, image, &mut reader, Some(there), &item, &mut out.lines)
+        {
             return Err(failure(path, &fault));
         }
         out.print_if_full()?;
     }
     reader.end(image);
-    Ok(is_whole)
+    Ok(stop)
 }

@@ -5,7 +5,11 @@
 mod checking;
 mod dumping;
 mod folder;
+mod reserved;
+mod source;
 
 pub use checking::check;
 pub use dumping::dump;
-pub use folder::Folder;
+pub use folder::{Folder, ReservedFile};
+pub use reserved::is_reserved;
+pub use source::FileSource;

@@ -73,11 +73,12 @@ fn put(
 }
 
 impl Orders {
-    ghost use Rattle.raft_orders.specs.Orders.{ordered_of};
+    ghost use Rattle.raft_orders.specs.Orders.{goes_to, ordered_of};
 
     /// Orders to a descriptor, by which the caller keeps files that are these now.
     pub fn new(alloc: Global, out: Option<i32>, files: &MemoryFileSystem) -> Orders
         ensures value { ordered_of result ≡ memory_directory files.now }
+        ensures out { goes_to result ≡ out }
     {
         Orders {
             alloc,

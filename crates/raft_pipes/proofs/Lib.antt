@@ -38,6 +38,7 @@ pub mod PipeResultLemmas
 pub mod PipeRotationLemmas
 pub mod PlacesLemmas
 pub mod PrefillLemmas
+pub mod PrefillMadeLemmas
 pub mod PurgeLemmas
 pub mod QueueAppendLemmas
 pub mod QueueFilesLemmas
@@ -46,8 +47,10 @@ pub mod QueueRotationLemmas
 pub mod ReadFilesLemmas
 pub mod RefusalLemmas
 pub mod ReserveLemmas
+pub mod ReserveNamesLemmas
 pub mod ReservedLemmas
 pub mod RestartLemmas
+pub mod RoomLemmas
 pub mod RotationLemmas
 pub mod SealedFileLemmas
 pub mod SettledFilesLemmas

@@ -20,6 +20,7 @@ pub mod Purge
 pub mod Read
 pub mod Refused
 pub mod Reserve
+pub mod Room
 pub mod Rotation
 pub mod Spare
 pub mod Written

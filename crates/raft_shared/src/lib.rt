@@ -2,6 +2,7 @@
 #![tactic(auto)]
 
 mod call;
+mod engine_calls;
 mod seat;
 mod settled;
 mod shared;

@@ -1,6 +1,8 @@
 //! Threads over one engine, with a history and without.
 
-use raft_log_engine::{Config, Engine, Fault, Fresh, LogBatch, MemoryFileSystem};
+use crate::asked::put_of;
+use crate::seated::{Seated, keys_in, open, seat};
+use raft_log_engine::{Engine, Fault, MemoryFileSystem};
 use raft_shared::{Call, Finished, Recorded, Reply, Seat, Shared};
 use std::alloc::{AllocError, Global};
 use std::sync::{Arc, Mutex, Wait};
@@ -31,27 +33,12 @@ trait Crew: Threads + Wait + Copy + Send + 'static {}
 
 impl<R: Threads + Wait + Copy + Send + 'static> Crew for R {}
 
-fn put_of(alloc: Global, group: u64, key: &[u8], value: &[u8]) -> Result<LogBatch, Fault> {
-    let mut batch = LogBatch::new(alloc);
-    batch.put(group, key.to_vec(alloc)?, value.to_vec(alloc)?)?;
-    Ok(batch)
+fn open_new(alloc: Global) -> Result<Engine<MemoryFileSystem>, Fault> {
+    open(alloc, MemoryFileSystem::new(alloc))
 }
 
-fn open(alloc: Global) -> Result<Engine<MemoryFileSystem>, Fault> {
-    let files = MemoryFileSystem::new(alloc);
-    Ok(Engine::open_in_order(alloc, Config::fresh(alloc), files)?)
-}
-
-fn share(alloc: Global) -> Result<Shared<MemoryFileSystem>, Fault> {
-    Shared::new(alloc, open(alloc)?, LIMIT).map_err(|refused| refused.fault)
-}
-
-fn take_seats(alloc: Global, shared: &mut Shared<MemoryFileSystem>) -> Result<Vec<Seat>, Fault> {
-    let mut seats = Vec::new(alloc);
-    for _ in 0..SEATS {
-        seats.push(shared.seat()?)?;
-    }
-    Ok(seats)
+fn begin(alloc: Global) -> Result<Seated<MemoryFileSystem>, Fault> {
+    seat(alloc, open_new(alloc)?, LIMIT, SEATS)
 }
 
 fn write(
@@ -108,8 +95,7 @@ fn written<R: Crew>(
 
 // The history that threads make.
 fn history<R: Crew>(rt: &R, alloc: Global) -> Result<Option<Vec<Recorded>>, Fault> {
-    let mut shared = share(alloc)?;
-    let seats = take_seats(alloc, &mut shared)?;
+    let Seated { shared, seats } = begin(alloc)?;
     let together = Arc::new(alloc, Mutex::new(shared))?;
     let seats = written(rt, alloc, &together, seats)?;
     Ok(Arc::into_inner(together).and_then(|lock| finish(lock.into_inner(), seats)))
@@ -187,25 +173,15 @@ fn join_putters<R: Threads>(rt: &R, putters: Vec<Putter>) -> Result<(), Fault> {
     Ok(())
 }
 
-// How many keys the groups hold, where the engine stands.
-fn keys_in(mut engine: Engine<MemoryFileSystem>) -> Option<usize> {
-    match engine.image() {
-        Ok(image) => {
-            let mut keys = 0usize;
-            for group in &image.groups {
-                keys = keys.saturating_add(group.pairs.len());
-            }
-            Some(keys)
-        }
-        Err(_) => None,
-    }
+fn keys_of(mut engine: Engine<MemoryFileSystem>) -> Option<usize> {
+    keys_in(&mut engine)
 }
 
 // How many keys an engine without a history has, once threads have put theirs.
 fn keys_put<R: Crew>(rt: &R, alloc: Global) -> Result<Option<usize>, Fault> {
-    let together = Arc::new(alloc, Mutex::new(open(alloc)?))?;
+    let together = Arc::new(alloc, Mutex::new(open_new(alloc)?))?;
     join_putters(rt, start_putters(rt, alloc, &together)?)?;
-    Ok(Arc::into_inner(together).and_then(|lock| keys_in(lock.into_inner())))
+    Ok(Arc::into_inner(together).and_then(|lock| keys_of(lock.into_inner())))
 }
 
 /// Four threads that share an engine without a history put ten keys each: the image has forty.

@@ -7,4 +7,4 @@ mod part;
 mod reading;
 mod side_by_side;
 
-pub use reading::{QueueRead, ReadSettings, read_both};
+pub use reading::{QueueRead, ReadSettings, read_both, read_queue};

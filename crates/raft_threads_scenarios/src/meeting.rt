@@ -1,9 +1,11 @@
 //! Two workers that wait for one another.
 
 use crate::stored::{scanned, store_both};
+use raft_config::RecoveryMode;
 use raft_env::FileSystem;
 use raft_memory::MemoryFileSystem;
 use raft_pipes::ReplayMachine;
+use raft_queues::RecoveryConfig;
 use raft_records::{Factory, Fault, FileId, LogItem, LogQueue};
 use raft_workers::MergingMachine;
 use std::alloc::Global;
@@ -75,10 +77,34 @@ fn meet<R: Threads + Sync, F: FileSystem + Drop>(
     Ok(met.is_ok())
 }
 
+/// The same where the queue is read by itself, by two workers.
+fn meet_in_queue<R: Threads + Sync, F: FileSystem + Drop>(
+    rt: &R,
+    alloc: Global,
+    fs: F,
+) -> Result<bool, Fault> {
+    let factory = Meetings {
+        begun: Arc::new(alloc, AtomicU64::new(0))?,
+    };
+    let mut fs = fs;
+    store_both(alloc, &mut fs, 2, 0)?;
+    let mut builder = scanned(alloc, fs, 1)?;
+    let recovery = RecoveryConfig {
+        queue: LogQueue::Append,
+        mode: RecoveryMode::TolerateAnyCorruption,
+        concurrency: 2,
+        read_block_size: 512,
+    };
+    let met: Result<Meeting, Fault> = builder.recover_queue(rt, recovery, &factory);
+    Ok(met.is_ok())
+}
+
 #[test]
 fn two_workers_meet(rt: HostRuntime) -> Result<(), Fail> {
     let alloc = rt.alloc();
     let met = meet(&rt, alloc, MemoryFileSystem::new(alloc))?;
     assert!(rt; met, "each machine met the other one");
+    let met = meet_in_queue(&rt, alloc, MemoryFileSystem::new(alloc))?;
+    assert!(rt; met, "each machine of one queue met the other one");
     Ok(())
 }

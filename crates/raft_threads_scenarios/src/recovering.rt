@@ -1,9 +1,11 @@
 //! Both queues, read by so many workers.
 
 use crate::stored::{scanned, store_both};
+use raft_config::RecoveryMode;
 use raft_env::{FileSystem, IoKind};
 use raft_memory::{FsCall, MemoryFileSystem};
 use raft_pipes::ReplayMachine;
+use raft_queues::RecoveryConfig;
 use raft_records::{Fault, FileId, Fresh, KeyValue, LogItem, LogItemContent, LogQueue};
 use raft_workers::{DefaultMachineFactory, MergingMachine};
 use std::alloc::Global;
@@ -128,6 +130,71 @@ fn each_number_of_workers_finds_the_same(rt: HostRuntime) -> Result<(), Fail> {
                 case.append,
                 case.rewrite
             );
+        }
+    }
+    Ok(())
+}
+
+/// What so many workers find of a queue that is read by itself, in a mode of its own: the keys, and how many files are to
+/// be cut.
+fn read_queue<R: Threads + Sync, F: FileSystem + Drop>(
+    rt: &R,
+    alloc: Global,
+    fs: F,
+    case: &Case,
+    recovery: RecoveryConfig,
+) -> Result<(Keys, usize), Fault> {
+    let mut fs = fs;
+    store_both(alloc, &mut fs, case.append, case.rewrite)?;
+    let mut builder = scanned(alloc, fs, 1)?;
+    let keys = builder.recover_queue(rt, recovery, &DefaultMachineFactory::new(alloc))?;
+    Ok((keys, builder.cuts().len()))
+}
+
+/// Whether all is found where damage is tolerated, nothing by no workers, and where none is tolerated the damage.
+fn is_read_alone<R: Threads + Sync>(
+    rt: &R,
+    alloc: Global,
+    case: &Case,
+    queue: LogQueue,
+    concurrency: usize,
+) -> Result<bool, Fault> {
+    let files = match queue {
+        LogQueue::Append => case.append,
+        LogQueue::Rewrite => case.rewrite,
+    };
+    let recovery = RecoveryConfig {
+        queue,
+        mode: RecoveryMode::TolerateAnyCorruption,
+        concurrency,
+        read_block_size: 512,
+    };
+    let wanted = if concurrency == 0 { 0 } else { files };
+    let (keys, cuts) = read_queue(rt, alloc, MemoryFileSystem::new(alloc), case, recovery)?;
+    let recovery = RecoveryConfig {
+        mode: RecoveryMode::AbsoluteConsistency,
+        ..recovery
+    };
+    let refused = match read_queue(rt, alloc, MemoryFileSystem::new(alloc), case, recovery) {
+        Ok(_read) => 0,
+        Err(fault) => fault.code(),
+    };
+    let code = if wanted == 0 { 0 } else { 2 };
+    Ok(are_all(&keys, wanted) && cuts == usize::from(wanted) && refused == code)
+}
+
+#[test]
+fn each_queue_is_read_alone(rt: HostRuntime) -> Result<(), Fail> {
+    for case in &CASES {
+        for queue in [LogQueue::Append, LogQueue::Rewrite] {
+            for concurrency in THREADS {
+                assert!(rt;
+                    is_read_alone(&rt, rt.alloc(), case, queue, concurrency)?,
+                    "{queue:?} of {} and {} files, {concurrency} workers",
+                    case.append,
+                    case.rewrite
+                );
+            }
         }
     }
     Ok(())

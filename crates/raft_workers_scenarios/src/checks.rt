@@ -1,6 +1,6 @@
 //! The holes in the log files of a folder.
 
-use raft_consistency::consistency_check_with_file_system;
+use raft_consistency::{consistency_check, consistency_check_with_file_system};
 use raft_env::{FileSystem, FsFault};
 use raft_memory::MemoryFileSystem;
 use std::alloc::Global;
@@ -133,11 +133,31 @@ fn is_as_said<F: FileSystem + Drop>(
     })
 }
 
+// The same over files in memory.
+fn is_found_in_memory(alloc: Global, case: &Case) -> Result<bool, Fail> {
+    let mut files = MemoryFileSystem::new(alloc);
+    for (path, parts) in case.stored {
+        store(&mut files, path, parts)?;
+    }
+    Ok(
+        match (consistency_check(alloc, case.path, files), &case.wanted) {
+            (Ok((holes, _files)), Ok(wanted)) => holes.as_slice() == *wanted,
+            (Err((fault, _files)), Err(code)) => fault.code() == *code,
+            _ => false,
+        },
+    )
+}
+
 #[test]
 fn holes_are_found_in_folders(rt: HostRuntime) -> Result<(), Fail> {
     for case in &CASES {
         let files = MemoryFileSystem::new(rt.alloc());
         assert!(rt; is_as_said(rt.alloc(), files, case)?, "{}", case.name);
+        assert!(rt;
+            is_found_in_memory(rt.alloc(), case)?,
+            "{}, in memory",
+            case.name
+        );
     }
     Ok(())
 }

@@ -4,7 +4,6 @@ use raft_consistency::ConsistencyChecker;
 use raft_records::{EntryIndex, Fault, LogItem, LogItemContent, LogQueue};
 use raft_workers::merge_in_order;
 use std::alloc::{AllocError, Global};
-use std::collections::BTreeMap;
 use std::test::Fail;
 
 /// A group, and the first and the last index of entries.
@@ -94,8 +93,7 @@ fn are_holes(
     checker: ConsistencyChecker,
     wanted: &[(u64, u64)],
 ) -> Result<bool, AllocError> {
-    let mut holes = BTreeMap::new(alloc);
-    checker.finish(&mut holes)?;
+    let holes = checker.finish(alloc)?;
     let mut equal = holes.len() == wanted.len();
     for (group, last) in wanted {
         equal = holes.get(group) == Some(last) && equal;

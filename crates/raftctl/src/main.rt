@@ -9,6 +9,7 @@ use raft_console::Status;
 use raft_offline::{fork_folder, print_settings, settings_of};
 use std::env;
 use std::process::ExitCode;
+use std::thread::Threads;
 
 fn main(rt: HostRuntime) -> ExitCode {
     let words = match words(&rt) {
@@ -16,7 +17,7 @@ fn main(rt: HostRuntime) -> ExitCode {
         Err(error) => return failed(&rt, &error),
     };
     match parse(rt.alloc(), words.as_slice()) {
-        Ok(request) => match run(rt, request) {
+        Ok(request) => match run(rt, &rt, request) {
             Ok(status) => ExitCode::from(status.code()),
             Err(error) => failed(&rt, &error),
         },
@@ -45,13 +46,13 @@ fn misused(rt: &HostRuntime, error: &Error) -> ExitCode {
     }
 }
 
-fn run(rt: HostRuntime, request: Request<'_>) -> Result<Status> {
+fn run<R: Threads + Sync>(rt: HostRuntime, threads: &R, request: Request<'_>) -> Result<Status> {
     let settings = settings_of(&rt, request.folder, request.options.settings)?;
     let request = request.over(&settings);
     match &request.verb {
-        Verb::Look(what) => look(rt, &request, *what),
+        Verb::Look(what) => look(rt, threads, &request, *what),
         Verb::Settings => print_settings(&rt, &request.options),
         Verb::Fork(target) => fork_folder(rt, &request, target),
-        _ => change(rt, &request),
+        _ => change(rt, threads, &request),
     }
 }

@@ -1,16 +1,16 @@
 //! What listeners hear of a purge.
-ghost use Rattle.std.specs.Prelude.{◌≡◌, ◌<◌, ◌^◌};
+ghost use Rattle.std.specs.Prelude.{◌≡◌, ◌<◌, ◌^◌, false};
 ghost use Rattle.raft_listeners.specs.Heard.{HasHeard};
 ghost use Rattle.raft_log_engine.specs.Events.{file_begun, files_dropped, purge_events};
 
 use super::Engine;
 use super::file_spans::FileSpans;
 use raft_env::FileSystem;
-use raft_listeners::{Event, EventSink, tell_files};
+use raft_listeners::{Event, EventSink};
 use raft_records::{FileId, FileSeq, LogQueue};
 
 impl<F: FileSystem> Engine<F> {
-    ghost use Rattle.raft_log_engine.specs.Engine.{queue_of, rewrite_queue_of};
+    ghost use Rattle.raft_log_engine.specs.Engine.{has_failed, queue_of, rewrite_queue_of, spans_of};
     ghost use Rattle.raft_pipes.specs.PipeState.{last_seq};
 
     /// The numbers of its log files. Of an engine that failed nothing is said.
@@ -19,6 +19,7 @@ impl<F: FileSystem> Engine<F> {
             ≡ ((queue_of self.now).first, last_seq (queue_of self.now)) }
         ensures rewrite { result.rewrite
             ≡ ((rewrite_queue_of self.now).first, last_seq (rewrite_queue_of self.now)) }
+        ensures value { result ≡ spans_of self.now }
         ensures fits { (result.append.1 < 10 ^ 16) × (result.rewrite.1 < 10 ^ 16) }
     {
         FileSpans {
@@ -26,38 +27,31 @@ impl<F: FileSystem> Engine<F> {
             rewrite: self.pipes.file_span(LogQueue::Rewrite),
         }
     }
-}
 
-impl FileSpans {
-    /// Tells what a purge made of them: the next file of the Append queue, the new files of the
-    /// Rewrite queue, and of each queue the last file that was dropped. The hook needs room for a
-    /// file.
-    pub fn tell_purged<L: EventSink>(&self, left: &FileSpans, listeners: &mut L)
+    // Tells what a purge made of these files. Of an engine that failed nothing is said.
+    pub(super) fn tell_purge<L: EventSink>(&self, found: &FileSpans, listeners: &mut L)
         requires room { 0 < (L.heard listeners.old).room }
-        requires fits { (self.now.append.1 < 10 ^ 16) × (self.now.rewrite.1 < 10 ^ 16)
-            × (left.now.rewrite.1 < 10 ^ 16) }
-        ensures told { HasHeard (purge_events self.now left.now) (L.heard listeners.old)
+        requires fits { found.now.append.1 < 10 ^ 16 }
+        ensures told { has_failed self.now ≡ false → HasHeard
+            (purge_events found.now (spans_of self.now)) (L.heard listeners.old)
             (L.heard listeners.new) }
     {
-        tell_changes(self, left, listeners);
+        if self.failed {
+            return;
+        }
+        tell_changes(found, &self.file_spans(), listeners);
     }
 }
 
-// .. one queue after the other.
+// Tells what a purge made of these files: the next one of the Append queue, and of each queue the last
+// one that was dropped. The hook needs room for a file.
 fn tell_changes<L: EventSink>(found: &FileSpans, left: &FileSpans, listeners: &mut L)
     requires room { 0 < (L.heard listeners.old).room }
-    requires fits { (found.now.append.1 < 10 ^ 16) × (found.now.rewrite.1 < 10 ^ 16)
-        × (left.now.rewrite.1 < 10 ^ 16) }
+    requires fits { found.now.append.1 < 10 ^ 16 }
     ensures told { HasHeard (purge_events found.now left.now) (L.heard listeners.old)
         (L.heard listeners.new) }
 {
     tell_begun(listeners, found.append.1, left.append.1);
-    tell_files(
-        listeners,
-        LogQueue::Rewrite,
-        found.rewrite.1 + 1,
-        left.rewrite.1 + 1,
-    );
     tell_dropped(
         listeners,
         LogQueue::Rewrite,

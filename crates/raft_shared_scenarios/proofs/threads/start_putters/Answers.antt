@@ -1,7 +1,7 @@
 use denote.Param.Send.{sendable}
 use Rattle.std.proofs.Crossing as items
 use Rattle.raft_memory.proofs.Sent.{memory_send}
-use Rattle.raft_shared.proofs.Crossing.{engine_send}
+use Rattle.raft_log_engine.proofs.Crossing.{engine_send}
 use Rattle.raft_shared_scenarios.proofs.Crossing.{writer_send}
 use Rattle.raft_shared_scenarios.proofs.threads.start_putters.Goals as goal
 

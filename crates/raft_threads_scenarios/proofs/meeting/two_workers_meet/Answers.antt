@@ -7,3 +7,9 @@ meet-requires-send-F g c κs = search (sendable, memory_send) depth 20
 
 pub meet-requires-sync-F : goal.meet-requires-sync-F
 meet-requires-sync-F g c κs = search (sendable, memory_sync) depth 20
+
+pub meet_in_queue-requires-send-F : goal.meet_in_queue-requires-send-F
+meet_in_queue-requires-send-F g c κs = search (sendable, memory_send) depth 20
+
+pub meet_in_queue-requires-sync-F : goal.meet_in_queue-requires-sync-F
+meet_in_queue-requires-sync-F g c κs = search (sendable, memory_sync) depth 20
