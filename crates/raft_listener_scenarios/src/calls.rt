@@ -83,9 +83,19 @@ static CALLS: [Heard; 14] = [
     // What stands in a file is written again, or all of the Rewrite queue: its record, as a put's, is
     // heard before a new file of the Append queue, and that before the file that left.
     Heard(1024, &[], &[Step::Put, Step::Rewrite], 11_232_314),
-    Heard(1024, &[], &[Step::Put, Step::Rewrite, Step::Renew], 112_323_141_234),
+    Heard(
+        1024,
+        &[],
+        &[Step::Put, Step::Rewrite, Step::Renew],
+        112_323_141_234,
+    ),
     // A clean is owed once the Rewrite queue may have a batch: its mark is a record.
-    Heard(1024, &[], &[Step::Put, Step::Rewrite, Step::Clean, Step::Purge], 1_123_231_423_123_144),
+    Heard(
+        1024,
+        &[],
+        &[Step::Put, Step::Rewrite, Step::Clean, Step::Purge],
+        1_123_231_423_123_144,
+    ),
     // Each file is full with its header.
     Heard(1, &[], &[Step::Put, Step::Group], 11_123_123_123),
     // Two headers are written before. The first attempt finds no space, and then, with the header of

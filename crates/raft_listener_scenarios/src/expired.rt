@@ -102,8 +102,12 @@ fn after_ten(alloc: Global, keeps: Option<FileSeq>) -> Result<(u64, FileSeq, u64
     given.push(Box::new(alloc, keeping)?)?;
     let mut listeners = Listeners::new(alloc, given);
     let files = MemoryFileSystem::new(alloc);
-    let mut engine =
-        Engine::open_in_order_with_listeners(alloc, settings(alloc), files, &mut listeners)?;
+    let mut engine = Engine::open_in_order_with_listeners(
+        alloc,
+        settings(alloc),
+        files,
+        &mut listeners,
+    )?;
     write_all(alloc, &mut engine, &mut listeners)?;
     let mut asked = 0;
     for _ in 0..10 {

@@ -200,7 +200,7 @@ impl EventListener for PurgeHook {
     fn post_new_log_file(&mut self, file_id: FileId)
         ensures value { (needs_room (event.NewLogFile file_id) ≡ true → 0 < room_of self.old)
             → waiting_of self.new ≡ after_event (waiting_of self.old) (event.NewLogFile file_id) }
-        ensures room { room_of self.old 
+        ensures room { room_of self.old
             ≤ room_for (event.NewLogFile file_id) + room_of self.new }
     {
         if file_id.queue == LogQueue::Append {
