@@ -2,6 +2,7 @@
 #![tactic(auto)]
 
 mod event_sink;
+mod file_keeper;
 mod hook;
 mod listener;
 mod listeners;
@@ -9,6 +10,7 @@ mod no_listeners;
 mod purge_events;
 
 pub use event_sink::{EventSink, tell_files};
+pub use file_keeper::FileKeeper;
 pub use hook::PurgeHook;
 pub use listener::{Event, EventListener};
 pub use listeners::Listeners;
