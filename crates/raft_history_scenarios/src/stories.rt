@@ -110,7 +110,7 @@ fn choose_seats<F: Faulty>(
     }
 }
 
-fn end<F: FileSystem + Drop>(seated: Seated<F>) -> Ended<F> {
+fn hand_over<F: FileSystem + Drop>(seated: Seated<F>) -> Ended<F> {
     let Seated { shared, seats } = seated;
     match shared.finish(seats) {
         Ok(Finished { engine, trail }) => Ended {
@@ -183,7 +183,7 @@ fn wrong_place<F: Faulty>(alloc: Global, story: &Story) -> Result<Option<usize>,
     }
     let has_seats = choose_seats(alloc, &mut seated, story)?;
     let handed = seated.seats.len();
-    if has_seats && ends_so(alloc, end(seated), handed, &story.end)? {
+    if has_seats && ends_so(alloc, hand_over(seated), handed, &story.end)? {
         Ok(None)
     } else {
         Ok(Some(story.steps.len()))
