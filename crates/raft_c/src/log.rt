@@ -160,15 +160,21 @@ impl Log {
         if self.standing != Standing::Settled {
             return;
         }
-        let code = match std::mem::replace(&mut self.state, State::Ended) {
+        let code = self.close_open();
+        self.standing = Standing::Waiting(code);
+    }
+
+    fn close_open(&mut self) -> i32
+        ensures value { IsClose self.old.state self.new.state result }
+    {
+        match std::mem::replace(&mut self.state, State::Ended) {
             State::Open(log) => {
                 let (code, files) = log.close(&mut self.answer);
                 self.state = State::Closed(files);
                 code
             }
             State::Loading(_) | State::Closed(_) | State::Ended => 0,
-        };
-        self.standing = Standing::Waiting(code);
+        }
     }
 
     /// The code of the call that waits, if the caller carried its orders out.

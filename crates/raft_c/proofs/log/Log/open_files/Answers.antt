@@ -2,6 +2,8 @@ use denote.Param.Send.{sendable}
 use Rattle.raft_memory.proofs.Sent.{memory_send, memory_sync}
 use Rattle.raft_disk.proofs.Sent.{mirror_send, mirror_sync}
 use Rattle.raft_orders.proofs.Sent.{orders_send, orders_sync}
+use Rattle.std.proofs.Common.{refl}
+use Rattle.raft_c.proofs.OpenedLemmas.{keeps_from, unopened_from}
 use Rattle.raft_c.proofs.log.Log.open_files.Goals as goal
 
 pub open-requires-send-F : goal.open-requires-send-F
@@ -9,3 +11,9 @@ open-requires-send-F c κs = search (sendable, mirror_send, orders_send, memory_
 
 pub open-requires-sync-F : goal.open-requires-sync-F
 open-requires-sync-F c κs = search (sendable, mirror_sync, orders_sync, memory_sync) depth 20
+
+pub returns-in-Ok : goal.returns-in-Ok
+returns-in-Ok c = record { value = (refl, c.in-Ok.ensures.ok, keeps_from _ _ _ _ _ _ c.requires.new c.in-Ok.ensures.any_moment) }
+
+pub returns-in-Err : goal.returns-in-Err
+returns-in-Err c = record { value = (unopened_from _ _ _ _ _ _ c.requires.unrefused c.in-Err.ensures.refused, keeps_from _ _ _ _ _ _ c.requires.new c.in-Err.ensures.any_moment) }
