@@ -1,4 +1,3 @@
-pub mod Crossing
 pub mod Handles
 pub mod OpenedLemmas
 pub mod RawBoxes

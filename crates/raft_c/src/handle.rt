@@ -20,9 +20,6 @@ impl Model for Handle {
     ghost also_owns = { λ h. handle_owns h.at h.value };
 }
 
-// What it owns names no thread.
-unsafe impl Send for Handle {}
-
 impl Handle {
     pub(crate) fn none() -> Handle
         ensures { result.value ≡ None }
