@@ -2,8 +2,6 @@
 #![tactic(auto)]
 
 #[cfg(test)]
-mod recycling;
-#[cfg(test)]
 mod refusals;
 #[cfg(test)]
 mod sweep;
