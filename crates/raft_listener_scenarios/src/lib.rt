@@ -3,7 +3,3 @@
 
 #[cfg(test)]
 mod calls;
-#[cfg(test)]
-mod expired;
-#[cfg(test)]
-mod openings;
