@@ -114,23 +114,21 @@ static THREE_FILES: [Case; 2] = [
     },
 ];
 
-static EMPTY_FILE: [Case; 1] = [
-    Case {
-        name: "a file of no bytes is begun anew",
-        stored: &[APPEND_1, ("data/0000000000000002.raftlog", &[])],
-        steps: &[
-            Step::Scan,
-            Step::ReadBoth(1, 0),
-            Step::Cuts(&[(LogQueue::Append, 2, 0)]),
-        ],
-        finished: Ok((2, 1)),
-        files: &[
-            ("data/0000000000000001.raftlog", 97),
-            ("data/0000000000000002.raftlog", 61),
-            ("data/0000000000000001.rewrite", 69),
-        ],
-    },
-];
+static EMPTY_FILE: [Case; 1] = [Case {
+    name: "a file of no bytes is begun anew",
+    stored: &[APPEND_1, ("data/0000000000000002.raftlog", &[])],
+    steps: &[
+        Step::Scan,
+        Step::ReadBoth(1, 0),
+        Step::Cuts(&[(LogQueue::Append, 2, 0)]),
+    ],
+    finished: Ok((2, 1)),
+    files: &[
+        ("data/0000000000000001.raftlog", 97),
+        ("data/0000000000000002.raftlog", 61),
+        ("data/0000000000000001.rewrite", 69),
+    ],
+}];
 
 // A function is checked with all of each table that it names, and that grows with the square of the table.
 fn cases() -> [&'static [Case]; 3] {
