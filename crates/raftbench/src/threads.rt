@@ -166,12 +166,18 @@ fn put_synced<R: Wait>(
     let mut bytes = 0u64;
     for written in batches_of(alloc, Part::Put, load)? {
         add(&mut batch, written)?;
-        match together.lock(rt).write(&mut seat, &mut batch, true)?.reply {
-            Reply::Size(size) => bytes = bytes.saturating_add(size? as u64),
-            _ => {}
-        }
+        let reply = together.lock(rt).write(&mut seat, &mut batch, true)?.reply;
+        bytes = bytes.saturating_add(size_in(reply)?);
     }
     Ok(bytes)
+}
+
+fn size_in(reply: Reply) -> Result<u64, Fault> {
+    match reply {
+        Reply::Size(Ok(size)) => Ok(size as u64),
+        Reply::Size(Err(fault)) => Err(fault),
+        _ => Ok(0),
+    }
 }
 
 // One thread writes so many puts a turn, with one sync.
