@@ -43,8 +43,8 @@ enum Kind {
     Purges,
     /// Under a thousand keys, beside purges; dropped files are used again, or not.
     Steady(bool),
-    /// Then openings by workers.
-    Openings,
+    /// Puts, or so many bytes of entries a batch, and then openings by workers.
+    Openings(u64),
 }
 
 /// Its name, what it does, after how many operations it syncs (0: never), and the size at which a
@@ -80,7 +80,7 @@ const BLOCK_SIZE: usize = 65536;
 pub(crate) const ONE_FILE: u64 = 1 << 40;
 
 impl Workload {
-    pub(crate) const ALL: [Workload; 18] = [
+    pub(crate) const ALL: [Workload; 19] = [
         Workload("crc", Kind::Blocks, 0, ONE_FILE),
         Workload("put", Kind::Puts(u64::MAX), 0, ONE_FILE),
         Workload("put-sync", Kind::Puts(u64::MAX), 1, ONE_FILE),
@@ -96,7 +96,8 @@ impl Workload {
         Workload("put-purge-new", Kind::Steady(false), 0, 8 << 20),
         Workload("rotate", Kind::Steady(true), 0, 16 << 10),
         Workload("rotate-new", Kind::Steady(false), 0, 16 << 10),
-        Workload("open-files", Kind::Openings, 0, 4 << 20),
+        Workload("open-files", Kind::Openings(0), 0, 4 << 20),
+        Workload("open-batches", Kind::Openings(1 << 20), 0, 4 << 20),
         Workload("fs-append", Kind::File, 0, ONE_FILE),
         Workload("fs-sync", Kind::File, 1, ONE_FILE),
     ];
@@ -123,7 +124,9 @@ impl Workload {
             is_in_order: !matches!(kind, Kind::PutsInNoOrder),
             size,
             batch_len: match kind {
-                Kind::Entries(bytes) => (*bytes / (size as u64).max(1)).min(count / GROUPS).max(1),
+                Kind::Entries(bytes) | Kind::Openings(bytes) => (*bytes / (size as u64).max(1))
+                    .min(count / GROUPS)
+                    .max(1),
                 _ => 1,
             },
             sync_each: *sync_each,
@@ -153,7 +156,7 @@ fn run_over<R: WorkersHost, F: FileSystem + Drop>(
         Kind::Entries(_) => Some(append_entry_fetch(rt, &mut report, files, load)?),
         Kind::Purges => Some(append_compact_purge(rt, &mut report, files, load)?),
         Kind::Steady(recycles) => Some(put_beside_purges(rt, &mut report, files, load, recycles)?),
-        Kind::Openings => Some(put_and_open(rt, &mut report, files, load)?),
+        Kind::Openings(_) => Some(put_and_open(rt, &mut report, files, load)?),
     };
     report.note_memory(rt);
     if let Some(len) = len {
