@@ -3,6 +3,7 @@
 use crate::files::{HEADER, PUT, ZEROS};
 use raft_base::History;
 use raft_dump::{LogFile, LogItemReader};
+use raft_env::FileSystem;
 use raft_parts::{FilePart, LogFileParts, PartSource, check_parts};
 use raft_records::{Fault, FileId, LogQueue};
 use std::alloc::{AllocError, Global};
@@ -140,32 +141,44 @@ struct Dumped {
     stop: Option<Fault>,
 }
 
+// Those of one part; where it stops is a place in the part's image.
+fn count_items<F: FileSystem>(alloc: Global, image: &mut F) -> Result<Dumped, Fault> {
+    let mut reader = LogItemReader::new(alloc, vec![in alloc; file(alloc)?]?);
+    let mut items: usize = 0;
+    for _ in 0..u64::MAX {
+        match (reader.next(image), reader.place()) {
+            (Some(Ok(_)), _) => items = items.saturating_add(1),
+            (Some(Err(fault)), Some(place)) => {
+                return Ok(Dumped {
+                    items,
+                    end: place.offset,
+                    stop: Some(fault),
+                });
+            }
+            _ => break,
+        }
+    }
+    Ok(Dumped {
+        items,
+        end: usize::MAX,
+        stop: None,
+    })
+}
+
 fn dump_parts(alloc: Global, bytes: &[u8]) -> Result<Dumped, Fault> {
     let mut source = source_of(alloc, bytes);
     let mut parts = LogFileParts::open(alloc, bytes.len(), &mut source)?;
-    let mut items = 0;
+    let mut items: usize = 0;
     for _ in 0..u64::MAX {
         let mut image = parts.next_image(alloc, PATH, &mut source)?;
-        let mut reader = LogItemReader::new(alloc, vec![in alloc; file(alloc)?]?);
-        let mut stop = None;
-        let mut end = usize::MAX;
-        for _ in 0..u64::MAX {
-            match (reader.next(&mut image), reader.place()) {
-                (Some(Ok(_)), _) => items = usize::saturating_add(items, 1),
-                (Some(Err(fault)), Some(place)) => {
-                    stop = Some(fault);
-                    end = place.offset;
-                    break;
-                }
-                _ => break,
-            }
-        }
-        let place = parts.place_of(end);
-        if !parts.go_on(end) {
+        let found = count_items(alloc, &mut image)?;
+        items = items.saturating_add(found.items);
+        let end = parts.place_of(found.end);
+        if !parts.go_on(found.end) {
             return Ok(Dumped {
                 items,
-                end: place,
-                stop,
+                end,
+                stop: found.stop,
             });
         }
     }
