@@ -3,19 +3,18 @@ use Rattle.std.specs.Prelude.{◌≡◌, ◌⊎◌, ℕ, Bool, Contains, false, 
 use Rattle.raft_records.specs.Contents.{Contents, no_contents}
 use Rattle.raft_tables.specs.Known.{known_in}
 use Rattle.raft_base.specs.declared.errors.Fault.{Fault}
-use Rattle.raft_base.specs.declared.errors.Fault.TheVariants as fault
 use Rattle.raft_memory.specs.Choice.{AreWhole, left_by}
 use Rattle.raft_memory.specs.Memory.{memory_directory, memory_moments, memory_refusals, no_files, stop_of}
 use Rattle.raft_memory.specs.declared.memory.MemoryFileSystem.{MemoryFileSystem}
 use Rattle.raft_env.specs.Consistent.{AreConsistent}
 use Rattle.raft_env.specs.Directory.{Directory, IsRestarted, Leaves, Path}
-use Rattle.raft_env.specs.Refusal.{Refusals, StorageRefusalsRose, no_refusals}
+use Rattle.raft_env.specs.Refusal.{Refusals, no_refusals}
 use Rattle.raft_memory.specs.declared.crash.Choice.{Choice}
 use Rattle.raft_held.specs.Contents.{contents_at}
 use Rattle.raft_held.specs.Crash.{RecoversContents}
 use Rattle.raft_log_engine.specs.Image.{IsImageOf}
 use Rattle.raft_script.specs.Durability.{LeavesAllowedAfter, State, Steps, progress_from}
-use Rattle.raft_held.specs.Queues.{AreDetectableIn, AreSingleIn, HaveDamageIn, HaveSimplePastIn}
+use Rattle.raft_held.specs.Queues.{AreDetectableIn, AreSingleIn, HaveDamageIn, HaveSimplePastIn, IsOpeningRefusal}
 use Rattle.raft_script.specs.Failure.{IsStorageOrMemory, StorageRefusalsRoseBy, io_count}
 use Rattle.raft_pipes.specs.Folder.{AreClear, IsLogPath, IsReservedPath}
 use Rattle.raft_config.specs.Folders.{Folders, all_of, folders_in}
@@ -49,28 +48,23 @@ pub record Ran : Type 0 where
 
 -- the operations were answered by an engine that was opened with these contents and groups
 pub record AreAnswered (folders : Folders) (m : Contents) (known : ℕ → Bool) (ops : List Op)
-    (ran : Ran) (old new : Shown) : Type 0 where
+    (ran : Ran) (new : Shown) : Type 0 where
   pub opened : ran.refused ≡ None
   pub before : State
   pub stands : before.failed ≡ false
   pub now : State
   pub moments : now.moments ≡ new.moments
   pub steps : Steps folders m known (progress_from []) before ops ran.outcomes ran.failed_at now
-  pub counted : StorageRefusalsRoseBy (io_count ran.outcomes) old.refusals new.refusals
+  -- storage counted at least as many failed calls as answered `Io`
+  pub counted : StorageRefusalsRoseBy (io_count ran.outcomes) no_refusals new.refusals
 
--- by storage, which counted it, or for lack of memory
-abbrev pub IsCounted : Refusals → Refusals → Fault → Type 0
-IsCounted old new (fault.Io kind text) = StorageRefusalsRose old new
-IsCounted old new fault.Memory = Unit {0}
-IsCounted old new _ = ⊥
-
--- the opening failed, since settings contradict one another, by storage, or for lack of memory, and
--- no operation was done; the files keep what they kept
+-- the opening failed for such a cause, and no operation was done; the files keep what they kept
 pub record AreNotAsked (config : Config) (m : Contents) (ran : Ran) (old new : Shown)
     : Type 0 where
   pub fault : Fault
   pub refused : ran.refused ≡ Some fault
-  pub cause : IsContradiction config fault ⊎ IsCounted old.refusals new.refusals fault
+  pub cause : IsContradiction config fault ⊎ IsOpeningRefusal config.recovery_mode
+      (folders_in config) old.files old.refusals new.refusals fault
   pub none : ran.outcomes ≡ []
   pub stands : ran.failed_at ≡ None
   pub files_keep : RecoversContents (folders_in config) m [] new.files
@@ -78,7 +72,7 @@ pub record AreNotAsked (config : Config) (m : Contents) (ran : Ran) (old new : S
 -- operations over folders that hold these contents and groups, from an opening on
 pub record RunsOver (config : Config) (m : Contents) (known : ℕ → Bool) (ops : List Op) (ran : Ran)
     (old new : Shown) : Type 0 where
-  pub answered : AreAnswered (folders_in config) m known ops ran old new
+  pub answered : AreAnswered (folders_in config) m known ops ran new
       ⊎ AreNotAsked config m ran old new
   -- a crash leaves of them a prefix of what was accepted, and of what the operation had in flight
   -- in which the engine failed
