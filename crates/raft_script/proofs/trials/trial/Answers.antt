@@ -69,7 +69,7 @@ returns-clause-value c =
       detectable = λ opened stands whole past. c.in_ok-ran.ensures.crash (none_done dir before (λ absent queue. (c.a_queue_recovers_its_batches.ensures.none queue dir before absent).0) none) opened stands past c.in_ok-left.ensures.consistent c.args.choices.now whole;
       found = image_same (folders_in again) dir m c.open_image.result same c.open_image.ensures.value;
       refused = λ free detectable tolerant fine.
-          let opens : CanBeOpened dir m = ((shown free).after.2 left m leaves restarted detectable).1 in
+          let opens : CanBeOpened dir m = ((shown free).after.2 left m leaves restarted).opens detectable in
           opened_outside mode again.recovery_mode dir (folders_in again) m c.open_image.result mode_is same (opens.openable mode tolerant) opens.clear opens.single (c.open_image.ensures.refused (copied ∙ fine));
       cause = λ free. opened_log (IsContradiction config) (IsContradiction again) mode again.recovery_mode dir (folders_in again) m c.open_image.result (λ e no. same_contradiction config again e copied no) mode_is same
           (clear_restarted dir files m left restarted (shown free).clear) (single_restarted dir files m left restarted (shown free).single) c.open_image.ensures.cause;
