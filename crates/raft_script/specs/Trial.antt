@@ -3,11 +3,16 @@ use Rattle.std.specs.Prelude.{◌≡◌, ◌⊎◌, ℕ, Bool, Contains, false, 
 use Rattle.raft_records.specs.Contents.{Contents, no_contents}
 use Rattle.raft_tables.specs.Known.{known_in}
 use Rattle.raft_base.specs.declared.errors.Fault.{Fault}
-use Rattle.raft_memory.specs.Choice.{AreWhole, left_by}
+use Rattle.raft_memory.specs.Choice.{AreWhole, NameNoBytes, left_by}
 use Rattle.raft_memory.specs.Memory.{memory_directory, memory_moments, memory_refusals, no_files, stop_of}
 use Rattle.raft_memory.specs.declared.memory.MemoryFileSystem.{MemoryFileSystem}
 use Rattle.raft_env.specs.Consistent.{AreConsistent}
-use Rattle.raft_env.specs.Directory.{Directory, IsRestarted, Leaves, Path}
+use Rattle.raft_env.specs.Directory.{Directory, IsRestarted, Leaves, Path, file_at}
+use Rattle.raft_env.specs.Outcomes.{File}
+use Rattle.raft_base.specs.declared.pipe_log.LogQueue.{LogQueue}
+use Rattle.raft_damage.specs.DetectableDamage.{EachAddsOnlyItsRecord, IsReadAsBefore}
+use Rattle.raft_pipes.specs.Numbered.{in_queue}
+use Rattle.raft_pipes.specs.QueueFiles.{last_kept}
 use Rattle.raft_env.specs.Refusal.{Refusals, no_refusals}
 use Rattle.raft_memory.specs.declared.crash.Choice.{Choice}
 use Rattle.raft_held.specs.Contents.{contents_at}
@@ -122,6 +127,14 @@ LeavesDetectable folders files = HaveSimplePastIn folders files → AreConsisten
     → (choices : List Choice) → AreWhole choices
     → ∥ AreDetectableIn folders files (left_by choices files) ∥₁
 
+-- of the last log file of each queue, if it was never renamed, each call brought no record but the one
+-- that it was to write, and the choices leave what is read as it was at a moment since its last sync
+abbrev pub AreReadAsBefore : Folders → Directory → List Choice → Type 0
+AreReadAsBefore folders files choices = (queue : LogQueue) (f : ℕ × Path) (file : File)
+    → last_kept (all_of folders) queue files ≡ Some f → file_at files f.1 ≡ Some file
+    → let id = in_queue queue f.0 in (file.renamed_after ≡ None) × EachAddsOnlyItsRecord id file
+    × IsReadAsBefore id file (left_by choices files f.1)
+
 -- what a trial showed of the run
 abbrev pub ran_in : Trial → Ran
 ran_in t =
@@ -143,6 +156,10 @@ pub record IsTrialOf (config : Config) (ops : List Op) (stop : Option ℕ) (choi
   pub detectable : t.refused ≡ None → t.failed_at ≡ None → AreWhole choices
       → let files = memory_directory last in HaveSimplePastIn (folders_in config) files
       → ∥ AreDetectableIn (folders_in config) files (left_by choices files) ∥₁
+  -- .. whatever failed, and also of files that are left torn, where they are read as before
+  pub torn : NameNoBytes choices → let files = memory_directory last in
+      AreReadAsBefore (folders_in config) files choices
+      → AreDetectableIn (folders_in config) files (left_by choices files)
   -- the opening found what the choices leave
   pub found : IfOk t.opened (λ image.
       IsImageOf image.groups.items (contents_at (folders_in config) after))

@@ -17,6 +17,7 @@ ghost use Rattle.raft_script.specs.Trial.{AreNotAllowed, HaveNoLogPath, IsLogRef
 
 use crate::operation::{Op, Trial};
 use crate::runs::{RunReport, crash_is_said_of_files, run_watched};
+use raft_damage::laws::premise_can_be_met;
 use raft_env::FileSystem;
 use raft_log_engine::laws::{crash_leaves_contents, the_damage_of_an_engine_is_detectable};
 use raft_log_engine::{Config, Engine, Image};
@@ -33,7 +34,8 @@ use std::alloc::Global;
 /// storage or for lack of memory alone; any other opening only for these, for what is left of the log, or where settings
 /// contradict one another. That no folder has the path of a log file (`HaveNoLogPath`) is asked where the first
 /// opening failed, and nowhere else. The damage is detectable where no engine failed, the last log files were never
-/// renamed, and the choices leave each file whole, as it is at the crash or as it was synced.
+/// renamed, and the choices leave each file whole, as it is at the crash or as it was synced; and so it is, whatever
+/// failed and for torn files too, of files that are read as they were at a moment since their last sync.
 pub fn trial(
     alloc: Global,
     config: Config,
@@ -50,6 +52,7 @@ pub fn trial(
     a_queue_recovers_its_batches();
     crash_leaves_a_prefix();
     crash_leaves_contents();
+    premise_can_be_met();
     let again = config.clone()?;
     let (ran, refused, files) = run_over(alloc, config, new_files(alloc, stop), ops)?;
     let left = files.crash(choices)?;

@@ -8,6 +8,7 @@ use Rattle.raft_records.specs.Contents.{no_contents}
 use Rattle.raft_tables.specs.Known.{known_in}
 use Rattle.raft_base.specs.declared.pipe_log.LogQueue.{LogQueue}
 use Rattle.raft_pipes.specs.Folder.{readable_queue}
+use Rattle.raft_pipes.specs.Numbered.{in_queue}
 use Rattle.raft_script.specs.Durability.{CanBeOpened}
 use Rattle.raft_config.specs.Folders.{folders_in}
 use Rattle.raft_config.proofs.ConfigLemmas.{contradiction-copy, same_contradiction}
@@ -67,6 +68,9 @@ returns-clause-value c =
       after = m;
       restarted = restarted;
       detectable = λ opened stands whole past. c.in_ok-ran.ensures.crash (none_done dir before (λ absent queue. (c.a_queue_recovers_its_batches.ensures.none queue dir before absent).0) none) opened stands past c.in_ok-left.ensures.consistent c.args.choices.now whole;
+      torn = λ named before queue f last file at.
+          let read = before queue f file last at in
+          c.premise_can_be_met.ensures.own f.1 (in_queue queue f.0) files file at read.0 c.in_ok-left.ensures.consistent read.1 c.args.choices.now named read.2 file at;
       found = image_same (folders_in again) dir m c.open_image.result same c.open_image.ensures.value;
       refused = λ free detectable tolerant fine.
           let opens : CanBeOpened dir m = ((shown free).after.2 left m leaves restarted).opens detectable in
