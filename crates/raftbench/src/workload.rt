@@ -4,8 +4,11 @@ use crate::blocks::add_ceilings;
 use crate::entries::append_entry_fetch;
 use crate::files::append;
 use crate::log::put_get_reopen;
-use crate::measure::{Against, Host, Report};
+use crate::measure::{Against, Report, WorkersHost};
+use crate::openings::put_and_open;
 use crate::purges::append_compact_purge;
+use crate::shared::put_get_shared;
+use crate::steady::put_beside_purges;
 use anyhow::Result;
 use raft_env::FileSystem;
 use raft_memory::MemoryFileSystem;
@@ -32,10 +35,16 @@ enum Kind {
     Puts(u64),
     /// Each under a key of its own, in no order.
     PutsInNoOrder,
+    /// Through a shared engine.
+    PutsShared,
     /// So many bytes of entries a batch, and one entry at the least.
     Entries(u64),
     /// Entries, one a batch, and then purges.
     Purges,
+    /// Under a thousand keys, beside purges; dropped files are used again, or not.
+    Steady(bool),
+    /// Then openings by workers.
+    Openings,
 }
 
 /// Its name, what it does, after how many operations it syncs (0: never), and the size at which a
@@ -71,17 +80,23 @@ const BLOCK_SIZE: usize = 65536;
 pub(crate) const ONE_FILE: u64 = 1 << 40;
 
 impl Workload {
-    pub(crate) const ALL: [Workload; 12] = [
+    pub(crate) const ALL: [Workload; 18] = [
         Workload("crc", Kind::Blocks, 0, ONE_FILE),
         Workload("put", Kind::Puts(u64::MAX), 0, ONE_FILE),
         Workload("put-sync", Kind::Puts(u64::MAX), 1, ONE_FILE),
         Workload("put-random", Kind::PutsInNoOrder, 0, ONE_FILE),
+        Workload("put-shared", Kind::PutsShared, 0, ONE_FILE),
         Workload("overwrite", Kind::Puts(1000), 0, ONE_FILE),
         Workload("append", Kind::Entries(0), 0, ONE_FILE),
         Workload("append-sync", Kind::Entries(0), 1, ONE_FILE),
         Workload("append-batch", Kind::Entries(1 << 20), 0, ONE_FILE),
         Workload("append-files", Kind::Entries(0), 0, 2 << 20),
         Workload("purge", Kind::Purges, 0, 16 << 20),
+        Workload("put-purge", Kind::Steady(true), 0, 8 << 20),
+        Workload("put-purge-new", Kind::Steady(false), 0, 8 << 20),
+        Workload("rotate", Kind::Steady(true), 0, 16 << 10),
+        Workload("rotate-new", Kind::Steady(false), 0, 16 << 10),
+        Workload("open-files", Kind::Openings, 0, 4 << 20),
         Workload("fs-append", Kind::File, 0, ONE_FILE),
         Workload("fs-sync", Kind::File, 1, ONE_FILE),
     ];
@@ -90,7 +105,7 @@ impl Workload {
         Workload::ALL.iter().find(|workload| workload.0 == name)
     }
 
-    pub(crate) fn run<R: Host>(&self, rt: &R, amount: Amount) -> Result<()> {
+    pub(crate) fn run<R: WorkersHost>(&self, rt: &R, amount: Amount) -> Result<()> {
         let Workload(name, kind, sync_each, file_size) = self;
         let Amount { count, size } = amount;
         let size = match kind {
@@ -102,6 +117,7 @@ impl Workload {
             count,
             keys: match kind {
                 Kind::Puts(keys) => count.min(*keys),
+                Kind::Steady(_) => count.min(1000),
                 _ => count,
             },
             is_in_order: !matches!(kind, Kind::PutsInNoOrder),
@@ -119,7 +135,12 @@ impl Workload {
 
 // Below the parts of a workload stand the ceilings of as many records as it made, and of as many
 // values.
-fn run_over<R: Host, F: FileSystem + Drop>(rt: &R, kind: Kind, files: F, load: Load) -> Result<()> {
+fn run_over<R: WorkersHost, F: FileSystem + Drop>(
+    rt: &R,
+    kind: Kind,
+    files: F,
+    load: Load,
+) -> Result<()> {
     let mut report = Report::new(rt);
     let len = match kind {
         Kind::Blocks => None,
@@ -128,8 +149,11 @@ fn run_over<R: Host, F: FileSystem + Drop>(rt: &R, kind: Kind, files: F, load: L
             None
         }
         Kind::Puts(_) | Kind::PutsInNoOrder => Some(put_get_reopen(rt, &mut report, files, load)?),
+        Kind::PutsShared => Some(put_get_shared(rt, &mut report, files, load)?),
         Kind::Entries(_) => Some(append_entry_fetch(rt, &mut report, files, load)?),
         Kind::Purges => Some(append_compact_purge(rt, &mut report, files, load)?),
+        Kind::Steady(recycles) => Some(put_beside_purges(rt, &mut report, files, load, recycles)?),
+        Kind::Openings => Some(put_and_open(rt, &mut report, files, load)?),
     };
     report.note_memory(rt);
     if let Some(len) = len {
