@@ -14,7 +14,6 @@ pub mod FixedLemmas
 pub mod DropLemmas
 pub mod DropFrontLemmas
 pub mod UnchangedLemmas
-pub mod JoinedLemmas
 pub mod StandsLemmas
 pub mod DropRewriteLemmas
 pub mod ExactLemmas

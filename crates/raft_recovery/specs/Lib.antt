@@ -1,6 +1,5 @@
 pub mod Groups
 pub mod Recovered
-pub mod Joined
 pub mod Consecutive
 pub mod Rewriting
 pub mod Valid

@@ -7,7 +7,6 @@ mod complete_groups;
 pub mod drop_append_laws;
 pub mod drop_rewrite_laws;
 pub mod group_laws;
-pub mod joined_laws;
 pub mod laws;
 pub mod recovered;
 pub mod recovered_value;

@@ -16,7 +16,6 @@ use raft_recovery::drop_rewrite_laws::{
 use raft_recovery::group_laws::{
     a_group_without_an_end_is_incomplete, an_atomic_group_counts_when_complete,
 };
-use raft_recovery::joined_laws::joined_queues_are_what_is_recovered;
 use raft_recovery::laws::{older_batches_change_nothing, valid_batches_are_found};
 use raft_recovery::rewrite_laws::{
     batches_of_such_items_change_nothing, entries_in_parts_are_the_same_as_at_once,
@@ -29,7 +28,6 @@ use raft_recovery::stands_laws::{
 
 #[test]
 fn laws_can_be_called() {
-    joined_queues_are_what_is_recovered();
     valid_batches_are_found();
     older_batches_change_nothing();
     an_atomic_group_counts_when_complete();
