@@ -58,6 +58,7 @@ pub fn crash_leaves_contents()
         → IsRestarted n d m → AreSoundIn folders n d → AreClear folders m }
 {
     raft_queues::laws::crash_leaves_a_prefix();
+    raft_damage::laws::premise_can_be_met();
 }
 
 /// What an engine keeps a crash leaves now: what is durable, and a prefix of what is unsynced, and
