@@ -9,7 +9,7 @@ use Rattle.raft_pipes.specs.Queue.{IsFileRefusalIn}
 use Rattle.raft_log_engine.specs.Advance.{Advances, state_of}
 use Rattle.raft_log_engine.specs.Cause.{HasNoneInFlight, IsUnwritable, IsWriteRefusal, StandsUnless}
 use Rattle.raft_held.specs.Crash.{pending_of, written_batch}
-use Rattle.raft_log_engine.specs.Durability.{ChangesNoFile, HasRefused, HasWritten, StaysFailed, accepted_by, covered_by}
+use Rattle.raft_log_engine.specs.Durability.{ChangesNoFile, ChangesNothing, HasRefused, HasWritten, StaysFailed, accepted_by, covered_by}
 use Rattle.raft_log_engine.specs.Engine.{HasDurableEnd, answer_now, answered_of, contents_of, directory_of, folders_of, has_failed, queue_of, refusals_of}
 use Rattle.raft_log_engine.specs.declared.engine.Engine.{Engine}
 
@@ -25,7 +25,7 @@ module _ {F H R W : Type 0} {g : Ghosts F H R W} where
     pub stands : IfErr result (λ e. has_failed old ≡ false → StandsUnless sync old new e)
     pub unsynced : IfErr result (HasNoneInFlight sync old new)
     pub durable : OnOk result (sync ≡ true → HasDurableEnd new)
-    pub invalid : IsUnwritable (contents_of old) items → ChangesNoFile old new
+    pub invalid : IsUnwritable (contents_of old) items → ChangesNothing old new
     pub failed : (result ≡ Err fault.Failed) ↔ (has_failed old ≡ true)
     pub unchanged : has_failed old ≡ true → StaysFailed old new × (rest ≡ items)
     pub cause : IfErr result (λ e. has_failed old ≡ false
