@@ -9,7 +9,7 @@ ghost use Rattle.raft_memory.specs.Choice.{AreWhole, choice_for, left_by, touche
 ghost use Rattle.raft_env.specs.Consistent.{AreConsistent, IsConsistent};
 ghost use Rattle.raft_files.specs.Detectable.{AreFresh, EndsWithoutCompressed, IsDetectable, IsFreshAfter, IsGivenBy, format_of};
 ghost use Rattle.raft_env.specs.Directory.{Directory, Leaves, CrashImage, Path, file_at};
-ghost use Rattle.raft_env.specs.Outcomes.{Change, File, is_touched, untouched_len};
+ghost use Rattle.raft_env.specs.Outcomes.{Change, File, is_touched};
 ghost use Rattle.raft_files.specs.Records.{HoldsRecords};
 ghost use Rattle.raft_files.specs.Scan.{PlacedRecord};
 ghost use Rattle.raft_premise.specs.Completed.{EndsInZeros, HasCompletedLog, HasCompletedRecords};
@@ -26,7 +26,7 @@ ghost use Rattle.raft_files.specs.declared.format.LogFileFormat.{LogFileFormat};
 
 /// The premise can be met. Storage may leave each consistent file with all its bytes now, with
 /// those of its last sync, or torn: of the places touched since, only the first few hold their
-/// bytes (`allowed`). What no change touched is then left as it was (`untouched`). Where no failed call brought the records of a file, the damage of a crash
+/// bytes (`allowed`). Where no failed call brought the records of a file, the damage of a crash
 /// is detectable that leaves the first of them as they stand now and after them none that decodes
 /// (`first_records`), as a torn file that keeps those does (`torn`). None decodes where zeros alone stand
 /// (`zeros`); so of a log with all bytes or those of its last sync it is detectable (`detectable`).
@@ -40,10 +40,6 @@ ghost use Rattle.raft_files.specs.declared.format.LogFileFormat.{LogFileFormat};
 pub fn premise_can_be_met()
     ensures allowed { (choices : List Choice) (n : Directory) → NameNoBytes choices
         → AreConsistent n → Leaves n (left_by choices n) }
-    ensures untouched { (choices : List Choice) (n : Directory) → NameNoBytes choices
-        → AreConsistent n → (path : Path) (file : File) → file_at n path ≡ Some file
-        → let len = untouched_len file.synced file.changes in
-        take len (left_by choices n path) ≡ take len file.synced }
     ensures first_records { (path : Path) (id : FileId) (format : LogFileFormat)
         (batches : List Batch)
         (synced at : ℕ) (n : Directory)

@@ -4,13 +4,13 @@ ghost use Rattle.raft_records.specs.Contents.{Contents, after_batches, no_conten
 ghost use Rattle.raft_records.specs.Item.{Batch};
 ghost use Rattle.raft_env.specs.Directory.{Directory, IsRestarted, CrashImage};
 ghost use Rattle.raft_env.specs.Moments.{HoldsThroughout};
-ghost use Rattle.raft_held.specs.Crash.{IsAllowedFrom, KeepsUntouched, LeavesAllowed, RecoversContents, contents_after_crash, known_after_crash};
+ghost use Rattle.raft_held.specs.Crash.{IsAllowedFrom, LeavesAllowed, RecoversContents, contents_after_crash, known_after_crash};
 ghost use Rattle.raft_files.specs.Records.{as_it_is};
 ghost use Rattle.raft_held.specs.Contents.{contents_at, known_at};
 ghost use Rattle.raft_log_engine.specs.Opening.{FoundCompletedRecords};
 ghost use Rattle.raft_log_engine.specs.Engine.{contents_of, directory_of, durable_of, folders_of, has_failed, moments_of, queue_of, settings_of, unsynced_of};
 ghost use Rattle.raft_env.specs.Consistent.{AreConsistent};
-ghost use Rattle.raft_memory.specs.Choice.{AreWhole, NameNoBytes, left_by};
+ghost use Rattle.raft_memory.specs.Choice.{AreWhole, left_by};
 ghost use Rattle.raft_memory.specs.declared.crash.Choice.{Choice};
 ghost use Rattle.raft_pipes.specs.Folder.{AreClear, HasNoLog};
 ghost use Rattle.raft_config.specs.Folders.{Folders};
@@ -23,8 +23,7 @@ use raft_env::FileSystem;
 
 /// Folders that keep contents through a crash leave them then, possibly with a prefix of the
 /// batches after them: such contents are read first whatever the damage, and alone where that is
-/// detectable. A crash that leaves each file with all its bytes now, with those of its last sync or
-/// torn keeps what no change had touched. A restart after a crash finds what the crash left. Where that is sound, it keeps it, its log can be opened in each mode but the absolute one,
+/// detectable. A restart after a crash finds what the crash left. Where that is sound, it keeps it, its log can be opened in each mode but the absolute one,
 /// and no folder's place is taken (`AreClear`), nor does a kept number stand in both folders
 /// (`AreSingleIn`). Where no log stands, nothing is read and nothing is kept. Files that no crash
 /// met, as an engine gave them up, stand for what a crash could leave, and their log can be opened,
@@ -32,8 +31,6 @@ use raft_env::FileSystem;
 pub fn crash_leaves_contents()
     ensures left { (folders : Folders) (m : Contents) (batches : List Batch) (n : Directory)
         → RecoversContents folders m batches n → LeavesAllowed folders m batches n }
-    ensures untouched { (n : Directory) → AreConsistent n → (choices : List Choice)
-        → NameNoBytes choices → KeepsUntouched n (left_by choices n) }
     ensures restarted { (folders : Folders) (n m : Directory) (d : CrashImage) → IsRestarted n d m
         → AreSoundIn folders n d
         → RecoversContents folders (contents_after_crash folders n d) [] m }
@@ -58,7 +55,6 @@ pub fn crash_leaves_contents()
         → IsRestarted n d m → AreSoundIn folders n d → AreClear folders m }
 {
     raft_queues::laws::crash_leaves_a_prefix();
-    raft_damage::laws::premise_can_be_met();
 }
 
 /// What an engine keeps a crash leaves now: what is durable, and a prefix of what is unsynced, and

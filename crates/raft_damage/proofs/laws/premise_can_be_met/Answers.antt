@@ -1,14 +1,11 @@
 use Rattle.raft_memory.proofs.ChoiceTornLemmas.{choices_may_leave}
 use Rattle.raft_damage.proofs.PremiseLemmas.{fresh_detectable, log_whole, records_detectable, records_torn, reused_whole}
-use Rattle.raft_damage.proofs.PastLemmas.{own_detectable, now_is_read, synced_is_read, untouched_by_choices}
+use Rattle.raft_damage.proofs.PastLemmas.{own_detectable, now_is_read, synced_is_read}
 use Rattle.raft_damage.proofs.DetectableDamageLemmas.{broken_zeros}
 use Rattle.raft_damage.proofs.laws.premise_can_be_met.Goals as goal
 
 pub returns-clause-allowed : goal.returns-clause-allowed
 returns-clause-allowed c = choices_may_leave
-
-pub returns-clause-untouched : goal.returns-clause-untouched
-returns-clause-untouched c = λ choices n none consistent. untouched_by_choices n consistent choices none
 
 pub returns-clause-first_records : goal.returns-clause-first_records
 returns-clause-first_records c = records_detectable

@@ -17,9 +17,6 @@ use Rattle.raft_log_engine.proofs.laws.crash_leaves_contents.Goals as goal
 pub returns-clause-left : goal.returns-clause-left
 returns-clause-left c = contents_left
 
-pub returns-clause-untouched : goal.returns-clause-untouched
-returns-clause-untouched c = λ n consistent choices none. c.premise_can_be_met.ensures.untouched choices n none consistent
-
 pub returns-clause-found : goal.returns-clause-found
 returns-clause-found c = λ folders n m d restarted.
     let left : (queue : LogQueue) → readable_queue queue folders m ≡ left_of_queue queue folders n d = λ queue. c.crash_leaves_a_prefix.ensures.contents queue folders n m d restarted in
