@@ -45,6 +45,7 @@ pub mod QueueFilesLemmas
 pub mod QueueLemmas
 pub mod QueueRotationLemmas
 pub mod ReadFilesLemmas
+pub mod ReadableLemmas
 pub mod RefusalLemmas
 pub mod ReserveLemmas
 pub mod ReserveNamesLemmas
