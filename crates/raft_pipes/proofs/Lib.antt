@@ -7,7 +7,6 @@ pub mod ByFileOpeningLemmas
 pub mod ByFileRotationLemmas
 pub mod CloseLemmas
 pub mod CompletedLemmas
-pub mod DurableEndLemmas
 pub mod DroppedLemmas
 pub mod FileCallsLemmas
 pub mod FileListLemmas
