@@ -7,6 +7,7 @@ pub mod ByFileOpeningLemmas
 pub mod ByFileRotationLemmas
 pub mod CloseLemmas
 pub mod CompletedLemmas
+pub mod DurableEndLemmas
 pub mod DroppedLemmas
 pub mod FileCallsLemmas
 pub mod FileListLemmas
