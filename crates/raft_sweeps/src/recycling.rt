@@ -162,8 +162,9 @@ fn refuse_each(rt: &impl Abort, alloc: Global, folders: Folders) -> Result<(), F
     assert_eq!(rt; wanted.outcomes.len(), sittings.all.len());
     assert!(rt; wanted.outcomes.iter().all(is_done));
     for call in CALLS {
-        let mut met = true;
-        for nth in 1..MAX_CALLS {
+        let mut met = refuse_one(rt, alloc, &sittings, &wanted.outcomes, call, 1)?;
+        assert!(rt; met || matches!(folders, Folders::One), "{call:?}");
+        for nth in 2..MAX_CALLS {
             met = met && refuse_one(rt, alloc, &sittings, &wanted.outcomes, call, nth)?;
         }
         assert!(rt; !met);
