@@ -22,8 +22,8 @@ use crate::Engine;
 use raft_env::FileSystem;
 
 /// Folders that keep contents through a crash leave them then, possibly with a prefix of the
-/// batches after them, where damage is detectable. A restart after a crash finds what the crash
-/// left. Where that is sound, it keeps it, its log can be opened in each mode but the absolute one,
+/// batches after them: such contents are read first whatever the damage, and alone where that is
+/// detectable. A restart after a crash finds what the crash left. Where that is sound, it keeps it, its log can be opened in each mode but the absolute one,
 /// and no folder's place is taken (`AreClear`), nor does a kept number stand in both folders
 /// (`AreSingleIn`). Where no log stands, nothing is read and nothing is kept. Files that no crash
 /// met, as an engine gave them up, stand for what a crash could leave, and their log can be opened,
