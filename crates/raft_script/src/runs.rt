@@ -23,6 +23,7 @@ use crate::text_entry::TextEntry;
 use raft_env::FileSystem;
 use raft_log_engine::Engine;
 use raft_log_engine::laws::{an_engine_recovers_what_it_keeps, crash_leaves_contents};
+use raft_queues::laws::crash_leaves_a_prefix;
 use raft_records::{Command, EntryIndex, Fault, FileSeq, LogBatch, LogQueue};
 use std::alloc::{AllocError, Global};
 
@@ -113,6 +114,7 @@ pub(crate) fn crash_is_said_of_files()
         → LeavesAllowedFrom least folders m batches n → LeavesFrom least folders m batches n }
 {
     crash_leaves_contents();
+    crash_leaves_a_prefix();
 }
 
 // A queue of an engine that stands has the last number only where a log file has.

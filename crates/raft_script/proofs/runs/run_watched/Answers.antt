@@ -77,7 +77,7 @@ loop-op-preserved g c =
     ap (λ (f : Contents). after_batches f (all_batches old)) before ∙ ap (after_batches found) (kept.4 alive) ∙ after-append found (base_of begun) p.batches in
     let wrote : accepted_of (contents_of old) op outcome ≡ accepted_of (after_batches m p.batches) op outcome = accepted_same (contents_of old) (after_batches m p.batches) op (has_failed old) held outcome (has_failed new) step.failed in
     let progress = subst (λ (l : List Batch). Progresses l (is_covering op outcome) flight (durability_of old) (durability_of new)) wrote does.progress in
-    let way = under_way_more found m p c.args.ops.now place failed_at next_at (durability_of old) kept.5 op outcome flight (durability_of new) next here (subst (λ (f : Contents). MayBeInFlight (after_batches f (all_batches old)) op flight) before does.may_be) progress holds still in
+    let way = under_way_more found m p c.args.ops.now place failed_at next_at (durability_of old) kept.5 op outcome flight (durability_of new) next here (subst (λ (f : Contents). MayBeInFlight (after_batches f (all_batches old)) op flight) before does.may_be) progress holds in
     let alive_before : has_failed new ≡ false → has_failed old ≡ false = λ stands. elim (cases_Bool (has_failed old)) [
       | inl gone ↦ absurd (let clash = sym (still gone) ∙ stands in cc)
       | inr alive ↦ alive

@@ -67,10 +67,11 @@ returns-clause-value c =
       left = leaves;
       after = m;
       restarted = restarted;
-      detectable = λ opened stands whole past. c.in_ok-ran.ensures.crash (none_done dir before (λ absent queue. (c.a_queue_recovers_its_batches.ensures.none queue dir before absent).0) none) opened stands past c.in_ok-left.ensures.consistent c.args.choices.now whole;
+      detectable = λ opened stands whole stale. c.in_ok-ran.ensures.crash (none_done dir before (λ absent queue. (c.a_queue_recovers_its_batches.ensures.none queue dir before absent).0) none) opened stands (λ queue f kept file at. record { only_writes = c.in_ok-left.ensures.only_writes f.1 file at }) stale c.in_ok-left.ensures.consistent c.args.choices.now whole;
       torn = λ named before queue f last file at.
           let read = before queue f file last at in
           c.premise_can_be_met.ensures.own f.1 (in_queue queue f.0) files file at read.0 c.in_ok-left.ensures.consistent read.1 c.args.choices.now named read.2 file at;
+      untouched = λ named. c.crash_leaves_contents.ensures.untouched files c.in_ok-left.ensures.consistent c.args.choices.now named;
       found = image_same (folders_in again) dir m c.open_image.result same c.open_image.ensures.value;
       refused = λ free detectable tolerant fine.
           let opens : CanBeOpened dir m = ((shown free).after.2 left m leaves restarted).opens detectable in
