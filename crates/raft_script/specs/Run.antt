@@ -1,26 +1,20 @@
--- What operations are answered, and what they leave.
-use Rattle.std.specs.Prelude.{◌≡◌, ◌⊎◌, ◌||◌, ℕ, zero, suc, ◌+◌, ◌-◌, ◌^◌, ◌≤◌, length, map, min, take, Bool, true, false, List, [], ◌∷◌, ◌++◌, Option, Some, None, is_some, option_and_then, option_map, Result, Ok, Err, is_ok, MatchResult, IsErrAnd, IsSome, IsSomeAnd, if◌then◌else◌, Vec, cond, unwrap_or}
-use Rattle.std.specs.List.{Any, count_by, list_any, sum_by}
-use Rattle.std.specs.declared.alloc.Global.{Global}
-use Rattle.raft_records.specs.Batch.{is_internal_key}
-use Rattle.raft_records.specs.Contents.{Contents, after_batch, after_batches, first_index_of, last_index_of}
-use Rattle.raft_records.specs.Item.{Batch, Clean, Compact, Delete, Entries, Entry, Put}
+-- What operations are answered.
+use Rattle.std.specs.Prelude.{◌≡◌, ◌⊎◌, ℕ, ◌^◌, ◌≤◌, length, take, Bool, false, List, [], ◌∷◌, Option, Some, None, option_map, Result, Ok, Err, MatchResult, IsSome, IsSomeAnd}
+use Rattle.std.specs.List.{Any}
+use Rattle.raft_records.specs.Contents.{Contents, after_batch, first_index_of, last_index_of}
+use Rattle.raft_records.specs.Item.{Batch, Entry}
 use Rattle.raft_records.specs.Layout.{entry_bytes}
 use Rattle.raft_records.specs.Validity.{IsValidBatch, batch_refusal}
 use Rattle.raft_base.specs.Fault.{fault_code}
 use Rattle.raft_base.specs.declared.errors.Fault.{Fault}
 use Rattle.raft_base.specs.declared.errors.Fault.TheVariants as fault
-use Rattle.raft_env.specs.Refusal.{NoFewer, Refusals, StorageRefusalsRose}
 use Rattle.raft_log_engine.specs.Cause.{IsOutOfRange, IsWritable}
-use Rattle.raft_held.specs.Contents.{known_from}
-use Rattle.raft_held.specs.Crash.{pending_of, written_batch}
 use Rattle.raft_log_engine.specs.Engine.{record_len}
-use Rattle.raft_log_engine.specs.Group.{accepted_in, chosen_of, written_in}
-use Rattle.raft_log_engine.specs.Reads.{IsEntryAnswer, IsEntryRefusalAt, IsGroupList, compact_batch, compact_count, entry_of}
-use Rattle.raft_script.specs.Entry.{IsTextOf, index_of, indexed_bytes}
+use Rattle.raft_log_engine.specs.Reads.{IsEntryAnswer, IsEntryRefusalAt, IsGroupList, compact_count, entry_of}
+use Rattle.raft_script.specs.Batches.{Part, batch_of_acts, batches_of_parts}
+use Rattle.raft_script.specs.Entry.{IsTextOf, index_of}
 use Rattle.raft_purge.specs.Unfit.{IsUnfit}
 use Rattle.raft_script.specs.declared.operation.Act.{Act}
-use Rattle.raft_script.specs.declared.operation.Act.TheVariants as act
 use Rattle.raft_script.specs.declared.operation.Op.{Op}
 use Rattle.raft_script.specs.declared.operation.Op.TheVariants as operation
 use Rattle.raft_script.specs.declared.operation.Op.TheVariants.{Write, WriteGroup, Sync, Get, CompactTo, First, Last, RewriteAppend, RewriteRewrite, PurgeStale, Purge}
