@@ -16,7 +16,7 @@ use Rattle.raft_pipes.specs.QueueFiles.{last_kept}
 use Rattle.raft_env.specs.Refusal.{Refusals, no_refusals}
 use Rattle.raft_memory.specs.declared.crash.Choice.{Choice}
 use Rattle.raft_held.specs.Contents.{contents_at}
-use Rattle.raft_held.specs.Crash.{KeepsUntouched, RecoversContents}
+use Rattle.raft_held.specs.Crash.{RecoversContents}
 use Rattle.raft_log_engine.specs.Image.{IsImageOf}
 use Rattle.raft_script.specs.Durability.{LeavesAllowedAfter, State, Steps, progress_from}
 use Rattle.raft_held.specs.Queues.{AreDetectableIn, AreSingleIn, HaveDamageIn, HaveSimplePastIn, IsOpeningRefusal}
@@ -163,10 +163,6 @@ pub record IsTrialOf (config : Config) (ops : List Op) (stop : Option ℕ) (choi
   pub torn : NameNoBytes choices → let files = memory_directory last in
       AreReadAsBefore (folders_in config) files choices
       → AreDetectableIn (folders_in config) files (left_by choices files)
-  -- choices that name no bytes leave what no change had touched, so that what is read first of both
-  -- queues is as without damage
-  pub untouched : NameNoBytes choices → let files = memory_directory last in
-      KeepsUntouched files (left_by choices files)
   -- the opening found what the choices leave
   pub found : IfOk t.opened (λ image.
       IsImageOf image.groups.items (contents_at (folders_in config) after))

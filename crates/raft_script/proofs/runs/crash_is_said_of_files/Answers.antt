@@ -14,7 +14,7 @@ returns c = λ least folders m batches n leaves d after left restarted.
     let held = leaves d left in
     let read : (queue : LogQueue) → readable_queue queue folders after ≡ left_of_queue queue folders n d = λ queue. c.crash_leaves_a_prefix.ensures.contents queue folders n after d restarted in
     record {
-      first = λ untouched. ∥∥₁_map (held.first untouched) (λ (rewritten, appended, first, next, allowed). (
+      first = ∥∥₁_map held.first (λ (rewritten, appended, first, next, allowed). (
         rewritten,
         appended,
         subst (λ (bs : List Batch). IsPrefixOf rewritten bs) (sym (read Rewrite)) first,

@@ -71,7 +71,6 @@ returns-clause-value c =
       torn = λ named before queue f last file at.
           let read = before queue f file last at in
           c.premise_can_be_met.ensures.own f.1 (in_queue queue f.0) files file at read.0 c.in_ok-left.ensures.consistent read.1 c.args.choices.now named read.2 file at;
-      untouched = λ named. c.crash_leaves_contents.ensures.untouched files c.in_ok-left.ensures.consistent c.args.choices.now named;
       found = image_same (folders_in again) dir m c.open_image.result same c.open_image.ensures.value;
       refused = λ free detectable tolerant fine.
           let opens : CanBeOpened dir m = ((shown free).after.2 left m leaves restarted).opens detectable in
