@@ -204,11 +204,18 @@ whole_is_torn id format records at file holds broken =
       broken = broken;
     }
 
-pub now_is_torn : (id : FileId) (format : LogFileFormat) (records : List PlacedRecord) (synced at : ℕ) (file : File) → IsWrittenByCompletedCalls id format records synced at file → HasNoStaleRecord id file → IsTornAfter id format records file file.now
-now_is_torn id format records synced at file completed none =
-    let changes = file.changes ++ file.older in
-    whole_is_torn id format records at file completed.held.holds
-    (broken_unwritten id format at file.now file.renamed_after changes (format_of-held id format records at file.now completed.held.holds) none.now (only_unwritten at file.now file.renamed_after changes completed.written.empty completed.past.only_writes))
+module _ (id : FileId) (format : LogFileFormat) (records : List PlacedRecord) (synced at : ℕ) (file : File) (completed : IsWrittenByCompletedCalls id format records synced at file) (none : HasNoStaleRecord id file) where
+  broken_now : IsBrokenFrom id format at file.now
+  broken_now =
+      let changes = file.changes ++ file.older in
+      broken_unwritten id format at file.now file.renamed_after changes (format_of-held id format records at file.now completed.held.holds) none.now (only_unwritten at file.now file.renamed_after changes completed.written.empty completed.past.only_writes)
+
+  pub now_is_torn : IsTornAfter id format records file file.now
+  now_is_torn = whole_is_torn id format records at file completed.held.holds broken_now
+
+  -- they are what can be read now
+  pub reading-now : scan_file id file.now ≡ Some (record { format = format; records = records; end = at })
+  reading-now = reading-broken id format records at file.now completed.held.holds broken_now
 
 -- .. and so is what holds those of the last sync
 pub synced_is_torn : (id : FileId) (format : LogFileFormat) (records : List PlacedRecord) (synced at : ℕ) (file : File) → IsConsistent file → HoldsFreshRecords id format records synced at file → IsTornAfter id format records file file.synced

@@ -13,13 +13,13 @@ use Rattle.raft_files.specs.Detectable.{IsDetectableFile, IsDetectable}
 use Rattle.raft_files.specs.Records.{HoldsRecords}
 use Rattle.raft_files.specs.Scan.{PlacedRecord}
 use Rattle.raft_premise.specs.Completed.{HasCompletedLog, HasCompletedRecords}
-use Rattle.raft_damage.specs.DetectableDamage.{HasNoStaleRecord, IsBrokenFrom, IsTornAfter}
+use Rattle.raft_damage.specs.DetectableDamage.{HasNoStaleRecord, IsBrokenFrom, IsTornAfter, IsTornAsRead}
 use Rattle.raft_memory.specs.declared.crash.Choice.{Choice}
 use Rattle.raft_memory.specs.declared.crash.Choice.TheVariants as choice
 use Rattle.raft_files.proofs.ScanExtentLemmas.{same_some}
 use Rattle.raft_memory.proofs.ChoiceWholeLemmas.{whole_choice}
 use Rattle.raft_memory.proofs.ChoiceTornLemmas.{choice_may_leave, length-torn, take-torn}
-use Rattle.raft_damage.proofs.DetectableDamageLemmas.{HoldsFreshRecords, completed_fresh, now_is_torn, synced_is_torn, torn_is_detectable}
+use Rattle.raft_damage.proofs.DetectableDamageLemmas.{HoldsFreshRecords, completed_fresh, now_is_torn, reading-now, synced_is_torn, torn_is_detectable}
 
 -- Records that no failed call brought, and that are fresh.
 
@@ -85,3 +85,11 @@ log_whole path id format batches synced at n log none consistent choices whole =
     let held = log.held in
     fresh_whole path id format held.records synced at n held.file held.stands (completed_fresh id format held.records synced at held.file held.held none) consistent choices whole
     (now_is_torn id format held.records synced at held.file (record { written = log.written; held = held.held; past = log.past }) none)
+
+-- .. and that of one that is torn after the first of the records that can be read of it
+pub log_torn : (path : Path) (id : FileId) (format : LogFileFormat) (batches : List Batch) (synced at : ℕ) (n : Directory) (log : HasCompletedLog path id format batches synced at n) → HasNoStaleRecord id log.held.file → AreConsistent n → (d : CrashImage) → Leaves n d → IsTornAsRead id log.held.file (d path) →
+    IsDetectable path id n d
+log_torn path id format batches synced at n log none consistent d leaves torn =
+    let held = log.held in
+    let read = reading-now id format held.records synced at held.file (record { written = log.written; held = held.held; past = log.past }) none in
+    records_detectable path id format batches synced at n held none consistent d leaves (torn _ read)

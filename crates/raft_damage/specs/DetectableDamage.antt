@@ -4,9 +4,9 @@ use Rattle.raft_base.specs.declared.pipe_log.LogQueue.{LogQueue}
 use Rattle.raft_config.specs.Folders.{Folders, all_of}
 use Rattle.raft_base.specs.declared.pipe_log.FileId.{FileId}
 use Rattle.raft_files.specs.declared.format.LogFileFormat.{LogFileFormat}
-use Rattle.raft_env.specs.Directory.{Directory, Path, file_at}
+use Rattle.raft_env.specs.Directory.{CrashImage, Directory, Path, file_at}
 use Rattle.raft_env.specs.Outcomes.{File, Change, bytes_since_sync}
-use Rattle.raft_files.specs.Scan.{PlacedRecord, record_place, record_at, readable_records}
+use Rattle.raft_files.specs.Scan.{PlacedRecord, ScanResult, record_place, record_at, readable_records, scan_file}
 use Rattle.raft_files.specs.Detectable.{IsPrefixOf, format_of, signature_by, IsGivenBy, HasCompressedAt, EndsWithoutCompressed}
 use Rattle.raft_files.specs.Records.{HoldsRecords, IsUntriedAfter}
 use Rattle.raft_pipes.specs.Numbered.{in_queue}
@@ -51,6 +51,17 @@ pub record IsTornAfter (id : FileId) (format : LogFileFormat) (records : List Pl
   pub within : end ≤ length left
   pub same : take end left ≡ take end file.now
   pub broken : IsBrokenFrom id format end left
+
+-- .. of those that can be read of it now
+abbrev pub IsTornAsRead : FileId → File → List ℕ → Type 0
+IsTornAsRead id file left = (r : ScanResult) → scan_file id file.now ≡ Some r
+    → IsTornAfter id r.format r.records file left
+
+-- .. of the last of a queue's log files in the folders
+abbrev pub IsTornAsReadOf : LogQueue → Folders → Directory → CrashImage → Type 0
+IsTornAsReadOf queue folders n d = (f : ℕ × Path) (file : File)
+    → last_kept (all_of folders) queue n ≡ Some f → file_at n f.1 ≡ Some file
+    → IsTornAsRead (in_queue queue f.0) file (d f.1)
 
 -- the change brought no record to the file but the one that it was to write
 abbrev pub AddsOnlyItsRecord : FileId → Option ℕ → Change → Type 0

@@ -12,7 +12,7 @@ ghost use Rattle.raft_env.specs.Directory.{Directory, Leaves, CrashImage, Path, 
 ghost use Rattle.raft_env.specs.Outcomes.{File, is_touched, untouched_len};
 ghost use Rattle.raft_files.specs.Records.{HoldsRecords};
 ghost use Rattle.raft_premise.specs.Completed.{EndsInZeros, HasCompletedLog, HasCompletedRecords};
-ghost use Rattle.raft_damage.specs.DetectableDamage.{EachAddsOnlyItsRecord, HasNoStaleRecord, HasNoStaleRecordOf, IsBrokenFrom, IsReadAsBefore, IsTornAfter};
+ghost use Rattle.raft_damage.specs.DetectableDamage.{EachAddsOnlyItsRecord, HasNoStaleRecord, HasNoStaleRecordOf, IsBrokenFrom, IsReadAsBefore, IsTornAfter, IsTornAsReadOf};
 ghost use Rattle.raft_pipes.specs.Completed.{HasSimplePastOf, PipeHasCompletedLogIfSimple};
 ghost use Rattle.raft_config.specs.Folders.{Folders, all_of};
 ghost use Rattle.raft_pipes.specs.Counts.{QueueCounts};
@@ -82,8 +82,10 @@ pub fn premise_can_be_met()
 
 /// The damage of a crash that leaves each file with all its bytes now or those of its last sync is
 /// detectable of a queue of whose last file only writes failed, and no failed call brought a record,
-/// where nothing in it decodes that it held when it was renamed, if it was (`detectable`). Openings
-/// of `raft_pipes` give such queues, and the calls of pipes keep them.
+/// where nothing in it decodes that it held when it was renamed, if it was (`detectable`). So is that
+/// of a crash which leaves of the last file the first of the records that can be read of it, and after
+/// them none that decodes (`first_records`). Openings of `raft_pipes` give such queues, and the calls
+/// of pipes keep them.
 pub fn damage_of_a_queue_is_detectable()
     ensures detectable { (queue : LogQueue) (p : PipeState) (folders : Folders)
         (batches : List Batch) (counts : QueueCounts) (n : Directory)
@@ -92,4 +94,11 @@ pub fn damage_of_a_queue_is_detectable()
         → HasNoStaleRecordOf queue folders n → AreConsistent n
         → (choices : List Choice) → AreWhole choices
         → ∥ IsDetectableQueue (all_of folders) queue n (left_by choices n) ∥₁ }
+    ensures first_records { (queue : LogQueue) (p : PipeState) (folders : Folders)
+        (batches : List Batch) (counts : QueueCounts) (n : Directory)
+        → HasQueueOf queue p folders batches counts n
+        → PipeHasCompletedLogIfSimple p n → HasSimplePastOf queue folders n
+        → HasNoStaleRecordOf queue folders n → AreConsistent n
+        → (d : CrashImage) → Leaves n d → IsTornAsReadOf queue folders n d
+        → ∥ IsDetectableQueue (all_of folders) queue n d ∥₁ }
 {}

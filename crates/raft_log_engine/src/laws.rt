@@ -9,6 +9,7 @@ ghost use Rattle.raft_files.specs.Records.{as_it_is};
 ghost use Rattle.raft_held.specs.Contents.{contents_at, known_at};
 ghost use Rattle.raft_log_engine.specs.Opening.{FoundCompletedRecords};
 ghost use Rattle.raft_log_engine.specs.Engine.{contents_of, directory_of, durable_of, folders_of, has_failed, moments_of, queue_of, settings_of, unsynced_of};
+ghost use Rattle.raft_damage.specs.DetectableDamage.{HaveNoStaleRecordIn};
 ghost use Rattle.raft_env.specs.Consistent.{AreConsistent};
 ghost use Rattle.raft_memory.specs.Choice.{AreWhole, left_by};
 ghost use Rattle.raft_memory.specs.declared.crash.Choice.{Choice};
@@ -79,8 +80,8 @@ pub fn an_engine_recovers_what_it_keeps<F: FileSystem>(engine: &Engine<F>)
 pub fn the_damage_of_an_engine_is_detectable<F: FileSystem>(engine: &Engine<F>)
     ensures crash { let folders = folders_of engine.now in let n = directory_of engine.now in
         has_failed engine.now ≡ false → FoundCompletedRecords engine.now
-        → HaveSimplePastIn folders n → AreConsistent n → (choices : List Choice) → AreWhole choices
-        → ∥ AreDetectableIn folders n (left_by choices n) ∥₁ }
+        → HaveSimplePastIn folders n → HaveNoStaleRecordIn folders n → AreConsistent n
+        → (choices : List Choice) → AreWhole choices → ∥ AreDetectableIn folders n (left_by choices n) ∥₁ }
 {
     raft_damage::laws::damage_of_a_queue_is_detectable();
 }

@@ -62,12 +62,15 @@ module _ (size : ℕ) (is_done : Bool) (after : List ℕ) (file : File) (within 
   behind : IsBehind size file.now (cut_change size is_done after file.now) file.renamed_after (file.changes ++ file.older)
   behind = cut_after size is_done after file.now file.renamed_after (file.changes ++ file.older) within outcome
 
-  now_cut : take size after ≡ take size file.now
+  abbrev left : List ℕ
+  left = (cut_change size is_done after file.now).after
+
+  now_cut : take size left ≡ take size file.now
   now_cut = sym behind.same
 
   still_cut : (end : ℕ) → end ≤ size → IsStillUpTo end file → IsStillUpTo end (cut_to size is_done after file)
   still_cut end few was = record {
-    same = sym (take-take end size after few) ∙ ap (λ bytes. take end bytes) now_cut ∙ take-take end size file.now few ∙ was.same;
+    same = sym (take-take end size left few) ∙ ap (λ bytes. take end bytes) now_cut ∙ take-take end size file.now few ∙ was.same;
     apart = untouched_len_more file.synced (cut_change size is_done after file.now) file.changes end was.apart (omega (arith, few, behind.from));
     long = omega (arith, few, was.long, behind.shortest);
   }
@@ -135,7 +138,7 @@ module _ (path : Path) (id : FileId) where
       let size_is : size ≡ end_of_scan id file.now = end ∙ ap (λ o. end_of_scan id (bytes_of o)) was in
       let within : size ≤ length file.now = omega (arith, size_is, end_within id file.now) in
       readable_by a n file cut was (ap (λ (m : Directory). file_at m path) is ∙ file_at-placed_same path cut a)
-      (subst (λ e. take e after ≡ take e file.now) size_is (now_cut size is_done after file within outcome))
+      (subst (λ e. take e (cut_change size is_done after file.now).after ≡ take e file.now) size_is (now_cut size is_done after file within outcome))
       (λ e few. still_cut size is_done after file within outcome e (omega (arith, few, size_is)))
 
   pub readable_opening : (a n : Directory) → bytes_at path a ≡ [] → LeavesReadable path id a n

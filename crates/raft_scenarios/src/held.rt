@@ -1,5 +1,6 @@
 //! Files in memory, or an engine over them.
 
+use crate::recycling::{Keeping, settings_of};
 use crate::stored::{Stored, are_stored, settings_in, settings_to, settings_with, store_all};
 use raft_env::{FileSystem, IoKind};
 use raft_log_engine::{Config, Engine, RecoveryMode, Refused};
@@ -25,6 +26,10 @@ pub(crate) trait Faulty: FileSystem + Drop {
     fn fail_under(engine: &mut Engine<Self>, failing: Failing) -> Result<(), Fault>;
 
     fn crash_to(&mut self, alloc: Global, left: &Left) -> Result<(), Fault>;
+
+    fn free_to(&mut self, folder: &str, bytes: u64) -> Result<(), Fault>;
+
+    fn note(&mut self, path: &str) -> Result<(), Fault>;
 }
 
 impl Faulty for MemoryFileSystem {
@@ -55,6 +60,14 @@ impl Faulty for MemoryFileSystem {
     fn crash_to(&mut self, alloc: Global, left: &Left) -> Result<(), Fault> {
         *self = self.crash(&choices_of(alloc, left, MAX_FILES)?)?;
         Ok(())
+    }
+
+    fn free_to(&mut self, folder: &str, bytes: u64) -> Result<(), Fault> {
+        Ok(self.set_free(folder, bytes)?)
+    }
+
+    fn note(&mut self, path: &str) -> Result<(), Fault> {
+        Ok(self.set_metadata(path)?)
     }
 }
 
@@ -159,6 +172,17 @@ impl<F: Faulty> Held<F> {
         }
     }
 
+    /// .. with these files kept to be used again.
+    pub(crate) fn open_keeping(&mut self, alloc: Global, keeping: Keeping) -> bool {
+        match settings_of(alloc, keeping) {
+            Ok(config) => {
+                self.open_with(alloc, config);
+                true
+            }
+            Err(_) => false,
+        }
+    }
+
     pub(crate) fn close(&mut self) {
         if let Held::Engine(engine) = mem::replace(self, Held::Nothing) {
             *self = match engine.close() {
@@ -223,6 +247,27 @@ impl<F: Faulty> Held<F> {
             Held::Refused(refused) => refused.file_system.fail(failing).is_ok(),
             Held::Nothing => false,
         }
+    }
+
+    /// Gives a folder so many bytes of free space.
+    pub(crate) fn set_free(&mut self, folder: &str, bytes: u64) -> bool {
+        match self.files() {
+            Some(files) => files.free_to(folder, bytes).is_ok(),
+            None => false,
+        }
+    }
+
+    /// Gives metadata to these paths.
+    pub(crate) fn note_metadata(&mut self, paths: &[&str]) -> bool {
+        let Some(files) = self.files() else {
+            return false;
+        };
+        for path in paths {
+            if files.note(path).is_err() {
+                return false;
+            }
+        }
+        true
     }
 
     /// Makes files. Answers how many the log's folder has.

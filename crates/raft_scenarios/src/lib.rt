@@ -16,6 +16,8 @@ mod held;
 #[cfg(test)]
 mod kept;
 #[cfg(test)]
+mod kept_purges;
+#[cfg(test)]
 mod opening;
 #[cfg(test)]
 mod purge_steps;
@@ -25,6 +27,10 @@ mod purges;
 mod queues;
 #[cfg(test)]
 mod reads;
+#[cfg(test)]
+mod recycling;
+#[cfg(test)]
+mod reserved;
 #[cfg(test)]
 mod restarts;
 #[cfg(test)]

@@ -4,6 +4,7 @@ use crate::expired::{Apart, writes_apart};
 use crate::folders::TAIL;
 use crate::held::{Failing, Faulty, Held};
 use crate::reads::{Fetch, fetches};
+use crate::recycling::{Keeping, Length, stand};
 use crate::rows::Wrong;
 use crate::scans::{Scan, has_messages, is_handed_over};
 use crate::spilled::{SPILL, store};
@@ -22,8 +23,18 @@ pub(crate) enum Step {
     OpenTo(u64),
     /// .. of both folders.
     OpenBoth,
+    /// .. with these files kept to be used again.
+    OpenKeeping(Keeping),
     /// Makes these files.
+    Store(&'static [Stored]),
+    /// .. of both folders.
     Spill(&'static [Stored]),
+    /// A folder has so many bytes of free space.
+    Free(&'static str, u64),
+    /// These paths get metadata.
+    NoteMetadata(&'static [&'static str]),
+    /// Of the first paths these alone have metadata.
+    HaveMetadata(&'static [&'static str], &'static [&'static str]),
     /// Closes the engine, or fails with this code.
     Close(Option<u8>),
     Reopen,
@@ -32,6 +43,8 @@ pub(crate) enum Step {
     Fail(Failing),
     /// This file is there, and there are so many in the log's folder.
     LastFile(&'static str, usize),
+    /// These files stand beside those of the Rewrite queue, with these lengths.
+    Stands(&'static [Length]),
     /// An opening finds this.
     Found(State),
     /// Puts the value at a key of a group into the batch.
@@ -164,6 +177,24 @@ fn has_files<F: FileSystem>(files: &mut F, count: usize) -> bool {
     }
 }
 
+fn are_there<F: Faulty>(held: &mut Held<F>, lengths: &[Length]) -> bool {
+    match held.files() {
+        Some(files) => matches!(stand(files, lengths), Ok(true)),
+        None => false,
+    }
+}
+
+fn have_metadata<F: Faulty>(held: &mut Held<F>, paths: &[&str], wanted: &[&str]) -> bool {
+    let Some(files) = held.files() else {
+        return false;
+    };
+    let mut are_so = true;
+    for path in paths {
+        are_so = are_so && files.exists_metadata(path) == wanted.contains(path);
+    }
+    are_so
+}
+
 fn closes<F: Faulty>(held: &mut Held<F>, code: Option<u8>) -> bool {
     held.close();
     held.code() == code
@@ -185,7 +216,13 @@ fn holds<F: Faulty>(alloc: Global, held: &mut Held<F>, batch: &mut LogBatch, ste
         Step::Open => opens(alloc, held),
         Step::OpenTo(size) => held.open_to(alloc, *size) && held.code().is_none(),
         Step::OpenBoth => opens_both(alloc, held),
+        Step::OpenKeeping(keeping) => held.open_keeping(alloc, *keeping) && held.code().is_none(),
+        Step::Store(files) => held.store(alloc, files).is_some(),
         Step::Spill(files) => store(alloc, held, files).is_some(),
+        Step::Free(folder, bytes) => held.set_free(folder, *bytes),
+        Step::NoteMetadata(paths) => held.note_metadata(paths),
+        Step::HaveMetadata(paths, wanted) => have_metadata(held, paths, wanted),
+        Step::Stands(lengths) => are_there(held, lengths),
         Step::Close(code) => closes(held, *code),
         Step::Reopen => reopens(held),
         Step::GiveUp => gives_up(held),

@@ -2,6 +2,8 @@
 #![tactic(auto)]
 
 #[cfg(test)]
+mod recycling;
+#[cfg(test)]
 mod refusals;
 #[cfg(test)]
 mod sweep;

@@ -90,8 +90,8 @@ fn sum_of_values<F: FileSystem>(
 
 #[derive(Drop)]
 pub(crate) struct Key {
-    group: u64,
-    key: Vec<u8>,
+    pub group: u64,
+    pub key: Vec<u8>,
 }
 
 /// Keys in no order.
@@ -168,14 +168,20 @@ pub(crate) fn open<F: FileSystem + Drop>(
     files: F,
     file_size: u64,
 ) -> Result<Engine<F>, Fault> {
-    let mut config = Config::fresh(alloc);
-    config.dir.push_str(FOLDER)?;
-    config.target_file_size = ReadableSize(file_size);
-    config.purge_threshold = ReadableSize(config.purge_threshold.0.max(file_size));
+    let config = config_of(alloc, file_size)?;
     match Engine::open_in_order(alloc, config, files) {
         Ok(engine) => Ok(engine),
         Err(refused) => Err(refused.fault),
     }
+}
+
+/// Settings of a log whose files are full at this size.
+pub(crate) fn config_of(alloc: Global, file_size: u64) -> Result<Config, Fault> {
+    let mut config = Config::fresh(alloc);
+    config.dir.push_str(FOLDER)?;
+    config.target_file_size = ReadableSize(file_size);
+    config.purge_threshold = ReadableSize(config.purge_threshold.0.max(file_size));
+    Ok(config)
 }
 
 // With the files comes the length of the log.
@@ -194,7 +200,12 @@ fn log_len<F: FileSystem>(files: &mut F) -> Result<usize, FsFault> {
     files.file_size(&handle)
 }
 
-fn has_last<F: FileSystem>(alloc: Global, engine: &Engine<F>, load: Load) -> Result<bool, Fault> {
+/// Whether the last key that was put is found.
+pub(crate) fn has_last<F: FileSystem>(
+    alloc: Global,
+    engine: &Engine<F>,
+    load: Load,
+) -> Result<bool, Fault> {
     let last = load.keys.saturating_sub(1);
     Ok(engine.get(last % GROUPS, &key_of(alloc, last)?)?.is_some())
 }

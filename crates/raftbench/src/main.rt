@@ -4,18 +4,23 @@
 #![tactic(auto)]
 
 mod blocks;
+mod calls;
 mod disk;
 mod entries;
 mod files;
 mod log;
 mod measure;
+mod openings;
 mod parts;
 mod purges;
+mod shared;
+mod steady;
 mod system;
+mod threads;
 mod workload;
 
 use anyhow::{Result, bail};
-use measure::Host;
+use measure::WorkersHost;
 use std::env;
 use system::print_system;
 use workload::{Amount, SMALL, Workload};
@@ -27,6 +32,9 @@ fn main(rt: HostRuntime) -> Result<()> {
         [] => run_all(&rt),
         [word, folder, rest @ ..] if word.as_str() == "disk" => {
             disk::run_in(rt, folder.as_str(), amount(rest)?)
+        }
+        [word, folder, rest @ ..] if word.as_str() == "threads" => {
+            threads::run_in(&rt, rt, folder.as_str(), amount(rest)?)
         }
         [name, rest @ ..] => run_named(&rt, name.as_str(), amount(rest)?),
     }
@@ -53,14 +61,16 @@ fn amount(words: &[String]) -> Result<Amount> {
     Ok(amount)
 }
 
-fn run_named<R: Host>(rt: &R, name: &str, amount: Amount) -> Result<()> {
+fn run_named<R: WorkersHost>(rt: &R, name: &str, amount: Amount) -> Result<()> {
     match Workload::named(name) {
         Some(workload) => workload.run(rt, amount),
-        None => bail!("usage: raftbench [WORKLOAD [COUNT [SIZE]] | disk FOLDER [COUNT [SIZE]]]"),
+        None => bail!(
+            "usage: raftbench [WORKLOAD [COUNT [SIZE]] | disk|threads FOLDER [COUNT [SIZE]]]"
+        ),
     }
 }
 
-fn run_all<R: Host>(rt: &R) -> Result<()> {
+fn run_all<R: WorkersHost>(rt: &R) -> Result<()> {
     for workload in &Workload::ALL {
         workload.run(rt, SMALL)?;
     }

@@ -4,12 +4,18 @@
 use crate::system::{page_faults, value_of};
 use anyhow::Result;
 use std::rt::{Clock, Files};
+use std::thread::Threads;
 use std::time::Instant;
 
 /// What the program asks of its runtime.
 pub(crate) trait Host: Print + Eprint + AllocGlobal + Clock + Files {}
 
 impl<R: Print + Eprint + AllocGlobal + Clock + Files> Host for R {}
+
+/// .. where workers open a log.
+pub(crate) trait WorkersHost: Host + Threads + Sync {}
+
+impl<R: Host + Threads + Sync> WorkersHost for R {}
 
 /// A clock that runs, and the page faults before it.
 #[derive(Clone, Copy)]

@@ -213,7 +213,7 @@ fn perform<R: Host, F: FileSystem>(
     }
 }
 
-fn add(batch: &mut LogBatch, written: Written) -> Result<(), Fault> {
+pub(crate) fn add(batch: &mut LogBatch, written: Written) -> Result<(), Fault> {
     match written {
         Written::Put(group, key, value) => batch.put(group, key, value),
         Written::Entries(group, entries) => batch.add_entries::<Entries>(group, &entries),
