@@ -1,5 +1,5 @@
 -- The premise on torn and stale bytes can be met.
-use Rattle.std.proofs.Common.{◌≡◌, ℕ, ◌≤◌, List, None, Some, take, ap, sym, subst, ◌∙◌, inl, inr, arith}
+use Rattle.std.proofs.Common.{◌≡◌, ℕ, ◌≤◌, List, Some, take, ap, sym, subst, ◌∙◌, inl, inr, arith}
 use Rattle.std.specs.FinMap as finite
 use Rattle.raft_records.specs.Item.{Batch}
 use Rattle.raft_base.specs.declared.pipe_log.FileId.{FileId}

@@ -26,15 +26,15 @@ ghost use Rattle.raft_files.specs.declared.format.LogFileFormat.{LogFileFormat};
 /// The premise can be met. Storage may leave each consistent file with all its bytes now, with
 /// those of its last sync, or torn: of the places touched since, only the first few hold their
 /// bytes (`allowed`), and what no change touched is left as it was (`untouched`). Where no failed
-/// call brought the records of a file, the damage of a crash is detectable that leaves the first of them as they stand now and after them none that decodes
-/// (`first_records`), as a torn file that keeps those does (`torn`). None decodes where zeros alone stand
-/// (`zeros`); so of a log with all bytes or those of its last sync it is detectable (`detectable`).
-/// A file that was renamed may hold stale bytes: of such a one no record may decode where nothing was
-/// written since (`HasNoStaleRecord`), which is so of one that never was (`never_renamed`).
-/// Of a file in any state it is detectable where no call brought a record but the one that it was
-/// to write, and what such an outcome leaves is read as a prefix of what was read at a moment since
-/// the last sync (`own`), as all bytes are (`read_now`), and those of the last sync
-/// (`read_synced`).
+/// call brought the records of a file, the damage of a crash is detectable that leaves the first of
+/// them as they stand now and after them none that decodes (`first_records`), as a torn file that
+/// keeps those does (`torn`). None decodes where zeros alone stand (`zeros`); so of a log with all
+/// bytes or those of its last sync it is detectable (`detectable`). A file that was renamed may hold
+/// stale bytes: where nothing was written since no record may decode in it (`HasNoStaleRecord`), as
+/// is so of one that never was renamed (`never_renamed`). Of a file in any state the damage is
+/// detectable where no call brought a record but the one that it was to write, and what such an
+/// outcome leaves is read as a prefix of what was read at a moment since the last sync (`own`), as
+/// all bytes are (`read_now`), and those of the last sync (`read_synced`).
 pub fn premise_can_be_met()
     ensures allowed { (choices : List Choice) (n : Directory) → NameNoBytes choices
         → AreConsistent n → Leaves n (left_by choices n) }

@@ -1,7 +1,5 @@
 -- Records of a renamed file stay fresh.
-use Rattle.std.proofs.Common.{◌≡◌, ◌∙◌, ℕ, suc, ◌-◌, ◌≤◌, Bool, true, false, ◌||◌, List, [], ◌∷◌, ◌++◌, length, take, Option, Some, None, Contains, ap, arith, refl, subst, sym, inl, inr}
-use Rattle.std.proofs.lemmas.Option.{same_Some}
-use Rattle.std.proofs.lemmas.List.{length-append}
+use Rattle.std.proofs.Common.{◌≡◌, ◌∙◌, ℕ, suc, ◌-◌, ◌≤◌, Bool, true, false, ◌||◌, List, [], ◌∷◌, ◌++◌, length, take, Option, Some, None, Contains, ap, arith, refl, subst, sym}
 use Rattle.std.proofs.lemmas.List.Elements.{Contains-append_right}
 use Rattle.raft_env.specs.Outcomes.{Change, File, IsStaleAfter, changed_by, is_written}
 use Rattle.raft_files.specs.Detectable.{AreFresh, IsFreshAfter, IsGivenBy, WasGivenSince}

@@ -3,7 +3,7 @@ use Rattle.std.proofs.Common.{◌≡◌, ℕ, List, ◌∷◌, length, Option, S
 use Rattle.std.proofs.lemmas.List.Elements.{All-contains, Contains-append_right}
 use Rattle.raft_env.specs.Outcomes.{Change, IsStaleAfter, IsWriteIfFailed, OnlyWritesFailed}
 use Rattle.raft_files.specs.Records.{IsEmptyFrom}
-use Rattle.raft_premise.specs.Completed.{EndsInZeros, EndsUnwritten}
+use Rattle.raft_premise.specs.Completed.{EndsUnwritten}
 use Rattle.raft_env.proofs.ConsistentLemmas.{nowhere}
 
 -- no place is stale of a file that was never renamed
