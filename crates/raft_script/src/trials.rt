@@ -90,12 +90,21 @@ fn run_over<F: FileSystem + Drop>(
     ops: &[Op],
 ) -> Result<(RunReport, Option<Fault>, F), Fault>
     ensures ok { IfOk result (λ r. let dir = folders_in config in
-        let before : Shown = record { files = F.directory files; moments = F.moments files;
-            refusals = F.refusals_of files } in
-        let left : Shown = record { files = F.directory r.2; moments = F.moments r.2;
-            refusals = F.refusals_of r.2 } in
-        let ran : Ran = record { outcomes = r.0.outcomes.items; failed_at = r.0.failed_at;
-            refused = r.1 } in
+        let before : Shown = record {
+          files = F.directory files;
+          moments = F.moments files;
+          refusals = F.refusals_of files;
+        } in
+        let left : Shown = record {
+          files = F.directory r.2;
+          moments = F.moments r.2;
+          refusals = F.refusals_of r.2;
+        } in
+        let ran : Ran = record {
+          outcomes = r.0.outcomes.items;
+          failed_at = r.0.failed_at;
+          refused = r.1;
+        } in
         let found = contents_at dir before.files in
         RecoversContents dir found [] before.files
         → RunsOver config found (known_at dir before.files) ops.now ran before left) }
