@@ -33,9 +33,10 @@ use std::alloc::Global;
 /// are refused, and no others. Where the damage of what the crash leaves is detectable, a tolerant opening fails by
 /// storage or for lack of memory alone; any other opening only for these, for what is left of the log, or where settings
 /// contradict one another. That no folder has the path of a log file (`HaveNoLogPath`) is asked where the first
-/// opening failed, and nowhere else. The damage is detectable where no engine failed, the last log files were never
-/// renamed, and the choices leave each file whole, as it is at the crash or as it was synced; and so it is, whatever
-/// failed and for torn files too, of files that are read as they were at a moment since their last sync.
+/// opening failed, and nowhere else. The damage is detectable where no engine failed, nothing decodes that a last log
+/// file held when it was renamed, and the choices leave each file whole, as it is at the crash or as it was synced; and
+/// so it is, whatever failed and for torn files too, of files that are read as they were at a moment since their last
+/// sync.
 pub fn trial(
     alloc: Global,
     config: Config,
