@@ -93,7 +93,7 @@ returns-in_err-left-clause-cause c =
     let shown : HaveNoLogPath dir → RunsOver config no_contents (known_in []) c.args.ops.now ran (shown_of first) (shown_of last) = λ free.
     run_shown config c.args.ops.now ran (shown_of first) (shown_of last) (none_known dir before (unread free)) (true_of_none dir before (c.crash_leaves_contents.ensures.none dir before) free none) c.in_ok-ran.ensures.ok in
     let p = err_from_is_err_and c.from_residual-in_err-left.result c.from_residual-in_err-left.ensures.1 in
-    rw (p.1, p.2) (choices_refused files c.args.choices.now c.in_err-left.field-0.0 c.in_err-left.ensures.consistent c.in_err-left.ensures.refused
+    rw (p.1, p.2) (choices_refused files c.args.choices.now c.in_err-left.field-0.0 (λ named. c.premise_can_be_met.ensures.allowed c.args.choices.now files named c.in_err-left.ensures.consistent) c.in_err-left.ensures.refused
     (λ not_left. record {
       ran = ran;
       last = last;
