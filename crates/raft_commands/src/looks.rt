@@ -89,7 +89,8 @@ fn reserved_in(folder: &Folder) -> Total {
     total
 }
 
-// Says what of the files an opening leaves out, where it doesn't fail.
+// Says what of the files an opening leaves out, where it doesn't fail; what an earlier file left is
+// none of it.
 fn note_cuts<F: FileSystem>(
     rt: &HostRuntime,
     folder: &Folder,
@@ -101,6 +102,9 @@ fn note_cuts<F: FileSystem>(
     }
     for queue in [LogQueue::Rewrite, LogQueue::Append] {
         for cut in folder.cuts(image, queue, options.mode)? {
+            if cut.stale {
+                continue;
+            }
             eprintln!(rt;
                 "raftctl: {} is broken at {}: the {} bytes from there on are left out",
                 cut.path, cut.offset, cut.len

@@ -120,6 +120,7 @@ fn add_totals(held: &[Held], sizes: Sizes, out: &mut Output) -> Result<()> {
             ("entries", entries),
             ("cut", sizes.outlook.bytes),
             ("zeros", sizes.outlook.zeros),
+            ("stale", sizes.outlook.stale),
         ],
         out,
     )

@@ -1,5 +1,5 @@
 -- What can be read of a log file, and what an opening does with it.
-use Rattle.std.specs.Prelude.{◌≡◌, ◌≢◌, ℕ, suc, ◌<◌, ◌≤◌, ◌==◌, Bool, List, [], ◌∷◌, length, map, drop, slice_index, Option, Some, None, is_none, if◌then◌else◌}
+use Rattle.std.specs.Prelude.{◌≡◌, ◌≢◌, ℕ, suc, ◌<◌, ◌≤◌, ◌==◌, Bool, true, List, [], ◌∷◌, length, map, take, drop, slice_index, Option, Some, None, is_none, if◌then◌else◌}
 use Rattle.std.specs.List.{list_all, take_while}
 use Rattle.std.specs.Option.{option_map}
 use Rattle.raft_base.specs.declared.errors.Fault.{Fault}
@@ -14,6 +14,7 @@ use Rattle.raft_files.specs.RecordReader.{RecordCursor, cursor_after_header, nex
 use Rattle.raft_files.specs.Scan.{PlacedRecord, end_of_records, end_of_scan, readable_records}
 use Rattle.raft_dump.specs.declared.check.FileCheck.{FileCheck}
 use Rattle.raft_dump.specs.declared.plan.Planned.{Planned}
+use Rattle.raft_dump.specs.Stale.{HasStaleRecord, stale_len}
 use Rattle.raft_dump.specs.declared.plan.Planned.TheVariants.{Keep, Cut, Fail}
 
 -- a reading that begins behind the header
@@ -53,10 +54,12 @@ pub record IsReadingOf (id : FileId) (bytes : List ℕ) (c : FileCheck) : Type 0
   pub end : c.stop ≢ Some fault.Range → c.end ≡ end_of_scan id bytes
   pub records : c.stop ≢ Some fault.Range → c.records ≡ length (readable_records id bytes)
 
--- .. and whether the rest of it is zeros
+-- .. whether the rest of it is zeros, and that a record of an earlier file stands there where it is
+-- called stale
 pub record IsCheckOf (id : FileId) (bytes : List ℕ) (c : FileCheck) : Type 0 where
   pub reading : IsReadingOf id bytes c
   pub zeros : c.zeros ≡ list_all (λ b. b == 0) (drop c.end bytes)
+  pub stale : c.stale ≡ true → HasStaleRecord id (take stale_len (drop c.end bytes))
 
 -- a broken end is cut off where that is tolerated; a record that is compressed or too long never is
 abbrev pub planned_stop : Bool → ℕ → Option Fault → Planned

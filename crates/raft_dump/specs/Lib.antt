@@ -3,3 +3,4 @@ pub mod Check
 pub mod Dump
 pub mod Items
 pub mod LogFiles
+pub mod Stale

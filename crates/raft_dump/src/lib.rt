@@ -7,6 +7,7 @@ mod dumping;
 mod files;
 mod item_reader;
 mod plan;
+mod stale;
 
 pub use build::{build_file_reader, build_file_writer};
 pub use check::{FileCheck, check_file};
@@ -14,3 +15,4 @@ pub use dumping::dump_with_file_system;
 pub use files::{LogFile, log_file, log_files};
 pub use item_reader::{LogItemReader, RecordPlace};
 pub use plan::{Planned, passed_over, plan_opening};
+pub use stale::{STALE_LEN, begins_stale};

@@ -16,6 +16,8 @@ pub struct Cut {
     /// Where what is cut off begins, and how many bytes it has.
     pub offset: usize,
     pub len: usize,
+    /// Whether an earlier file left them where this one stands.
+    pub stale: bool,
     /// The path of the file beside that keeps them.
     pub kept: String,
 }
@@ -48,6 +50,7 @@ pub fn cuts_of(alloc: Global, found: &QueueFiles, mode: RecoveryMode) -> Result<
                 path: file.path.clone()?,
                 offset: *offset,
                 len: check.len.saturating_sub(*offset),
+                stale: check.stale,
                 kept: format!(in alloc; "{}.cut-{offset}", file.path)?,
             })?,
             _ => {}

@@ -16,6 +16,8 @@ pub struct Outlook {
     pub bytes: u64,
     /// How many zeros it cuts that were made ahead, and hold nothing.
     pub zeros: u64,
+    /// How many bytes it cuts that an earlier file left where this one stands.
+    pub stale: u64,
 }
 
 impl Outlook {
@@ -26,6 +28,7 @@ impl Outlook {
             files: 0,
             bytes: 0,
             zeros: 0,
+            stale: 0,
         }
     }
 
@@ -48,14 +51,16 @@ impl Outlook {
     fn add_file(&mut self, planned: Planned, check: &FileCheck) {
         match planned {
             Planned::Keep => {}
-            Planned::Cut(end) => self.add_cut(check.len.saturating_sub(end) as u64, check.zeros),
+            Planned::Cut(end) => self.add_cut(check.len.saturating_sub(end) as u64, check),
             Planned::Fail => self.fails = true,
         }
     }
 
-    fn add_cut(&mut self, len: u64, zeros: bool) {
-        if zeros {
+    fn add_cut(&mut self, len: u64, check: &FileCheck) {
+        if check.zeros {
             self.zeros = self.zeros.saturating_add(len);
+        } else if check.stale {
+            self.stale = self.stale.saturating_add(len);
         } else {
             self.files = self.files.saturating_add(1);
             self.bytes = self.bytes.saturating_add(len);

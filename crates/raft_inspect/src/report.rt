@@ -108,6 +108,7 @@ fn rest_name(check: &FileCheck) -> &'static str {
     match &check.stop {
         None => "none",
         Some(Fault::Corruption) if check.zeros && check.len > 0 => "zeros",
+        Some(Fault::Corruption) if check.stale => "stale",
         Some(Fault::Corruption) => "broken",
         Some(Fault::Lz4) => "compressed",
         Some(_) => "too-long",

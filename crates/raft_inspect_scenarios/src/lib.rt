@@ -3,3 +3,5 @@
 
 #[cfg(test)]
 mod spellings;
+#[cfg(test)]
+mod stale;

@@ -69,11 +69,12 @@ fn add_outlook(mode: RecoveryMode, outlook: Outlook, out: &mut Output) -> Result
         ("files-cut", Word::Number(outlook.files)),
         ("bytes-lost", Word::Number(outlook.bytes)),
         ("zeros", Word::Number(outlook.zeros)),
+        ("stale", Word::Number(outlook.stale)),
     ])?;
     Ok(())
 }
 
-// Room that was made ahead holds nothing that could be lost.
+// Room that was made ahead, and what an earlier file left, hold nothing that could be lost.
 fn status_of(outlook: Outlook) -> Status {
     if outlook.fails {
         Status::WouldFail

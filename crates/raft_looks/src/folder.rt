@@ -59,17 +59,29 @@ impl Folder {
         };
         folder.add("")?;
         if let Some(spill) = options.spill {
-            folder.add(spill)?;
+            folder.add_second(spill)?;
             folder.spill = Some(String::from_str(alloc, spill)?);
         }
         Ok(folder)
     }
 
     fn add(&mut self, folder: &str) -> Result<()> {
-        let names = match self.view.names(folder) {
-            Ok(names) => names,
+        match self.view.names(folder) {
+            Ok(names) => self.add_names(folder, names),
             Err(fault) => bail!("{fault}"),
-        };
+        }
+    }
+
+    // An opening makes it where it isn't there.
+    fn add_second(&mut self, folder: &str) -> Result<()> {
+        match self.view.names(folder) {
+            Ok(names) => self.add_names(folder, names),
+            Err(OpenFault::Io(_, e)) if e.kind() == ErrorKind::NotFound => Ok(()),
+            Err(fault) => bail!("{fault}"),
+        }
+    }
+
+    fn add_names(&mut self, folder: &str, names: Vec<String>) -> Result<()> {
         for name in names {
             self.add_name(folder, name)?;
         }

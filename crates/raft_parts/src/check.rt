@@ -1,20 +1,22 @@
 //! What can be read of a log file of which one part at a time is in memory.
-ghost use Rattle.std.specs.Prelude.{◌≡◌, ◌++◌, ◌≤◌, ◌==◌, ◌-◌, ◌+◌, ◌^◌, ℕ, List, None, IfErr, IfOk, OnOk, drop, length, min};
+ghost use Rattle.std.specs.Prelude.{◌≡◌, ◌++◌, ◌≤◌, ◌==◌, ◌-◌, ◌+◌, ◌^◌, ℕ, List, None, IfErr, IfOk, OnOk, drop, length, min, take, true};
 ghost use Rattle.std.specs.List.{list_all};
 ghost use Rattle.raft_files.specs.Header.{header_of};
 ghost use Rattle.raft_dump.specs.Check.{IsCheckOf, IsReadingOf};
+ghost use Rattle.raft_dump.specs.Stale.{HasStaleRecord, stale_len};
 ghost use Rattle.raft_parts.specs.Parts.{AreOf, BeginsWith, IsReadRefusal, IsWanted};
 
 use crate::image::image_of_part;
 use crate::source::{PartSource, read_whole_part};
 use crate::wanted::{PART_LEN, wanted_behind};
-use raft_dump::{FileCheck, LogFile, check_file};
+use raft_dump::{FileCheck, LogFile, STALE_LEN, begins_stale, check_file};
 use raft_files::LogFileFormat;
 use raft_records::{Fault, FileId};
 use std::alloc::Global;
 
 /// Reads a log file of this size as `check_file` of `raft_dump` does, and holds one part of it at a
-/// time: `PART_LEN` bytes, or a record, or the whole file where its records are aligned. What it
+/// time: `PART_LEN` bytes, or a record, or the whole file where its records are aligned; `STALE_LEN`
+/// bytes where it looks for stale records. What it
 /// tells is what a file of any bytes has that the parts are of. It fails where a read does, where
 /// the file is shorter, and for want of memory.
 pub fn check_parts<S: PartSource>(
@@ -29,6 +31,7 @@ pub fn check_parts<S: PartSource>(
 {
     let mut check = read_parts(alloc, file, size, source)?;
     check.zeros = has_zeros(alloc, file.path.as_str(), check.end, size, source)?;
+    check.stale = check.may_be_stale() && is_stale(alloc, file.id, check.end, source)?;
     Ok(check)
 }
 
@@ -68,6 +71,7 @@ fn without_header(id: FileId, len: usize) -> FileCheck
         end: 0,
         len,
         zeros: false,
+        stale: false,
         stop: Some(Fault::Corruption),
     }
 }
@@ -122,6 +126,7 @@ fn read_records<S: PartSource>(
         end: header.len(),
         len: size,
         zeros: false,
+        stale: false,
         stop: None,
     };
     let mut wanted = Some(PART_LEN.min(size - header.len()));
@@ -185,4 +190,21 @@ fn are_zeros(bytes: &[u8]) -> bool
     ensures value { result ≡ list_all (λ b. b == 0) bytes.now }
 {
     bytes.iter().all(|byte| *byte == 0)
+}
+
+// Whether the first record in the file from a place on is signed for an earlier one.
+fn is_stale<S: PartSource>(
+    alloc: Global,
+    id: FileId,
+    from: usize,
+    source: &mut S,
+) -> Result<bool, Fault>
+    ensures value { IfOk result (λ stale. (bytes : List ℕ) → AreOf bytes (S.given source.new)
+        → stale ≡ true → HasStaleRecord id (take stale_len (drop from bytes))) }
+    ensures given { IfOk result (λ _. (bytes : List ℕ) → AreOf bytes (S.given source.new)
+        → AreOf bytes (S.given source.old)) }
+    ensures refused { IfErr result IsReadRefusal }
+{
+    let part = source.read_part(from, STALE_LEN)?;
+    begins_stale(alloc, id, &part.bytes)
 }
