@@ -153,6 +153,34 @@ class Tests:
         self.run(folder, "put", 1, "key", "value", *words)
         self.expect("the next opening deletes them", not reserved_in(folder))
 
+    def killed(self, thresholds):
+        """A writer that uses files again is killed: what an earlier use left in the last file is no damage."""
+        stale = 0
+        for turn in range(8):
+            folder = os.path.join(self.work, f"killed-{turn}")
+            words = [self.program, folder, "load", 1000000, 40, "--sync-each", 1, "--purge-each", 20, "--settings", thresholds]
+            loading = subprocess.Popen([*map(str, words)], stdout=subprocess.PIPE, stderr=subprocess.DEVNULL)
+            for _ in range(200 + 3 * turn):
+                loading.stdout.readline()
+            loading.kill()
+            loading.wait()
+            loading.stdout.close()
+            checked = self.run(folder, "check", "--settings", thresholds)
+            self.expect(f"a killed writer's files are sound: {checked.stdout}", checked.returncode == 0)
+            told = self.run(folder, "stat", "--settings", thresholds)
+            numbers = numbers_in(b"\n".join(it for it in told.stdout.splitlines() if not it.startswith(b"group ")))
+            self.expect("nothing is cut", numbers["cut"] == 0 and b"is broken" not in told.stderr)
+            self.expect("check and stat tell the same", (b"rest stale" in checked.stdout) == (numbers["stale"] > 0))
+            stale += numbers["stale"] > 0
+        self.expect("stale bytes are told", stale > 0)
+
+    def second_folder(self):
+        """A second folder that isn't there holds no file, and is not made."""
+        folder = os.path.join(self.work, "one-of-two")
+        self.run(folder, "load", 20, 40)
+        for word in ("stat", "check", "get 1 5", "list"):
+            self.leaves(folder, f"{word} --spill second", 0)
+
     def holes(self):
         folder = os.path.join(self.work, "holes")
         for words in ("append 7 a b c", "append 8 a b", "compact 7 4", "append 7 d e --at 9"):
@@ -188,6 +216,8 @@ def main():
         with open(thresholds, "w", encoding="ascii") as file:
             file.write('target-file-size = "1KB"\npurge-threshold = "8KB"\n')
         tests.purges(thresholds)
+        tests.killed(thresholds)
+        tests.second_folder()
         tests.holes()
     print(f"{tests.tried} cases, {tests.bad} wrong")
     return 1 if tests.bad else 0

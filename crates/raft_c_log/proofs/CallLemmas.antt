@@ -1,6 +1,6 @@
 -- What an engine's answers say.
 use Rattle.std.proofs.Common.{◌≡◌, true, List, [], ◌∷◌, None, refl, true≢false, inl, inr}
-use Rattle.raft_log_engine.specs.Durability.{Durability, HasSynced, Progresses}
+use Rattle.raft_log_engine.specs.Durability.{Durability, Progresses, after_call}
 use Rattle.raft_records.specs.Contents.{first_index_of, last_index_of}
 use Rattle.raft_records.specs.Item.{Entry}
 
@@ -15,8 +15,7 @@ no_last (e ∷ (f ∷ es)) none = absurd (some_last f es none)
     some_last f (h ∷ es) is = some_last h es is
 
 -- a call that made sure of all synced it
-pub all_synced : {old new : Durability} → Progresses [] true [] old new → HasSynced [] true old new
-all_synced (inl rest) = absurd (true≢false rest.covers_none)
-all_synced (inr (inl added)) = absurd (true≢false added.covers_none)
-all_synced (inr (inr (inl synced))) = synced
-all_synced (inr (inr (inr fails))) = absurd (true≢false fails.covers_none)
+pub all_synced : {old new : Durability} → Progresses [] true [] old new → new ≡ after_call [] true old
+all_synced (inl rest) = absurd (true≢false rest.1)
+all_synced (inr (inl done)) = done.1
+all_synced (inr (inr fails)) = absurd (true≢false fails.2)

@@ -12,7 +12,7 @@ use Rattle.raft_records.specs.Item.{Batch, Entry}
 use Rattle.raft_c_batch.specs.Batch.{entries_bytes, read_batch}
 use Rattle.raft_c_batch.specs.Parts.{numbers_bytes, pairs_bytes}
 use Rattle.raft_log_engine.specs.Advance.{Advances, state_of}
-use Rattle.raft_log_engine.specs.Durability.{HasSynced, HasWritten, durability_of}
+use Rattle.raft_log_engine.specs.Durability.{HasWritten, after_call, durability_of}
 use Rattle.raft_log_engine.specs.Engine.{contents_of, has_groups_together, is_known_in, queue_of, rewrite_queue_of}
 use Rattle.raft_log_engine.specs.Expired.{HasPurgedExpired}
 use Rattle.raft_log_engine.specs.Image.{IsWithout}
@@ -97,7 +97,7 @@ module _ {F H R W : Type 0} {g : Ghosts F H R W} where
   pub record IsPurged (queue_in : Engine F H R W g → PipeState) (old new : Engine F H R W g)
       (answer : Answer) : Type 0 where
     pub contents : contents_of new ≡ contents_of old
-    pub synced : HasSynced [] true (durability_of old) (durability_of new)
+    pub synced : durability_of new ≡ after_call [] true (durability_of old)
     pub count : (queue_in old).first + answer.numbers.0 ≡ (queue_in new).first
 
   -- nothing is left of the Append queue's files but what stands in new ones
@@ -120,7 +120,7 @@ module _ {F H R W : Type 0} {g : Ghosts F H R W} where
   -- asked for
   pub record HasPurgedUpTo (barrier : ℕ) (old new : Engine F H R W g) (answer : Answer) : Type 0 where
     pub contents : contents_of new ≡ contents_of old
-    pub synced : HasSynced [] true (durability_of old) (durability_of new)
+    pub synced : durability_of new ≡ after_call [] true (durability_of old)
     pub asked : List ℕ
     pub purged : HasPurgedExpired barrier old new asked
     pub bytes : answer.bytes.items ≡ numbers_bytes asked

@@ -1,18 +1,18 @@
 -- The damage of a crash can be told.
-use Rattle.std.proofs.Common.{◌≡◌, ℕ, ◌<◌, ◌≤◌, List, [], ◌++◌, length, take, drop, slice_index, Option, Some, None, Contains, refl, ap, sym, subst, ◌∙◌, inl, arith, length-drop}
+use Rattle.std.proofs.Common.{◌≡◌, ℕ, ◌<◌, ◌≤◌, List, [], ◌++◌, length, take, drop, slice_index, Option, Some, None, Contains, refl, ap, sym, subst, ◌∙◌, inl, inr, arith, length-drop}
 use Rattle.std.proofs.lemmas.List.{append-nil, take_all, take-take, take-append-drop, length-take}
 use Rattle.std.proofs.lemmas.List.Elements.{Contains-append_left}
 use Rattle.raft_records.specs.Record.{record_header, parts_by}
 use Rattle.raft_base.specs.declared.pipe_log.FileId.{FileId}
 use Rattle.raft_files.specs.declared.format.LogFileFormat.{LogFileFormat}
-use Rattle.raft_env.specs.Outcomes.{File, MayLeave, untouched_len, bytes_after}
+use Rattle.raft_env.specs.Outcomes.{Change, File, MayLeave, least_len, untouched_len, bytes_after}
 use Rattle.raft_files.specs.Scan.{PlacedRecord, record_place, record_at, next_record, end_of_records, ScanResult, records_after, scan_file, records_of, readable_records}
 use Rattle.raft_files.specs.Detectable.{IsPrefixOf, format_of, signature_by, AreFresh, AreFromCompletedCalls, HasCompressedAt, IsDetectableFile}
 use Rattle.raft_files.specs.Records.{ReadsFirst, HoldsRecords}
 use Rattle.raft_env.specs.Consistent.{IsConsistent}
-use Rattle.raft_premise.specs.Completed.{EndsInZeros, HoldsCompletedRecords}
-use Rattle.raft_damage.specs.DetectableDamage.{HoldsFreshRecords, IsBrokenFrom, IsTornAfter}
-use Rattle.raft_premise.proofs.CompletedZerosLemmas.{never_stale, only_zeros}
+use Rattle.raft_premise.specs.Completed.{EndsInZeros, EndsUnwritten, HoldsCompletedRecords}
+use Rattle.raft_damage.specs.DetectableDamage.{HasNoStaleRecord, IsBrokenFrom, IsTornAfter, ShowsNoStale}
+use Rattle.raft_premise.proofs.CompletedZerosLemmas.{never_stale, only_unwritten}
 use Rattle.raft_premise.proofs.CompletedLemmas.{IsWrittenByCompletedCalls}
 use Rattle.raft_files.proofs.DetectableLemmas.{prefix_itself, prefix_trans, prefix_append}
 use Rattle.raft_files.proofs.ScanExtentLemmas.{record_header_is, same_some, some_then}
@@ -24,6 +24,19 @@ use Rattle.raft_files.proofs.RecordsHeldLemmas.{reading-held, readable-held, for
 use Rattle.raft_files.proofs.RecordsLemmas.{reads_first-within, reads_first-kept}
 use Rattle.raft_files.proofs.RecordsLengthLemmas.{holds_same}
 use Rattle.raft_env.proofs.ConsistentLemmas.{now_may_be_left, before_is_untouched}
+
+-- a file that holds these records, each of them fresh and brought by no failed call, and held the
+-- first of them at its last sync, where none decoded after them
+pub record HoldsFreshRecords (id : FileId) (format : LogFileFormat) (records : List PlacedRecord) (synced at : ℕ) (file : File) : Type 0 where
+  pub holds : HoldsRecords id format records at file.now
+  pub completed : AreFromCompletedCalls id (signature_by id format) (file.changes ++ file.older) records
+  pub fresh : AreFresh (signature_by id format) file.renamed_after (file.changes ++ file.older) records
+  pub end : ℕ
+  pub begins : HoldsRecords id format (take synced records) end file.synced
+  pub broken : IsBrokenFrom id format end file.synced
+  -- no change touched what stands before that, and none left the file shorter
+  pub apart : end ≤ untouched_len file.synced file.changes
+  pub long : end ≤ least_len file.synced file.changes
 
 -- Zeros.
 
@@ -151,17 +164,31 @@ torn_is_detectable id format records synced at file left completed latest may to
         let holds = holds_same id format (take synced records) completed.end file.synced left completed.begins begins.1 begins.0 in
         subst (λ rs. IsPrefixOf (take synced records) rs) (sym (readable-held id format (take synced records) completed.end left holds)) (prefix_append (take synced records) _)
 
--- of a file that was never renamed all are fresh
-pub never_renamed_fresh : (id : FileId) (format : LogFileFormat) (records : List PlacedRecord) (synced at : ℕ) (file : File) → HoldsCompletedRecords id format records synced at file → file.renamed_after ≡ None → HoldsFreshRecords id format records synced at file
-never_renamed_fresh id format records synced at file completed never = record {
-  holds = completed.holds;
-  completed = completed.completed;
-  fresh = λ r has stale. absurd (never_stale file.renamed_after (file.changes ++ file.older) r.at never stale);
-  end = completed.end;
-  begins = completed.begins;
-  broken = broken_zeros id format completed.end file.synced completed.zeros;
-  apart = completed.apart;
-  long = completed.long;
+-- Stale bytes.
+
+-- a file that was never renamed has none
+pub never_stale_record : (id : FileId) (file : File) → file.renamed_after ≡ None → HasNoStaleRecord id file
+never_stale_record id file never = record {
+  now = λ format i is untried. absurd (never_stale file.renamed_after (file.changes ++ file.older) i never untried.0);
+  synced = λ format i is untried. absurd (never_stale file.renamed_after file.older i never untried.0);
+}
+
+-- where nothing was written none decodes
+broken_unwritten : (id : FileId) (format : LogFileFormat) (at : ℕ) (bytes : List ℕ) (renamed : Option ℕ) (changes : List Change) → format_of bytes ≡ Some format → ShowsNoStale id renamed changes bytes → EndsUnwritten at bytes renamed changes → IsBrokenFrom id format at bytes
+broken_unwritten id format at bytes renamed changes is none (inl zeros) = broken_zeros id format at bytes zeros
+broken_unwritten id format at bytes renamed changes is none (inr untried) = none format at is (untried at (omega arith))
+
+-- .. so none does at the last sync after the records then
+pub completed_fresh : (id : FileId) (format : LogFileFormat) (records : List PlacedRecord) (synced at : ℕ) (file : File) → HoldsCompletedRecords id format records synced at file → HasNoStaleRecord id file → HoldsFreshRecords id format records synced at file
+completed_fresh id format records synced at file held none = record {
+  holds = held.holds;
+  completed = held.completed.completed;
+  fresh = held.completed.fresh;
+  end = held.end;
+  begins = held.begins;
+  broken = broken_unwritten id format held.end file.synced file.renamed_after file.older (format_of-held id format (take synced records) held.end file.synced held.begins) none.synced held.unwritten;
+  apart = held.apart;
+  long = held.long;
 }
 
 -- what holds all bytes now is one, where none decodes after them
@@ -177,10 +204,18 @@ whole_is_torn id format records at file holds broken =
       broken = broken;
     }
 
-pub now_is_torn : (id : FileId) (format : LogFileFormat) (records : List PlacedRecord) (synced at : ℕ) (file : File) → IsWrittenByCompletedCalls id format records synced at file → IsTornAfter id format records file file.now
-now_is_torn id format records synced at file completed =
-    whole_is_torn id format records at file completed.held.holds
-    (broken_zeros id format at file.now (only_zeros at file.now file.renamed_after (file.changes ++ file.older) completed.past.never_renamed completed.written.empty completed.past.only_writes))
+module _ (id : FileId) (format : LogFileFormat) (records : List PlacedRecord) (synced at : ℕ) (file : File) (completed : IsWrittenByCompletedCalls id format records synced at file) (none : HasNoStaleRecord id file) where
+  broken_now : IsBrokenFrom id format at file.now
+  broken_now =
+      let changes = file.changes ++ file.older in
+      broken_unwritten id format at file.now file.renamed_after changes (format_of-held id format records at file.now completed.held.holds) none.now (only_unwritten at file.now file.renamed_after changes completed.written.empty completed.past.only_writes)
+
+  pub now_is_torn : IsTornAfter id format records file file.now
+  now_is_torn = whole_is_torn id format records at file completed.held.holds broken_now
+
+  -- they are what can be read now
+  pub reading-now : scan_file id file.now ≡ Some (record { format = format; records = records; end = at })
+  reading-now = reading-broken id format records at file.now completed.held.holds broken_now
 
 -- .. and so is what holds those of the last sync
 pub synced_is_torn : (id : FileId) (format : LogFileFormat) (records : List PlacedRecord) (synced at : ℕ) (file : File) → IsConsistent file → HoldsFreshRecords id format records synced at file → IsTornAfter id format records file file.synced

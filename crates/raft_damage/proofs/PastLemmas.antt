@@ -20,7 +20,7 @@ use Rattle.raft_files.proofs.ScanExtentLemmas.{same_some, record_of_header}
 use Rattle.raft_env.proofs.OutcomesLemmas.{within_is, same_front}
 use Rattle.raft_files.proofs.ScanPlacedLemmas.{contains_cases}
 use Rattle.raft_env.proofs.ConsistentLemmas.{before_is_untouched}
-use Rattle.raft_memory.proofs.ChoiceTornLemmas.{length-torn, no_bytes_at_turn, choices_may_leave}
+use Rattle.raft_memory.proofs.ChoiceTornLemmas.{choice_may_leave, length-torn, no_bytes_at_turn, choices_may_leave}
 use Rattle.raft_damage.proofs.DetectableDamageLemmas.{readable_records-take}
 use Rattle.raft_premise.proofs.CompletedZerosLemmas.{never_stale}
 
@@ -110,13 +110,29 @@ untouched_is_left file is choice.Synced none = untouched_len_within file.synced 
 untouched_is_left file is (choice.Torn kept fill) none = omega (arith, untouched_stands file is, length-torn (is_touched file.changes) kept fill file.now)
 untouched_is_left file is (choice.Bytes bytes) none = absurd none
 
+untouched_stays : (file : File) (left : List ℕ) → MayLeave file left → untouched_len file.synced file.changes ≤ length left →
+    take (untouched_len file.synced file.changes) file.synced ≡ take (untouched_len file.synced file.changes) left
+untouched_stays file left may long =
+    let len = untouched_len file.synced file.changes in
+    let within = untouched_len_within file.synced file.changes in
+    same_front len file.synced left within long (λ i before. sym (may.untouched i (omega arith) (omega arith) (before_is_untouched file.synced file.changes i before)))
+
+-- .. and so do choices in a directory
+pub untouched_by_choices : (n : Directory) → AreConsistent n → (choices : List Choice) → NameNoBytes choices → (path : Path) (file : File) → file_at n path ≡ Some file →
+    take (untouched_len file.synced file.changes) (left_by choices n path) ≡ take (untouched_len file.synced file.changes) file.synced
+untouched_by_choices n consistent choices none path file stands =
+    let is = consistent path file stands in
+    let c = choice_for choices (finite.keys n.files) path in
+    let named = no_bytes_at_turn choices none _ in
+    let left : left_by choices n path ≡ bytes_by_choice c file = ap (bytes_by_choice_at c) stands in
+    subst (λ b. take (untouched_len file.synced file.changes) b ≡ take (untouched_len file.synced file.changes) file.synced) (sym left)
+    (sym (untouched_stays file (bytes_by_choice c file) (choice_may_leave file is c named) (untouched_is_left file is c named)))
+
 untouched_is_read : (id : FileId) (file : File) (left : List ℕ) → MayLeave file left → untouched_len file.synced file.changes ≤ length left →
     IsPrefixOf (readable_records id (take (untouched_len file.synced file.changes) file.synced)) (readable_records id left)
 untouched_is_read id file left may long =
     let len = untouched_len file.synced file.changes in
-    let within = untouched_len_within file.synced file.changes in
-    let same = same_front len file.synced left within long (λ i before. sym (may.untouched i (omega arith) (omega arith) (before_is_untouched file.synced file.changes i before))) in
-    subst (λ b. IsPrefixOf (readable_records id b) (readable_records id left)) (sym same) (readable_records-take id len left)
+    subst (λ b. IsPrefixOf (readable_records id b) (readable_records id left)) (sym (untouched_stays file left may long)) (readable_records-take id len left)
 
 -- Outcomes.
 

@@ -1,5 +1,5 @@
 -- The premise on torn and stale bytes can be met.
-use Rattle.std.proofs.Common.{◌≡◌, ℕ, ◌≤◌, List, None, Some, take, ap, sym, subst, ◌∙◌, inl, inr, arith}
+use Rattle.std.proofs.Common.{◌≡◌, ℕ, ◌≤◌, List, Some, take, ap, sym, subst, ◌∙◌, inl, inr, arith}
 use Rattle.std.specs.FinMap as finite
 use Rattle.raft_records.specs.Item.{Batch}
 use Rattle.raft_base.specs.declared.pipe_log.FileId.{FileId}
@@ -13,13 +13,13 @@ use Rattle.raft_files.specs.Detectable.{IsDetectableFile, IsDetectable}
 use Rattle.raft_files.specs.Records.{HoldsRecords}
 use Rattle.raft_files.specs.Scan.{PlacedRecord}
 use Rattle.raft_premise.specs.Completed.{HasCompletedLog, HasCompletedRecords}
-use Rattle.raft_damage.specs.DetectableDamage.{HoldsFreshRecords, IsBrokenFrom, IsTornAfter}
+use Rattle.raft_damage.specs.DetectableDamage.{HasNoStaleRecord, IsBrokenFrom, IsTornAfter, IsTornAsRead}
 use Rattle.raft_memory.specs.declared.crash.Choice.{Choice}
 use Rattle.raft_memory.specs.declared.crash.Choice.TheVariants as choice
 use Rattle.raft_files.proofs.ScanExtentLemmas.{same_some}
 use Rattle.raft_memory.proofs.ChoiceWholeLemmas.{whole_choice}
 use Rattle.raft_memory.proofs.ChoiceTornLemmas.{choice_may_leave, length-torn, take-torn}
-use Rattle.raft_damage.proofs.DetectableDamageLemmas.{never_renamed_fresh, now_is_torn, synced_is_torn, torn_is_detectable, whole_is_torn}
+use Rattle.raft_damage.proofs.DetectableDamageLemmas.{HoldsFreshRecords, completed_fresh, now_is_torn, reading-now, synced_is_torn, torn_is_detectable}
 
 -- Records that no failed call brought, and that are fresh.
 
@@ -65,16 +65,11 @@ module _ (path : Path) (id : FileId) (format : LogFileFormat) (records : List Pl
       | inr old ↦ detectable_by choice.Synced old tt (synced_is_torn id format records synced at file is_consistent held)
     ]
 
--- .. where none decodes after them now
-pub reused_whole : (path : Path) (id : FileId) (format : LogFileFormat) (records : List PlacedRecord) (synced at : ℕ) (n : Directory) (file : File) → file_at n path ≡ Some file → HoldsFreshRecords id format records synced at file → IsBrokenFrom id format at file.now → AreConsistent n → (choices : List Choice) → AreWhole choices → IsDetectable path id n (left_by choices n)
-reused_whole path id format records synced at n file stands held broken consistent choices whole =
-    fresh_whole path id format records synced at n file stands held consistent choices whole (whole_is_torn id format records at file held.holds broken)
+-- Of a file without a stale record.
 
--- Of a file that was never renamed.
-
-module _ (path : Path) (id : FileId) (format : LogFileFormat) (batches : List Batch) (synced at : ℕ) (n : Directory) (log : HasCompletedRecords path id format batches synced at n) (never : log.file.renamed_after ≡ None) (consistent : AreConsistent n) where
+module _ (path : Path) (id : FileId) (format : LogFileFormat) (batches : List Batch) (synced at : ℕ) (n : Directory) (log : HasCompletedRecords path id format batches synced at n) (none : HasNoStaleRecord id log.file) (consistent : AreConsistent n) where
   fresh : HoldsFreshRecords id format log.records synced at log.file
-  fresh = never_renamed_fresh id format log.records synced at log.file log.held never
+  fresh = completed_fresh id format log.records synced at log.file log.held none
 
   pub records_detectable : (d : CrashImage) → Leaves n d → IsTornAfter id format log.records log.file (d path) → IsDetectable path id n d
   records_detectable = fresh_detectable path id format log.records synced at n log.file log.stands fresh consistent
@@ -84,9 +79,17 @@ module _ (path : Path) (id : FileId) (format : LogFileFormat) (batches : List Ba
   records_torn = fresh_torn path id format log.records synced at n log.file log.stands fresh consistent
 
 -- .. and that of a log with all its bytes or those of its last sync
-pub log_whole : (path : Path) (id : FileId) (format : LogFileFormat) (batches : List Batch) (synced at : ℕ) (n : Directory) → HasCompletedLog path id format batches synced at n → AreConsistent n → (choices : List Choice) → AreWhole choices →
+pub log_whole : (path : Path) (id : FileId) (format : LogFileFormat) (batches : List Batch) (synced at : ℕ) (n : Directory) (log : HasCompletedLog path id format batches synced at n) → HasNoStaleRecord id log.held.file → AreConsistent n → (choices : List Choice) → AreWhole choices →
     IsDetectable path id n (left_by choices n)
-log_whole path id format batches synced at n log consistent choices whole =
+log_whole path id format batches synced at n log none consistent choices whole =
     let held = log.held in
-    fresh_whole path id format held.records synced at n held.file held.stands (never_renamed_fresh id format held.records synced at held.file held.held log.past.never_renamed) consistent choices whole
-    (now_is_torn id format held.records synced at held.file (record { written = log.written; held = held.held; past = log.past }))
+    fresh_whole path id format held.records synced at n held.file held.stands (completed_fresh id format held.records synced at held.file held.held none) consistent choices whole
+    (now_is_torn id format held.records synced at held.file (record { written = log.written; held = held.held; past = log.past }) none)
+
+-- .. and that of one that is torn after the first of the records that can be read of it
+pub log_torn : (path : Path) (id : FileId) (format : LogFileFormat) (batches : List Batch) (synced at : ℕ) (n : Directory) (log : HasCompletedLog path id format batches synced at n) → HasNoStaleRecord id log.held.file → AreConsistent n → (d : CrashImage) → Leaves n d → IsTornAsRead id log.held.file (d path) →
+    IsDetectable path id n d
+log_torn path id format batches synced at n log none consistent d leaves torn =
+    let held = log.held in
+    let read = reading-now id format held.records synced at held.file (record { written = log.written; held = held.held; past = log.past }) none in
+    records_detectable path id format batches synced at n held none consistent d leaves (torn _ read)

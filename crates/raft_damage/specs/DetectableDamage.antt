@@ -1,11 +1,16 @@
 -- Files and outcomes of which the damage of a crash is detectable.
 use Rattle.std.specs.Prelude.{◌≡◌, ◌⊎◌, ℕ, ◌≤◌, List, ◌++◌, length, take, Option, Some, None, Contains}
+use Rattle.raft_base.specs.declared.pipe_log.LogQueue.{LogQueue}
+use Rattle.raft_config.specs.Folders.{Folders, all_of}
 use Rattle.raft_base.specs.declared.pipe_log.FileId.{FileId}
 use Rattle.raft_files.specs.declared.format.LogFileFormat.{LogFileFormat}
-use Rattle.raft_env.specs.Outcomes.{File, Change, bytes_since_sync, least_len, untouched_len}
-use Rattle.raft_files.specs.Scan.{PlacedRecord, record_place, record_at, readable_records}
-use Rattle.raft_files.specs.Detectable.{IsPrefixOf, format_of, signature_by, AreFresh, AreFromCompletedCalls, IsGivenBy, HasCompressedAt, EndsWithoutCompressed}
-use Rattle.raft_files.specs.Records.{HoldsRecords}
+use Rattle.raft_env.specs.Directory.{CrashImage, Directory, Path, file_at}
+use Rattle.raft_env.specs.Outcomes.{File, Change, bytes_since_sync}
+use Rattle.raft_files.specs.Scan.{PlacedRecord, ScanResult, record_place, record_at, readable_records, scan_file}
+use Rattle.raft_files.specs.Detectable.{IsPrefixOf, format_of, signature_by, IsGivenBy, HasCompressedAt, EndsWithoutCompressed}
+use Rattle.raft_files.specs.Records.{HoldsRecords, IsUntriedAfter}
+use Rattle.raft_pipes.specs.Numbered.{in_queue}
+use Rattle.raft_pipes.specs.QueueFiles.{last_kept}
 
 -- where a record is looked for none can be decoded, nor is one barred by a mark of compression alone
 abbrev pub IsBrokenFrom : FileId → LogFileFormat → ℕ → List ℕ → Type 0
@@ -14,22 +19,27 @@ IsBrokenFrom id format at bytes =
     (record_at (signature_by id format) bytes place ≡ None)
     × (HasCompressedAt (signature_by id format) bytes place → ⊥)
 
--- a file that holds these records, each of them fresh and brought by no failed call, and held the
--- first of them at its last sync, where none decoded after them
-pub record HoldsFreshRecords (id : FileId) (format : LogFileFormat) (records : List PlacedRecord)
-    (synced at : ℕ)
-    (file : File) : Type 0 where
-  pub holds : HoldsRecords id format records at file.now
-  pub completed : AreFromCompletedCalls id (signature_by id format)
-      (file.changes ++ file.older) records
-  pub fresh : AreFresh (signature_by id format) file.renamed_after (file.changes ++ file.older)
-      records
-  pub end : ℕ
-  pub begins : HoldsRecords id format (take synced records) end file.synced
-  pub broken : IsBrokenFrom id format end file.synced
-  -- no change touched what stands before that, and none left the file shorter
-  pub apart : end ≤ untouched_len file.synced file.changes
-  pub long : end ≤ least_len file.synced file.changes
+-- where nothing was written since a file was renamed no record decodes in these bytes, nor is one
+-- barred by a mark of compression alone
+abbrev pub ShowsNoStale : FileId → Option ℕ → List Change → List ℕ → Type 0
+ShowsNoStale id renamed_after changes bytes = (format : LogFileFormat) (i : ℕ)
+    → format_of bytes ≡ Some format → IsUntriedAfter renamed_after changes i
+    → IsBrokenFrom id format i bytes
+
+-- .. neither in the file's bytes now nor in those of its last sync
+pub record HasNoStaleRecord (id : FileId) (file : File) : Type 0 where
+  pub now : ShowsNoStale id file.renamed_after (file.changes ++ file.older) file.now
+  pub synced : ShowsNoStale id file.renamed_after file.older file.synced
+
+-- .. nor so the last of a queue's log files in the folders
+abbrev pub HasNoStaleRecordOf : LogQueue → Folders → Directory → Type 0
+HasNoStaleRecordOf queue folders n = (f : ℕ × Path) (file : File)
+    → last_kept (all_of folders) queue n ≡ Some f → file_at n f.1 ≡ Some file
+    → HasNoStaleRecord (in_queue queue f.0) file
+
+-- .. of both queues
+abbrev pub HaveNoStaleRecordIn : Folders → Directory → Type 0
+HaveNoStaleRecordIn folders n = (queue : LogQueue) → HasNoStaleRecordOf queue folders n
 
 -- a crash left the first of these records of a file as they stand now, and after them no record
 pub record IsTornAfter (id : FileId) (format : LogFileFormat) (records : List PlacedRecord)
@@ -41,6 +51,17 @@ pub record IsTornAfter (id : FileId) (format : LogFileFormat) (records : List Pl
   pub within : end ≤ length left
   pub same : take end left ≡ take end file.now
   pub broken : IsBrokenFrom id format end left
+
+-- .. of those that can be read of it now
+abbrev pub IsTornAsRead : FileId → File → List ℕ → Type 0
+IsTornAsRead id file left = (r : ScanResult) → scan_file id file.now ≡ Some r
+    → IsTornAfter id r.format r.records file left
+
+-- .. of the last of a queue's log files in the folders
+abbrev pub IsTornAsReadOf : LogQueue → Folders → Directory → CrashImage → Type 0
+IsTornAsReadOf queue folders n d = (f : ℕ × Path) (file : File)
+    → last_kept (all_of folders) queue n ≡ Some f → file_at n f.1 ≡ Some file
+    → IsTornAsRead (in_queue queue f.0) file (d f.1)
 
 -- the change brought no record to the file but the one that it was to write
 abbrev pub AddsOnlyItsRecord : FileId → Option ℕ → Change → Type 0

@@ -130,9 +130,30 @@ static EMPTY_FILE: [Case; 1] = [Case {
     ],
 }];
 
+static BROKEN_FILE: [Case; 1] = [Case {
+    name: "a file before the last one is broken",
+    stored: &[
+        ("data/0000000000000001.raftlog", &[HEADER, PUT_1, b"\x07"]),
+        APPEND_2,
+        REWRITE_1,
+    ],
+    steps: &[
+        Step::Scan,
+        Step::ReadRefused(LogQueue::Append, 2),
+        Step::Read(LogQueue::Rewrite, 1),
+        Step::Cuts(&[]),
+    ],
+    finished: Err(15),
+    files: &[
+        ("data/0000000000000001.raftlog", 98),
+        ("data/0000000000000002.raftlog", 98),
+        ("data/0000000000000001.rewrite", 125),
+    ],
+}];
+
 // A function is checked with all of each table that it names, and that grows with the square of the table.
-fn cases() -> [&'static [Case]; 3] {
-    [&REFUSED, &THREE_FILES, &EMPTY_FILE]
+fn cases() -> [&'static [Case]; 4] {
+    [&REFUSED, &THREE_FILES, &EMPTY_FILE, &BROKEN_FILE]
 }
 
 /// Counts batches.

@@ -17,7 +17,7 @@ use Rattle.raft_files.proofs.DetectableLemmas.{prefix_trans, prefix_append, pref
 use Rattle.raft_env.proofs.DirectoryLemmas.{file_at-placed_same}
 use Rattle.raft_files.proofs.ScanExtentLemmas.{same_some}
 use Rattle.raft_files.proofs.RecordsHeldLemmas.{reading-held, format_of_read}
-use Rattle.raft_files.proofs.RecordsLemmas.{keeps_batches, keeps_weaker}
+use Rattle.raft_files.proofs.RecordsLemmas.{keeps_batches, keeps_weaker, reads_first-within}
 use Rattle.raft_files.proofs.RecordsFreshLemmas.{header_len_within, readable_records-short}
 use Rattle.raft_files.proofs.RecordsNoneLemmas.{moments_synced, none_left, only_moment, none_settled, none_synced, none_appending}
 use Rattle.raft_files.proofs.RecordsTruncationLemmas.{reading-cut, keeps_cut, none_cut}
@@ -116,6 +116,7 @@ keeps_settled id bytes r e = record {
   moments = λ newer upto moment left read. subst (λ rs. IsPrefixOf left rs) (only_moment (λ changes. readable_records id (bytes_after bytes changes) ≡ r.records) (ap (λ q. records_of q) e) newer upto moment) read.prefix;
   few = omega arith;
   covered = subst (λ b. ReadsFirst id r.format (take (length r.records) r.records) b) (sym (take_all (length bytes) bytes (omega arith))) (reads_all id bytes r e);
+  long = reads_first-within id r.format (take (length r.records) r.records) bytes (reads_all id bytes r e);
 }
 
 pub kept_settled : (path : Path) (id : FileId) (bytes : List ℕ) (n : Directory) → file_at n path ≡ Some (synced_file bytes) → RecoversPrefixAt path id (readable_batches id bytes) (length (readable_batches id bytes)) n
@@ -160,6 +161,7 @@ keeps_synced id format records synced file keeps reads = record {
   moments = moments_synced (λ left. IsPrefixOf left records) id (signature_by id format) file keeps.latest keeps.moments;
   few = keeps.few;
   covered = subst (λ b. ReadsFirst id format (take synced records) b) (sym (take_all (length file.now) file.now (omega arith))) reads;
+  long = reads_first-within id format (take synced records) file.now reads;
 }
 
 -- a moment of a sync of the file there

@@ -1,5 +1,5 @@
 -- What keeps the records of a log file through a crash.
-use Rattle.std.proofs.Common.{◌≡◌, ℕ, ◌≤◌, ◌==◌, min, cond, List, [], ◌∷◌, ◌++◌, length, take, Option, Some, None, map, refl, ap, sym, subst, ◌∙◌, inl, inr, arith}
+use Rattle.std.proofs.Common.{◌≡◌, ℕ, ◌≤◌, ◌==◌, min, cond, List, [], ◌∷◌, ◌++◌, length, take, Option, Some, None, map, refl, ap, append_assoc, sym, subst, ◌∙◌, inl, inr, arith}
 use Rattle.std.specs.Prelude.{option_map}
 use Rattle.std.proofs.lemmas.Bool.{cases_Bool}
 use Rattle.std.proofs.lemmas.List.{take-take, take-append-le, length-take, length-take-le, take-map, length-map}
@@ -14,7 +14,7 @@ use Rattle.raft_files.specs.Detectable.{IsPrefixOf, format_of, signature_by, IsD
 use Rattle.raft_files.specs.Records.{AreReadAt, AreReadAfter, ReadsFirst, RecoversRecords, HasNothingFrom, HoldsRecords, FirstOf}
 use Rattle.raft_files.proofs.DetectableLemmas.{prefix_trans, prefix_append, prefix_take, prefix_length, prefix_is}
 use Rattle.raft_files.proofs.ScanLemmas.{records_stay, reading_is, reading-kept, end_of_read_within}
-use Rattle.raft_files.proofs.ScanPlacedLemmas.{end_of_front}
+use Rattle.raft_files.proofs.ScanPlacedLemmas.{end_of_front, end_of_part}
 use Rattle.raft_files.proofs.RecordsHeldLemmas.{format_of-held, left_of_held}
 
 -- The synced records.
@@ -67,13 +67,14 @@ moments_more P id by file c before now (x ∷ newer) upto e = before newer upto 
 
 pub keeps_more : (id : FileId) (format : LogFileFormat) (old all : List PlacedRecord) (synced : ℕ) (file : File) (c : Change) → RecoversRecords id format old synced file → IsPrefixOf old all →
     format_of c.after ≡ Some format → ((left : List PlacedRecord) → AreReadAt id (signature_by id format) c.after file.renamed_after (c ∷ file.changes ++ file.older) left → IsPrefixOf left all) →
-    end_of_records (header_len format.version) (take synced old) ≤ c.from → RecoversRecords id format all synced (changed_by c file)
-keeps_more id format old all synced file c keeps more header moment behind = record {
+    end_of_records (header_len format.version) (take synced old) ≤ c.from → end_of_records (header_len format.version) (take synced old) ≤ c.shortest → RecoversRecords id format all synced (changed_by c file)
+keeps_more id format old all synced file c keeps more header moment behind short = record {
   latest = refl;
   header = headers;
   moments = moments_more (λ left. IsPrefixOf left all) id (signature_by id format) file c (λ newer upto e left read. prefix_trans left old all (keeps.moments newer upto e left read) more) moment;
   few = omega (arith, keeps.few, prefix_length old all more);
   covered = subst (λ records. ReadsFirst id format records (take (untouched_len file.synced (c ∷ file.changes)) file.synced)) same (covered_more id format (take synced old) file.synced c file.changes keeps.covered behind);
+  long = omega (arith, keeps.long, short, ap (λ rs. end_of_records (header_len format.version) rs) same);
 }
   where
     headers : (newer upto : List Change) → c ∷ file.changes ≡ newer ++ upto → format_of (bytes_after file.synced upto) ≡ Some format
@@ -85,10 +86,10 @@ keeps_more id format old all synced file c keeps more header moment behind = rec
 
 pub keeps_held : (id : FileId) (format : LogFileFormat) (old new all : List PlacedRecord) (synced at : ℕ) (file : File) (c : Change) → RecoversRecords id format old synced file → IsPrefixOf old all →
     HoldsRecords id format new at c.after → HasNothingFrom id at c.after file.renamed_after (c ∷ file.changes ++ file.older) → IsPrefixOf new all →
-    end_of_records (header_len format.version) (take synced old) ≤ c.from → RecoversRecords id format all synced (changed_by c file)
-keeps_held id format old new all synced at file c keeps more holds nothing first behind =
+    end_of_records (header_len format.version) (take synced old) ≤ c.from → end_of_records (header_len format.version) (take synced old) ≤ c.shortest → RecoversRecords id format all synced (changed_by c file)
+keeps_held id format old new all synced at file c keeps more holds nothing first behind short =
     keeps_more id format old all synced file c keeps more (format_of-held id format new at c.after holds)
-    (λ left read. prefix_trans left new all (left_of_held id format (signature_by id format) new at c.after file.renamed_after (c ∷ file.changes ++ file.older) holds nothing left read) first) behind
+    (λ left read. prefix_trans left new all (left_of_held id format (signature_by id format) new at c.after file.renamed_after (c ∷ file.changes ++ file.older) holds nothing left read) first) behind short
 
 -- the synced records end before the place of the writer
 pub synced_within : (id : FileId) (format : LogFileFormat) (records : List PlacedRecord) (synced at : ℕ) (bytes : List ℕ) → HoldsRecords id format records at bytes → end_of_records (header_len format.version) (take synced records) ≤ at
@@ -112,8 +113,24 @@ keeps_weaker id format records all synced fewer file keeps more less = record {
     first = prefix_trans (take fewer all) (take synced records) keeps.covered.all
         (subst (λ rs. IsPrefixOf rs (take synced records)) same (prefix_take fewer (take synced records))) keeps.covered.first;
   };
+  long = omega (arith, keeps.long, shorter, ap (λ rs. end_of_records (header_len format.version) rs) same);
 }
   where
+    -- the first of the synced ones end where they do or before
+    shorter : end_of_records (header_len format.version) (take fewer (take synced records)) ≤ end_of_records (header_len format.version) (take synced records)
+    shorter =
+        let untouched = take (untouched_len file.synced file.changes) file.synced in
+        let front = take fewer (take synced records) in
+        let part = prefix_take fewer (take synced records) in
+        let later = keeps.covered.first in
+        let is = reading_is id untouched (record { format = format; records = keeps.covered.all; end = keeps.covered.end }) keeps.covered.read in
+        omega (
+          arith,
+          end_of_part (records_stay id format untouched) (length untouched) (header_len format.version) front part.0 later.0
+              (sym is.records ∙ later.1 ∙ ap (λ rs. rs ++ later.0) part.1 ∙ append_assoc front part.0 later.0),
+          ap (λ rs. end_of_records (header_len format.version) rs) part.1,
+        )
+
     same : take fewer (take synced records) ≡ take fewer all
     same = take-take fewer synced records less ∙ sym (ap (λ rs. take fewer rs) more.1 ∙ take-append-le fewer records more.0 (omega (arith, keeps.few)))
 

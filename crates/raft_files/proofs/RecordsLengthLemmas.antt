@@ -51,7 +51,7 @@ written_to_changed id format records synced at file c written behind =
     let within = synced_within id format records synced at file.now written.holds in
     let itself = prefix_itself records in
     let nothing = has_nothing_after id at at c file.renamed_after past (subst (λ b. HasNothingFrom id at b file.renamed_after past) (sym behind.was) written.nothing) (omega arith) (ungiven at c behind.given) behind.empty in
-    record { keeps = keeps_held id format records records records synced at file c written.keeps itself holds nothing itself (omega (arith, within, behind.from)); holds = holds; empty = behind.empty; nothing = nothing }
+    record { keeps = keeps_held id format records records records synced at file c written.keeps itself holds nothing itself (omega (arith, within, behind.from)) (omega (arith, within, behind.shortest)); holds = holds; empty = behind.empty; nothing = nothing }
 
 pub torn_changed : (id : FileId) (format : LogFileFormat) (records in_flight : List PlacedRecord) (synced at : ℕ) (file : File) (c : Change) → IsTornFrom id format records in_flight synced at file →
     IsBehind at file.now c file.renamed_after (file.changes ++ file.older) → IsTornFrom id format records in_flight synced at (changed_by c file)
@@ -63,7 +63,7 @@ torn_changed id format records in_flight synced at file c torn behind =
     record {
       keeps = keeps_more id format all all synced file c torn.keeps (prefix_itself all) (format_of-held id format records at c.after holds)
           (left_of_torn id format (signature_by id format) records in_flight at c.after file.renamed_after (c ∷ past) holds torn.few_in_flight only)
-          (omega (arith, within, behind.from, ap (λ rs. end_of_records (header_len format.version) rs) front));
+          (omega (arith, within, behind.from, ap (λ rs. end_of_records (header_len format.version) rs) front)) (omega (arith, within, behind.shortest, ap (λ rs. end_of_records (header_len format.version) rs) front));
       few = torn.few;
       holds = holds;
       few_in_flight = torn.few_in_flight;

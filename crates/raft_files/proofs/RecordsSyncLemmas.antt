@@ -9,6 +9,7 @@ use Rattle.raft_env.specs.Outcomes.{File, Change, bytes_after, synced_of}
 use Rattle.raft_files.specs.Scan.{PlacedRecord, end_of_records, ScanResult, records_after, scan_file, records_of, readable_records, ends_with, is_read_to_end}
 use Rattle.raft_files.specs.Detectable.{IsPrefixOf, format_of, signature_by}
 use Rattle.raft_files.specs.Records.{AreReadAfter, ReadsFirst, IsEmptyFrom, HasNothingFrom, HoldsRecords, IsWrittenTo, IsTornFrom}
+use Rattle.raft_files.proofs.RecordsLemmas.{reads_first-within}
 use Rattle.raft_files.proofs.HeaderLemmas.{length-header_bytes}
 use Rattle.raft_files.proofs.ScanExtentLemmas.{same_some}
 use Rattle.raft_files.proofs.ScanLemmas.{reading-header_bytes}
@@ -37,6 +38,7 @@ written_to_still id format records at bytes older renamed holds empty nothing =
         moments = moments;
         few = omega arith;
         covered = subst (λ b. ReadsFirst id format (take (length records) records) b) (sym whole) first;
+        long = reads_first-within id format (take (length records) records) bytes first;
       };
       holds = holds;
       empty = empty;

@@ -102,7 +102,7 @@ keeps_after id format records synced file c keeps reads behind =
     let moment : (left : List PlacedRecord) → AreReadAt id (signature_by id format) c.after file.renamed_after (c ∷ file.changes ++ file.older) left → IsPrefixOf left records = λ left read.
     let old = left_before id (signature_by id format) file.now c file.renamed_after (file.changes ++ file.older) r reads.read behind left read in
     keeps.moments [] file.changes refl left (read_of_bytes keeps.latest old) in (
-      keeps_more id format records records synced file c keeps (prefix_itself records) (format_of-held id format reads.all reads.end c.after holds) moment (omega (arith, before, behind.from)),
+      keeps_more id format records records synced file c keeps (prefix_itself records) (format_of-held id format reads.all reads.end c.after holds) moment (omega (arith, before, behind.from)) (omega (arith, before, behind.shortest)),
       reads_first-kept id format front reads.end file.now c.after reads behind.same before,
     )
 

@@ -94,9 +94,10 @@ written_to_refused id format records synced at file given batch after written_to
     let past = file.changes ++ file.older in
     let empty = empty_written at file.now after c file.renamed_after past written_to.empty refl (kept_part at (length given) file.now after part) (refused_gives_none (at + length given) c refl (omega (arith, record_long (signature_by id format) given batch (length given) is))) in
     let only = only_given id (signature_by id format) c file.renamed_after past batch written_to.nothing refl refl is empty in
+    let within = synced_within id format records synced at file.now written_to.holds in
     record {
       keeps = keeps_more id format records (records ++ one) synced file c written_to.keeps (prefix_append records one) (format_of-held id format records at after holds)
-          (left_of_torn id format (signature_by id format) records one at after file.renamed_after (c ∷ past) holds (omega arith) only) (synced_within id format records synced at file.now written_to.holds);
+          (left_of_torn id format (signature_by id format) records one at after file.renamed_after (c ∷ past) holds (omega arith) only) within (omega (arith, within, still));
       few = written_to.keeps.few;
       holds = holds;
       few_in_flight = omega arith;
@@ -136,8 +137,9 @@ written_to_written id format records synced at file given batch written_to is =
     let none : GivesNoneFrom end c = gives_none_before end c (omega arith) in
     let empty = empty_written at file.now after c file.renamed_after past written_to.empty refl kept none in
     let nothing = has_nothing_after id at end c file.renamed_after past written_to.nothing (omega arith) none empty in
+    let within = synced_within id format records synced at file.now written_to.holds in
     record {
-      keeps = keeps_held id format records all all synced end file c written_to.keeps (prefix_append records (one ∷ [])) holds nothing (prefix_itself all) (synced_within id format records synced at file.now written_to.holds);
+      keeps = keeps_held id format records all all synced end file c written_to.keeps (prefix_append records (one ∷ [])) holds nothing (prefix_itself all) within (omega (arith, within, len));
       holds = holds;
       empty = empty;
       nothing = nothing;

@@ -62,9 +62,12 @@ module _ {end : ℕ} {next : ℕ → Option PlacedRecord} (h : StaysBefore end n
       omega (arith, h.found at x first.is, placed_by-further first.limit (x.at + x.len) xs ys (sym first.others))
 
   -- .. before all do
+  pub end_of_part : (n at : ℕ) (xs ys zs : List PlacedRecord) → placed_by n next at ≡ xs ++ (ys ++ zs) → end_of_records at xs ≤ end_of_records at (xs ++ ys)
+  end_of_part n at [] ys zs e = placed_by-further n at ys zs e
+  end_of_part n at (x ∷ xs) ys zs e = let first = first_placed next n at x (xs ++ (ys ++ zs)) e in end_of_part first.limit (x.at + x.len) xs ys zs (sym first.others)
+
   pub end_of_front : (n at : ℕ) (xs ys : List PlacedRecord) → placed_by n next at ≡ xs ++ ys → end_of_records at xs ≤ end_of_records at (xs ++ ys)
-  end_of_front n at [] ys e = placed_by-further n at ys [] (e ∙ sym (append-nil ys))
-  end_of_front n at (x ∷ xs) ys e = let first = first_placed next n at x (xs ++ ys) e in end_of_front first.limit (x.at + x.len) xs ys (sym first.others)
+  end_of_front n at xs ys e = end_of_part n at xs ys [] (e ∙ ap (λ l. xs ++ l) (sym (append-nil ys)))
 
   -- .. and not after the end
   pub end_of_placed-within : (n at : ℕ) (rs : List PlacedRecord) → placed_by n next at ≡ rs → at ≤ end → end_of_records at rs ≤ end

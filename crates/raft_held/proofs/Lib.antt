@@ -1,4 +1,5 @@
 pub mod ContentsLemmas
+pub mod FirstLemmas
 pub mod StepsLemmas
 pub mod PurgeStepsLemmas
 pub mod DropOldLemmas

@@ -32,7 +32,7 @@ use Rattle.raft_log_engine.specs.declared.engine.Refused.{Refused}
 use Rattle.raft_records.specs.Contents.{Contents, after_batches}
 use Rattle.raft_records.specs.Item.{Batch}
 use Rattle.raft_script.proofs.TrialLemmas.{same_folders}
-use Rattle.raft_script.specs.Run.{IsStorageOrMemory}
+use Rattle.raft_script.specs.Failure.{IsStorageOrMemory}
 use Rattle.raft_lines.specs.Line.{Asked, asked_of, is_asked}
 use Rattle.raft_lines.specs.Program.{AnswersBy, AnswersFrom, AnswersLine, HoldsAfterCrash, IsCrashFault, IsMetBy, IsNewWith, IsOpeningFault, IsReopenFault, IsReopened, OpensTo, is_fatal}
 use Rattle.raft_lines.specs.Settings.{SetsOwn, were_read}

@@ -23,7 +23,9 @@ use Rattle.raft_script.specs.Entry.{range_of}
 use Rattle.raft_lines.specs.Line.{Asked, Nothing, Range, Reopen, Scan, Span, Crash, asked_by_op}
 use Rattle.raft_script.specs.Durability.{Does, IsAnswerOf}
 use Rattle.raft_script.specs.Purges.{HasPurgedAs}
-use Rattle.raft_script.specs.Run.{IsFailing, IsStorageOrMemory, IsUnasked, Refuses, accepted_of}
+use Rattle.raft_script.specs.Batches.{accepted_of}
+use Rattle.raft_script.specs.Failure.{IsFailing, IsStorageOrMemory, Refuses}
+use Rattle.raft_script.specs.Run.{IsUnasked}
 use Rattle.raft_lines.specs.Settings.{AreMet, IsSetRefusal}
 use Rattle.raft_lines.specs.declared.settings.Settings.{Settings}
 use Rattle.raft_lines.specs.declared.answer.Answer.{Answer}
@@ -41,7 +43,7 @@ module _ {F H R W : Type 0} {g : Ghosts F H R W} where
   pub record IsAnswered (asked : Asked) (outcome : Outcome) (old new : Engine F H R W g) : Type 0 where
     pub op : Op
     pub does : asked_by_op op ≡ Some asked
-    pub answer : IsAnswerOf op outcome old
+    pub answer : IsAnswerOf op outcome old new
     pub fails : IsFailing (has_failed old) op outcome (has_failed new)
     pub unchanged : IsUnasked op → new ≡ old
     pub refused : Refuses outcome (refusals_of old) (refusals_of new)

@@ -8,7 +8,7 @@ ghost use Rattle.raft_held.specs.Contents.{contents_at, known_at};
 ghost use Rattle.raft_config.specs.Config.{IsCopy};
 ghost use Rattle.raft_config.specs.Folders.{folders_in};
 ghost use Rattle.raft_script.specs.Entry.{range_of};
-ghost use Rattle.raft_script.specs.Run.{IsStorageOrMemory};
+ghost use Rattle.raft_script.specs.Failure.{IsStorageOrMemory};
 ghost use Rattle.raft_lines.specs.Line.{EndsOn, GoesOnOrEnds, IsNextLine, IsReading, IsServed, asked_in, asked_of, asked_of_call, asked_of_look, asks, is_asked, is_bad};
 ghost use Rattle.raft_lines.specs.Program.{AnswersBy, AnswersFrom, AnswersLine, AnswersLook, HoldsAfterCrash, IsAnswered, IsCrashFault, IsMetBy, IsNewWith, IsOpeningFault, IsReopenFault, IsReopened, OpensTo, is_fatal};
 ghost use Rattle.raft_lines.specs.Settings.{were_read};

@@ -5,7 +5,7 @@ use Rattle.std.specs.Option.{option_map_or}
 use Rattle.raft_base.specs.declared.pipe_log.LogQueue.{LogQueue}
 use Rattle.raft_base.specs.declared.pipe_log.LogQueue.TheVariants.{Append, Rewrite}
 use Rattle.raft_listeners.specs.Heard.{HasHeard, Heard, least_of, new_files, room_taken}
-use Rattle.raft_listeners.specs.Told.{found_in, is_of_rewrite, is_rewrite}
+use Rattle.raft_listeners.specs.Told.{appended_lens, found_in, is_of_rewrite, is_rewrite}
 use Rattle.raft_listeners.specs.Waiting.{is_append, room_for}
 use Rattle.raft_listeners.specs.declared.listener.Event.{Event}
 use Rattle.raft_listeners.specs.declared.listener.Event.TheVariants as event
@@ -81,3 +81,10 @@ told_more heard (l ∷ earlier) event told a b some first more = heard_then told
 
 pub rewrite_more : (event : Event) (told : List Event) → is_of_rewrite event ≡ true → list_all is_of_rewrite told ≡ true → list_all is_of_rewrite (event ∷ told) ≡ true
 rewrite_more event told is all = ap (λ (b : Bool). b && list_all is_of_rewrite told) is ∙ all
+
+-- .. which is no record
+pub lens_still : (event : Event) (told : List Event) → appended_lens (event ∷ []) ≡ [] → appended_lens (event ∷ told) ≡ appended_lens told
+lens_still (event.NewLogFile id) told none = refl
+lens_still (event.Append block) told none = absurd (let clash : block.len ∷ [] ≡ [] = none in cc)
+lens_still (event.Apply id) told none = refl
+lens_still (event.Purge id) told none = refl

@@ -1,11 +1,13 @@
 -- What whoever listens is told of a purge.
-use Rattle.std.specs.Prelude.{◌≡◌, ◌-◌, ℕ, suc, Bool, true, false, List, [], ◌∷◌, ◌++◌}
+use Rattle.std.specs.Prelude.{◌≡◌, ◌-◌, ℕ, suc, Bool, true, false, List, [], ◌∷◌, ◌++◌, None, length, map}
 use Rattle.raft_base.specs.declared.pipe_log.FileId.{FileId}
 use Rattle.raft_base.specs.declared.pipe_log.LogQueue.{LogQueue}
 use Rattle.raft_base.specs.declared.pipe_log.LogQueue.TheVariants.{Append, Rewrite}
 use Rattle.raft_listeners.specs.Heard.{Heard, new_files}
 use Rattle.raft_listeners.specs.declared.listener.Event.{Event}
 use Rattle.raft_listeners.specs.declared.listener.Event.TheVariants as event
+use Rattle.raft_records.specs.Batch.{BatchView}
+use Rattle.raft_records.specs.Record.{record_bytes}
 
 abbrev pub is_rewrite : LogQueue → Bool
 is_rewrite Append = false
@@ -35,3 +37,15 @@ with_applied (seq ∷ later) told = with_applied later (event.Apply (rewrite_fil
 -- the files of the Rewrite queue behind one number, up to another
 abbrev pub new_from : ℕ → ℕ → List Event
 new_from before last = new_files Rewrite (suc before) (last - before)
+
+-- the lengths of the records that were appended
+abbrev pub appended_lens : List Event → List ℕ
+appended_lens [] = []
+appended_lens (event.NewLogFile id ∷ told) = appended_lens told
+appended_lens (event.Append block ∷ told) = block.len ∷ appended_lens told
+appended_lens (event.Apply id ∷ told) = appended_lens told
+appended_lens (event.Purge id ∷ told) = appended_lens told
+
+-- the lengths of the records of batches
+abbrev pub record_lens : List BatchView → List ℕ
+record_lens batches = map (λ batch. length (record_bytes None batch.items)) batches

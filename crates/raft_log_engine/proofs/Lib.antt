@@ -6,6 +6,7 @@ pub mod ValidityLemmas
 pub mod CrashLemmas
 pub mod EngineLemmas
 pub mod BothLemmas
+pub mod ProgressLemmas
 pub mod DurabilityLemmas
 pub mod AdvanceLemmas
 pub mod GroupLemmas

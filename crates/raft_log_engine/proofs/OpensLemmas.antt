@@ -13,11 +13,12 @@ use Rattle.raft_env.specs.Directory.{Directory}
 use Rattle.raft_env.specs.Moments.{HoldsThroughout}
 use Rattle.raft_env.specs.declared.env.FileSystem.{Ghosts}
 use Rattle.raft_held.specs.Crash.{StillRecovers}
-use Rattle.raft_held.specs.Queues.{IsOpeningRefusal}
+use Rattle.raft_held.specs.Queues.{IsOpeningRefusal, LeavesReadableIn}
 use Rattle.raft_pipes.proofs.OpenLemmas.{left_alone}
 use Rattle.raft_pipes.specs.Folder.{LeavesAllButOpened}
 use Rattle.raft_pipes.specs.Queue.{IsUntouched}
 use Rattle.raft_queues.specs.Builder.{CanBeOpenedIn}
+use Rattle.raft_queues.proofs.SameFilesLemmas.{readable_same}
 use Rattle.raft_log_engine.specs.Engine.{directory_of, moments_of}
 use Rattle.raft_log_engine.specs.Opening.{AnswersOpening, Opens, OpensWith}
 use Rattle.raft_log_engine.specs.declared.engine.Engine.{Engine}
@@ -49,6 +50,7 @@ module _ {F H R W : Type 0} {g : Ghosts F H R W} where
       durable = tt;
       now = tt;
       any_moment = passes_none _ _ _ (g.directory found) refl (λ m batches kept. kept);
+      readable = passes_none _ _ _ (g.directory found) refl (λ queue. readable_same (folders_in (sanitized config)) queue (g.directory found) (g.directory found) (λ k path fits is. refl));
       unchanged = left_alone (g.directory found) (g.directory found) why (λ path. refl);
       others = λ q none reserved. refl;
     };
@@ -69,6 +71,8 @@ module _ {F H R W : Type 0} {g : Ghosts F H R W} where
       now = tt;
       any_moment = subst (λ (n : Directory). HoldsThroughout (g.moments found) (g.moments files) n (StillRecovers (folders_in config) (g.directory found))) (sym now)
           (subst (λ (ms : List Directory). HoldsThroughout (g.moments found) ms (directory_of e) (StillRecovers (folders_in config) (g.directory found))) (sym moments) opens.opened.any_moment);
+      readable = subst (λ (n : Directory). HoldsThroughout (g.moments found) (g.moments files) n (LeavesReadableIn (folders_in config) (g.directory found))) (sym now)
+          (subst (λ (ms : List Directory). HoldsThroughout (g.moments found) ms (directory_of e) (LeavesReadableIn (folders_in config) (g.directory found))) (sym moments) opens.opened.readable);
       unchanged = subst (λ (f : Fault). IsUntouched (g.directory found) (g.directory files) f) (sym is) tt;
       others = subst (λ (n : Directory). LeavesAllButOpened (folders_in config) (g.directory found) n) (sym now) opens.opened.others;
     };

@@ -9,6 +9,7 @@ ghost use Rattle.raft_files.specs.Records.{as_it_is};
 ghost use Rattle.raft_held.specs.Contents.{contents_at, known_at};
 ghost use Rattle.raft_log_engine.specs.Opening.{FoundCompletedRecords};
 ghost use Rattle.raft_log_engine.specs.Engine.{contents_of, directory_of, durable_of, folders_of, has_failed, moments_of, queue_of, settings_of, unsynced_of};
+ghost use Rattle.raft_damage.specs.DetectableDamage.{HaveNoStaleRecordIn};
 ghost use Rattle.raft_env.specs.Consistent.{AreConsistent};
 ghost use Rattle.raft_memory.specs.Choice.{AreWhole, left_by};
 ghost use Rattle.raft_memory.specs.declared.crash.Choice.{Choice};
@@ -22,8 +23,8 @@ use crate::Engine;
 use raft_env::FileSystem;
 
 /// Folders that keep contents through a crash leave them then, possibly with a prefix of the
-/// batches after them, where damage is detectable. A restart after a crash finds what the crash
-/// left. Where that is sound, it keeps it, its log can be opened in each mode but the absolute one,
+/// batches after them: such contents are read first whatever the damage, and alone where that is
+/// detectable. A restart after a crash finds what the crash left. Where that is sound, it keeps it, its log can be opened in each mode but the absolute one,
 /// and no folder's place is taken (`AreClear`), nor does a kept number stand in both folders
 /// (`AreSingleIn`). Where no log stands, nothing is read and nothing is kept. Files that no crash
 /// met, as an engine gave them up, stand for what a crash could leave, and their log can be opened,
@@ -79,8 +80,8 @@ pub fn an_engine_recovers_what_it_keeps<F: FileSystem>(engine: &Engine<F>)
 pub fn the_damage_of_an_engine_is_detectable<F: FileSystem>(engine: &Engine<F>)
     ensures crash { let folders = folders_of engine.now in let n = directory_of engine.now in
         has_failed engine.now ≡ false → FoundCompletedRecords engine.now
-        → HaveSimplePastIn folders n → AreConsistent n → (choices : List Choice) → AreWhole choices
-        → ∥ AreDetectableIn folders n (left_by choices n) ∥₁ }
+        → HaveSimplePastIn folders n → HaveNoStaleRecordIn folders n → AreConsistent n
+        → (choices : List Choice) → AreWhole choices → ∥ AreDetectableIn folders n (left_by choices n) ∥₁ }
 {
     raft_damage::laws::damage_of_a_queue_is_detectable();
 }

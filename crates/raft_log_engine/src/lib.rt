@@ -8,6 +8,9 @@ pub mod laws;
 pub use engine::{Engine, FileSpans, GroupImage, Image, Refused};
 pub use raft_config::{Config, RecoveryMode};
 pub use raft_env::{FileSystem, FsFault, Permission};
+pub use raft_listeners::{
+    Event, EventListener, EventSink, FileKeeper, Listeners, NoListeners, PurgeHook,
+};
 pub use raft_memory::{Choice, FsCall, MemoryFileSystem};
 pub use raft_records::{
     Command, Fault, FileSeq, Fresh, IoKind, LogBatch, LogQueue, Message, MessageExt, ReadableSize,

@@ -31,7 +31,7 @@ pub fn check_parts<S: PartSource>(
 {
     let mut check = read_parts(alloc, file, size, source)?;
     check.zeros = has_zeros(alloc, file.path.as_str(), check.end, size, source)?;
-    check.stale = check.may_be_stale() && is_stale(alloc, file.id, check.end, source)?;
+    check.stale = is_stale(alloc, &check, source)?;
     Ok(check)
 }
 
@@ -192,19 +192,18 @@ fn are_zeros(bytes: &[u8]) -> bool
     bytes.iter().all(|byte| *byte == 0)
 }
 
-// Whether the first record in the file from a place on is signed for an earlier one.
-fn is_stale<S: PartSource>(
-    alloc: Global,
-    id: FileId,
-    from: usize,
-    source: &mut S,
-) -> Result<bool, Fault>
+// Whether the first record behind those that can be read is signed for an earlier file.
+fn is_stale<S: PartSource>(alloc: Global, check: &FileCheck, source: &mut S) -> Result<bool, Fault>
     ensures value { IfOk result (λ stale. (bytes : List ℕ) → AreOf bytes (S.given source.new)
-        → stale ≡ true → HasStaleRecord id (take stale_len (drop from bytes))) }
+        → stale ≡ true
+        → HasStaleRecord check.now.id (take stale_len (drop check.now.end bytes))) }
     ensures given { IfOk result (λ _. (bytes : List ℕ) → AreOf bytes (S.given source.new)
         → AreOf bytes (S.given source.old)) }
     ensures refused { IfErr result IsReadRefusal }
 {
-    let part = source.read_part(from, STALE_LEN)?;
-    begins_stale(alloc, id, &part.bytes)
+    if !check.may_be_stale() {
+        return Ok(false);
+    }
+    let part = source.read_part(check.end, STALE_LEN)?;
+    begins_stale(alloc, check.id, &part.bytes)
 }

@@ -13,6 +13,7 @@ use Rattle.raft_premise.proofs.CompletedOpeningLemmas.{keeps_completed_created, 
 use Rattle.raft_pipes.specs.Numbered.{has_file}
 use Rattle.raft_pipes.specs.Open.{KeepsLog}
 use Rattle.raft_pipes.proofs.PlacesLemmas.{changed_stands}
+use Rattle.raft_pipes.proofs.ReadableLemmas.{readable_unchanged, readable_created, readable_opening, readable_syncing, readable_then, readable_truncating}
 use Rattle.raft_pipes.proofs.SealedFileLemmas.{sealed_created, sealed_opening, sealed_syncing, sealed_truncating}
 
 -- A file that stood still stands.
@@ -34,6 +35,7 @@ module _ (path : Path) (id : FileId) where
   keeps_then a b n first second = record {
     stands = λ stood. second.stands (first.stands stood);
     recovers = λ batches synced kept. second.recovers batches synced (first.recovers batches synced kept);
+    readable = readable_then path id a b n first.readable second.readable;
     sealed = λ batches kept. second.sealed batches (first.sealed batches kept);
     completed = λ past. let later = second.completed past in let earlier = first.completed later.0 in (earlier.0, λ completed. later.1 (earlier.1 completed));
   }
@@ -42,6 +44,7 @@ module _ (path : Path) (id : FileId) where
   keeps_beside a n same = record {
     stands = λ stood. ap is_some same ∙ stood;
     recovers = λ batches synced. kept_beside path id batches synced a n same;
+    readable = readable_unchanged path id a n same;
     sealed = λ batches kept. sealed_beside path id batches a kept n same;
     completed = keeps_completed_same path id a n same;
   }
@@ -50,6 +53,7 @@ module _ (path : Path) (id : FileId) where
   keeps_created a n made = record {
     stands = stands_created path a n made;
     recovers = λ batches synced. kept_created path id batches synced a n made;
+    readable = readable_created path id a n made;
     sealed = λ batches kept. sealed_created path id batches a n kept made;
     completed = keeps_completed_created path id a n made;
   }
@@ -58,6 +62,7 @@ module _ (path : Path) (id : FileId) where
   keeps_syncing a n change = record {
     stands = λ stood. changed_stands path IsSyncing a n change ∙ stood;
     recovers = λ batches synced. kept_syncing path id batches synced a n change;
+    readable = readable_syncing path id a n change;
     sealed = λ batches kept. sealed_syncing path id batches a n kept change;
     completed = keeps_completed_syncing path id a n change;
   }
@@ -66,6 +71,7 @@ module _ (path : Path) (id : FileId) where
   keeps_truncating a n size end change = record {
     stands = stands_truncating path size a n change;
     recovers = λ batches synced. kept_truncating path id batches synced a n size end change;
+    readable = readable_truncating path id a n size end change;
     sealed = λ batches kept. sealed_truncating path id batches a n kept size end change;
     completed = keeps_completed_truncating path id a n size end change;
   }
@@ -74,6 +80,7 @@ module _ (path : Path) (id : FileId) where
   keeps_opening a n format empty change = record {
     stands = stands_opening path format a n change;
     recovers = λ batches synced. kept_opening path id batches synced a n format empty change;
+    readable = readable_opening path id a n empty;
     sealed = λ batches kept. sealed_opening path id batches a n kept format empty change;
     completed = keeps_completed_opening path id format a n empty change;
   }

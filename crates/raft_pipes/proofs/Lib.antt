@@ -7,6 +7,7 @@ pub mod ByFileOpeningLemmas
 pub mod ByFileRotationLemmas
 pub mod CloseLemmas
 pub mod CompletedLemmas
+pub mod DurableEndLemmas
 pub mod DroppedLemmas
 pub mod FileCallsLemmas
 pub mod FileListLemmas
@@ -45,6 +46,7 @@ pub mod QueueFilesLemmas
 pub mod QueueLemmas
 pub mod QueueRotationLemmas
 pub mod ReadFilesLemmas
+pub mod ReadableLemmas
 pub mod RefusalLemmas
 pub mod ReserveLemmas
 pub mod ReserveNamesLemmas

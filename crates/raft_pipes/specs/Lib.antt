@@ -2,6 +2,7 @@ pub mod Blocks
 pub mod ByFile
 pub mod Completed
 pub mod Counts
+pub mod DurableEnd
 pub mod FileList
 pub mod Files
 pub mod Folder

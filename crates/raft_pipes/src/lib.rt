@@ -13,6 +13,7 @@ mod replay;
 pub mod rotation;
 mod spare;
 pub mod spare_laws;
+pub mod still_laws;
 
 pub use files::read_files;
 pub use log_folders::LogFolders;

@@ -1,3 +1,4 @@
 pub mod CompletedLemmas
 pub mod CompletedOpeningLemmas
 pub mod CompletedZerosLemmas
+pub mod CompletedFreshLemmas

@@ -8,39 +8,39 @@ ghost use Rattle.raft_env.specs.Directory.{Directory, IsRestarted, CrashImage, P
 ghost use Rattle.raft_files.specs.Header.{HasHeader, header_bytes, header_len};
 ghost use Rattle.raft_files.specs.Scan.{PlacedRecord, ScanResult, readable_batches, scan_file};
 ghost use Rattle.raft_files.specs.Records.{HasLog};
-ghost use Rattle.raft_premise.specs.Completed.{AreFromCompletedCallsAt, HasCompletedLog, HasCompletedRecords, HasSimplePastAt};
+ghost use Rattle.raft_premise.specs.Completed.{AreCompletedRecordsAt, HasCompletedLog, HasCompletedRecords, HasSimplePastAt, IsRenamedWithinAt};
 ghost use Rattle.raft_files.specs.Writer.{HasChanged, IsAppended, IsAppending, IsClosed, IsCut, IsCutting, IsSynced, bytes_at};
 ghost use Rattle.raft_files.specs.declared.format.LogFileFormat.{LogFileFormat};
 
-/// A record that can be read and that no failed call brought stays so in every further call. So
-/// calls keep a log whose records no failed call brought and whose file was never renamed, where only
-/// writes fail: when it is made (`made`), found and cut where its reading ends (`found`),
-/// appended to, synced and closed, and when a failed append is taken back (`undone`). The records
-/// stay so at each moment of an append (`appending`) and of a cut (`cutting`). No failed call
-/// brought what a crash left (`restarted`), nor what a cut leaves of that (`cut`).
+/// A record that can be read, that no failed call brought and that isn't stale stays so in every
+/// further call. So calls keep a log of such records, where only writes fail: when it is begun, in a
+/// new file or in a renamed one (`begun`), found and cut where its reading ends (`found`), appended
+/// to, synced and closed, and when a failed append is taken back (`undone`). The records stay so at
+/// each moment of an append (`appending`) and of a cut (`cutting`). What a crash left is so
+/// (`restarted`), and what a cut leaves of such records (`cut`).
 pub fn failed_calls_add_no_record()
     ensures log { (path : Path) (id : FileId) (format : LogFileFormat) (batches : List Batch)
         (synced at : ℕ) (n : Directory) → HasCompletedLog path id format batches synced at n
         → HasLog path id format batches synced at n }
-    ensures made { (path : Path) (id : FileId) (format : LogFileFormat) (old new : Directory)
-        → HasHeader format → format.alignment < 2 ^ 64 → bytes_at path old ≡ header_bytes format
-        → HasSimplePastAt path old → HasChanged path IsSynced old new
-        → HasCompletedLog path id format [] 0 (header_len format.version) new }
+    ensures begun { (path : Path) (id : FileId) (format : LogFileFormat) (at : ℕ)
+        (old new : Directory) → HasLog path id format [] 0 at new
+        → IsRenamedWithinAt path old → HasSimplePastAt path old → HasChanged path IsSynced old new
+        → HasCompletedLog path id format [] 0 at new }
     ensures restarted { (path : Path) (id : FileId) (format : LogFileFormat)
         (records : List PlacedRecord)
         (n m : Directory) (d : CrashImage) → IsRestarted n d m
-        → AreFromCompletedCallsAt path id format records m
+        → AreCompletedRecordsAt path id format records m
         × HasSimplePastAt path m }
     ensures cut { (path : Path) (id : FileId) (r : ScanResult) (size : ℕ) (old cut : Directory)
         → scan_file id (bytes_at path old) ≡ Some r
-        → AreFromCompletedCallsAt path id r.format r.records old
+        → AreCompletedRecordsAt path id r.format r.records old
         → HasSimplePastAt path old → HasChanged path (IsCut size) old cut
-        → AreFromCompletedCallsAt path id r.format r.records cut × HasSimplePastAt path cut }
+        → AreCompletedRecordsAt path id r.format r.records cut × HasSimplePastAt path cut }
     ensures found { (path : Path) (id : FileId) (r : ScanResult) (old cut new : Directory)
         → let found = readable_batches id (bytes_at path old) in
         scan_file id (bytes_at path old) ≡ Some r → bytes_at path cut
         ≡ take r.end (bytes_at path old)
-        → AreFromCompletedCallsAt path id r.format r.records cut → HasSimplePastAt path cut
+        → AreCompletedRecordsAt path id r.format r.records cut → HasSimplePastAt path cut
         → HasChanged path IsSynced cut new
         → HasCompletedLog path id r.format found (length found) r.end new }
     ensures appended { (path : Path) (id : FileId) (format : LogFileFormat) (batches : List Batch)

@@ -122,8 +122,21 @@ fn refused_purges_lose_nothing(rt: HostRuntime) -> Result<(), Fail> {
     each_holds(&rt, Rows::Stories(&REFUSED))
 }
 
+/// Ten entries of 70,000 bytes, where a log file is full at 1 MB.
+const TEN_IN_ONE_FILE: &[Step] = &[
+    Step::OpenTo(1024),
+    Step::Run(
+        &[
+            Plan::Write(&[Change::LongEntries(3, 1, 10, b'x', 69_998)], true),
+            Plan::RewriteAppend(None, None),
+        ],
+        &[],
+    ),
+    Step::RewriteSpan(1, 1),
+];
+
 /// Ten entries of 70,000 bytes are five batches, of which a log file of 256 KB takes two.
-static ATOMIC_GROUPS: [Story; 3] = [
+static ATOMIC_GROUPS: [Story; 4] = [
     Story {
         name: "a rewriting of Rewrite in an atomic group",
         parts: &[
@@ -152,6 +165,26 @@ static ATOMIC_GROUPS: [Story; 3] = [
             ],
             FIRST_AND_LAST,
             &[Step::Run(&[Plan::RewriteRewrite], &[]), Step::Reopen],
+            FIRST_AND_LAST,
+        ],
+    },
+    Story {
+        name: "an atomic group that ends behind its second batch, and a crash",
+        parts: &[
+            TEN_IN_ONE_FILE,
+            &[
+                // A header and two records are written before.
+                Step::Fail(Failing::Nth(FsCall::Write, 4, IoKind::Other)),
+                Step::Run(&[Plan::RewriteRewrite], &[Answer::Fails(3)]),
+                Step::Failed(true),
+                Step::RewriteSpan(1, 2),
+                Step::GiveUp,
+                Step::Crash(Left::All),
+                Step::OpenTo(1024),
+                Step::RewriteSpan(1, 2),
+            ],
+            FIRST_AND_LAST,
+            &[Step::Run(&[Plan::Entry(3, 1), Plan::RewriteRewrite], &[])],
             FIRST_AND_LAST,
         ],
     },

@@ -149,7 +149,36 @@ fn purges_leave_these_files(rt: HostRuntime) -> Result<(), Fail> {
     each_holds(&rt, Rows::Stories(&SPANS))
 }
 
-static KEPT: [Story; 5] = [
+/// Three files with entries of a group, of which the last ones overwrite all but the first.
+const OVERWRITTEN: &[Step] = &[
+    Step::Open,
+    Step::Run(
+        &[
+            Plan::Write(&[Change::LongEntries(3, 1, 10, b'x', 198)], false),
+            Plan::Write(&[Change::LongEntries(3, 11, 15, b'x', 297)], false),
+            Plan::Write(&[Change::LongEntries(3, 2, 3, b'x', 598)], false),
+        ],
+        &[],
+    ),
+    Step::Span(1, 3),
+];
+
+const REFUSED_DELETE: &[Step] = &[
+    Step::Fail(Failing::Nth(FsCall::Delete, 2, IoKind::Other)),
+    Step::Run(&[Plan::RewriteAppend(None, None)], &[Answer::Fails(3)]),
+    Step::Failed(false),
+    Step::Span(2, 4),
+];
+
+const THREE_ENTRIES: &[Step] = &[
+    Step::Reopen,
+    Step::Run(
+        &[Plan::First(3), Plan::Last(3)],
+        &[Answer::Index(Some(1)), Answer::Index(Some(3))],
+    ),
+];
+
+static KEPT: [Story; 6] = [
     Story {
         name: "a deleted key stays deleted",
         parts: &[
@@ -225,29 +254,19 @@ static KEPT: [Story; 5] = [
     },
     Story {
         name: "a refused delete keeps later files",
-        parts: &[&[
-            Step::Open,
-            Step::Run(
-                &[
-                    Plan::Write(&[Change::LongEntries(3, 1, 10, b'x', 198)], false),
-                    Plan::Write(&[Change::LongEntries(3, 11, 15, b'x', 297)], false),
-                    Plan::Write(&[Change::LongEntries(3, 2, 3, b'x', 598)], false),
-                ],
-                &[],
-            ),
-            Step::Span(1, 3),
-            Step::Fail(Failing::Nth(FsCall::Delete, 2, IoKind::Other)),
-            Step::Run(&[Plan::RewriteAppend(None, None)], &[Answer::Fails(3)]),
-            Step::Failed(false),
-            Step::Span(2, 4),
-            Step::Run(&[Plan::RewriteAppend(None, None)], &[Answer::Dropped(3)]),
-            Step::Span(5, 5),
-            Step::Reopen,
-            Step::Run(
-                &[Plan::First(3), Plan::Last(3)],
-                &[Answer::Index(Some(1)), Answer::Index(Some(3))],
-            ),
-        ]],
+        parts: &[
+            OVERWRITTEN,
+            REFUSED_DELETE,
+            &[
+                Step::Run(&[Plan::RewriteAppend(None, None)], &[Answer::Dropped(3)]),
+                Step::Span(5, 5),
+            ],
+            THREE_ENTRIES,
+        ],
+    },
+    Story {
+        name: "a refused delete, and a reopening",
+        parts: &[OVERWRITTEN, REFUSED_DELETE, THREE_ENTRIES],
     },
 ];
 

@@ -8,7 +8,7 @@ use crate::stored::{HEADER_2, Stored};
 use crate::stories::{Step, Story};
 use raft_env::IoKind;
 use raft_memory::FsCall;
-use raft_plans::{Answer, Change, Plan};
+use raft_plans::{Answer, Change, Left, Plan};
 use std::test::Fail;
 
 const LOG_1: &str = "raft/0000000000000001.raftlog";
@@ -137,7 +137,11 @@ fn reserved_files_are_made_and_used(rt: HostRuntime) -> Result<(), Fail> {
     each_holds(&rt, Rows::Stories(&RESERVED))
 }
 
-static VERSIONS: [Story; 3] = [
+/// The put a: 1 as a log file of version 1 has it, made by Python's struct and zlib.
+const UNSIGNED_PUT: &[u8] =
+    b"\x00\x00\x00\x00\x00\x00\x1c\x00\x00\x00\x00\x00\x00\x00\x00\x10\x01\x01\x03\x01\x01\x61\x01\x01\xf8\x48\xbe\x2b";
+
+static VERSIONS: [Story; 4] = [
     Story {
         name: "reserved files of version 2, and an opening in version 1",
         parts: &[
@@ -190,6 +194,33 @@ static VERSIONS: [Story; 3] = [
         ],
     },
     Story {
+        name: "a record of version 1 that stands behind the new header of a reserved file",
+        parts: &[&[
+            Step::Store(&[(RESERVED_1, &[HEADER_2, UNSIGNED_PUT])]),
+            Step::OpenKeeping(Keeping::Reserved),
+            Step::Run(
+                &[
+                    Plan::Write(&[Change::Put(1, b"b", &[1; 1000])], false),
+                    Plan::Write(&[Change::Put(1, b"c", &[1])], false),
+                ],
+                &[],
+            ),
+            Step::Span(1, 2),
+            Step::GiveUp,
+            Step::Crash(Left::Synced),
+            Step::OpenKeeping(Keeping::Reserved),
+            Step::Span(1, 2),
+            Step::Run(
+                &[Plan::Get(1, b"a"), Plan::Get(1, b"b"), Plan::Get(1, b"c")],
+                &[
+                    Answer::Value(None),
+                    Answer::Value(Some(&[1; 1000])),
+                    Answer::Value(None),
+                ],
+            ),
+        ]],
+    },
+    Story {
         name: "files of version 1 aren't used again",
         parts: &[
             &[Step::OpenKeeping(Keeping::FirstVersion)],
@@ -220,7 +251,7 @@ const OLD_LOGS: &[&str] = &[
     "raft/0000000000000009.raftlog",
 ];
 
-static FOLDERS: [Story; 5] = [
+static FOLDERS: [Story; 6] = [
     Story {
         name: "a new file goes to the second folder, which alone has room",
         parts: &[&[
@@ -256,6 +287,16 @@ static FOLDERS: [Story; 5] = [
             ),
             Step::Close(None),
             Step::Stands(&[(LOG_1, 1097), ("raft/0000000000000002.raftlog", 97)]),
+        ]],
+    },
+    Story {
+        name: "a folder whose free space isn't told counts as one without room",
+        parts: &[&[
+            // The first call is for the first file of the Rewrite queue.
+            Step::Fail(Failing::Nth(FsCall::FreeSpace, 2, IoKind::Other)),
+            Step::OpenKeeping(Keeping::InBoth),
+            Step::GiveUp,
+            Step::Stands(&[("spill/0000000000000001.raftlog", 69)]),
         ]],
     },
     Story {

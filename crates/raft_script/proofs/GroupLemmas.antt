@@ -1,7 +1,7 @@
 -- Groups of batches: how they are built, and what an engine's write of them is as an operation.
 use Rattle.std.proofs.Common.{◌≡◌, ℕ, zero, suc, ◌+◌, ◌<◌, Bool, true, false, cond, inl, inr, List, [], ◌∷◌, ◌++◌, length, map, Option, Some, None, refl, sym, ◌∙◌, ap, subst, arith}
 use Rattle.std.specs.Prelude.{◌||◌, IfErr, IfOk, IsErrAnd, IsSome, IsSomeAnd, MatchResult, Result, Ok, Err, Vec, slice_index_or, unwrap_or}
-use Rattle.std.specs.List.{count_by, list_any}
+use Rattle.std.specs.List.{AllByRecursion, count_by, list_any}
 use Rattle.std.specs.declared.alloc.Global.{Global}
 use Rattle.std.proofs.lemmas.Bool.{cases_Bool}
 use Rattle.std.proofs.lemmas.List.{length-map, map-append}
@@ -10,22 +10,25 @@ use Rattle.std.proofs.Math.Logic.{∥∥₁_map}
 use Rattle.raft_base.specs.Fault.{fault_code}
 use Rattle.raft_base.specs.declared.errors.Fault.{Fault}
 use Rattle.raft_base.specs.declared.errors.Fault.TheVariants as fault
+use Rattle.raft_env.specs.Directory.{Directory}
 use Rattle.raft_env.specs.Moments.{HoldsThroughout}
 use Rattle.raft_env.specs.Refusal.{NoFewer, Refusals, StorageRefusalsRose}
 use Rattle.raft_env.specs.declared.env.FileSystem.{Ghosts}
-use Rattle.raft_env.proofs.MomentsLemmas.{passes_weaker}
 use Rattle.raft_records.specs.Contents.{Contents, after_batch}
 use Rattle.raft_records.specs.Batch.{BatchView}
 use Rattle.raft_records.specs.Item.{Batch}
 use Rattle.raft_log_engine.specs.Cause as engine
-use Rattle.raft_pipes.specs.PipeState.{PipeState}
+use Rattle.raft_pipes.specs.PipeState.{HasLastNumber, PipeState}
 use Rattle.raft_log_engine.specs.Durability.{Progresses, durability_of}
-use Rattle.raft_log_engine.specs.Engine.{answer_now, answered_of, contents_of, directory_of, durable_of, folders_of, has_failed, moments_of, queue_of, refusals_of, unsynced_of}
+use Rattle.raft_log_engine.specs.Engine.{contents_of, directory_of, durable_of, folders_of, has_failed, moments_of, queue_of, refusals_of, unsynced_of}
 use Rattle.raft_log_engine.specs.Group as group
-use Rattle.raft_log_engine.specs.Group.{AreGroupAnswers, FailsWithChoice, HasWrittenGroup, LeavesChoice, accepted_in, chosen_of, items_of, written_in}
+use Rattle.raft_log_engine.specs.Group.{AreGroupAnswers, FailsWithChoice, HasWrittenGroup, LeavesChoice, accepted_in, chosen_of, items_of}
 use Rattle.raft_log_engine.specs.declared.engine.Engine.{Engine}
-use Rattle.raft_script.specs.Durability.{Answers, Does}
-use Rattle.raft_script.specs.Run.{AreBatchAnswers, FailsBy, IsBatchRefusal, IsGroupRefusal, IsStorageOrMemory, IsUnbuiltGroup, IsWrittenGroup, Part, Refuses, StorageRefusalsRoseBy, batch_of_acts, batches_of_parts, group_batches, is_io, of_both}
+use Rattle.raft_script.specs.Durability.{Does, LeavesInFlight}
+use Rattle.raft_script.specs.Batches.{Part, batch_of_acts, batches_of_parts, group_batches, of_both}
+use Rattle.raft_script.specs.Failure.{FailsBy, IsStorageOrMemory, Refuses, StorageRefusalsRoseBy, is_io}
+use Rattle.raft_script.specs.Run.{AreBatchAnswers, IsBatchRefusal, IsGroupRefusal, IsUnbuiltGroup, IsWrittenGroup}
+use Rattle.raft_script.proofs.StepsLemmas.{all_weaker}
 use Rattle.raft_script.proofs.RunLemmas.{same_err}
 use Rattle.raft_script.specs.declared.operation.Op.TheVariants.{WriteGroup}
 use Rattle.raft_script.specs.declared.operation.Outcome.TheVariants.{Sizes}
@@ -102,23 +105,28 @@ flags_any (p ∷ parts) = ap (λ (b : Bool). p.1 || b) (flags_any parts)
 same_failure : {T : Type 0} (x : T) → Ok x ≡ Err fault.Failed → ⊥
 same_failure x clash = cc
 
-batch_refusal_of : (folders : Folders) (p : PipeState) (m : Contents) (batch : Batch) (old new : Refusals) (e : Fault) → engine.IsWriteRefusal folders p m batch false old new e → IsBatchRefusal m batch e
-batch_refusal_of folders p m batch old new fault.Gap h = h.0
-batch_refusal_of folders p m batch old new fault.Range h = elim h.0 [
-  | inl out ↦ inl out
-  | inr last ↦ inr last.0
-]
-batch_refusal_of folders p m batch old new (fault.Io kind path) h = h.0
-batch_refusal_of folders p m batch old new fault.TryAgain h = h.0
-batch_refusal_of folders p m batch old new fault.Memory h = h.0
-batch_refusal_of folders p m batch old new _ h = absurd h.1
+-- an engine stands, and no number is left
+abbrev NoneLeft : Bool → PipeState → Type 0
+NoneLeft fails p = (fails ≡ false) × HasLastNumber p
 
-batch_answers : (folders : Folders) (p : PipeState) (old new : Refusals) (m : Contents) (batches : List Batch) (answers : List (Result ℕ Fault)) → AreGroupAnswers folders p old new m batches answers → AreBatchAnswers m batches answers
-batch_answers folders p old new m [] [] are = tt
-batch_answers folders p old new m [] (a ∷ answers) are = absurd are
-batch_answers folders p old new m (b ∷ batches) [] are = absurd are
-batch_answers folders p old new m (b ∷ batches) (Ok len ∷ answers) are = (are.0, are.1, batch_answers folders p old new (after_batch m b) batches answers are.2)
-batch_answers folders p old new m (b ∷ batches) (Err e ∷ answers) are = (batch_refusal_of folders p m b old are.0 e are.1, batch_answers folders p are.0 new m batches answers are.3)
+module _ (folders : Folders) (p : PipeState) (fails : Bool) (stands : fails ≡ false) where
+  batch_refusal_of : (m : Contents) (batch : Batch) (old new : Refusals) (e : Fault) → engine.IsWriteRefusal folders p m batch false old new e → IsBatchRefusal (NoneLeft fails p) m batch e
+  batch_refusal_of m batch old new fault.Gap h = h.0
+  batch_refusal_of m batch old new fault.Range h = elim h.0 [
+    | inl out ↦ inl out
+    | inr last ↦ inr (last.0, (stands, last.1))
+  ]
+  batch_refusal_of m batch old new (fault.Io kind path) h = h.0
+  batch_refusal_of m batch old new fault.TryAgain h = h.0
+  batch_refusal_of m batch old new fault.Memory h = h.0
+  batch_refusal_of m batch old new _ h = absurd h.1
+
+  batch_answers : (old new : Refusals) (m : Contents) (batches : List Batch) (answers : List (Result ℕ Fault)) → AreGroupAnswers folders p old new m batches answers → AreBatchAnswers (NoneLeft fails p) m batches answers
+  batch_answers old new m [] [] are = tt
+  batch_answers old new m [] (a ∷ answers) are = absurd are
+  batch_answers old new m (b ∷ batches) [] are = absurd are
+  batch_answers old new m (b ∷ batches) (Ok len ∷ answers) are = (are.0, are.1, batch_answers old new (after_batch m b) batches answers are.2)
+  batch_answers old new m (b ∷ batches) (Err e ∷ answers) are = (batch_refusal_of m b old are.0 e are.1, batch_answers are.0 new m batches answers are.3)
 
 -- storage's count rose by as many as it refused
 refused_rose : (folders : Folders) (p : PipeState) (m : Contents) (batch : Batch) (old new : Refusals) (e : Fault) → engine.IsWriteRefusal folders p m batch false old new e → is_io {T = ℕ} (Err e) ≡ true → StorageRefusalsRose old new
@@ -168,12 +176,12 @@ module _ {F H R W : Type 0} {g : Ghosts F H R W} (parts : Vec Part Global) (view
   same_count = sym (length-map views (λ (v : BatchView). v.items)) ∙ part_count parts.items batches built ∙ sym (length-map parts.items (λ (part : Part). part.1)) ∙ sym (ap length flags_are)
 
   pub group_answered : (m : Contents) → (has_failed old ≡ false → m ≡ contents_of old) → (result : Result (Vec (Result ℕ Fault) Global) Fault) → IsOk result → (has_failed old ≡ true → result ≡ Err fault.Failed) → IsCause result
-      → MatchResult result (λ answers. IsWrittenGroup m parts.items answers.items) (IsGroupRefusal parts.items)
+      → MatchResult result (λ answers. IsWrittenGroup (NoneLeft (has_failed new) (queue_of new)) m parts.items answers.items) (IsGroupRefusal parts.items)
   group_answered m same (Ok answers) ok failed cause = elim (cases_Bool (has_failed old)) [
     | inl gone ↦ absurd (same_failure answers (failed gone))
     | inr stands ↦
-        subst (λ (o : Option (List Batch)). IsSomeAnd o (λ l. AreBatchAnswers m l answers.items)) (sym built)
-        (subst (λ (c : Contents). AreBatchAnswers c batches answers.items) (sym (same stands)) (batch_answers (folders_of old) (queue_of new) (refusals_of old) (refusals_of new) (contents_of old) batches answers.items ok.answered))
+        subst (λ (o : Option (List Batch)). IsSomeAnd o (λ l. AreBatchAnswers (NoneLeft (has_failed new) (queue_of new)) m l answers.items)) (sym built)
+        (subst (λ (c : Contents). AreBatchAnswers (NoneLeft (has_failed new) (queue_of new)) c batches answers.items) (sym (same stands)) (batch_answers (folders_of old) (queue_of new) (has_failed new) ok.stands (refusals_of old) (refusals_of new) (contents_of old) batches answers.items ok.answered))
   ]
   group_answered m same (Err e) ok failed cause = by_fault e cause
     where
@@ -221,35 +229,33 @@ module _ {F H R W : Type 0} {g : Ghosts F H R W} (parts : Vec Part Global) (view
   pub does_group : (result : Result (Vec (Result ℕ Fault) Global) Fault)
       → MatchResult result (λ answers. Progresses (accepted_in answers.items batches) (list_any (λ (flag : Bool). flag) flags) [] (durability_of old) (durability_of new)) (λ _. FailsWithChoice batches old new)
       → HoldsThroughout (moments_of old) (moments_of new) (directory_of new) (LeavesChoice (folders_of old) (durable_of old) (unsynced_of old) (contents_of old) batches)
-      → answered_of new ≡ answer_now (written_in batches) new ∷ answered_of old → (has_failed old ≡ true → moments_of new ≡ moments_of old) → Does (WriteGroup parts) (Sizes result) old new
-  does_group result progress moments answered stays = by_result result (subst (λ (l : List Batch). IsProgress l result) (sym group_is) progress)
+      → (has_failed old ≡ true → moments_of new ≡ moments_of old) → Does (WriteGroup parts) (Sizes result) old new
+  does_group result progress moments stays = by_result result (subst (λ (l : List Batch). IsProgress l result) (sym group_is) progress)
     where
       asked : list_any (λ (flag : Bool). flag) flags ≡ list_any (λ (part : Part). part.1) parts.items
       asked = ap (list_any (λ (flag : Bool). flag)) flags_are ∙ flags_any parts.items
 
-      told : Answers (WriteGroup parts) (written_in (group_batches parts.items)) old new
-      told = record {
-        noted = answered ∙ ap (λ (l : List Batch). answer_now (written_in l) new ∷ answered_of old) (sym group_is);
-        moments = λ alive. passes_weaker _ _ (moments_of old) (moments_of new) (directory_of new)
-            (λ x leaves. ∥∥₁_map leaves (λ (choice, allowed). (chosen_of (contents_of old) choice (group_batches parts.items), ∣ (choice, refl) ∣₁, allowed)))
-            (subst (λ (l : List Batch). HoldsThroughout (moments_of old) (moments_of new) (directory_of new) (LeavesChoice (folders_of old) (durable_of old) (unsynced_of old) (contents_of old) l)) (sym group_is) moments);
-        rests = stays;
-      }
+      adds : (added : List Directory) × (moments_of new ≡ added ++ moments_of old) × AllByRecursion (LeavesInFlight (WriteGroup parts) old) added
+      adds = (
+        moments.added,
+        moments.is,
+        all_weaker _ _
+            (λ x leaves. ∥∥₁_map (subst (λ (l : List Batch). LeavesChoice (folders_of old) (durable_of old) (unsynced_of old) (contents_of old) l x) (sym group_is) leaves) (λ (choice, allowed). (chosen_of (contents_of old) choice (group_batches parts.items), ∣ (choice, refl) ∣₁, allowed)))
+            moments.added moments.each,
+      )
 
       by_result : (result : Result (Vec (Result ℕ Fault) Global) Fault) → IsProgress (group_batches parts.items) result → Does (WriteGroup parts) (Sizes result) old new
       by_result (Ok answers) progress = record {
         flight = [];
         may_be = ∣ ([], refl) ∣₁;
-        given = written_in (group_batches parts.items);
-        is_given = refl;
         progress = subst (λ (covers : Bool). Progresses (accepted_in answers.items (group_batches parts.items)) covers [] (durability_of old) (durability_of new)) asked progress;
-        answers = inr told;
+        moments = λ alive. adds;
+        rests = stays;
       }
       by_result (Err e) progress = record {
         flight = chosen_of (contents_of old) progress.0 (group_batches parts.items);
         may_be = ∣ (progress.0, refl) ∣₁;
-        given = written_in (group_batches parts.items);
-        is_given = refl;
         progress = progress.1;
-        answers = inr told;
+        moments = λ alive. adds;
+        rests = stays;
       }

@@ -18,7 +18,7 @@ use Rattle.raft_base.specs.declared.errors.IoKind.{IoKind}
 use Rattle.std.specs.declared.alloc.Global.{Global}
 use Rattle.raft_log_engine.specs.Cause as engine
 use Rattle.raft_log_engine.specs.Purge as purges
-use Rattle.raft_pipes.specs.PipeState.{PipeState}
+use Rattle.raft_pipes.specs.PipeState.{HasLastNumber, PipeState}
 use Rattle.raft_pipes.specs.Queue.{IsRefusalIn}
 use Rattle.raft_log_engine.specs.Durability.{HasWritten}
 use Rattle.raft_log_engine.specs.Engine.{contents_of, has_failed, queue_of, refusals_of}
@@ -26,7 +26,9 @@ use Rattle.raft_log_engine.specs.declared.engine.Engine.{Engine}
 use Rattle.raft_held.specs.Contents.{known_from}
 use Rattle.raft_held.specs.Crash.{written_batch}
 use Rattle.raft_purge.specs.Unfit.{IsUnfit}
-use Rattle.raft_script.specs.Run.{accepted_of, AreAnswers, AreSteady, FailsAt, FailsBy, IsFailing, IsFailurePlace, Refuses, StorageRefusalsRoseBy, batch_of_acts, batches_after, batches_after_all, io_count, io_in, is_io, IsAnswer, FailsInPurge, IsCompactRefusal, IsEngineRefusal, IsGetRefusal, IsPurgeAnswer, IsPurgeFailure, IsRenewalFailure, IsRefusedPurge, IsOutOfNumbers, IsSteadyBy, IsStorageOrMemory, IsTextRefusal, IsUnbuilt, IsGiven, IsWritten, IsWriteRefusal, compaction_in, items_of_act, of_both}
+use Rattle.raft_script.specs.Batches.{accepted_of, batch_of_acts, batches_of_parts, is_answered, items_of_act, of_both}
+use Rattle.raft_script.specs.Failure.{FailsBy, FailsFor, FailsInPurge, IsFailing, IsPurgeFailure, IsRenewalFailure, IsSteadyBy, IsStorageOrMemory, Refuses, StorageRefusalsRoseBy, io_count, io_in, is_io}
+use Rattle.raft_script.specs.Run.{AreBatchAnswers, IsAnswer, IsBatchRefusal, IsCompactRefusal, IsEngineRefusal, IsGetRefusal, IsOutOfNumbers, IsPurgeAnswer, IsRefusedPurge, IsTextRefusal, IsUnbuilt, IsWriteRefusal, IsWritten}
 use Rattle.raft_log_engine.specs.Reads.{IsEntryAnswer, IsEntryRefusalAt, IsGroupList, compact_count, entry_of}
 use Rattle.raft_script.specs.Entry.{IsTextOf, index_of}
 use Rattle.raft_script.specs.declared.text_entry.TextEntry.{TextEntry}
@@ -114,25 +116,29 @@ of_built P acts items built h = subst (λ (o : Option Batch). IsSomeAnd o P) (sy
 
 -- an engine's write of such a batch is answered as the operation
 module _ {F H R W : Type 0} {g : Ghosts F H R W} (acts : List Act) (items rest : Batch) (folders : Folders) (m : Contents) (old new : Engine F H R W g) (built : batch_of_acts acts ≡ Some items) (same : has_failed old ≡ false → m ≡ contents_of old) where
+  -- the engine stands, and no number is left
+  abbrev NoneLeft : Type 0
+  NoneLeft = (has_failed new ≡ false) × HasLastNumber (queue_of new)
+
   pub write_answered : (result : Result ℕ Fault) → IfOk result (HasWritten items rest old new) → ((result ≡ Err fault.Failed) ↔ (has_failed old ≡ true)) → IfErr result (λ e. has_failed old ≡ false → engine.IsWriteRefusal folders (queue_of new) (contents_of old) items (has_failed new) (refusals_of old) (refusals_of new) e) →
-      MatchResult result (IsWritten m acts) (IsWriteRefusal m acts)
+      MatchResult result (IsWritten m acts) (IsWriteRefusal NoneLeft m acts)
   write_answered (Ok len) written failed cause = elim (cases_Bool (has_failed old)) [
     | inl gone ↦ absurd (let clash = failed.1 gone in cc)
     | inr stands ↦ (items, built, subst (λ (c : Contents). IsValidBatch c items) (sym (same stands)) written.valid, written.len_is)
   ]
   write_answered (Err e) written failed cause = elim (cases_Bool (has_failed old)) [
-    | inl gone ↦ let is : e ≡ fault.Failed = same_err (Err e) refl (failed.1 gone) in subst (IsWriteRefusal m acts) (sym is) (subst IsSome (sym built) refl)
+    | inl gone ↦ let is : e ≡ fault.Failed = same_err (Err e) refl (failed.1 gone) in subst (IsWriteRefusal NoneLeft m acts) (sym is) (subst IsSome (sym built) refl)
     | inr stands ↦ by_fault e (subst (λ (c : Contents). engine.IsWriteRefusal folders (queue_of new) c items (has_failed new) (refusals_of old) (refusals_of new) e) (sym (same stands)) (cause stands))
   ]
     where
-      by_fault : (e : Fault) → engine.IsWriteRefusal folders (queue_of new) m items (has_failed new) (refusals_of old) (refusals_of new) e → IsWriteRefusal m acts e
+      by_fault : (e : Fault) → engine.IsWriteRefusal folders (queue_of new) m items (has_failed new) (refusals_of old) (refusals_of new) e → IsWriteRefusal NoneLeft m acts e
       by_fault (fault.Io kind path) h = of_built (engine.IsWritable m) acts items built h.0
       by_fault fault.TryAgain h = of_built (engine.IsWritable m) acts items built h.0
       by_fault fault.Memory h = tt
       by_fault fault.Gap h = of_built (λ batch. batch_refusal m batch ≡ Some fault.Gap) acts items built h.0
-      by_fault fault.Range h = inr (of_built (IsOutOfNumbers m) acts items built (elim h.0 [
+      by_fault fault.Range h = inr (of_built (IsOutOfNumbers NoneLeft m) acts items built (elim h.0 [
         | inl out ↦ inl out
-        | inr last ↦ inr last.0
+        | inr last ↦ inr (last.0, (h.1, last.1))
       ]))
       by_fault _ h = absurd h.1
 
@@ -143,21 +149,21 @@ module _ (m n : Contents) (group index : ℕ) (failed : Bool) (folders : Folders
   engine_refusal fault.Memory h = tt
   engine_refusal _ h = absurd h
 
-  append_refusal : (p : PipeState) (fails : Bool) (e : Fault) → engine.IsAppendRefusal folders p fails old new e → IsCompactRefusal e
+  append_refusal : (p : PipeState) (fails : Bool) (e : Fault) → engine.IsAppendRefusal folders p fails old new e → IsCompactRefusal ((fails ≡ false) × HasLastNumber p) e
   append_refusal p fails (fault.Io kind path) h = tt
   append_refusal p fails fault.TryAgain h = tt
   append_refusal p fails fault.Memory h = tt
-  append_refusal p fails fault.Range h = tt
+  append_refusal p fails fault.Range h = (h.1, h.0)
   append_refusal p fails _ h = absurd h
 
   pub compaction_answered : (p : PipeState) (fails : Bool) (result : Result ℕ Fault) → IfOk result (λ count. count ≡ compact_count index (n.entries group)) → ((result ≡ Err fault.Failed) ↔ (failed ≡ true)) → IfErr result (λ e. failed ≡ false → engine.IsAppendRefusal folders p fails old new e)
-      → MatchResult result (λ count. count ≡ compact_count index (m.entries group)) IsCompactRefusal
+      → MatchResult result (λ count. count ≡ compact_count index (m.entries group)) (IsCompactRefusal ((fails ≡ false) × HasLastNumber p))
   compaction_answered p fails (Ok count) is told cause = elim (cases_Bool failed) [
     | inl gone ↦ absurd (let clash = told.1 gone in cc)
     | inr stands ↦ is ∙ ap (λ (c : Contents). compact_count index (c.entries group)) (sym (same stands))
   ]
   compaction_answered p fails (Err e) is told cause = elim (cases_Bool failed) [
-    | inl gone ↦ let e_is : e ≡ fault.Failed = same_err (Err e) refl (told.1 gone) in subst IsCompactRefusal (sym e_is) tt
+    | inl gone ↦ let e_is : e ≡ fault.Failed = same_err (Err e) refl (told.1 gone) in subst (IsCompactRefusal ((fails ≡ false) × HasLastNumber p)) (sym e_is) tt
     | inr stands ↦ append_refusal p fails e (cause stands)
   ]
 
@@ -332,76 +338,20 @@ steady_by failed fails result told same = (
 -- What depends on the contents of an engine that stands alone.
 
 module _ (m n : Contents) (op : Op) (failed : Bool) (same : failed ≡ false → m ≡ n) where
-  pub given_same : (given : List Batch) → IsGiven failed m op given → IsGiven failed n op given
-  given_same given is = by_op op is
-    where
-      by_op : (op : Op) → IsGiven failed m op given → IsGiven failed n op given
-      by_op (Write acts sync) is = is
-      by_op (WriteGroup parts) is = is
-      by_op Sync is = is
-      by_op (Get group key) is = is
-      by_op (operation.Entry group index) is = is
-      by_op (First group) is = is
-      by_op (Last group) is = is
-      by_op operation.Groups is = is
-      by_op (RewriteAppend watermark step) is = is
-      by_op RewriteRewrite is = is
-      by_op PurgeStale is = is
-      by_op Purge is = is
-      by_op (CompactTo group index) is = elim (cases_Bool failed) [
-        | inl gone ↦ is ∙ ap (λ (b : Bool). if b then [] else written_batch (compaction_in m group index)) gone ∙ sym (ap (λ (b : Bool). if b then [] else written_batch (compaction_in n group index)) gone)
-        | inr stands ↦ is ∙ ap (λ (c : Contents). if failed then [] else written_batch (compaction_in c group index)) (same stands)
-      ]
-
   pub accepted_same : (outcome : Outcome) (fails : Bool) → IsFailing failed op outcome fails → accepted_of m op outcome ≡ accepted_of n op outcome
   accepted_same outcome fails failing = by_op op outcome failing
     where
       by_op : (op : Op) (outcome : Outcome) → IsFailing failed op outcome fails → accepted_of m op outcome ≡ accepted_of n op outcome
-      by_op (Write acts sync) (Size (Ok len)) f = refl
-      by_op (WriteGroup parts) (Sizes (Ok answers)) f = refl
       by_op (CompactTo group index) (Count (Ok count)) f = elim (cases_Bool failed) [
         | inl gone ↦ absurd (⊎_elim (λ told. let clash = told in cc) (λ other. other) (f.refused gone))
-        | inr stands ↦ ap (λ (c : Contents). written_batch (compaction_in c group index)) (same stands)
+        | inr stands ↦ ap (λ (c : Contents). accepted_of c (CompactTo group index) (Count (Ok count))) (same stands)
       ]
+      by_op (CompactTo group index) (Count (Err e)) f = refl
+      by_op (CompactTo group index) _ f = absurd f
       by_op _ _ f = refl
-
--- what a run has come to: as many outcomes as operations, and what the engine holds
-pub record IsRunning (m : Contents) (before : List Batch) (ops : List Op) (outcomes : List Outcome) (now : List Batch) (failed : Bool) : Type 0 where
-  pub len : length outcomes ≡ length ops
-  pub batches : failed ≡ false → now ≡ batches_after_all m before ops outcomes
-
-pub running_begun : (m : Contents) (before : List Batch) (failed : Bool) → IsRunning m before [] [] before failed
-running_begun m before failed = record { len = refl; batches = λ _. refl }
-
-batches_after_all-more : (m : Contents) (before : List Batch) (ops : List Op) (outcomes : List Outcome) (op : Op) (outcome : Outcome) → length outcomes ≡ length ops → batches_after_all m before (ops ++ op ∷ []) (outcomes ++ outcome ∷ []) ≡ batches_after m (batches_after_all m before ops outcomes) op outcome
-batches_after_all-more m before [] [] op outcome same = refl
-batches_after_all-more m before [] (o ∷ outcomes) op outcome same = absurd (omega (arith, same))
-batches_after_all-more m before (p ∷ ops) [] op outcome same = absurd (omega (arith, same))
-batches_after_all-more m before (p ∷ ops) (o ∷ outcomes) op outcome same = batches_after_all-more m (batches_after m before p o) ops outcomes op outcome (omega (arith, same))
-
--- one operation more
-module _ (m : Contents) (before : List Batch) (ops : List Op) (outcomes : List Outcome) (now : List Batch) (failed : Bool) (running : IsRunning m before ops outcomes now failed)
-    (op : Op) (outcome : Outcome) (next : List Batch) (fails : Bool) where
-  pub running_more : (fails ≡ false → next ≡ batches_after m now op outcome) → (failed ≡ true → fails ≡ true) → IsRunning m before (ops ++ op ∷ []) (outcomes ++ outcome ∷ []) next fails
-  running_more batches still = record {
-    len = length-append outcomes (outcome ∷ []) ∙ ap (λ (n : ℕ). n + 1) running.len ∙ sym (length-append ops (op ∷ []));
-    batches = λ stands. batches stands ∙ ap (λ (l : List Batch). batches_after m l op outcome) (running.batches (stood failed still stands)) ∙ sym (batches_after_all-more m before ops outcomes op outcome running.len);
-  }
-    where
-      stood : (b : Bool) → (b ≡ true → fails ≡ true) → fails ≡ false → b ≡ false
-      stood true still stands = absurd (let now = still refl in cc)
-      stood false still stands = refl
 
 pub acts_ended : (items : Batch) (n : ℕ) (acts : List Act) → length acts ≤ n → IsBuilt items n acts → batch_of_acts acts ≡ Some items
 acts_ended items n acts past built = built_ended items n acts (nil_from_length (drop n acts) (length-drop n acts ∙ omega (arith, past))) built
-
--- Failures.
-
-steady_more : (failed : Bool) (ops : List Op) (outcomes : List Outcome) (op : Op) (outcome : Outcome) → AreSteady failed ops outcomes → IsFailing failed op outcome failed → AreSteady failed (ops ++ op ∷ []) (outcomes ++ outcome ∷ [])
-steady_more failed [] [] op outcome are is = (is, tt)
-steady_more failed [] (o ∷ outcomes) op outcome are is = absurd are
-steady_more failed (p ∷ ops) [] op outcome are is = absurd are
-steady_more failed (p ∷ ops) (o ∷ outcomes) op outcome are is = (are.0, steady_more failed ops outcomes op outcome are.1 is)
 
 -- Where an engine failed.
 
@@ -425,117 +375,78 @@ still_by _ _ fails is = absurd is
 pub still_failing : (op : Op) (outcome : Outcome) (failed fails : Bool) → IsFailing failed op outcome fails → failed ≡ true → fails ≡ true
 still_failing op outcome failed fails is had = still_by op outcome fails (subst (λ (b : Bool). IsFailing b op outcome fails) had is)
 
-fails_at_here : (ops : List Op) (outcomes : List Outcome) (op : Op) (outcome : Outcome) → AreSteady false ops outcomes → IsFailing false op outcome true → FailsAt (length ops) (ops ++ op ∷ []) (outcomes ++ outcome ∷ [])
-fails_at_here [] [] op outcome are is = (is, tt)
-fails_at_here [] (o ∷ outcomes) op outcome are is = absurd are
-fails_at_here (p ∷ ops) [] op outcome are is = absurd are
-fails_at_here (p ∷ ops) (o ∷ outcomes) op outcome are is = (are.0, fails_at_here ops outcomes op outcome are.1 is)
+-- an answer that isn't a refusal leaves an engine standing
+done_stands : {T : Type 0} (P Q : Fault → Type 0) (failed fails : Bool) (answer : Result T Fault) → FailsFor P failed answer fails Q → is_ok answer ≡ true → fails ≡ false
+done_stands P Q failed false answer f ok = refl
+done_stands P Q true true (Ok x) f ok = absurd (⊎_elim (λ told. let clash = told in cc) (λ other. other) (f.refused refl))
+done_stands P Q false true (Ok x) f ok = absurd (f.cause refl refl)
+done_stands P Q failed true (Err e) f ok = absurd cc
 
-fails_at_more : (place : ℕ) (ops : List Op) (outcomes : List Outcome) (op : Op) (outcome : Outcome) → FailsAt place ops outcomes → IsFailing true op outcome true → FailsAt place (ops ++ op ∷ []) (outcomes ++ outcome ∷ [])
-fails_at_more zero [] outcomes op outcome at is = absurd at
-fails_at_more (suc place) [] outcomes op outcome at is = absurd at
-fails_at_more zero (p ∷ ops) [] op outcome at is = absurd at
-fails_at_more (suc place) (p ∷ ops) [] op outcome at is = absurd at
-fails_at_more zero (p ∷ ops) (o ∷ outcomes) op outcome at is = (at.0, steady_more true ops outcomes op outcome at.1 is)
-fails_at_more (suc place) (p ∷ ops) (o ∷ outcomes) op outcome at is = (at.0, fails_at_more place ops outcomes op outcome at.1 is)
+pub stands_answered : (op : Op) (outcome : Outcome) (failed fails : Bool) → IsFailing failed op outcome fails → is_answered outcome ≡ true → fails ≡ false
+stands_answered (Write acts sync) (Size answer) failed fails f ok = done_stands _ _ failed fails answer f ok
+stands_answered (WriteGroup parts) (Sizes answer) failed fails f ok = done_stands _ _ failed fails answer f ok
+stands_answered Sync (Done answer) failed fails f ok = done_stands _ _ failed fails answer f.0 ok
+stands_answered (CompactTo group index) (Count answer) failed fails f ok = done_stands _ _ failed fails answer f ok
+stands_answered (RewriteAppend watermark step) (Dropped answer) failed fails f ok = done_stands _ _ failed fails answer f ok
+stands_answered RewriteRewrite (Dropped answer) failed fails f ok = done_stands _ _ failed fails answer f ok
+stands_answered PurgeStale (Dropped answer) failed fails f ok = done_stands _ _ failed fails answer f ok
+stands_answered Purge (ToCompact answer) failed fails f ok = done_stands _ _ failed fails answer f ok
+stands_answered (Get group key) (Value answer) failed fails f ok = absurd cc
+stands_answered (operation.Entry group index) (reply.Entry answer) failed fails f ok = absurd cc
+stands_answered (First group) (Index index) failed fails f ok = absurd cc
+stands_answered (Last group) (Index index) failed fails f ok = absurd cc
+stands_answered operation.Groups (reply.Groups answer) failed fails f ok = absurd cc
+stands_answered _ _ failed fails f ok = absurd f
 
 -- where the engine failed once the operation at a place is done
 pub record IsNextPlace (failed fails : Bool) (place : ℕ) (before next : Option ℕ) : Type 0 where
   pub falls : failed ≡ false → fails ≡ true → next ≡ Some place
   pub rests : fails ≡ failed → next ≡ before
 
-module _ (ops : List Op) (outcomes : List Outcome) (op : Op) (outcome : Outcome) where
-  -- the engine is as it was before the operation
-  place_kept : (had failed : Bool) (failed_at : Option ℕ) → failed ≡ (had || is_some failed_at) → IsFailurePlace had ops outcomes failed_at → IsFailing failed op outcome failed → IsFailurePlace had (ops ++ op ∷ []) (outcomes ++ outcome ∷ []) failed_at
-  place_kept true failed None now at is = steady_more true ops outcomes op outcome at (subst (λ (b : Bool). IsFailing b op outcome b) now is)
-  place_kept false failed None now at is = steady_more false ops outcomes op outcome at (subst (λ (b : Bool). IsFailing b op outcome b) now is)
-  place_kept true failed (Some place) now at is = (at.0, fails_at_more place ops outcomes op outcome at.1 (subst (λ (b : Bool). IsFailing b op outcome b) now is))
-  place_kept false failed (Some place) now at is = (at.0, fails_at_more place ops outcomes op outcome at.1 (subst (λ (b : Bool). IsFailing b op outcome b) now is))
+-- What is said of the last number.
 
-  -- it failed in the operation
-  place_here : (had : Bool) (failed_at : Option ℕ) → false ≡ (had || is_some failed_at) → IsFailurePlace had ops outcomes failed_at → IsFailing false op outcome true → IsFailurePlace had (ops ++ op ∷ []) (outcomes ++ outcome ∷ []) (Some (length ops))
-  place_here true failed_at now at is = absurd cc
-  place_here false None now at is = (refl, fails_at_here ops outcomes op outcome at is)
-  place_here false (Some place) now at is = absurd cc
+-- an answer under a premise on it that is weaker
+module _ (P Q : Type 0) (weaker : P → Q) where
+  numbers_weaker : (m : Contents) (batch : Batch) → IsOutOfNumbers P m batch → IsOutOfNumbers Q m batch
+  numbers_weaker m batch (inl out) = inl out
+  numbers_weaker m batch (inr last) = inr (last.0, weaker last.1)
 
-  stood_before : (had : Bool) (failed_at : Option ℕ) → false ≡ (had || is_some failed_at) → had ≡ false
-  stood_before true failed_at now = absurd cc
-  stood_before false failed_at now = refl
+  some_weaker : (m : Contents) (o : Option Batch) → IsSomeAnd o (IsOutOfNumbers P m) → IsSomeAnd o (IsOutOfNumbers Q m)
+  some_weaker m None some = absurd some
+  some_weaker m (Some batch) some = numbers_weaker m batch some
 
-  pub place_more : (had failed fails : Bool) (failed_at next_at : Option ℕ) → failed ≡ (had || is_some failed_at) → IsFailurePlace had ops outcomes failed_at → IsFailing failed op outcome fails → IsNextPlace failed fails (length ops) failed_at next_at
-      → (fails ≡ (had || is_some next_at)) × IsFailurePlace had (ops ++ op ∷ []) (outcomes ++ outcome ∷ []) next_at
-  place_more had failed fails failed_at next_at now at is next = by_case failed fails now is next
-    where
-      kept : (b : Bool) → b ≡ (had || is_some failed_at) → IsFailing b op outcome b → next_at ≡ failed_at → (b ≡ (had || is_some next_at)) × IsFailurePlace had (ops ++ op ∷ []) (outcomes ++ outcome ∷ []) next_at
-      kept b now is same = subst (λ (o : Option ℕ). (b ≡ (had || is_some o)) × IsFailurePlace had (ops ++ op ∷ []) (outcomes ++ outcome ∷ []) o) (sym same) (now, place_kept had b failed_at now at is)
+  write_weaker : (m : Contents) (acts : List Act) (e : Fault) → IsWriteRefusal P m acts e → IsWriteRefusal Q m acts e
+  write_weaker m acts fault.Range (inl large) = inl large
+  write_weaker m acts fault.Range (inr some) = inr (some_weaker m (batch_of_acts acts) some)
+  write_weaker m acts _ is = is
 
-      by_case : (b c : Bool) → b ≡ (had || is_some failed_at) → IsFailing b op outcome c → IsNextPlace b c (length ops) failed_at next_at → (c ≡ (had || is_some next_at)) × IsFailurePlace had (ops ++ op ∷ []) (outcomes ++ outcome ∷ []) next_at
-      by_case true true now is next = kept true now is (next.rests refl)
-      by_case false false now is next = kept false now is (next.rests refl)
-      by_case true false now is next = absurd (let clash = still_by op outcome false is in cc)
-      by_case false true now is next =
-          subst (λ (o : Option ℕ). (true ≡ (had || is_some o)) × IsFailurePlace had (ops ++ op ∷ []) (outcomes ++ outcome ∷ []) o) (sym (next.falls refl refl))
-          (ap (λ (b : Bool). b || true) (sym (stood_before had failed_at now)), place_here had failed_at now at is)
+  batch_weaker : (m : Contents) (batch : Batch) (e : Fault) → IsBatchRefusal P m batch e → IsBatchRefusal Q m batch e
+  batch_weaker m batch fault.Range is = numbers_weaker m batch is
+  batch_weaker m batch _ is = is
 
--- Answers, with one more.
+  batches_weaker : (m : Contents) (batches : List Batch) (answers : List (Result ℕ Fault)) → AreBatchAnswers P m batches answers → AreBatchAnswers Q m batches answers
+  batches_weaker m [] [] are = tt
+  batches_weaker m [] (a ∷ answers) are = absurd are
+  batches_weaker m (b ∷ batches) [] are = absurd are
+  batches_weaker m (b ∷ batches) (Ok len ∷ answers) are = (are.0, are.1, batches_weaker (after_batch m b) batches answers are.2)
+  batches_weaker m (b ∷ batches) (Err e ∷ answers) are = (batch_weaker m b e are.0, batches_weaker m batches answers are.1)
 
--- an operation is answered so by an engine that holds these batches
-abbrev IsAnswerAt : Bool → Contents → (ℕ → Bool) → List Batch → Op → Outcome → Type 0
-IsAnswerAt failed m known batches op outcome = IsAnswer failed (after_batches m batches) (known_from known batches) op outcome
+  group_weaker : (m : Contents) (o : Option (List Batch)) (answers : List (Result ℕ Fault)) → IsSomeAnd o (λ batches. AreBatchAnswers P m batches answers) → IsSomeAnd o (λ batches. AreBatchAnswers Q m batches answers)
+  group_weaker m None answers some = absurd some
+  group_weaker m (Some batches) answers some = batches_weaker m batches answers some
 
--- of an engine that has failed or not as before
-answers_steady : (failed : Bool) (m : Contents) (known : ℕ → Bool) (batches : List Batch) (ops : List Op) (outcomes : List Outcome) (op : Op) (outcome : Outcome) → AreAnswers failed None m known batches ops outcomes → IsAnswerAt failed m known (batches_after_all m batches ops outcomes) op outcome → AreAnswers failed None m known batches (ops ++ op ∷ []) (outcomes ++ outcome ∷ [])
-answers_steady failed m known batches [] [] op outcome answers more = (more, tt)
-answers_steady failed m known batches [] (o ∷ outcomes) op outcome answers more = absurd answers
-answers_steady failed m known batches (p ∷ ops) [] op outcome answers more = absurd answers
-answers_steady failed m known batches (p ∷ ops) (o ∷ outcomes) op outcome answers more = (answers.0, answers_steady failed m known (batches_after m batches p o) ops outcomes op outcome answers.1 more)
+  compact_weaker : (e : Fault) → IsCompactRefusal P e → IsCompactRefusal Q e
+  compact_weaker fault.Range is = weaker is
+  compact_weaker _ is = is
 
--- of one that fails in the operation
-answers_falls : (failed : Bool) (m : Contents) (known : ℕ → Bool) (batches : List Batch) (ops : List Op) (outcomes : List Outcome) (op : Op) (outcome : Outcome) → AreAnswers failed None m known batches ops outcomes → IsAnswerAt failed m known (batches_after_all m batches ops outcomes) op outcome
-    → AreAnswers failed (Some (length ops)) m known batches (ops ++ op ∷ []) (outcomes ++ outcome ∷ [])
-answers_falls failed m known batches [] [] op outcome answers more = (more, tt)
-answers_falls failed m known batches [] (o ∷ outcomes) op outcome answers more = absurd answers
-answers_falls failed m known batches (p ∷ ops) [] op outcome answers more = absurd answers
-answers_falls failed m known batches (p ∷ ops) (o ∷ outcomes) op outcome answers more = (answers.0, answers_falls failed m known (batches_after m batches p o) ops outcomes op outcome answers.1 more)
-
--- of one that failed in an earlier one
-answers_fallen : (place : ℕ) (failed : Bool) (m : Contents) (known : ℕ → Bool) (batches : List Batch) (ops : List Op) (outcomes : List Outcome) (op : Op) (outcome : Outcome) → FailsAt place ops outcomes → AreAnswers failed (Some place) m known batches ops outcomes → IsAnswerAt true m known (batches_after_all m batches ops outcomes) op outcome
-    → AreAnswers failed (Some place) m known batches (ops ++ op ∷ []) (outcomes ++ outcome ∷ [])
-answers_fallen zero failed m known batches [] outcomes op outcome at answers more = absurd at
-answers_fallen (suc place) failed m known batches [] outcomes op outcome at answers more = absurd at
-answers_fallen zero failed m known batches (p ∷ ops) [] op outcome at answers more = absurd at
-answers_fallen (suc place) failed m known batches (p ∷ ops) [] op outcome at answers more = absurd at
-answers_fallen zero failed m known batches (p ∷ ops) (o ∷ outcomes) op outcome at answers more = (answers.0, answers_steady true m known (batches_after m batches p o) ops outcomes op outcome answers.1 more)
-answers_fallen (suc place) failed m known batches (p ∷ ops) (o ∷ outcomes) op outcome at answers more = (answers.0, answers_fallen place failed m known (batches_after m batches p o) ops outcomes op outcome at.1 answers.1 more)
-
-module _ (m : Contents) (known : ℕ → Bool) (batches : List Batch) (ops : List Op) (outcomes : List Outcome) (op : Op) (outcome : Outcome) where
-  -- what the operation finds
-  abbrev found : List Batch
-  found = batches_after_all m batches ops outcomes
-
-  answers_kept : (had failed : Bool) (failed_at : Option ℕ) → failed ≡ (had || is_some failed_at) → IsFailurePlace had ops outcomes failed_at → AreAnswers had failed_at m known batches ops outcomes → IsAnswerAt failed m known found op outcome → AreAnswers had failed_at m known batches (ops ++ op ∷ []) (outcomes ++ outcome ∷ [])
-  answers_kept true failed None now at answers more = answers_steady true m known batches ops outcomes op outcome answers (subst (λ (b : Bool). IsAnswerAt b m known found op outcome) now more)
-  answers_kept false failed None now at answers more = answers_steady false m known batches ops outcomes op outcome answers (subst (λ (b : Bool). IsAnswerAt b m known found op outcome) now more)
-  answers_kept true failed (Some place) now at answers more = answers_fallen place true m known batches ops outcomes op outcome at.1 answers (subst (λ (b : Bool). IsAnswerAt b m known found op outcome) now more)
-  answers_kept false failed (Some place) now at answers more = answers_fallen place false m known batches ops outcomes op outcome at.1 answers (subst (λ (b : Bool). IsAnswerAt b m known found op outcome) now more)
-
-  answers_here : (had : Bool) (failed_at : Option ℕ) → false ≡ (had || is_some failed_at) → AreAnswers had failed_at m known batches ops outcomes → IsAnswerAt false m known found op outcome → AreAnswers had (Some (length ops)) m known batches (ops ++ op ∷ []) (outcomes ++ outcome ∷ [])
-  answers_here true failed_at now answers more = absurd cc
-  answers_here false None now answers more = answers_falls false m known batches ops outcomes op outcome answers more
-  answers_here false (Some place) now answers more = absurd cc
-
-  pub answers_more : (had failed fails : Bool) (failed_at next_at : Option ℕ) → failed ≡ (had || is_some failed_at) → IsFailurePlace had ops outcomes failed_at → IsFailing failed op outcome fails → IsNextPlace failed fails (length ops) failed_at next_at → AreAnswers had failed_at m known batches ops outcomes → IsAnswerAt failed m known found op outcome
-      → AreAnswers had next_at m known batches (ops ++ op ∷ []) (outcomes ++ outcome ∷ [])
-  answers_more had failed fails failed_at next_at now at is next answers more = by_case failed fails now is next more
-    where
-      by_place : (place : Option ℕ) → next_at ≡ place → AreAnswers had place m known batches (ops ++ op ∷ []) (outcomes ++ outcome ∷ []) → AreAnswers had next_at m known batches (ops ++ op ∷ []) (outcomes ++ outcome ∷ [])
-      by_place place same all = subst (λ (o : Option ℕ). AreAnswers had o m known batches (ops ++ op ∷ []) (outcomes ++ outcome ∷ [])) (sym same) all
-
-      by_case : (b c : Bool) → b ≡ (had || is_some failed_at) → IsFailing b op outcome c → IsNextPlace b c (length ops) failed_at next_at → IsAnswerAt b m known found op outcome → AreAnswers had next_at m known batches (ops ++ op ∷ []) (outcomes ++ outcome ∷ [])
-      by_case true true now is next more = by_place failed_at (next.rests refl) (answers_kept had true failed_at now at answers more)
-      by_case false false now is next more = by_place failed_at (next.rests refl) (answers_kept had false failed_at now at answers more)
-      by_case true false now is next more = absurd (let clash = still_by op outcome false is in cc)
-      by_case false true now is next more = by_place (Some (length ops)) (next.falls refl refl) (answers_here had failed_at now answers more)
+  pub answer_weaker : (failed : Bool) (m : Contents) (known : ℕ → Bool) (op : Op) (outcome : Outcome) → IsAnswer P failed m known op outcome → IsAnswer Q failed m known op outcome
+  answer_weaker failed m known (Write acts sync) (Size (Ok len)) is = is
+  answer_weaker failed m known (Write acts sync) (Size (Err e)) is = write_weaker m acts.items e is
+  answer_weaker failed m known (WriteGroup parts) (Sizes (Ok answers)) is = group_weaker m (batches_of_parts parts.items) answers.items is
+  answer_weaker failed m known (WriteGroup parts) (Sizes (Err e)) is = is
+  answer_weaker failed m known (CompactTo group index) (Count (Ok count)) is = is
+  answer_weaker failed m known (CompactTo group index) (Count (Err e)) is = compact_weaker e is
+  answer_weaker failed m known _ _ is = is
 
 -- before the first operation
 pub stands_so_far : (had : Bool) → had ≡ (had || false)

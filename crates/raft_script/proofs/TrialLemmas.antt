@@ -1,43 +1,46 @@
 -- What a trial's crash leaves, and what its opening finds.
-use Rattle.std.proofs.Common.{◌≡◌, ◌⊎◌, ⊎_elim, inl, inr, ℕ, List, [], ◌∷◌, ◌++◌, Option, Some, None, refl, sym, ap, subst, ◌∙◌}
-use Rattle.std.specs.Prelude.{Bool, IsSome, IfOk, IfErr, Result, Ok, Err, option_map}
+use Rattle.std.proofs.Common.{◌≡◌, ◌⊎◌, ⊎_elim, inl, inr, ℕ, false, true, List, [], ◌∷◌, ◌++◌, Option, Some, None, refl, sym, ap, subst, ◌∙◌}
+use Rattle.std.specs.Prelude.{Bool, IsSome, IfOk, IfErr, Result, Ok, Err, filter, is_some, map, option_map}
 use Rattle.std.specs.FinMap.{get-empty}
 use Rattle.std.specs.String.{string_bytes}
 use Rattle.std.proofs.Props.{props}
-use Rattle.std.proofs.Math.Logic.{∥∥₁_elim}
+use Rattle.std.proofs.Math.Logic.{∥∥₁_elim, ∥∥₁_map}
 use Rattle.std.proofs.Math.Path.{fun_ext}
 use Rattle.raft_records.specs.Contents.{Contents, no_contents}
 use Rattle.raft_records.specs.Item.{Batch}
 use Rattle.raft_base.specs.Fault.{fault_code}
+use Rattle.raft_base.specs.declared.pipe_log.FileId.{FileId}
 use Rattle.raft_memory.specs.Choice.{RefusesUnless, left_by, NameNoBytes}
 use Rattle.raft_env.specs.Consistent.{AreConsistent}
 use Rattle.raft_env.specs.Directory.{Directory, IsRestarted, Leaves, CrashImage, Path, file_at}
+use Rattle.raft_env.specs.Outcomes.{File, synced_file}
 use Rattle.raft_memory.specs.Memory.{no_files}
 use Rattle.raft_memory.specs.declared.crash.Choice.{Choice}
 use Rattle.raft_memory.proofs.ChoiceTornLemmas.{choices_may_leave}
-use Rattle.raft_held.specs.Crash.{RecoversContents, LeavesAllowedFrom, contents_after_crash}
+use Rattle.raft_files.specs.Writer.{bytes_at}
+use Rattle.raft_held.specs.Crash.{RecoversContents}
 use Rattle.raft_base.specs.declared.errors.Fault.{Fault}
 use Rattle.raft_base.specs.declared.errors.Fault.TheVariants as fault
 use Rattle.raft_log_engine.specs.Image.{IsImageOf}
 use Rattle.raft_log_engine.specs.declared.engine.image.Image.{Image}
 use Rattle.raft_tables.specs.Known.{known_in}
-use Rattle.raft_held.specs.Contents.{contents_at, known_at}
+use Rattle.raft_held.specs.Contents.{contents_at, known_at, recovered_groups}
 use Rattle.raft_base.specs.declared.pipe_log.LogQueue.{LogQueue}
 use Rattle.raft_base.specs.declared.pipe_log.LogQueue.TheVariants.{Append, Rewrite}
 use Rattle.raft_env.specs.Refusal.{Refusals}
 use Rattle.raft_config.specs.Config.{IsCopy}
-use Rattle.raft_config.specs.Folders.{Folders, beside_main, folders_in}
-use Rattle.raft_pipes.specs.Folder.{AreClear, HasFileFor, HasNoLog, readable_of, readable_queue}
-use Rattle.raft_script.specs.Durability.{LeavesAllowedAfter, Progress, progress_after_all, progress_from}
-use Rattle.raft_pipes.proofs.FolderQueueLemmas.{log_files-no_log}
+use Rattle.raft_config.specs.Folders.{Folders, all_of, beside_main, folders_in}
+use Rattle.raft_config.specs.Recovery.{tolerates_corruption}
+use Rattle.raft_pipes.specs.Files.{EachFile, HasDamageAmong, IsOpenableFile, is_last}
+use Rattle.raft_pipes.specs.Folder.{AreClear, HasFileFor, HasNoLog, log_files_of, readable_queue}
+use Rattle.raft_pipes.specs.LogFile.{IsDamage, IsOpenableLog}
+use Rattle.raft_pipes.specs.Numbered.{StandAlone, end_of_numbers, has_file, in_queue, last_run, path_of, paths_of}
+use Rattle.raft_pipes.specs.Queue.{HasDamageOf, IsOpenRefusalOf, IsOpenableOf, IsRefusalIn}
+use Rattle.raft_script.specs.Durability.{LeavesAllowedAfter, LeavesFrom, Progress, progress_after_all, progress_from}
 use Rattle.raft_pipes.proofs.TakenLemmas.{one_free}
-use Rattle.raft_pipes.specs.Queue.{IsOpenRefusalOf, IsRefusalIn}
-use Rattle.raft_held.specs.Queues.{AreOpenableIn, AreSingleIn, HaveDamageIn, HaveLeftDamage, IsOpeningRefusal, ReadCompletedRecordsIn}
-use Rattle.raft_log_engine.proofs.CrashLemmas.{clear_restarted, same_groups, same_queues, single_restarted}
-use Rattle.raft_log_engine.proofs.OpeningLemmas.{undamaged}
-use Rattle.raft_recovery.proofs.ContentsLemmas.{recovered-nothing_rewritten}
-use Rattle.raft_script.specs.Run.{IsStorageOrMemory}
-use Rattle.raft_script.specs.Trial.{HaveNoLogPath, IsLeftRefusal, IsLogRefusal, RunsOver}
+use Rattle.raft_held.specs.Queues.{AreOpenableIn, AreSingleIn, IsOpeningRefusal, ReadCompletedRecordsIn}
+use Rattle.raft_script.specs.Failure.{IsStorageOrMemory}
+use Rattle.raft_script.specs.Trial.{HaveNoLogPath, IsLogRefusal, Ran, RunsOver, Shown}
 use Rattle.raft_config.specs.declared.config.Config.{Config}
 use Rattle.raft_config.specs.declared.config.RecoveryMode.{RecoveryMode}
 use Rattle.raft_script.specs.declared.operation.Op.{Op}
@@ -54,24 +57,24 @@ no_progress m p [] = refl
 no_progress m p (op ∷ ops) = refl
 
 -- where the opening failed, no operation was done
-pub refused_after : (folders : Folders) (m : Contents) (ops : List Op) (n : Directory) → LeavesAllowedFrom 0 folders m [] n → LeavesAllowedAfter None folders m [] ops [] n
+pub refused_after : (folders : Folders) (m : Contents) (ops : List Op) (n : Directory) → LeavesFrom 0 folders m [] n → LeavesAllowedAfter None folders m [] ops [] n
 refused_after folders m ops n leaves =
-    ([], refl, subst (λ (p : Progress). LeavesAllowedFrom p.covered folders m (p.batches ++ []) n) (sym (no_progress m (progress_from []) ops)) leaves)
+    ([], refl, subst (λ (p : Progress). LeavesFrom p.covered folders m (p.batches ++ []) n) (sym (no_progress m (progress_from []) ops)) leaves)
 
 none_there : (n : Directory) → n ≡ no_files → (path : Path) → file_at n path ≡ None
 none_there n is path = ap (λ (x : Directory). file_at x path) is ∙ get-empty _ path
 
-no_log : (folders : Folders) (n : Directory) → n ≡ no_files → HasNoLog folders n
+pub no_log : (folders : Folders) (n : Directory) → n ≡ no_files → HasNoLog folders n
 no_log folders n is = λ q named. none_there n is q
 
--- where there are no files nothing can be read
-pub none_readable : (queue : LogQueue) (folders : Folders) (n : Directory) → n ≡ no_files → readable_queue queue folders n ≡ []
-none_readable queue folders n is = ap (readable_of queue n) (log_files-no_log queue folders n (no_log folders n is))
-
 -- .. and no folder's place is taken but by the path of a log file
-clear_of_none : (folders : Folders) (n : Directory) → HaveNoLogPath folders → n ≡ no_files → HasFileFor folders n → ⊥
+pub clear_of_none : (folders : Folders) (n : Directory) → HaveNoLogPath folders → n ≡ no_files → HasFileFor folders n → ⊥
 clear_of_none folders n free is (folder, among, inl there) = let clash = subst IsSome (none_there n is folder) there in absurd cc
 clear_of_none folders n free is (folder, among, inr log) = free folder among log
+
+-- where a log could be opened, no folder has such a path
+pub free_of_clear : (folders : Folders) (n : Directory) → AreClear folders n → HaveNoLogPath folders
+free_of_clear folders n clear = λ folder among log. clear (folder, among, inr log)
 
 -- as a folder alone hasn't it
 pub one_has_no_log_path : (folders : Folders) → folders.spill ≡ None → HaveNoLogPath folders
@@ -86,22 +89,26 @@ none_done folders n done is = done (no_log folders n is)
 pub true_of_none : {P : Type 0} (folders : Folders) (n : Directory) → (HasNoLog folders n → AreClear folders n → P) → HaveNoLogPath folders → n ≡ no_files → P
 true_of_none folders n told free is = told (no_log folders n is) (clear_of_none folders n free is)
 
+-- of folders of which nothing can be read no group is known
+pub none_known : (folders : Folders) (n : Directory) → ((queue : LogQueue) → readable_queue queue folders n ≡ []) → known_at folders n ≡ known_in []
+none_known folders n none =
+    ap (λ (r : List Batch). recovered_groups r (readable_queue Append folders n)) (none Rewrite) ∙ ap (recovered_groups []) (none Append)
+
 -- what a run shows that began with no files
-pub run_shown : (dir : Folders) (before n : Directory) (ops : List Op) (outcomes : List Outcome) (failed_at : Option ℕ) → ((queue : LogQueue) → readable_queue queue dir before ≡ []) → RecoversContents dir no_contents [] before
-    → (RecoversContents dir (contents_at dir before) [] before → RunsOver dir (contents_at dir before) (known_at dir before) ops outcomes failed_at n) → RunsOver dir no_contents (known_in []) ops outcomes failed_at n
-run_shown dir before n ops outcomes failed_at none keeps ran =
-    let contents : contents_at dir before ≡ no_contents = same_queues dir before [] [] (none Rewrite) (none Append) ∙ recovered-nothing_rewritten [] in
-    let groups : known_at dir before ≡ known_in [] = fun_ext (same_groups dir before [] [] (none Rewrite) (none Append)) in
-    subst (λ (k : ℕ → Bool). RunsOver dir no_contents k ops outcomes failed_at n) groups
-    (subst (λ (m : Contents). RunsOver dir m (known_at dir before) ops outcomes failed_at n) contents (ran (subst (λ (m : Contents). RecoversContents dir m [] before) (sym contents) keeps)))
+pub run_shown : (config : Config) (ops : List Op) (ran : Ran) (old new : Shown) → let dir = folders_in config in known_at dir old.files ≡ known_in [] → (contents_at dir old.files ≡ no_contents) × RecoversContents dir no_contents [] old.files
+    → (RecoversContents dir (contents_at dir old.files) [] old.files → RunsOver config (contents_at dir old.files) (known_at dir old.files) ops ran old new) → RunsOver config no_contents (known_in []) ops ran old new
+run_shown config ops ran old new groups none runs =
+    let dir = folders_in config in
+    subst (λ (k : ℕ → Bool). RunsOver config no_contents k ops ran old new) groups
+    (subst (λ (m : Contents). RunsOver config m (known_at dir old.files) ops ran old new) none.0 (runs (subst (λ (m : Contents). RecoversContents dir m [] old.files) (sym none.0) none.1)))
 
 same_opened : {m m' : Contents} (opened : Result Image Fault) → m ≡ m' → IfOk opened (λ image. IsImageOf image.groups.items m) → IfOk opened (λ image. IsImageOf image.groups.items m')
 same_opened (Ok image) same is = subst (IsImageOf image.groups.items) same is
 same_opened (Err e) same is = is
 
--- the image of what a crash left
-pub image_restarted : (dir folders : Folders) (n m : Directory) (d : CrashImage) (opened : Result Image Fault) → dir ≡ folders → contents_at folders m ≡ contents_after_crash folders n d → IfOk opened (λ image. IsImageOf image.groups.items (contents_at dir m)) → IfOk opened (λ image. IsImageOf image.groups.items (contents_after_crash folders n d))
-image_restarted dir folders n m d opened same found is = same_opened opened (ap (λ (p : Folders). contents_at p m) same ∙ found) is
+-- the image of files under a copy of the settings
+pub image_same : (dir folders : Folders) (n : Directory) (opened : Result Image Fault) → dir ≡ folders → IfOk opened (λ image. IsImageOf image.groups.items (contents_at dir n)) → IfOk opened (λ image. IsImageOf image.groups.items (contents_at folders n))
+image_same dir folders n opened same is = same_opened opened (ap (λ (p : Folders). contents_at p n) same) is
 
 -- copies of settings name the same folders
 pub same_folders : (c copy : Config) → IsCopy c copy → folders_in copy ≡ folders_in c
@@ -113,6 +120,21 @@ same_folders c copy is =
 if_err : {T G : Type 0} (P Q : G → Type 0) (result : Result T G) → ((e : G) → P e → Q e) → IfErr result P → IfErr result Q
 if_err P Q (Ok x) f holds = tt
 if_err P Q (Err e) f holds = f e holds
+
+-- bytes that can be opened aren't damaged
+not_damaged : (id : FileId) (is_tolerant : Bool) (bytes : List ℕ) (e : Fault) → IsOpenableLog id is_tolerant bytes → IsDamage id is_tolerant bytes e → ⊥
+not_damaged id is_tolerant bytes fault.Corruption openable damage = damage.1 openable
+not_damaged id is_tolerant bytes fault.Range openable damage = let clash : false ≡ true = sym damage ∙ openable.places in absurd cc
+not_damaged id is_tolerant bytes fault.Lz4 openable damage = openable.unmarked damage.read damage.is_read damage.marked
+not_damaged id is_tolerant bytes _ openable damage = damage
+
+none_damaged : (mode : RecoveryMode) (queue : LogQueue) (bytes : Path → List ℕ) (files : List (ℕ × Path)) (e : Fault) → EachFile (IsOpenableFile mode queue bytes) files → HasDamageAmong mode queue bytes files e → ⊥
+none_damaged mode queue bytes [] e openable damage = damage
+none_damaged mode queue bytes (f ∷ files) e openable (inl damage) = not_damaged (in_queue queue f.0) (tolerates_corruption mode (is_last files)) (bytes f.1) e openable.0 damage
+none_damaged mode queue bytes (f ∷ files) e openable (inr damage) = none_damaged mode queue bytes files e openable.1 damage.1
+
+undamaged : (queue : LogQueue) (mode : RecoveryMode) (folders : Folders) (n : Directory) (e : Fault) → IsOpenableOf queue mode folders n → HasDamageOf queue mode folders n e → ⊥
+undamaged queue mode folders n e = none_damaged mode queue (λ path. bytes_at path n) (log_files_of queue folders n) e
 
 -- where the log can be opened, no folder's place is taken and no number stands in both, an opening fails by storage or for lack of memory
 pub refused_outside : (mode : RecoveryMode) (folders : Folders) (n : Directory) (old new : Refusals) (e : Fault) → IsOpeningRefusal mode folders n old new e → AreOpenableIn mode folders n → AreClear folders n → AreSingleIn folders n → IsStorageOrMemory e
@@ -142,7 +164,6 @@ refused_inside mode folders n old new e (queue, refused) clear single = by_fault
     by_fault fault.Memory refused = inl tt
     by_fault _ refused = absurd refused
 
--- an opening of files that a crash left sound
 -- what a read of an engine's image fails as
 pub read_fails : (folders : Folders) (old new : Refusals) (e : Fault) → IsRefusalIn folders old new e → IsStorageOrMemory e
 read_fails folders old new (fault.Io kind text) refused = tt
@@ -157,16 +178,35 @@ opened_outside mode again folders dir m opened mode_is dir_is opens clear single
     let alone : AreSingleIn dir m = subst (λ (p : Folders). AreSingleIn p m) (sym dir_is) single in
     if_err _ _ opened (λ e outside. outside openable free alone) refused
 
--- an opening of files that a crash left, where no folder's place was taken and no number stood in both
-pub opened_log : (C C' : Fault → Type 0) (mode again : RecoveryMode) (folders dir : Folders) (n m : Directory) (d : CrashImage) (opened : Result Image Fault) → ((e : Fault) → C' e → C e) → again ≡ mode → dir ≡ folders → IsRestarted n d m → AreClear folders n → AreSingleIn folders n → ((e : Fault) → HaveDamageIn mode folders m e → HaveLeftDamage mode folders n d e)
-    → IfErr opened (λ e. AreClear dir m → AreSingleIn dir m → C' e ⊎ IsLogRefusal again dir m e) → IfErr opened (λ e. C e ⊎ IsLeftRefusal mode folders n d e)
-opened_log C C' mode again folders dir n m d opened same mode_is dir_is restarted clear single left_damage refused =
+-- a crash leaves the names of the files
+restarted_stands : (n m : Directory) (d : CrashImage) → IsRestarted n d m → (q : Path) → has_file m q ≡ has_file n q
+restarted_stands n m d restarted q = ap is_some (restarted.each q) ∙ is_some-map (file_at n q)
+  where
+    is_some-map : (o : Option File) → is_some (option_map (λ _. synced_file (d q)) o) ≡ is_some o
+    is_some-map None = refl
+    is_some-map (Some file) = refl
+
+paths_same : (folders : List Path) (queue : LogQueue) (n m : Directory) → ((q : Path) → has_file m q ≡ has_file n q) → paths_of folders queue m ≡ paths_of folders queue n
+paths_same folders queue n m same = fun_ext (λ seq. ap (λ (stands : Path → Bool). filter stands (map (λ (folder : Path). path_of folder (in_queue queue seq)) folders)) (fun_ext same))
+
+-- .. so that folders stay free and numbers alone
+pub single_restarted : (folders : Folders) (n m : Directory) (d : CrashImage) → IsRestarted n d m → AreSingleIn folders n → AreSingleIn folders m
+single_restarted folders n m d restarted single = λ queue. ∥∥₁_map (single queue)
+    (subst (λ (here : ℕ → List Path). StandAlone here (last_run here end_of_numbers)) (sym (paths_same (all_of folders) queue n m (restarted_stands n m d restarted))))
+
+pub clear_restarted : (folders : Folders) (n m : Directory) (d : CrashImage) → IsRestarted n d m → AreClear folders n → AreClear folders m
+clear_restarted folders n m d restarted clear (folder, among, inl there) = clear (folder, among, inl (sym (restarted_stands n m d restarted folder) ∙ there))
+clear_restarted folders n m d restarted clear (folder, among, inr log) = clear (folder, among, inr log)
+
+-- an opening with a copy of the settings of files where no folder's place is taken and no number
+-- stands in both
+pub opened_log : (C C' : Fault → Type 0) (mode again : RecoveryMode) (folders dir : Folders) (m : Directory) (opened : Result Image Fault) → ((e : Fault) → C' e → C e) → again ≡ mode → dir ≡ folders → AreClear folders m → AreSingleIn folders m
+    → IfErr opened (λ e. AreClear dir m → AreSingleIn dir m → C' e ⊎ IsLogRefusal again dir m e) → IfErr opened (λ e. C e ⊎ IsLogRefusal mode folders m e)
+opened_log C C' mode again folders dir m opened same mode_is dir_is clear single refused =
     if_err _ _ opened (λ e cause.
-    let free : AreClear dir m = subst (λ (p : Folders). AreClear p m) (sym dir_is) (clear_restarted folders n m d restarted clear) in
-    let alone : AreSingleIn dir m = subst (λ (p : Folders). AreSingleIn p m) (sym dir_is) (single_restarted folders n m d restarted single) in
-    ⊎_elim (λ no. inl (same e no)) (λ log.
-    let there : IsLogRefusal mode folders m e = subst (λ (x : RecoveryMode). IsLogRefusal x folders m e) mode_is (subst (λ (p : Folders). IsLogRefusal again p m e) dir_is log) in
-    inr (⊎_elim inl (λ damage. inr (left_damage e damage)) there)) (cause free alone)) refused
+    let free : AreClear dir m = subst (λ (p : Folders). AreClear p m) (sym dir_is) clear in
+    let alone : AreSingleIn dir m = subst (λ (p : Folders). AreSingleIn p m) (sym dir_is) single in
+    ⊎_elim (λ no. inl (same e no)) (λ log. inr (subst (λ (x : RecoveryMode). IsLogRefusal x folders m e) mode_is (subst (λ (p : Folders). IsLogRefusal again p m e) dir_is log))) (cause free alone)) refused
 
 -- Why the choices are refused.
 

@@ -1,4 +1,6 @@
+pub mod Batches
 pub mod Run
+pub mod Failure
 pub mod Durability
 pub mod Entry
 pub mod Trial

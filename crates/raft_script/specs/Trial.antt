@@ -1,19 +1,26 @@
 -- What a trial shows.
-use Rattle.std.specs.Prelude.{◌≡◌, ◌⊎◌, ℕ, Bool, Contains, false, List, [], ◌++◌, Option, None, IfOk, IfErr}
+use Rattle.std.specs.Prelude.{◌≡◌, ◌⊎◌, ℕ, Bool, Contains, false, List, [], ◌++◌, Option, Some, None, IfOk, IfErr}
 use Rattle.raft_records.specs.Contents.{Contents, no_contents}
 use Rattle.raft_tables.specs.Known.{known_in}
 use Rattle.raft_base.specs.declared.errors.Fault.{Fault}
-use Rattle.raft_memory.specs.Choice.{AreWhole, left_by}
-use Rattle.raft_memory.specs.Memory.{memory_directory, memory_moments, no_files, stop_of}
+use Rattle.raft_memory.specs.Choice.{AreWhole, NameNoBytes, left_by}
+use Rattle.raft_memory.specs.Memory.{memory_directory, memory_moments, memory_refusals, no_files, stop_of}
 use Rattle.raft_memory.specs.declared.memory.MemoryFileSystem.{MemoryFileSystem}
 use Rattle.raft_env.specs.Consistent.{AreConsistent}
-use Rattle.raft_env.specs.Directory.{CrashImage, Directory, Leaves, Path}
+use Rattle.raft_env.specs.Directory.{Directory, IsRestarted, Leaves, Path, file_at}
+use Rattle.raft_env.specs.Outcomes.{File}
+use Rattle.raft_base.specs.declared.pipe_log.LogQueue.{LogQueue}
+use Rattle.raft_damage.specs.DetectableDamage.{EachAddsOnlyItsRecord, IsReadAsBefore}
+use Rattle.raft_pipes.specs.Numbered.{in_queue}
+use Rattle.raft_pipes.specs.QueueFiles.{last_kept}
+use Rattle.raft_env.specs.Refusal.{Refusals, no_refusals}
 use Rattle.raft_memory.specs.declared.crash.Choice.{Choice}
-use Rattle.raft_held.specs.Crash.{RecoversContents, contents_after_crash}
+use Rattle.raft_held.specs.Contents.{contents_at}
+use Rattle.raft_held.specs.Crash.{RecoversContents}
 use Rattle.raft_log_engine.specs.Image.{IsImageOf}
-use Rattle.raft_script.specs.Durability.{LeavesAllowedAfter}
-use Rattle.raft_held.specs.Queues.{AreDetectableIn, AreSingleIn, HaveDamageIn, HaveLeftDamage, HaveSimplePastIn}
-use Rattle.raft_script.specs.Run.{AreAnswers, IsFailurePlace, IsStorageOrMemory}
+use Rattle.raft_script.specs.Durability.{LeavesAllowedAfter, State, Steps, progress_from}
+use Rattle.raft_held.specs.Queues.{AreDetectableIn, AreSingleIn, HaveDamageIn, HaveSimplePastIn, IsOpeningRefusal}
+use Rattle.raft_script.specs.Failure.{IsStorageOrMemory, StorageRefusalsRoseBy, io_count}
 use Rattle.raft_pipes.specs.Folder.{AreClear, IsLogPath, IsReservedPath}
 use Rattle.raft_config.specs.Folders.{Folders, all_of, folders_in}
 use Rattle.raft_config.specs.Sanitized.{IsContradiction, contradiction}
@@ -24,32 +31,60 @@ use Rattle.raft_script.specs.declared.operation.Op.{Op}
 use Rattle.raft_script.specs.declared.operation.Outcome.{Outcome}
 use Rattle.raft_script.specs.declared.operation.Trial.{Trial}
 
--- the operations were answered by an engine that stood before them, and held these contents and
--- groups
-pub record AreAnswered (m : Contents) (known : ℕ → Bool) (ops : List Op) (outcomes : List Outcome)
-    (failed_at : Option ℕ) : Type 0 where
-  pub answers : AreAnswers false failed_at m known [] ops outcomes
-  pub place : IsFailurePlace false ops outcomes failed_at
+-- files, each directory that there was, and how many calls failed
+pub record Shown : Type 0 where
+  pub files : Directory
+  pub moments : List Directory
+  pub refusals : Refusals
 
--- the opening failed, and no operation was done; the files keep what they kept
-pub record AreNotAsked (folders : Folders) (m : Contents) (files : Directory)
-    (outcomes : List Outcome) (failed_at : Option ℕ) : Type 0 where
-  pub none : outcomes ≡ []
-  pub stands : failed_at ≡ None
-  pub files_keep : RecoversContents folders m [] files
+-- what files in memory show
+abbrev pub shown_of : MemoryFileSystem → Shown
+shown_of memory = record {
+  files = memory_directory memory;
+  moments = memory_moments memory;
+  refusals = memory_refusals memory;
+}
 
--- operations over folders that hold these contents and groups, from an opening on: the files as
--- they were left
-pub record RunsOver (folders : Folders) (m : Contents) (known : ℕ → Bool) (ops : List Op)
-    (outcomes : List Outcome) (failed_at : Option ℕ) (files : Directory) : Type 0 where
-  pub answered : AreAnswered m known ops outcomes failed_at
-      ⊎ AreNotAsked folders m files outcomes failed_at
+-- what was answered in a run, where the engine failed, and why it wasn't opened
+pub record Ran : Type 0 where
+  pub outcomes : List Outcome
+  pub failed_at : Option ℕ
+  pub refused : Option Fault
+
+-- the operations were answered by an engine that was opened with these contents and groups
+pub record AreAnswered (folders : Folders) (m : Contents) (known : ℕ → Bool) (ops : List Op)
+    (ran : Ran) (new : Shown) : Type 0 where
+  pub opened : ran.refused ≡ None
+  pub before : State
+  pub stands : before.failed ≡ false
+  pub now : State
+  pub moments : now.moments ≡ new.moments
+  pub steps : Steps folders m known (progress_from []) before ops ran.outcomes ran.failed_at now
+  -- storage counted at least as many failed calls as answered `Io`
+  pub counted : StorageRefusalsRoseBy (io_count ran.outcomes) no_refusals new.refusals
+
+-- the opening failed for such a cause, and no operation was done; the files keep what they kept
+pub record AreNotAsked (config : Config) (m : Contents) (ran : Ran) (old new : Shown)
+    : Type 0 where
+  pub fault : Fault
+  pub refused : ran.refused ≡ Some fault
+  pub cause : IsContradiction config fault ⊎ IsOpeningRefusal config.recovery_mode
+      (folders_in config) old.files old.refusals new.refusals fault
+  pub none : ran.outcomes ≡ []
+  pub stands : ran.failed_at ≡ None
+  pub files_keep : RecoversContents (folders_in config) m [] new.files
+
+-- operations over folders that hold these contents and groups, from an opening on
+pub record RunsOver (config : Config) (m : Contents) (known : ℕ → Bool) (ops : List Op) (ran : Ran)
+    (old new : Shown) : Type 0 where
+  pub answered : AreAnswered (folders_in config) m known ops ran new
+      ⊎ AreNotAsked config m ran old new
   -- a crash leaves of them a prefix of what was accepted, and of what the operation had in flight
   -- in which the engine failed
-  pub after : LeavesAllowedAfter failed_at folders m [] ops outcomes files
+  pub after : LeavesAllowedAfter ran.failed_at (folders_in config) m [] ops ran.outcomes new.files
   -- no folder's place is taken, and no number of a kept log file stands in both
-  pub clear : AreClear folders files
-  pub single : AreSingleIn folders files
+  pub clear : AreClear (folders_in config) new.files
+  pub single : AreSingleIn (folders_in config) new.files
 
 -- no folder has the path of a log file or of a reserved one, as one can have that stands in the other
 abbrev pub HaveNoLogPath : Folders → Type 0
@@ -58,34 +93,32 @@ HaveNoLogPath folders = (folder : Path) → Contains (all_of folders) folder
 
 -- operations over files in memory that were empty, with this stop for the calls from the first
 -- opening on: the files once they are done
-pub record RunsFromEmpty (folders : Folders) (ops : List Op) (stop : Option ℕ)
-    (outcomes : List Outcome) (failed_at : Option ℕ) (last : MemoryFileSystem) : Type 0 where
+pub record RunsFromEmpty (config : Config) (ops : List Op) (stop : Option ℕ) (ran : Ran)
+    (last : MemoryFileSystem) : Type 0 where
   pub first : MemoryFileSystem
   pub stop_is : stop_of first ≡ stop
   pub none : memory_directory first ≡ no_files
+  pub uncounted : memory_refusals first ≡ no_refusals
   -- the moments there were by then follow those of the first files
   pub added : List Directory
   pub later : memory_moments last ≡ added ++ memory_moments first
+  -- where the opening succeeded no folder has such a path
+  pub free : ran.refused ≡ None → HaveNoLogPath (folders_in config)
   -- said of folders of which none has such a path
-  pub ran : HaveNoLogPath folders
-      → RunsOver folders no_contents (known_in []) ops outcomes failed_at (memory_directory last)
+  pub runs : HaveNoLogPath (folders_in config)
+      → RunsOver config no_contents (known_in []) ops ran (shown_of first) (shown_of last)
 
 -- they may leave files of which storage may not leave what the choices say
-pub record AreNotAllowed (folders : Folders) (ops : List Op) (stop : Option ℕ)
+pub record AreNotAllowed (config : Config) (ops : List Op) (stop : Option ℕ)
     (choices : List Choice) : Type 0 where
-  pub outcomes : List Outcome
-  pub failed_at : Option ℕ
+  pub ran : Ran
   pub last : MemoryFileSystem
-  pub runs : RunsFromEmpty folders ops stop outcomes failed_at last
+  pub runs : RunsFromEmpty config ops stop ran last
   pub refused : let files = memory_directory last in Leaves files (left_by choices files) → ⊥
 
 -- an opening fails by storage, for lack of memory, or for the damage of the log in the folders
 abbrev pub IsLogRefusal : RecoveryMode → Folders → Directory → Fault → Type 0
 IsLogRefusal mode folders files e = IsStorageOrMemory e ⊎ HaveDamageIn mode folders files e
-
--- .. of what a crash left of it
-abbrev pub IsLeftRefusal : RecoveryMode → Folders → Directory → CrashImage → Fault → Type 0
-IsLeftRefusal mode folders files d e = IsStorageOrMemory e ⊎ HaveLeftDamage mode folders files d e
 
 -- where only writes failed on the log of consistent files, choices that leave each file whole, as it
 -- is now or as it was synced, leave detectable damage of it
@@ -94,24 +127,42 @@ LeavesDetectable folders files = HaveSimplePastIn folders files → AreConsisten
     → (choices : List Choice) → AreWhole choices
     → ∥ AreDetectableIn folders files (left_by choices files) ∥₁
 
+-- of the last log file of each queue, if it was never renamed, each call brought no record but the one
+-- that it was to write, and the choices leave what is read as it was at a moment since its last sync
+abbrev pub AreReadAsBefore : Folders → Directory → List Choice → Type 0
+AreReadAsBefore folders files choices = (queue : LogQueue) (f : ℕ × Path) (file : File)
+    → last_kept (all_of folders) queue files ≡ Some f → file_at files f.1 ≡ Some file
+    → let id = in_queue queue f.0 in (file.renamed_after ≡ None) × EachAddsOnlyItsRecord id file
+    × IsReadAsBefore id file (left_by choices files f.1)
+
+-- what a trial showed of the run
+abbrev pub ran_in : Trial → Ran
+ran_in t =
+    record { outcomes = t.outcomes.items; failed_at = t.failed_at; refused = t.refused }
+
 -- operations over files that were empty, then a crash by these choices, then an opening with the
 -- same settings
 pub record IsTrialOf (config : Config) (ops : List Op) (stop : Option ℕ) (choices : List Choice)
     (t : Trial) : Type 0 where
   pub last : MemoryFileSystem
-  pub runs : RunsFromEmpty (folders_in config) ops stop t.outcomes.items t.failed_at last
-  -- storage may leave of them what the choices say
+  pub runs : RunsFromEmpty config ops stop (ran_in t) last
+  -- storage may leave of the files what the choices say, and so they stand after the crash
   pub left : let files = memory_directory last in Leaves files (left_by choices files)
-  -- where an engine answered and none failed, choices that leave each file whole, as it is now or as
+  pub after : Directory
+  pub restarted : let files = memory_directory last in
+      IsRestarted files (left_by choices files) after
+  -- where an engine was opened and none failed, choices that leave each file whole, as it is now or as
   -- it was synced, leave detectable damage of queues whose last files were never renamed
-  pub detectable : t.failed_at ≡ None → (t.outcomes.items ≡ [] → ⊥) → AreWhole choices
+  pub detectable : t.refused ≡ None → t.failed_at ≡ None → AreWhole choices
       → let files = memory_directory last in HaveSimplePastIn (folders_in config) files
       → ∥ AreDetectableIn (folders_in config) files (left_by choices files) ∥₁
+  -- .. whatever failed, and also of files that are left torn, where they are read as before
+  pub torn : NameNoBytes choices → let files = memory_directory last in
+      AreReadAsBefore (folders_in config) files choices
+      → AreDetectableIn (folders_in config) files (left_by choices files)
   -- the opening found what the choices leave
-  pub found : let files = memory_directory last in
-      IfOk t.opened (λ image.
-      IsImageOf image.groups.items
-      (contents_after_crash (folders_in config) files (left_by choices files)))
+  pub found : IfOk t.opened (λ image.
+      IsImageOf image.groups.items (contents_at (folders_in config) after))
   -- where no folder has the path of a log file, a tolerant one doesn't fail for what they leave of
   -- detectable damage
   pub refused : let files = memory_directory last in HaveNoLogPath (folders_in config)
@@ -120,6 +171,5 @@ pub record IsTrialOf (config : Config) (ops : List Op) (stop : Option ℕ) (choi
       → IfErr t.opened IsStorageOrMemory
   -- .. and in any mode and of any damage it fails where settings contradict one another, by
   -- storage, for lack of memory, or for what is left of the log
-  pub cause : let files = memory_directory last in HaveNoLogPath (folders_in config)
-      → IfErr t.opened (λ e. IsContradiction config e ⊎ IsLeftRefusal config.recovery_mode
-      (folders_in config) files (left_by choices files) e)
+  pub cause : HaveNoLogPath (folders_in config) → IfErr t.opened (λ e. IsContradiction config e
+      ⊎ IsLogRefusal config.recovery_mode (folders_in config) after e)

@@ -73,6 +73,8 @@ pub struct Trial {
     pub outcomes: Vec<Outcome>,
     /// The place, counted from 0, of the operation in which the engine failed.
     pub failed_at: Option<usize>,
+    /// Why the first opening failed, if it did.
+    pub refused: Option<Fault>,
     /// What the opening after the crash found.
     pub opened: Result<Image, Fault>,
 }

@@ -1,24 +1,29 @@
 //! Operations one after the other, each with its outcome.
-ghost use Rattle.std.specs.Prelude.{All, ◌≡◌, ◌⊎◌, ◌≤◌, ◌^◌, ◌++◌, false, length, map, Some, None, IfOk, IfErr, OnOk, OnErr};
-ghost use Rattle.raft_records.specs.Contents.{after_batches};
+ghost use Rattle.std.specs.Prelude.{All, ◌≡◌, ◌⊎◌, ◌≤◌, ◌^◌, ◌++◌, ℕ, List, false, length, map, Some, None, IfOk, IfErr, OnOk, OnErr};
+ghost use Rattle.raft_records.specs.Contents.{Contents, after_batches};
 ghost use Rattle.raft_base.specs.Fault.{fault_code};
 ghost use Rattle.raft_records.specs.Batch.{raw_entries, size_refusal, with_entries_item};
 ghost use Rattle.raft_records.specs.Item.{Batch};
 ghost use Rattle.raft_records.specs.Layout.{entry_bytes};
-ghost use Rattle.raft_held.specs.Crash.{LeavesAllowed};
+ghost use Rattle.raft_config.specs.Folders.{Folders};
+ghost use Rattle.raft_env.specs.Directory.{Directory};
+ghost use Rattle.raft_held.specs.Crash.{LeavesAllowedFrom};
+ghost use Rattle.raft_pipes.specs.PipeState.{HasLastNumber};
 ghost use Rattle.raft_log_engine.specs.Group.{items_of};
-ghost use Rattle.raft_log_engine.specs.Engine.{begun_of, contents_of, directory_of, durable_of, folders_of, has_failed, refusals_of, unsynced_of};
+ghost use Rattle.raft_log_engine.specs.Engine.{begun_of, contents_of, directory_of, durable_of, folders_of, has_failed, queue_of, refusals_of, unsynced_of};
 ghost use Rattle.raft_script.specs.Entry.{indexed_bytes};
-ghost use Rattle.raft_script.specs.Durability.{AreAllowedInside, Does, HaveRun, IsAnswerOf, Runs};
+ghost use Rattle.raft_script.specs.Durability.{AreAllowedInside, Does, HaveRun, IsAnswerOf, IsOutOfNumbersIn, LeavesFrom, Runs, state_of};
 ghost use Rattle.raft_script.specs.Purges.{HasPurgedAs};
-ghost use Rattle.raft_script.specs.Run.{IsUnbuilt, IsUnbuiltGroup, IsFailing, IsUnasked, Refuses, accepted_of, batch_of_acts, batches_of_parts, items_of_act};
+ghost use Rattle.raft_script.specs.Batches.{accepted_of, batch_of_acts, batches_of_parts, items_of_act};
+ghost use Rattle.raft_script.specs.Failure.{IsFailing, Refuses};
+ghost use Rattle.raft_script.specs.Run.{IsUnbuilt, IsUnbuiltGroup, IsUnasked};
 
 use crate::operation::{Act, Op, Outcome};
 use crate::text_entry::TextEntry;
 use raft_env::FileSystem;
 use raft_log_engine::Engine;
-use raft_log_engine::laws::an_engine_recovers_what_it_keeps;
-use raft_records::{Command, EntryIndex, Fault, FileSeq, LogBatch};
+use raft_log_engine::laws::{an_engine_recovers_what_it_keeps, crash_leaves_contents};
+use raft_records::{Command, EntryIndex, Fault, FileSeq, LogBatch, LogQueue};
 use std::alloc::{AllocError, Global};
 
 /// Outcomes, and the place of the operation in which the engine failed.
@@ -31,16 +36,17 @@ pub(crate) struct RunReport {
 /// Does the operations in order, each with its outcome. Where there is no memory for the list of outcomes, the engine
 /// is not asked.
 ///
-/// The engine notes what there was each time that it answered a write, a compaction, a sync or a purge, and what that
-/// call was to write. A crash after one note and up to the next leaves, if its damage is detectable, a prefix of the batches
-/// accepted before that operation, or all of them and a prefix of its own batches (of a group of any choice of them,
-/// in order), with every one that an answered sync covered before it. Once the operation is answered and the engine
-/// stands, a crash leaves a prefix of what was accepted by then, with every covered write. Each answer says whether
-/// the engine failed, and a call of a failed engine adds no moment. Reads, a write or a group whose batches can't be
-/// built, and a compaction for which there was no memory have no note of their own: moments in them, if any, count to
-/// the next call that is noted.
+/// The headline is five clauses. `any_moment`: a crash inside the run. `left`: one after it, up to the first change of
+/// the next call. `Engine::open_in_order`, `contents` and `refused`: what an opening makes of the files then; its
+/// `any_moment`: a crash inside it. `laws::the_damage_of_an_engine_is_detectable`: that the premise can be met.
 ///
-/// After the operations the accepted batches that are covered are durable, and no more, and the others stand
+/// A crash inside an operation, if its damage is detectable, leaves files that an opening takes in each mode but the
+/// absolute one. It finds a prefix of the batches accepted before the operation, or all of them and a prefix of its own
+/// (of a group any choice of them, in order), with every one that an answered sync covered before. Once the operation
+/// is answered and the engine stands, a crash leaves a prefix of what was accepted by then, with every covered batch.
+/// A failed engine adds no moment. Which moments are inside which operation, each call of `Engine` says of its own.
+///
+/// After the operations the accepted batches that are covered count as durable, and no more, and the others stand
 /// unsynced. At least as many calls as answer `Io` were refused by storage. Where all operations are reads, but of
 /// entries, and writes of acts without a batch, the engine stays as it was. The settings' folders stay, and so does
 /// the engine's note of the files that its opening found.
@@ -52,7 +58,7 @@ pub fn run<F: FileSystem>(
     ensures any_moment { IfOk result (λ outcomes.
         AreAllowedInside ops.now outcomes.items engine.old engine.new) }
     ensures ok { IfOk result (λ outcomes. HaveRun ops.now outcomes.items engine.old engine.new) }
-    ensures left { LeavesAllowed (folders_of engine.new) (durable_of engine.new)
+    ensures left { LeavesFrom 0 (folders_of engine.new) (durable_of engine.new)
         (unsynced_of engine.new) (directory_of engine.new) }
     ensures unchanged { All IsUnasked ops.now → engine.new ≡ engine.old }
     ensures folder { folders_of engine.new ≡ folders_of engine.old }
@@ -73,7 +79,7 @@ pub(crate) fn run_watched<F: FileSystem>(
         AreAllowedInside ops.now ran.outcomes.items engine.old engine.new) }
     ensures ok { IfOk result (λ ran.
         Runs ops.now ran.outcomes.items ran.failed_at engine.old engine.new) }
-    ensures left { LeavesAllowed (folders_of engine.new) (durable_of engine.new)
+    ensures left { LeavesFrom 0 (folders_of engine.new) (durable_of engine.new)
         (unsynced_of engine.new) (directory_of engine.new) }
     ensures unchanged { All IsUnasked ops.now → engine.new ≡ engine.old }
     ensures folder { folders_of engine.new ≡ folders_of engine.old }
@@ -81,6 +87,7 @@ pub(crate) fn run_watched<F: FileSystem>(
     ensures err { OnErr result (engine.new ≡ engine.old) }
     ensures cause { IfErr result (λ e. e ≡ Fault.Memory) }
 {
+    crash_is_said_of_files();
     an_engine_recovers_what_it_keeps(engine);
     let mut outcomes = Vec::with_capacity(alloc, ops.len())?;
     let mut failed_at = None;
@@ -88,6 +95,7 @@ pub(crate) fn run_watched<F: FileSystem>(
         let stood = !engine.failed();
         let outcome = step(alloc, engine, op);
         an_engine_recovers_what_it_keeps(engine);
+        last_number_stands(engine);
         if stood && engine.failed() {
             failed_at = Some(outcomes.len());
         }
@@ -99,9 +107,25 @@ pub(crate) fn run_watched<F: FileSystem>(
     })
 }
 
+// What a crash leaves of detectable damage an opening takes as it is left.
+pub(crate) fn crash_is_said_of_files()
+    ensures { (least : ℕ) (folders : Folders) (m : Contents) (batches : List Batch) (n : Directory)
+        → LeavesAllowedFrom least folders m batches n → LeavesFrom least folders m batches n }
+{
+    crash_leaves_contents();
+}
+
+// A queue of an engine that stands has the last number only where a log file has.
+fn last_number_stands<F: FileSystem>(engine: &Engine<F>)
+    ensures { has_failed engine.now ≡ false → HasLastNumber (queue_of engine.now)
+        → IsOutOfNumbersIn (folders_of engine.now) (state_of engine.now) }
+{
+    engine.file_span(LogQueue::Append);
+}
+
 /// Does one operation, as `run` does each of its own.
 pub fn step<F: FileSystem>(alloc: Global, engine: &mut Engine<F>, op: &Op) -> Outcome
-    ensures value { IsAnswerOf op.now result engine.old }
+    ensures value { IsAnswerOf op.now result engine.old engine.new }
     ensures failed { IsFailing (has_failed engine.old) op.now result (has_failed engine.new) }
     ensures unchanged { IsUnasked op.now → engine.new ≡ engine.old }
     ensures refused { Refuses result (refusals_of engine.old) (refusals_of engine.new) }

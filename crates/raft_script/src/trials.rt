@@ -5,17 +5,19 @@ ghost use Rattle.raft_env.specs.Directory.{Directory};
 ghost use Rattle.raft_memory.specs.Choice.{NameNoBytes};
 ghost use Rattle.raft_config.specs.Folders.{Folders, folders_in};
 ghost use Rattle.raft_config.specs.Sanitized.{IsContradiction, contradiction};
-ghost use Rattle.raft_memory.specs.Memory.{memory_directory, memory_moments, no_files, stop_of};
+ghost use Rattle.raft_memory.specs.Memory.{memory_directory, memory_moments, memory_refusals, no_files, stop_of};
 ghost use Rattle.raft_log_engine.specs.Image.{IsImageOf};
 ghost use Rattle.raft_held.specs.Contents.{contents_at, known_at};
 ghost use Rattle.raft_held.specs.Crash.{RecoversContents};
 ghost use Rattle.raft_pipes.specs.Folder.{AreClear};
 ghost use Rattle.raft_held.specs.Queues.{AreOpenableIn, AreSingleIn, ReadCompletedRecordsIn};
-ghost use Rattle.raft_script.specs.Run.{IsStorageOrMemory};
-ghost use Rattle.raft_script.specs.Trial.{AreNotAllowed, HaveNoLogPath, IsLogRefusal, IsTrialOf, LeavesDetectable, RunsOver};
+ghost use Rattle.raft_env.specs.Refusal.{no_refusals};
+ghost use Rattle.raft_script.specs.Failure.{IsStorageOrMemory};
+ghost use Rattle.raft_script.specs.Trial.{AreNotAllowed, HaveNoLogPath, IsLogRefusal, IsTrialOf, LeavesDetectable, Ran, RunsOver, Shown};
 
 use crate::operation::{Op, Trial};
-use crate::runs::{RunReport, run_watched};
+use crate::runs::{RunReport, crash_is_said_of_files, run_watched};
+use raft_damage::laws::premise_can_be_met;
 use raft_env::FileSystem;
 use raft_log_engine::laws::{crash_leaves_contents, the_damage_of_an_engine_is_detectable};
 use raft_log_engine::{Config, Engine, Image};
@@ -26,11 +28,14 @@ use std::alloc::Global;
 
 /// Opens a log in memory, does the operations, crashes, and opens again. From the first opening on the calls that may
 /// change files are counted from 1, and from the one at `stop` on each fails; the opening after the crash has no
-/// stop. The choices say what the crash leaves; bytes that storage doesn't allow are refused, and no others. Where
-/// no folder has the path of a log file (`HaveNoLogPath`), and the damage of what the crash leaves is detectable, a
-/// tolerant opening fails by storage or for lack of memory alone; any other opening only for these, for what is left of
-/// the log, or where settings contradict one another. The damage is detectable where an engine answered and didn't fail,
-/// the last log files were never renamed, and the choices leave each file whole, as it is at the crash or as it was synced.
+/// stop. Where the first opening fails no operation is done, and the trial says why: settings contradict one another, a
+/// storage call failed, or memory was wanting. The choices say what the crash leaves; bytes that storage doesn't allow
+/// are refused, and no others. Where the damage of what the crash leaves is detectable, a tolerant opening fails by
+/// storage or for lack of memory alone; any other opening only for these, for what is left of the log, or where settings
+/// contradict one another. That no folder has the path of a log file (`HaveNoLogPath`) is asked where the first
+/// opening failed, and nowhere else. The damage is detectable where no engine failed, the last log files were never
+/// renamed, and the choices leave each file whole, as it is at the crash or as it was synced; and so it is, whatever
+/// failed and for torn files too, of files that are read as they were at a moment since their last sync.
 pub fn trial(
     alloc: Global,
     config: Config,
@@ -42,17 +47,19 @@ pub fn trial(
         (IsTrialOf config ops.now stop choices.now) }
     ensures cause { IfErr result (λ e. (e ≡ Fault.Memory)
         ⊎ ((fault_code e ≡ 1) × (NameNoBytes choices.now → ⊥)
-        × AreNotAllowed (folders_in config) ops.now stop choices.now)) }
+        × AreNotAllowed config ops.now stop choices.now)) }
 {
     a_queue_recovers_its_batches();
     crash_leaves_a_prefix();
     crash_leaves_contents();
+    premise_can_be_met();
     let again = config.clone()?;
-    let (ran, files) = run_over(alloc, config, new_files(alloc, stop), ops)?;
+    let (ran, refused, files) = run_over(alloc, config, new_files(alloc, stop), ops)?;
     let left = files.crash(choices)?;
     Ok(Trial {
         outcomes: ran.outcomes,
         failed_at: ran.failed_at,
+        refused,
         opened: open_image(alloc, again, left),
     })
 }
@@ -66,6 +73,7 @@ fn new_files(alloc: Global, stop: Option<u64>) -> MemoryFileSystem
     ensures files { memory_directory result ≡ no_files }
     ensures any_moment { memory_moments result ≡ no_files ∷ [] }
     ensures stop { stop_of result ≡ stop }
+    ensures cause { memory_refusals result ≡ no_refusals }
 {
     let mut files = MemoryFileSystem::new(alloc);
     if let Some(nth) = stop {
@@ -80,33 +88,40 @@ fn run_over<F: FileSystem + Drop>(
     config: Config,
     files: F,
     ops: &[Op],
-) -> Result<(RunReport, F), Fault>
+) -> Result<(RunReport, Option<Fault>, F), Fault>
     ensures ok { IfOk result (λ r. let dir = folders_in config in
-        let found = contents_at dir (F.directory files) in
-        RecoversContents dir found [] (F.directory files)
-        → RunsOver dir found (known_at dir (F.directory files)) ops.now r.0.outcomes.items
-        r.0.failed_at (F.directory r.1)) }
+        let before : Shown = record { files = F.directory files; moments = F.moments files;
+            refusals = F.refusals_of files } in
+        let left : Shown = record { files = F.directory r.2; moments = F.moments r.2;
+            refusals = F.refusals_of r.2 } in
+        let ran : Ran = record { outcomes = r.0.outcomes.items; failed_at = r.0.failed_at;
+            refused = r.1 } in
+        let found = contents_at dir before.files in
+        RecoversContents dir found [] before.files
+        → RunsOver config found (known_at dir before.files) ops.now ran before left) }
+    ensures clear { IfOk result (λ r. r.1 ≡ None
+        → AreClear (folders_in config) (F.directory files)) }
     ensures crash { IfOk result (λ r.
-        ReadCompletedRecordsIn (folders_in config) (F.directory files) → r.0.failed_at ≡ None
-        → (r.0.outcomes.items ≡ [] → ⊥)
-        → LeavesDetectable (folders_in config) (F.directory r.1)) }
+        ReadCompletedRecordsIn (folders_in config) (F.directory files) → r.1 ≡ None
+        → r.0.failed_at ≡ None → LeavesDetectable (folders_in config) (F.directory r.2)) }
     ensures any_moment { IfOk result (λ r.
-        (added : List Directory) × (F.moments r.1 ≡ added ++ F.moments files)) }
+        (added : List Directory) × (F.moments r.2 ≡ added ++ F.moments files)) }
     ensures cause { IfErr result (λ e. e ≡ Fault.Memory) }
 {
     crash_leaves_contents();
+    crash_is_said_of_files();
     match Engine::open_in_order(alloc, config, files) {
         Ok(mut engine) => {
             let ran = run_watched(alloc, &mut engine, ops)?;
             the_damage_of_an_engine_is_detectable(&engine);
-            Ok((ran, engine.give_up()))
+            Ok((ran, None, engine.give_up()))
         }
         Err(refused) => {
             let nothing = RunReport {
                 outcomes: Vec::new(alloc),
                 failed_at: None,
             };
-            Ok((nothing, refused.file_system))
+            Ok((nothing, Some(refused.fault), refused.file_system))
         }
     }
 }

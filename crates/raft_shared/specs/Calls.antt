@@ -7,10 +7,10 @@ use Rattle.raft_records.specs.Item.{Batch}
 use Rattle.raft_env.specs.declared.env.FileSystem.{Ghosts}
 use Rattle.raft_pipes.specs.Queue.{IsFileRefusalIn}
 use Rattle.raft_log_engine.specs.Advance.{Advances, state_of}
-use Rattle.raft_log_engine.specs.Cause.{IsWriteRefusal, StandsUnless}
+use Rattle.raft_log_engine.specs.Cause.{HasNoneInFlight, IsUnwritable, IsWriteRefusal, StandsUnless}
 use Rattle.raft_held.specs.Crash.{pending_of, written_batch}
-use Rattle.raft_log_engine.specs.Durability.{ChangesNoFile, HasRefused, HasWritten, StaysFailed, accepted_by, covered_by}
-use Rattle.raft_log_engine.specs.Engine.{answer_now, answered_of, contents_of, directory_of, folders_of, has_failed, queue_of, refusals_of}
+use Rattle.raft_log_engine.specs.Durability.{ChangesNoFile, ChangesNothing, HasRefused, HasWritten, StaysFailed, accepted_by, covered_by}
+use Rattle.raft_log_engine.specs.Engine.{IsDurableToEnd, answer_now, answered_of, contents_of, directory_of, folders_of, has_failed, queue_of, refusals_of}
 use Rattle.raft_log_engine.specs.declared.engine.Engine.{Engine}
 
 module _ {F H R W : Type 0} {g : Ghosts F H R W} where
@@ -23,6 +23,9 @@ module _ {F H R W : Type 0} {g : Ghosts F H R W} where
         (pending_of (contents_of old) items) (state_of old) (state_of new)
     pub answered : answered_of new ≡ answer_now (written_batch items) new ∷ answered_of old
     pub stands : IfErr result (λ e. has_failed old ≡ false → StandsUnless sync old new e)
+    pub unsynced : IfErr result (HasNoneInFlight sync old new)
+    pub durable : OnOk result (sync ≡ true → IsDurableToEnd new)
+    pub invalid : IsUnwritable (contents_of old) items → ChangesNothing old new
     pub failed : (result ≡ Err fault.Failed) ↔ (has_failed old ≡ true)
     pub unchanged : has_failed old ≡ true → StaysFailed old new × (rest ≡ items)
     pub cause : IfErr result (λ e. has_failed old ≡ false
@@ -36,6 +39,7 @@ module _ {F H R W : Type 0} {g : Ghosts F H R W} where
   pub record IsSync (old new : Engine F H R W g) (result : Result (Unit {0}) Fault) : Type 0 where
     pub contents : (contents_of new ≡ contents_of old) × (queue_of new ≡ queue_of old)
     pub advance : Advances [] (is_ok result) [] (state_of old) (state_of new)
+    pub durable : OnOk result (IsDurableToEnd new)
     pub stands : OnOk result (has_failed new ≡ false)
     pub err : OnErr result (has_failed new ≡ true)
     pub blocks : OnErr result (directory_of new ≡ directory_of old)

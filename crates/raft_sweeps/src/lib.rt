@@ -2,9 +2,13 @@
 #![tactic(auto)]
 
 #[cfg(test)]
+mod answers;
+#[cfg(test)]
 mod recycling;
 #[cfg(test)]
 mod refusals;
+#[cfg(test)]
+mod sittings;
 #[cfg(test)]
 mod sweep;
 #[cfg(test)]

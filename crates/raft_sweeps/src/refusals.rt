@@ -1,12 +1,12 @@
 //! Operations with one failing call to the files.
 
+use crate::answers::{CALLS, are_answers, begin_as_wanted, is_refusal};
 use raft_env::{FileSystem, IoKind};
 use raft_log_engine::Engine;
 use raft_memory::{FsCall, MemoryFileSystem};
 use raft_plans::{
-    EMPTY, EXPIRED, Left, MAX_FILES, OPERATIONS, PURGES, Plan, State, after, choices_of,
-    count_below, fault_of, first_refused, is_allowed, is_done, ops_of, settings, state_of,
-    value_of,
+    EXPIRED, Left, MAX_FILES, OPERATIONS, PURGES, Plan, State, choices_of, fault_of, first_refused,
+    is_allowed, is_done, ops_of, settings, state_of,
 };
 use raft_records::Fault;
 use raft_script::{Op, Outcome, run};
@@ -15,25 +15,6 @@ use std::process::Abort;
 use std::test::Fail;
 
 const MAX_CALLS: u64 = 400;
-
-const CALLS: [FsCall; 16] = [
-    FsCall::Create,
-    FsCall::Open,
-    FsCall::Delete,
-    FsCall::Rename,
-    FsCall::DeleteMetadata,
-    FsCall::NewReader,
-    FsCall::NewWriter,
-    FsCall::Write,
-    FsCall::Truncate,
-    FsCall::Allocate,
-    FsCall::Sync,
-    FsCall::FileSize,
-    FsCall::MakeDir,
-    FsCall::List,
-    FsCall::FreeSpace,
-    FsCall::Read,
-];
 
 const KINDS: [IoKind; 3] = [IoKind::NoSpace, IoKind::NotFound, IoKind::Other];
 
@@ -79,66 +60,6 @@ fn found_in<F: FileSystem + Drop>(alloc: Global, files: F) -> Result<State, Fail
     match Engine::open_in_order(alloc, settings(alloc)?, files) {
         Ok(mut engine) => Ok(state_of(&engine.image()?)),
         Err(refused) => Err(refused.fault.into()),
-    }
-}
-
-// Where a purge finds no space, it is to be tried again.
-fn is_refusal(fault: &Fault, kind: IoKind) -> bool {
-    match fault {
-        Fault::Io(by, _) => *by == kind,
-        Fault::TryAgain => kind == IoKind::NoSpace,
-        _ => false,
-    }
-}
-
-// A look-up or a compaction that is answered tells what the operations done before it leave.
-fn tells(state: State, op: &Op, outcome: &Outcome) -> bool {
-    match (op, outcome) {
-        (Op::Get(group, key), Outcome::Value(Ok(Some(value)))) => {
-            value.first() == Some(&value_of(state, *group, key))
-        }
-        (Op::Get(group, key), Outcome::Value(Ok(None))) => value_of(state, *group, key) == 0,
-        (Op::CompactTo(group, index), Outcome::Count(Ok(count))) => {
-            *count == count_below(state, *group, *index)
-        }
-        (Op::Entry(3, index), Outcome::Entry(Ok(Some(entry)))) => {
-            state.words.get(*index as usize) == entry.word.first()
-        }
-        _ => true,
-    }
-}
-
-// Each operation is answered as the ones done before it tell. One alone fails by the files, and those after it
-// by a failed engine, if at all. Whether one fails.
-fn are_answers(rt: &impl Abort, ops: &[Op], outcomes: &[Outcome], kind: IoKind) -> bool {
-    let mut state = EMPTY;
-    let mut refused = false;
-    for (op, outcome) in ops.iter().zip(outcomes.iter()) {
-        assert!(rt; tells(state, op, outcome), "{outcome:?}");
-        match fault_of(outcome) {
-            Some(Fault::Failed) => {
-                assert!(rt; refused);
-            }
-            Some(fault) => {
-                assert!(rt; is_refusal(fault, kind) && !refused, "{fault:?}");
-                refused = true;
-            }
-            None => state = after(state, op),
-        }
-    }
-    refused
-}
-
-// Up to the first failed one the outcomes are those that were wanted, but for what purges answer, which goes by how
-// many files were begun.
-fn begin_as_wanted(rt: &impl Abort, outcomes: &[Outcome], wanted: &[Outcome]) {
-    for (outcome, wanted) in outcomes.iter().zip(wanted.iter()) {
-        if !is_done(outcome) {
-            return;
-        }
-        if !matches!(outcome, Outcome::Dropped(_) | Outcome::ToCompact(_)) {
-            assert_eq!(rt; *outcome, *wanted);
-        }
     }
 }
 
@@ -233,4 +154,46 @@ fn each_call_of_purges_by_watermarks_may_be_refused(rt: HostRuntime) -> Result<(
 #[test]
 fn each_call_of_purges_may_find_no_space(rt: HostRuntime) -> Result<(), Fail> {
     refuse_each(&rt, rt.alloc(), &PURGES, &[IoKind::NoSpace])
+}
+
+// Memory is ample, or one request was refused.
+fn is_without_memory(fault: Option<&Fault>) -> bool {
+    match fault {
+        Some(fault) => matches!(fault, Fault::Memory | Fault::Failed),
+        None => true,
+    }
+}
+
+// With ample memory each operation is done. With the Nth request refused (`rt try --test --fail-alloc N`) one that fails
+// says so, and a crash leaves what may be found.
+fn lose_nothing(rt: &impl Abort, alloc: Global, plans: &[Plan]) -> Result<(), Fail> {
+    let ops = ops_of(alloc, plans)?;
+    let shown = run_over(alloc, &ops, MemoryFileSystem::new(alloc))?;
+    assert!(rt;
+        is_without_memory(shown.opening.as_ref()),
+        "{:?}",
+        shown.opening
+    );
+    for outcome in &shown.outcomes {
+        assert!(rt; is_without_memory(fault_of(outcome)), "{outcome:?}");
+    }
+    for left in [Left::All, Left::Synced, Left::Torn(7, 255)] {
+        let choices = choices_of(alloc, &left, MAX_FILES)?;
+        let found = found_in(alloc, shown.files.crash(&choices)?)?;
+        assert!(rt;
+            is_allowed(&ops, &shown.outcomes, shown.failed_at, found),
+            "{found:?}"
+        );
+    }
+    Ok(())
+}
+
+#[test]
+fn purges_without_memory_lose_nothing(rt: HostRuntime) -> Result<(), Fail> {
+    lose_nothing(&rt, rt.alloc(), &PURGES)
+}
+
+#[test]
+fn purges_by_watermarks_without_memory_lose_nothing(rt: HostRuntime) -> Result<(), Fail> {
+    lose_nothing(&rt, rt.alloc(), &EXPIRED)
 }

@@ -4,6 +4,7 @@
 #![tactic(auto)]
 
 mod blocks;
+mod calls;
 mod disk;
 mod entries;
 mod files;

@@ -8,6 +8,7 @@ use anyhow::Result;
 use raft_env::FileSystem;
 use raft_log_engine::Engine;
 use raft_records::Fault;
+use std::alloc::Global;
 use std::io;
 
 /// So many workers at the most.
@@ -18,7 +19,7 @@ const WORKERS: [(&str, usize); 4] = [
     ("  reopen, 4 workers", 4),
 ];
 
-/// Puts, and openings of their log. Answers the length of a record.
+/// Puts, or entries where a batch has several, and openings of their log. Answers the length of a record.
 pub(crate) fn put_and_open<R: WorkersHost, F: FileSystem + Drop>(
     rt: &R,
     report: &mut Report,
@@ -40,9 +41,25 @@ pub(crate) fn put_and_open<R: WorkersHost, F: FileSystem + Drop>(
 
 fn put_and_close<R: Host, F: FileSystem + Drop>(rt: &R, files: F, load: Load) -> Result<(F, u64)> {
     let mut engine = open(rt.alloc(), files, load.file_size)?;
-    let batches = batches_of(rt.alloc(), Part::Put, load)?;
+    let batches = batches_of(rt.alloc(), part_of(load), load)?;
     let (bytes, _) = write_all(rt, &mut engine, batches, load.sync_each)?;
     Ok((close(engine)?, bytes))
+}
+
+fn part_of(load: Load) -> Part {
+    if load.batch_len > 1 {
+        Part::Append
+    } else {
+        Part::Put
+    }
+}
+
+// Whether what was written last is found.
+fn is_found<F: FileSystem>(alloc: Global, engine: &Engine<F>, load: Load) -> Result<bool, Fault> {
+    match part_of(load) {
+        Part::Put => has_last(alloc, engine, load),
+        _ => Ok(engine.last_index(0).is_some()),
+    }
 }
 
 fn close<F: FileSystem + Drop>(engine: Engine<F>) -> Result<F, Fault> {
@@ -68,7 +85,7 @@ fn reopen<R: WorkersHost, F: FileSystem + Drop>(
         taken: watch.stop(rt)?,
         longest: None,
     })?;
-    let found = has_last(rt.alloc(), &engine, load)?;
+    let found = is_found(rt.alloc(), &engine, load)?;
     Ok((close(engine)?, found))
 }
 

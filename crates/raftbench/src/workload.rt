@@ -1,6 +1,7 @@
 //! The workloads by their names.
 
 use crate::blocks::add_ceilings;
+use crate::calls::put_get_put;
 use crate::entries::append_entry_fetch;
 use crate::files::append;
 use crate::log::put_get_reopen;
@@ -8,7 +9,7 @@ use crate::measure::{Against, Report, WorkersHost};
 use crate::openings::put_and_open;
 use crate::purges::append_compact_purge;
 use crate::shared::put_get_shared;
-use crate::steady::put_beside_purges;
+use crate::steady::{Purging, put_beside_purges};
 use anyhow::Result;
 use raft_env::FileSystem;
 use raft_memory::MemoryFileSystem;
@@ -41,10 +42,12 @@ enum Kind {
     Entries(u64),
     /// Entries, one a batch, and then purges.
     Purges,
-    /// Under a thousand keys, beside purges; dropped files are used again, or not.
-    Steady(bool),
-    /// Then openings by workers.
-    Openings,
+    /// As a caller makes them.
+    Calls,
+    /// Under so many keys at the most, over and over.
+    Steady(u64, Purging),
+    /// Puts, or so many bytes of entries a batch, and then openings by workers.
+    Openings(u64),
 }
 
 /// Its name, what it does, after how many operations it syncs (0: never), and the size at which a
@@ -80,23 +83,46 @@ const BLOCK_SIZE: usize = 65536;
 pub(crate) const ONE_FILE: u64 = 1 << 40;
 
 impl Workload {
-    pub(crate) const ALL: [Workload; 18] = [
+    pub(crate) const ALL: [Workload; 21] = [
         Workload("crc", Kind::Blocks, 0, ONE_FILE),
         Workload("put", Kind::Puts(u64::MAX), 0, ONE_FILE),
         Workload("put-sync", Kind::Puts(u64::MAX), 1, ONE_FILE),
         Workload("put-random", Kind::PutsInNoOrder, 0, ONE_FILE),
         Workload("put-shared", Kind::PutsShared, 0, ONE_FILE),
         Workload("overwrite", Kind::Puts(1000), 0, ONE_FILE),
+        Workload("calls", Kind::Calls, 0, ONE_FILE),
         Workload("append", Kind::Entries(0), 0, ONE_FILE),
         Workload("append-sync", Kind::Entries(0), 1, ONE_FILE),
         Workload("append-batch", Kind::Entries(1 << 20), 0, ONE_FILE),
         Workload("append-files", Kind::Entries(0), 0, 2 << 20),
         Workload("purge", Kind::Purges, 0, 16 << 20),
-        Workload("put-purge", Kind::Steady(true), 0, 8 << 20),
-        Workload("put-purge-new", Kind::Steady(false), 0, 8 << 20),
-        Workload("rotate", Kind::Steady(true), 0, 16 << 10),
-        Workload("rotate-new", Kind::Steady(false), 0, 16 << 10),
-        Workload("open-files", Kind::Openings, 0, 4 << 20),
+        Workload(
+            "put-keep",
+            Kind::Steady(100_000, Purging::Never),
+            0,
+            8 << 20,
+        ),
+        Workload(
+            "put-purge",
+            Kind::Steady(100_000, Purging::Reuses),
+            0,
+            8 << 20,
+        ),
+        Workload(
+            "put-purge-new",
+            Kind::Steady(100_000, Purging::Deletes),
+            0,
+            8 << 20,
+        ),
+        Workload("rotate", Kind::Steady(1000, Purging::Reuses), 0, 16 << 10),
+        Workload(
+            "rotate-new",
+            Kind::Steady(1000, Purging::Deletes),
+            0,
+            16 << 10,
+        ),
+        Workload("open-files", Kind::Openings(0), 0, 4 << 20),
+        Workload("open-batches", Kind::Openings(1 << 20), 0, 4 << 20),
         Workload("fs-append", Kind::File, 0, ONE_FILE),
         Workload("fs-sync", Kind::File, 1, ONE_FILE),
     ];
@@ -116,14 +142,15 @@ impl Workload {
             name: *name,
             count,
             keys: match kind {
-                Kind::Puts(keys) => count.min(*keys),
-                Kind::Steady(_) => count.min(1000),
+                Kind::Puts(keys) | Kind::Steady(keys, _) => count.min(*keys),
                 _ => count,
             },
             is_in_order: !matches!(kind, Kind::PutsInNoOrder),
             size,
             batch_len: match kind {
-                Kind::Entries(bytes) => (*bytes / (size as u64).max(1)).min(count / GROUPS).max(1),
+                Kind::Entries(bytes) | Kind::Openings(bytes) => (*bytes / (size as u64).max(1))
+                    .min(count / GROUPS)
+                    .max(1),
                 _ => 1,
             },
             sync_each: *sync_each,
@@ -152,8 +179,9 @@ fn run_over<R: WorkersHost, F: FileSystem + Drop>(
         Kind::PutsShared => Some(put_get_shared(rt, &mut report, files, load)?),
         Kind::Entries(_) => Some(append_entry_fetch(rt, &mut report, files, load)?),
         Kind::Purges => Some(append_compact_purge(rt, &mut report, files, load)?),
-        Kind::Steady(recycles) => Some(put_beside_purges(rt, &mut report, files, load, recycles)?),
-        Kind::Openings => Some(put_and_open(rt, &mut report, files, load)?),
+        Kind::Calls => Some(put_get_put(rt, &mut report, files, load)?),
+        Kind::Steady(_, purging) => Some(put_beside_purges(rt, &mut report, files, load, purging)?),
+        Kind::Openings(_) => Some(put_and_open(rt, &mut report, files, load)?),
     };
     report.note_memory(rt);
     if let Some(len) = len {

@@ -1,11 +1,14 @@
 use Rattle.raft_memory.proofs.ChoiceTornLemmas.{choices_may_leave}
-use Rattle.raft_damage.proofs.PremiseLemmas.{fresh_detectable, log_whole, records_detectable, records_torn, reused_whole}
-use Rattle.raft_damage.proofs.PastLemmas.{own_detectable, now_is_read, synced_is_read}
-use Rattle.raft_damage.proofs.DetectableDamageLemmas.{broken_zeros}
+use Rattle.raft_damage.proofs.PremiseLemmas.{log_whole, records_detectable, records_torn}
+use Rattle.raft_damage.proofs.PastLemmas.{own_detectable, now_is_read, synced_is_read, untouched_by_choices}
+use Rattle.raft_damage.proofs.DetectableDamageLemmas.{broken_zeros, never_stale_record}
 use Rattle.raft_damage.proofs.laws.premise_can_be_met.Goals as goal
 
 pub returns-clause-allowed : goal.returns-clause-allowed
 returns-clause-allowed c = choices_may_leave
+
+pub returns-clause-untouched : goal.returns-clause-untouched
+returns-clause-untouched c = λ choices n none consistent. untouched_by_choices n consistent choices none
 
 pub returns-clause-first_records : goal.returns-clause-first_records
 returns-clause-first_records c = records_detectable
@@ -19,11 +22,8 @@ returns-clause-zeros c = broken_zeros
 pub returns-clause-detectable : goal.returns-clause-detectable
 returns-clause-detectable c = log_whole
 
-pub returns-clause-fresh_records : goal.returns-clause-fresh_records
-returns-clause-fresh_records c path id format records synced at n file stands held consistent = fresh_detectable path id format records synced at n file stands held consistent
-
-pub returns-clause-reused : goal.returns-clause-reused
-returns-clause-reused c = reused_whole
+pub returns-clause-never_renamed : goal.returns-clause-never_renamed
+returns-clause-never_renamed c = never_stale_record
 
 pub returns-clause-own : goal.returns-clause-own
 returns-clause-own c = own_detectable

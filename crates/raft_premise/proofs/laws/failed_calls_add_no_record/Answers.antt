@@ -1,11 +1,11 @@
-use Rattle.raft_premise.proofs.CompletedLemmas.{log_of_completed, completed_log_made, completed_log_found, completed_restarted, completed_cut, completed_log_appended, completed_log_appending, completed_records_cutting, completed_log_undone, completed_log_synced, completed_log_closed}
+use Rattle.raft_premise.proofs.CompletedLemmas.{log_of_completed, completed_log_begun, completed_log_found, completed_restarted, completed_cut, completed_log_appended, completed_log_appending, completed_records_cutting, completed_log_undone, completed_log_synced, completed_log_closed}
 use Rattle.raft_premise.proofs.laws.failed_calls_add_no_record.Goals as goal
 
 pub returns-clause-log : goal.returns-clause-log
 returns-clause-log c = log_of_completed
 
-pub returns-clause-made : goal.returns-clause-made
-returns-clause-made c = completed_log_made
+pub returns-clause-begun : goal.returns-clause-begun
+returns-clause-begun c = completed_log_begun
 
 pub returns-clause-restarted : goal.returns-clause-restarted
 returns-clause-restarted c = completed_restarted

@@ -1,5 +1,5 @@
 use Rattle.std.proofs.Common.{◌≡◌, Some, take}
-use Rattle.raft_script.specs.Run.{batch_of_acts}
+use Rattle.raft_script.specs.Batches.{batch_of_acts}
 use Rattle.raft_script.proofs.RunLemmas.{IsBuilt}
 use Rattle.raft_script.proofs.runs.build.Given as goal
 

@@ -4,7 +4,8 @@ use Rattle.std.proofs.lemmas.Result.{err_from_is_err_and}
 use Rattle.raft_records.specs.Batch.{BatchView}
 use Rattle.raft_records.specs.Item.{Batch}
 use Rattle.raft_log_engine.specs.Group.{items_of}
-use Rattle.raft_script.specs.Run.{IsUnbuilt, Part, batch_of_acts}
+use Rattle.raft_script.specs.Batches.{Part, batch_of_acts}
+use Rattle.raft_script.specs.Run.{IsUnbuilt}
 use Rattle.raft_script.specs.declared.operation.Act.{Act}
 use Rattle.raft_script.proofs.GroupLemmas.{AreBuilt, built_all, built_more}
 use Rattle.raft_script.proofs.RunLemmas.{taken_more}

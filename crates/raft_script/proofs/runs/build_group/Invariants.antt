@@ -1,6 +1,6 @@
 use Rattle.std.proofs.Common.{◌≡◌, map, take}
 use Rattle.raft_log_engine.specs.Group.{items_of}
-use Rattle.raft_script.specs.Run.{Part}
+use Rattle.raft_script.specs.Batches.{Part}
 use Rattle.raft_script.proofs.GroupLemmas.{AreBuilt}
 use Rattle.raft_script.proofs.runs.build_group.Given as goal
 

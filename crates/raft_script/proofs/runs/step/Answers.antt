@@ -3,16 +3,18 @@ use Rattle.std.specs.Prelude.{unwrap_or}
 use Rattle.raft_records.specs.Contents.{Contents, first_index_of, last_index_of}
 use Rattle.raft_records.specs.Item.{Batch}
 use Rattle.raft_log_engine.specs.Durability.{Durability, durability_of}
-use Rattle.raft_log_engine.specs.Engine.{answer_now, answered_of, contents_of, directory_of, durable_of, folders_of, has_failed, is_known_in, moments_of, queue_of, refusals_of, rewrite_queue_of, unsynced_of}
+use Rattle.raft_log_engine.specs.Engine.{contents_of, directory_of, durable_of, folders_of, has_failed, is_known_in, moments_of, queue_of, refusals_of, rewrite_queue_of, unsynced_of}
 use Rattle.raft_script.proofs.PurgesLemmas.{purged_append, purged_expired, purged_rewrite, purged_stale}
-use Rattle.raft_script.specs.Run.{IsUnbuiltGroup, Part, batch_of_acts, batches_of_parts, group_batches, items_of_acts}
-use Rattle.raft_held.specs.Crash.{pending_of, written_batch}
-use Rattle.raft_script.specs.declared.operation.Op.TheVariants.{Purge, PurgeStale, RewriteAppend, RewriteRewrite, Sync, Write}
-use Rattle.raft_script.specs.declared.operation.Outcome.TheVariants.{Dropped, ToCompact}
-use Rattle.raft_script.proofs.DurabilityLemmas.{moments_of_batch, written_progress}
-use Rattle.raft_script.proofs.RunAnswersLemmas.{does_compact, does_purge, does_read, in_flight, purge_stands, read_same}
+use Rattle.raft_script.specs.Batches.{Part, batch_of_acts, batches_of_op, batches_of_parts, items_of_acts}
+use Rattle.raft_script.specs.Run.{IsUnbuiltGroup}
+use Rattle.raft_held.specs.Crash.{pending_of}
+use Rattle.raft_log_engine.specs.Group.{chosen_of, items_of}
+use Rattle.raft_log_engine.specs.Reads.{compact_batch}
+use Rattle.raft_script.specs.declared.operation.Op.TheVariants.{CompactTo, Purge, PurgeStale, RewriteAppend, RewriteRewrite, Sync, Write}
+use Rattle.raft_script.specs.declared.operation.Outcome.TheVariants.{Count, Done, Dropped, ToCompact}
+use Rattle.raft_script.proofs.DurabilityLemmas.{alone, compaction_progress, progress_alone, written_progress}
+use Rattle.raft_script.proofs.StepsLemmas.{does_purge, does_read, in_flight, purge_stands, read_same}
 use Rattle.raft_script.proofs.RunLemmas.{compaction_answered, compaction_fails, entry_answered, entry_rose, groups_answered, purge_answered, purge_fails, purge_rose, renewal_fails, steady_by, write_answered}
-use Rattle.raft_log_engine.specs.Group.{items_of, written_in}
 use Rattle.raft_log_engine.specs.Purge.{HasLastId, HasOpenGroup}
 use Rattle.raft_records.specs.Batch.{BatchView}
 use Rattle.raft_script.proofs.GroupLemmas.{does_group, group_answered, group_fails, group_refuses, unbuilt_answered, unbuilt_fails}
@@ -35,33 +37,22 @@ returns-in-Ok-clause-progress g c =
     let e = c.args.engine.now in
     let n = c.write.new.self in
     let built : batch_of_acts acts.items ≡ Some items = ap batch_of_acts (sym c.deref.ensures.value) ∙ c.in-Ok.ensures.value in
+    let batch = items_of_acts acts.items in
+    let is : batch ≡ items = ap (λ (o : Option Batch). unwrap_or o []) built in
+    let flight = chosen_of (contents_of e) (true ∷ []) (batch ∷ []) in
     rw c.in-Write.is (record {
-      flight = pending_of (contents_of e) (items_of_acts acts.items);
-      may_be = refl;
-      given = written_batch (items_of_acts acts.items);
-      is_given = refl;
-      progress = written_progress (contents_of e) acts items c.in-Write.sync built c.write.result (durability_of e) (durability_of n) write.advance.progress;
-      answers = inr (record {
-        noted = write.answered ∙ ap (λ (given : List Batch). answer_now given n ∷ answered_of e) (ap (λ (b : Option Batch). written_batch (unwrap_or b [])) (sym built));
-        moments = λ alive. in_flight e (Write acts c.in-Write.sync) (pending_of (contents_of e) (items_of_acts acts.items)) (moments_of n) (directory_of n) refl (moments_of_batch (folders_of e) (durable_of e) (contents_of e) (unsynced_of e) items (batch_of_acts acts.items) (moments_of e) (moments_of n) (directory_of n) built write.advance.any_moment);
-        rests = λ failed. (write.unchanged failed).0.moments;
-      });
+      flight = flight;
+      may_be = ∣ (true ∷ [], refl) ∣₁;
+      progress = written_progress acts c.in-Write.sync _ flight c.write.result (durability_of e) (durability_of n) (progress_alone (contents_of e) batch items is c.write.result c.in-Write.sync (durability_of e) (durability_of n) write.advance.progress);
+      moments = λ alive. in_flight e (Write acts c.in-Write.sync) flight (pending_of (contents_of e) items) (moments_of n) (directory_of n) ∣ (true ∷ [], refl) ∣₁ (alone (contents_of e) batch items is) write.advance.any_moment;
+      rests = λ failed. (write.unchanged failed).0.moments;
     })
 
 pub returns-in-Err-clause-progress : goal.returns-in-Err-clause-progress
-returns-in-Err-clause-progress g c =
-    let acts = c.in-Write.acts in
-    rw c.in-Write.is (record {
-      flight = pending_of (contents_of c.args.engine.now) (items_of_acts acts.items);
-      may_be = refl;
-      given = written_batch (items_of_acts acts.items);
-      is_given = refl;
-      progress = inl (record { none = refl; covers_none = refl; failed = refl; base = refl; unsynced = refl });
-      answers = inl (search rules, read_same c.args.engine.now);
-    })
+returns-in-Err-clause-progress g c = let e = c.args.engine.now in rw c.in-Write.is (does_read e e _ _ (read_same e) refl refl)
 
 pub returns-in-Get-clause-progress : goal.returns-in-Get-clause-progress
-returns-in-Get-clause-progress g c = let e = c.args.engine.now in rw c.in-Get.is (does_read e e _ _ tt (read_same e) refl refl refl refl)
+returns-in-Get-clause-progress g c = let e = c.args.engine.now in rw c.in-Get.is (does_read e e _ _ (read_same e) refl refl)
 
 pub returns-in-Sync-clause-progress : goal.returns-in-Sync-clause-progress
 returns-in-Sync-clause-progress g c =
@@ -69,11 +60,10 @@ returns-in-Sync-clause-progress g c =
     let n = c.sync.new.self in
     rw c.in-Sync.is (record {
       flight = [];
-      may_be = refl;
-      given = [];
-      is_given = refl;
+      may_be = ∣ ([], refl) ∣₁;
       progress = c.sync.ensures.advance.progress;
-      answers = inr (record { noted = search rules; moments = λ alive. in_flight e Sync [] (moments_of n) (directory_of n) refl c.sync.ensures.advance.any_moment; rests = search rules });
+      moments = λ alive. in_flight e Sync [] [] (moments_of n) (directory_of n) ∣ ([], refl) ∣₁ refl c.sync.ensures.advance.any_moment;
+      rests = search rules;
     })
 
 pub returns-in-Ok-clause-failed : goal.returns-in-Ok-clause-failed
@@ -102,7 +92,16 @@ returns-in-CompactTo-clause-progress g c =
     let e = c.args.engine.now in
     let n = c.compact_to.new.self in
     let result = c.compact_to.result in
-    rw c.in-CompactTo.is (does_compact e n c.in-CompactTo.group c.in-CompactTo.index result c.compact_to.ensures.advance.progress c.compact_to.ensures.advance.any_moment c.compact_to.ensures.answered c.compact_to.ensures.unchanged)
+    let m = contents_of e in
+    let batch = compact_batch c.in-CompactTo.group c.in-CompactTo.index (m.entries c.in-CompactTo.group) in
+    let flight = chosen_of m (true ∷ []) (batch ∷ []) in
+    rw c.in-CompactTo.is (record {
+      flight = flight;
+      may_be = ∣ (true ∷ [], refl) ∣₁;
+      progress = compaction_progress m c.in-CompactTo.group c.in-CompactTo.index batch result (durability_of e) (durability_of n) c.compact_to.ensures.advance.progress;
+      moments = λ alive. in_flight e (CompactTo c.in-CompactTo.group c.in-CompactTo.index) flight (pending_of m batch) (moments_of n) (directory_of n) ∣ (true ∷ [], refl) ∣₁ (alone m batch batch refl) c.compact_to.ensures.advance.any_moment;
+      rests = λ failed. (c.compact_to.ensures.unchanged failed).moments;
+    })
 
 pub returns-in-Entry-clause-value : goal.returns-in-Entry-clause-value
 returns-in-Entry-clause-value g c =
@@ -126,19 +125,19 @@ returns-in-Entry-clause-refused g c =
     )
 
 pub returns-in-Entry-clause-progress : goal.returns-in-Entry-clause-progress
-returns-in-Entry-clause-progress g c = rw c.in-Entry.is (does_read c.args.engine.now c.get_entry.new.self _ _ tt c.get_entry.ensures.unchanged refl refl refl refl)
+returns-in-Entry-clause-progress g c = rw c.in-Entry.is (does_read c.args.engine.now c.get_entry.new.self _ _ c.get_entry.ensures.unchanged refl refl)
 
 pub returns-in-First-clause-value : goal.returns-in-First-clause-value
 returns-in-First-clause-value g c = rw c.in-First.is (λ m known same same_known stands. c.first_index.ensures.value stands ∙ ap (λ (x : Contents). first_index_of (x.entries c.in-First.group)) (sym (same stands)))
 
 pub returns-in-First-clause-progress : goal.returns-in-First-clause-progress
-returns-in-First-clause-progress g c = let e = c.args.engine.now in rw c.in-First.is (does_read e e _ _ tt (read_same e) refl refl refl refl)
+returns-in-First-clause-progress g c = let e = c.args.engine.now in rw c.in-First.is (does_read e e _ _ (read_same e) refl refl)
 
 pub returns-in-Last-clause-value : goal.returns-in-Last-clause-value
 returns-in-Last-clause-value g c = rw c.in-Last.is (λ m known same same_known stands. c.last_index.ensures.value stands ∙ ap (λ (x : Contents). last_index_of (x.entries c.in-Last.group)) (sym (same stands)))
 
 pub returns-in-Last-clause-progress : goal.returns-in-Last-clause-progress
-returns-in-Last-clause-progress g c = let e = c.args.engine.now in rw c.in-Last.is (does_read e e _ _ tt (read_same e) refl refl refl refl)
+returns-in-Last-clause-progress g c = let e = c.args.engine.now in rw c.in-Last.is (does_read e e _ _ (read_same e) refl refl)
 
 pub returns-in-Groups-clause-value : goal.returns-in-Groups-clause-value
 returns-in-Groups-clause-value g c =
@@ -152,7 +151,7 @@ returns-in-Groups-clause-failed g c =
     rw c.in-Groups.is (steady_by (has_failed e) (has_failed e) c.raft_groups.result c.raft_groups.ensures.failed refl)
 
 pub returns-in-Groups-clause-progress : goal.returns-in-Groups-clause-progress
-returns-in-Groups-clause-progress g c = let e = c.args.engine.now in rw c.in-Groups.is (does_read e e _ _ tt (read_same e) refl refl refl refl)
+returns-in-Groups-clause-progress g c = let e = c.args.engine.now in rw c.in-Groups.is (does_read e e _ _ (read_same e) refl refl)
 
 -- Purges.
 
@@ -182,7 +181,7 @@ returns-in-RewriteAppend-clause-progress g c =
     let e = c.args.engine.now in
     let n = c.must_rewrite_append_queue.new.self in
     let purged = c.must_rewrite_append_queue.ensures in
-    rw c.in-RewriteAppend.is (does_purge e n (RewriteAppend c.in-RewriteAppend.watermark c.in-RewriteAppend.step) (Dropped c.must_rewrite_append_queue.result) refl refl purged.progress purged.any_moment purged.answered purged.unchanged)
+    rw c.in-RewriteAppend.is (does_purge e n (RewriteAppend c.in-RewriteAppend.watermark c.in-RewriteAppend.step) (Dropped c.must_rewrite_append_queue.result) purged.progress purged.any_moment purged.unchanged)
 
 pub returns-in-RewriteRewrite-clause-value : goal.returns-in-RewriteRewrite-clause-value
 returns-in-RewriteRewrite-clause-value g c =
@@ -210,7 +209,7 @@ returns-in-RewriteRewrite-clause-progress g c =
     let e = c.args.engine.now in
     let n = c.must_rewrite_rewrite_queue.new.self in
     let purged = c.must_rewrite_rewrite_queue.ensures in
-    rw c.in-RewriteRewrite.is (does_purge e n (RewriteRewrite) (Dropped c.must_rewrite_rewrite_queue.result) refl refl purged.progress purged.any_moment purged.answered purged.unchanged)
+    rw c.in-RewriteRewrite.is (does_purge e n (RewriteRewrite) (Dropped c.must_rewrite_rewrite_queue.result) purged.progress purged.any_moment purged.unchanged)
 
 pub returns-in-PurgeStale-clause-value : goal.returns-in-PurgeStale-clause-value
 returns-in-PurgeStale-clause-value g c =
@@ -238,7 +237,7 @@ returns-in-PurgeStale-clause-progress g c =
     let e = c.args.engine.now in
     let n = c.must_purge_all_stale.new.self in
     let purged = c.must_purge_all_stale.ensures in
-    rw c.in-PurgeStale.is (does_purge e n (PurgeStale) (Dropped c.must_purge_all_stale.result) refl refl purged.progress purged.any_moment purged.answered purged.unchanged)
+    rw c.in-PurgeStale.is (does_purge e n (PurgeStale) (Dropped c.must_purge_all_stale.result) purged.progress purged.any_moment purged.unchanged)
 
 pub returns-in-RewriteAppend-clause-purged : goal.returns-in-RewriteAppend-clause-purged
 returns-in-RewriteAppend-clause-purged g c =
@@ -281,7 +280,7 @@ returns-in-Purge-clause-progress g c =
     let e = c.args.engine.now in
     let n = c.purge_expired_files.new.self in
     let purged = c.purge_expired_files.ensures in
-    rw c.in-Purge.is (does_purge e n Purge (ToCompact c.purge_expired_files.result) refl refl purged.progress purged.any_moment purged.answered purged.unchanged)
+    rw c.in-Purge.is (does_purge e n Purge (ToCompact c.purge_expired_files.result) purged.progress purged.any_moment purged.unchanged)
 
 pub returns-in-Purge-clause-purged : goal.returns-in-Purge-clause-purged
 returns-in-Purge-clause-purged g c =
@@ -322,7 +321,7 @@ pub returns-in-Ok-build_group-clause-progress : goal.returns-in-Ok-build_group-c
 returns-in-Ok-build_group-clause-progress g c =
     let at = (goal.at.returns-in-Ok-build_group-clause-progress g c).After-write_group in
     let write = c.write_group.ensures in
-    rw c.in-WriteGroup.is (does_group c.in-WriteGroup.parts c.deref_mut.result.now c.write_group.new.batches c.deref-in-Ok-build_group.result.now c.args.engine.now c.write_group.new.self (group_built g at) (group_flags g at) c.write_group.result write.progress write.any_moment write.answered (λ failed. (write.unchanged failed).0.moments))
+    rw c.in-WriteGroup.is (does_group c.in-WriteGroup.parts c.deref_mut.result.now c.write_group.new.batches c.deref-in-Ok-build_group.result.now c.args.engine.now c.write_group.new.self (group_built g at) (group_flags g at) c.write_group.result write.progress write.any_moment (λ failed. (write.unchanged failed).0.moments))
 
 pub returns-in-Err-build_group-clause-value : goal.returns-in-Err-build_group-clause-value
 returns-in-Err-build_group-clause-value g c =
@@ -335,15 +334,4 @@ returns-in-Err-build_group-clause-failed g c =
     rw c.in-WriteGroup.is (unbuilt_fails c.in-WriteGroup.parts.items (has_failed c.args.engine.now) c.in-Err-build_group.fault unbuilt)
 
 pub returns-in-Err-build_group-clause-progress : goal.returns-in-Err-build_group-clause-progress
-returns-in-Err-build_group-clause-progress g c =
-    let e = c.args.engine.now in
-    let parts = c.in-WriteGroup.parts in
-    let unbuilt = subst (λ (l : List Part). IsUnbuiltGroup l c.in-Err-build_group.fault) c.deref-in-WriteGroup.ensures.value c.in-Err-build_group.ensures.cause in
-    rw c.in-WriteGroup.is (record {
-      flight = [];
-      may_be = ∣ ([], refl) ∣₁;
-      given = written_in (group_batches parts.items);
-      is_given = refl;
-      progress = inl (record { none = refl; covers_none = refl; failed = refl; base = refl; unsynced = refl });
-      answers = inl (unbuilt, read_same e);
-    })
+returns-in-Err-build_group-clause-progress g c = let e = c.args.engine.now in rw c.in-WriteGroup.is (does_read e e _ _ (read_same e) refl refl)

@@ -1,11 +1,11 @@
 use Rattle.std.proofs.Common.{◌≡◌, ◌∷◌, ◌||◌, ℕ, Option, false, is_some, List, ◌++◌, ap, append_assoc, ◌∙◌, Bool, [], inl, inr, refl, sym, subst}
 use Rattle.std.proofs.lemmas.Result.{err_from_is_err_and}
-use Rattle.raft_records.specs.Contents.{Contents}
+use Rattle.raft_records.specs.Contents.{Contents, after_batches}
 use Rattle.raft_records.specs.Item.{Batch}
 use Rattle.raft_env.specs.Directory.{Directory}
+use Rattle.raft_env.specs.Refusal.{Refusals}
 use Rattle.raft_config.specs.Folders.{Folders, folders_in}
-use Rattle.raft_script.specs.Durability.{LeavesAllowedAfter}
-use Rattle.raft_log_engine.specs.Engine.{answered_of, begun_of, directory_of, durable_of, folders_of, found_groups_of, found_of, has_failed, snapshot_of, unsynced_of}
+use Rattle.raft_log_engine.specs.Engine.{base_of, begun_of, directory_of, durable_of, folders_of, found_groups_of, found_of, has_failed, unsynced_of}
 use Rattle.raft_held.specs.Contents.{contents_at, found_contents, found_groups, known_at}
 use Rattle.std.specs.List.{AllByRecursion}
 use Rattle.raft_base.specs.declared.pipe_log.LogQueue.{LogQueue}
@@ -13,9 +13,8 @@ use Rattle.raft_pipes.specs.Completed.{ReadsCompletedRecordsIfSimpleOf}
 use Rattle.raft_pipes.specs.Folder.{AreClear}
 use Rattle.raft_held.specs.Queues.{AreSingleIn}
 use Rattle.raft_script.specs.Trial.{LeavesDetectable}
-use Rattle.raft_script.specs.Run.{AreAnswers, IsFailurePlace}
-use Rattle.raft_script.specs.Durability.{progress_from}
-use Rattle.raft_script.proofs.RunAnswersLemmas.{through_moments}
+use Rattle.raft_script.specs.Durability.{LeavesAllowedAfter, Progress, State, Steps, durable_groups_of, progress_from, state_of}
+use Rattle.raft_script.proofs.StepsLemmas.{failure_place, leads_moments, never_failed, nothing_known}
 use Rattle.raft_script.proofs.TrialLemmas.{opened_after, refused_after}
 use Rattle.raft_script.proofs.trials.run_over.Goals as goal
 
@@ -25,68 +24,94 @@ returns-in_ok-ran-in-Ok-clause-ok g c =
     let files = g.F.FileSystem.directory c.args.files in
     let m = contents_at dir files in
     let e = c.in-Ok.engine in
-    let found : found_of e ≡ m = ap (λ (f : Folders). found_contents f (begun_of e)) c.in-Ok.ensures.opened.ok.folders_are ∙ ap (found_contents dir) c.in-Ok.ensures.opened.value in
-    let groups : found_groups_of e ≡ known_at dir files = ap (λ (f : Folders). found_groups f (begun_of e)) c.in-Ok.ensures.opened.ok.folders_are ∙ ap (found_groups dir) c.in-Ok.ensures.opened.value in
+    let opened = c.in-Ok.ensures.opened in
+    let after = c.run_watched.new.engine in
+    let groups : found_groups_of e ≡ known_at dir files = ap (λ (f : Folders). found_groups f (begun_of e)) opened.ok.folders_are ∙ ap (found_groups dir) opened.value in
+    let known : durable_groups_of e ≡ known_at dir files = nothing_known (found_groups_of e) (base_of e) (unsynced_of e) opened.ok.none ∙ groups in
     let ops = c.args.ops.now in
     let ran = c.in_ok-ran-in-Ok.ran in
     let outcomes = ran.outcomes.items in
     let run = c.in_ok-ran-in-Ok.ensures in
-    let after = opened_after (folders_of e) dir m (durable_of e) (unsynced_of e) ops outcomes ran.failed_at (directory_of c.run_watched.new.engine)
-    c.in-Ok.ensures.opened.ok.folders_are (c.in-Ok.ensures.opened.ok.synced.0 ∙ c.in-Ok.ensures.opened.contents) c.in-Ok.ensures.opened.ok.synced.1 run.ok.now in
+    let durable : durable_of e ≡ m = opened.ok.synced.0 ∙ opened.contents in
+    let left = opened_after (folders_of e) dir m (durable_of e) (unsynced_of e) ops outcomes ran.failed_at (directory_of after) opened.ok.folders_are durable opened.ok.synced.1 run.ok.now in
+    let steps : Steps dir m (known_at dir files) (progress_from []) (state_of e) ops outcomes ran.failed_at (state_of after) =
+    subst (λ (f : Folders). Steps f m (known_at dir files) (progress_from []) (state_of e) ops outcomes ran.failed_at (state_of after)) opened.ok.folders_are
+    (subst (λ (x : Contents). Steps (folders_of e) x (known_at dir files) (progress_from []) (state_of e) ops outcomes ran.failed_at (state_of after)) durable
+    (subst (λ (k : ℕ → Bool). Steps (folders_of e) (durable_of e) k (progress_from []) (state_of e) ops outcomes ran.failed_at (state_of after)) known
+    (subst (λ (l : List Batch). Steps (folders_of e) (durable_of e) (durable_groups_of e) (progress_from l) (state_of e) ops outcomes ran.failed_at (state_of after)) opened.ok.synced.1 run.ok.steps))) in
     λ _. record {
       answered = inl (record {
-        answers = subst (λ (b : Bool). AreAnswers b ran.failed_at m (known_at dir files) [] ops outcomes) c.in-Ok.ensures.opened.ok.stands
-            (subst (λ (x : Contents). AreAnswers (has_failed e) ran.failed_at x (known_at dir files) [] ops outcomes) found
-            (subst (λ (k : ℕ → Bool). AreAnswers (has_failed e) ran.failed_at (found_of e) k [] ops outcomes) groups
-            (subst (λ (l : List Batch). AreAnswers (has_failed e) ran.failed_at (found_of e) (found_groups_of e) l ops outcomes) c.in-Ok.ensures.opened.ok.none run.ok.answers)));
-        place = subst (λ (b : Bool). IsFailurePlace b ops outcomes ran.failed_at) c.in-Ok.ensures.opened.ok.stands run.ok.failures.1;
+        opened = refl;
+        before = state_of e;
+        stands = opened.ok.stands;
+        now = state_of after;
+        moments = sym c.give_up.ensures.unchanged.1;
+        steps = steps;
+        counted = (let rose = run.ok.counted in let same = c.give_up.ensures.unchanged.2 in omega (arith, rose, ap (λ (r : Refusals). r.storage) same));
       });
-      after = subst (λ (n : Directory). LeavesAllowedAfter ran.failed_at dir m [] ops outcomes n) (sym c.give_up.ensures.unchanged.0) after;
-      clear = subst (λ (p : Folders). AreClear p (g.F.FileSystem.directory c.give_up.result)) (run.folder ∙ c.in-Ok.ensures.opened.ok.folders_are)
-          (c.crash_leaves_contents.ensures.clear (folders_of c.run_watched.new.engine) (durable_of c.run_watched.new.engine) (unsynced_of c.run_watched.new.engine) (g.F.FileSystem.directory c.give_up.result) c.give_up.ensures.crash);
-      single = subst (λ (p : Folders). AreSingleIn p (g.F.FileSystem.directory c.give_up.result)) (run.folder ∙ c.in-Ok.ensures.opened.ok.folders_are)
-          (c.crash_leaves_contents.ensures.single (folders_of c.run_watched.new.engine) (durable_of c.run_watched.new.engine) (unsynced_of c.run_watched.new.engine) (g.F.FileSystem.directory c.give_up.result) c.give_up.ensures.crash);
+      after = subst (λ (n : Directory). LeavesAllowedAfter ran.failed_at dir m [] ops outcomes n) (sym c.give_up.ensures.unchanged.0) left;
+      clear = subst (λ (p : Folders). AreClear p (g.F.FileSystem.directory c.give_up.result)) (run.folder ∙ opened.ok.folders_are)
+          (c.crash_leaves_contents.ensures.clear (folders_of after) (durable_of after) (unsynced_of after) (g.F.FileSystem.directory c.give_up.result) c.give_up.ensures.crash);
+      single = subst (λ (p : Folders). AreSingleIn p (g.F.FileSystem.directory c.give_up.result)) (run.folder ∙ opened.ok.folders_are)
+          (c.crash_leaves_contents.ensures.single (folders_of after) (durable_of after) (unsynced_of after) (g.F.FileSystem.directory c.give_up.result) c.give_up.ensures.crash);
     }
+
+pub returns-in_ok-ran-in-Ok-clause-clear : goal.returns-in_ok-ran-in-Ok-clause-clear
+returns-in_ok-ran-in-Ok-clause-clear g c = λ none. c.in-Ok.ensures.refused.1.clear
 
 pub returns-in-Err-clause-ok : goal.returns-in-Err-clause-ok
 returns-in-Err-clause-ok g c =
-    let dir = folders_in c.args.config in
-    let m = contents_at dir (g.F.FileSystem.directory c.args.files) in
+    let config = c.args.config in
+    let dir = folders_in config in
+    let before = g.F.FileSystem.directory c.args.files in
+    let m = contents_at dir before in
     let files = g.F.FileSystem.directory c.in-Err.refused.file_system in
+    let e = c.in-Err.refused.fault in
     λ keeps.
     let kept = c.in-Err.ensures.opened.any_moment.here m [] keeps in
     record {
-      answered = inr (record { none = c.new.ensures.items; stands = refl; files_keep = kept });
-      after = rw c.new.ensures.items (refused_after dir m c.args.ops.now files (c.crash_leaves_contents.ensures.left dir m [] files kept));
+      answered = inr (record {
+        fault = e;
+        refused = refl;
+        cause = c.in-Err.ensures.refused;
+        none = c.new.ensures.items;
+        stands = refl;
+        files_keep = kept;
+      });
+      after = rw c.new.ensures.items (refused_after dir m c.args.ops.now files (c.crash_is_said_of_files.ensures 0 dir m [] files (c.crash_leaves_contents.ensures.left dir m [] files kept)));
       clear = c.crash_leaves_contents.ensures.clear dir m [] files kept;
       single = c.crash_leaves_contents.ensures.single dir m [] files kept;
     }
 
 pub returns-in_ok-ran-in-Ok-clause-crash : goal.returns-in_ok-ran-in-Ok-clause-crash
-returns-in_ok-ran-in-Ok-clause-crash g c = λ done none some.
+returns-in_ok-ran-in-Ok-clause-crash g c = λ done opened none.
     let e = c.in-Ok.engine in
     let dir = folders_in c.args.config in
     let ran = c.run_watched.new.engine in
-    let failures = c.in_ok-ran-in-Ok.ensures.ok.failures.0 in
     let folders : folders_of ran ≡ dir = c.in_ok-ran-in-Ok.ensures.folder ∙ c.in-Ok.ensures.opened.ok.folders_are in
-    let stands : has_failed ran ≡ false = failures ∙ ap (λ (b : Bool). b || is_some c.in_ok-ran-in-Ok.ran.failed_at) c.in-Ok.ensures.opened.ok.stands ∙ ap (λ (o : Option ℕ). is_some o) none in
+    let steps = c.in_ok-ran-in-Ok.ensures.ok.steps in
+    let stood = c.in-Ok.ensures.opened.ok.stands in
+    let stands : has_failed ran ≡ false = sym (ap (λ (s : State). s.failed) steps.ends) ∙ never_failed (state_of e) steps.states stood (sym none ∙ steps.place ∙ ap (λ (b : Bool). failure_place b steps.states) stood) in
     let begun : begun_of ran ≡ g.F.FileSystem.directory c.args.files ∷ [] = c.in_ok-ran-in-Ok.ensures.others ∙ c.in-Ok.ensures.opened.value in
     let all : (queue : LogQueue) → AllByRecursion (ReadsCompletedRecordsIfSimpleOf queue dir) (begun_of ran) = λ queue. subst (λ (l : List Directory). AllByRecursion (ReadsCompletedRecordsIfSimpleOf queue dir) l) (sym begun) ((λ past. done queue), tt) in
     let told : LeavesDetectable dir (directory_of ran) = subst (λ (p : Folders). ((queue : LogQueue) → AllByRecursion (ReadsCompletedRecordsIfSimpleOf queue p) (begun_of ran)) → LeavesDetectable p (directory_of ran)) folders (c.the_damage_of_an_engine_is_detectable.ensures.crash stands) all in
     subst (λ (n : Directory). LeavesDetectable dir n) (sym c.give_up.ensures.unchanged.0) told
 
 pub returns-in-Err-clause-crash : goal.returns-in-Err-clause-crash
-returns-in-Err-clause-crash g c = λ done none some. absurd (some c.new.ensures.items)
+returns-in-Err-clause-crash g c = λ done opened. absurd cc
+
+pub returns-in-Err-clause-clear : goal.returns-in-Err-clause-clear
+returns-in-Err-clause-clear g c = λ opened. absurd cc
 
 pub returns-in_ok-ran-in-Ok-clause-any_moment : goal.returns-in_ok-ran-in-Ok-clause-any_moment
 returns-in_ok-ran-in-Ok-clause-any_moment g c =
     let e = c.in-Ok.engine in
     let before = g.F.FileSystem.moments c.args.files in
     let opened = c.in-Ok.ensures.opened.any_moment in
-    let outcomes = c.in_ok-ran-in-Ok.ran.outcomes.items in
-    let run = through_moments (folders_of e) (durable_of e) (progress_from (unsynced_of e)) (snapshot_of e) (answered_of e) c.args.ops.now outcomes (snapshot_of c.run_watched.new.engine) (answered_of c.run_watched.new.engine) c.in_ok-ran-in-Ok.ensures.any_moment in (
+    let allowed = c.in_ok-ran-in-Ok.ensures.any_moment in
+    let run = leads_moments (folders_of e) (durable_of e) (progress_from (unsynced_of e)) (state_of e) c.args.ops.now c.in_ok-ran-in-Ok.ran.outcomes.items allowed.0 allowed.1 in (
       run.0 ++ opened.added,
-      c.give_up.ensures.unchanged.1 ∙ run.1 ∙ ap (λ (l : List Directory). run.0 ++ l) opened.is ∙ sym (append_assoc run.0 opened.added before),
+      c.give_up.ensures.unchanged.1 ∙ sym (ap (λ (s : State). s.moments) allowed.2) ∙ run.1 ∙ ap (λ (l : List Directory). run.0 ++ l) opened.is ∙ sym (append_assoc run.0 opened.added before),
     )
 
 pub returns-in-Err-clause-any_moment : goal.returns-in-Err-clause-any_moment

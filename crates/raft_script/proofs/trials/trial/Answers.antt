@@ -6,14 +6,16 @@ use Rattle.raft_memory.specs.Memory.{memory_directory}
 use Rattle.raft_memory.specs.Choice.{left_by}
 use Rattle.raft_records.specs.Contents.{no_contents}
 use Rattle.raft_tables.specs.Known.{known_in}
-use Rattle.raft_held.specs.Crash.{contents_after_crash}
-use Rattle.raft_held.specs.Queues.{AreSoundIn}
+use Rattle.raft_base.specs.declared.pipe_log.LogQueue.{LogQueue}
+use Rattle.raft_pipes.specs.Folder.{readable_queue}
+use Rattle.raft_pipes.specs.Numbered.{in_queue}
+use Rattle.raft_script.specs.Durability.{CanBeOpened}
 use Rattle.raft_config.specs.Folders.{folders_in}
 use Rattle.raft_config.proofs.ConfigLemmas.{contradiction-copy, same_contradiction}
 use Rattle.raft_config.specs.Sanitized.{IsContradiction, contradiction}
 use Rattle.raft_config.specs.declared.config.Config.{Config}
-use Rattle.raft_script.proofs.TrialLemmas.{choices_refused, image_restarted, none_done, none_readable, opened_log, opened_outside, run_shown, same_folders, true_of_none}
-use Rattle.raft_script.specs.Trial.{HaveNoLogPath, RunsOver}
+use Rattle.raft_script.proofs.TrialLemmas.{choices_refused, clear_of_none, clear_restarted, free_of_clear, image_same, no_log, none_done, none_known, opened_log, opened_outside, run_shown, same_folders, single_restarted, true_of_none}
+use Rattle.raft_script.specs.Trial.{HaveNoLogPath, Ran, RunsOver, shown_of}
 use Rattle.raft_script.proofs.trials.trial.Goals as goal
 
 pub run_over-requires-send-F : goal.run_over-requires-send-F
@@ -30,52 +32,80 @@ open_image-requires-sync-F c = λ κs. search (sendable, memory_sync) depth 20
 
 pub returns-clause-value : goal.returns-clause-value
 returns-clause-value c =
-    let dir = folders_in c.args.config in
+    let config = c.args.config in
+    let dir = folders_in config in
     let again = c.in_ok-again.again in
-    let before = memory_directory c.new_files.result in
-    let files = memory_directory c.in_ok-ran.files in
+    let first = c.new_files.result in
+    let last = c.in_ok-ran.files in
+    let before = memory_directory first in
+    let files = memory_directory last in
     let left = left_by c.args.choices.now files in
     let none = c.new_files.ensures.files in
-    let ran = c.in_ok-ran.ran in
+    let ran : Ran = record { outcomes = c.in_ok-ran.ran.outcomes.items; failed_at = c.in_ok-ran.ran.failed_at; refused = c.in_ok-ran.refused } in
     let leaves = c.in_ok-left.ensures.value in
-    let shown : HaveNoLogPath dir → RunsOver dir no_contents (known_in []) c.args.ops.now ran.outcomes.items ran.failed_at files = λ free.
-    run_shown dir before files c.args.ops.now ran.outcomes.items ran.failed_at (λ queue. none_readable queue dir before none) (true_of_none dir before (c.crash_leaves_contents.ensures.none dir before) free none).1 c.in_ok-ran.ensures.ok in
+    let unread : HaveNoLogPath dir → (queue : LogQueue) → readable_queue queue dir before ≡ [] = λ free queue. (c.crash_leaves_a_prefix.ensures.none queue dir before (no_log dir before none) (clear_of_none dir before free none)).0 in
+    let shown : HaveNoLogPath dir → RunsOver config no_contents (known_in []) c.args.ops.now ran (shown_of first) (shown_of last) = λ free.
+    run_shown config c.args.ops.now ran (shown_of first) (shown_of last) (none_known dir before (unread free)) (true_of_none dir before (c.crash_leaves_contents.ensures.none dir before) free none) c.in_ok-ran.ensures.ok in
     let m = memory_directory c.in_ok-left.left in
     let restarted = c.in_ok-left.ensures.ok in
-    let copied : contradiction again ≡ contradiction c.args.config = contradiction-copy c.args.config again c.in_ok-again.ensures.value in
-    let same : folders_in again ≡ dir = same_folders c.args.config again c.in_ok-again.ensures.value in
-    let mode = c.args.config.recovery_mode in
+    let copied : contradiction again ≡ contradiction config = contradiction-copy config again c.in_ok-again.ensures.value in
+    let same : folders_in again ≡ dir = same_folders config again c.in_ok-again.ensures.value in
+    let mode = config.recovery_mode in
     let mode_is : again.recovery_mode ≡ mode = ap (λ (x : Config). x.recovery_mode) c.in_ok-again.ensures.value.others in
     record {
-      last = c.in_ok-ran.files;
-      runs = record { first = c.new_files.result; stop_is = search rules; none = none; added = c.in_ok-ran.ensures.any_moment.0; later = c.in_ok-ran.ensures.any_moment.1; ran = shown };
+      last = last;
+      runs = record {
+        first = first;
+        stop_is = search rules;
+        none = none;
+        uncounted = c.new_files.ensures.cause;
+        added = c.in_ok-ran.ensures.any_moment.0;
+        later = c.in_ok-ran.ensures.any_moment.1;
+        free = λ opened. free_of_clear dir before (c.in_ok-ran.ensures.clear opened);
+        runs = shown;
+      };
       left = leaves;
-      detectable = λ none some whole past. c.in_ok-ran.ensures.crash (none_done dir before (λ absent queue. (c.a_queue_recovers_its_batches.ensures.none queue dir before absent).0) c.new_files.ensures.files) none some past
-          c.in_ok-left.ensures.consistent c.args.choices.now whole;
-      found = image_restarted (folders_in again) dir files m left c.open_image.result same (c.crash_leaves_contents.ensures.found dir files m left restarted) c.open_image.ensures.value;
+      after = m;
+      restarted = restarted;
+      detectable = λ opened stands whole past. c.in_ok-ran.ensures.crash (none_done dir before (λ absent queue. (c.a_queue_recovers_its_batches.ensures.none queue dir before absent).0) none) opened stands past c.in_ok-left.ensures.consistent c.args.choices.now whole;
+      torn = λ named before queue f last file at.
+          let read = before queue f file last at in
+          c.premise_can_be_met.ensures.own f.1 (in_queue queue f.0) files file at read.0 c.in_ok-left.ensures.consistent read.1 c.args.choices.now named read.2 file at;
+      found = image_same (folders_in again) dir m c.open_image.result same c.open_image.ensures.value;
       refused = λ free detectable tolerant fine.
-          let sound : AreSoundIn dir files left = ((shown free).after.2 left leaves detectable).1 in
-          opened_outside mode again.recovery_mode dir (folders_in again) m c.open_image.result mode_is same (c.crash_leaves_contents.ensures.opens dir files m left restarted sound mode tolerant) (c.crash_leaves_contents.ensures.stays_clear dir files m left restarted sound)
-          (c.crash_leaves_contents.ensures.single dir (contents_after_crash dir files left) [] m (c.crash_leaves_contents.ensures.restarted dir files m left restarted sound)) (c.open_image.ensures.refused (copied ∙ fine));
-      cause = λ free. opened_log (IsContradiction c.args.config) (IsContradiction again) mode again.recovery_mode dir (folders_in again) files m left c.open_image.result (λ e no. same_contradiction c.args.config again e copied no) mode_is same restarted
-          (shown free).clear (shown free).single (λ e damage. (damage.0, c.crash_leaves_a_prefix.ensures.refused damage.0 mode dir files m left e restarted damage.1)) c.open_image.ensures.cause;
+          let opens : CanBeOpened dir m = ((shown free).after.2 left m leaves restarted).opens detectable in
+          opened_outside mode again.recovery_mode dir (folders_in again) m c.open_image.result mode_is same (opens.openable mode tolerant) opens.clear opens.single (c.open_image.ensures.refused (copied ∙ fine));
+      cause = λ free. opened_log (IsContradiction config) (IsContradiction again) mode again.recovery_mode dir (folders_in again) m c.open_image.result (λ e no. same_contradiction config again e copied no) mode_is same
+          (clear_restarted dir files m left restarted (shown free).clear) (single_restarted dir files m left restarted (shown free).single) c.open_image.ensures.cause;
     }
 
 pub returns-in_err-left-clause-cause : goal.returns-in_err-left-clause-cause
 returns-in_err-left-clause-cause c =
-    let files = memory_directory c.in_ok-ran.files in
-    let ran = c.in_ok-ran.ran in
-    let dir = folders_in c.args.config in
-    let before = memory_directory c.new_files.result in
+    let config = c.args.config in
+    let dir = folders_in config in
+    let first = c.new_files.result in
+    let last = c.in_ok-ran.files in
+    let before = memory_directory first in
+    let files = memory_directory last in
     let none = c.new_files.ensures.files in
-    let shown : HaveNoLogPath dir → RunsOver dir no_contents (known_in []) c.args.ops.now ran.outcomes.items ran.failed_at files = λ free.
-    run_shown dir before files c.args.ops.now ran.outcomes.items ran.failed_at (λ queue. none_readable queue dir before none) (true_of_none dir before (c.crash_leaves_contents.ensures.none dir before) free none).1 c.in_ok-ran.ensures.ok in
+    let ran : Ran = record { outcomes = c.in_ok-ran.ran.outcomes.items; failed_at = c.in_ok-ran.ran.failed_at; refused = c.in_ok-ran.refused } in
+    let unread : HaveNoLogPath dir → (queue : LogQueue) → readable_queue queue dir before ≡ [] = λ free queue. (c.crash_leaves_a_prefix.ensures.none queue dir before (no_log dir before none) (clear_of_none dir before free none)).0 in
+    let shown : HaveNoLogPath dir → RunsOver config no_contents (known_in []) c.args.ops.now ran (shown_of first) (shown_of last) = λ free.
+    run_shown config c.args.ops.now ran (shown_of first) (shown_of last) (none_known dir before (unread free)) (true_of_none dir before (c.crash_leaves_contents.ensures.none dir before) free none) c.in_ok-ran.ensures.ok in
     let p = err_from_is_err_and c.from_residual-in_err-left.result c.from_residual-in_err-left.ensures.1 in
     rw (p.1, p.2) (choices_refused files c.args.choices.now c.in_err-left.field-0.0 c.in_err-left.ensures.consistent c.in_err-left.ensures.refused
     (λ not_left. record {
-      outcomes = ran.outcomes.items;
-      failed_at = ran.failed_at;
-      last = c.in_ok-ran.files;
-      runs = record { first = c.new_files.result; stop_is = search rules; none = c.new_files.ensures.files; added = c.in_ok-ran.ensures.any_moment.0; later = c.in_ok-ran.ensures.any_moment.1; ran = shown };
+      ran = ran;
+      last = last;
+      runs = record {
+        first = first;
+        stop_is = search rules;
+        none = none;
+        uncounted = c.new_files.ensures.cause;
+        added = c.in_ok-ran.ensures.any_moment.0;
+        later = c.in_ok-ran.ensures.any_moment.1;
+        free = λ opened. free_of_clear dir before (c.in_ok-ran.ensures.clear opened);
+        runs = shown;
+      };
       refused = not_left;
     }))
