@@ -5,6 +5,7 @@ use Rattle.std.specs.Option.{option_map}
 use Rattle.raft_env.specs.declared.env.FileSystem.{Ghosts}
 use Rattle.raft_base.specs.declared.pipe_log.LogQueue.TheVariants.{Append}
 use Rattle.raft_listeners.specs.Heard.{HasAnswered, HasHeard, Heard}
+use Rattle.raft_listeners.specs.declared.listener.Event.{Event}
 use Rattle.raft_pipes.specs.PipeState.{last_seq}
 use Rattle.raft_purge.specs.Apart.{KeepsOthers}
 use Rattle.raft_purge.specs.Expired.{HasPurgedAppend, first_renewed}
@@ -66,11 +67,11 @@ module _ {F H R W : Type 0} {g : Ghosts F H R W} where
         → (barrier ≡ last_seq (queue_of e)) × (new ≡ old)
 
   -- they were asked so, and then heard of a purge with this barrier, which left this
-  pub record HearsExpired (e e' : Engine F H R W g) (old new : Heard) (Leaves : ℕ → Type 0)
-      : Type 0 where
+  pub record HearsExpired (AreSo : List Event → Type 0) (e e' : Engine F H R W g) (old new : Heard)
+      (Leaves : ℕ → Type 0) : Type 0 where
     pub barrier : ℕ
     pub after : Heard
     pub asks : AsksBarrier e barrier old after
     pub leaves : Leaves barrier
-    pub told : has_failed e' ≡ false → HearsPurge (spans_of e) (spans_of e') after new
+    pub told : has_failed e' ≡ false → HearsPurge AreSo (spans_of e) (spans_of e') after new
     pub silent : has_failed e ≡ true → HasHeard [] after new

@@ -1,4 +1,3 @@
-pub mod Answered
 pub mod Attempt
 pub mod Batches
 pub mod Cause

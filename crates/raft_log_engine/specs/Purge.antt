@@ -41,6 +41,13 @@ HasFreed RewriteRewrite append rewrite append' rewrite' count =
 HasFreed DropStale append rewrite append' rewrite' count = append.first + count ≡ append'.first
 HasFreed (DropExpired x) append rewrite append' rewrite' count = append.first + count ≡ append'.first
 
+-- how many of the batches that a purge writes need not be full: the last one of each rewriting
+abbrev pub rests_of : Purge → ℕ
+rests_of (RewriteAppend scope) = 1
+rests_of RewriteRewrite = 1
+rests_of DropStale = 0
+rests_of (DropExpired x) = 2
+
 -- where the batches of each atomic group stand together, none of the queue's files is left, else all are
 pub record HasRenewed (together : Bool) (p p' : PipeState) : Type 0 where
   pub gone : together ≡ true → p'.first ≡ suc (last_seq p)

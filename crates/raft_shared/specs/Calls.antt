@@ -10,7 +10,7 @@ use Rattle.raft_log_engine.specs.Advance.{Advances, state_of}
 use Rattle.raft_log_engine.specs.Cause.{HasNoneInFlight, IsUnwritable, IsWriteRefusal, StandsUnless}
 use Rattle.raft_held.specs.Crash.{pending_of, written_batch}
 use Rattle.raft_log_engine.specs.Durability.{ChangesNoFile, ChangesNothing, HasRefused, HasWritten, StaysFailed, accepted_by, covered_by}
-use Rattle.raft_log_engine.specs.Engine.{IsDurableToEnd, answer_now, answered_of, contents_of, directory_of, folders_of, has_failed, queue_of, refusals_of}
+use Rattle.raft_log_engine.specs.Engine.{IsDurableToEnd, contents_of, directory_of, folders_of, has_failed, queue_of, refusals_of}
 use Rattle.raft_log_engine.specs.declared.engine.Engine.{Engine}
 
 module _ {F H R W : Type 0} {g : Ghosts F H R W} where
@@ -21,7 +21,6 @@ module _ {F H R W : Type 0} {g : Ghosts F H R W} where
     pub err : IfErr result (λ e. has_failed new ≡ false → HasRefused items rest old new e)
     pub advance : Advances (accepted_by result (written_batch items)) (covered_by result sync)
         (pending_of (contents_of old) items) (state_of old) (state_of new)
-    pub answered : answered_of new ≡ answer_now (written_batch items) new ∷ answered_of old
     pub stands : IfErr result (λ e. has_failed old ≡ false → StandsUnless sync old new e)
     pub unsynced : IfErr result (HasNoneInFlight sync old new)
     pub durable : OnOk result (sync ≡ true → IsDurableToEnd new)
@@ -43,7 +42,6 @@ module _ {F H R W : Type 0} {g : Ghosts F H R W} where
     pub stands : OnOk result (has_failed new ≡ false)
     pub err : OnErr result (has_failed new ≡ true)
     pub blocks : OnErr result (directory_of new ≡ directory_of old)
-    pub answered : answered_of new ≡ answer_now [] new ∷ answered_of old
     pub failed : (result ≡ Err fault.Failed) ↔ (has_failed old ≡ true)
     pub unchanged : has_failed old ≡ true → StaysFailed old new
     pub cause : IfErr result (λ e. has_failed old ≡ false
