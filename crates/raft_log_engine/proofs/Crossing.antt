@@ -149,7 +149,7 @@ module _ (F H R W : RattleType) (g : Ghosts F.Denot H.Denot R.Denot W.Denot) whe
   pipes_send w = view_send (pipes.TheInside.the_row F H R W g) _ _ _ _ (recorded_send _ _ _ (pipes.TheInside.the_type F H R W g).to_one (struct_send (shape (pipes.TheInside.the_type F H R W g)) (pipes_parts w)))
 
   pub engine_parts : IsSend F → IsSend W → AllSend (shape (engine.the_type F H R W g)).fields
-  engine_parts f w = (search (sendable, items.crosses) depth 20, (config_field_send, (f, (pipes_send w, (tables_field_send, (stats_send, (owed_send, (groups_send, (rounds_send, (search sendable, (cache_field_send, (search (sendable, items.crosses, item_send) depth 20, (search sendable, (search (sendable, history_send, batch_send) depth 20, (search (sendable, history_send, batch_send) depth 20, (search (sendable, history_send, batch_send) depth 20, (search (sendable, history_send) depth 20, tt)))))))))))))))))
+  engine_parts f w = (search (sendable, items.crosses) depth 20, (config_field_send, (f, (pipes_send w, (tables_field_send, (stats_send, (owed_send, (groups_send, (rounds_send, (search sendable, (cache_field_send, (search (sendable, items.crosses, item_send) depth 20, (search sendable, (search (sendable, history_send, batch_send) depth 20, (search (sendable, history_send, batch_send) depth 20, (search (sendable, history_send) depth 20, tt))))))))))))))))
 
   pub engine_send : IsSend F → IsSend W → IsSend (engine.the_row F H R W g)
   engine_send f w = recorded_send _ _ _ (engine.the_type F H R W g).to_one (struct_send (shape (engine.the_type F H R W g)) (engine_parts f w))
