@@ -75,31 +75,26 @@ leads_moments folders m p before (x ∷ ops) (o ∷ outcomes) [] led = absurd le
 -- Where an engine failed.
 
 -- the place of a first failure after others
-first_after : Option ℕ → Bool → ℕ → Option ℕ
+abbrev first_after : Option ℕ → Bool → ℕ → Option ℕ
 first_after (Some place) failed len = Some place
 first_after None failed len = if failed then Some len else None
 
+one_later : (o : Option ℕ) (b : Bool) (len : ℕ) → option_map suc (first_after o b len) ≡ first_after (option_map suc o) b (suc len)
+one_later (Some place) b len = refl
+one_later None true len = refl
+one_later None false len = refl
+
+-- behind a state that has failed or not
+abbrev first_behind : Bool → Option ℕ → Option ℕ
+first_behind failed o = if failed then Some 0 else option_map suc o
+
+first_behind-more : (b : Bool) (o more : Option ℕ) (failed : Bool) (len : ℕ) → more ≡ first_after o failed len → first_behind b more ≡ first_after (first_behind b o) failed (suc len)
+first_behind-more true o more failed len is = refl
+first_behind-more false o more failed len is = ap (option_map suc) is ∙ one_later o failed len
+
 first_failed-more : (states : List State) (s : State) → first_failed (states ++ s ∷ []) ≡ first_after (first_failed states) s.failed (length states)
 first_failed-more [] s = refl
-first_failed-more (x ∷ states) s = elim (cases_Bool x.failed) [
-  | inl fell ↦ by_first true fell
-  | inr stood ↦ by_first false stood
-]
-  where
-    one_later : (o : Option ℕ) (b : Bool) (len : ℕ) → option_map suc (first_after o b len) ≡ first_after (option_map suc o) b (suc len)
-    one_later (Some place) b len = refl
-    one_later None true len = refl
-    one_later None false len = refl
-
-    by_first : (b : Bool) → x.failed ≡ b → first_failed (x ∷ (states ++ s ∷ [])) ≡ first_after (first_failed (x ∷ states)) s.failed (length (x ∷ states))
-    by_first true is =
-        ap (λ (b : Bool). if b then Some 0 else option_map suc (first_failed (states ++ s ∷ []))) is
-        ∙ sym (ap (λ (b : Bool). first_after (if b then Some 0 else option_map suc (first_failed states)) s.failed (length (x ∷ states))) is)
-    by_first false is =
-        ap (λ (b : Bool). if b then Some 0 else option_map suc (first_failed (states ++ s ∷ []))) is
-        ∙ ap (option_map suc) (first_failed-more states s)
-        ∙ one_later (first_failed states) s.failed (length states)
-        ∙ sym (ap (λ (b : Bool). first_after (if b then Some 0 else option_map suc (first_failed states)) s.failed (length (x ∷ states))) is)
+first_failed-more (x ∷ states) s = first_behind-more x.failed (first_failed states) (first_failed (states ++ s ∷ [])) s.failed (length states) (first_failed-more states s)
 
 -- where the engine failed that had failed before or not
 abbrev pub failure_place : Bool → List State → Option ℕ

@@ -105,7 +105,8 @@ loop-op-preserved g c =
     (step.value (after_batches m p.batches) (known_from known p.batches) (λ alive. sym (held alive)) known_is) in
     let is_step : IsStep folders m known p op outcome (state_of old) (state_of new) = record { answer = answer; failure = step.failed; allowed = allowed } in
     let states = kept.6.states in
-    let counted : length states ≡ place = leads_len (IsStep folders m known) m first (state_of begun) ops outcomes states kept.6.each ∙ kept.0 in
+    let as_many = leads_len (IsStep folders m known) m first (state_of begun) ops outcomes states kept.6.each in
+    let counted : length states ≡ place = omega (arith, as_many, kept.0) in
     let failure = place_more states (state_of new) (has_failed old) failed_at next_at (subst (λ (k : ℕ). IsNextPlace (has_failed old) (has_failed new) k failed_at next_at) (sym counted) next) still (has_failed begun) kept.7 kept.6.place in
     let steps : Steps folders m known first (state_of begun) (ops ++ op ∷ []) (outcomes ++ outcome ∷ []) next_at (state_of new) = record {
       states = states ++ state_of new ∷ [];
@@ -192,3 +193,8 @@ returns-clause-left g c =
     let kept = c.loop-op.invariant in
     c.crash_is_said_of_files.ensures 0 (folders_of e) (durable_of e) (unsynced_of e) (directory_of e)
     (subst (λ (f : Contents). LeavesAllowed (folders_of e) (after_batches f (base_of e)) (unsynced_of e) (directory_of e)) (sym (found_same e c.args.engine.now kept.2 kept.3)) kept.10.leaves)
+
+pub returns-in_err-outcomes-clause-left : goal.returns-in_err-outcomes-clause-left
+returns-in_err-outcomes-clause-left g c =
+    let e = c.args.engine.now in
+    c.crash_is_said_of_files.ensures 0 (folders_of e) (durable_of e) (unsynced_of e) (directory_of e) c.an_engine_recovers_what_it_keeps.ensures.crash

@@ -1,4 +1,4 @@
-use Rattle.std.proofs.Common.{◌≡◌, ◌∙◌, ◌∷◌, [], List, Option, Some, ap, map, inl, inr, refl, rules, subst, sym}
+use Rattle.std.proofs.Common.{◌≡◌, ◌∙◌, ◌∷◌, [], true, List, Option, Some, ap, map, inl, inr, refl, rules, subst, sym}
 use Rattle.std.specs.Prelude.{unwrap_or}
 use Rattle.raft_records.specs.Contents.{Contents, first_index_of, last_index_of}
 use Rattle.raft_records.specs.Item.{Batch}

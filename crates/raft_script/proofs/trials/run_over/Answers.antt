@@ -1,4 +1,4 @@
-use Rattle.std.proofs.Common.{◌≡◌, ◌∷◌, ◌||◌, ℕ, Option, false, is_some, List, ◌++◌, ap, append_assoc, ◌∙◌, Bool, [], inl, inr, refl, sym, subst}
+use Rattle.std.proofs.Common.{◌≡◌, ◌∷◌, ◌||◌, ℕ, Option, false, is_some, List, ◌++◌, ap, append_assoc, arith, ◌∙◌, Bool, [], inl, inr, refl, sym, subst}
 use Rattle.std.proofs.lemmas.Result.{err_from_is_err_and}
 use Rattle.raft_records.specs.Contents.{Contents, after_batches}
 use Rattle.raft_records.specs.Item.{Batch}
