@@ -1,7 +1,8 @@
 //! Purges by watermarks with a listener that keeps files, and what it hears of them.
 
 use raft_base::{FileBlockHandle, FileId, FileSeq, LogQueue};
-use raft_listeners::{EventListener, Listeners};
+use raft_env::FileSystem;
+use raft_listeners::{EventListener, EventSink, FileKeeper, Listeners};
 use raft_log_engine::{Config, Engine};
 use raft_memory::MemoryFileSystem;
 use raft_records::{EntryIndex, Fault, Fresh, LogBatch, ReadableSize};
@@ -66,10 +67,10 @@ fn entry_of(alloc: Global, group: u64, index: u64, len: usize) -> Result<LogBatc
 }
 
 /// Writes 50 entries of each of three groups, and one of each of 47 others.
-fn write_all(
+fn write_all<F: FileSystem, L: EventSink>(
     alloc: Global,
-    engine: &mut Engine<MemoryFileSystem>,
-    listeners: &mut Listeners,
+    engine: &mut Engine<F>,
+    listeners: &mut L,
 ) -> Result<(), Fault> {
     for group in 1..51_u64 {
         let (last, len) = if group <= 3 { (50, 10) } else { (1, 1024) };
@@ -88,9 +89,53 @@ fn settings(alloc: Global) -> Config {
     config
 }
 
-/// How many of ten purges ask for groups 1 to 3, with which file the Append queue begins then, and how
-/// many records were appended and applied.
-fn after_ten(alloc: Global, keeps: Option<FileSeq>) -> Result<(u64, FileSeq, u64, u64), Fault> {
+/// How many of ten purges ask for groups 1 to 3.
+fn purge_ten_times<F: FileSystem, L: FileKeeper>(
+    engine: &mut Engine<F>,
+    listeners: &mut L,
+) -> Result<u64, Fault> {
+    let mut asked: u64 = 0;
+    for _ in 0..10 {
+        let groups = engine.purge_expired_files_with_listeners(listeners)?;
+        if groups.as_slice() == [1, 2, 3].as_slice() {
+            asked = asked.saturating_add(1);
+        }
+    }
+    Ok(asked)
+}
+
+/// What ten purges come to: how many ask for groups 1 to 3, and with which file the Append queue
+/// begins then.
+fn purged<F: FileSystem + Drop, L: FileKeeper>(
+    alloc: Global,
+    files: F,
+    listeners: &mut L,
+) -> Result<(u64, FileSeq), Fault> {
+    let mut engine = Engine::open_in_order_with_listeners(
+        alloc,
+        settings(alloc),
+        files,
+        listeners,
+    )?;
+    write_all(alloc, &mut engine, listeners)?;
+    let asked = purge_ten_times(&mut engine, listeners)?;
+    Ok((asked, engine.file_spans().append.0))
+}
+
+/// What is found after ten purges, beside what was heard of them.
+#[derive(Drop)]
+struct Found {
+    asked: u64,
+    first: FileSeq,
+    appended: u64,
+    applied: u64,
+}
+
+fn found_over<F: FileSystem + Drop>(
+    alloc: Global,
+    keeps: Option<FileSeq>,
+    files: F,
+) -> Result<Found, Fault> {
     let appended = Arc::new(alloc, AtomicU64::new(0))?;
     let applied = Arc::new(alloc, AtomicU64::new(0))?;
     let mut given: Vec<Box<dyn EventListener + Send>> = Vec::new(alloc);
@@ -101,38 +146,28 @@ fn after_ten(alloc: Global, keeps: Option<FileSeq>) -> Result<(u64, FileSeq, u64
     };
     given.push(Box::new(alloc, keeping)?)?;
     let mut listeners = Listeners::new(alloc, given);
-    let files = MemoryFileSystem::new(alloc);
-    let mut engine = Engine::open_in_order_with_listeners(
-        alloc,
-        settings(alloc),
-        files,
-        &mut listeners,
-    )?;
-    write_all(alloc, &mut engine, &mut listeners)?;
-    let mut asked = 0;
-    for _ in 0..10 {
-        let groups = engine.purge_expired_files_with_listeners(&mut listeners)?;
-        if groups.as_slice() == [1, 2, 3].as_slice() {
-            asked += 1;
-        }
-    }
-    Ok((
+    let (asked, first) = purged(alloc, files, &mut listeners)?;
+    Ok(Found {
         asked,
-        engine.file_spans().append.0,
-        appended.load(Ordering::SeqCst),
-        applied.load(Ordering::SeqCst),
-    ))
+        first,
+        appended: appended.load(Ordering::SeqCst),
+        applied: applied.load(Ordering::SeqCst),
+    })
+}
+
+fn found_after_ten(alloc: Global, keeps: Option<FileSeq>) -> Result<Found, Fault> {
+    found_over(alloc, keeps, MemoryFileSystem::new(alloc))
 }
 
 #[test]
 fn a_listener_keeps_its_files_from_purges(rt: HostRuntime) -> Result<(), Fail> {
     for (place, row) in KEPT.iter().enumerate() {
-        let (asked, first, appended, applied) = after_ten(rt.alloc(), row.0)?;
-        assert!(&rt; asked == 10, "row {place}");
-        assert!(&rt; first == row.1, "row {place}");
+        let found = found_after_ten(rt.alloc(), row.0)?;
+        assert!(&rt; found.asked == 10, "row {place}");
+        assert!(&rt; found.first == row.1, "row {place}");
         // The first purge writes what few entries others have again, the tenth those of the three.
-        assert!(&rt; appended == WRITES + 2, "row {place}");
-        assert!(&rt; applied == appended, "row {place}");
+        assert!(&rt; found.appended == WRITES + 2, "row {place}");
+        assert!(&rt; found.applied == found.appended, "row {place}");
     }
     Ok(())
 }
