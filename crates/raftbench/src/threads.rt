@@ -4,12 +4,13 @@
 use crate::log::open;
 use crate::measure::{Against, Host, Measure, Report, Stopwatch, Taken};
 use crate::parts::{Part, Written, add, batches_of};
+use crate::shared::size_in;
 use crate::workload::{Amount, Load, ONE_FILE};
 use anyhow::{Result, bail};
 use raft_disk::DiskFileSystem;
 use raft_log_engine::Engine;
 use raft_records::{Fault, LogBatch};
-use raft_shared::{Reply, Seat, Shared};
+use raft_shared::{Seat, Shared};
 use std::alloc::Global;
 use std::sync::{Arc, Mutex, Wait};
 use std::thread;
@@ -166,10 +167,8 @@ fn put_synced<R: Wait>(
     let mut bytes = 0u64;
     for written in batches_of(alloc, Part::Put, load)? {
         add(&mut batch, written)?;
-        match together.lock(rt).write(&mut seat, &mut batch, true)?.reply {
-            Reply::Size(size) => bytes = bytes.saturating_add(size? as u64),
-            _ => {}
-        }
+        let receipt = together.lock(rt).write(&mut seat, &mut batch, true)?;
+        bytes = bytes.saturating_add(size_in(receipt.reply)?);
     }
     Ok(bytes)
 }
