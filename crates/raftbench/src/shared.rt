@@ -93,8 +93,8 @@ fn put_each<F: FileSystem>(
     Ok(bytes)
 }
 
-/// The bytes of the record that was written, where a write was answered so.
-pub(crate) fn size_in(reply: Reply) -> Result<u64, Fault> {
+// The bytes of the record that was written, where a write was answered so.
+fn size_in(reply: Reply) -> Result<u64, Fault> {
     match reply {
         Reply::Size(size) => Ok(size? as u64),
         // no write is answered otherwise
