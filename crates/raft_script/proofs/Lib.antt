@@ -2,6 +2,7 @@ pub mod DurabilityLemmas
 pub mod EntryLemmas
 pub mod GroupLemmas
 pub mod NumberLemmas
+pub mod ProgressLemmas
 pub mod StepsLemmas
 pub mod RunLemmas
 pub mod TrialLemmas

@@ -23,6 +23,7 @@ use Rattle.raft_script.specs.Durability.{Does, IsAllowedInside, IsStep, Leads, L
 use Rattle.raft_script.specs.Failure.{IsFailing}
 use Rattle.raft_script.specs.declared.operation.Op.{Op}
 use Rattle.raft_script.specs.declared.operation.Outcome.{Outcome}
+use Rattle.raft_script.proofs.ProgressLemmas.{rests}
 use Rattle.raft_script.proofs.RunLemmas.{IsNextPlace, stands_answered}
 
 -- States.
@@ -220,13 +221,8 @@ module _ {F H R W : Type 0} {g : Ghosts F H R W} (old new : Engine F H R W g) (o
   does_read read none covers_none = record {
     flight = [];
     may_be = ∣ ([], refl) ∣₁;
-    progress = inl (record {
-      none = none;
-      covers_none = covers_none;
-      failed = ap (λ (d : Durability). d.failed) read.state;
-      base = ap (λ (d : Durability). d.base) read.state;
-      unsynced = ap (λ (d : Durability). d.unsynced) read.state;
-    });
+    progress = subst (λ (l : List Batch). Progresses l (is_covering op outcome) [] (durability_of old) (durability_of new)) (sym none)
+        (subst (λ (covers : Bool). Progresses [] covers [] (durability_of old) (durability_of new)) (sym covers_none) (subst (λ (d : Durability). Progresses [] false [] (durability_of old) d) (sym read.state) (rests (durability_of old))));
     moments = λ alive. ([], read.moments, tt);
     rests = λ gone. read.moments;
   }
@@ -243,14 +239,6 @@ module _ {F H R W : Type 0} {g : Ghosts F H R W} (old new : Engine F H R W g) (o
     rests = λ gone. (stays gone).moments;
   }
 
--- one that is answered leaves the engine standing
-pub purge_stands : {T : Type 0} (result : Result T Fault) (d d' : Durability) → Progresses [] (is_ok result) [] d d' → IfOk result (λ _. d'.failed ≡ false)
-purge_stands (Ok count) d d' (inl rests) = absurd (let clash : true ≡ false = rests.covers_none in cc)
-purge_stands (Ok count) d d' (inr (inl added)) = added.stands
-purge_stands (Ok count) d d' (inr (inr (inl synced))) = synced.stands
-purge_stands (Ok count) d d' (inr (inr (inr fails))) = absurd (let clash : true ≡ false = fails.covers_none in cc)
-purge_stands (Err e) d d' progress = tt
-
 -- an engine that isn't asked only read
 pub read_same : {F H R W : Type 0} {g : Ghosts F H R W} (e : Engine F H R W g) → HasOnlyRead e e
-read_same e = record { files = refl; moments = refl; refusals = (omega arith, omega arith); folders = refl; state = refl; answered = refl; begun = refl; settings = refl; queue = refl }
+read_same e = record { files = refl; moments = refl; refusals = (omega arith, omega arith); folders = refl; state = refl; begun = refl; settings = refl; queue = refl }

@@ -11,12 +11,10 @@ use Rattle.raft_records.specs.Item.{Batch}
 use Rattle.raft_base.specs.Fault.{fault_code}
 use Rattle.raft_base.specs.declared.pipe_log.FileId.{FileId}
 use Rattle.raft_memory.specs.Choice.{RefusesUnless, left_by, NameNoBytes}
-use Rattle.raft_env.specs.Consistent.{AreConsistent}
 use Rattle.raft_env.specs.Directory.{Directory, IsRestarted, Leaves, CrashImage, Path, file_at}
 use Rattle.raft_env.specs.Outcomes.{File, synced_file}
 use Rattle.raft_memory.specs.Memory.{no_files}
 use Rattle.raft_memory.specs.declared.crash.Choice.{Choice}
-use Rattle.raft_memory.proofs.ChoiceTornLemmas.{choices_may_leave}
 use Rattle.raft_files.specs.Writer.{bytes_at}
 use Rattle.raft_held.specs.Crash.{RecoversContents}
 use Rattle.raft_base.specs.declared.errors.Fault.{Fault}
@@ -210,22 +208,22 @@ opened_log C C' mode again folders dir m opened same mode_is dir_is clear single
 
 -- Why the choices are refused.
 
--- of consistent files, only for bytes that they name and that storage may not leave of them
-pub choices_refused : {P : Type 0} (n : Directory) (choices : List Choice) (e : Fault) → AreConsistent n → RefusesUnless (Leaves n (left_by choices n)) e → ((Leaves n (left_by choices n) → ⊥) → P) → (e ≡ fault.Memory) ⊎ ((fault_code e ≡ 1) × (NameNoBytes choices → ⊥) × P)
-choices_refused n choices (fault.InvalidArgument text) consistent refuses told = inr (refl, λ none. refuses (choices_may_leave choices n none consistent), told refuses)
-choices_refused n choices fault.Corruption consistent refuses told = absurd refuses
-choices_refused n choices (fault.Io kind path) consistent refuses told = absurd refuses
-choices_refused n choices fault.TryAgain consistent refuses told = absurd refuses
-choices_refused n choices fault.Gap consistent refuses told = absurd refuses
-choices_refused n choices fault.Range consistent refuses told = absurd refuses
-choices_refused n choices fault.EntryCompacted consistent refuses told = absurd refuses
-choices_refused n choices fault.EntryNotFound consistent refuses told = absurd refuses
-choices_refused n choices fault.WrongIndex consistent refuses told = absurd refuses
-choices_refused n choices fault.Parse consistent refuses told = absurd refuses
-choices_refused n choices fault.Failed consistent refuses told = absurd refuses
-choices_refused n choices fault.Memory consistent refuses told = inl refl
-choices_refused n choices fault.Lz4 consistent refuses told = absurd refuses
-choices_refused n choices fault.FileOutOfRange consistent refuses told = absurd refuses
-choices_refused n choices fault.NotRecovered consistent refuses told = absurd refuses
-choices_refused n choices fault.TrailFull consistent refuses told = absurd refuses
-choices_refused n choices fault.Layer consistent refuses told = absurd refuses
+-- only for bytes that they name and that storage may not leave of them
+pub choices_refused : {P : Type 0} (n : Directory) (choices : List Choice) (e : Fault) → (NameNoBytes choices → Leaves n (left_by choices n)) → RefusesUnless (Leaves n (left_by choices n)) e → ((Leaves n (left_by choices n) → ⊥) → P) → (e ≡ fault.Memory) ⊎ ((fault_code e ≡ 1) × (NameNoBytes choices → ⊥) × P)
+choices_refused n choices (fault.InvalidArgument text) may_leave refuses told = inr (refl, λ none. refuses (may_leave none), told refuses)
+choices_refused n choices fault.Corruption may_leave refuses told = absurd refuses
+choices_refused n choices (fault.Io kind path) may_leave refuses told = absurd refuses
+choices_refused n choices fault.TryAgain may_leave refuses told = absurd refuses
+choices_refused n choices fault.Gap may_leave refuses told = absurd refuses
+choices_refused n choices fault.Range may_leave refuses told = absurd refuses
+choices_refused n choices fault.EntryCompacted may_leave refuses told = absurd refuses
+choices_refused n choices fault.EntryNotFound may_leave refuses told = absurd refuses
+choices_refused n choices fault.WrongIndex may_leave refuses told = absurd refuses
+choices_refused n choices fault.Parse may_leave refuses told = absurd refuses
+choices_refused n choices fault.Failed may_leave refuses told = absurd refuses
+choices_refused n choices fault.Memory may_leave refuses told = inl refl
+choices_refused n choices fault.Lz4 may_leave refuses told = absurd refuses
+choices_refused n choices fault.FileOutOfRange may_leave refuses told = absurd refuses
+choices_refused n choices fault.NotRecovered may_leave refuses told = absurd refuses
+choices_refused n choices fault.TrailFull may_leave refuses told = absurd refuses
+choices_refused n choices fault.Layer may_leave refuses told = absurd refuses

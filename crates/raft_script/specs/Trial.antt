@@ -10,7 +10,7 @@ use Rattle.raft_env.specs.Consistent.{AreConsistent}
 use Rattle.raft_env.specs.Directory.{Directory, IsRestarted, Leaves, Path, file_at}
 use Rattle.raft_env.specs.Outcomes.{File}
 use Rattle.raft_base.specs.declared.pipe_log.LogQueue.{LogQueue}
-use Rattle.raft_damage.specs.DetectableDamage.{EachAddsOnlyItsRecord, IsReadAsBefore}
+use Rattle.raft_damage.specs.DetectableDamage.{EachAddsOnlyItsRecord, HaveNoStaleRecordIn, IsReadAsBefore}
 use Rattle.raft_pipes.specs.Numbered.{in_queue}
 use Rattle.raft_pipes.specs.QueueFiles.{last_kept}
 use Rattle.raft_env.specs.Refusal.{Refusals, no_refusals}
@@ -120,10 +120,12 @@ pub record AreNotAllowed (config : Config) (ops : List Op) (stop : Option ℕ)
 abbrev pub IsLogRefusal : RecoveryMode → Folders → Directory → Fault → Type 0
 IsLogRefusal mode folders files e = IsStorageOrMemory e ⊎ HaveDamageIn mode folders files e
 
--- where only writes failed on the log of consistent files, choices that leave each file whole, as it
--- is now or as it was synced, leave detectable damage of it
+-- where only writes failed on the log of consistent files, and nothing decodes that a last file held
+-- when it was renamed, choices that leave each file whole, as it is now or as it was synced, leave
+-- detectable damage of it
 abbrev pub LeavesDetectable : Folders → Directory → Type 0
-LeavesDetectable folders files = HaveSimplePastIn folders files → AreConsistent files
+LeavesDetectable folders files = HaveSimplePastIn folders files
+    → HaveNoStaleRecordIn folders files → AreConsistent files
     → (choices : List Choice) → AreWhole choices
     → ∥ AreDetectableIn folders files (left_by choices files) ∥₁
 
@@ -152,9 +154,10 @@ pub record IsTrialOf (config : Config) (ops : List Op) (stop : Option ℕ) (choi
   pub restarted : let files = memory_directory last in
       IsRestarted files (left_by choices files) after
   -- where an engine was opened and none failed, choices that leave each file whole, as it is now or as
-  -- it was synced, leave detectable damage of queues whose last files were never renamed
+  -- it was synced, leave detectable damage where nothing decodes that a last file held when it was
+  -- renamed, if it was
   pub detectable : t.refused ≡ None → t.failed_at ≡ None → AreWhole choices
-      → let files = memory_directory last in HaveSimplePastIn (folders_in config) files
+      → let files = memory_directory last in HaveNoStaleRecordIn (folders_in config) files
       → ∥ AreDetectableIn (folders_in config) files (left_by choices files) ∥₁
   -- .. whatever failed, and also of files that are left torn, where they are read as before
   pub torn : NameNoBytes choices → let files = memory_directory last in

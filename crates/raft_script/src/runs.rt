@@ -23,6 +23,7 @@ use crate::text_entry::TextEntry;
 use raft_env::FileSystem;
 use raft_log_engine::Engine;
 use raft_log_engine::laws::{an_engine_recovers_what_it_keeps, crash_leaves_contents};
+use raft_queues::laws::crash_leaves_a_prefix;
 use raft_records::{Command, EntryIndex, Fault, FileSeq, LogBatch, LogQueue};
 use std::alloc::{AllocError, Global};
 
@@ -42,9 +43,9 @@ pub(crate) struct RunReport {
 ///
 /// A crash inside an operation, if its damage is detectable, leaves files that an opening takes in each mode but the
 /// absolute one. It finds a prefix of the batches accepted before the operation, or all of them and a prefix of its own
-/// (of a group any choice of them, in order), with every one that an answered sync covered before. Once the operation
-/// is answered and the engine stands, a crash leaves a prefix of what was accepted by then, with every covered batch.
-/// A failed engine adds no moment. Which moments are inside which operation, each call of `Engine` says of its own.
+/// (of a group any choice of them, in order), with every one that an answered sync covered before. Whatever the damage,
+/// such contents are what is read first of both queues. Once the operation is answered and the engine stands, a crash
+/// leaves a prefix of what was accepted by then, with every covered batch. A failed engine adds no moment. Which moments are inside which operation, each call of `Engine` says of its own.
 ///
 /// After the operations the accepted batches that are covered count as durable, and no more, and the others stand
 /// unsynced. At least as many calls as answer `Io` were refused by storage. Where all operations are reads, but of
@@ -113,6 +114,7 @@ pub(crate) fn crash_is_said_of_files()
         → LeavesAllowedFrom least folders m batches n → LeavesFrom least folders m batches n }
 {
     crash_leaves_contents();
+    crash_leaves_a_prefix();
 }
 
 // A queue of an engine that stands has the last number only where a log file has.

@@ -33,9 +33,10 @@ use std::alloc::Global;
 /// are refused, and no others. Where the damage of what the crash leaves is detectable, a tolerant opening fails by
 /// storage or for lack of memory alone; any other opening only for these, for what is left of the log, or where settings
 /// contradict one another. That no folder has the path of a log file (`HaveNoLogPath`) is asked where the first
-/// opening failed, and nowhere else. The damage is detectable where no engine failed, the last log files were never
-/// renamed, and the choices leave each file whole, as it is at the crash or as it was synced; and so it is, whatever
-/// failed and for torn files too, of files that are read as they were at a moment since their last sync.
+/// opening failed, and nowhere else. The damage is detectable where no engine failed, nothing decodes that a last log
+/// file held when it was renamed, and the choices leave each file whole, as it is at the crash or as it was synced; and
+/// so it is, whatever failed and for torn files too, of files that are read as they were at a moment since their last
+/// sync.
 pub fn trial(
     alloc: Global,
     config: Config,
@@ -90,12 +91,21 @@ fn run_over<F: FileSystem + Drop>(
     ops: &[Op],
 ) -> Result<(RunReport, Option<Fault>, F), Fault>
     ensures ok { IfOk result (λ r. let dir = folders_in config in
-        let before : Shown = record { files = F.directory files; moments = F.moments files;
-            refusals = F.refusals_of files } in
-        let left : Shown = record { files = F.directory r.2; moments = F.moments r.2;
-            refusals = F.refusals_of r.2 } in
-        let ran : Ran = record { outcomes = r.0.outcomes.items; failed_at = r.0.failed_at;
-            refused = r.1 } in
+        let before : Shown = record {
+          files = F.directory files;
+          moments = F.moments files;
+          refusals = F.refusals_of files;
+        } in
+        let left : Shown = record {
+          files = F.directory r.2;
+          moments = F.moments r.2;
+          refusals = F.refusals_of r.2;
+        } in
+        let ran : Ran = record {
+          outcomes = r.0.outcomes.items;
+          failed_at = r.0.failed_at;
+          refused = r.1;
+        } in
         let found = contents_at dir before.files in
         RecoversContents dir found [] before.files
         → RunsOver config found (known_at dir before.files) ops.now ran before left) }

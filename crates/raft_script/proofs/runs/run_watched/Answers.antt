@@ -77,16 +77,16 @@ loop-op-preserved g c =
     ap (λ (f : Contents). after_batches f (all_batches old)) before ∙ ap (after_batches found) (kept.4 alive) ∙ after-append found (base_of begun) p.batches in
     let wrote : accepted_of (contents_of old) op outcome ≡ accepted_of (after_batches m p.batches) op outcome = accepted_same (contents_of old) (after_batches m p.batches) op (has_failed old) held outcome (has_failed new) step.failed in
     let progress = subst (λ (l : List Batch). Progresses l (is_covering op outcome) flight (durability_of old) (durability_of new)) wrote does.progress in
-    let way = under_way_more found m p c.args.ops.now place failed_at next_at (durability_of old) kept.5 op outcome flight (durability_of new) next here (subst (λ (f : Contents). MayBeInFlight (after_batches f (all_batches old)) op flight) before does.may_be) progress holds still in
+    let way = under_way_more found m p c.args.ops.now place failed_at next_at (durability_of old) kept.5 op outcome flight (durability_of new) next here (subst (λ (f : Contents). MayBeInFlight (after_batches f (all_batches old)) op flight) before does.may_be) progress holds in
     let alive_before : has_failed new ≡ false → has_failed old ≡ false = λ stands. elim (cases_Bool (has_failed old)) [
       | inl gone ↦ absurd (let clash = sym (still gone) ∙ stands in cc)
       | inr alive ↦ alive
     ] in
     let listed : has_failed new ≡ false → all_batches new ≡ base_of begun ++ q.batches = λ stands.
     batches_more _ _ flight (durability_of old) (durability_of new) does.progress stands
-        ∙ ap (λ (l : List Batch). l ++ accepted_of (contents_of old) op outcome) (kept.4 (alive_before stands))
-        ∙ ap (λ (l : List Batch). (base_of begun ++ p.batches) ++ l) wrote
-        ∙ append_assoc (base_of begun) p.batches (accepted_of (after_batches m p.batches) op outcome) in
+    ∙ ap (λ (l : List Batch). l ++ accepted_of (contents_of old) op outcome) (kept.4 (alive_before stands))
+    ∙ ap (λ (l : List Batch). (base_of begun ++ p.batches) ++ l) wrote
+    ∙ append_assoc (base_of begun) p.batches (accepted_of (after_batches m p.batches) op outcome) in
     let now = (g.met.F.FileSystem g.world.𝓛 g.world.𝓜 g.world.𝓡 ((λ s allowed. allowed), (λ patient. patient), (λ solo. solo), (λ cuts. cuts))).now_counts new.file_system in
     let leaves = subst (λ (f : Folders). LeavesAllowed f (durable_of new) (unsynced_of new) (directory_of new)) (step.folder ∙ kept.2) law.crash in
     let newest : (x : Directory) (earlier : List Directory) → moments_of new ≡ x ∷ earlier → LeavesAllowed folders (durable_of new) (unsynced_of new) x = λ x earlier moments.
@@ -98,8 +98,8 @@ loop-op-preserved g c =
     (λ stands x earlier moments. leaves_standing up folders found m q c.args.ops.now next_at (durability_of new) way stands x (subst (λ (f : Contents). LeavesAllowed folders (after_batches f (base_of new)) (unsynced_of new) x) after (newest x earlier moments))) step.failed in
     let known_is : has_failed old ≡ false → known_from known p.batches ≡ is_known_in old = λ alive.
     sym (known-append (found_groups_of begun) (base_of begun) p.batches)
-        ∙ ap (known_from (found_groups_of begun)) (sym (kept.4 alive))
-        ∙ ap (λ (k : ℕ → Bool). known_from k (all_batches old)) (sym groups) in
+    ∙ ap (known_from (found_groups_of begun)) (sym (kept.4 alive))
+    ∙ ap (λ (k : ℕ → Bool). known_from k (all_batches old)) (sym groups) in
     let ended : (x : IsOutOfNumbersIn (folders_of new) (state_of new)) → IsOutOfNumbersIn folders (state_of new) = subst (λ (f : Folders). IsOutOfNumbersIn f (state_of new)) (step.folder ∙ kept.2) in
     let answer = answer_weaker _ (IsOutOfNumbersIn folders (state_of new)) (λ last. ended (c.last_number_stands.ensures last.0 last.1)) (has_failed old) (after_batches m p.batches) (known_from known p.batches) op outcome
     (step.value (after_batches m p.batches) (known_from known p.batches) (λ alive. sym (held alive)) known_is) in
@@ -183,7 +183,7 @@ returns-clause-any_moment g c =
     let whole : take c.loop-op.op-index ops ≡ ops = take_all c.loop-op.op-index ops (omega (arith, c.loop-op-test.false)) in (
       steps.states,
       subst (λ (l : List Op). Leads (IsAllowedInside folders m) m first (state_of old) l c.loop-op.outcomes.items steps.states) whole
-      (leads_weaker (IsStep folders m known) (IsAllowedInside folders m) (λ p op outcome s t step. step.allowed) m first (state_of old) (take c.loop-op.op-index ops) c.loop-op.outcomes.items steps.states steps.each),
+          (leads_weaker (IsStep folders m known) (IsAllowedInside folders m) (λ p op outcome s t step. step.allowed) m first (state_of old) (take c.loop-op.op-index ops) c.loop-op.outcomes.items steps.states steps.each),
       steps.ends,
     )
 

@@ -13,7 +13,8 @@ use Rattle.raft_log_engine.specs.Reads.{compact_batch}
 use Rattle.raft_script.specs.declared.operation.Op.TheVariants.{CompactTo, Purge, PurgeStale, RewriteAppend, RewriteRewrite, Sync, Write}
 use Rattle.raft_script.specs.declared.operation.Outcome.TheVariants.{Count, Done, Dropped, ToCompact}
 use Rattle.raft_script.proofs.DurabilityLemmas.{alone, compaction_progress, progress_alone, written_progress}
-use Rattle.raft_script.proofs.StepsLemmas.{does_purge, does_read, in_flight, purge_stands, read_same}
+use Rattle.raft_script.proofs.StepsLemmas.{does_purge, does_read, in_flight, read_same}
+use Rattle.raft_script.proofs.ProgressLemmas.{purge_stands}
 use Rattle.raft_script.proofs.RunLemmas.{compaction_answered, compaction_fails, entry_answered, entry_rose, groups_answered, purge_answered, purge_fails, purge_rose, renewal_fails, steady_by, write_answered}
 use Rattle.raft_log_engine.specs.Purge.{HasLastId, HasOpenGroup}
 use Rattle.raft_records.specs.Batch.{BatchView}

@@ -67,7 +67,7 @@ returns-clause-value c =
       left = leaves;
       after = m;
       restarted = restarted;
-      detectable = λ opened stands whole past. c.in_ok-ran.ensures.crash (none_done dir before (λ absent queue. (c.a_queue_recovers_its_batches.ensures.none queue dir before absent).0) none) opened stands past c.in_ok-left.ensures.consistent c.args.choices.now whole;
+      detectable = λ opened stands whole stale. c.in_ok-ran.ensures.crash (none_done dir before (λ absent queue. (c.a_queue_recovers_its_batches.ensures.none queue dir before absent).0) none) opened stands (λ queue f kept file at. record { only_writes = c.in_ok-left.ensures.only_writes f.1 file at }) stale c.in_ok-left.ensures.consistent c.args.choices.now whole;
       torn = λ named before queue f last file at.
           let read = before queue f file last at in
           c.premise_can_be_met.ensures.own f.1 (in_queue queue f.0) files file at read.0 c.in_ok-left.ensures.consistent read.1 c.args.choices.now named read.2 file at;
@@ -93,7 +93,7 @@ returns-in_err-left-clause-cause c =
     let shown : HaveNoLogPath dir → RunsOver config no_contents (known_in []) c.args.ops.now ran (shown_of first) (shown_of last) = λ free.
     run_shown config c.args.ops.now ran (shown_of first) (shown_of last) (none_known dir before (unread free)) (true_of_none dir before (c.crash_leaves_contents.ensures.none dir before) free none) c.in_ok-ran.ensures.ok in
     let p = err_from_is_err_and c.from_residual-in_err-left.result c.from_residual-in_err-left.ensures.1 in
-    rw (p.1, p.2) (choices_refused files c.args.choices.now c.in_err-left.field-0.0 c.in_err-left.ensures.consistent c.in_err-left.ensures.refused
+    rw (p.1, p.2) (choices_refused files c.args.choices.now c.in_err-left.field-0.0 (λ named. c.premise_can_be_met.ensures.allowed c.args.choices.now files named c.in_err-left.ensures.consistent) c.in_err-left.ensures.refused
     (λ not_left. record {
       ran = ran;
       last = last;
