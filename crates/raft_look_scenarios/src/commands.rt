@@ -1,6 +1,6 @@
 //! Each command that looks, at a whole log and at one whose first file is broken, which it leaves.
 
-use crate::files::{FileParts, TORN_FRONT, WHOLE, make};
+use crate::files::{FileParts, OF_RAFTCTL, TORN_FRONT, make};
 use crate::standing::{set_writable, standing};
 use raft_command_line::{Request, Verb, parse};
 use raft_commands::look;
@@ -108,7 +108,7 @@ fn ends_so_at<R: Threads + Sync>(
 fn commands_that_look_leave_the_folder(rt: HostRuntime) -> Result<(), Fail> {
     for (place, Command(words, whole, broken)) in COMMANDS.iter().enumerate() {
         assert!(rt;
-            ends_so_at(rt, &rt, WHOLE, words, *whole)?,
+            ends_so_at(rt, &rt, OF_RAFTCTL, words, *whole)?,
             "whole: {place}"
         );
         assert!(rt;

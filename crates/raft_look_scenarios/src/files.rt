@@ -14,6 +14,10 @@ const PUT: &[u8] = b"\x00\x00\x00\x00\x00\x00\x1c\x00\x00\x00\x00\x00\x00\x00\x0
 const ENTRY: &[u8] = b"\x00\x00\x00\x00\x00\x00\x1f\x00\x00\x00\x00\x00\x00\x00\x00\x15\
     \x65\x5a\x7a\xda\xef\x01\x07\x01\x01\x01\x01\x93\xa2\xdc\x1f";
 
+/// A record of 39 bytes: the entry 1 of group 7 as `raftctl` writes one, its index in eight bytes and e.
+const INDEXED: &[u8] = b"\x00\x00\x00\x00\x00\x00\x27\x00\x00\x00\x00\x00\x00\x00\x00\x1d\
+    \x00\x00\x00\x00\x00\x00\x00\x01\x65\x38\xb0\xca\xc2\x01\x07\x01\x01\x01\x09\xa1\x2a\x07\x11";
+
 const TORN: &[u8] = b"torn";
 
 /// A name, and the parts of the file.
@@ -25,6 +29,14 @@ pub(crate) const WHOLE: &[FileParts] = &[
     ("0000000000000002.raftlog", &[HEADER, PUT]),
     ("0000000000000004.rewrite", &[HEADER, PUT, PUT]),
     ("LOCK", &[]),
+    ("notes", &[TORN]),
+];
+
+/// Two queues with an entry that `raftctl` reads, and a file that is no log's.
+pub(crate) const OF_RAFTCTL: &[FileParts] = &[
+    ("0000000000000001.raftlog", &[HEADER, PUT, INDEXED]),
+    ("0000000000000002.raftlog", &[HEADER, PUT]),
+    ("0000000000000004.rewrite", &[HEADER, PUT]),
     ("notes", &[TORN]),
 ];
 

@@ -30,23 +30,23 @@ const CHECK: &str = "\
     file 0000000000000002.raftlog version 1 records 1 read 89 size 89 rest none absolute keep tail keep any keep\n\
     file 0000000000000004.rewrite version 1 records 2 read 117 size 117 rest none absolute keep tail keep any keep\n\
     other notes\n\
-    mode absolute opening opens files-cut 0 bytes-lost 0 zeros 0\n\
-    mode tail opening opens files-cut 0 bytes-lost 0 zeros 0\n\
-    mode any opening opens files-cut 0 bytes-lost 0 zeros 0\n";
+    mode absolute opening opens files-cut 0 bytes-lost 0 zeros 0 stale 0\n\
+    mode tail opening opens files-cut 0 bytes-lost 0 zeros 0 stale 0\n\
+    mode any opening opens files-cut 0 bytes-lost 0 zeros 0 stale 0\n";
 
 const CHECK_TORN_END: &str = "\
     file 0000000000000001.raftlog version 1 records 2 read 120 size 120 rest none absolute keep tail keep any keep\n\
     file 0000000000000002.raftlog version 1 records 1 read 89 size 93 rest broken absolute fail tail cut any cut\n\
-    mode absolute opening fails files-cut 0 bytes-lost 0 zeros 0\n\
-    mode tail opening opens files-cut 1 bytes-lost 4 zeros 0\n\
-    mode any opening opens files-cut 1 bytes-lost 4 zeros 0\n";
+    mode absolute opening fails files-cut 0 bytes-lost 0 zeros 0 stale 0\n\
+    mode tail opening opens files-cut 1 bytes-lost 4 zeros 0 stale 0\n\
+    mode any opening opens files-cut 1 bytes-lost 4 zeros 0 stale 0\n";
 
 const CHECK_TORN_FRONT: &str = "\
     file 0000000000000001.raftlog version 1 records 1 read 89 size 93 rest broken absolute fail tail fail any cut\n\
     file 0000000000000002.raftlog version 1 records 1 read 89 size 89 rest none absolute keep tail keep any keep\n\
-    mode absolute opening fails files-cut 0 bytes-lost 0 zeros 0\n\
-    mode tail opening fails files-cut 0 bytes-lost 0 zeros 0\n\
-    mode any opening opens files-cut 1 bytes-lost 4 zeros 0\n";
+    mode absolute opening fails files-cut 0 bytes-lost 0 zeros 0 stale 0\n\
+    mode tail opening fails files-cut 0 bytes-lost 0 zeros 0 stale 0\n\
+    mode any opening opens files-cut 1 bytes-lost 4 zeros 0 stale 0\n";
 
 const DUMP: &str = "\
     rewrite\t4\t61\t1\tput\ta\t1\tx\n\

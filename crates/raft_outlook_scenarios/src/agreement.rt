@@ -39,7 +39,7 @@ fn told(alloc: Global, found: &Checked, mode: RecoveryMode) -> Result<Wanted, Fa
     Ok(if outlook.fails {
         Wanted::Fails
     } else {
-        Wanted::Opens(outlook.files, outlook.bytes, outlook.zeros)
+        Wanted::Opens(outlook.files, outlook.bytes, outlook.zeros, outlook.stale)
     })
 }
 

@@ -4,18 +4,19 @@ use crate::files::{
     BROKEN_ENTRY, BYTE, CHANGED, COMPRESSED, ENTRY, FileParts, NO_HEADER, NO_VERSION, NOTHING, PUT,
     PUTS, SHORT, SIGNED_1, SIGNED_2, TORN, V1, V2, V3, ZEROS,
 };
+use Wanted::Opens;
 
 /// What an opening does: it fails, or it cuts so many files, and off them so many bytes that may have
-/// told something, and so many zeros.
+/// told something; and so many zeros, and so many bytes of earlier files.
 #[derive(Clone, Copy, PartialEq, Eq)]
 pub(crate) enum Wanted {
     Fails,
-    Opens(u64, u64, u64),
+    Opens(u64, u64, u64, u64),
 }
 
 const FAILS: Wanted = Wanted::Fails;
 
-const SOUND: Wanted = Wanted::Opens(0, 0, 0);
+const SOUND: Wanted = Opens(0, 0, 0, 0);
 
 /// A folder's files, and what an opening does in absolute, in tail and in any mode.
 pub(crate) struct Case {
@@ -58,52 +59,52 @@ pub(crate) static CASES: [Case; 50] = [
     Case {
         name: "room ahead of a killed writer",
         files: &[("a/0000000000000001.raftlog", &[V1, PUT, ZEROS])],
-        wanted: [FAILS, Wanted::Opens(0, 0, 100), Wanted::Opens(0, 0, 100)],
+        wanted: [FAILS, Opens(0, 0, 100, 0), Opens(0, 0, 100, 0)],
     },
     Case {
         name: "room ahead behind the header alone",
         files: &[("a/0000000000000001.raftlog", &[V2, ZEROS])],
-        wanted: [FAILS, Wanted::Opens(0, 0, 100), Wanted::Opens(0, 0, 100)],
+        wanted: [FAILS, Opens(0, 0, 100, 0), Opens(0, 0, 100, 0)],
     },
     Case {
         name: "a byte behind room ahead",
         files: &[("a/0000000000000001.raftlog", &[V1, PUT, ZEROS, BYTE])],
-        wanted: [FAILS, Wanted::Opens(1, 101, 0), Wanted::Opens(1, 101, 0)],
+        wanted: [FAILS, Opens(1, 101, 0, 0), Opens(1, 101, 0, 0)],
     },
     Case {
         name: "the first bytes of a record",
         files: &[("a/0000000000000001.raftlog", &[V1, PUT, TORN])],
-        wanted: [FAILS, Wanted::Opens(1, 20, 0), Wanted::Opens(1, 20, 0)],
+        wanted: [FAILS, Opens(1, 20, 0, 0), Opens(1, 20, 0, 0)],
     },
     Case {
         name: "the first bytes of a record's header",
         files: &[("a/0000000000000001.raftlog", &[V1, PUT, SHORT])],
-        wanted: [FAILS, Wanted::Opens(1, 8, 0), Wanted::Opens(1, 8, 0)],
+        wanted: [FAILS, Opens(1, 8, 0, 0), Opens(1, 8, 0, 0)],
     },
     Case {
         name: "a record with a changed byte",
         files: &[("a/0000000000000001.raftlog", &[V1, CHANGED])],
-        wanted: [FAILS, Wanted::Opens(1, 28, 0), Wanted::Opens(1, 28, 0)],
+        wanted: [FAILS, Opens(1, 28, 0, 0), Opens(1, 28, 0, 0)],
     },
     Case {
         name: "a changed byte before a record",
         files: &[("a/0000000000000001.raftlog", &[V1, PUT, CHANGED, PUT])],
-        wanted: [FAILS, Wanted::Opens(1, 56, 0), Wanted::Opens(1, 56, 0)],
+        wanted: [FAILS, Opens(1, 56, 0, 0), Opens(1, 56, 0, 0)],
     },
     Case {
         name: "an entry with a changed byte",
         files: &[("a/0000000000000001.raftlog", &[V1, PUT, BROKEN_ENTRY])],
-        wanted: [FAILS, Wanted::Opens(1, 31, 0), Wanted::Opens(1, 31, 0)],
+        wanted: [FAILS, Opens(1, 31, 0, 0), Opens(1, 31, 0, 0)],
     },
     Case {
         name: "a changed entry before a record",
         files: &[("a/0000000000000001.raftlog", &[V1, BROKEN_ENTRY, PUT])],
-        wanted: [FAILS, Wanted::Opens(1, 59, 0), Wanted::Opens(1, 59, 0)],
+        wanted: [FAILS, Opens(1, 59, 0, 0), Opens(1, 59, 0, 0)],
     },
     Case {
         name: "a record that is signed for another file",
         files: &[("a/0000000000000001.raftlog", &[V2, SIGNED_2])],
-        wanted: [FAILS, Wanted::Opens(1, 28, 0), Wanted::Opens(1, 28, 0)],
+        wanted: [FAILS, Opens(1, 28, 0, 0), Opens(1, 28, 0, 0)],
     },
     Case {
         name: "a stale record behind an own one",
@@ -111,12 +112,12 @@ pub(crate) static CASES: [Case; 50] = [
             "a/0000000000000002.raftlog",
             &[V2, SIGNED_2, SIGNED_1, SIGNED_1],
         )],
-        wanted: [FAILS, Wanted::Opens(1, 56, 0), Wanted::Opens(1, 56, 0)],
+        wanted: [FAILS, Opens(0, 0, 0, 56), Opens(0, 0, 0, 56)],
     },
     Case {
         name: "a record that isn't signed",
         files: &[("a/0000000000000001.raftlog", &[V2, PUT])],
-        wanted: [FAILS, Wanted::Opens(1, 28, 0), Wanted::Opens(1, 28, 0)],
+        wanted: [FAILS, Opens(1, 28, 0, 0), Opens(1, 28, 0, 0)],
     },
     Case {
         name: "a compressed entry",
@@ -131,22 +132,22 @@ pub(crate) static CASES: [Case; 50] = [
     Case {
         name: "zeros alone",
         files: &[("a/0000000000000001.raftlog", &[ZEROS, ZEROS])],
-        wanted: [FAILS, Wanted::Opens(0, 0, 200), Wanted::Opens(0, 0, 200)],
+        wanted: [FAILS, Opens(0, 0, 200, 0), Opens(0, 0, 200, 0)],
     },
     Case {
         name: "no header",
         files: &[("a/0000000000000001.raftlog", &[NO_HEADER])],
-        wanted: [FAILS, Wanted::Opens(1, 9, 0), Wanted::Opens(1, 9, 0)],
+        wanted: [FAILS, Opens(1, 9, 0, 0), Opens(1, 9, 0, 0)],
     },
     Case {
         name: "another version",
         files: &[("a/0000000000000001.raftlog", &[V3, PUT])],
-        wanted: [FAILS, Wanted::Opens(1, 89, 0), Wanted::Opens(1, 89, 0)],
+        wanted: [FAILS, Opens(1, 89, 0, 0), Opens(1, 89, 0, 0)],
     },
     Case {
         name: "the first bytes of a header",
         files: &[("a/0000000000000001.raftlog", &[NO_VERSION])],
-        wanted: [FAILS, Wanted::Opens(1, 53, 0), Wanted::Opens(1, 53, 0)],
+        wanted: [FAILS, Opens(1, 53, 0, 0), Opens(1, 53, 0, 0)],
     },
     Case {
         name: "two files",
@@ -162,7 +163,7 @@ pub(crate) static CASES: [Case; 50] = [
             ("a/0000000000000001.raftlog", &[V1, PUT, ZEROS]),
             ("a/0000000000000002.raftlog", &[V1, PUTS]),
         ],
-        wanted: [FAILS, FAILS, Wanted::Opens(0, 0, 100)],
+        wanted: [FAILS, FAILS, Opens(0, 0, 100, 0)],
     },
     Case {
         name: "torn bytes in the first of two files",
@@ -170,7 +171,7 @@ pub(crate) static CASES: [Case; 50] = [
             ("a/0000000000000001.raftlog", &[V1, PUT, TORN]),
             ("a/0000000000000002.raftlog", &[V1, PUTS]),
         ],
-        wanted: [FAILS, FAILS, Wanted::Opens(1, 20, 0)],
+        wanted: [FAILS, FAILS, Opens(1, 20, 0, 0)],
     },
     Case {
         name: "torn bytes in both files",
@@ -178,7 +179,7 @@ pub(crate) static CASES: [Case; 50] = [
             ("a/0000000000000001.raftlog", &[V1, PUT, TORN]),
             ("a/0000000000000002.raftlog", &[V1, PUTS, TORN]),
         ],
-        wanted: [FAILS, FAILS, Wanted::Opens(2, 40, 0)],
+        wanted: [FAILS, FAILS, Opens(2, 40, 0, 0)],
     },
     Case {
         name: "torn bytes in the last of two files",
@@ -186,7 +187,7 @@ pub(crate) static CASES: [Case; 50] = [
             ("a/0000000000000001.raftlog", &[V1, PUT]),
             ("a/0000000000000002.raftlog", &[V1, PUTS, TORN]),
         ],
-        wanted: [FAILS, Wanted::Opens(1, 20, 0), Wanted::Opens(1, 20, 0)],
+        wanted: [FAILS, Opens(1, 20, 0, 0), Opens(1, 20, 0, 0)],
     },
     Case {
         name: "a changed entry in the first of two files",
@@ -194,7 +195,7 @@ pub(crate) static CASES: [Case; 50] = [
             ("a/0000000000000001.raftlog", &[V1, BROKEN_ENTRY, PUT]),
             ("a/0000000000000002.raftlog", &[V1, PUTS]),
         ],
-        wanted: [FAILS, FAILS, Wanted::Opens(1, 59, 0)],
+        wanted: [FAILS, FAILS, Opens(1, 59, 0, 0)],
     },
     Case {
         name: "an empty file before another",
@@ -250,7 +251,7 @@ pub(crate) static CASES: [Case; 50] = [
             ("a/0000000000000001.raftlog", &[V1, PUT]),
             ("a/0000000000000003.raftlog", &[V1, PUTS, TORN]),
         ],
-        wanted: [FAILS, Wanted::Opens(1, 20, 0), Wanted::Opens(1, 20, 0)],
+        wanted: [FAILS, Opens(1, 20, 0, 0), Opens(1, 20, 0, 0)],
     },
     Case {
         name: "two missing numbers",
@@ -259,7 +260,7 @@ pub(crate) static CASES: [Case; 50] = [
             ("a/0000000000000003.raftlog", &[V1, TORN]),
             ("a/0000000000000005.raftlog", &[V1, PUT, ZEROS]),
         ],
-        wanted: [FAILS, Wanted::Opens(0, 0, 100), Wanted::Opens(0, 0, 100)],
+        wanted: [FAILS, Opens(0, 0, 100, 0), Opens(0, 0, 100, 0)],
     },
     Case {
         name: "files of both folders",
@@ -275,7 +276,7 @@ pub(crate) static CASES: [Case; 50] = [
             ("a/0000000000000001.raftlog", &[V1, PUT]),
             ("b/0000000000000002.raftlog", &[V1, PUTS, TORN]),
         ],
-        wanted: [FAILS, Wanted::Opens(1, 20, 0), Wanted::Opens(1, 20, 0)],
+        wanted: [FAILS, Opens(1, 20, 0, 0), Opens(1, 20, 0, 0)],
     },
     Case {
         name: "a number in both folders",
@@ -318,7 +319,7 @@ pub(crate) static CASES: [Case; 50] = [
             ("a/0000000000000004.rewrite", &[V1, PUT, TORN]),
             ("a/0000000000000001.raftlog", &[V1, PUTS]),
         ],
-        wanted: [FAILS, Wanted::Opens(1, 20, 0), Wanted::Opens(1, 20, 0)],
+        wanted: [FAILS, Opens(1, 20, 0, 0), Opens(1, 20, 0, 0)],
     },
     Case {
         name: "torn bytes in both queues",
@@ -326,7 +327,7 @@ pub(crate) static CASES: [Case; 50] = [
             ("a/0000000000000004.rewrite", &[V1, PUT, TORN]),
             ("a/0000000000000001.raftlog", &[V1, PUTS, TORN]),
         ],
-        wanted: [FAILS, Wanted::Opens(2, 40, 0), Wanted::Opens(2, 40, 0)],
+        wanted: [FAILS, Opens(2, 40, 0, 0), Opens(2, 40, 0, 0)],
     },
     Case {
         name: "room ahead in both queues",
@@ -334,7 +335,7 @@ pub(crate) static CASES: [Case; 50] = [
             ("a/0000000000000004.rewrite", &[V1, PUT, ZEROS]),
             ("a/0000000000000001.raftlog", &[V1, PUTS, ZEROS]),
         ],
-        wanted: [FAILS, Wanted::Opens(0, 0, 200), Wanted::Opens(0, 0, 200)],
+        wanted: [FAILS, Opens(0, 0, 200, 0), Opens(0, 0, 200, 0)],
     },
     Case {
         name: "torn bytes in the first file of the Rewrite queue",
@@ -343,7 +344,7 @@ pub(crate) static CASES: [Case; 50] = [
             ("a/0000000000000002.rewrite", &[V1, PUT]),
             ("a/0000000000000001.raftlog", &[V1, PUTS]),
         ],
-        wanted: [FAILS, FAILS, Wanted::Opens(1, 20, 0)],
+        wanted: [FAILS, FAILS, Opens(1, 20, 0, 0)],
     },
     Case {
         name: "a missing number in the Rewrite queue",
