@@ -26,7 +26,8 @@ pub fn begins_stale(alloc: Global, id: FileId, bytes: &[u8]) -> Result<bool, Fau
         if found.is_some() && found == own {
             return Ok(false);
         }
-        if let Some(signature) = found {
+        // A record without a signature is of no file that is used again.
+        if let Some(signature @ 1..) = found {
             let seq = u64::from(signature);
             if seq < id.seq && is_record_of(alloc, FileId::new(id.queue, seq), &bytes[at..])? {
                 return Ok(true);
