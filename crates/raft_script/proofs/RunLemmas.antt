@@ -255,8 +255,8 @@ sync_fails {T} failed fails folders old new result stands err told still cause =
     caused (Err e) stands cause alive dies = by_fault e (cause alive)
 
     ended : (result : Result T Fault) → OnErr result (fails ≡ true) → is_ok result ≡ false → fails ≡ true
-    ended (Ok x) err no = absurd cc
-    ended (Err e) err no = err
+    ended (Ok x) err clash = absurd cc
+    ended (Err e) err clash = err
 
 -- a purge
 module _ {T : Type 0} (x : Contents) (append rewrite : PipeState) (ends_open no_id : Type 0) (failed fails : Bool) (folders : Folders) (old new : Refusals) (result : Result T Fault) (told : (result ≡ Err fault.Failed) ↔ (failed ≡ true)) (cause : failed ≡ false → IfErr result (purges.IsPurgeFault x append rewrite ends_open no_id folders fails old new)) where
