@@ -190,7 +190,7 @@ fn have_metadata<F: Faulty>(held: &mut Held<F>, paths: &[&str], wanted: &[&str])
     };
     let mut are_so = true;
     for path in paths {
-        are_so = are_so && files.exists_metadata(path) == wanted.contains(path);
+        are_so = are_so && files.exists_metadata(path) == (&*wanted).contains(path);
     }
     are_so
 }

@@ -1,6 +1,6 @@
 -- Operations under way: the batch of acts, and what the operations so far leave.
 use Rattle.std.proofs.Common.{◌≡◌, ℕ, zero, suc, ◌+◌, ◌<◌, ◌≤◌, Bool, true, false, cond, inl, inr, ⊎_elim, List, [], ◌∷◌, ◌++◌, length, length-append, length-drop, take, drop, drop-cons, get_or, Option, Some, None, refl, sym, ◌∙◌, ap, subst, append_assoc, arith}
-use Rattle.std.specs.Prelude.{◌^◌, ◌⊎◌, ◌||◌, ◌↔◌, if◌then◌else◌, IfErr, IfOk, IsErrAnd, IsSome, IsSomeAnd, MatchResult, Result, Ok, Err, String, Vec, is_ok, is_some, option_map}
+use Rattle.std.specs.Prelude.{◌^◌, ◌⊎◌, ◌||◌, ◌↔◌, if◌then◌else◌, IfErr, IfOk, OnErr, OnOk, IsErrAnd, IsSome, IsSomeAnd, MatchResult, Result, Ok, Err, String, Vec, is_ok, is_some, option_map}
 use Rattle.std.proofs.lemmas.Bool.{cases_Bool}
 use Rattle.std.proofs.lemmas.List.{append-nil, nil_from_length}
 use Rattle.std.proofs.lemmas.List.Sums.{sum_by-append}
@@ -19,7 +19,7 @@ use Rattle.std.specs.declared.alloc.Global.{Global}
 use Rattle.raft_log_engine.specs.Cause as engine
 use Rattle.raft_log_engine.specs.Purge as purges
 use Rattle.raft_pipes.specs.PipeState.{HasLastNumber, PipeState}
-use Rattle.raft_pipes.specs.Queue.{IsRefusalIn}
+use Rattle.raft_pipes.specs.Queue.{IsFileRefusalIn, IsRefusalIn}
 use Rattle.raft_log_engine.specs.Durability.{HasWritten}
 use Rattle.raft_log_engine.specs.Engine.{contents_of, has_failed, queue_of, refusals_of}
 use Rattle.raft_log_engine.specs.declared.engine.Engine.{Engine}
@@ -231,6 +231,32 @@ compaction_fails P R Q failed fails folders p old new result ok told still cause
     caused : (result : Result ℕ Fault) → MatchResult result (λ _. (fails ≡ false) × P × R) Q → IfErr result (λ e. failed ≡ false → engine.IsAppendRefusal folders p fails old new e) → failed ≡ false → fails ≡ true → IsErrAnd result IsStorageOrMemory
     caused (Ok count) ok cause alive dies = absurd (let clash = sym dies ∙ ok.0 in cc)
     caused (Err e) ok cause alive dies = by_fault e (cause alive) dies
+
+-- .. and so a sync, which fails it where it isn't answered
+pub sync_fails : {T : Type 0} (failed fails : Bool) (folders : Folders) (old new : Refusals) (result : Result T Fault) → OnOk result (fails ≡ false) → OnErr result (fails ≡ true) → ((result ≡ Err fault.Failed) ↔ (failed ≡ true)) → (failed ≡ true → fails ≡ true)
+    → IfErr result (λ e. failed ≡ false → IsFileRefusalIn folders old new e) → FailsBy failed result fails (λ _. ⊥) × (is_ok result ≡ false → fails ≡ true)
+sync_fails {T} failed fails folders old new result stands err told still cause = (
+  record {
+    still = still;
+    only_failed = told.0;
+    refused = λ gone. inl (told.1 gone);
+    cause = caused result stands cause;
+  },
+  ended result err,
+)
+  where
+    by_fault : (e : Fault) → IsFileRefusalIn folders old new e → IsStorageOrMemory e
+    by_fault (fault.Io kind text) h = tt
+    by_fault fault.Memory h = tt
+    by_fault _ h = absurd h
+
+    caused : (result : Result T Fault) → OnOk result (fails ≡ false) → IfErr result (λ e. failed ≡ false → IsFileRefusalIn folders old new e) → failed ≡ false → fails ≡ true → IsErrAnd result IsStorageOrMemory
+    caused (Ok x) stands cause alive dies = absurd (let clash = sym dies ∙ stands in cc)
+    caused (Err e) stands cause alive dies = by_fault e (cause alive)
+
+    ended : (result : Result T Fault) → OnErr result (fails ≡ true) → is_ok result ≡ false → fails ≡ true
+    ended (Ok x) err clash = absurd cc
+    ended (Err e) err clash = err
 
 -- a purge
 module _ {T : Type 0} (x : Contents) (append rewrite : PipeState) (ends_open no_id : Type 0) (failed fails : Bool) (folders : Folders) (old new : Refusals) (result : Result T Fault) (told : (result ≡ Err fault.Failed) ↔ (failed ≡ true)) (cause : failed ≡ false → IfErr result (purges.IsPurgeFault x append rewrite ends_open no_id folders fails old new)) where

@@ -18,7 +18,7 @@ const MAX_CALLS: u64 = 400;
 const KEPT: usize = 65;
 
 /// So many calls at least change files: files of both queues and four reserved ones are made, with a write each, and of
-/// the seven values of 1 KB each has a write, and a next file a cut, a rename, a header and a sync.
+/// the seven long values each has a write, and a next file a cut, a rename, a header and a sync.
 const MIN_CHANGES: u64 = 50;
 
 // With the changes from the nth on failing: whether there were so many.

@@ -12,37 +12,37 @@ use std::alloc::{AllocError, Global};
 use std::process::Abort;
 use std::test::Fail;
 
-/// Of each value of 1 KB a log file is full. Files 1 to 3 are dropped, of which two have room beside a reserved one, and
+/// Of each value of 250 bytes a log file is full. Files 1 to 3 are dropped, of which two have room beside a reserved one, and
 /// become files 6 and 7; then files 4 and 5 are, which a close gives reserved names.
 const FIRST: [Plan; 10] = [
     Plan::Write(
-        &[Change::Put(1, b"a", &[1; 1000]), Change::Put(2, b"c", &[1])],
+        &[Change::Put(1, b"a", &[1; 250]), Change::Put(2, b"c", &[1])],
         false,
     ),
     Plan::Write(
         &[
             Change::Entries(3, 1, 3, b"x"),
-            Change::Put(1, b"b", &[2; 1000]),
+            Change::Put(1, b"b", &[2; 250]),
         ],
         true,
     ),
-    Plan::Write(&[Change::Put(2, b"d", &[3; 1000])], false),
+    Plan::Write(&[Change::Put(2, b"d", &[3; 250])], false),
     Plan::RewriteAppend(None, None),
     Plan::Write(
-        &[Change::Delete(1, b"a"), Change::Put(2, b"c", &[4; 1000])],
+        &[Change::Delete(1, b"a"), Change::Put(2, b"c", &[4; 250])],
         true,
     ),
-    Plan::Write(&[Change::Put(1, b"b", &[5; 1000])], false),
+    Plan::Write(&[Change::Put(1, b"b", &[5; 250])], false),
     Plan::Write(&[Change::Entries(3, 2, 4, b"y")], false),
-    Plan::Write(&[Change::Put(1, b"a", &[6; 1000]), Change::Clean(2)], true),
+    Plan::Write(&[Change::Put(1, b"a", &[6; 250]), Change::Clean(2)], true),
     Plan::Write(&[Change::Put(2, b"d", &[7; 9])], false),
     Plan::RewriteAppend(Some(5), None),
 ];
 
 /// Next files are made of these.
 const SECOND: [Plan; 7] = [
-    Plan::Write(&[Change::Put(1, b"a", &[8; 1000])], false),
-    Plan::Write(&[Change::Put(2, b"c", &[9; 1000])], true),
+    Plan::Write(&[Change::Put(1, b"a", &[8; 250])], false),
+    Plan::Write(&[Change::Put(2, b"c", &[9; 250])], true),
     Plan::CompactTo(3, 3),
     Plan::Write(&[Change::Delete(2, b"d")], false),
     Plan::RewriteAppend(None, None),
@@ -74,10 +74,11 @@ pub(crate) struct Ran {
     failed_at: Option<usize>,
 }
 
-/// A log file is full at 1 KB, and three of them are purged; reserved files are made ahead.
+/// A log file is full at 256 bytes, and three of them are purged; reserved files are made ahead.
 fn recycling(alloc: Global, folders: Folders) -> Result<Config, AllocError> {
     let mut config = settings(alloc)?;
-    config.purge_threshold = ReadableSize::kb(3);
+    config.target_file_size = ReadableSize(256);
+    config.purge_threshold = ReadableSize(768);
     config.prefill_for_recycle = true;
     match folders {
         Folders::One => {}

@@ -16,7 +16,6 @@ mod purges;
 mod shared;
 mod steady;
 mod system;
-mod threads;
 mod workload;
 
 use anyhow::{Result, bail};
@@ -32,9 +31,6 @@ fn main(rt: HostRuntime) -> Result<()> {
         [] => run_all(&rt),
         [word, folder, rest @ ..] if word.as_str() == "disk" => {
             disk::run_in(rt, folder.as_str(), amount(rest)?)
-        }
-        [word, folder, rest @ ..] if word.as_str() == "threads" => {
-            threads::run_in(&rt, rt, folder.as_str(), amount(rest)?)
         }
         [name, rest @ ..] => run_named(&rt, name.as_str(), amount(rest)?),
     }
@@ -64,9 +60,7 @@ fn amount(words: &[String]) -> Result<Amount> {
 fn run_named<R: WorkersHost>(rt: &R, name: &str, amount: Amount) -> Result<()> {
     match Workload::named(name) {
         Some(workload) => workload.run(rt, amount),
-        None => bail!(
-            "usage: raftbench [WORKLOAD [COUNT [SIZE]] | disk|threads FOLDER [COUNT [SIZE]]]"
-        ),
+        None => bail!("usage: raftbench [WORKLOAD [COUNT [SIZE]] | disk FOLDER [COUNT [SIZE]]]"),
     }
 }
 

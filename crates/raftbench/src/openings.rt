@@ -27,12 +27,12 @@ pub(crate) fn put_and_open<R: WorkersHost, F: FileSystem + Drop>(
     load: Load,
 ) -> Result<usize> {
     let (mut files, bytes) = put_and_close(rt, files, load)?;
-    let mut found = 0;
+    let mut found = 0u64;
     for (name, workers) in WORKERS {
         let (closed, has_last) = reopen(rt, report, files, (name, workers), load, bytes)?;
         files = closed;
         if has_last {
-            found += 1;
+            found = found.saturating_add(1);
         }
     }
     print_figures(rt, load, bytes, found)?;

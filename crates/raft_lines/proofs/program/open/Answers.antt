@@ -1,17 +1,19 @@
 use denote.Param.Send.{sendable}
-use Rattle.std.proofs.Common.{◌≡◌, ◌∙◌, [], None}
+use Rattle.std.proofs.Common.{◌≡◌, ◌∙◌, [], None, ap}
 use Rattle.raft_memory.proofs.Sent.{memory_send, memory_sync}
 use Rattle.raft_memory.specs.Memory.{memory_directory, memory_refusals, no_files}
 use Rattle.raft_base.specs.declared.pipe_log.LogQueue.{LogQueue}
 use Rattle.raft_base.specs.declared.pipe_log.LogQueue.TheVariants.{Append, Rewrite}
 use Rattle.raft_records.specs.Contents.{no_contents}
 use Rattle.raft_tables.specs.Known.{known_in}
-use Rattle.raft_pipes.specs.Folder.{readable_queue}
-use Rattle.raft_config.specs.Folders.{folders_in}
+use Rattle.raft_env.specs.Directory.{Directory}
+use Rattle.raft_pipes.specs.Folder.{readable_of, readable_queue}
+use Rattle.raft_pipes.proofs.FolderQueueLemmas.{log_files-no_log}
+use Rattle.raft_config.specs.Folders.{Folders, folders_in}
 use Rattle.raft_recovery.proofs.ContentsLemmas.{recovered-nothing_rewritten}
 use Rattle.raft_log_engine.proofs.CrashLemmas.{same_groups, same_queues}
 use Rattle.raft_lines.proofs.ProgramLemmas.{opened_in, opened_or_copy, opened_or_refused, opened_with}
-use Rattle.raft_script.proofs.TrialLemmas.{none_readable, same_folders}
+use Rattle.raft_script.proofs.TrialLemmas.{no_log, same_folders}
 use Rattle.raft_lines.specs.Program.{IsMetBy}
 use Rattle.raft_lines.proofs.program.open.Goals as goal
 
@@ -20,6 +22,10 @@ open_in_order-requires-send-F c = λ κs. search (sendable, memory_send) depth 2
 
 pub open_in_order-requires-sync-F : goal.open_in_order-requires-sync-F
 open_in_order-requires-sync-F c = λ κs. search (sendable, memory_sync) depth 20
+
+-- where there are no files nothing can be read
+none_readable : (queue : LogQueue) (folders : Folders) (n : Directory) → n ≡ no_files → readable_queue queue folders n ≡ []
+none_readable queue folders n is = ap (readable_of queue n) (log_files-no_log queue folders n (no_log folders n is))
 
 pub returns : goal.returns
 returns c =

@@ -15,7 +15,7 @@ use Rattle.raft_script.specs.declared.operation.Outcome.TheVariants.{Count, Done
 use Rattle.raft_script.proofs.DurabilityLemmas.{alone, compaction_progress, progress_alone, written_progress}
 use Rattle.raft_script.proofs.StepsLemmas.{does_purge, does_read, in_flight, read_same}
 use Rattle.raft_script.proofs.ProgressLemmas.{purge_stands}
-use Rattle.raft_script.proofs.RunLemmas.{compaction_answered, compaction_fails, entry_answered, entry_rose, groups_answered, purge_answered, purge_fails, purge_rose, renewal_fails, steady_by, write_answered}
+use Rattle.raft_script.proofs.RunLemmas.{compaction_answered, compaction_fails, entry_answered, entry_rose, groups_answered, purge_answered, purge_fails, purge_rose, renewal_fails, steady_by, sync_fails, write_answered}
 use Rattle.raft_log_engine.specs.Purge.{HasLastId, HasOpenGroup}
 use Rattle.raft_records.specs.Batch.{BatchView}
 use Rattle.raft_script.proofs.GroupLemmas.{does_group, group_answered, group_fails, group_refuses, unbuilt_answered, unbuilt_fails}
@@ -66,6 +66,13 @@ returns-in-Sync-clause-progress g c =
       moments = λ alive. in_flight e Sync [] [] (moments_of n) (directory_of n) ∣ ([], refl) ∣₁ refl c.sync.ensures.advance.any_moment;
       rests = search rules;
     })
+
+pub returns-in-Sync-clause-failed : goal.returns-in-Sync-clause-failed
+returns-in-Sync-clause-failed g c =
+    let e = c.args.engine.now in
+    let n = c.sync.new.self in
+    let sync = c.sync.ensures in
+    rw c.in-Sync.is (sync_fails (has_failed e) (has_failed n) (folders_of e) (refusals_of e) (refusals_of n) c.sync.result sync.stands sync.err sync.failed (λ gone. (sync.unchanged gone).failed) sync.cause)
 
 pub returns-in-Ok-clause-failed : goal.returns-in-Ok-clause-failed
 returns-in-Ok-clause-failed g c = rw c.in-Write.is (record {
