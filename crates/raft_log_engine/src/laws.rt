@@ -74,8 +74,9 @@ pub fn an_engine_recovers_what_it_keeps<F: FileSystem>(engine: &Engine<F>)
 /// The premise on damage can be met of an engine that hasn't failed. If its opening found no record
 /// of a failed call in the log (as after a crash, where no log stood, or after a `close` or
 /// `reopen` of an engine of which that is true), and of the log's calls, also those before the
-/// opening, only writes failed, and the log was never renamed, the damage of a crash that leaves
-/// every file with all its bytes now, or with those of its last sync, is detectable
+/// opening, only writes failed, and nothing decodes that a last log file held when it was renamed,
+/// the damage of a crash that leaves every file with all its bytes now, or with those of its last
+/// sync, is detectable
 /// (`AreConsistent`: as in memory always).
 pub fn the_damage_of_an_engine_is_detectable<F: FileSystem>(engine: &Engine<F>)
     ensures crash { let folders = folders_of engine.now in let n = directory_of engine.now in

@@ -129,7 +129,7 @@ LeavesDetectable folders files = HaveSimplePastIn folders files
     → (choices : List Choice) → AreWhole choices
     → ∥ AreDetectableIn folders files (left_by choices files) ∥₁
 
--- of the last log file of each queue, if it was never renamed, each call brought no record but the one
+-- the last log file of each queue was never renamed, each of its calls brought no record but the one
 -- that it was to write, and the choices leave what is read as it was at a moment since its last sync
 abbrev pub AreReadAsBefore : Folders → Directory → List Choice → Type 0
 AreReadAsBefore folders files choices = (queue : LogQueue) (f : ℕ × Path) (file : File)

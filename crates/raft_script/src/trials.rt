@@ -35,8 +35,8 @@ use std::alloc::Global;
 /// contradict one another. That no folder has the path of a log file (`HaveNoLogPath`) is asked where the first
 /// opening failed, and nowhere else. The damage is detectable where no engine failed, nothing decodes that a last log
 /// file held when it was renamed, and the choices leave each file whole, as it is at the crash or as it was synced; and
-/// so it is, whatever failed and for torn files too, of files that are read as they were at a moment since their last
-/// sync.
+/// so it is, whatever failed and for torn files too, where the last log files were never renamed, no call brought a
+/// record but its own, and they are read as they were at a moment since their last sync.
 pub fn trial(
     alloc: Global,
     config: Config,
