@@ -6,6 +6,7 @@
 #include <stdio.h>
 #include <stdlib.h>
 #include <string.h>
+#include <unistd.h>
 
 static int failed(int code, const char *text) {
     if (code == RAFTLOG_IN_USE) text = "it is open already";
@@ -64,6 +65,13 @@ static uint64_t number_at(const struct words *words, int place) {
     return words->plain[place] ? strtoull(words->plain[place], NULL, 10) : 0;
 }
 
+/* By a call of its own, which the tests record among the calls on files. */
+static void tell_synced(uint64_t number) {
+    char text[40];
+    int len = snprintf(text, sizeof text, "synced %llu\n", (unsigned long long)number);
+    if (write(STDOUT_FILENO, text, (size_t)len) != len) exit(1);
+}
+
 static int load(raftlog *log, const struct words *words) {
     uint64_t count = number_at(words, 1), size = number_at(words, 2), each = words->sync_each;
     char key[30], *value = malloc(size + 1);
@@ -72,7 +80,7 @@ static int load(raftlog *log, const struct words *words) {
         bool sync = each && ((i + 1) % each == 0 || i + 1 == count);
         snprintf(key, sizeof key, "%llu", (unsigned long long)i);
         code = put(log, 1, key, value, value_of(i, size, value), sync);
-        if (!code && sync) printf("synced %llu\n", (unsigned long long)i), fflush(stdout);
+        if (!code && sync) tell_synced(i);
         if (!code && words->purge_each && (i + 1) % words->purge_each == 0) code = raftlog_purge_expired_files(log, NULL);
     }
     free(value);
