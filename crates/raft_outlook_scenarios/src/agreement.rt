@@ -1,8 +1,6 @@
 //! Folders of log files: a check tells what an opening does with them.
 
-use crate::cases::{
-    BROKEN, Case, FOLDERS, HEADERS, MISSING, QUEUES, READABLE, TWO_FILES, Wanted,
-};
+use crate::cases::{BROKEN, Case, FOLDERS, HEADERS, MISSING, QUEUES, READABLE, TWO_FILES, Wanted};
 use crate::files::fill;
 use raft_dump::Planned;
 use raft_env::{FileSystem, FsFault, Permission};
