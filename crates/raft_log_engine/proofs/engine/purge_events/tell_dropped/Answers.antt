@@ -1,4 +1,4 @@
-use Rattle.std.proofs.Common.{◌≡◌, ◌∷◌, ◌≤◌, [], arith, subst}
+use Rattle.std.proofs.Common.{◌∷◌, ◌≤◌, [], arith, subst}
 use Rattle.std.specs.Prelude.{◌<◌}
 use Rattle.raft_base.specs.declared.pipe_log.FileId.{FileId}
 use Rattle.raft_listeners.specs.Heard.{HasHeard}
