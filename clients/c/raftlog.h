@@ -22,7 +22,7 @@
  * then; of a failure, why it comes; and that at each moment inside a call a crash leaves what was synced before. Trusted
  * are the files beside this one: that one call at a time is let in, with pointers that are valid and a log that is open;
  * that their prototypes of the proved functions are these functions'; and that each change of a file that a call ordered
- * was carried out, in turn, before the call is answered. */
+ * was carried out, in turn, before the call is answered. README.md, "What is trusted", has the whole list. */
 #ifndef RAFTLOG_H
 #define RAFTLOG_H
 
@@ -40,9 +40,9 @@ enum {
     RAFTLOG_INVALID = 1,
     /* What stands in a log file can't be read, and the recovery mode doesn't tolerate it. */
     RAFTLOG_CORRUPTION = 2,
-    /* A file call failed, and the log with it: as for RAFTLOG_FAILED. */
+    /* A file call failed, and the log with it, but for reads: as for RAFTLOG_FAILED. */
     RAFTLOG_IO = 3,
-    /* Space was wanting. The log stands, and the write can be tried again. */
+    /* Space was wanting. The log stands, and the write can be tried again. (In a folder want of space is RAFTLOG_IO.) */
     RAFTLOG_TRY_AGAIN = 4,
     /* Entries that don't follow on one another, or on those that the group has. */
     RAFTLOG_GAP = 5,
@@ -101,7 +101,7 @@ void raftlog_bytes_free(raftlog_bytes *bytes);
 /* ---- opening and closing */
 
 /* Opens the log in a folder, which is made where it is missing, and hands it over in `*out`; it is the caller's until
- * `raftlog_close`. No other process may have it open. The settings are TOML, as
+ * `raftlog_close`. It may not be open already, in this process or another one. The settings are TOML, as
  * "target-file-size = \"64MB\"\nrecovery-mode = \"absolute-consistency\""; those that aren't named, and all for NULL or "",
  * are the defaults, and a key that is no setting's is passed over.
  * On a failure `*out` is NULL, and as much of the text as fits in `room` bytes stands in `text` (which may be NULL), ended
@@ -113,8 +113,8 @@ int raftlog_open(const char *folder, const char *settings, raftlog **out, char *
 int raftlog_open_memory(const char *settings, raftlog **out, char *text, size_t room);
 
 /* Syncs and closes, and frees the log whatever it answers; after RAFTLOG_OK all that was written survives a crash. Else
- * RAFTLOG_IO: the next opening finds what was synced before, and perhaps more. No other call may be running. NULL is no
- * log, and answers RAFTLOG_OK. */
+ * RAFTLOG_IO or RAFTLOG_FAILED: the next opening finds what was answered before; where the machine crashes first, what was synced, and perhaps more. No other call may be
+ * running. NULL is no log, and answers RAFTLOG_OK. */
 int raftlog_close(raftlog *log);
 
 /* The text of the last failure of a call on this log, as much of it as fits in `room` bytes, ended by a NUL; answers the
@@ -213,7 +213,8 @@ int raftlog_scan(raftlog *log, uint64_t group, const raftlog_slice *start, const
 /* The next of the scanned pairs, which points into the bytes; false after the last one. `*at` begins with 0. */
 bool raftlog_next_pair(const raftlog_bytes *pairs, size_t *at, raftlog_slice *key, raftlog_slice *value);
 
-/* The groups into which something was put since they were last cleaned, in order. */
+/* The groups into which something was put since they were last cleaned, in order. An opening after a purge may have
+ * forgotten one that is empty. */
 int raftlog_groups(raftlog *log, raftlog_bytes *groups);
 /* The next of the groups; false after the last one. `*at` begins with 0. */
 bool raftlog_next_group(const raftlog_bytes *groups, size_t *at, uint64_t *group);

@@ -1,42 +1,28 @@
-//! Puts one key with a sync and one without, crashes, and looks for both after the next opening.
+//! Puts a key with a sync into a log in a folder, and finds it after the next opening.
 #![tactic(auto)]
 
-use raft_log_engine::{
-    Choice, Config, Engine, Fault, FileSystem, Fresh, LogBatch, MemoryFileSystem,
-};
+use raft_disk::DiskFileSystem;
+use raft_log_engine::{Config, Engine, Fault, FileSystem, Fresh, LogBatch};
 use std::alloc::Global;
 
 fn main(rt: HostRuntime) -> Result<(), anyhow::Error> {
-    let files = put_both(rt.alloc(), MemoryFileSystem::new(rt.alloc()))?;
-    let files = files.crash(&[Choice::Synced])?;
-    let (a, b) = find_both(rt.alloc(), files)?;
-    println!(rt; "a is found: {a}, b is found: {b}")?;
+    put(rt.alloc(), DiskFileSystem::open(rt, "log")?)?;
+    let found = has(rt.alloc(), DiskFileSystem::open(rt, "log")?)?;
+    println!(rt; "the key is found: {found}")?;
     Ok(())
 }
 
-fn put_both<F: FileSystem + Drop>(alloc: Global, files: F) -> Result<F, Fault> {
+fn put<F: FileSystem + Drop>(alloc: Global, files: F) -> Result<(), Fault> {
     let mut engine = Engine::open_in_order(alloc, Config::fresh(alloc), files)?;
-    put(alloc, &mut engine, b"a", b"first", true)?;
-    put(alloc, &mut engine, b"b", b"second", false)?;
-    Ok(engine.give_up())
-}
-
-fn put<F: FileSystem>(
-    alloc: Global,
-    engine: &mut Engine<F>,
-    key: &[u8],
-    value: &[u8],
-    sync: bool,
-) -> Result<(), Fault> {
     let mut batch = LogBatch::new(alloc);
-    batch.put(1, key.to_vec(alloc)?, value.to_vec(alloc)?)?;
-    engine.write(&mut batch, sync)?;
+    batch.put(1, b"state".to_vec(alloc)?, b"follower".to_vec(alloc)?)?;
+    engine.write(&mut batch, true)?;
+    engine.close()?;
     Ok(())
 }
 
-fn find_both<F: FileSystem + Drop>(alloc: Global, files: F) -> Result<(bool, bool), Fault> {
+fn has<F: FileSystem + Drop>(alloc: Global, files: F) -> Result<bool, Fault> {
     let engine = Engine::open_in_order(alloc, Config::fresh(alloc), files)?;
-    let a = engine.get(1, b"a")?.is_some();
-    let b = engine.get(1, b"b")?.is_some();
-    Ok((a, b))
+    let value = engine.get(1, b"state")?;
+    Ok(value.is_some())
 }

@@ -1,9 +1,9 @@
 //! How many entries and values are placed in the Rewrite queue, and how many of them leave it.
 
 use crate::asks::Ask;
-use crate::rows::{Row, each_holds};
 use crate::tables::apply_one;
 use raft_records::{Fault, FileId, LogQueue};
+use raft_rows::{Row, each_holds};
 use raft_tables::{GlobalStats, MemTables};
 use std::alloc::Global;
 use std::test::Fail;

@@ -1,8 +1,8 @@
 //! The texts of faults, and values that a factory makes.
 ghost use Rattle.std.specs.Prelude.{◌≡◌, []};
 
-use crate::rows::{Row, each_holds};
 use raft_records::{Factory, Fault, IoKind, LogBatch};
+use raft_rows::{Row, each_holds};
 use std::alloc::Global;
 use std::test::Fail;
 

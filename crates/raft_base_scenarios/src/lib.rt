@@ -20,8 +20,6 @@ mod openings;
 #[cfg(test)]
 mod reading;
 #[cfg(test)]
-mod rows;
-#[cfg(test)]
 mod settings;
 #[cfg(test)]
 mod sizes;

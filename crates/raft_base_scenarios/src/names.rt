@@ -1,11 +1,11 @@
 //! The names of log files, their headers, and the zeros between records.
 
 use crate::changes::is_joined;
-use crate::rows::{Row, each_holds};
 use raft_files::{
     FileNameExt, LogFileFormat, build_reserved_file_name, is_zero_padded, parse_reserved_file_name,
 };
 use raft_records::{Fault, FileId, LogQueue, Version};
+use raft_rows::{Row, each_holds};
 use std::alloc::Global;
 use std::test::Fail;
 

@@ -1,9 +1,9 @@
 //! Numbers and checksums as bytes.
 
-use crate::rows::{Row, each_holds};
 use raft_codec::checksum::crc32;
 use raft_codec::number::{push_u32, push_u64, push_var, take_u32, take_u64, take_var, var_len};
 use raft_records::Fault;
+use raft_rows::{Row, each_holds};
 use std::alloc::{AllocError, Global};
 use std::test::Fail;
 

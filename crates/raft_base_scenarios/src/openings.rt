@@ -1,9 +1,9 @@
 //! Tables of both queues, as an opening joins them.
 
 use crate::asks::{Ask, item_of, one_item};
-use crate::rows::{Row, each_holds};
 use crate::tables::{Entry, Held, has_entries, has_value};
 use raft_records::{Fault, FileId, LogItem, LogQueue};
+use raft_rows::{Row, each_holds};
 use raft_tables::{GlobalStats, MemTableRecoverContext, MemTables};
 use std::alloc::Global;
 use std::test::Fail;

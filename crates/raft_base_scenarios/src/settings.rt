@@ -1,8 +1,8 @@
 //! Settings: which are refused, and what becomes of the others.
 
-use crate::rows::{Row, each_holds};
 use raft_config::Config;
 use raft_records::{Fault, Fresh, ReadableSize, Version};
+use raft_rows::{Row, each_holds};
 use std::alloc::Global;
 use std::test::Fail;
 

@@ -1,7 +1,7 @@
 //! Sizes as texts, the order of files, and their signatures.
 
-use crate::rows::{Row, each_holds};
 use raft_records::{Fault, FileId, LogFileContext, LogQueue, ReadableSize, Version};
+use raft_rows::{Row, each_holds};
 use std::alloc::Global;
 use std::test::Fail;
 

@@ -2,8 +2,8 @@
 
 use crate::asks::{Ask, item_of, one_item};
 use crate::changes::{Change, push_items};
-use crate::rows::{Row, each_holds};
 use raft_records::{Fault, FileId, LogItem, LogQueue};
+use raft_rows::{Row, each_holds};
 use raft_tables::{GlobalStats, MemTable, MemTables};
 use std::alloc::{AllocError, Global};
 use std::test::Fail;

@@ -63,7 +63,7 @@ fn take_part(bytes: &[u8]) -> Option<(&[u8], &[u8])>
 
 fn take_entry(alloc: Global, bytes: &[u8]) -> Result<(Entry, &[u8]), BatchFault>
     ensures ok { IfOk result (λ r. take_entry bytes.now ≡ Some (stored_of r.0, r.1.now)) }
-    ensures refused { IfErr result (IsBatchRefusal (take_entry bytes.now)) }
+    ensures cause { IfErr result (IsBatchRefusal (take_entry bytes.now)) }
 {
     let (part, rest) = take_part(bytes).ok_or(BatchFault::Malformed)?;
     match Entry::of(alloc, part)? {
@@ -80,7 +80,7 @@ fn add_put<'a>(
 ) -> Result<&'a [u8], BatchFault>
     ensures ok { IfOk result (λ rest. option_map (with_taken batch.old.items group)
         (take_put bytes.now) ≡ Some (batch.new.items, rest.now)) }
-    ensures refused { IfErr result (IsBatchRefusal (take_put bytes.now)) }
+    ensures cause { IfErr result (IsBatchRefusal (take_put bytes.now)) }
 {
     let (key, rest) = take_part(bytes).ok_or(BatchFault::Malformed)?;
     let (value, rest) = take_part(rest).ok_or(BatchFault::Malformed)?;
@@ -96,7 +96,7 @@ fn add_delete<'a>(
 ) -> Result<&'a [u8], BatchFault>
     ensures ok { IfOk result (λ rest. option_map (with_taken batch.old.items group)
         (take_delete bytes.now) ≡ Some (batch.new.items, rest.now)) }
-    ensures refused { IfErr result (IsBatchRefusal (take_delete bytes.now)) }
+    ensures cause { IfErr result (IsBatchRefusal (take_delete bytes.now)) }
 {
     let (key, rest) = take_part(bytes).ok_or(BatchFault::Malformed)?;
     batch.delete(group, key.to_vec(alloc)?)?;
@@ -110,7 +110,7 @@ fn add_compact<'a>(
 ) -> Result<&'a [u8], BatchFault>
     ensures ok { IfOk result (λ rest. option_map (with_taken batch.old.items group)
         (take_compact bytes.now) ≡ Some (batch.new.items, rest.now)) }
-    ensures refused { IfErr result (IsBatchRefusal (take_compact bytes.now)) }
+    ensures cause { IfErr result (IsBatchRefusal (take_compact bytes.now)) }
 {
     let (index, rest) = take_u64(bytes).ok_or(BatchFault::Malformed)?;
     batch.add_command(group, Command::Compact { index })?;
@@ -127,7 +127,7 @@ fn push_entry(entries: &mut Vec<Entry>, entry: Entry) -> Result<(), AllocError>
 fn take_each(alloc: Global, count: u64, bytes: &[u8]) -> Result<(Vec<Entry>, &[u8]), BatchFault>
     ensures ok { IfOk result (λ r. take_each count bytes.now
         ≡ Some (map stored_of r.0.items, r.1.now)) }
-    ensures refused { IfErr result (IsBatchRefusal (take_each count bytes.now)) }
+    ensures cause { IfErr result (IsBatchRefusal (take_each count bytes.now)) }
 {
     let mut entries = Vec::new(alloc);
     let mut rest = bytes;
@@ -147,7 +147,7 @@ fn add_entries<'a>(
 ) -> Result<&'a [u8], BatchFault>
     ensures ok { IfOk result (λ rest. option_map (with_taken batch.old.items group)
         (take_entries bytes.now) ≡ Some (batch.new.items, rest.now)) }
-    ensures refused { IfErr result (IsBatchRefusal (take_entries bytes.now)) }
+    ensures cause { IfErr result (IsBatchRefusal (take_entries bytes.now)) }
 {
     let (count, rest) = take_u64(bytes).ok_or(BatchFault::Malformed)?;
     if count == 0 {
@@ -167,7 +167,7 @@ fn add_content<'a>(
 ) -> Result<&'a [u8], BatchFault>
     ensures ok { IfOk result (λ rest. option_map (with_taken batch.old.items group)
         (take_content kind bytes.now) ≡ Some (batch.new.items, rest.now)) }
-    ensures refused { IfErr result (IsBatchRefusal (take_content kind bytes.now)) }
+    ensures cause { IfErr result (IsBatchRefusal (take_content kind bytes.now)) }
 {
     match kind {
         PUT => add_put(alloc, batch, group, bytes),
@@ -189,7 +189,7 @@ fn add_item<'a>(
 ) -> Result<&'a [u8], BatchFault>
     ensures ok { IfOk result (λ rest. option_map (with_item_taken batch.old.items)
         (take_item bytes.now) ≡ Some (batch.new.items, rest.now)) }
-    ensures refused { IfErr result (IsBatchRefusal (take_item bytes.now)) }
+    ensures cause { IfErr result (IsBatchRefusal (take_item bytes.now)) }
 {
     let (kind, rest) = bytes.split_first().ok_or(BatchFault::Malformed)?;
     let (group, rest) = take_u64(rest).ok_or(BatchFault::Malformed)?;
@@ -200,7 +200,7 @@ fn add_item<'a>(
 pub fn add_items(alloc: Global, batch: &mut LogBatch, bytes: &[u8]) -> Result<(), BatchFault>
     ensures ok { OnOk result (option_map (λ items. batch.old.items ++ items)
         (read_batch bytes.now) ≡ Some batch.new.items) }
-    ensures refused { IfErr result (IsBatchRefusal (read_batch bytes.now)) }
+    ensures cause { IfErr result (IsBatchRefusal (read_batch bytes.now)) }
 {
     let (count, mut rest) = take_u64(bytes).ok_or(BatchFault::Malformed)?;
     for _ in 0..count {

@@ -60,7 +60,7 @@ item_refused taken b e is refused = subst (IsBatchRefusal taken) is refused
 
 module _ {F H R W : Type 0} {g : Ghosts F H R W} where
   pub read_same : {e : Engine F H R W g} → HasOnlyRead e e
-  read_same = record { files = refl; moments = refl; refusals = (omega arith, omega arith); folders = refl; state = refl; begun = refl; settings = refl; queue = refl }
+  read_same = record { files = refl; moments = refl; refusals = (omega arith, omega arith); folders = refl; state = refl; begun = refl; settings = refl; pipes = refl }
 
   -- a call that leaves the engine as it was
   keeps_same : (flight : List Batch) (e : Engine F H R W g) → KeepsLog flight e e

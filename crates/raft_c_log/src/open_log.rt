@@ -39,7 +39,7 @@ impl<F: FileSystem + Drop> OpenLog<F> {
     ) -> Result<OpenLog<F>, Unopened<F>>
         ensures ok { IfOk result (λ log.
             IsOpenedBy settings.now (F.directory files) log.engine) }
-        ensures refused { IfErr result (λ r. IsUnopened settings.now r.code (F.directory files)
+        ensures cause { IfErr result (λ r. IsUnopened settings.now r.code (F.directory files)
             (F.refusals_of files) (F.refusals_of r.files)) }
         ensures any_moment { MatchResult result
             (λ log. KeepsNamed settings.now (F.directory files) (F.moments files)

@@ -33,7 +33,7 @@ pub(crate) fn engine_over<F: FileSystem + Drop>(
 
 fn config_of(alloc: Global, settings: &[u8]) -> Result<Config, Fault>
     ensures ok { IfOk result (ReadsAlone settings.now) }
-    ensures refused { IfErr result (IsTextRefusal settings.now) }
+    ensures cause { IfErr result (IsTextRefusal settings.now) }
 {
     match str::from_utf8(settings) {
         Ok(text) => raft_settings::read(alloc, text),

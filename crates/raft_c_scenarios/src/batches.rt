@@ -1,8 +1,8 @@
 //! Batches that are read from bytes, and bytes that are none.
 
-use crate::rows::{Row, each_holds};
 use raft_c_batch::{BatchFault, add_items};
 use raft_records::{Command, EntryIndex, Fault, LogBatch};
+use raft_rows::{Row, each_holds};
 use std::alloc::Global;
 use std::test::Fail;
 

@@ -5,5 +5,3 @@
 mod batches;
 #[cfg(test)]
 mod parts;
-#[cfg(test)]
-mod rows;

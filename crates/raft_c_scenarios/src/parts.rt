@@ -1,8 +1,8 @@
 //! Answers as bytes.
 
-use crate::rows::{Row, each_holds};
 use raft_c_batch::{Entry, push_entries, push_numbers, push_pair};
 use raft_records::Fault;
+use raft_rows::{Row, each_holds};
 use std::alloc::Global;
 use std::test::Fail;
 

@@ -109,7 +109,7 @@ impl Config {
         ensures stands { OnOk result ((contradiction self.new ≡ None)
             × (sanitized self.new ≡ self.new)) }
         ensures err { OnErr result (self.new ≡ self.old) }
-        ensures refused { IfErr result (IsContradiction self.old) }
+        ensures cause { IfErr result (IsContradiction self.old) }
     {
         if let Some(reason) = self.contradiction() {
             return Err(Fault::InvalidArgument(reason));

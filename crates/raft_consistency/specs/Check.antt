@@ -10,7 +10,7 @@ use Rattle.raft_config.specs.declared.config.RecoveryMode.TheVariants.{TolerateA
 use Rattle.raft_env.specs.Directory.{Directory, Path}
 use Rattle.raft_env.specs.Refusal.{Refusals}
 use Rattle.raft_pipes.specs.Folder.{readable_queue}
-use Rattle.raft_pipes.specs.Queue.{IsOpenRefusalOf}
+use Rattle.raft_opening.specs.Queue.{IsOpenRefusalOf}
 use Rattle.raft_consistency.specs.Holes.{holes_in}
 
 -- this folder, and no second one

@@ -23,7 +23,7 @@ pub fn consistency_check(
     ensures any_moment { HoldsThroughout (memory_moments files)
         (memory_moments (handed_back result)) (memory_directory (handed_back result))
         (LeavesAll (memory_directory files)) }
-    ensures refused { IfErr result (λ r. IsCheckRefusal path.now (memory_directory files)
+    ensures cause { IfErr result (λ r. IsCheckRefusal path.now (memory_directory files)
         (memory_refusals files) (memory_refusals r.1) r.0) }
 {
     consistency_check_with_file_system(alloc, path, files)

@@ -2,7 +2,7 @@
 ghost use Rattle.std.specs.Prelude.{◌≡◌};
 
 use crate::checker::ConsistencyChecker;
-use raft_pipes::ReplayMachine;
+use raft_opening::ReplayMachine;
 use raft_records::{Fault, FileId, Fresh, LogItem, LogQueue};
 use raft_workers::MergingMachine;
 use std::alloc::Global;

@@ -12,7 +12,7 @@ use Rattle.raft_disk.specs.contracts.folder.Folder as folder
 use Rattle.raft_env.specs.declared.env.FileSystem.{Ghosts as FileGhosts}
 use Rattle.raft_disk.specs.declared.disk.Disk.{Ghosts as DiskGhosts}
 use Rattle.raft_disk.specs.contracts.mirror.Mirror as mirror
-use Rattle.raft_disk.specs.contracts.refusals.DiskRefusals as refusals
+use Rattle.raft_memory.specs.contracts.refusals.RefusalCount as refusals
 use Rattle.raft_disk.specs.contracts.told.Call as call
 
 call_send : IsSend call.the_row

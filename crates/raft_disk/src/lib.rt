@@ -7,7 +7,6 @@ mod image;
 mod mirror;
 mod opening;
 mod places;
-mod refusals;
 mod told;
 mod view;
 

@@ -167,7 +167,7 @@ pub fn image_of(
     ensures value { IfOk result (λ m. memory_directory m
         ≡ settled_files files.items folders.items) }
     ensures any_moment { IfOk result (λ m. memory_moments m ≡ memory_directory m ∷ []) }
-    ensures cause { IfOk result (λ m. memory_refusals m ≡ no_refusals) }
+    ensures counts { IfOk result (λ m. memory_refusals m ≡ no_refusals) }
 {
     Ok(MemoryFileSystem::settled(alloc, files, folders)?)
 }

@@ -13,5 +13,7 @@ stale_len = 1048576
 pub record HasStaleRecord (id : FileId) (bytes : List ℕ) : Type 0 where
   pub at : ℕ
   pub seq : ℕ
+  -- no file has the number 0
+  pub some : 0 < seq
   pub earlier : seq < id.seq
   pub reads : record_refusal (signature_in V2 seq) (drop at bytes) ≡ None

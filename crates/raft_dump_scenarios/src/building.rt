@@ -1,11 +1,11 @@
 //! Writers and readers that are built by a file's path.
 
-use crate::files::{HEADER, PUT, fill};
 use raft_dump::{build_file_reader, build_file_writer};
 use raft_env::FileSystem;
 use raft_files::LogFileFormat;
 use raft_memory::MemoryFileSystem;
 use raft_records::Fault;
+use raft_rows::{HEADER, PUT, fill};
 use std::alloc::Global;
 use std::test::Fail;
 

@@ -1,11 +1,11 @@
 //! What a check tells of a file, and what an opening would do with a queue's files.
 
-use crate::files::{FileParts, HEADER, NOTHING, PUT, PUTS, ZEROS, fill};
 use raft_config::RecoveryMode;
 use raft_dump::{FileCheck, Planned, check_file, log_files, passed_over, plan_opening};
 use raft_env::FileSystem;
 use raft_memory::MemoryFileSystem;
 use raft_records::Fault;
+use raft_rows::{FileParts, HEADER, NOTHING, PUT, PUTS, ZEROS, fill};
 use std::alloc::Global;
 use std::test::Fail;
 

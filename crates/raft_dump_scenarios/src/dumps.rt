@@ -1,10 +1,10 @@
 //! What dumps of folders and files give.
 
-use crate::files::{FileParts, HEADER, NOTHING, PUT, PUTS, ZEROS, fill};
 use raft_dump::{LogFile, LogItemReader, RecordPlace, dump_with_file_system, log_files};
 use raft_env::FileSystem;
 use raft_memory::MemoryFileSystem;
 use raft_records::{Fault, LogItem, LogQueue};
+use raft_rows::{FileParts, HEADER, NOTHING, PUT, PUTS, ZEROS, fill};
 use std::alloc::Global;
 use std::test::Fail;
 

@@ -8,6 +8,4 @@ mod checks;
 #[cfg(test)]
 mod dumps;
 #[cfg(test)]
-mod files;
-#[cfg(test)]
 mod parts;

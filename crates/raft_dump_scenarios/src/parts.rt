@@ -1,11 +1,11 @@
 //! A file of more than one part: what is read of its parts is what stands in it.
 
-use crate::files::{HEADER, PUT, ZEROS};
 use raft_base::History;
 use raft_dump::{LogFile, LogItemReader};
 use raft_env::FileSystem;
 use raft_parts::{FilePart, LogFileParts, PartSource, check_parts};
 use raft_records::{Fault, FileId, LogQueue};
+use raft_rows::{HEADER, PUT, ZEROS};
 use std::alloc::{AllocError, Global};
 use std::test::Fail;
 

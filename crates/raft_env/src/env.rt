@@ -3,7 +3,7 @@
 ghost use Rattle.std.specs.Prelude.{◌≡◌, ◌⊎◌, ◌↔◌, ◌<◌, ◌+◌, ◌^◌, [], ◌∷◌, List, ℕ, Bool, true, false, length, take, map, IfOk, OnOk, OnErr, Some, is_some};
 ghost use Rattle.std.specs.String.{string_bytes};
 ghost use Rattle.raft_env.specs.Outcomes.{File, file_after_write, file_after_resize, synced_of, overlay, pad_to};
-ghost use Rattle.raft_env.specs.Directory.{Path, Directory, file_at, update_file, after_create, after_rename, without_file, folder_made, IsWriting, IsTruncating, IsAllocating, IsMakingFolder, IsOneOf, ReadsAt, names_in, HasFile};
+ghost use Rattle.raft_env.specs.Directory.{Path, Directory, file_at, update_file, after_create, after_rename, without_file, folder_made, IsWriting, IsTruncating, IsAllocating, IsMakingFolder, IsOneOf, IsPartAt, ReadsAt, names_in, HasFile};
 ghost use Rattle.raft_env.specs.Moments.{MovesBy, OnlyReads};
 ghost use Rattle.raft_env.specs.Refusal.{CountsRefusalOf, Refusals, added_count, no_refusals};
 ghost use Rattle.raft_env.specs.declared.env.FsFault.TheVariants.{Memory};
@@ -35,7 +35,7 @@ impl FsFault {
             → IsRefusal path.now old new result }
         ensures refused { (old new : Refusals) → CountsRefusal self old new
             → IsFileRefusal path.now old new result }
-        ensures failed { result ≡ Fault.Failed → ⊥ }
+        ensures never_failed { result ≡ Fault.Failed → ⊥ }
     {
         match self {
             FsFault::Memory => Fault::Memory,
@@ -113,7 +113,7 @@ pub trait FileSystem: Send + Sync {
         ensures any_moment { MovesBy directory moments (λ old. IsOneOf old
             (after_create path.now old))
             self.old self.new }
-        ensures cause { CountsRefusalOf result (refusals_of self.old) (refusals_of self.new) };
+        ensures counts { CountsRefusalOf result (refusals_of self.old) (refusals_of self.new) };
 
     fn open(&mut self, path: &str, permission: Permission) -> Result<Self::Handle, FsFault>
         ensures handle { IfOk result (λ h. (handle_path h ≡ path.now)
@@ -121,7 +121,7 @@ pub trait FileSystem: Send + Sync {
         ensures may_write { IfOk result (λ h. may_write h ≡ true
             ↔ (permission ≡ Permission.ReadWrite)) }
         ensures unchanged { OnlyReads directory moments self.old self.new }
-        ensures cause { CountsRefusalOf result (refusals_of self.old) (refusals_of self.new) };
+        ensures counts { CountsRefusalOf result (refusals_of self.old) (refusals_of self.new) };
 
     /// A handle of the file finds none from then on.
     fn delete(&mut self, path: &str) -> Result<(), FsFault>
@@ -131,7 +131,7 @@ pub trait FileSystem: Send + Sync {
         ensures any_moment { MovesBy directory moments (λ old. IsOneOf old
             (without_file path.now old))
             self.old self.new }
-        ensures cause { CountsRefusalOf result (refusals_of self.old) (refusals_of self.new) };
+        ensures counts { CountsRefusalOf result (refusals_of self.old) (refusals_of self.new) };
 
     /// The file keeps its bytes and what a crash may leave of them, and all its places are stale.
     /// A file that stands at the other path is replaced. A handle of either path means what stands
@@ -144,7 +144,7 @@ pub trait FileSystem: Send + Sync {
         ensures any_moment { MovesBy directory moments (λ old. IsOneOf old
             (after_rename from.now to.now old))
             self.old self.new }
-        ensures cause { CountsRefusalOf result (refusals_of self.old) (refusals_of self.new) };
+        ensures counts { CountsRefusalOf result (refusals_of self.old) (refusals_of self.new) };
 
     /// As `rename`, for a file whose bytes are to be written over.
     fn reuse(&mut self, from: &str, to: &str) -> Result<(), FsFault>
@@ -155,7 +155,7 @@ pub trait FileSystem: Send + Sync {
         ensures any_moment { MovesBy directory moments (λ old. IsOneOf old
             (after_rename from.now to.now old))
             self.old self.new }
-        ensures cause { CountsRefusalOf result (refusals_of self.old) (refusals_of self.new) }
+        ensures counts { CountsRefusalOf result (refusals_of self.old) (refusals_of self.new) }
     {
         self.rename(from, to)
     }
@@ -169,7 +169,7 @@ pub trait FileSystem: Send + Sync {
         ensures any_moment { MovesBy directory moments (λ old. IsOneOf old
             (after_rename from.now to.now old))
             self.old self.new }
-        ensures cause { CountsRefusalOf result (refusals_of self.old) (refusals_of self.new) }
+        ensures counts { CountsRefusalOf result (refusals_of self.old) (refusals_of self.new) }
     {
         self.reuse(from, to)?;
         self.open(to, Permission::ReadWrite)
@@ -179,7 +179,7 @@ pub trait FileSystem: Send + Sync {
         ensures reader { IfOk result (λ r. (reader_path r ≡ handle_path handle.now)
             × (reader_refusals r ≡ no_refusals)) }
         ensures unchanged { OnlyReads directory moments self.old self.new }
-        ensures cause { CountsRefusalOf result (refusals_of self.old) (refusals_of self.new) };
+        ensures counts { CountsRefusalOf result (refusals_of self.old) (refusals_of self.new) };
 
     /// Adds the reader's refusals to those of the file system.
     fn end_reader(&mut self, reader: Self::Reader)
@@ -191,9 +191,9 @@ pub trait FileSystem: Send + Sync {
     fn new_writer(&mut self, handle: &Self::Handle) -> Result<Self::Writer, FsFault>
         ensures writer { IfOk result (λ w. (writer_path w ≡ handle_path handle.now)
             × (may_write handle.now ≡ true)) }
-        ensures refused { may_write handle.now ≡ false → result ≡ Err (FsFault.Io IoKind.Other) }
+        ensures cause { may_write handle.now ≡ false → result ≡ Err (FsFault.Io IoKind.Other) }
         ensures unchanged { OnlyReads directory moments self.old self.new }
-        ensures cause { CountsRefusalOf result (refusals_of self.old) (refusals_of self.new) };
+        ensures counts { CountsRefusalOf result (refusals_of self.old) (refusals_of self.new) };
 
     /// Writes over what stands there, and past the end.
     fn write(&mut self, writer: &mut Self::Writer, at: usize, bytes: &[u8]) -> Result<(), FsFault>
@@ -205,7 +205,7 @@ pub trait FileSystem: Send + Sync {
             (directory self.old)) }
         ensures any_moment { MovesBy directory moments
             (IsWriting (writer_path writer.old) at bytes.now) self.old self.new }
-        ensures cause { CountsRefusalOf result (refusals_of self.old) (refusals_of self.new) };
+        ensures counts { CountsRefusalOf result (refusals_of self.old) (refusals_of self.new) };
 
     /// Cuts the file to a length; at or past its end it stays as it is.
     fn truncate(&mut self, writer: &mut Self::Writer, size: usize) -> Result<(), FsFault>
@@ -215,7 +215,7 @@ pub trait FileSystem: Send + Sync {
             (λ f. file_after_resize (take size f.now) f) (directory self.old)) }
         ensures any_moment { MovesBy directory moments (IsTruncating (writer_path writer.old) size)
             self.old self.new }
-        ensures cause { CountsRefusalOf result (refusals_of self.old) (refusals_of self.new) };
+        ensures counts { CountsRefusalOf result (refusals_of self.old) (refusals_of self.new) };
 
     /// Lengthens the file with zeros to `at + size` bytes; a file that is as long stays as it is.
     fn allocate(&mut self, writer: &mut Self::Writer, at: usize, size: usize) -> Result<(), FsFault>
@@ -226,7 +226,7 @@ pub trait FileSystem: Send + Sync {
             (λ f. file_after_resize (pad_to f.now (at + size)) f) (directory self.old)) }
         ensures any_moment { MovesBy directory moments
             (IsAllocating (writer_path writer.old) (at + size)) self.old self.new }
-        ensures cause { CountsRefusalOf result (refusals_of self.old) (refusals_of self.new) };
+        ensures counts { CountsRefusalOf result (refusals_of self.old) (refusals_of self.new) };
 
     /// After `Ok` a crash leaves the bytes now and nothing else.
     fn sync(&mut self, writer: &mut Self::Writer) -> Result<(), FsFault>
@@ -238,15 +238,29 @@ pub trait FileSystem: Send + Sync {
         ensures any_moment { MovesBy directory moments
             (λ old. IsOneOf old (update_file (writer_path writer.old) synced_of old)) self.old
             self.new }
-        ensures cause { CountsRefusalOf result (refusals_of self.old) (refusals_of self.new) };
+        ensures counts { CountsRefusalOf result (refusals_of self.old) (refusals_of self.new) };
 
     /// The number of bytes read: 0 only at the end or for an empty slice.
     fn read(&self, reader: &mut Self::Reader, at: usize, bytes: &mut [u8]) -> Result<usize, FsFault>
         ensures reader { reader_path reader.new ≡ reader_path reader.old }
         ensures ok { IfOk result (λ n. ReadsAt
             (file_at (directory self.now) (reader_path reader.old)) at n bytes.old bytes.new) }
-        ensures cause { CountsRefusalOf result (reader_refusals reader.old)
+        ensures counts { CountsRefusalOf result (reader_refusals reader.old)
             (reader_refusals reader.new) };
+
+    /// Puts bytes of the file at a path, from a place on, into a buffer in place of its own: so many,
+    /// fewer where the file ends before. After an `Err` the buffer may hold anything.
+    fn read_block(
+        &mut self,
+        path: &str,
+        at: usize,
+        len: usize,
+        bytes: &mut Vec<u8>,
+    ) -> Result<(), FsFault>
+        ensures ok { OnOk result (IsPartAt (file_at (directory self.old) path.now) at len
+            bytes.new.items) }
+        ensures unchanged { OnlyReads directory moments self.old self.new }
+        ensures counts { CountsRefusalOf result (refusals_of self.old) (refusals_of self.new) };
 
     fn file_size(&mut self, handle: &Self::Handle) -> Result<usize, FsFault>
         ensures size { IfOk result (λ n. (file : File)
@@ -254,28 +268,28 @@ pub trait FileSystem: Send + Sync {
             × (n ≡ length file.now)) }
         ensures fits { IfOk result (λ n. n < 2 ^ 63) }
         ensures unchanged { OnlyReads directory moments self.old self.new }
-        ensures cause { CountsRefusalOf result (refusals_of self.old) (refusals_of self.new) };
+        ensures counts { CountsRefusalOf result (refusals_of self.old) (refusals_of self.new) };
 
     /// Makes a folder, with those on the way to it. A folder that stands stays. A refusal may leave
     /// some of them made.
     fn make_dir(&mut self, path: &str) -> Result<(), FsFault>
         ensures ok { OnOk result (directory self.new ≡ folder_made path.now (directory self.old)) }
         ensures any_moment { MovesBy directory moments (IsMakingFolder path.now) self.old self.new }
-        ensures cause { CountsRefusalOf result (refusals_of self.old) (refusals_of self.new) };
+        ensures counts { CountsRefusalOf result (refusals_of self.old) (refusals_of self.new) };
 
     /// The names of the files in a folder, in the order of their bytes.
     fn list(&mut self, dir: &str) -> Result<Vec<String>, FsFault>
         ensures names { IfOk result (λ names. map string_bytes names.items
             ≡ names_in dir.now (directory self.old)) }
         ensures unchanged { OnlyReads directory moments self.old self.new }
-        ensures cause { CountsRefusalOf result (refusals_of self.old) (refusals_of self.new) };
+        ensures counts { CountsRefusalOf result (refusals_of self.old) (refusals_of self.new) };
 
     /// The bytes that a folder has room for.
     fn free_space(&mut self, dir: &str) -> Result<u64, FsFault>
         ensures value { IfOk result (λ n. n ≡ free_at self.new dir.now) }
         ensures others { (p : Path) → (p ≡ dir.now → ⊥) → free_at self.new p ≡ free_at self.old p }
         ensures unchanged { OnlyReads directory moments self.old self.new }
-        ensures cause { CountsRefusalOf result (refusals_of self.old) (refusals_of self.new) };
+        ensures counts { CountsRefusalOf result (refusals_of self.old) (refusals_of self.new) };
 
     fn exists_metadata(&self, path: &str) -> bool
         ensures value { result ≡ metadata_of self.now path.now };
@@ -287,7 +301,7 @@ pub trait FileSystem: Send + Sync {
         ensures others { (p : Path) → (p ≡ path.now → ⊥)
             → metadata_of self.new p ≡ metadata_of self.old p }
         ensures unchanged { OnlyReads directory moments self.old self.new }
-        ensures cause { CountsRefusalOf result (refusals_of self.old) (refusals_of self.new) };
+        ensures counts { CountsRefusalOf result (refusals_of self.old) (refusals_of self.new) };
 
     fn is_dir(&self, path: &str) -> bool
         ensures value { result ≡ (directory self.now).is_folder path.now };

@@ -5,9 +5,8 @@ ghost use Rattle.raft_pipes.specs.Pipe.{IsPipeOf};
 use crate::folders::{HEADER, have_lengths, settings, store};
 use raft_env::FileSystem;
 use raft_memory::MemoryFileSystem;
-use raft_pipes::{
-    AppendFault, LogFolders, ReplayMachine, RotationFault, SinglePipe, read_files, settle_or_begin,
-};
+use raft_opening::{ReplayMachine, read_files, settle_or_begin};
+use raft_pipes::{AppendFault, LogFolders, RotationFault, SinglePipe};
 use raft_records::{Fault, FileBlockHandle, FileId, LogItem, LogQueue};
 use std::alloc::Global;
 use std::test::Fail;

@@ -3,7 +3,7 @@
 use crate::folders::{HEADER, begun, have_lengths, store};
 use raft_env::{FileSystem, FsFault};
 use raft_memory::MemoryFileSystem;
-use raft_pipes::ReplayMachine;
+use raft_opening::ReplayMachine;
 use raft_queues::{Cut, DualPipes, DualPipesBuilder};
 use raft_records::{Factory, Fault, FileId, LogItem, LogQueue};
 use std::alloc::Global;

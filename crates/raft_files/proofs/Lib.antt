@@ -29,3 +29,7 @@ pub mod StandInLemmas
 pub mod WriterChangeLemmas
 pub mod WriterLemmas
 pub mod WriterPartLemmas
+pub mod CompletedLemmas
+pub mod CompletedOpeningLemmas
+pub mod CompletedZerosLemmas
+pub mod CompletedFreshLemmas

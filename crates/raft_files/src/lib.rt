@@ -1,6 +1,7 @@
 //! Log files: their names and headers, and how they are written and read.
 #![tactic(auto)]
 
+pub mod completed_laws;
 mod file_block;
 mod file_reader;
 mod file_records;

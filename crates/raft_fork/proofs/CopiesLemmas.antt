@@ -9,14 +9,15 @@ use Rattle.raft_env.specs.Outcomes.{File}
 use Rattle.raft_env.specs.Moments.{HoldsThroughout}
 use Rattle.raft_env.proofs.MomentsLemmas.{passes_then, passes_weaker}
 use Rattle.raft_files.specs.Writer.{bytes_at, bytes_of}
-use Rattle.raft_pipes.specs.Files.{IsDurable, LeavesAllBut}
+use Rattle.raft_pipes.specs.Files.{IsDurable}
+use Rattle.raft_opening.specs.Files.{LeavesAllBut}
 use Rattle.raft_pipes.specs.Folder.{LeavesOthers}
 use Rattle.raft_pipes.specs.Numbered.{AreDistinct}
 use Rattle.raft_pipes.proofs.NamesInLemmas.{has_cases, has_later, none_before, stands_in}
 use Rattle.raft_pipes.proofs.QueueFilesLemmas.{all_back, all_push}
 use Rattle.raft_base.specs.declared.errors.Fault.{Fault}
 use Rattle.raft_env.specs.Refusal.{IsRefusal, NoFewer, Refusals, added_count, no_refusals}
-use Rattle.raft_pipes.proofs.FilesLemmas.{refused_after}
+use Rattle.raft_opening.proofs.FilesLemmas.{refused_after}
 use Rattle.raft_fork.specs.Fork.{AreBeingCopied, AreCopied, CanBeCopied, Source, copies_in, copy_in, source_of}
 use Rattle.raft_fork.specs.Refused.{IsCopyRefusal}
 use Rattle.raft_fork.specs.declared.source.SourceFile.{SourceFile}

@@ -7,7 +7,8 @@ use Rattle.raft_env.specs.Moments.{HoldsThroughout}
 use Rattle.raft_env.proofs.MomentsLemmas.{passes_then, passes_weaker}
 use Rattle.raft_files.specs.Writer.{bytes_of}
 use Rattle.raft_config.specs.Folders.{Folders}
-use Rattle.raft_pipes.specs.Files.{IsDurable, LeavesAllBut}
+use Rattle.raft_pipes.specs.Files.{IsDurable}
+use Rattle.raft_opening.specs.Files.{LeavesAllBut}
 use Rattle.raft_pipes.specs.Queue.{LeavesAll}
 use Rattle.raft_pipes.specs.Numbered.{AreSingle}
 use Rattle.raft_fork.specs.Fork.{AreBeingCopied, AreCopied, CanBeCopied, HasMadeFolder, HasNoLogIn, IsForkOf, IsForking, IsFree, Source, all_sources_in, copies_in, copy_in, sources_of, standing}

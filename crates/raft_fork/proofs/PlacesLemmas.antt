@@ -11,10 +11,10 @@ use Rattle.raft_env.specs.Directory.{Directory, HasFile, Path, file_at}
 use Rattle.raft_pipes.specs.Queue.{LeavesAll}
 use Rattle.raft_pipes.specs.Numbered.{AreDistinct, AreSingle, IsRun, end_of_numbers, in_queue, kept_files, path_of, paths_of}
 use Rattle.raft_pipes.proofs.ApartLemmas.{one_apart}
-use Rattle.raft_pipes.proofs.KeptLemmas.{IsKept, kept_all, kept_files-beside}
+use Rattle.raft_opening.proofs.KeptLemmas.{IsKept, kept_all, kept_files-beside}
 use Rattle.raft_pipes.proofs.NamesInLemmas.{has_cases}
 use Rattle.raft_pipes.proofs.PlacesLemmas.{here_first, paths_of-same}
-use Rattle.raft_pipes.proofs.SingleLemmas.{single_numbered}
+use Rattle.raft_opening.proofs.SingleLemmas.{single_numbered}
 use Rattle.raft_fork.specs.Fork.{CanBeCopied, HasNoLogIn, Source, all_sources_in, copies_in, copy_in, sources_in}
 
 -- the path in a folder tells a file

@@ -20,7 +20,7 @@ use Rattle.raft_pipes.proofs.NamesInLemmas.{has_cases, has_later}
 use Rattle.raft_pipes.proofs.NumberedLemmas.{kept-numbered, last_run-suc, last_run-zero, run_below-suc, run_below-zero}
 use Rattle.raft_pipes.proofs.PlacesLemmas.{here_first}
 use Rattle.raft_pipes.proofs.QueueFilesLemmas.{all_back, all_front}
-use Rattle.raft_pipes.proofs.SingleLemmas.{run_alone, single_numbered}
+use Rattle.raft_opening.proofs.SingleLemmas.{run_alone, single_numbered}
 use Rattle.raft_pipes.proofs.TakenLemmas.{one_free}
 use Rattle.raft_fork.specs.Fork.{AreCopied, AreThereOrEmpty, IsForkOf, IsThereOrEmpty, Source, copies_in, copy_in, sources_in, sources_of, standing}
 use Rattle.raft_fork.proofs.PlacesLemmas.{IsBeside, append_not_rewrite, none_beside, numbered, rewrite_not_append}

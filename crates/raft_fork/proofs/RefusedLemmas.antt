@@ -13,14 +13,13 @@ use Rattle.raft_env.specs.Refusal.{IsRefusal, NoFewer, Refusals}
 use Rattle.raft_config.specs.Folders.{folders_in}
 use Rattle.raft_config.specs.declared.config.Config.{Config}
 use Rattle.raft_pipes.specs.FileList.{IsListRefusal}
-use Rattle.raft_pipes.specs.Numbered.{AreSingle, end_of_numbers, in_queue, kept_files, path_of, paths_of}
+use Rattle.raft_pipes.specs.Numbered.{AreSingle, end_of_numbers, in_queue, kept_files, path_of, paths_of, AreNumbered, StandAlone}
 use Rattle.raft_pipes.specs.Queue.{LeavesAll}
-use Rattle.raft_pipes.proofs.KeptLemmas.{IsKept, kept_all}
+use Rattle.raft_opening.proofs.KeptLemmas.{IsKept, kept_all}
 use Rattle.raft_pipes.proofs.NamesInLemmas.{has_cases, has_later}
 use Rattle.raft_pipes.proofs.PlacesLemmas.{here_first, none_stands, one_of}
 use Rattle.raft_pipes.proofs.QueueFilesLemmas.{no_file}
-use Rattle.raft_pipes.proofs.SingleLemmas.{single_numbered}
-use Rattle.raft_pipes.specs.Numbered.{AreNumbered, StandAlone}
+use Rattle.raft_opening.proofs.SingleLemmas.{single_numbered}
 use Rattle.raft_fork.specs.Fork.{IsFree, Source, all_sources_in, copies_in, copy_in, sources_in, standing}
 use Rattle.raft_fork.specs.Refused.{HasLogIn, IsCopyRefusal, IsFolderRefusal, IsForkRefusal, IsInFolder, IsInOneOf, IsInvalid, IsSettingsRefusal, IsSourceRefusal, IsTargetRefusal, fork_contradiction}
 use Rattle.raft_fork.proofs.PlacesLemmas.{numbered, single_same}

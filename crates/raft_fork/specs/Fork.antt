@@ -8,7 +8,8 @@ use Rattle.raft_base.specs.declared.pipe_log.LogQueue.TheVariants.{Append, Rewri
 use Rattle.raft_env.specs.Directory.{Directory, HasFile, Path, file_at, is_on_way}
 use Rattle.raft_files.specs.Writer.{bytes_at}
 use Rattle.raft_config.specs.Folders.{Folders, all_of}
-use Rattle.raft_pipes.specs.Files.{IsDurable, LeavesAllBut}
+use Rattle.raft_pipes.specs.Files.{IsDurable}
+use Rattle.raft_opening.specs.Files.{LeavesAllBut}
 use Rattle.raft_pipes.specs.Folder.{IsLogPathIn}
 use Rattle.raft_pipes.specs.Numbered.{AreDistinct, AreSingle, in_queue, kept_files, path_of}
 use Rattle.raft_pipes.specs.Queue.{LeavesAll}

@@ -9,3 +9,4 @@ pub mod RenewalLemmas
 pub mod LogTakeLemmas
 pub mod LogOldLemmas
 pub mod WriteLemmas
+pub mod PassedLemmas

@@ -52,7 +52,7 @@ impl Settings {
         ensures value { self.old.config ≡ None → OnOk result
             (IfSome self.new.config (SetsOwn self.old.lines.items)) }
         ensures once { were_read self.old ≡ true → self.new ≡ self.old }
-        ensures refused { IfErr result (λ e. (self.old.config ≡ None)
+        ensures cause { IfErr result (λ e. (self.old.config ≡ None)
             × IsSetRefusal self.old.lines.items e) }
     {
         if self.config.is_none() {
@@ -84,7 +84,7 @@ pub(crate) fn text_set(line: &[u8]) -> Option<&[u8]>
 // The program's own settings, with what the lines set.
 fn read_lines(alloc: Global, lines: &[u8]) -> Result<Config, Fault>
     ensures value { IfOk result (SetsOwn lines.now) }
-    ensures refused { IfErr result (IsSetRefusal lines.now) }
+    ensures cause { IfErr result (IsSetRefusal lines.now) }
 {
     let own = own(alloc)?;
     match str::from_utf8(lines) {

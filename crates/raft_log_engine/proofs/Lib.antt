@@ -33,3 +33,4 @@ pub mod EventLemmas
 pub mod ExpiredLemmas
 pub mod Crossing
 pub mod PurgeEventLemmas
+pub mod PurgeCallLemmas

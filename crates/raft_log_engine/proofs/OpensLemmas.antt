@@ -14,9 +14,9 @@ use Rattle.raft_env.specs.Moments.{HoldsThroughout}
 use Rattle.raft_env.specs.declared.env.FileSystem.{Ghosts}
 use Rattle.raft_held.specs.Crash.{StillRecovers}
 use Rattle.raft_held.specs.Queues.{IsOpeningRefusal, LeavesReadableIn}
-use Rattle.raft_pipes.proofs.OpenLemmas.{left_alone}
-use Rattle.raft_pipes.specs.Folder.{LeavesAllButOpened}
-use Rattle.raft_pipes.specs.Queue.{IsUntouched}
+use Rattle.raft_opening.proofs.OpenLemmas.{left_alone}
+use Rattle.raft_opening.specs.Folder.{LeavesAllButOpened}
+use Rattle.raft_opening.specs.Queue.{IsUntouched}
 use Rattle.raft_queues.specs.Builder.{CanBeOpenedIn}
 use Rattle.raft_queues.proofs.SameFilesLemmas.{readable_same}
 use Rattle.raft_log_engine.specs.Engine.{directory_of, moments_of}

@@ -4,8 +4,7 @@ use Rattle.std.specs.List.{list_any}
 use Rattle.std.specs.Option.{option_map}
 use Rattle.raft_env.specs.declared.env.FileSystem.{Ghosts}
 use Rattle.raft_base.specs.declared.pipe_log.LogQueue.TheVariants.{Append}
-use Rattle.raft_listeners.specs.Heard.{HasAnswered, HasHeard, Heard}
-use Rattle.raft_listeners.specs.declared.listener.Event.{Event}
+use Rattle.raft_listeners.specs.Heard.{HasAnswered, Heard}
 use Rattle.raft_pipes.specs.PipeState.{last_seq}
 use Rattle.raft_purge.specs.Apart.{KeepsOthers}
 use Rattle.raft_purge.specs.Expired.{HasPurgedAppend, first_renewed}
@@ -16,8 +15,7 @@ use Rattle.raft_purge_rules.specs.declared.choosing.Chosen.TheVariants.{Asked, H
 use Rattle.raft_purge_rules.specs.declared.choosing.Decision.{Decision}
 use Rattle.raft_purge_rules.specs.declared.choosing.Needs.{Needs}
 use Rattle.raft_tables.specs.Tables.{tables_of}
-use Rattle.raft_log_engine.specs.Engine.{has_failed, has_groups_together, queue_of, rewrite_queue_of, settings_of, spans_of}
-use Rattle.raft_log_engine.specs.Events.{HearsPurge}
+use Rattle.raft_log_engine.specs.Engine.{has_failed, has_groups_together, queue_of, rewrite_queue_of, settings_of}
 use Rattle.raft_log_engine.specs.Need.{needs_of, needs_rewrite, rewritten_of, use_of}
 use Rattle.raft_log_engine.specs.declared.engine.Engine.{Engine}
 
@@ -65,13 +63,3 @@ module _ {F H R W : Type 0} {g : Ghosts F H R W} where
         (has_failed e ≡ true)
         ⊎ (needs_rewrite Append (settings_of e) (use_of Append e) (rewritten_of e) ≡ false)
         → (barrier ≡ last_seq (queue_of e)) × (new ≡ old)
-
-  -- they were asked so, and then heard of a purge with this barrier, which left this
-  pub record HearsExpired (AreSo : List Event → Type 0) (e e' : Engine F H R W g) (old new : Heard)
-      (Leaves : ℕ → Type 0) : Type 0 where
-    pub barrier : ℕ
-    pub after : Heard
-    pub asks : AsksBarrier e barrier old after
-    pub leaves : Leaves barrier
-    pub told : has_failed e' ≡ false → HearsPurge AreSo (spans_of e) (spans_of e') after new
-    pub silent : has_failed e ≡ true → HasHeard [] after new

@@ -11,6 +11,7 @@ pub mod Advance
 pub mod Need
 pub mod Opening
 pub mod Purge
+pub mod PurgeCalls
 pub mod Recovery
 pub mod Write
 pub mod Image

@@ -4,12 +4,13 @@ ghost use Rattle.raft_records.specs.Contents.{Contents, after_batches, no_conten
 ghost use Rattle.raft_records.specs.Item.{Batch};
 ghost use Rattle.raft_env.specs.Directory.{Directory, IsRestarted, CrashImage};
 ghost use Rattle.raft_env.specs.Moments.{HoldsThroughout};
+ghost use Rattle.raft_held.specs.Begins.{LogStandsFor};
 ghost use Rattle.raft_held.specs.Crash.{IsAllowedFrom, LeavesAllowed, RecoversContents, contents_after_crash, known_after_crash};
 ghost use Rattle.raft_files.specs.Records.{as_it_is};
 ghost use Rattle.raft_held.specs.Contents.{contents_at, known_at};
 ghost use Rattle.raft_log_engine.specs.Opening.{FoundCompletedRecords};
 ghost use Rattle.raft_log_engine.specs.Engine.{contents_of, directory_of, durable_of, folders_of, has_failed, moments_of, queue_of, settings_of, unsynced_of};
-ghost use Rattle.raft_damage.specs.DetectableDamage.{HaveNoStaleRecordIn};
+ghost use Rattle.raft_queue_laws.specs.DetectableDamage.{HaveNoStaleRecordIn};
 ghost use Rattle.raft_env.specs.Consistent.{AreConsistent};
 ghost use Rattle.raft_memory.specs.Choice.{AreWhole, left_by};
 ghost use Rattle.raft_memory.specs.declared.crash.Choice.{Choice};
@@ -55,12 +56,12 @@ pub fn crash_leaves_contents()
     ensures stays_clear { (folders : Folders) (n m : Directory) (d : CrashImage)
         → IsRestarted n d m → AreSoundIn folders n d → AreClear folders m }
 {
-    raft_queues::laws::crash_leaves_a_prefix();
+    raft_queue_laws::queue::crash_leaves_a_prefix();
 }
 
 /// What an engine keeps a crash leaves now: what is durable, and a prefix of what is unsynced, and
 /// so while no call changes its files, with any batches more. Both make up what an engine holds
-/// that hasn't failed.
+/// that hasn't failed, and all of them stand in its files: they are what is read there first.
 pub fn an_engine_recovers_what_it_keeps<F: FileSystem>(engine: &Engine<F>)
     ensures crash { LeavesAllowed (folders_of engine.now) (durable_of engine.now)
         (unsynced_of engine.now) (directory_of engine.now) }
@@ -69,6 +70,9 @@ pub fn an_engine_recovers_what_it_keeps<F: FileSystem>(engine: &Engine<F>)
         (durable_of engine.now) (unsynced_of engine.now ++ more)) }
     ensures contents { has_failed engine.now ≡ false
         → contents_of engine.now ≡ after_batches (durable_of engine.now) (unsynced_of engine.now) }
+    ensures written { has_failed engine.now ≡ false
+        → LogStandsFor (folders_of engine.now) (durable_of engine.now) (unsynced_of engine.now)
+        (directory_of engine.now) }
 {}
 
 /// The premise on damage can be met of an engine that hasn't failed. If its opening found no record
@@ -84,7 +88,7 @@ pub fn the_damage_of_an_engine_is_detectable<F: FileSystem>(engine: &Engine<F>)
         → HaveSimplePastIn folders n → HaveNoStaleRecordIn folders n → AreConsistent n
         → (choices : List Choice) → AreWhole choices → ∥ AreDetectableIn folders n (left_by choices n) ∥₁ }
 {
-    raft_damage::laws::damage_of_a_queue_is_detectable();
+    raft_queue_laws::damage::damage_of_a_queue_is_detectable();
 }
 
 /// A next log file that the queue of an engine that hasn't failed goes on to has the settings'

@@ -1,10 +1,12 @@
 -- Refusals that are armed, and how calls use them up.
 use Rattle.std.specs.Prelude.{ℕ, ◌-◌, ◌&&◌, Bool, not, nat_le, nat_lt, List, Option, Some, None, find, map, option_map, if◌then◌else◌}
 use Rattle.std.specs.List.{Contains, retain_mut}
+use Rattle.std.specs.Option.{option_or}
 use denote.Enum.Bare.{sameb}
 use Rattle.raft_base.specs.declared.errors.IoKind.{IoKind}
 use Rattle.raft_base.specs.declared.errors.IoKind.TheVariants.{Other}
 use Rattle.raft_memory.specs.declared.armed.FsCall.{FsCall}
+use Rattle.raft_memory.specs.declared.armed.FsCall.TheVariants.{FileSize, NewReader, Open}
 use Rattle.raft_memory.specs.declared.armed.ArmedRefusal.{ArmedRefusal}
 use Rattle.raft_memory.specs.contracts.armed.FsCall as declared_call
 
@@ -36,6 +38,17 @@ arms_after call arms = retain_mut (λ arm. not (is_due call arm)) (one_less call
 -- the kind of the first refusal that is due at that call
 abbrev pub due_kind : FsCall → List Arm → Option IoKind
 due_kind call arms = option_map (λ arm. arm.2) (find (is_due call) arms)
+
+-- what is armed after the calls that a block's read stands for: to open the file, of its size, and
+-- of a reader
+abbrev pub arms_after_block : List Arm → List Arm
+arms_after_block arms = arms_after NewReader (arms_after FileSize (arms_after Open arms))
+
+-- .. and the first kind that is due at one of them
+abbrev pub due_in_block : List Arm → Option IoKind
+due_in_block arms = option_or (option_or (due_kind Open arms)
+    (due_kind FileSize (arms_after Open arms)))
+    (due_kind NewReader (arms_after FileSize (arms_after Open arms)))
 
 -- as what a call fails: by what is due, or, once the stop has come, as `Other`
 abbrev pub injected : FsCall → List Arm → Option ℕ → Option IoKind

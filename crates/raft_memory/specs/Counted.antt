@@ -1,4 +1,4 @@
--- The counts of refusals of files in memory.
+-- The counts of failed calls.
 use Rattle.std.specs.Prelude.{ℕ, length}
 use Rattle.raft_env.specs.Refusal.{Refusals}
 use Rattle.raft_memory.specs.declared.refusals.RefusalCount.{RefusalCount}

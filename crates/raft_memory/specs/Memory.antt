@@ -1,5 +1,5 @@
 -- What a file system in memory shows.
-use Rattle.std.specs.Prelude.{◌≡◌, ℕ, ◌+◌, ◌^◌, ◌-◌, ◌==◌, ◌/◌, Bool, cond, false, nat_le, if◌then◌else◌, List, ◌∷◌, length, map, take, Option, Some, String, unwrap_or}
+use Rattle.std.specs.Prelude.{◌≡◌, ℕ, ◌+◌, ◌^◌, ◌-◌, ◌==◌, ◌/◌, Bool, cond, false, nat_le, if◌then◌else◌, List, ◌∷◌, length, map, take, Option, Some, Result, String, unwrap_or}
 use Rattle.std.specs.declared.alloc.Global.{Global}
 use Rattle.std.specs.BTreeMap.{BTreeMap, get_by_text}
 use Rattle.std.specs.BTreeSet.{contains_text}
@@ -14,7 +14,7 @@ use Rattle.raft_memory.specs.declared.armed.FsCall.{FsCall}
 use Rattle.raft_memory.specs.Armed.{arms_of}
 use Rattle.raft_memory.specs.Counted.{refusals_in}
 use Rattle.raft_memory.specs.Files.{namespace_directory}
-use Rattle.raft_env.specs.Refusal.{Refusals}
+use Rattle.raft_env.specs.Refusal.{CountsRefusalOf, Refusals}
 use Rattle.raft_memory.specs.declared.memory.MemoryFileSystem.{MemoryFileSystem}
 
 -- the files and folders as they are now
@@ -29,6 +29,10 @@ memory_moments memory =
 -- how many calls failed
 abbrev pub memory_refusals : MemoryFileSystem → Refusals
 memory_refusals memory = refusals_in memory.refusals
+
+-- a failed call is counted as what it is, and no other
+abbrev pub CountsCall : {T : Type 0} → Result T FsFault → MemoryFileSystem → MemoryFileSystem → Type 0
+CountsCall result old new = CountsRefusalOf result (memory_refusals old) (memory_refusals new)
 
 -- the free space that a folder was given, and else room for all
 abbrev pub free_in : BTreeMap (String Global) ℕ → Path → ℕ

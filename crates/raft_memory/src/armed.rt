@@ -75,7 +75,7 @@ pub(crate) struct Armed {
 }
 
 impl Armed {
-    ghost use Rattle.raft_memory.specs.Armed.{IsArmed, arm_of, arms_after, arms_of, due_kind, injected, is_due, one_less, stop_after};
+    ghost use Rattle.raft_memory.specs.Armed.{IsArmed, arm_of, arms_after, arms_after_block, arms_of, due_in_block, due_kind, injected, is_due, one_less, stop_after};
 
     pub(crate) fn new(alloc: Global) -> Armed
         ensures armed { arms_of result.refusals.items ≡ [] }
@@ -133,6 +133,23 @@ impl Armed {
         }
     }
 
+    /// Counts the calls that a block's read stands for: to open the file, of its size, and of a
+    /// reader.
+    pub(crate) fn fault_for_block(&mut self) -> Option<IoKind>
+        ensures value { result ≡ due_in_block (arms_of self.old.refusals.items) }
+        ensures armed { arms_of self.new.refusals.items
+            ≡ arms_after_block (arms_of self.old.refusals.items) }
+        ensures stop { self.new.stop ≡ self.old.stop }
+    {
+        if self.refusals.is_empty() {
+            return None;
+        }
+        let open = self.fault_for(FsCall::Open);
+        let size = self.fault_for(FsCall::FileSize);
+        let reader = self.fault_for(FsCall::NewReader);
+        open.or(size).or(reader)
+    }
+
     /// The same of a read. Reads may come at once, so no clause tells which of them fails.
     pub(crate) fn fault_for_read(&self) -> Option<IoKind>
         ensures { IfSome result (λ kind. IsArmed (arms_of self.now.refusals.items) FsCall.Read
@@ -159,11 +176,11 @@ impl MemoryFileSystem {
         ensures ok { OnOk result (armed_of self.new ≡ armed_of self.old ++ (call, nth, kind) ∷ []) }
         ensures err { OnErr result (armed_of self.new ≡ armed_of self.old) }
         ensures value { OnOk result (0 < nth) }
-        ensures refused { IfErr result (RefusesUnless (0 < nth)) }
+        ensures cause { IfErr result (RefusesUnless (0 < nth)) }
         ensures others { stop_of self.new ≡ stop_of self.old }
         ensures unchanged { memory_directory self.new ≡ memory_directory self.old }
         ensures any_moment { memory_moments self.new ≡ memory_moments self.old }
-        ensures cause { memory_refusals self.new ≡ memory_refusals self.old }
+        ensures counts { memory_refusals self.new ≡ memory_refusals self.old }
     {
         if nth == 0 {
             return Err(Fault::InvalidArgument("calls are counted from 1"));
@@ -185,7 +202,7 @@ impl MemoryFileSystem {
         ensures others { armed_of self.new ≡ armed_of self.old }
         ensures unchanged { memory_directory self.new ≡ memory_directory self.old }
         ensures any_moment { memory_moments self.new ≡ memory_moments self.old }
-        ensures cause { memory_refusals self.new ≡ memory_refusals self.old }
+        ensures counts { memory_refusals self.new ≡ memory_refusals self.old }
     {
         self.armed.stop = Some(nth);
     }

@@ -12,7 +12,7 @@ use crate::memory::MemoryFileSystem;
 use raft_env::{FileSystem, FsFault, IoKind, Permission};
 
 impl FileSystem for MemoryFileSystem {
-    ghost use Rattle.raft_memory.specs.Memory.{memory_directory, memory_free, memory_metadata, memory_moments, memory_refusals, armed_of, stop_of, LeavesHalf};
+    ghost use Rattle.raft_memory.specs.Memory.{memory_directory, memory_free, memory_metadata, memory_moments, memory_refusals, armed_of, stop_of, CountsCall, LeavesHalf};
     ghost use Rattle.raft_memory.specs.Armed.{arms_after, injected, stop_after};
     ghost use Rattle.raft_env.specs.Directory.{HasFile, IsAllocating, IsMakingFolder, IsOneOf, IsTruncating, IsWriting, Path, ReadsAt, after_create, after_rename, without_file, file_at, folder_made, names_in, update_file};
     ghost use Rattle.raft_env.specs.Outcomes.{File, file_after_write, overlay, pad_to, file_after_resize, synced_of};
@@ -55,9 +55,8 @@ impl FileSystem for MemoryFileSystem {
         ensures err { OnErr result (memory_directory self.new ≡ memory_directory self.old) }
         ensures any_moment { MovesBy memory_directory memory_moments
             (λ old. IsOneOf old (after_create path.now old)) self.old self.new }
-        ensures cause { CountsRefusalOf result (memory_refusals self.old)
-            (memory_refusals self.new) }
-        ensures refused { RefusesAs (injected FsCall.Create (armed_of self.old) (stop_of self.old))
+        ensures counts { CountsCall result self.old self.new }
+        ensures cause { RefusesAs (injected FsCall.Create (armed_of self.old) (stop_of self.old))
             (HasNoPlace (memory_directory self.old) path.now) result }
         ensures stop { stop_of self.new ≡ stop_after (stop_of self.old) }
         ensures armed { armed_of self.new ≡ arms_after FsCall.Create (armed_of self.old) }
@@ -86,9 +85,8 @@ impl FileSystem for MemoryFileSystem {
         ensures may_write { IfOk result (λ h. h.may_write ≡ true
             ↔ (permission ≡ Permission.ReadWrite)) }
         ensures unchanged { OnlyReads memory_directory memory_moments self.old self.new }
-        ensures cause { CountsRefusalOf result (memory_refusals self.old)
-            (memory_refusals self.new) }
-        ensures refused { RefusesAs (injected FsCall.Open (armed_of self.old) None)
+        ensures counts { CountsCall result self.old self.new }
+        ensures cause { RefusesAs (injected FsCall.Open (armed_of self.old) None)
             (IsMissing (memory_directory self.old) path.now) result }
         ensures stop { stop_of self.new ≡ stop_of self.old }
         ensures armed { armed_of self.new ≡ arms_after FsCall.Open (armed_of self.old) }
@@ -115,9 +113,8 @@ impl FileSystem for MemoryFileSystem {
         ensures err { OnErr result (memory_directory self.new ≡ memory_directory self.old) }
         ensures any_moment { MovesBy memory_directory memory_moments
             (λ old. IsOneOf old (without_file path.now old)) self.old self.new }
-        ensures cause { CountsRefusalOf result (memory_refusals self.old)
-            (memory_refusals self.new) }
-        ensures refused { RefusesAs (injected FsCall.Delete (armed_of self.old) (stop_of self.old))
+        ensures counts { CountsCall result self.old self.new }
+        ensures cause { RefusesAs (injected FsCall.Delete (armed_of self.old) (stop_of self.old))
             (IsAbsent (memory_directory self.old) path.now) result }
         ensures stop { stop_of self.new ≡ stop_after (stop_of self.old) }
         ensures armed { armed_of self.new ≡ arms_after FsCall.Delete (armed_of self.old) }
@@ -140,9 +137,8 @@ impl FileSystem for MemoryFileSystem {
         ensures err { OnErr result (memory_directory self.new ≡ memory_directory self.old) }
         ensures any_moment { MovesBy memory_directory memory_moments
             (λ old. IsOneOf old (after_rename from.now to.now old)) self.old self.new }
-        ensures cause { CountsRefusalOf result (memory_refusals self.old)
-            (memory_refusals self.new) }
-        ensures refused { RefusesAs (injected FsCall.Rename (armed_of self.old) (stop_of self.old))
+        ensures counts { CountsCall result self.old self.new }
+        ensures cause { RefusesAs (injected FsCall.Rename (armed_of self.old) (stop_of self.old))
             (λ e. IsMissing (memory_directory self.old) from.now e
             ⊎ HasNoPlace (memory_directory self.old) to.now e) result }
         ensures stop { stop_of self.new ≡ stop_after (stop_of self.old) }
@@ -163,9 +159,8 @@ impl FileSystem for MemoryFileSystem {
         ensures reader { IfOk result (λ r. (string_bytes r.path ≡ string_bytes handle.now.path)
             × (by_storage r.refused ≡ no_refusals)) }
         ensures unchanged { OnlyReads memory_directory memory_moments self.old self.new }
-        ensures cause { CountsRefusalOf result (memory_refusals self.old)
-            (memory_refusals self.new) }
-        ensures refused { RefusesAs (injected FsCall.NewReader (armed_of self.old) None)
+        ensures counts { CountsCall result self.old self.new }
+        ensures cause { RefusesAs (injected FsCall.NewReader (armed_of self.old) None)
             (λ e. e ≡ FsFault.Memory) result }
         ensures stop { stop_of self.new ≡ stop_of self.old }
         ensures armed { armed_of self.new ≡ arms_after FsCall.NewReader (armed_of self.old) }
@@ -192,13 +187,12 @@ impl FileSystem for MemoryFileSystem {
     fn new_writer(&mut self, handle: &MemoryHandle) -> Result<MemoryWriter, FsFault>
         ensures writer { IfOk result (λ w. (string_bytes w.path ≡ string_bytes handle.now.path)
             × (handle.now.may_write ≡ true)) }
-        ensures refused { (handle.now.may_write ≡ false → result ≡ Err (FsFault.Io IoKind.Other))
+        ensures cause { (handle.now.may_write ≡ false → result ≡ Err (FsFault.Io IoKind.Other))
             × (handle.now.may_write ≡ true
             → RefusesAs (injected FsCall.NewWriter (armed_of self.old) None)
             (λ e. e ≡ FsFault.Memory) result) }
         ensures unchanged { OnlyReads memory_directory memory_moments self.old self.new }
-        ensures cause { CountsRefusalOf result (memory_refusals self.old)
-            (memory_refusals self.new) }
+        ensures counts { CountsCall result self.old self.new }
         ensures stop { stop_of self.new ≡ stop_of self.old }
         ensures armed { armed_of self.new ≡ arms_after FsCall.NewWriter (armed_of self.old) }
     {
@@ -230,9 +224,8 @@ impl FileSystem for MemoryFileSystem {
             (memory_directory self.new)) }
         ensures any_moment { MovesBy memory_directory memory_moments
             (IsWriting (string_bytes writer.old.path) at bytes.now) self.old self.new }
-        ensures cause { CountsRefusalOf result (memory_refusals self.old)
-            (memory_refusals self.new) }
-        ensures refused { (result ≡ Err FsFault.Memory)
+        ensures counts { CountsCall result self.old self.new }
+        ensures cause { (result ≡ Err FsFault.Memory)
             ⊎ RefusesAs (injected FsCall.Write (armed_of self.old) (stop_of self.old))
             (λ e. HasNoRoom at (length bytes.now) e
             ⊎ IsAbsent (memory_directory self.old) (string_bytes writer.old.path) e) result }
@@ -270,9 +263,8 @@ impl FileSystem for MemoryFileSystem {
         ensures err { OnErr result (memory_directory self.new ≡ memory_directory self.old) }
         ensures any_moment { MovesBy memory_directory memory_moments
             (IsTruncating (string_bytes writer.old.path) size) self.old self.new }
-        ensures cause { CountsRefusalOf result (memory_refusals self.old)
-            (memory_refusals self.new) }
-        ensures refused { RefusesAs (injected FsCall.Truncate (armed_of self.old)
+        ensures counts { CountsCall result self.old self.new }
+        ensures cause { RefusesAs (injected FsCall.Truncate (armed_of self.old)
             (stop_of self.old)) (IsMissing (memory_directory self.old)
             (string_bytes writer.old.path)) result }
         ensures stop { stop_of self.new ≡ stop_after (stop_of self.old) }
@@ -300,9 +292,8 @@ impl FileSystem for MemoryFileSystem {
         ensures err { OnErr result (memory_directory self.new ≡ memory_directory self.old) }
         ensures any_moment { MovesBy memory_directory memory_moments
             (IsAllocating (string_bytes writer.old.path) (at + size)) self.old self.new }
-        ensures cause { CountsRefusalOf result (memory_refusals self.old)
-            (memory_refusals self.new) }
-        ensures refused { RefusesAs (injected FsCall.Allocate (armed_of self.old)
+        ensures counts { CountsCall result self.old self.new }
+        ensures cause { RefusesAs (injected FsCall.Allocate (armed_of self.old)
             (stop_of self.old)) (λ e. HasNoRoom at size e
             ⊎ IsMissing (memory_directory self.old) (string_bytes writer.old.path) e) result }
         ensures stop { stop_of self.new ≡ stop_after (stop_of self.old) }
@@ -332,9 +323,8 @@ impl FileSystem for MemoryFileSystem {
         ensures any_moment { MovesBy memory_directory memory_moments
             (λ old. IsOneOf old (update_file (string_bytes writer.old.path) synced_of old)) self.old
             self.new }
-        ensures cause { CountsRefusalOf result (memory_refusals self.old)
-            (memory_refusals self.new) }
-        ensures refused { RefusesAs (injected FsCall.Sync (armed_of self.old) (stop_of self.old))
+        ensures counts { CountsCall result self.old self.new }
+        ensures cause { RefusesAs (injected FsCall.Sync (armed_of self.old) (stop_of self.old))
             (IsAbsent (memory_directory self.old) (string_bytes writer.old.path)) result }
         ensures stop { stop_of self.new ≡ stop_after (stop_of self.old) }
         ensures armed { armed_of self.new ≡ arms_after FsCall.Sync (armed_of self.old) }
@@ -355,9 +345,9 @@ impl FileSystem for MemoryFileSystem {
         ensures ok { IfOk result (λ n. ReadsAt
             (file_at (memory_directory self.now) (string_bytes reader.old.path)) at n bytes.old
             bytes.new) }
-        ensures cause { CountsRefusalOf result (by_storage reader.old.refused)
+        ensures counts { CountsRefusalOf result (by_storage reader.old.refused)
             (by_storage reader.new.refused) }
-        ensures refused { IfErr result (λ e. WasArmed (armed_of self.now) FsCall.Read e
+        ensures cause { IfErr result (λ e. WasArmed (armed_of self.now) FsCall.Read e
             ⊎ IsAbsent (memory_directory self.now) (string_bytes reader.old.path) e) }
     {
         if let Some(kind) = self.armed.fault_for_read() {
@@ -369,15 +359,24 @@ impl FileSystem for MemoryFileSystem {
         }
     }
 
+    fn read_block(
+        &mut self,
+        path: &str,
+        at: usize,
+        len: usize,
+        bytes: &mut Vec<u8>,
+    ) -> Result<(), FsFault> {
+        self.read_part(path, at, len, bytes)
+    }
+
     fn file_size(&mut self, handle: &MemoryHandle) -> Result<usize, FsFault>
         ensures size { IfOk result (λ n. (file : File)
             × (file_at (memory_directory self.old) (string_bytes handle.now.path) ≡ Some file)
             × (n ≡ length file.now)) }
         ensures fits { IfOk result (λ n. n < 2 ^ 63) }
         ensures unchanged { OnlyReads memory_directory memory_moments self.old self.new }
-        ensures cause { CountsRefusalOf result (memory_refusals self.old)
-            (memory_refusals self.new) }
-        ensures refused { RefusesAs (injected FsCall.FileSize (armed_of self.old) None)
+        ensures counts { CountsCall result self.old self.new }
+        ensures cause { RefusesAs (injected FsCall.FileSize (armed_of self.old) None)
             (IsAbsent (memory_directory self.old) (string_bytes handle.now.path)) result }
         ensures stop { stop_of self.new ≡ stop_of self.old }
         ensures armed { armed_of self.new ≡ arms_after FsCall.FileSize (armed_of self.old) }
@@ -397,9 +396,8 @@ impl FileSystem for MemoryFileSystem {
         ensures err { OnErr result (memory_directory self.new ≡ memory_directory self.old) }
         ensures any_moment { MovesBy memory_directory memory_moments (IsMakingFolder path.now)
             self.old self.new }
-        ensures cause { CountsRefusalOf result (memory_refusals self.old)
-            (memory_refusals self.new) }
-        ensures refused { RefusesAs (injected FsCall.MakeDir (armed_of self.old) (stop_of self.old))
+        ensures counts { CountsCall result self.old self.new }
+        ensures cause { RefusesAs (injected FsCall.MakeDir (armed_of self.old) (stop_of self.old))
             (IsBarred (memory_directory self.old) path.now) result }
         ensures stop { stop_of self.new ≡ stop_after (stop_of self.old) }
         ensures armed { armed_of self.new ≡ arms_after FsCall.MakeDir (armed_of self.old) }
@@ -419,9 +417,8 @@ impl FileSystem for MemoryFileSystem {
         ensures names { IfOk result (λ names. map string_bytes names.items
             ≡ names_in dir.now (memory_directory self.old)) }
         ensures unchanged { OnlyReads memory_directory memory_moments self.old self.new }
-        ensures cause { CountsRefusalOf result (memory_refusals self.old)
-            (memory_refusals self.new) }
-        ensures refused { RefusesAs (injected FsCall.List (armed_of self.old) None)
+        ensures counts { CountsCall result self.old self.new }
+        ensures cause { RefusesAs (injected FsCall.List (armed_of self.old) None)
             (HasNoFolder (memory_directory self.old) dir.now) result }
         ensures stop { stop_of self.new ≡ stop_of self.old }
         ensures armed { armed_of self.new ≡ arms_after FsCall.List (armed_of self.old) }
@@ -441,9 +438,8 @@ impl FileSystem for MemoryFileSystem {
             → memory_free self.new p ≡ memory_free self.old p }
         ensures free { memory_free self.new ≡ memory_free self.old }
         ensures unchanged { OnlyReads memory_directory memory_moments self.old self.new }
-        ensures cause { CountsRefusalOf result (memory_refusals self.old)
-            (memory_refusals self.new) }
-        ensures refused { RefusesAs (injected FsCall.FreeSpace (armed_of self.old) None)
+        ensures counts { CountsCall result self.old self.new }
+        ensures cause { RefusesAs (injected FsCall.FreeSpace (armed_of self.old) None)
             (λ e. ⊥) result }
         ensures stop { stop_of self.new ≡ stop_of self.old }
         ensures armed { armed_of self.new ≡ arms_after FsCall.FreeSpace (armed_of self.old) }
@@ -465,9 +461,8 @@ impl FileSystem for MemoryFileSystem {
         ensures others { (p : Path) → (p ≡ path.now → ⊥)
             → memory_metadata self.new p ≡ memory_metadata self.old p }
         ensures unchanged { OnlyReads memory_directory memory_moments self.old self.new }
-        ensures cause { CountsRefusalOf result (memory_refusals self.old)
-            (memory_refusals self.new) }
-        ensures refused { RefusesAs
+        ensures counts { CountsCall result self.old self.new }
+        ensures cause { RefusesAs
             (injected FsCall.DeleteMetadata (armed_of self.old) (stop_of self.old))
             (λ e. ⊥) result }
         ensures stop { stop_of self.new ≡ stop_after (stop_of self.old) }

@@ -38,15 +38,15 @@ impl MemoryFileSystem {
     /// The files after a crash now. The choices go to the files in the order of their paths' bytes,
     /// and a file that is left over keeps what was synced. Folders stay, and so do free
     /// space and metadata. The files are consistent,
-    /// and of their changes only writes failed. So by `raft_damage::laws::premise_can_be_met` the
+    /// and of their changes only writes failed. So by `raft_queue_laws::damage::premise_can_be_met` the
     /// damage of `All` and `Synced` is detectable of a log that
-    /// `raft_premise::laws::failed_calls_add_no_record` keeps, and that of `Torn` where the torn
+    /// `raft_files::completed_laws::failed_calls_add_no_record` keeps, and that of `Torn` where the torn
     /// record doesn't decode.
     pub fn crash(&self, choices: &[Choice]) -> Result<MemoryFileSystem, Fault>
         ensures ok { IfOk result (λ m. IsRestarted (memory_directory self.now)
             (left_by choices.now (memory_directory self.now)) (memory_directory m)) }
         ensures any_moment { IfOk result (λ m. memory_moments m ≡ memory_directory m ∷ []) }
-        ensures cause { IfOk result (λ m. memory_refusals m ≡ no_refusals) }
+        ensures counts { IfOk result (λ m. memory_refusals m ≡ no_refusals) }
         ensures free { IfOk result (λ m. memory_free m ≡ memory_free self.now) }
         ensures metadata { IfOk result (λ m. memory_metadata m ≡ memory_metadata self.now) }
         ensures others { IfOk result (λ m. (armed_of m ≡ []) × (stop_of m ≡ None)) }
@@ -54,7 +54,7 @@ impl MemoryFileSystem {
         ensures only_writes { OnlyWritesFailedIn (memory_directory self.now) }
         ensures value { OnOk result (Leaves (memory_directory self.now)
             (left_by choices.now (memory_directory self.now))) }
-        ensures refused { IfErr result (RefusesUnless
+        ensures cause { IfErr result (RefusesUnless
             (Leaves (memory_directory self.now)
             (left_by choices.now (memory_directory self.now)))) }
     {
@@ -79,7 +79,7 @@ impl Namespace {
             (left_by choices.now (namespace_directory self.now)) (namespace_directory t)) }
         ensures crash { OnOk result (Leaves (namespace_directory self.now)
             (left_by choices.now (namespace_directory self.now))) }
-        ensures refused { IfErr result (RefusesUnless
+        ensures cause { IfErr result (RefusesUnless
             (Leaves (namespace_directory self.now)
             (left_by choices.now (namespace_directory self.now)))) }
     {
@@ -112,7 +112,7 @@ fn put_left(
     ensures ok { OnOk result (Puts files.old files.new path.now
         (synced_file (bytes_by_choice choice.now file.now))) }
     ensures crash { OnOk result (MayLeave file.now (bytes_by_choice choice.now file.now)) }
-    ensures refused { IfErr result (RefusesUnless
+    ensures cause { IfErr result (RefusesUnless
         (MayLeave file.now (bytes_by_choice choice.now file.now))) }
 {
     let left = file.left(alloc, choice)?;

@@ -20,7 +20,7 @@ impl MemoryFileSystem {
         ensures memory { IfErr result (λ e. e ≡ FsFault.Memory) }
         ensures any_moment { MovesBy memory_directory memory_moments
             (IsWriting path.now at bytes.now) self.old self.new }
-        ensures cause { memory_refusals self.new ≡ memory_refusals self.old }
+        ensures counts { memory_refusals self.new ≡ memory_refusals self.old }
         ensures others { (armed_of self.new ≡ armed_of self.old)
             × (stop_of self.new ≡ stop_of self.old) }
     {

@@ -29,7 +29,7 @@ impl MemoryReader {
     pub(crate) fn refuse(&mut self, kind: IoKind) -> FsFault
         ensures value { result ≡ FsFault.Io kind }
         ensures reader { string_bytes self.new.path ≡ string_bytes self.old.path }
-        ensures cause { CountsRefusal result (by_storage self.old.refused)
+        ensures counts { CountsRefusal result (by_storage self.old.refused)
             (by_storage self.new.refused) }
     {
         self.refused = self.refused.saturating_add(1);

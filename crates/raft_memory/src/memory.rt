@@ -36,7 +36,7 @@ impl MemoryFileSystem {
     pub fn new(alloc: Global) -> MemoryFileSystem
         ensures value { memory_directory result ≡ no_files }
         ensures any_moment { memory_moments result ≡ no_files ∷ [] }
-        ensures cause { memory_refusals result ≡ no_refusals }
+        ensures counts { memory_refusals result ≡ no_refusals }
         ensures free { memory_free result ≡ λ _. 2 ^ 64 - 1 }
         ensures metadata { memory_metadata result ≡ λ _. false }
         ensures others { (armed_of result ≡ []) × (stop_of result ≡ None) }
@@ -64,7 +64,7 @@ impl MemoryFileSystem {
         ensures metadata { memory_metadata self.new ≡ memory_metadata self.old }
         ensures unchanged { memory_directory self.new ≡ memory_directory self.old }
         ensures any_moment { memory_moments self.new ≡ memory_moments self.old }
-        ensures cause { memory_refusals self.new ≡ memory_refusals self.old }
+        ensures counts { memory_refusals self.new ≡ memory_refusals self.old }
         ensures others { (armed_of self.new ≡ armed_of self.old)
             × (stop_of self.new ≡ stop_of self.old) }
     {
@@ -81,7 +81,7 @@ impl MemoryFileSystem {
         ensures free { memory_free self.new ≡ memory_free self.old }
         ensures unchanged { memory_directory self.new ≡ memory_directory self.old }
         ensures any_moment { memory_moments self.new ≡ memory_moments self.old }
-        ensures cause { memory_refusals self.new ≡ memory_refusals self.old }
+        ensures counts { memory_refusals self.new ≡ memory_refusals self.old }
         ensures others { (armed_of self.new ≡ armed_of self.old)
             × (stop_of self.new ≡ stop_of self.old) }
     {

@@ -180,7 +180,7 @@ impl MemoryFile {
     pub(crate) fn left(&self, alloc: Global, choice: &Choice) -> Result<Vec<u8>, Fault>
         ensures ok { IfOk result (λ left. left.items ≡ bytes_by_choice choice.now self.now) }
         ensures crash { OnOk result (MayLeave self.now (bytes_by_choice choice.now self.now)) }
-        ensures refused { IfErr result (RefusesUnless
+        ensures cause { IfErr result (RefusesUnless
             (MayLeave self.now (bytes_by_choice choice.now self.now))) }
     {
         match choice {

@@ -46,7 +46,7 @@ impl Namespace {
         ensures ok { OnOk result (namespace_directory self.new
             ≡ after_create path.now (namespace_directory self.old)) }
         ensures err { OnErr result (namespace_directory self.new ≡ namespace_directory self.old) }
-        ensures refused { IfErr result (HasNoPlace (namespace_directory self.old) path.now) }
+        ensures cause { IfErr result (HasNoPlace (namespace_directory self.old) path.now) }
     {
         if self.files.contains_key(path) {
             return Ok(());
@@ -66,7 +66,7 @@ impl Namespace {
         ensures ok { OnOk result (namespace_directory self.new
             ≡ folder_made path.now (namespace_directory self.old)) }
         ensures err { OnErr result (namespace_directory self.new ≡ namespace_directory self.old) }
-        ensures refused { IfErr result (IsBarred (namespace_directory self.old) path.now) }
+        ensures cause { IfErr result (IsBarred (namespace_directory self.old) path.now) }
     {
         if self.has_folder(path) {
             return Ok(());
@@ -97,7 +97,7 @@ impl Namespace {
             (λ f. file_after_write at given.now is_done (overlay f.now at kept.now) f)
             (namespace_directory self.old)) }
         ensures err { OnErr result (namespace_directory self.new ≡ namespace_directory self.old) }
-        ensures refused { IfErr result (IsMissing (namespace_directory self.old) path.now) }
+        ensures cause { IfErr result (IsMissing (namespace_directory self.old) path.now) }
     {
         match self.files.get_mut(path) {
             Some(file) => {
@@ -113,7 +113,7 @@ impl Namespace {
         ensures ok { OnOk result (namespace_directory self.new ≡ update_file path.now
             (λ f. file_after_resize (take size f.now) f) (namespace_directory self.old)) }
         ensures err { OnErr result (namespace_directory self.new ≡ namespace_directory self.old) }
-        ensures refused { IfErr result (IsMissing (namespace_directory self.old) path.now) }
+        ensures cause { IfErr result (IsMissing (namespace_directory self.old) path.now) }
     {
         match self.files.get_mut(path) {
             Some(file) => {
@@ -129,7 +129,7 @@ impl Namespace {
         ensures ok { OnOk result (namespace_directory self.new ≡ update_file path.now
             (λ f. file_after_resize (pad_to f.now size) f) (namespace_directory self.old)) }
         ensures err { OnErr result (namespace_directory self.new ≡ namespace_directory self.old) }
-        ensures refused { IfErr result (IsMissing (namespace_directory self.old) path.now) }
+        ensures cause { IfErr result (IsMissing (namespace_directory self.old) path.now) }
     {
         match self.files.get_mut(path) {
             Some(file) => {
@@ -145,7 +145,7 @@ impl Namespace {
         ensures ok { OnOk result (namespace_directory self.new
             ≡ update_file path.now synced_of (namespace_directory self.old)) }
         ensures err { OnErr result (namespace_directory self.new ≡ namespace_directory self.old) }
-        ensures refused { IfErr result (IsAbsent (namespace_directory self.old) path.now) }
+        ensures cause { IfErr result (IsAbsent (namespace_directory self.old) path.now) }
     {
         match self.files.get_mut(path) {
             Some(file) => {
@@ -159,7 +159,7 @@ impl Namespace {
     pub(crate) fn names(&self, alloc: Global, folder: &str) -> Result<Vec<String>, FsFault>
         ensures value { IfOk result (λ names. map string_bytes names.items
             ≡ names_in folder.now (namespace_directory self.now)) }
-        ensures refused { IfErr result (HasNoFolder (namespace_directory self.now) folder.now) }
+        ensures cause { IfErr result (HasNoFolder (namespace_directory self.now) folder.now) }
     {
         if !self.has_folder(folder) {
             return Err(FsFault::Io(IoKind::NotFound));
@@ -182,7 +182,7 @@ impl Namespace {
         ensures ok { OnOk result (namespace_directory self.new
             ≡ without_file path.now (namespace_directory self.old)) }
         ensures err { OnErr result (namespace_directory self.new ≡ namespace_directory self.old) }
-        ensures refused { IfErr result (IsAbsent (namespace_directory self.old) path.now) }
+        ensures cause { IfErr result (IsAbsent (namespace_directory self.old) path.now) }
     {
         if !self.files.contains_key(path) {
             return Err(FsFault::Io(IoKind::NotFound));
@@ -197,7 +197,7 @@ impl Namespace {
         ensures ok { OnOk result (namespace_directory self.new
             ≡ after_rename from.now to.now (namespace_directory self.old)) }
         ensures err { OnErr result (namespace_directory self.new ≡ namespace_directory self.old) }
-        ensures refused { IfErr result (λ e. IsMissing (namespace_directory self.old) from.now e
+        ensures cause { IfErr result (λ e. IsMissing (namespace_directory self.old) from.now e
             ⊎ HasNoPlace (namespace_directory self.old) to.now e) }
     {
         if from == to {
@@ -217,7 +217,7 @@ impl Namespace {
         ensures ok { OnOk result (namespace_directory self.new
             ≡ update_file path.now renamed_of (namespace_directory self.old)) }
         ensures err { OnErr result (namespace_directory self.new ≡ namespace_directory self.old) }
-        ensures refused { IfErr result (IsAbsent (namespace_directory self.old) path.now) }
+        ensures cause { IfErr result (IsAbsent (namespace_directory self.old) path.now) }
     {
         match self.files.get_mut(path) {
             Some(file) => {
@@ -235,7 +235,7 @@ impl Namespace {
         ensures ok { OnOk result (namespace_directory self.new
             ≡ after_rename from.now to.now (namespace_directory self.old)) }
         ensures err { OnErr result (namespace_directory self.new ≡ namespace_directory self.old) }
-        ensures refused { IfErr result (IsMissing (namespace_directory self.old) from.now) }
+        ensures cause { IfErr result (IsMissing (namespace_directory self.old) from.now) }
     {
         if !self.files.contains_key(from) {
             return Err(FsFault::Io(IoKind::NotFound));

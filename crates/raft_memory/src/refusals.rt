@@ -1,13 +1,13 @@
-//! How often calls on files in memory failed.
+//! How often calls on files failed.
 ghost use Rattle.std.specs.Prelude.{◌≡◌};
 ghost use Rattle.raft_env.specs.Refusal.{CountsRefusal, added_count, no_refusals};
 
 use raft_base::History;
 use raft_env::FsFault;
 
-/// The count for lack of memory is for clauses alone.
+/// Counts of failed calls, by storage and for lack of memory; the second is for clauses alone.
 #[derive(Drop)]
-pub(crate) struct RefusalCount {
+pub struct RefusalCount {
     storage: u64,
     memory: History<()>,
 }
@@ -15,7 +15,7 @@ pub(crate) struct RefusalCount {
 impl RefusalCount {
     ghost use Rattle.raft_memory.specs.Counted.{by_storage, refusals_in};
 
-    pub(crate) fn new() -> RefusalCount
+    pub fn new() -> RefusalCount
         ensures { refusals_in result ≡ no_refusals }
     {
         RefusalCount {
@@ -25,9 +25,9 @@ impl RefusalCount {
     }
 
     /// Counts the refusal, and gives it back.
-    pub(crate) fn count(&mut self, fault: FsFault) -> FsFault
+    pub fn count(&mut self, fault: FsFault) -> FsFault
         ensures value { result ≡ fault }
-        ensures cause { CountsRefusal fault (refusals_in self.old) (refusals_in self.new) }
+        ensures counts { CountsRefusal fault (refusals_in self.old) (refusals_in self.new) }
     {
         match fault {
             FsFault::Io(_) => self.storage = self.storage.saturating_add(1),
@@ -43,7 +43,7 @@ impl RefusalCount {
         self.storage = self.storage.saturating_add(count);
     }
 
-    pub(crate) fn storage(&self) -> u64
+    pub fn storage(&self) -> u64
         ensures { result ≡ (refusals_in self.now).storage }
     {
         self.storage

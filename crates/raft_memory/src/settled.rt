@@ -27,7 +27,7 @@ impl MemoryFileSystem {
         ensures value { IfOk result (λ m. memory_directory m
             ≡ settled_files files.items folders.items) }
         ensures any_moment { IfOk result (λ m. memory_moments m ≡ memory_directory m ∷ []) }
-        ensures cause { IfOk result (λ m. memory_refusals m ≡ no_refusals) }
+        ensures counts { IfOk result (λ m. memory_refusals m ≡ no_refusals) }
         ensures free { IfOk result (λ m. memory_free m ≡ λ _. 2 ^ 64 - 1) }
         ensures metadata { IfOk result (λ m. memory_metadata m ≡ λ _. false) }
         ensures others { IfOk result (λ m. (armed_of m ≡ []) × (stop_of m ≡ None)) }

@@ -32,7 +32,7 @@ impl MemoryFileSystem {
         ensures err { OnErr result (memory_directory self.new ≡ memory_directory self.old) }
         ensures any_moment { MovesBy memory_directory memory_moments
             (IsWriting (string_bytes writer.old.path) at bytes.now) self.old self.new }
-        ensures cause { CountsRefusalOf result (memory_refusals self.old)
+        ensures counts { CountsRefusalOf result (memory_refusals self.old)
             (memory_refusals self.new) }
         ensures others { (armed_of self.new ≡ armed_of self.old)
             × (stop_of self.new ≡ stop_of self.old) }

@@ -3,9 +3,9 @@
 use raft_env::{FileSystem, FsFault, Permission};
 use raft_log_engine::{Config, Engine, Image, RecoveryMode, Refused};
 use raft_memory::MemoryFileSystem;
-use raft_plans::{Left, MAX_FILES, Plan, choices_of, ops_of, settings};
 use raft_records::Fault;
 use raft_script::run;
+use raft_test_rows::{Left, MAX_FILES, Plan, choices_of, ops_of, settings};
 use std::alloc::{AllocError, Global};
 use std::test::Fail;
 use std::thread::Threads;

@@ -6,8 +6,8 @@ use crate::openings::{
 };
 use raft_env::{FileSystem, IoKind};
 use raft_memory::{FsCall, MemoryFileSystem};
-use raft_plans::{Change, EXPIRED, Left, OPERATIONS, PURGES, Plan};
 use raft_records::Fault;
+use raft_test_rows::{Change, EXPIRED, Left, OPERATIONS, PURGES, Plan};
 use std::alloc::Global;
 use std::process::Abort;
 use std::test::Fail;

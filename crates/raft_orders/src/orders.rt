@@ -217,7 +217,7 @@ pub fn ordered_files(
     ensures value { IfOk result (λ m. mirror_directory m
         ≡ settled_files files.items folders.items) }
     ensures any_moment { IfOk result (λ m. mirror_moments m ≡ mirror_directory m ∷ []) }
-    ensures cause { IfOk result (λ m. mirror_refusals m ≡ no_refusals) }
+    ensures counts { IfOk result (λ m. mirror_refusals m ≡ no_refusals) }
 {
     let image = MemoryFileSystem::settled(alloc, files, folders)?;
     Ok(Mirror::new(alloc, Orders::new(alloc, out, &image), image))

@@ -19,9 +19,10 @@ use Rattle.raft_files.proofs.RecordReaderLemmas.{next_accepted, next_refused, re
 use Rattle.raft_files.proofs.ScanExtentLemmas.{same_some}
 use Rattle.raft_files.proofs.ScanLemmas.{found_record, reading_after_header}
 use Rattle.raft_files.proofs.ScanPlacedLemmas.{first_placed}
-use Rattle.raft_pipes.specs.LogFile.{IsDamage, IsOpenableLog, have_places}
-use Rattle.raft_pipes.specs.Open.{EndsScan}
-use Rattle.raft_pipes.proofs.OpenReplayLemmas.{IsReplaying, ends_in_broken, next_is_read, replay_continues, stuck_at_record, stuck_damaged, stuck_in_broken}
+use Rattle.raft_opening.specs.LogFile.{IsDamage}
+use Rattle.raft_pipes.specs.LogFile.{IsOpenableLog, have_places}
+use Rattle.raft_opening.specs.Open.{EndsScan}
+use Rattle.raft_opening.proofs.OpenReplayLemmas.{IsReplaying, ends_in_broken, next_is_read, replay_continues, stuck_at_record, stuck_damaged, stuck_in_broken}
 use Rattle.raft_dump.specs.Check.{EndsReading, IsReadFrom, IsReadIn, planned_stop, records_read}
 use Rattle.raft_dump.specs.declared.check.FileCheck.{FileCheck}
 use Rattle.raft_dump.specs.declared.plan.Planned.{Planned}

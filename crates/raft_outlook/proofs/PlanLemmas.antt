@@ -8,7 +8,8 @@ use Rattle.raft_env.specs.Directory.{Path}
 use Rattle.raft_config.specs.Recovery.{tolerates_corruption}
 use Rattle.raft_config.specs.declared.config.RecoveryMode.{RecoveryMode}
 use Rattle.raft_files.specs.Header.{header_of}
-use Rattle.raft_pipes.specs.Files.{EachFile, HasDamageAmong, IsOpenableFile, is_last}
+use Rattle.raft_pipes.specs.Files.{EachFile, IsOpenableFile, is_last}
+use Rattle.raft_opening.specs.Files.{HasDamageAmong}
 use Rattle.raft_pipes.specs.Numbered.{in_queue}
 use Rattle.raft_dump.specs.Check.{plan_of, planned_stop}
 use Rattle.raft_dump.specs.declared.check.FileCheck.{FileCheck}

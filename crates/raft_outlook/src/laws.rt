@@ -4,7 +4,8 @@ ghost use Rattle.raft_base.specs.declared.errors.Fault.{Fault};
 ghost use Rattle.raft_base.specs.declared.pipe_log.LogQueue.{LogQueue};
 ghost use Rattle.raft_env.specs.Directory.{Directory, Path};
 ghost use Rattle.raft_config.specs.declared.config.RecoveryMode.{RecoveryMode};
-ghost use Rattle.raft_pipes.specs.Files.{EachFile, HasDamageAmong, IsOpenableFile};
+ghost use Rattle.raft_pipes.specs.Files.{EachFile, IsOpenableFile};
+ghost use Rattle.raft_opening.specs.Files.{HasDamageAmong};
 ghost use Rattle.raft_pipes.specs.Numbered.{kept_files, paths_of};
 ghost use Rattle.raft_dump.specs.Check.{AreLastToRise, plan_of};
 ghost use Rattle.raft_dump.specs.declared.check.FileCheck.{FileCheck};
@@ -15,7 +16,7 @@ ghost use Rattle.raft_outlook.specs.Passed.{AreAllOf, IsDoubledAt, numbers_in};
 /// Of files of a queue, by the bytes at their paths, and what a check tells of each: where no file is planned to fail,
 /// an opening finds no damage in them (`opens`), and it finds them as planned (`read`); where one is planned to fail, it
 /// finds damage (`fails`); and where it finds damage, one is planned to fail (`refused`). What an opening finds is what
-/// `raft_pipes` says of `read_files`: `IsOpenableFile` of each with `Ok`, `HasDamageAmong` where it is refused for what
+/// `raft_opening` says of `read_files`: `IsOpenableFile` of each with `Ok`, `HasDamageAmong` where it is refused for what
 /// the files hold.
 pub fn a_plan_is_what_an_opening_does()
     ensures opens { (mode : RecoveryMode) (queue : LogQueue) (bytes : Path → List ℕ)

@@ -1,13 +1,13 @@
 //! Folders of log files: a check tells what an opening does with them.
 
 use crate::cases::{BROKEN, Case, FOLDERS, HEADERS, MISSING, QUEUES, READABLE, TWO_FILES, Wanted};
-use crate::files::fill;
 use raft_dump::Planned;
 use raft_env::{FileSystem, FsFault, Permission};
 use raft_inspect::{Outlook, QueueFiles, inspect};
 use raft_log_engine::{Config, Engine, RecoveryMode};
 use raft_memory::MemoryFileSystem;
 use raft_records::{Fault, Fresh, LogQueue};
+use raft_rows::fill;
 use std::alloc::Global;
 use std::test::Fail;
 

@@ -1,10 +1,11 @@
 //! What a check tells of folders, and what an opening does with them.
 
 use crate::files::{
-    BROKEN_ENTRY, BYTE, CHANGED, COMPRESSED, ENTRY, FileParts, NO_HEADER, NO_VERSION, NOTHING, PUT,
-    PUTS, SHORT, SIGNED_1, SIGNED_2, TORN, V1, V2, V3, ZEROS,
+    BROKEN_ENTRY, BYTE, CHANGED, COMPRESSED, ENTRY, NO_HEADER, NO_VERSION, SHORT, SIGNED_1,
+    SIGNED_2, TORN, V1, V2, V3,
 };
 use Wanted::Opens;
+use raft_rows::{FileParts, NOTHING, PUT, PUTS, ZEROS};
 
 /// What an opening does: it fails, or it cuts so many files, and off them so many bytes that may have
 /// told something; and so many zeros, and so many bytes of earlier files.

@@ -27,7 +27,7 @@ pub fn check_parts<S: PartSource>(
 ) -> Result<FileCheck, Fault>
     ensures value { IfOk result (λ c. (bytes : List ℕ) → length bytes ≡ size
         → AreOf bytes (S.given source.new) → IsCheckOf file.now.id bytes c) }
-    ensures refused { IfErr result IsReadRefusal }
+    ensures cause { IfErr result IsReadRefusal }
 {
     let mut check = read_parts(alloc, file, size, source)?;
     check.zeros = has_zeros(alloc, file.path.as_str(), check.end, size, source)?;
@@ -44,7 +44,7 @@ fn read_parts<S: PartSource>(
 ) -> Result<FileCheck, Fault>
     ensures value { IfOk result (λ c. (bytes : List ℕ) → length bytes ≡ size
         → AreOf bytes (S.given source.new) → IsReadingOf file.now.id bytes c) }
-    ensures refused { IfErr result IsReadRefusal }
+    ensures cause { IfErr result IsReadRefusal }
 {
     let front = source.read_part(0, LogFileFormat::max_encoded_len())?;
     let Ok(format) = LogFileFormat::decode(&mut front.bytes.as_slice()) else {
@@ -87,7 +87,7 @@ fn check_whole<S: PartSource>(
         → AreOf bytes (S.given source.new) → IsReadingOf file.now.id bytes c) }
     ensures given { IfOk result (λ _. (bytes : List ℕ) → AreOf bytes (S.given source.new)
         → AreOf bytes (S.given source.old)) }
-    ensures refused { IfErr result IsReadRefusal }
+    ensures cause { IfErr result IsReadRefusal }
 {
     let part = read_whole_part(alloc, file.path.as_str(), source, 0, size)?;
     check_part(alloc, file, &[], &part.bytes)
@@ -96,7 +96,7 @@ fn check_whole<S: PartSource>(
 // What can be read of a part behind the header.
 fn check_part(alloc: Global, file: &LogFile, header: &[u8], part: &[u8]) -> Result<FileCheck, Fault>
     ensures value { IfOk result (IsCheckOf file.now.id (header.now ++ part.now)) }
-    ensures refused { IfErr result IsReadRefusal }
+    ensures cause { IfErr result IsReadRefusal }
 {
     let mut image = image_of_part(alloc, file.path.as_str(), header, part)?;
     check_file(alloc, file, &mut image)
@@ -117,7 +117,7 @@ fn read_records<S: PartSource>(
         → IsReadingOf file.now.id bytes c) }
     ensures given { OnOk result ((bytes : List ℕ) → AreOf bytes (S.given source.new)
         → AreOf bytes (S.given source.old)) }
-    ensures refused { IfErr result IsReadRefusal }
+    ensures cause { IfErr result IsReadRefusal }
 {
     let mut check = FileCheck {
         id: file.id,
@@ -172,7 +172,7 @@ fn has_zeros<S: PartSource>(
         → zeros ≡ list_all (λ b. b == 0) (drop from bytes)) }
     ensures given { IfOk result (λ _. (bytes : List ℕ) → AreOf bytes (S.given source.new)
         → AreOf bytes (S.given source.old)) }
-    ensures refused { IfErr result IsReadRefusal }
+    ensures cause { IfErr result IsReadRefusal }
 {
     let mut at = from;
     'parts: while at < size {
@@ -199,7 +199,7 @@ fn is_stale<S: PartSource>(alloc: Global, check: &FileCheck, source: &mut S) -> 
         → HasStaleRecord check.now.id (take stale_len (drop check.now.end bytes))) }
     ensures given { IfOk result (λ _. (bytes : List ℕ) → AreOf bytes (S.given source.new)
         → AreOf bytes (S.given source.old)) }
-    ensures refused { IfErr result IsReadRefusal }
+    ensures cause { IfErr result IsReadRefusal }
 {
     if !check.may_be_stale() {
         return Ok(false);

@@ -53,7 +53,7 @@ impl LogFileParts {
     ) -> Result<LogFileParts, Fault>
         ensures value { IfOk result (λ p. (bytes : List ℕ) → length bytes ≡ size
             → AreOf bytes (S.given source.new) → p ≡ begun_with bytes (header_of bytes)) }
-        ensures refused { IfErr result IsReadRefusal }
+        ensures cause { IfErr result IsReadRefusal }
     {
         let longest = LogFileFormat::max_encoded_len();
         let front = source.read_part(0, longest)?;
@@ -100,7 +100,7 @@ impl LogFileParts {
         ensures part { OnOk result ((bytes : List ℕ) → AreOf bytes (S.given source.new)
             → self.new.part ≡ take self.old.len (drop self.old.at bytes)) }
         ensures stands { self.new ≡ record self.old { part = self.new.part } }
-        ensures refused { IfErr result IsReadRefusal }
+        ensures cause { IfErr result IsReadRefusal }
     {
         self.part = read_whole_part(alloc, path, source, self.at, self.len)?.bytes;
         image_of_part(alloc, path, &self.header, &self.part)

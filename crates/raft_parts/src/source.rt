@@ -28,7 +28,7 @@ pub trait PartSource {
         ensures value { IfOk result (λ part. (part.at ≡ at) × (part.len ≡ len)) }
         ensures ok { IfOk result (λ part. given self.new ≡ part ∷ given self.old) }
         ensures err { OnErr result (given self.new ≡ given self.old) }
-        ensures refused { IfErr result IsReadRefusal };
+        ensures cause { IfErr result IsReadRefusal };
 }
 
 /// Exactly so many bytes from a place on. It fails as `Io` where the file ends before, as where it
@@ -43,7 +43,7 @@ pub fn read_whole_part<S: PartSource>(
     ensures value { IfOk result (λ part. (part.at ≡ at) × (part.len ≡ len)
         × (length part.bytes.items ≡ len)) }
     ensures ok { IfOk result (λ part. S.given source.new ≡ part ∷ S.given source.old) }
-    ensures refused { IfErr result IsReadRefusal }
+    ensures cause { IfErr result IsReadRefusal }
 {
     let part = source.read_part(at, len)?;
     if part.bytes.len() == len {

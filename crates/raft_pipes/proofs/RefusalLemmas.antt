@@ -17,7 +17,7 @@ use Rattle.raft_pipes.specs.Pipe.{IsAppendRefusalOf, IsChangeRefusal}
 use Rattle.raft_pipes.specs.PipeState.{IsNextPath, PipeState, WritesSameFile, last_seq}
 use Rattle.raft_pipes.specs.Rotation.{IsBeginRefusal, IsNextRefusal, IsRotationRefusal}
 use Rattle.raft_pipes.specs.declared.pipe.AppendFault.{AppendFault}
-use Rattle.raft_pipes.proofs.KeepsLogLemmas.{stands_opening}
+use Rattle.raft_pipes.proofs.PlacesLemmas.{stands_opening}
 
 -- A next file is begun.
 

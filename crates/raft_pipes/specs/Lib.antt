@@ -8,15 +8,11 @@ pub mod Files
 pub mod Folder
 pub mod Listing
 pub mod LogFile
-pub mod Metadata
 pub mod Numbered
-pub mod Open
-pub mod OpenedLogs
 pub mod Pipe
 pub mod Queue
 pub mod QueueFiles
 pub mod PipeState
-pub mod Prefill
 pub mod Purge
 pub mod Read
 pub mod Refused

@@ -1,8 +1,8 @@
 //! The hook: which file isn't ready for a purge.
 
-use crate::rows::{Row, each_holds};
 use raft_base::Fault;
 use raft_listeners::PurgeHook;
+use raft_rows::{Row, each_holds};
 use std::alloc::Global;
 use std::test::Fail;
 

@@ -9,6 +9,4 @@ mod listeners;
 #[cfg(test)]
 mod plans;
 #[cfg(test)]
-mod rows;
-#[cfg(test)]
 mod rules;

@@ -1,9 +1,9 @@
 //! Plans of purges in a row: which groups are asked for, and which are rewritten.
 
-use crate::rows::{Row, each_holds};
 use raft_base::{FileBlockHandle, FileId, LogQueue};
 use raft_purge_rules::{Needs, Rounds, Watermarks, plan_purge};
 use raft_records::{EntryIndex, Fault, LogItem, LogItemContent};
+use raft_rows::{Row, each_holds};
 use raft_tables::{GlobalStats, MemTables};
 use std::alloc::{AllocError, Global};
 use std::mem;

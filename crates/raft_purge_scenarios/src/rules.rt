@@ -1,11 +1,11 @@
 //! Watermarks, and when a queue needs a rewriting.
 
-use crate::rows::{Row, each_holds};
 use raft_base::{Fault, ReadableSize};
 use raft_purge_rules::{
     QueueUse, RewrittenEntries, append_needs_rewrite, compact_watermark, rewrite_needs_rewrite,
     rewrite_watermark,
 };
+use raft_rows::{Row, each_holds};
 use std::alloc::Global;
 use std::test::Fail;
 

@@ -1,6 +1,6 @@
 //! Batches of both queues, those of the Append queue in chunks.
 
-use raft_pipes::ReplayMachine;
+use raft_opening::ReplayMachine;
 use raft_records::{
     Command, EntryIndex, Fault, FileId, KeyValue, LogItem, LogItemContent, LogQueue,
 };

@@ -5,7 +5,7 @@ use crate::rows::{Rows, each_holds};
 use crate::stories::{Step, Story};
 use raft_env::IoKind;
 use raft_memory::FsCall;
-use raft_plans::{Answer, EMPTY, Left, Plan, State};
+use raft_test_rows::{Answer, EMPTY, Left, Plan, State};
 use std::test::Fail;
 
 const FIRST: State = State { a: 1, ..EMPTY };

@@ -6,9 +6,9 @@ use crate::stories::{Step, Story};
 use raft_env::{FileSystem, IoKind};
 use raft_log_engine::Engine;
 use raft_memory::FsCall;
-use raft_plans::{Answer, Plan, first_refused};
 use raft_records::Fault;
 use raft_script::{Act, Op, run};
+use raft_test_rows::{Answer, Plan, first_refused};
 use std::alloc::{AllocError, Global};
 use std::test::Fail;
 

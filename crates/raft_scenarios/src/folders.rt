@@ -4,7 +4,7 @@ use crate::held::{Faulty, Held};
 use crate::rows::{Rows, Wrong, each_holds};
 use crate::stored::{FIRST_REWRITE, HEADER_1, HEADER_2, HEADER_MOVED, Stored};
 use raft_log_engine::RecoveryMode;
-use raft_plans::{EMPTY, State};
+use raft_test_rows::{EMPTY, State};
 use std::alloc::Global;
 use std::test::Fail;
 

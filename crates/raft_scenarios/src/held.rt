@@ -5,8 +5,8 @@ use crate::stored::{Stored, are_stored, settings_in, settings_to, settings_with,
 use raft_env::{FileSystem, IoKind};
 use raft_log_engine::{Config, Engine, RecoveryMode, Refused};
 use raft_memory::{FsCall, MemoryFileSystem};
-use raft_plans::{Left, MAX_FILES, State, choices_of, state_of};
 use raft_records::Fault;
+use raft_test_rows::{Left, MAX_FILES, State, choices_of, state_of};
 use std::alloc::Global;
 use std::mem;
 

@@ -7,7 +7,7 @@ use crate::rows::{Rows, each_holds};
 use crate::stories::{Step, Story};
 use raft_env::IoKind;
 use raft_memory::FsCall;
-use raft_plans::{Answer, Change, Plan};
+use raft_test_rows::{Answer, Change, Plan};
 use std::test::Fail;
 
 /// The next read of a file fails.

@@ -3,7 +3,7 @@
 use crate::folders::{ABSOLUTE, ANY, Folder, Opening, TAIL};
 use crate::rows::{Rows, each_holds};
 use crate::stored::{HEADER_1, HEADER_2, HEADER_MOVED};
-use raft_plans::{EMPTY, State};
+use raft_test_rows::{EMPTY, State};
 use std::test::Fail;
 
 const LOG: &str = "raft/0000000000000001.raftlog";

@@ -6,7 +6,7 @@ use crate::rows::{Rows, each_holds};
 use crate::stories::{Step, Story};
 use raft_env::IoKind;
 use raft_memory::FsCall;
-use raft_plans::{Answer, Change, Left, Plan};
+use raft_test_rows::{Answer, Change, Left, Plan};
 use std::test::Fail;
 
 const KEYS: &[Step] = &[Step::Run(

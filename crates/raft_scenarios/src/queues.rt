@@ -2,7 +2,7 @@
 
 use crate::rows::{Rows, each_holds};
 use crate::stories::{Step, Story};
-use raft_plans::{Answer, Change, Left, Plan};
+use raft_test_rows::{Answer, Change, Left, Plan};
 use std::test::Fail;
 
 /// Two entries with this word, or two values of so many bytes, fill a file of 1 KB.

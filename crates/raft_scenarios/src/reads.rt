@@ -4,8 +4,8 @@ use crate::rows::{Rows, each_holds};
 use crate::stories::{Step, Story};
 use raft_env::FileSystem;
 use raft_log_engine::Engine;
-use raft_plans::{Answer, Change, Plan};
 use raft_script::TextEntry;
+use raft_test_rows::{Answer, Change, Plan};
 use std::alloc::Global;
 use std::test::Fail;
 

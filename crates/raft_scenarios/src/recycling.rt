@@ -7,8 +7,8 @@ use crate::stories::{Step, Story};
 use raft_env::{FileSystem, FsFault, IoKind, Permission};
 use raft_log_engine::Config;
 use raft_memory::FsCall;
-use raft_plans::{Answer, Change, Left, Plan, settings};
 use raft_records::{ReadableSize, Version};
+use raft_test_rows::{Answer, Change, Left, Plan, settings};
 use std::alloc::{AllocError, Global};
 use std::test::Fail;
 

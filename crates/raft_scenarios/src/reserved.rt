@@ -8,7 +8,7 @@ use crate::stored::{HEADER_2, Stored};
 use crate::stories::{Step, Story};
 use raft_env::IoKind;
 use raft_memory::FsCall;
-use raft_plans::{Answer, Change, Left, Plan};
+use raft_test_rows::{Answer, Change, Left, Plan};
 use std::test::Fail;
 
 const LOG_1: &str = "raft/0000000000000001.raftlog";

@@ -9,8 +9,8 @@ use crate::stored::{HEADER_2, HEADER_MOVED, Stored};
 use raft_env::IoKind;
 use raft_log_engine::RecoveryMode;
 use raft_memory::FsCall;
-use raft_plans::Left;
 use raft_records::Fault;
+use raft_test_rows::Left;
 use std::alloc::Global;
 use std::test::Fail;
 

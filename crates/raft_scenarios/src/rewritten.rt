@@ -3,7 +3,7 @@
 use crate::folders::{ABSOLUTE, ALL, ANY, Folder, LOG_1, Opening, PUT_2, TAIL};
 use crate::rows::{Rows, each_holds};
 use crate::stored::{HEADER_2, Stored};
-use raft_plans::State;
+use raft_test_rows::State;
 use std::test::Fail;
 
 // The records below were made by Python's struct and zlib, for file 1 in version 2.

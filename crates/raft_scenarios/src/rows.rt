@@ -6,7 +6,7 @@ use crate::restarts::{Calls, wrong_call};
 use crate::spilled::{Spilled, wrong_spill};
 use crate::stories::{Story, wrong_story};
 use raft_memory::MemoryFileSystem;
-use raft_plans::Left;
+use raft_test_rows::Left;
 use std::alloc::Global;
 use std::process::Abort;
 use std::test::Fail;

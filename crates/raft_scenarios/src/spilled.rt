@@ -9,7 +9,7 @@ use crate::rewritten::REWRITTEN;
 use crate::rows::{Rows, Wrong, each_holds};
 use crate::stored::{FIRST_REWRITE, HEADER_2, Stored};
 use crate::stories::{Step, Story};
-use raft_plans::{Answer, Change, EMPTY, Left, Plan, State};
+use raft_test_rows::{Answer, Change, EMPTY, Left, Plan, State};
 use std::alloc::Global;
 use std::test::Fail;
 

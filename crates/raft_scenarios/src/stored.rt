@@ -2,8 +2,8 @@
 
 use raft_env::{FileSystem, FsFault, Permission};
 use raft_log_engine::{Config, RecoveryMode};
-use raft_plans::settings;
 use raft_records::ReadableSize;
+use raft_test_rows::settings;
 use std::alloc::{AllocError, Global};
 
 pub(crate) const HEADER_1: &[u8] =

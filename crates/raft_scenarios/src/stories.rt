@@ -11,9 +11,9 @@ use crate::spilled::{SPILL, store};
 use crate::stored::Stored;
 use raft_env::FileSystem;
 use raft_log_engine::Engine;
-use raft_plans::{Answer, Left, Plan, State, are_answers, first_refused, ops_of};
 use raft_records::{Fault, LogBatch, LogQueue};
 use raft_script::{TextEntry, run};
+use raft_test_rows::{Answer, Left, Plan, State, are_answers, first_refused, ops_of};
 use std::alloc::Global;
 
 pub(crate) enum Step {

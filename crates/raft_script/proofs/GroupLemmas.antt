@@ -20,9 +20,9 @@ use Rattle.raft_records.specs.Item.{Batch}
 use Rattle.raft_log_engine.specs.Cause as engine
 use Rattle.raft_pipes.specs.PipeState.{HasLastNumber, PipeState}
 use Rattle.raft_log_engine.specs.Durability.{Progresses, durability_of}
-use Rattle.raft_log_engine.specs.Engine.{contents_of, directory_of, durable_of, folders_of, has_failed, moments_of, queue_of, refusals_of, unsynced_of}
+use Rattle.raft_log_engine.specs.Engine.{contents_of, directory_of, durable_of, folders_of, has_failed, moments_of, queue_of, refusals_of, target_size_of, unsynced_of}
 use Rattle.raft_log_engine.specs.Group as group
-use Rattle.raft_log_engine.specs.Group.{AreGroupAnswers, FailsWithChoice, HasWrittenGroup, LeavesChoice, accepted_in, chosen_of, items_of}
+use Rattle.raft_log_engine.specs.Group.{AreGroupAnswers, FailsWithChoice, GroupState, HasWrittenGroup, LeavesChoice, accepted_in, chosen_of, group_state_of, items_of}
 use Rattle.raft_log_engine.specs.declared.engine.Engine.{Engine}
 use Rattle.raft_script.specs.Durability.{Does, LeavesInFlight}
 use Rattle.raft_script.specs.Batches.{Part, batch_of_acts, batches_of_parts, group_batches, of_both}
@@ -121,12 +121,12 @@ module _ (folders : Folders) (p : PipeState) (fails : Bool) (stands : fails ≡ 
   batch_refusal_of m batch old new fault.Memory h = h.0
   batch_refusal_of m batch old new _ h = absurd h.1
 
-  batch_answers : (old new : Refusals) (m : Contents) (batches : List Batch) (answers : List (Result ℕ Fault)) → AreGroupAnswers folders p old new m batches answers → AreBatchAnswers (NoneLeft fails p) m batches answers
-  batch_answers old new m [] [] are = tt
-  batch_answers old new m [] (a ∷ answers) are = absurd are
-  batch_answers old new m (b ∷ batches) [] are = absurd are
-  batch_answers old new m (b ∷ batches) (Ok len ∷ answers) are = (are.0, are.1, batch_answers old new (after_batch m b) batches answers are.2)
-  batch_answers old new m (b ∷ batches) (Err e ∷ answers) are = (batch_refusal_of m b old are.0 e are.1, batch_answers are.0 new m batches answers are.3)
+  batch_answers : (target_size : ℕ) (m : Contents) (batches : List Batch) (answers : List (Result ℕ Fault)) (s s' : GroupState) → AreGroupAnswers target_size folders p m batches answers s s' → AreBatchAnswers (NoneLeft fails p) m batches answers
+  batch_answers target_size m [] [] s s' are = tt
+  batch_answers target_size m [] (a ∷ answers) s s' are = absurd are
+  batch_answers target_size m (b ∷ batches) [] s s' are = absurd are
+  batch_answers target_size m (b ∷ batches) (Ok len ∷ answers) s s' are = (are.1.valid, are.1.len_is, batch_answers target_size (after_batch m b) batches answers are.0 s' are.2)
+  batch_answers target_size m (b ∷ batches) (Err e ∷ answers) s s' are = (batch_refusal_of m b s.refusals are.0.refusals e are.1.cause, batch_answers target_size m batches answers are.0 s' are.2)
 
 -- storage's count rose by as many as it refused
 refused_rose : (folders : Folders) (p : PipeState) (m : Contents) (batch : Batch) (old new : Refusals) (e : Fault) → engine.IsWriteRefusal folders p m batch false old new e → is_io {T = ℕ} (Err e) ≡ true → StorageRefusalsRose old new
@@ -138,16 +138,16 @@ more_rose : (io : Bool) (n : ℕ) (old mid new : Refusals) → NoFewer old mid �
 more_rose true n old mid new counts rose more = let one = rose refl in omega (arith, one, more)
 more_rose false n old mid new counts rose more = omega (arith, counts.0, more)
 
-batches_rose : (folders : Folders) (p : PipeState) (old new : Refusals) (m : Contents) (batches : List Batch) (answers : List (Result ℕ Fault)) → AreGroupAnswers folders p old new m batches answers → StorageRefusalsRoseBy (count_by is_io answers) old new
-batches_rose folders p old new m [] [] are = omega (arith, are.0)
-batches_rose folders p old new m [] (a ∷ answers) are = absurd are
-batches_rose folders p old new m (b ∷ batches) [] are = absurd are
-batches_rose folders p old new m (b ∷ batches) (Ok len ∷ answers) are =
-    subst (λ (n : ℕ). StorageRefusalsRoseBy n old new) (sym (sum_by-append (λ (r : Result ℕ Fault). cond (is_io r) 1 0) (Ok len ∷ []) answers))
-    (more_rose false (count_by is_io answers) old old new (omega arith, omega arith) (λ io. absurd (let clash = io in cc)) (batches_rose folders p old new (after_batch m b) batches answers are.2))
-batches_rose folders p old new m (b ∷ batches) (Err e ∷ answers) are =
-    subst (λ (n : ℕ). StorageRefusalsRoseBy n old new) (sym (sum_by-append (λ (r : Result ℕ Fault). cond (is_io r) 1 0) (Err e ∷ []) answers))
-    (more_rose (is_io {T = ℕ} (Err e)) (count_by is_io answers) old are.0 new are.2 (refused_rose folders p m b old are.0 e are.1) (batches_rose folders p are.0 new m batches answers are.3))
+batches_rose : (target_size : ℕ) (folders : Folders) (p : PipeState) (m : Contents) (batches : List Batch) (answers : List (Result ℕ Fault)) (s s' : GroupState) → AreGroupAnswers target_size folders p m batches answers s s' → StorageRefusalsRoseBy (count_by is_io answers) s.refusals s'.refusals
+batches_rose target_size folders p m [] [] s s' are = omega (arith, ap (λ (x : GroupState). x.refusals.storage) are)
+batches_rose target_size folders p m [] (a ∷ answers) s s' are = absurd are
+batches_rose target_size folders p m (b ∷ batches) [] s s' are = absurd are
+batches_rose target_size folders p m (b ∷ batches) (Ok len ∷ answers) s s' are =
+    subst (λ (n : ℕ). StorageRefusalsRoseBy n s.refusals s'.refusals) (sym (sum_by-append (λ (r : Result ℕ Fault). cond (is_io r) 1 0) (Ok len ∷ []) answers))
+    (more_rose false (count_by is_io answers) s.refusals are.0.refusals s'.refusals are.1.counts (λ io. absurd (let clash = io in cc)) (batches_rose target_size folders p (after_batch m b) batches answers are.0 s' are.2))
+batches_rose target_size folders p m (b ∷ batches) (Err e ∷ answers) s s' are =
+    subst (λ (n : ℕ). StorageRefusalsRoseBy n s.refusals s'.refusals) (sym (sum_by-append (λ (r : Result ℕ Fault). cond (is_io r) 1 0) (Err e ∷ []) answers))
+    (more_rose (is_io {T = ℕ} (Err e)) (count_by is_io answers) s.refusals are.0.refusals s'.refusals are.1.counts (refused_rose folders p m b s.refusals are.0.refusals e are.1.cause) (batches_rose target_size folders p m batches answers are.0 s' are.2))
 
 -- an engine's write of the batches is answered as the operation
 module _ {F H R W : Type 0} {g : Ghosts F H R W} (parts : Vec Part Global) (views after : List BatchView) (flags : List Bool) (old new : Engine F H R W g) (built : batches_of_parts parts.items ≡ Some (items_of views)) (flags_are : flags ≡ map (λ (part : Part). part.1) parts.items) where
@@ -158,7 +158,7 @@ module _ {F H R W : Type 0} {g : Ghosts F H R W} (parts : Vec Part Global) (view
   IsCause result = IfErr result (group.IsGroupRefusal (folders_of old) (length views) (length flags) (has_failed old) (has_failed new) (refusals_of old) (refusals_of new))
 
   abbrev pub IsOk : Result (Vec (Result ℕ Fault) Global) Fault → Type 0
-  IsOk result = IfOk result (λ answers. HasWrittenGroup batches (items_of after) old new answers.items)
+  IsOk result = IfOk result (λ answers. HasWrittenGroup (list_any (λ (flag : Bool). flag) flags) batches (items_of after) old new answers.items)
 
   group_is : group_batches parts.items ≡ batches
   group_is = ap (λ (o : Option (List Batch)). unwrap_or o []) built
@@ -181,7 +181,7 @@ module _ {F H R W : Type 0} {g : Ghosts F H R W} (parts : Vec Part Global) (view
     | inl gone ↦ absurd (same_failure answers (failed gone))
     | inr stands ↦
         subst (λ (o : Option (List Batch)). IsSomeAnd o (λ l. AreBatchAnswers (NoneLeft (has_failed new) (queue_of new)) m l answers.items)) (sym built)
-        (subst (λ (c : Contents). AreBatchAnswers (NoneLeft (has_failed new) (queue_of new)) c batches answers.items) (sym (same stands)) (batch_answers (folders_of old) (queue_of new) (has_failed new) ok.stands (refusals_of old) (refusals_of new) (contents_of old) batches answers.items ok.answered))
+        (subst (λ (c : Contents). AreBatchAnswers (NoneLeft (has_failed new) (queue_of new)) c batches answers.items) (sym (same stands)) (batch_answers (folders_of old) (queue_of new) (has_failed new) ok.stands (target_size_of old) (contents_of old) batches answers.items (group_state_of old) ok.written ok.answered))
   ]
   group_answered m same (Err e) ok failed cause = by_fault e cause
     where
@@ -217,7 +217,9 @@ module _ {F H R W : Type 0} {g : Ghosts F H R W} (parts : Vec Part Global) (view
       caused (Err e) ok cause alive fails = by_fault e cause alive
 
   pub group_refuses : (result : Result (Vec (Result ℕ Fault) Global) Fault) → IsOk result → IsCause result → NoFewer (refusals_of old) (refusals_of new) → Refuses (Sizes result) (refusals_of old) (refusals_of new)
-  group_refuses (Ok answers) ok cause counts = (counts, batches_rose (folders_of old) (queue_of new) (refusals_of old) (refusals_of new) (contents_of old) batches answers.items ok.answered)
+  group_refuses (Ok answers) ok cause counts =
+      let rose = batches_rose (target_size_of old) (folders_of old) (queue_of new) (contents_of old) batches answers.items (group_state_of old) ok.written ok.answered in
+      (counts, omega (arith, rose, ok.counts.0))
   group_refuses (Err (fault.Io kind path)) ok cause counts = (counts, λ io. cause.3.0)
   group_refuses (Err fault.TryAgain) ok cause counts = absurd cause.2
   group_refuses (Err _) ok cause counts = (counts, λ io. absurd (let clash = io in cc))

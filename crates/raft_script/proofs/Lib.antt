@@ -6,4 +6,5 @@ pub mod ProgressLemmas
 pub mod StepsLemmas
 pub mod RunLemmas
 pub mod TrialLemmas
+pub mod PassedLemmas
 pub mod PurgesLemmas

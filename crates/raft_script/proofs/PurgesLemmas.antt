@@ -1,5 +1,5 @@
 -- What purges leave of an engine's queues.
-use Rattle.std.proofs.Common.{◌≡◌, ◌+◌, ◌-◌, ◌^◌, ◌++◌, ◌∷◌, ℕ, List, [], Option, arith, length, refl, subst, sym}
+use Rattle.std.proofs.Common.{◌≡◌, ◌+◌, ◌-◌, ◌^◌, ℕ, Option}
 use Rattle.std.specs.Prelude.{IfOk, OnOk, Result, Ok, Err, Vec}
 use Rattle.std.specs.declared.alloc.Global.{Global}
 use Rattle.raft_base.specs.declared.errors.Fault.{Fault}
@@ -9,10 +9,8 @@ use Rattle.raft_log_engine.specs.Engine.{has_groups_together, queue_of, rewrite_
 use Rattle.raft_log_engine.specs.Expired.{HasPurgedExpired}
 use Rattle.raft_log_engine.specs.Purge.{HasDroppedStale, HasRenewed, tables_in}
 use Rattle.raft_log_engine.specs.declared.engine.Engine.{Engine}
-use Rattle.raft_script.specs.Purges.{HasPurgedAs, HavePurgedAs}
-use Rattle.raft_script.specs.declared.operation.Op.{Op}
+use Rattle.raft_script.specs.Purges.{HasPurgedAs}
 use Rattle.raft_script.specs.declared.operation.Op.TheVariants.{RewriteAppend, RewriteRewrite, PurgeStale, Purge}
-use Rattle.raft_script.specs.declared.operation.Outcome.{Outcome}
 use Rattle.raft_script.specs.declared.operation.Outcome.TheVariants.{Dropped, ToCompact}
 
 module _ {F H R W : Type 0} {g : Ghosts F H R W} where
@@ -31,10 +29,3 @@ module _ {F H R W : Type 0} {g : Ghosts F H R W} where
   pub purged_expired : (r : Result (Vec ℕ Global) Fault) (a b : Engine F H R W g) → IfOk r (λ groups. HasPurgedExpired (2 ^ 64 - 1) a b groups.items) → HasPurgedAs Purge (ToCompact r) a b
   purged_expired (Ok groups) a b value = value
   purged_expired (Err e) a b value = tt
-
-  -- one operation more
-  pub purged_more : (ops : List Op) (outcomes : List Outcome) → length outcomes ≡ length ops → (op : Op) (outcome : Outcome) (a b c : Engine F H R W g) → HavePurgedAs ops outcomes a b → HasPurgedAs op outcome b c → HavePurgedAs (ops ++ op ∷ []) (outcomes ++ outcome ∷ []) a c
-  purged_more [] [] len op outcome a b c same done = (c, subst (λ (e : Engine F H R W g). HasPurgedAs op outcome e c) (sym same) done, refl)
-  purged_more [] (o ∷ outcomes) len op outcome a b c same done = absurd (omega (arith, len))
-  purged_more (o ∷ ops) [] len op outcome a b c same done = absurd (omega (arith, len))
-  purged_more (o ∷ ops) (r ∷ outcomes) len op outcome a b c have done = (have.0, have.1, purged_more ops outcomes (omega (arith, len)) op outcome have.0 b c have.2 done)

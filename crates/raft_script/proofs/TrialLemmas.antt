@@ -29,12 +29,16 @@ use Rattle.raft_env.specs.Refusal.{Refusals}
 use Rattle.raft_config.specs.Config.{IsCopy}
 use Rattle.raft_config.specs.Folders.{Folders, all_of, beside_main, folders_in}
 use Rattle.raft_config.specs.Recovery.{tolerates_corruption}
-use Rattle.raft_pipes.specs.Files.{EachFile, HasDamageAmong, IsOpenableFile, is_last}
+use Rattle.raft_pipes.specs.Files.{EachFile, IsOpenableFile, is_last}
+use Rattle.raft_opening.specs.Files.{HasDamageAmong}
 use Rattle.raft_pipes.specs.Folder.{AreClear, HasFileFor, HasNoLog, log_files_of, readable_queue}
-use Rattle.raft_pipes.specs.LogFile.{IsDamage, IsOpenableLog}
+use Rattle.raft_opening.specs.LogFile.{IsDamage}
+use Rattle.raft_pipes.specs.LogFile.{IsOpenableLog}
 use Rattle.raft_pipes.specs.Numbered.{StandAlone, end_of_numbers, has_file, in_queue, last_run, path_of, paths_of}
-use Rattle.raft_pipes.specs.Queue.{HasDamageOf, IsOpenRefusalOf, IsOpenableOf, IsRefusalIn}
-use Rattle.raft_script.specs.Durability.{LeavesAllowedAfter, LeavesFrom, Progress, progress_after_all, progress_from}
+use Rattle.raft_opening.specs.Queue.{HasDamageOf, IsOpenRefusalOf}
+use Rattle.raft_pipes.specs.Queue.{IsOpenableOf, IsRefusalIn}
+use Rattle.raft_script.specs.Durability.{LeavesAllowedAfter, progress_after_all}
+use Rattle.raft_script.specs.Headline.{LeavesFrom, Progress, progress_from}
 use Rattle.raft_pipes.proofs.TakenLemmas.{one_free}
 use Rattle.raft_held.specs.Queues.{AreOpenableIn, AreSingleIn, IsOpeningRefusal, ReadCompletedRecordsIn}
 use Rattle.raft_script.specs.Failure.{IsStorageOrMemory}

@@ -1,4 +1,5 @@
--- The batches of operations: which they are to write, which are accepted, and what may be in flight.
+-- The batches of operations: which they are to write, which are accepted, and what may be in
+-- flight.
 use Rattle.std.specs.Prelude.{◌≡◌, ℕ, map, Bool, true, false, List, [], ◌∷◌, ◌++◌, Option, Some, None, option_and_then, option_map, Result, Ok, is_ok, if◌then◌else◌, Vec, unwrap_or}
 use Rattle.std.specs.List.{list_any}
 use Rattle.std.specs.declared.alloc.Global.{Global}
@@ -80,8 +81,8 @@ answers_in _ = []
 abbrev pub accepted_of : Contents → Op → Outcome → List Batch
 accepted_of m op outcome = accepted_in (answers_in outcome) (batches_of_op m op)
 
--- the operation made sure of all that was accepted up to it: a sync or a purge that was answered, or a
--- write or a group that asked for one
+-- the operation made sure of all that was accepted up to it: a sync or a purge that was answered,
+-- or a write or a group that asked for one
 abbrev pub is_covering : Op → Outcome → Bool
 is_covering (Write acts sync) (Size (Ok len)) = sync
 is_covering (WriteGroup parts) (Sizes (Ok answers)) = list_any (λ part. part.1) parts.items
@@ -92,8 +93,8 @@ is_covering PurgeStale (Dropped (Ok count)) = true
 is_covering Purge (ToCompact (Ok groups)) = true
 is_covering _ _ = false
 
--- what may have been written in part, or whole, when a crash came in the operation: any choice of its
--- batches, in order, each where the contents after those chosen before it take it
+-- what may have been written in part, or whole, when a crash came in the operation: any choice of
+-- its batches, in order, each where the contents after those chosen before it take it
 abbrev pub MayBeInFlight : Contents → Op → List Batch → Type 0
 MayBeInFlight m op flight =
     ∥ ((choice : List Bool) × (flight ≡ chosen_of m choice (batches_of_op m op))) ∥₁

@@ -31,8 +31,8 @@ IsRenewalFailure e = IsPurgeFailure e
 
 -- an engine answers so and fails, or doesn't; an answer that isn't the engine's is one of the
 -- others
-pub record FailsFor {T : Type 0} (IsCause : Fault → Type 0) (failed : Bool) (answer : Result T Fault)
-    (fails : Bool) (Other : Fault → Type 0) : Type 0 where
+pub record FailsFor {T : Type 0} (IsCause : Fault → Type 0) (failed : Bool)
+    (answer : Result T Fault) (fails : Bool) (Other : Fault → Type 0) : Type 0 where
   -- it stays failed
   pub still : failed ≡ true → fails ≡ true
   -- a failure is told where there was one, and nowhere else

@@ -1,6 +1,7 @@
 pub mod Batches
 pub mod Run
 pub mod Failure
+pub mod Headline
 pub mod Durability
 pub mod Entry
 pub mod Trial

@@ -1,5 +1,5 @@
--- What purges leave of an engine's queues, one operation after the other.
-use Rattle.std.specs.Prelude.{◌≡◌, ◌+◌, ◌-◌, ◌^◌, List, ◌∷◌, Ok}
+-- What purges leave of an engine's queues.
+use Rattle.std.specs.Prelude.{◌≡◌, ◌+◌, ◌-◌, ◌^◌, Ok}
 use Rattle.raft_env.specs.declared.env.FileSystem.{Ghosts}
 use Rattle.raft_purge.specs.Scope.{HasRewritten}
 use Rattle.raft_log_engine.specs.Engine.{has_groups_together, queue_of, rewrite_queue_of}
@@ -12,8 +12,8 @@ use Rattle.raft_script.specs.declared.operation.Outcome.{Outcome}
 use Rattle.raft_script.specs.declared.operation.Outcome.TheVariants.{Dropped, ToCompact}
 
 module _ {F H R W : Type 0} {g : Ghosts F H R W} where
-  -- where the operation is a purge that was answered: so many files left its queue, or these groups are
-  -- to be compacted, and what it leaves
+  -- where the operation is a purge that was answered: so many files left its queue, or these
+  -- groups are to be compacted, and what it leaves
   abbrev pub HasPurgedAs : Op → Outcome → Engine F H R W g → Engine F H R W g → Type 0
   HasPurgedAs (RewriteAppend watermark step) (Dropped (Ok count)) e e' =
       ((queue_of e).first + count ≡ (queue_of e').first)
@@ -27,9 +27,3 @@ module _ {F H R W : Type 0} {g : Ghosts F H R W} where
       (queue_of e') (rewrite_queue_of e')
   HasPurgedAs Purge (ToCompact (Ok groups)) e e' = HasPurgedExpired (2 ^ 64 - 1) e e' groups.items
   HasPurgedAs _ _ e e' = Unit {0}
-
-  -- .. of each of the operations, in order
-  abbrev pub HavePurgedAs : List Op → List Outcome → Engine F H R W g → Engine F H R W g → Type 0
-  HavePurgedAs (op ∷ ops) (outcome ∷ outcomes) a c =
-      (b : Engine F H R W g) × HasPurgedAs op outcome a b × HavePurgedAs ops outcomes b c
-  HavePurgedAs _ _ a c = a ≡ c

@@ -126,8 +126,8 @@ IsCompactRefusal none_left fault.Range = none_left
 IsCompactRefusal none_left fault.TryAgain = Unit {0}
 IsCompactRefusal none_left e = IsEngineRefusal e
 
--- .. a purge for want of space, for lack of a number of either queue or of an atomic group, or since a
--- key of the engine's own has a value
+-- .. a purge for want of space, for lack of a number of either queue or of an atomic group, or
+-- since a key of the engine's own has a value
 abbrev pub IsRefusedPurge : Contents → Fault → Type 0
 IsRefusedPurge m (fault.InvalidArgument text) = IsUnfit m (fault.InvalidArgument text)
 IsRefusedPurge m e = IsCompactRefusal (Unit {0}) e
@@ -154,12 +154,14 @@ IsAnswer none_left failed m known (Write acts sync) (Size answer) =
     MatchResult answer (IsWritten m acts.items) (IsWriteRefusal none_left m acts.items)
 IsAnswer none_left failed m known (WriteGroup parts) (Sizes answer) = MatchResult answer (λ answers.
     IsWrittenGroup none_left m parts.items answers.items) (IsGroupRefusal parts.items)
-IsAnswer none_left failed m known Sync (Done answer) = MatchResult answer (λ _. Unit {0}) IsEngineRefusal
+IsAnswer none_left failed m known Sync (Done answer) =
+    MatchResult answer (λ _. Unit {0}) IsEngineRefusal
 IsAnswer none_left failed m known (Get group key) (Value answer) =
     MatchResult answer (λ value. option_map (λ v. v.items) value
     ≡ m.value group key.items) IsGetRefusal
-IsAnswer none_left failed m known (CompactTo group index) (Count answer) = MatchResult answer (λ count.
-    count ≡ compact_count index (m.entries group)) (IsCompactRefusal none_left)
+IsAnswer none_left failed m known (CompactTo group index) (Count answer) =
+    MatchResult answer (λ count. count ≡ compact_count index (m.entries group))
+    (IsCompactRefusal none_left)
 IsAnswer none_left failed m known (operation.Entry group index) (reply.Entry answer) =
     MatchResult answer (IsEntryAnswer IsTextOf index_of index (entry_of m group index))
     (IsTextRefusal index (entry_of m group index))
@@ -169,7 +171,8 @@ IsAnswer none_left failed m known (Last group) (Index index) =
     failed ≡ false → index ≡ last_index_of (m.entries group)
 IsAnswer none_left failed m known operation.Groups (reply.Groups answer) =
     MatchResult answer (λ groups. IsGroupList m known groups.items) IsGetRefusal
-IsAnswer none_left failed m known (RewriteAppend watermark step) (Dropped answer) = IsPurgeAnswer m answer
+IsAnswer none_left failed m known (RewriteAppend watermark step) (Dropped answer) =
+    IsPurgeAnswer m answer
 IsAnswer none_left failed m known RewriteRewrite (Dropped answer) = IsPurgeAnswer m answer
 IsAnswer none_left failed m known PurgeStale (Dropped answer) = IsPurgeAnswer m answer
 IsAnswer none_left failed m known Purge (ToCompact answer) = IsPurgeAnswer m answer

@@ -4,13 +4,13 @@ use Rattle.raft_records.specs.Contents.{Contents, no_contents}
 use Rattle.raft_tables.specs.Known.{known_in}
 use Rattle.raft_base.specs.declared.errors.Fault.{Fault}
 use Rattle.raft_memory.specs.Choice.{AreWhole, NameNoBytes, left_by}
-use Rattle.raft_memory.specs.Memory.{memory_directory, memory_moments, memory_refusals, no_files, stop_of}
+use Rattle.raft_memory.specs.Memory.{armed_of, memory_directory, memory_moments, memory_refusals, no_files, stop_of}
 use Rattle.raft_memory.specs.declared.memory.MemoryFileSystem.{MemoryFileSystem}
 use Rattle.raft_env.specs.Consistent.{AreConsistent}
 use Rattle.raft_env.specs.Directory.{Directory, IsRestarted, Leaves, Path, file_at}
 use Rattle.raft_env.specs.Outcomes.{File}
 use Rattle.raft_base.specs.declared.pipe_log.LogQueue.{LogQueue}
-use Rattle.raft_damage.specs.DetectableDamage.{EachAddsOnlyItsRecord, HaveNoStaleRecordIn, IsReadAsBefore}
+use Rattle.raft_queue_laws.specs.DetectableDamage.{EachAddsOnlyItsRecord, HaveNoStaleRecordIn, IsReadAsBefore}
 use Rattle.raft_pipes.specs.Numbered.{in_queue}
 use Rattle.raft_pipes.specs.QueueFiles.{last_kept}
 use Rattle.raft_env.specs.Refusal.{Refusals, no_refusals}
@@ -18,7 +18,8 @@ use Rattle.raft_memory.specs.declared.crash.Choice.{Choice}
 use Rattle.raft_held.specs.Contents.{contents_at}
 use Rattle.raft_held.specs.Crash.{RecoversContents}
 use Rattle.raft_log_engine.specs.Image.{IsImageOf}
-use Rattle.raft_script.specs.Durability.{LeavesAllowedAfter, State, Steps, progress_from}
+use Rattle.raft_script.specs.Durability.{IsStep, LeavesAllowedAfter, Steps}
+use Rattle.raft_script.specs.Headline.{RunState, progress_from}
 use Rattle.raft_held.specs.Queues.{AreDetectableIn, AreSingleIn, HaveDamageIn, HaveSimplePastIn, IsOpeningRefusal}
 use Rattle.raft_script.specs.Failure.{IsStorageOrMemory, StorageRefusalsRoseBy, io_count}
 use Rattle.raft_pipes.specs.Folder.{AreClear, IsLogPath, IsReservedPath}
@@ -55,11 +56,12 @@ pub record Ran : Type 0 where
 pub record AreAnswered (folders : Folders) (m : Contents) (known : ℕ → Bool) (ops : List Op)
     (ran : Ran) (new : Shown) : Type 0 where
   pub opened : ran.refused ≡ None
-  pub before : State
+  pub before : RunState
   pub stands : before.failed ≡ false
-  pub now : State
+  pub now : RunState
   pub moments : now.moments ≡ new.moments
-  pub steps : Steps folders m known (progress_from []) before ops ran.outcomes ran.failed_at now
+  pub steps : Steps (λ (s : RunState). s.failed) (IsStep folders m known) m (progress_from [])
+      before ops ran.outcomes ran.failed_at now
   -- storage counted at least as many failed calls as answered `Io`
   pub counted : StorageRefusalsRoseBy (io_count ran.outcomes) no_refusals new.refusals
 
@@ -86,19 +88,25 @@ pub record RunsOver (config : Config) (m : Contents) (known : ℕ → Bool) (ops
   pub clear : AreClear (folders_in config) new.files
   pub single : AreSingleIn (folders_in config) new.files
 
--- no folder has the path of a log file or of a reserved one, as one can have that stands in the other
+-- no folder has the path of a log file or of a reserved one, as one can have that stands in the
+-- other
 abbrev pub HaveNoLogPath : Folders → Type 0
 HaveNoLogPath folders = (folder : Path) → Contains (all_of folders) folder
     → IsLogPath folders folder ⊎ IsReservedPath folders folder → ⊥
+
+-- from this stop on each call that may change these files fails; no other failure is armed in them,
+-- and none was counted
+abbrev pub FailsAtStop : Option ℕ → MemoryFileSystem → Type 0
+FailsAtStop stop files = (stop_of files ≡ stop) × (armed_of files ≡ [])
+    × (memory_refusals files ≡ no_refusals)
 
 -- operations over files in memory that were empty, with this stop for the calls from the first
 -- opening on: the files once they are done
 pub record RunsFromEmpty (config : Config) (ops : List Op) (stop : Option ℕ) (ran : Ran)
     (last : MemoryFileSystem) : Type 0 where
   pub first : MemoryFileSystem
-  pub stop_is : stop_of first ≡ stop
   pub none : memory_directory first ≡ no_files
-  pub uncounted : memory_refusals first ≡ no_refusals
+  pub fails : FailsAtStop stop first
   -- the moments there were by then follow those of the first files
   pub added : List Directory
   pub later : memory_moments last ≡ added ++ memory_moments first
@@ -120,17 +128,18 @@ pub record AreNotAllowed (config : Config) (ops : List Op) (stop : Option ℕ)
 abbrev pub IsLogRefusal : RecoveryMode → Folders → Directory → Fault → Type 0
 IsLogRefusal mode folders files e = IsStorageOrMemory e ⊎ HaveDamageIn mode folders files e
 
--- where only writes failed on the log of consistent files, and nothing decodes that a last file held
--- when it was renamed, choices that leave each file whole, as it is now or as it was synced, leave
--- detectable damage of it
+-- where only writes failed on the log of consistent files, and nothing decodes that a last file
+-- held when it was renamed, choices that leave each file whole, as it is now or as it was synced,
+-- leave detectable damage of it
 abbrev pub LeavesDetectable : Folders → Directory → Type 0
 LeavesDetectable folders files = HaveSimplePastIn folders files
     → HaveNoStaleRecordIn folders files → AreConsistent files
     → (choices : List Choice) → AreWhole choices
     → ∥ AreDetectableIn folders files (left_by choices files) ∥₁
 
--- the last log file of each queue was never renamed, each of its calls brought no record but the one
--- that it was to write, and the choices leave what is read as it was at a moment since its last sync
+-- the last log file of each queue was never renamed, each of its calls brought no record but the
+-- one that it was to write, and the choices leave what is read as it was at a moment since its
+-- last sync
 abbrev pub AreReadAsBefore : Folders → Directory → List Choice → Type 0
 AreReadAsBefore folders files choices = (queue : LogQueue) (f : ℕ × Path) (file : File)
     → last_kept (all_of folders) queue files ≡ Some f → file_at files f.1 ≡ Some file
@@ -148,14 +157,16 @@ pub record IsTrialOf (config : Config) (ops : List Op) (stop : Option ℕ) (choi
     (t : Trial) : Type 0 where
   pub last : MemoryFileSystem
   pub runs : RunsFromEmpty config ops stop (ran_in t) last
-  -- storage may leave of the files what the choices say, and so they stand after the crash
+  -- storage may leave of the files what the choices say, and so they stand after the crash, with no
+  -- stop
   pub left : let files = memory_directory last in Leaves files (left_by choices files)
-  pub after : Directory
+  pub again : MemoryFileSystem
   pub restarted : let files = memory_directory last in
-      IsRestarted files (left_by choices files) after
-  -- where an engine was opened and none failed, choices that leave each file whole, as it is now or as
-  -- it was synced, leave detectable damage where nothing decodes that a last file held when it was
-  -- renamed, if it was
+      IsRestarted files (left_by choices files) (memory_directory again)
+  pub fails : FailsAtStop None again
+  -- where an engine was opened and none failed, choices that leave each file whole, as it is now
+  -- or as it was synced, leave detectable damage where nothing decodes that a last file held when
+  -- it was renamed, if it was
   pub detectable : t.refused ≡ None → t.failed_at ≡ None → AreWhole choices
       → let files = memory_directory last in HaveNoStaleRecordIn (folders_in config) files
       → ∥ AreDetectableIn (folders_in config) files (left_by choices files) ∥₁
@@ -164,8 +175,8 @@ pub record IsTrialOf (config : Config) (ops : List Op) (stop : Option ℕ) (choi
       AreReadAsBefore (folders_in config) files choices
       → AreDetectableIn (folders_in config) files (left_by choices files)
   -- the opening found what the choices leave
-  pub found : IfOk t.opened (λ image.
-      IsImageOf image.groups.items (contents_at (folders_in config) after))
+  pub found : IfOk t.opened (λ image. IsImageOf image.groups.items
+      (contents_at (folders_in config) (memory_directory again)))
   -- where no folder has the path of a log file, a tolerant one doesn't fail for what they leave of
   -- detectable damage
   pub refused : let files = memory_directory last in HaveNoLogPath (folders_in config)
@@ -175,4 +186,4 @@ pub record IsTrialOf (config : Config) (ops : List Op) (stop : Option ℕ) (choi
   -- .. and in any mode and of any damage it fails where settings contradict one another, by
   -- storage, for lack of memory, or for what is left of the log
   pub cause : HaveNoLogPath (folders_in config) → IfErr t.opened (λ e. IsContradiction config e
-      ⊎ IsLogRefusal config.recovery_mode (folders_in config) after e)
+      ⊎ IsLogRefusal config.recovery_mode (folders_in config) (memory_directory again) e)

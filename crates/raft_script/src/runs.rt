@@ -12,7 +12,8 @@ ghost use Rattle.raft_pipes.specs.PipeState.{HasLastNumber};
 ghost use Rattle.raft_log_engine.specs.Group.{items_of};
 ghost use Rattle.raft_log_engine.specs.Engine.{begun_of, contents_of, directory_of, durable_of, folders_of, has_failed, queue_of, refusals_of, unsynced_of};
 ghost use Rattle.raft_script.specs.Entry.{indexed_bytes};
-ghost use Rattle.raft_script.specs.Durability.{AreAllowedInside, Does, HaveRun, IsAnswerOf, IsOutOfNumbersIn, LeavesFrom, Runs, state_of};
+ghost use Rattle.raft_script.specs.Durability.{Does, HaveRun, IsAnswerOf, IsOutOfNumbersIn, PassesOver, Runs};
+ghost use Rattle.raft_script.specs.Headline.{AreAllowedInside, LeavesFrom, run_state_of};
 ghost use Rattle.raft_script.specs.Purges.{HasPurgedAs};
 ghost use Rattle.raft_script.specs.Batches.{accepted_of, batch_of_acts, batches_of_parts, items_of_act};
 ghost use Rattle.raft_script.specs.Failure.{IsFailing, Refuses};
@@ -23,7 +24,7 @@ use crate::text_entry::TextEntry;
 use raft_env::FileSystem;
 use raft_log_engine::Engine;
 use raft_log_engine::laws::{an_engine_recovers_what_it_keeps, crash_leaves_contents};
-use raft_queues::laws::crash_leaves_a_prefix;
+use raft_queue_laws::queue::crash_leaves_a_prefix;
 use raft_records::{Command, EntryIndex, Fault, FileSeq, LogBatch, LogQueue};
 use std::alloc::{AllocError, Global};
 
@@ -34,23 +35,28 @@ pub(crate) struct RunReport {
     pub failed_at: Option<usize>,
 }
 
-/// Does the operations in order, each with its outcome. Where there is no memory for the list of outcomes, the engine
-/// is not asked.
+/// Does the operations in order, each with its outcome. Where there is no memory for the list of
+/// outcomes, the engine is not asked.
 ///
-/// The headline is five clauses. `any_moment`: a crash inside the run. `left`: one after it, up to the first change of
-/// the next call. `Engine::open_in_order`, `contents` and `refused`: what an opening makes of the files then; its
-/// `any_moment`: a crash inside it. `laws::the_damage_of_an_engine_is_detectable`: that the premise can be met.
+/// The headline is five clauses. `any_moment`: a crash inside the run. `left`: one after it, up to
+/// the first change of the next call. `Engine::open_in_order`, `contents` and `refused`: what an
+/// opening makes of the files then; its `any_moment`: a crash inside it.
+/// `laws::the_damage_of_an_engine_is_detectable`: that the premise can be met.
 ///
-/// A crash inside an operation, if its damage is detectable, leaves files that an opening takes in each mode but the
-/// absolute one. It finds a prefix of the batches accepted before the operation, or all of them and a prefix of its own
-/// (of a group any choice of them, in order), with every one that an answered sync covered before. Whatever the damage,
-/// such contents are what is read first of both queues. Once the operation is answered and the engine stands, a crash
-/// leaves a prefix of what was accepted by then, with every covered batch. A failed engine adds no moment. Which moments are inside which operation, each call of `Engine` says of its own.
+/// A crash inside an operation, if its damage is detectable, leaves files that an opening takes in
+/// each mode but the absolute one. It finds a prefix of the batches accepted before the operation,
+/// or all of them and a prefix of its own (of a group any choice of them, in order), with every
+/// one that an answered sync covered before. Whatever the damage, such contents are what is read
+/// first of both queues. Once the operation is answered and the engine stands, the files hold all
+/// that was accepted by then, and a crash leaves a prefix of it, with every covered batch. A
+/// failed engine adds no moment. `ok` says all this, and what is answered, of one list of engines,
+/// each of which the operation's own call makes of the one before.
 ///
-/// After the operations the accepted batches that are covered count as durable, and no more, and the others stand
-/// unsynced. At least as many calls as answer `Io` were refused by storage. Where all operations are reads, but of
-/// entries, and writes of acts without a batch, the engine stays as it was. The settings' folders stay, and so does
-/// the engine's note of the files that its opening found.
+/// After the operations the accepted batches that are covered count as durable, and no more, and
+/// the others stand unsynced. At least as many calls as answer `Io` were refused by storage. Where
+/// all operations are reads, but of entries, and writes of acts without a batch, the engine stays
+/// as it was. The settings' folders stay, and so does the engine's note of the files that its
+/// opening found; log files that the opening passed over stand as they did.
 pub fn run<F: FileSystem>(
     alloc: Global,
     engine: &mut Engine<F>,
@@ -64,6 +70,7 @@ pub fn run<F: FileSystem>(
     ensures unchanged { All IsUnasked ops.now → engine.new ≡ engine.old }
     ensures folder { folders_of engine.new ≡ folders_of engine.old }
     ensures others { begun_of engine.new ≡ begun_of engine.old }
+    ensures passed { PassesOver engine.old engine.new }
     ensures err { OnErr result (engine.new ≡ engine.old) }
     ensures cause { IfErr result (λ e. e ≡ Fault.Memory) }
 {
@@ -85,6 +92,7 @@ pub(crate) fn run_watched<F: FileSystem>(
     ensures unchanged { All IsUnasked ops.now → engine.new ≡ engine.old }
     ensures folder { folders_of engine.new ≡ folders_of engine.old }
     ensures others { begun_of engine.new ≡ begun_of engine.old }
+    ensures passed { PassesOver engine.old engine.new }
     ensures err { OnErr result (engine.new ≡ engine.old) }
     ensures cause { IfErr result (λ e. e ≡ Fault.Memory) }
 {
@@ -120,7 +128,7 @@ pub(crate) fn crash_is_said_of_files()
 // A queue of an engine that stands has the last number only where a log file has.
 fn last_number_stands<F: FileSystem>(engine: &Engine<F>)
     ensures { has_failed engine.now ≡ false → HasLastNumber (queue_of engine.now)
-        → IsOutOfNumbersIn (folders_of engine.now) (state_of engine.now) }
+        → IsOutOfNumbersIn (folders_of engine.now) (run_state_of engine.now) }
 {
     engine.file_span(LogQueue::Append);
 }
@@ -130,7 +138,7 @@ pub fn step<F: FileSystem>(alloc: Global, engine: &mut Engine<F>, op: &Op) -> Ou
     ensures value { IsAnswerOf op.now result engine.old engine.new }
     ensures failed { IsFailing (has_failed engine.old) op.now result (has_failed engine.new) }
     ensures unchanged { IsUnasked op.now → engine.new ≡ engine.old }
-    ensures refused { Refuses result (refusals_of engine.old) (refusals_of engine.new) }
+    ensures cause { Refuses result (refusals_of engine.old) (refusals_of engine.new) }
     ensures contents { has_failed engine.new ≡ false
         → contents_of engine.new
         ≡ after_batches (contents_of engine.old)
@@ -139,6 +147,7 @@ pub fn step<F: FileSystem>(alloc: Global, engine: &mut Engine<F>, op: &Op) -> Ou
     ensures purged { HasPurgedAs op.now result engine.old engine.new }
     ensures folder { folders_of engine.new ≡ folders_of engine.old }
     ensures others { begun_of engine.new ≡ begun_of engine.old }
+    ensures passed { PassesOver engine.old engine.new }
 {
     match op {
         Op::Write(acts, sync) => match build(alloc, acts) {
@@ -226,7 +235,7 @@ fn add_entries(
 ) -> Result<(), Fault>
     ensures ok { OnOk result (batch.new
         ≡ with_entries_item batch.old group (map indexed_bytes entries.now)) }
-    ensures refused { let refusal = size_refusal
+    ensures cause { let refusal = size_refusal
         (with_entries_item batch.old group (map indexed_bytes entries.now)).items in
         IfErr result (λ e. (refusal ≡ Some e) ⊎ (e ≡ Fault.Memory)) }
 {

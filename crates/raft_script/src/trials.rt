@@ -5,38 +5,40 @@ ghost use Rattle.raft_env.specs.Directory.{Directory};
 ghost use Rattle.raft_memory.specs.Choice.{NameNoBytes};
 ghost use Rattle.raft_config.specs.Folders.{Folders, folders_in};
 ghost use Rattle.raft_config.specs.Sanitized.{IsContradiction, contradiction};
-ghost use Rattle.raft_memory.specs.Memory.{memory_directory, memory_moments, memory_refusals, no_files, stop_of};
+ghost use Rattle.raft_memory.specs.Memory.{memory_directory, memory_moments, no_files};
 ghost use Rattle.raft_log_engine.specs.Image.{IsImageOf};
 ghost use Rattle.raft_held.specs.Contents.{contents_at, known_at};
 ghost use Rattle.raft_held.specs.Crash.{RecoversContents};
 ghost use Rattle.raft_pipes.specs.Folder.{AreClear};
 ghost use Rattle.raft_held.specs.Queues.{AreOpenableIn, AreSingleIn, ReadCompletedRecordsIn};
-ghost use Rattle.raft_env.specs.Refusal.{no_refusals};
 ghost use Rattle.raft_script.specs.Failure.{IsStorageOrMemory};
-ghost use Rattle.raft_script.specs.Trial.{AreNotAllowed, HaveNoLogPath, IsLogRefusal, IsTrialOf, LeavesDetectable, Ran, RunsOver, Shown};
+ghost use Rattle.raft_script.specs.Trial.{AreNotAllowed, FailsAtStop, HaveNoLogPath, IsLogRefusal, IsTrialOf, LeavesDetectable, Ran, RunsOver, Shown};
 
 use crate::operation::{Op, Trial};
 use crate::runs::{RunReport, crash_is_said_of_files, run_watched};
-use raft_damage::laws::premise_can_be_met;
 use raft_env::FileSystem;
 use raft_log_engine::laws::{crash_leaves_contents, the_damage_of_an_engine_is_detectable};
 use raft_log_engine::{Config, Engine, Image};
 use raft_memory::{Choice, MemoryFileSystem};
-use raft_queues::laws::{a_queue_recovers_its_batches, crash_leaves_a_prefix};
+use raft_queue_laws::damage::premise_can_be_met;
+use raft_queue_laws::queue::{a_queue_recovers_its_batches, crash_leaves_a_prefix};
 use raft_records::Fault;
 use std::alloc::Global;
 
-/// Opens a log in memory, does the operations, crashes, and opens again. From the first opening on the calls that may
-/// change files are counted from 1, and from the one at `stop` on each fails; the opening after the crash has no
-/// stop. Where the first opening fails no operation is done, and the trial says why: settings contradict one another, a
-/// storage call failed, or memory was wanting. The choices say what the crash leaves; bytes that storage doesn't allow
-/// are refused, and no others. Where the damage of what the crash leaves is detectable, a tolerant opening fails by
-/// storage or for lack of memory alone; any other opening only for these, for what is left of the log, or where settings
-/// contradict one another. That no folder has the path of a log file (`HaveNoLogPath`) is asked where the first
-/// opening failed, and nowhere else. The damage is detectable where no engine failed, nothing decodes that a last log
-/// file held when it was renamed, and the choices leave each file whole, as it is at the crash or as it was synced; and
-/// so it is, whatever failed and for torn files too, where the last log files were never renamed, no call brought a
-/// record but its own, and they are read as they were at a moment since their last sync.
+/// Opens a log in memory, does the operations, crashes, and opens again. From the first opening on
+/// the calls that may change files are counted from 1, and from the one at `stop` on each fails;
+/// the opening after the crash has no stop. Where the first opening fails no operation is done,
+/// and the trial says why: settings contradict one another, a storage call failed, or memory was
+/// wanting. The choices say what the crash leaves; bytes that storage doesn't allow are refused,
+/// and no others. Where the damage of what the crash leaves is detectable, a tolerant opening
+/// fails by storage or for lack of memory alone; any other opening only for these, for what is
+/// left of the log, or where settings contradict one another. That no folder has the path of a log
+/// file (`HaveNoLogPath`) is asked where the first opening failed, and nowhere else. The damage is
+/// detectable where no engine failed, nothing decodes that a last log file held when it was
+/// renamed, and the choices leave each file whole, as it is at the crash or as it was synced; and
+/// so it is, whatever failed and for torn files too, where the last log files were never renamed,
+/// no call brought a record but its own, and they are read as they were at a moment since their
+/// last sync.
 pub fn trial(
     alloc: Global,
     config: Config,
@@ -65,7 +67,8 @@ pub fn trial(
     })
 }
 
-/// A folder alone hasn't the path of a log file or of a reserved one: of it all that is said of a trial is true.
+/// A folder alone hasn't the path of a log file or of a reserved one: of it all that is said of a
+/// trial is true.
 pub fn a_folder_alone_has_no_log_path()
     ensures one { (folders : Folders) → folders.spill ≡ None → HaveNoLogPath folders }
 {}
@@ -73,8 +76,7 @@ pub fn a_folder_alone_has_no_log_path()
 fn new_files(alloc: Global, stop: Option<u64>) -> MemoryFileSystem
     ensures files { memory_directory result ≡ no_files }
     ensures any_moment { memory_moments result ≡ no_files ∷ [] }
-    ensures stop { stop_of result ≡ stop }
-    ensures cause { memory_refusals result ≡ no_refusals }
+    ensures stop { FailsAtStop stop result }
 {
     let mut files = MemoryFileSystem::new(alloc);
     if let Some(nth) = stop {

@@ -16,7 +16,7 @@ use toml::{Table, Value};
 /// setting; else as `Memory`. Whether settings contradict one another is not asked.
 pub fn read(alloc: Global, text: &str) -> Result<Config, Fault>
     ensures value { IfOk result (ReadsAlone text.now) }
-    ensures refused { IfErr result (IsLoneReadRefusal text.now) }
+    ensures cause { IfErr result (IsLoneReadRefusal text.now) }
 {
     with_text(alloc, &Config::fresh(alloc), text)
 }
@@ -24,7 +24,7 @@ pub fn read(alloc: Global, text: &str) -> Result<Config, Fault>
 /// As `read`, where settings that the text doesn't name are those given.
 pub fn with_text(alloc: Global, config: &Config, text: &str) -> Result<Config, Fault>
     ensures value { IfOk result (Reads text.now config.now) }
-    ensures refused { IfErr result (IsReadRefusal text.now config.now) }
+    ensures cause { IfErr result (IsReadRefusal text.now config.now) }
 {
     match toml::table_from_str(alloc, text) {
         Ok(table) => with_table(alloc, config, &table),
@@ -35,7 +35,7 @@ pub fn with_text(alloc: Global, config: &Config, text: &str) -> Result<Config, F
 
 fn with_table(alloc: Global, config: &Config, table: &Table) -> Result<Config, Fault>
     ensures value { IfOk result (Changes (table_view table.now) config.now) }
-    ensures refused { IfErr result (IsTableRefusal (table_view table.now) config.now) }
+    ensures cause { IfErr result (IsTableRefusal (table_view table.now) config.now) }
 {
     Ok(Config {
         dir: text(alloc, table, "dir", &config.dir)?,
@@ -71,7 +71,7 @@ fn with_table(alloc: Global, config: &Config, table: &Table) -> Result<Config, F
 fn setting<T: Setting + Drop>(table: &Table, key: &'static str, old: T) -> Result<T, Fault>
     ensures ok { IfOk result (λ new. setting (table_view table.now) key.now T.reads old
         ≡ Some new) }
-    ensures refused { IfErr result
+    ensures cause { IfErr result
         (IsValueRefusal (setting (table_view table.now) key.now T.reads old)) }
 {
     match find(table, key) {
@@ -83,7 +83,7 @@ fn setting<T: Setting + Drop>(table: &Table, key: &'static str, old: T) -> Resul
 fn text(alloc: Global, table: &Table, key: &'static str, old: &String) -> Result<String, Fault>
     ensures ok { IfOk result (λ new. setting (table_view table.now) key.now as_str
         (string_bytes old.now) ≡ Some (string_bytes new)) }
-    ensures refused { IfErr result
+    ensures cause { IfErr result
         (IsValueRefusal (setting (table_view table.now) key.now as_str (string_bytes old.now))) }
 {
     match find(table, key) {
@@ -100,7 +100,7 @@ fn optional_text(
 ) -> Result<Option<String>, Fault>
     ensures ok { IfOk result (λ new. setting (table_view table.now) key.now (some_of as_str)
         (option_map string_bytes old.now) ≡ Some (option_map string_bytes new)) }
-    ensures refused { IfErr result (IsValueRefusal (setting (table_view table.now) key.now
+    ensures cause { IfErr result (IsValueRefusal (setting (table_view table.now) key.now
         (some_of as_str) (option_map string_bytes old.now))) }
 {
     match (find(table, key), old) {
@@ -112,7 +112,7 @@ fn optional_text(
 
 fn copy_text(alloc: Global, key: &'static str, value: &Value) -> Result<String, Fault>
     ensures ok { IfOk result (λ text. as_str (view value.now) ≡ Some (string_bytes text)) }
-    ensures refused { IfErr result (IsValueRefusal (as_str (view value.now))) }
+    ensures cause { IfErr result (IsValueRefusal (as_str (view value.now))) }
 {
     let Some(text) = value.as_str() else {
         return Err(Fault::InvalidArgument(key));

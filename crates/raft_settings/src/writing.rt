@@ -25,7 +25,7 @@ pub fn write(alloc: Global, config: &Config) -> Result<String, Fault>
     ensures ok { IfOk result (λ text. parse_document (string_bytes text)
         ≡ Some (table_of config.now)) }
     ensures value { IfOk result (λ text. ReadsAlone (string_bytes text) config.now) }
-    ensures refused { IfErr result (IsWriteRefusal config.now) }
+    ensures cause { IfErr result (IsWriteRefusal config.now) }
 {
     let table = table_of(alloc, config)?;
     match toml::table_to_string(alloc, &table) {
@@ -38,7 +38,7 @@ fn table_of(alloc: Global, config: &Config) -> Result<Table, Fault>
     ensures value { IfOk result (λ table. table_view table ≡ table_of config.now) }
     ensures fits { OnOk result (RecoveryFits config.now × FilesFit config.now
         × RecyclingFits config.now) }
-    ensures refused { IfErr result (IsWriteRefusal config.now) }
+    ensures cause { IfErr result (IsWriteRefusal config.now) }
 {
     let mut table = Table::new(alloc);
     put_recovery(alloc, config, &mut table)?;
@@ -51,7 +51,7 @@ fn put_recovery(alloc: Global, config: &Config, table: &mut Table) -> Result<(),
     ensures ok { OnOk result (table_view table.new ≡ with_recovery config.now
         (table_view table.old)) }
     ensures fits { OnOk result (RecoveryFits config.now) }
-    ensures refused { IfErr result (IsWriteRefusal config.now) }
+    ensures cause { IfErr result (IsWriteRefusal config.now) }
 {
     put(alloc, "dir", Value::string(alloc, &config.dir)?, table)?;
     if let Some(dir) = &config.spill_dir {
@@ -69,7 +69,7 @@ fn put_files(alloc: Global, config: &Config, table: &mut Table) -> Result<(), Fa
     ensures ok { OnOk result (table_view table.new ≡ with_files config.now
         (table_view table.old)) }
     ensures fits { OnOk result (FilesFit config.now) }
-    ensures refused { IfErr result (IsWriteRefusal config.now) }
+    ensures cause { IfErr result (IsWriteRefusal config.now) }
 {
     let version = version_number(config.format_version);
     put_number(alloc, "format-version", version, table)?;
@@ -126,7 +126,7 @@ fn put_size(
 fn put_number(alloc: Global, key: &str, number: u64, table: &mut Table) -> Result<(), Fault>
     ensures ok { OnOk result (table_view table.new ≡ with_setting key.now
         (Some (number_data number)) (table_view table.old)) }
-    ensures refused { IfErr result (IsNumberRefusal number) }
+    ensures cause { IfErr result (IsNumberRefusal number) }
 {
     let Ok(number) = i64::try_from(number) else {
         return Err(Fault::InvalidArgument("a number past 2^63 - 1"));

@@ -1,8 +1,8 @@
 //! Texts of settings: what they are read as, what is written for them, and which are refused.
 
-use crate::rows::{Row, each_holds};
 use raft_config::Config;
 use raft_records::{Fault, Fresh, ReadableSize};
+use raft_rows::{Row, each_holds};
 use raft_settings::{read, with_text, write};
 use std::alloc::Global;
 use std::test::Fail;

@@ -2,9 +2,9 @@
 
 use raft_env::IoKind;
 use raft_memory::FsCall;
-use raft_plans::{EMPTY, State, after, count_below, fault_of, is_done, value_of};
 use raft_records::Fault;
 use raft_script::{Op, Outcome};
+use raft_test_rows::{EMPTY, State, after, count_below, fault_of, is_done, value_of};
 use std::process::Abort;
 
 pub(crate) const CALLS: [FsCall; 16] = [

@@ -3,11 +3,11 @@
 use raft_env::FileSystem;
 use raft_log_engine::{Config, Engine};
 use raft_memory::MemoryFileSystem;
-use raft_plans::{
-    Change, Left, MAX_FILES, Plan, State, choices_of, is_allowed, ops_of, settings, state_of,
-};
 use raft_records::ReadableSize;
 use raft_script::{Op, Outcome, step};
+use raft_test_rows::{
+    Change, Left, MAX_FILES, Plan, State, choices_of, is_allowed, ops_of, settings, state_of,
+};
 use std::alloc::{AllocError, Global};
 use std::process::Abort;
 use std::test::Fail;

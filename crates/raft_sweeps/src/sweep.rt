@@ -1,10 +1,10 @@
 //! Operations that are stopped at each call that changes files, and then crashed in many ways.
 
-use raft_plans::{
+use raft_script::{Op, Outcome, Trial, trial};
+use raft_test_rows::{
     EXPIRED, Left, MAX_FILES, OPERATIONS, PURGES, Plan, REWRITTEN_IN_PARTS, choices_of, is_allowed,
     is_done, ops_of, settings, state_of,
 };
-use raft_script::{Op, Outcome, Trial, trial};
 use std::alloc::Global;
 use std::process::Abort;
 use std::test::Fail;

@@ -1,10 +1,10 @@
 //! Trials: operations, a crash and an opening in one call.
 
-use raft_plans::{
-    Answer, Change, EMPTY, Left, Plan, State, are_answers, choice_of, ops_of, settings, state_of,
-};
 use raft_records::Fault;
 use raft_script::{Trial, trial};
+use raft_test_rows::{
+    Answer, Change, EMPTY, Left, Plan, State, are_answers, choice_of, ops_of, settings, state_of,
+};
 use std::alloc::Global;
 
 const FIRST: State = State { a: 1, ..EMPTY };

@@ -2,8 +2,8 @@
 use Rattle.std.proofs.Common.{List, [], ◌∷◌, ◌++◌}
 use Rattle.std.specs.List.{AllByRecursion}
 use Rattle.raft_env.specs.Refusal.{NoFewer, Refusals, added_count, no_refusals}
-use Rattle.raft_pipes.specs.OpenedLogs.{OpenedLogState, counted}
-use Rattle.raft_pipes.proofs.OpenedLogsLemmas.{RoseBy, rose_before, rose_then}
+use Rattle.raft_opening.specs.OpenedLogs.{OpenedLogState, counted}
+use Rattle.raft_opening.proofs.OpenedLogsLemmas.{RoseBy, rose_before, rose_then}
 
 -- those before, once more are given back
 pub rose_still : (old mid new : Refusals) (logs : List OpenedLogState) → AllByRecursion (RoseBy old mid) logs → NoFewer (added_count mid no_refusals) new → AllByRecursion (RoseBy old new) logs

@@ -3,8 +3,8 @@ use Rattle.std.proofs.Common.{◌≡◌, ◌≤◌, ℕ, List, [], ◌∷◌, �
 use Rattle.std.specs.List.{All, AllByRecursion, AllZip, flat_map}
 use Rattle.std.proofs.lemmas.Grind.{flat_map-append}
 use Rattle.std.proofs.lemmas.List.{append-nil}
-use Rattle.raft_pipes.specs.OpenedLogs.{OpenedLogState}
-use Rattle.raft_pipes.proofs.OpenedLogsLemmas.{all_append}
+use Rattle.raft_opening.specs.OpenedLogs.{OpenedLogState}
+use Rattle.raft_opening.proofs.OpenedLogsLemmas.{all_append}
 use Rattle.raft_threads.proofs.PartLemmas.{all_from_recursion, all_in_parts, zip_back, zip_front, zip_within}
 
 -- one more part

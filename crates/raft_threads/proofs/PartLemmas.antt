@@ -11,11 +11,11 @@ use Rattle.raft_base.specs.declared.errors.Fault.TheVariants.{Memory}
 use Rattle.raft_base.specs.declared.pipe_log.LogQueue.{LogQueue}
 use Rattle.raft_env.specs.Directory.{Directory}
 use Rattle.raft_env.specs.Refusal.{Refusals}
-use Rattle.raft_pipes.specs.OpenedLogs.{AreInQueue, AreReplayed, HasDamageIn, HaveLogBlocks, IsLogsFault, IsLogsRefusal, IsOpenableIn, IsReplayIn, OpenedLogState, logged_batches}
-use Rattle.raft_pipes.specs.declared.replay.ReplayedLog.{ReplayedLog}
-use Rattle.raft_pipes.proofs.OpenedLogsLemmas.{all_append, zip_append}
+use Rattle.raft_opening.specs.OpenedLogs.{AreInQueue, AreReplayed, HasDamageIn, HaveLogBlocks, IsLogsFault, IsLogsRefusal, IsOpenableIn, IsReplayIn, OpenedLogState, logged_batches}
+use Rattle.raft_opening.specs.declared.replay.ReplayedLog.{ReplayedLog}
+use Rattle.raft_opening.proofs.OpenedLogsLemmas.{all_append, zip_append}
 use Rattle.raft_pipes.proofs.QueueFilesLemmas.{all_back, all_front}
-use Rattle.raft_pipes.proofs.ReadFilesLemmas.{fault_after}
+use Rattle.raft_opening.proofs.ReadFilesLemmas.{fault_after}
 use Rattle.raft_records.specs.FileBatches.{FileBatch}
 use Rattle.raft_records.specs.Places.{Blocks}
 use Rattle.raft_threads.specs.Parts.{Answer, AreAnswered, IsFirstRefusal, IsPartRead}

@@ -6,8 +6,8 @@ use Rattle.raft_base.specs.declared.errors.Fault.{Fault}
 use Rattle.raft_base.specs.declared.errors.Fault.TheVariants.{Memory}
 use Rattle.raft_base.specs.declared.pipe_log.LogQueue.{LogQueue}
 use Rattle.raft_env.specs.Directory.{Directory}
-use Rattle.raft_pipes.specs.OpenedLogs.{AreReplayed, IsLogsRefusal, OpenedLogState}
-use Rattle.raft_pipes.specs.declared.replay.ReplayedLog.{ReplayedLog}
+use Rattle.raft_opening.specs.OpenedLogs.{AreReplayed, IsLogsRefusal, OpenedLogState}
+use Rattle.raft_opening.specs.declared.replay.ReplayedLog.{ReplayedLog}
 use Rattle.raft_records.specs.FileBatches.{FileBatch}
 use Rattle.raft_records.specs.Places.{Blocks}
 

@@ -8,9 +8,10 @@ use Rattle.raft_env.specs.Directory.{Directory, Path}
 use Rattle.raft_env.specs.Refusal.{Refusals}
 use Rattle.raft_files.specs.Writer.{bytes_at}
 use Rattle.raft_pipes.specs.ByFile.{numbered_of}
-use Rattle.raft_pipes.specs.Files.{AreReplaysOf, EachFile, HasDamageAmong, HaveBlocks, IsFilesRefusal, IsOpenableFile}
-use Rattle.raft_pipes.specs.OpenedLogs.{AreInQueue, HaveLogBlocks, IsOpenableIn, IsReplayIn, OpenedLogState, logged_batches}
-use Rattle.raft_pipes.specs.declared.replay.ReplayedLog.{ReplayedLog}
+use Rattle.raft_opening.specs.Files.{AreReplaysOf, HasDamageAmong, HaveBlocks, IsFilesRefusal}
+use Rattle.raft_pipes.specs.Files.{EachFile, IsOpenableFile}
+use Rattle.raft_opening.specs.OpenedLogs.{AreInQueue, HaveLogBlocks, IsOpenableIn, IsReplayIn, OpenedLogState, logged_batches}
+use Rattle.raft_opening.specs.declared.replay.ReplayedLog.{ReplayedLog}
 use Rattle.raft_records.specs.FileBatches.{FileBatch}
 use Rattle.raft_records.specs.Places.{Blocks}
 

@@ -5,7 +5,7 @@ ghost use Rattle.raft_base.specs.declared.errors.Fault.TheVariants.{Memory};
 
 use crate::part::PartJob;
 use raft_env::FileSystem;
-use raft_pipes::OpenedLog;
+use raft_opening::OpenedLog;
 use raft_records::{Factory, Fault};
 use std::alloc::Global;
 

@@ -4,7 +4,7 @@ use crate::stored::{scanned, store_both};
 use raft_config::RecoveryMode;
 use raft_env::FileSystem;
 use raft_memory::MemoryFileSystem;
-use raft_pipes::ReplayMachine;
+use raft_opening::ReplayMachine;
 use raft_queues::RecoveryConfig;
 use raft_records::{Factory, Fault, FileId, LogItem, LogQueue};
 use raft_workers::MergingMachine;

@@ -4,7 +4,7 @@ use crate::stored::{scanned, store_both};
 use raft_config::RecoveryMode;
 use raft_env::{FileSystem, IoKind};
 use raft_memory::{FsCall, MemoryFileSystem};
-use raft_pipes::ReplayMachine;
+use raft_opening::ReplayMachine;
 use raft_queues::RecoveryConfig;
 use raft_records::{Fault, FileId, Fresh, KeyValue, LogItem, LogItemContent, LogQueue};
 use raft_workers::{DefaultMachineFactory, MergingMachine};

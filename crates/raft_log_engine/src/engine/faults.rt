@@ -16,7 +16,7 @@ impl Engine<MemoryFileSystem> {
     pub fn refuse(&mut self, call: FsCall, nth: u64, kind: IoKind) -> Result<(), Fault>
         ensures ok { OnOk result (armed_in self.new ≡ armed_in self.old ++ (call, nth, kind) ∷ []) }
         ensures value { OnOk result (0 < nth) }
-        ensures refused { IfErr result (RefusesUnless (0 < nth)) }
+        ensures cause { IfErr result (RefusesUnless (0 < nth)) }
         ensures err { OnErr result (armed_in self.new ≡ armed_in self.old) }
         ensures others { stop_in self.new ≡ stop_in self.old }
         ensures unchanged { SameButArmed self.old self.new }

@@ -4,11 +4,11 @@ use Rattle.raft_codec.specs.Number.{take_u64}
 use Rattle.raft_c_batch.proofs.LoopLemmas.{if_err, item_added, item_refused, items_end, items_fill, items_left}
 use Rattle.raft_c_batch.proofs.batch.add_items.Goals as goal
 
-pub returns-in_err-rest-clause-refused : goal.returns-in_err-rest-clause-refused
-returns-in_err-rest-clause-refused c =
+pub returns-in_err-rest-clause-cause : goal.returns-in_err-rest-clause-cause
+returns-in_err-rest-clause-cause c =
     let counted : take_u64 c.args.bytes.now ≡ Some (c.in_ok-count.count, c.in_ok-count.rest.now) = search rules in
     if_err _ _ _ c.from_residual-in_err-rest.ensures.1
-    (item_refused c.in_err-rest.field-0.0 c.args.batch.now.items c.loop.batch.items c.in_ok-count.count (c.in_ok-count.count - c.loop.counter) c.args.bytes.now c.in_ok-count.rest.now c.loop.rest.now (omega arith) counted c.loop.invariant.read c.in_err-rest.ensures.refused)
+    (item_refused c.in_err-rest.field-0.0 c.args.batch.now.items c.loop.batch.items c.in_ok-count.count (c.in_ok-count.count - c.loop.counter) c.args.bytes.now c.in_ok-count.rest.now c.loop.rest.now (omega arith) counted c.loop.invariant.read c.in_err-rest.ensures.cause)
 
 pub loop-preserved : goal.loop-preserved
 loop-preserved c =
@@ -22,8 +22,8 @@ returns-then-is_empty-clause-ok c =
     items_fill c.args.batch.now.items c.loop.batch.items c.in_ok-count.count c.args.bytes.now c.in_ok-count.rest.now c.loop.rest.now counted (sym c.loop.invariant.read ∙ all)
     (eqb-true (length c.loop.rest.now) 0 (sym c.is_empty.ensures ∙ c.if-is_empty.true))
 
-pub returns-else-is_empty-clause-refused : goal.returns-else-is_empty-clause-refused
-returns-else-is_empty-clause-refused c =
+pub returns-else-is_empty-clause-cause : goal.returns-else-is_empty-clause-cause
+returns-else-is_empty-clause-cause c =
     let counted : take_u64 c.args.bytes.now ≡ Some (c.in_ok-count.count, c.in_ok-count.rest.now) = search rules in
     let all = items_end c.loop.batch.items (c.in_ok-count.count - c.loop.counter) c.loop.rest.now (omega arith) in
     items_left c.args.batch.now.items c.loop.batch.items c.in_ok-count.count c.args.bytes.now c.in_ok-count.rest.now c.loop.rest.now counted (sym c.loop.invariant.read ∙ all)

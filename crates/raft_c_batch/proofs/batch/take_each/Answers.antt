@@ -4,10 +4,10 @@ use Rattle.raft_c_batch.specs.Batch.{stored_of}
 use Rattle.raft_c_batch.proofs.LoopLemmas.{entries_end, entries_next, entry_refused, if_err}
 use Rattle.raft_c_batch.proofs.batch.take_each.Goals as goal
 
-pub returns-in_err-entry-clause-refused : goal.returns-in_err-entry-clause-refused
-returns-in_err-entry-clause-refused c =
+pub returns-in_err-entry-clause-cause : goal.returns-in_err-entry-clause-cause
+returns-in_err-entry-clause-cause c =
     if_err _ _ _ c.from_residual.ensures.1
-    (entry_refused c.in_err-entry.field-0.0 (map stored_of c.loop.entries.items) c.args.count (c.args.count - c.loop.counter) c.args.bytes.now c.loop.rest.now (omega arith) c.loop.invariant.read c.in_err-entry.ensures.refused)
+    (entry_refused c.in_err-entry.field-0.0 (map stored_of c.loop.entries.items) c.args.count (c.args.count - c.loop.counter) c.args.bytes.now c.loop.rest.now (omega arith) c.loop.invariant.read c.in_err-entry.ensures.cause)
 
 pub loop-preserved : goal.loop-preserved
 loop-preserved c =

@@ -7,12 +7,12 @@ use Rattle.raft_queues.specs.Builder.{IsOrderRefusal}
 use Rattle.raft_consistency.proofs.ReadLemmas.{holes_before, read_fails, scan_fails}
 use Rattle.raft_consistency.proofs.check.holes_of.Goals as goal
 
-pub returns-in_err-scan-clause-refused : goal.returns-in_err-scan-clause-refused
-returns-in_err-scan-clause-refused g c =
+pub returns-in_err-scan-clause-cause : goal.returns-in_err-scan-clause-cause
+returns-in_err-scan-clause-cause g c =
     let p = err_from_is_err_and c.from_residual.result c.from_residual.ensures.1 in
     let b = c.args.builder.now in
     let counts = g.F.FileSystem.refusals_of in
-    rw (p.1, p.2) (scan_fails b.folders (g.F.FileSystem.directory b.file_system) (counts b.file_system) (counts c.scan.new.self.file_system) c.in_err-scan.field-0.0 c.in_err-scan.ensures.refused)
+    rw (p.1, p.2) (scan_fails b.folders (g.F.FileSystem.directory b.file_system) (counts b.file_system) (counts c.scan.new.self.file_system) c.in_err-scan.field-0.0 c.in_err-scan.ensures.cause)
 
 pub returns-clause-value : goal.returns-clause-value
 returns-clause-value g c =
@@ -23,13 +23,13 @@ returns-clause-value g c =
     IfOk-weaker c.holes_of_found.result _ _ (λ pairs are. holes_before b.folders (files b.file_system) (files s.file_system) scan.any_moment.here pairs.items
     (subst (λ (f : Folders). AreHoles (log_holes f (files s.file_system)) pairs.items) scan.settings.folders are)) c.holes_of_found.ensures.value
 
-pub returns-clause-refused : goal.returns-clause-refused
-returns-clause-refused g c =
+pub returns-clause-cause : goal.returns-clause-cause
+returns-clause-cause g c =
     let b = c.args.builder.now in
     let s = c.scan.new.self in
     let files = g.F.FileSystem.directory in
     let counts = g.F.FileSystem.refusals_of in
     let scan = c.in_ok-scan.ensures in
     IfErr-weaker c.holes_of_found.result _ _ (λ e refused. read_fails b.folders (files b.file_system) (files s.file_system) scan.any_moment.here s.mode (counts b.file_system) (counts s.file_system) (counts c.holes_of_found.new.builder.file_system) e
-    (scan.settings.mode ∙ c.requires) scan.cause
-    (subst (λ (f : Folders). IsOrderRefusal s.mode f (files s.file_system) (counts s.file_system) (counts c.holes_of_found.new.builder.file_system) e) scan.settings.folders refused)) c.holes_of_found.ensures.refused
+    (scan.settings.mode ∙ c.requires) scan.counts
+    (subst (λ (f : Folders). IsOrderRefusal s.mode f (files s.file_system) (counts s.file_system) (counts c.holes_of_found.new.builder.file_system) e) scan.settings.folders refused)) c.holes_of_found.ensures.cause

@@ -3,11 +3,12 @@ use Rattle.raft_base.specs.declared.pipe_log.LogQueue.TheVariants.{Append}
 use Rattle.raft_env.specs.Directory.{Directory}
 use Rattle.raft_files.specs.Writer.{bytes_at}
 use Rattle.raft_pipes.specs.FileList.{place_of}
-use Rattle.raft_pipes.specs.Files.{AreReplaysOf, EachFile, IsOpenableFile}
+use Rattle.raft_opening.specs.Files.{AreReplaysOf}
+use Rattle.raft_pipes.specs.Files.{EachFile, IsOpenableFile}
 use Rattle.raft_pipes.specs.Folder.{log_files_of}
 use Rattle.raft_config.specs.Folders.{Folders, all_of}
 use Rattle.raft_pipes.specs.Numbered.{AreSingle}
-use Rattle.raft_pipes.proofs.OpenedQueueLemmas.{openable_places}
+use Rattle.raft_opening.proofs.OpenedQueueLemmas.{openable_places}
 use Rattle.raft_file_scenarios.proofs.queues.opened.Goals as goal
 
 pub settle_or_begin-requires-clause-read : goal.settle_or_begin-requires-clause-read

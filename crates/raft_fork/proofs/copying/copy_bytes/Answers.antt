@@ -4,7 +4,7 @@ use Rattle.raft_env.proofs.MomentsLemmas.{passes_weaker}
 use Rattle.raft_files.specs.Reader.{IsReadTo}
 use Rattle.raft_files.specs.Writer.{bytes_at, bytes_of}
 use Rattle.raft_fork.proofs.FoldersLemmas.{updated_folders}
-use Rattle.raft_pipes.proofs.FileCallsLemmas.{appended, moments_then, others_writing}
+use Rattle.raft_opening.proofs.FileCallsLemmas.{appended, moments_then, others_writing}
 use Rattle.raft_fork.proofs.StepsLemmas.{read_next, read_some}
 use Rattle.raft_fork.proofs.copying.copy_bytes.Goals as goal
 
@@ -37,8 +37,8 @@ loop-at-preserved g c =
       folders = updated_folders to _ mid new written ∙ so_far.folders;
       room = omega (arith, so_far.room, c.read_part.auto.buffer);
       counts = (
-        omega (arith, so_far.counts.0, c.read_part.ensures.cause.0, c.in-Ok-write.ensures.cause.0),
-        omega (arith, so_far.counts.1, c.read_part.ensures.cause.1, c.in-Ok-write.ensures.cause.1),
+        omega (arith, so_far.counts.0, c.read_part.ensures.counts.0, c.in-Ok-write.ensures.counts.0),
+        omega (arith, so_far.counts.1, c.read_part.ensures.counts.1, c.in-Ok-write.ensures.counts.1),
       );
       moments = moments_then to n mid new _ _ _ so_far.moments (passes_weaker _ _ _ _ _ (λ m w. others_writing to _ _ mid m w) writing);
     }

@@ -3,7 +3,7 @@ use Rattle.raft_env.proofs.MomentsLemmas.{passes_weaker}
 use Rattle.raft_env.specs.Outcomes.{synced_of}
 use Rattle.raft_files.specs.Writer.{bytes_at, bytes_of}
 use Rattle.raft_pipes.specs.Files.{IsDurable}
-use Rattle.raft_pipes.proofs.FileCallsLemmas.{moments_then}
+use Rattle.raft_opening.proofs.FileCallsLemmas.{moments_then}
 use Rattle.raft_fork.proofs.StepsLemmas.{others_one_of, stands_apart, synced_durable}
 use Rattle.raft_fork.proofs.copying.copy_file.Goals as goal
 

@@ -5,14 +5,15 @@ use Rattle.std.proofs.lemmas.Result.{err_from_is_err_and}
 use Rattle.raft_env.specs.Directory.{HasFile, file_at}
 use Rattle.raft_env.proofs.MomentsLemmas.{passes_none}
 use Rattle.raft_files.specs.Writer.{bytes_at}
-use Rattle.raft_pipes.specs.Files.{IsDurable, LeavesAllBut}
+use Rattle.raft_pipes.specs.Files.{IsDurable}
+use Rattle.raft_opening.specs.Files.{LeavesAllBut}
 use Rattle.raft_pipes.specs.Folder.{LeavesOthers}
 use Rattle.raft_fork.proofs.CopiesLemmas.{copied_next, copy_free, copy_refused, counts_then, moments_next, next_part, none_being_copied, others_next, parts, source_stands}
 use Rattle.raft_fork.specs.Fork.{AreBeingCopied, AreCopied, CanBeCopied, copies_in, copy_in, source_of}
 use Rattle.raft_fork.proofs.copying.copy_files.Goals as goal
 
-pub returns-in_err-buffer-clause-refused : goal.returns-in_err-buffer-clause-refused
-returns-in_err-buffer-clause-refused g c =
+pub returns-in_err-buffer-clause-cause : goal.returns-in_err-buffer-clause-cause
+returns-in_err-buffer-clause-cause g c =
     let p = err_from_is_err_and c.from_residual.result c.from_residual.ensures.1 in
     rw p.1 (inl p.2)
 
@@ -33,11 +34,11 @@ loop-file-init g c =
 pub returns-in_err-path-clause-any_moment : goal.returns-in_err-path-clause-any_moment
 returns-in_err-path-clause-any_moment g c = c.loop-file.invariant.moments
 
-pub returns-in_err-path-clause-cause : goal.returns-in_err-path-clause-cause
-returns-in_err-path-clause-cause g c = c.loop-file.invariant.counts
+pub returns-in_err-path-clause-counts : goal.returns-in_err-path-clause-counts
+returns-in_err-path-clause-counts g c = c.loop-file.invariant.counts
 
-pub returns-in_err-path-clause-refused : goal.returns-in_err-path-clause-refused
-returns-in_err-path-clause-refused g c =
+pub returns-in_err-path-clause-cause : goal.returns-in_err-path-clause-cause
+returns-in_err-path-clause-cause g c =
     let p = err_from_is_err_and c.from_residual-in_err-path.result c.from_residual-in_err-path.ensures.1 in
     rw (p.1, p.2) (inl c.in_err-path.ensures.memory)
 
@@ -94,11 +95,11 @@ returns-in_err-copy_file-clause-any_moment g c =
     let to_is : c.as_str-in-loop-file.result.now ≡ copy_in target (source_of item) = c.as_str-in-loop-file.ensures.value ∙ c.in_ok-path.ensures.ok in
     moments_next target n front (source_of item) rest can mid so_far.others (map source_of files) is so_far.copied c.as_str-in-loop-file.result.now to_is _ _ _ (f.directory c.copy_file.new.file_system) so_far.moments c.copy_file.ensures.any_moment
 
-pub returns-in_err-copy_file-clause-cause : goal.returns-in_err-copy_file-clause-cause
-returns-in_err-copy_file-clause-cause g c = counts_then _ _ _ c.loop-file.invariant.counts c.copy_file.ensures.cause
+pub returns-in_err-copy_file-clause-counts : goal.returns-in_err-copy_file-clause-counts
+returns-in_err-copy_file-clause-counts g c = counts_then _ _ _ c.loop-file.invariant.counts c.copy_file.ensures.counts
 
-pub returns-in_err-copy_file-clause-refused : goal.returns-in_err-copy_file-clause-refused
-returns-in_err-copy_file-clause-refused g c =
+pub returns-in_err-copy_file-clause-cause : goal.returns-in_err-copy_file-clause-cause
+returns-in_err-copy_file-clause-cause g c =
     let f = g.F.FileSystem in
     let target = c.args.target.now in
     let files = c.args.files.now in
@@ -115,7 +116,7 @@ returns-in_err-copy_file-clause-refused g c =
     let p = err_from_is_err_and c.from_residual-in_err-copy_file.result c.from_residual-in_err-copy_file.ensures.1 in
     rw (p.1, p.2)
     (copy_refused target front (source_of item) rest (map source_of files) is (f.refusals_of c.args.file_system.now) (f.refusals_of c.loop-file.file_system) (f.refusals_of c.copy_file.new.file_system) so_far.counts
-    c.in_err-copy_file.field-0.0 c.as_str-in-loop-file.result.now c.as_str.result.now to_is c.as_str.ensures.value c.in_err-copy_file.ensures.refused)
+    c.in_err-copy_file.field-0.0 c.as_str-in-loop-file.result.now c.as_str.result.now to_is c.as_str.ensures.value c.in_err-copy_file.ensures.cause)
 
 pub returns-in_err-push-clause-any_moment : goal.returns-in_err-push-clause-any_moment
 returns-in_err-push-clause-any_moment g c =
@@ -134,11 +135,11 @@ returns-in_err-push-clause-any_moment g c =
     let to_is : c.as_str-in-loop-file.result.now ≡ copy_in target (source_of item) = c.as_str-in-loop-file.ensures.value ∙ c.in_ok-path.ensures.ok in
     moments_next target n front (source_of item) rest can mid so_far.others (map source_of files) is so_far.copied c.as_str-in-loop-file.result.now to_is _ _ _ (f.directory c.copy_file.new.file_system) so_far.moments c.copy_file.ensures.any_moment
 
-pub returns-in_err-push-clause-cause : goal.returns-in_err-push-clause-cause
-returns-in_err-push-clause-cause g c = counts_then _ _ _ c.loop-file.invariant.counts c.copy_file.ensures.cause
+pub returns-in_err-push-clause-counts : goal.returns-in_err-push-clause-counts
+returns-in_err-push-clause-counts g c = counts_then _ _ _ c.loop-file.invariant.counts c.copy_file.ensures.counts
 
-pub returns-in_err-push-clause-refused : goal.returns-in_err-push-clause-refused
-returns-in_err-push-clause-refused g c =
+pub returns-in_err-push-clause-cause : goal.returns-in_err-push-clause-cause
+returns-in_err-push-clause-cause g c =
     let p = err_from_is_err_and c.from_residual-in_err-push.result c.from_residual-in_err-push.ensures.1 in
     rw p.1 (inl p.2)
 
@@ -172,7 +173,7 @@ loop-file-preserved g c =
       copied = subst (λ fs. AreCopied target fs n after) (sym next) (copied_next target n front (source_of item) rest can mid so_far.others after only so_far.copied durable);
       others = subst (λ fs. LeavesAllBut (copies_in target fs) n after) (sym next) (others_next target n front (source_of item) rest can mid so_far.others after only);
       folders = c.in_ok-copy_file.ensures.folders ∙ so_far.folders;
-      counts = counts_then _ _ _ c.loop-file.invariant.counts c.copy_file.ensures.cause;
+      counts = counts_then _ _ _ c.loop-file.invariant.counts c.copy_file.ensures.counts;
       moments = moments_next target n front (source_of item) rest can mid so_far.others (map source_of files) is so_far.copied c.as_str-in-loop-file.result.now to_is _ _ _ (f.directory c.copy_file.new.file_system) so_far.moments c.copy_file.ensures.any_moment;
     }
 
@@ -192,5 +193,5 @@ returns-clause-folders g c = c.loop-file.invariant.folders
 pub returns-clause-any_moment : goal.returns-clause-any_moment
 returns-clause-any_moment g c = c.loop-file.invariant.moments
 
-pub returns-clause-cause : goal.returns-clause-cause
-returns-clause-cause g c = c.loop-file.invariant.counts
+pub returns-clause-counts : goal.returns-clause-counts
+returns-clause-counts g c = c.loop-file.invariant.counts

@@ -2,7 +2,7 @@ use Rattle.std.proofs.Common.{◌≡◌, ◌<◌, length, map, take}
 use Rattle.std.specs.String.{string_bytes}
 use Rattle.raft_env.specs.Moments.{HoldsThroughout}
 use Rattle.raft_env.specs.Refusal.{NoFewer, added_count, no_refusals}
-use Rattle.raft_pipes.specs.Files.{LeavesAllBut}
+use Rattle.raft_opening.specs.Files.{LeavesAllBut}
 use Rattle.raft_fork.specs.Fork.{AreBeingCopied, AreCopied, copies_in, source_of}
 use Rattle.raft_fork.proofs.copying.copy_files.Given as goal
 

@@ -1,6 +1,6 @@
 use Rattle.raft_env.proofs.MomentsLemmas.{passes_weaker}
 use Rattle.raft_pipes.proofs.FolderLemmas.{others_created}
-use Rattle.raft_pipes.proofs.FileCallsLemmas.{created_empty}
+use Rattle.raft_opening.proofs.FileCallsLemmas.{created_empty}
 use Rattle.raft_fork.proofs.copying.make_empty.Goals as goal
 
 pub returns-in-Err-clause-any_moment : goal.returns-in-Err-clause-any_moment

@@ -10,8 +10,8 @@ use Rattle.raft_fork.proofs.ForkLemmas.{copies_before, is_fork, moments_before, 
 use Rattle.raft_fork.proofs.RefusedLemmas.{fork_copy, fork_source, fork_target}
 use Rattle.raft_fork.proofs.forking.fork.Goals as goal
 
-pub returns-in_err-make_target-clause-refused : goal.returns-in_err-make_target-clause-refused
-returns-in_err-make_target-clause-refused g c =
+pub returns-in_err-make_target-clause-cause : goal.returns-in_err-make_target-clause-cause
+returns-in_err-make_target-clause-cause g c =
     let f = g.F.FileSystem in
     let source = c.args.source.now in
     let target = c.args.target.now in
@@ -19,7 +19,7 @@ returns-in_err-make_target-clause-refused g c =
     let mid = f.directory c.make_target.new.file_system in
     let p = err_from_is_err_and c.from_residual-in_err-make_target.result c.from_residual-in_err-make_target.ensures.1 in
     rw (p.1, p.2)
-    (fork_target source target n (f.refusals_of c.args.file_system.now) (f.refusals_of c.make_target.new.file_system) c.in_err-make_target.field-0.0 c.in_ok-check_settings.ensures.ok c.in_err-make_target.ensures.refused)
+    (fork_target source target n (f.refusals_of c.args.file_system.now) (f.refusals_of c.make_target.new.file_system) c.in_err-make_target.field-0.0 c.in_ok-check_settings.ensures.ok c.in_err-make_target.ensures.cause)
 
 pub returns-in_err-files-clause-any_moment : goal.returns-in_err-files-clause-any_moment
 returns-in_err-files-clause-any_moment g c =
@@ -31,8 +31,8 @@ returns-in_err-files-clause-any_moment g c =
     rw (c.find_sources.ensures.unchanged.0, c.find_sources.ensures.unchanged.1)
     (nothing_copied (folders_in source) target n mid _ _ c.make_target.ensures.any_moment)
 
-pub returns-in_err-files-clause-refused : goal.returns-in_err-files-clause-refused
-returns-in_err-files-clause-refused g c =
+pub returns-in_err-files-clause-cause : goal.returns-in_err-files-clause-cause
+returns-in_err-files-clause-cause g c =
     let f = g.F.FileSystem in
     let source = c.args.source.now in
     let target = c.args.target.now in
@@ -42,9 +42,9 @@ returns-in_err-files-clause-refused g c =
     let e = c.in_err-files.field-0.0 in
     let made = f.refusals_of c.make_target.new.file_system in
     let new = f.refusals_of c.find_sources.new.file_system in
-    let refused = subst (λ there. IsSourceRefusal there mid made new e) (ap (map string_bytes) c.deref.ensures.value ∙ c.in_ok-folders.ensures.value) c.in_err-files.ensures.refused in
+    let refused = subst (λ there. IsSourceRefusal there mid made new e) (ap (map string_bytes) c.deref.ensures.value ∙ c.in_ok-folders.ensures.value) c.in_err-files.ensures.cause in
     rw (p.1, p.2)
-    (fork_source source target n (f.refusals_of c.args.file_system.now) new mid made e c.in_ok-check_settings.ensures.ok c.in_ok-make_target.ensures.ok c.make_target.ensures.others c.make_target.ensures.cause refused)
+    (fork_source source target n (f.refusals_of c.args.file_system.now) new mid made e c.in_ok-check_settings.ensures.ok c.in_ok-make_target.ensures.ok c.make_target.ensures.others c.make_target.ensures.counts refused)
 
 pub copy_files-requires-after_bounds : goal.copy_files-requires-after_bounds
 copy_files-requires-after_bounds g c κs within =
@@ -80,8 +80,8 @@ returns-in_err-copied-clause-any_moment g c =
     let copying = rw (c.find_sources.ensures.unchanged.0, c.find_sources.ensures.unchanged.1, c.deref-2.ensures.value) at c.copy_files.ensures.any_moment in
     moments_before (folders_in source) target n mid others there stand files are (f.directory c.copy_files.new.file_system) _ _ _ free single c.make_target.ensures.any_moment copying
 
-pub returns-in_err-copied-clause-refused : goal.returns-in_err-copied-clause-refused
-returns-in_err-copied-clause-refused g c =
+pub returns-in_err-copied-clause-cause : goal.returns-in_err-copied-clause-cause
+returns-in_err-copied-clause-cause g c =
     let f = g.F.FileSystem in
     let source = c.args.source.now in
     let target = c.args.target.now in
@@ -100,10 +100,10 @@ returns-in_err-copied-clause-refused g c =
     let found = f.refusals_of c.find_sources.new.file_system in
     let new = f.refusals_of c.copy_files.new.file_system in
     let copies : map source_of c.deref-2.result.now ≡ all_sources_in (standing (folders_in source) n) mid = ap (map source_of) c.deref-2.ensures.value ∙ are ∙ ap (λ there. all_sources_in there mid) stand in
-    let refused = subst (λ files. IsCopyRefusal target files found new e) copies c.in_err-copied.ensures.refused in
+    let refused = subst (λ files. IsCopyRefusal target files found new e) copies c.in_err-copied.ensures.cause in
     rw (p.1, p.2)
     (fork_copy source target n (f.refusals_of c.args.file_system.now) new mid found e others
-    (omega (arith, c.make_target.ensures.cause.0, c.find_sources.ensures.cause.0), omega (arith, c.make_target.ensures.cause.1, c.find_sources.ensures.cause.1)) refused)
+    (omega (arith, c.make_target.ensures.counts.0, c.find_sources.ensures.counts.0), omega (arith, c.make_target.ensures.counts.1, c.find_sources.ensures.counts.1)) refused)
 
 pub returns-clause-ok : goal.returns-clause-ok
 returns-clause-ok g c =

@@ -6,8 +6,8 @@ use Rattle.raft_pipes.specs.Numbered.{kept_files}
 use Rattle.raft_fork.proofs.RefusedLemmas.{has_log}
 use Rattle.raft_fork.proofs.forking.refuse_logs.Goals as goal
 
-pub returns-then-not-is_empty-clause-refused : goal.returns-then-not-is_empty-clause-refused
-returns-then-not-is_empty-clause-refused g c =
+pub returns-then-not-is_empty-clause-cause : goal.returns-then-not-is_empty-clause-cause
+returns-then-not-is_empty-clause-cause g c =
     let n = g.F.FileSystem.directory c.args.file_system.now in
     let folder = c.args.folder.now in
     let found = map place_of c.in_ok-found.found.items in

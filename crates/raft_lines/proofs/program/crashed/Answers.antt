@@ -13,4 +13,4 @@ pub count_files-requires-sync-F : goal.count_files-requires-sync-F
 count_files-requires-sync-F c = λ κs. search (sendable, memory_sync) depth 20
 
 pub returns-clause-cause : goal.returns-clause-cause
-returns-clause-cause c = crash_refused c.deref.result.now (memory_directory c.count_files.new.files) (subst NameNoBytes (sym c.deref.ensures.value) c.in_ok-choices_of.ensures.bytes) c.crash.ensures.consistent c.crash.result c.crash.ensures.refused
+returns-clause-cause c = crash_refused c.deref.result.now (memory_directory c.count_files.new.files) (subst NameNoBytes (sym c.deref.ensures.value) c.in_ok-choices_of.ensures.bytes) c.crash.ensures.consistent c.crash.result c.crash.ensures.cause

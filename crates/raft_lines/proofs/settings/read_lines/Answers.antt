@@ -21,5 +21,5 @@ module _ (lines text : List ℕ) (is : text ≡ lines) (own : Config) (are : Are
 pub returns-in-Ok-clause-value : goal.returns-in-Ok-clause-value
 returns-in-Ok-clause-value c = sets c.args.lines.now c.in-Ok.text.now c.in-Ok.ensures.cases.0 c.in_ok-own.own c.in_ok-own.ensures.value c.with_text.result c.with_text.ensures.value
 
-pub returns-in-Ok-clause-refused : goal.returns-in-Ok-clause-refused
-returns-in-Ok-clause-refused c = refuses c.args.lines.now c.in-Ok.text.now c.in-Ok.ensures.cases.0 c.in_ok-own.own c.in_ok-own.ensures.value c.with_text.result c.with_text.ensures.refused
+pub returns-in-Ok-clause-cause : goal.returns-in-Ok-clause-cause
+returns-in-Ok-clause-cause c = refuses c.args.lines.now c.in-Ok.text.now c.in-Ok.ensures.cases.0 c.in_ok-own.own c.in_ok-own.ensures.value c.with_text.result c.with_text.ensures.cause

@@ -19,5 +19,5 @@ returns-in-Ok-2 c = record {
 
 pub returns-in-Err : goal.returns-in-Err
 returns-in-Err c = record {
-  value = λ bytes size is. tells_none bytes c.args.rest.now is (omega (arith, c.if-rest-ge-RECORD_HEADER_LEN.true)) c.in-Err.ensures.refused.1;
+  value = λ bytes size is. tells_none bytes c.args.rest.now is (omega (arith, c.if-rest-ge-RECORD_HEADER_LEN.true)) c.in-Err.ensures.cause.1;
 }

@@ -1,3 +1,4 @@
+use Rattle.std.proofs.lemmas.Result.{on_ok_weaker}
 use Rattle.std.proofs.Common.{◌≡◌, ◌∙◌, ◌∷◌, [], true, List, Option, Some, ap, map, inl, inr, refl, rules, subst, sym}
 use Rattle.std.specs.Prelude.{unwrap_or}
 use Rattle.raft_records.specs.Contents.{Contents, first_index_of, last_index_of}
@@ -14,6 +15,7 @@ use Rattle.raft_script.specs.declared.operation.Op.TheVariants.{CompactTo, Purge
 use Rattle.raft_script.specs.declared.operation.Outcome.TheVariants.{Count, Done, Dropped, ToCompact}
 use Rattle.raft_script.proofs.DurabilityLemmas.{alone, compaction_progress, progress_alone, written_progress}
 use Rattle.raft_script.proofs.StepsLemmas.{does_purge, does_read, in_flight, read_same}
+use Rattle.raft_script.proofs.PassedLemmas.{passes_none, passes_read}
 use Rattle.raft_script.proofs.ProgressLemmas.{purge_stands}
 use Rattle.raft_script.proofs.RunLemmas.{compaction_answered, compaction_fails, entry_answered, entry_rose, groups_answered, purge_answered, purge_fails, purge_rose, renewal_fails, steady_by, sync_fails, write_answered}
 use Rattle.raft_log_engine.specs.Purge.{HasLastId, HasOpenGroup}
@@ -123,8 +125,8 @@ returns-in-Entry-clause-failed g c =
     let n = c.get_entry.new.self in
     rw c.in-Entry.is (steady_by (has_failed e) (has_failed n) c.get_entry.result c.get_entry.ensures.failed (ap (λ (d : Durability). d.failed) c.get_entry.ensures.unchanged.state))
 
-pub returns-in-Entry-clause-refused : goal.returns-in-Entry-clause-refused
-returns-in-Entry-clause-refused g c =
+pub returns-in-Entry-clause-cause : goal.returns-in-Entry-clause-cause
+returns-in-Entry-clause-cause g c =
     let e = c.args.engine.now in
     let n = c.get_entry.new.self in
     let read = c.get_entry.ensures in (
@@ -168,132 +170,132 @@ returns-in-RewriteAppend-clause-value g c =
     let e = c.args.engine.now in
     let n = c.must_rewrite_append_queue.new.self in
     let purged = c.must_rewrite_append_queue.ensures in
-    rw c.in-RewriteAppend.is (λ m known same same_known. purge_answered (contents_of e) (queue_of n) (rewrite_queue_of n) ⊥ ⊥ (has_failed e) (has_failed n) (folders_of e) (refusals_of e) (refusals_of n) c.must_rewrite_append_queue.result purged.failed purged.cause m same)
+    rw c.in-RewriteAppend.is (λ m known same same_known. purge_answered (contents_of e) (queue_of n) (rewrite_queue_of n) ⊥ ⊥ (has_failed e) (has_failed n) (folders_of e) (refusals_of e) (refusals_of n) c.must_rewrite_append_queue.result purged.failed purged.log.cause m same)
 
 pub returns-in-RewriteAppend-clause-failed : goal.returns-in-RewriteAppend-clause-failed
 returns-in-RewriteAppend-clause-failed g c =
     let e = c.args.engine.now in
     let n = c.must_rewrite_append_queue.new.self in
     let purged = c.must_rewrite_append_queue.ensures in
-    rw c.in-RewriteAppend.is (purge_fails (contents_of e) (queue_of n) (rewrite_queue_of n) ⊥ ⊥ (has_failed e) (has_failed n) (folders_of e) (refusals_of e) (refusals_of n) c.must_rewrite_append_queue.result purged.failed purged.cause (λ there. there) (purge_stands c.must_rewrite_append_queue.result (durability_of e) (durability_of n) purged.progress) (λ gone. (purged.unchanged gone).failed))
+    rw c.in-RewriteAppend.is (purge_fails (contents_of e) (queue_of n) (rewrite_queue_of n) ⊥ ⊥ (has_failed e) (has_failed n) (folders_of e) (refusals_of e) (refusals_of n) c.must_rewrite_append_queue.result purged.failed purged.log.cause (λ there. there) (purge_stands c.must_rewrite_append_queue.result (durability_of e) (durability_of n) purged.log.progress) (λ gone. (purged.unchanged gone).failed))
 
-pub returns-in-RewriteAppend-clause-refused : goal.returns-in-RewriteAppend-clause-refused
-returns-in-RewriteAppend-clause-refused g c =
+pub returns-in-RewriteAppend-clause-cause : goal.returns-in-RewriteAppend-clause-cause
+returns-in-RewriteAppend-clause-cause g c =
     let e = c.args.engine.now in
     let n = c.must_rewrite_append_queue.new.self in
     let purged = c.must_rewrite_append_queue.ensures in
-    (purged.others.counts, purge_rose (contents_of e) (queue_of n) (rewrite_queue_of n) ⊥ ⊥ (has_failed e) (has_failed n) (folders_of e) (refusals_of e) (refusals_of n) c.must_rewrite_append_queue.result purged.failed purged.cause)
+    (purged.log.others.counts, purge_rose (contents_of e) (queue_of n) (rewrite_queue_of n) ⊥ ⊥ (has_failed e) (has_failed n) (folders_of e) (refusals_of e) (refusals_of n) c.must_rewrite_append_queue.result purged.failed purged.log.cause)
 
 pub returns-in-RewriteAppend-clause-progress : goal.returns-in-RewriteAppend-clause-progress
 returns-in-RewriteAppend-clause-progress g c =
     let e = c.args.engine.now in
     let n = c.must_rewrite_append_queue.new.self in
     let purged = c.must_rewrite_append_queue.ensures in
-    rw c.in-RewriteAppend.is (does_purge e n (RewriteAppend c.in-RewriteAppend.watermark c.in-RewriteAppend.step) (Dropped c.must_rewrite_append_queue.result) purged.progress purged.any_moment purged.unchanged)
+    rw c.in-RewriteAppend.is (does_purge e n (RewriteAppend c.in-RewriteAppend.watermark c.in-RewriteAppend.step) (Dropped c.must_rewrite_append_queue.result) purged.log.progress purged.log.any_moment purged.unchanged)
 
 pub returns-in-RewriteRewrite-clause-value : goal.returns-in-RewriteRewrite-clause-value
 returns-in-RewriteRewrite-clause-value g c =
     let e = c.args.engine.now in
     let n = c.must_rewrite_rewrite_queue.new.self in
     let purged = c.must_rewrite_rewrite_queue.ensures in
-    rw c.in-RewriteRewrite.is (λ m known same same_known. purge_answered (contents_of e) (queue_of n) (rewrite_queue_of n) (HasOpenGroup n) (HasLastId n) (has_failed e) (has_failed n) (folders_of e) (refusals_of e) (refusals_of n) c.must_rewrite_rewrite_queue.result purged.failed purged.cause m same)
+    rw c.in-RewriteRewrite.is (λ m known same same_known. purge_answered (contents_of e) (queue_of n) (rewrite_queue_of n) (HasOpenGroup n) (HasLastId n) (has_failed e) (has_failed n) (folders_of e) (refusals_of e) (refusals_of n) c.must_rewrite_rewrite_queue.result purged.failed purged.log.cause m same)
 
 pub returns-in-RewriteRewrite-clause-failed : goal.returns-in-RewriteRewrite-clause-failed
 returns-in-RewriteRewrite-clause-failed g c =
     let e = c.args.engine.now in
     let n = c.must_rewrite_rewrite_queue.new.self in
     let purged = c.must_rewrite_rewrite_queue.ensures in
-    rw c.in-RewriteRewrite.is (renewal_fails (contents_of e) (queue_of n) (rewrite_queue_of n) (HasOpenGroup n) (HasLastId n) (has_failed e) (has_failed n) (folders_of e) (refusals_of e) (refusals_of n) c.must_rewrite_rewrite_queue.result purged.failed purged.cause (purge_stands c.must_rewrite_rewrite_queue.result (durability_of e) (durability_of n) purged.progress) (λ gone. (purged.unchanged gone).failed))
+    rw c.in-RewriteRewrite.is (renewal_fails (contents_of e) (queue_of n) (rewrite_queue_of n) (HasOpenGroup n) (HasLastId n) (has_failed e) (has_failed n) (folders_of e) (refusals_of e) (refusals_of n) c.must_rewrite_rewrite_queue.result purged.failed purged.log.cause (purge_stands c.must_rewrite_rewrite_queue.result (durability_of e) (durability_of n) purged.log.progress) (λ gone. (purged.unchanged gone).failed))
 
-pub returns-in-RewriteRewrite-clause-refused : goal.returns-in-RewriteRewrite-clause-refused
-returns-in-RewriteRewrite-clause-refused g c =
+pub returns-in-RewriteRewrite-clause-cause : goal.returns-in-RewriteRewrite-clause-cause
+returns-in-RewriteRewrite-clause-cause g c =
     let e = c.args.engine.now in
     let n = c.must_rewrite_rewrite_queue.new.self in
     let purged = c.must_rewrite_rewrite_queue.ensures in
-    (purged.others.counts, purge_rose (contents_of e) (queue_of n) (rewrite_queue_of n) (HasOpenGroup n) (HasLastId n) (has_failed e) (has_failed n) (folders_of e) (refusals_of e) (refusals_of n) c.must_rewrite_rewrite_queue.result purged.failed purged.cause)
+    (purged.log.others.counts, purge_rose (contents_of e) (queue_of n) (rewrite_queue_of n) (HasOpenGroup n) (HasLastId n) (has_failed e) (has_failed n) (folders_of e) (refusals_of e) (refusals_of n) c.must_rewrite_rewrite_queue.result purged.failed purged.log.cause)
 
 pub returns-in-RewriteRewrite-clause-progress : goal.returns-in-RewriteRewrite-clause-progress
 returns-in-RewriteRewrite-clause-progress g c =
     let e = c.args.engine.now in
     let n = c.must_rewrite_rewrite_queue.new.self in
     let purged = c.must_rewrite_rewrite_queue.ensures in
-    rw c.in-RewriteRewrite.is (does_purge e n (RewriteRewrite) (Dropped c.must_rewrite_rewrite_queue.result) purged.progress purged.any_moment purged.unchanged)
+    rw c.in-RewriteRewrite.is (does_purge e n (RewriteRewrite) (Dropped c.must_rewrite_rewrite_queue.result) purged.log.progress purged.log.any_moment purged.unchanged)
 
 pub returns-in-PurgeStale-clause-value : goal.returns-in-PurgeStale-clause-value
 returns-in-PurgeStale-clause-value g c =
     let e = c.args.engine.now in
     let n = c.must_purge_all_stale.new.self in
     let purged = c.must_purge_all_stale.ensures in
-    rw c.in-PurgeStale.is (λ m known same same_known. purge_answered (contents_of e) (queue_of n) (rewrite_queue_of n) ⊥ ⊥ (has_failed e) (has_failed n) (folders_of e) (refusals_of e) (refusals_of n) c.must_purge_all_stale.result purged.failed purged.cause m same)
+    rw c.in-PurgeStale.is (λ m known same same_known. purge_answered (contents_of e) (queue_of n) (rewrite_queue_of n) ⊥ ⊥ (has_failed e) (has_failed n) (folders_of e) (refusals_of e) (refusals_of n) c.must_purge_all_stale.result purged.failed purged.log.cause m same)
 
 pub returns-in-PurgeStale-clause-failed : goal.returns-in-PurgeStale-clause-failed
 returns-in-PurgeStale-clause-failed g c =
     let e = c.args.engine.now in
     let n = c.must_purge_all_stale.new.self in
     let purged = c.must_purge_all_stale.ensures in
-    rw c.in-PurgeStale.is (purge_fails (contents_of e) (queue_of n) (rewrite_queue_of n) ⊥ ⊥ (has_failed e) (has_failed n) (folders_of e) (refusals_of e) (refusals_of n) c.must_purge_all_stale.result purged.failed purged.cause (λ there. there) (purge_stands c.must_purge_all_stale.result (durability_of e) (durability_of n) purged.progress) (λ gone. (purged.unchanged gone).failed))
+    rw c.in-PurgeStale.is (purge_fails (contents_of e) (queue_of n) (rewrite_queue_of n) ⊥ ⊥ (has_failed e) (has_failed n) (folders_of e) (refusals_of e) (refusals_of n) c.must_purge_all_stale.result purged.failed purged.log.cause (λ there. there) (purge_stands c.must_purge_all_stale.result (durability_of e) (durability_of n) purged.log.progress) (λ gone. (purged.unchanged gone).failed))
 
-pub returns-in-PurgeStale-clause-refused : goal.returns-in-PurgeStale-clause-refused
-returns-in-PurgeStale-clause-refused g c =
+pub returns-in-PurgeStale-clause-cause : goal.returns-in-PurgeStale-clause-cause
+returns-in-PurgeStale-clause-cause g c =
     let e = c.args.engine.now in
     let n = c.must_purge_all_stale.new.self in
     let purged = c.must_purge_all_stale.ensures in
-    (purged.others.counts, purge_rose (contents_of e) (queue_of n) (rewrite_queue_of n) ⊥ ⊥ (has_failed e) (has_failed n) (folders_of e) (refusals_of e) (refusals_of n) c.must_purge_all_stale.result purged.failed purged.cause)
+    (purged.log.others.counts, purge_rose (contents_of e) (queue_of n) (rewrite_queue_of n) ⊥ ⊥ (has_failed e) (has_failed n) (folders_of e) (refusals_of e) (refusals_of n) c.must_purge_all_stale.result purged.failed purged.log.cause)
 
 pub returns-in-PurgeStale-clause-progress : goal.returns-in-PurgeStale-clause-progress
 returns-in-PurgeStale-clause-progress g c =
     let e = c.args.engine.now in
     let n = c.must_purge_all_stale.new.self in
     let purged = c.must_purge_all_stale.ensures in
-    rw c.in-PurgeStale.is (does_purge e n (PurgeStale) (Dropped c.must_purge_all_stale.result) purged.progress purged.any_moment purged.unchanged)
+    rw c.in-PurgeStale.is (does_purge e n (PurgeStale) (Dropped c.must_purge_all_stale.result) purged.log.progress purged.log.any_moment purged.unchanged)
 
 pub returns-in-RewriteAppend-clause-purged : goal.returns-in-RewriteAppend-clause-purged
 returns-in-RewriteAppend-clause-purged g c =
     let purged = c.must_rewrite_append_queue.ensures in
-    rw c.in-RewriteAppend.is (purged_append c.in-RewriteAppend.watermark c.in-RewriteAppend.step c.must_rewrite_append_queue.result c.args.engine.now c.must_rewrite_append_queue.new.self purged.value purged.files)
+    rw c.in-RewriteAppend.is (purged_append c.in-RewriteAppend.watermark c.in-RewriteAppend.step c.must_rewrite_append_queue.result c.args.engine.now c.must_rewrite_append_queue.new.self purged.files.value (on_ok_weaker c.must_rewrite_append_queue.result (λ files. files.0) purged.files.files))
 
 pub returns-in-RewriteRewrite-clause-purged : goal.returns-in-RewriteRewrite-clause-purged
 returns-in-RewriteRewrite-clause-purged g c =
     let purged = c.must_rewrite_rewrite_queue.ensures in
-    rw c.in-RewriteRewrite.is (purged_rewrite c.must_rewrite_rewrite_queue.result c.args.engine.now c.must_rewrite_rewrite_queue.new.self purged.value purged.files)
+    rw c.in-RewriteRewrite.is (purged_rewrite c.must_rewrite_rewrite_queue.result c.args.engine.now c.must_rewrite_rewrite_queue.new.self purged.files.value (on_ok_weaker c.must_rewrite_rewrite_queue.result (λ files. files.0) purged.files.files))
 
 pub returns-in-PurgeStale-clause-purged : goal.returns-in-PurgeStale-clause-purged
 returns-in-PurgeStale-clause-purged g c =
     let purged = c.must_purge_all_stale.ensures in
-    rw c.in-PurgeStale.is (purged_stale c.must_purge_all_stale.result c.args.engine.now c.must_purge_all_stale.new.self purged.value purged.files)
+    rw c.in-PurgeStale.is (purged_stale c.must_purge_all_stale.result c.args.engine.now c.must_purge_all_stale.new.self purged.files.value purged.files.files)
 
 pub returns-in-Purge-clause-value : goal.returns-in-Purge-clause-value
 returns-in-Purge-clause-value g c =
     let e = c.args.engine.now in
     let n = c.purge_expired_files.new.self in
     let purged = c.purge_expired_files.ensures in
-    rw c.in-Purge.is (λ m known same same_known. purge_answered (contents_of e) (queue_of n) (rewrite_queue_of n) (HasOpenGroup n) (HasLastId n) (has_failed e) (has_failed n) (folders_of e) (refusals_of e) (refusals_of n) c.purge_expired_files.result purged.failed purged.cause m same)
+    rw c.in-Purge.is (λ m known same same_known. purge_answered (contents_of e) (queue_of n) (rewrite_queue_of n) (HasOpenGroup n) (HasLastId n) (has_failed e) (has_failed n) (folders_of e) (refusals_of e) (refusals_of n) c.purge_expired_files.result purged.failed purged.log.cause m same)
 
 pub returns-in-Purge-clause-failed : goal.returns-in-Purge-clause-failed
 returns-in-Purge-clause-failed g c =
     let e = c.args.engine.now in
     let n = c.purge_expired_files.new.self in
     let purged = c.purge_expired_files.ensures in
-    rw c.in-Purge.is (renewal_fails (contents_of e) (queue_of n) (rewrite_queue_of n) (HasOpenGroup n) (HasLastId n) (has_failed e) (has_failed n) (folders_of e) (refusals_of e) (refusals_of n) c.purge_expired_files.result purged.failed purged.cause (purge_stands c.purge_expired_files.result (durability_of e) (durability_of n) purged.progress) (λ gone. (purged.unchanged gone).failed))
+    rw c.in-Purge.is (renewal_fails (contents_of e) (queue_of n) (rewrite_queue_of n) (HasOpenGroup n) (HasLastId n) (has_failed e) (has_failed n) (folders_of e) (refusals_of e) (refusals_of n) c.purge_expired_files.result purged.failed purged.log.cause (purge_stands c.purge_expired_files.result (durability_of e) (durability_of n) purged.log.progress) (λ gone. (purged.unchanged gone).failed))
 
-pub returns-in-Purge-clause-refused : goal.returns-in-Purge-clause-refused
-returns-in-Purge-clause-refused g c =
+pub returns-in-Purge-clause-cause : goal.returns-in-Purge-clause-cause
+returns-in-Purge-clause-cause g c =
     let e = c.args.engine.now in
     let n = c.purge_expired_files.new.self in
     let purged = c.purge_expired_files.ensures in
-    (purged.others.counts, purge_rose (contents_of e) (queue_of n) (rewrite_queue_of n) (HasOpenGroup n) (HasLastId n) (has_failed e) (has_failed n) (folders_of e) (refusals_of e) (refusals_of n) c.purge_expired_files.result purged.failed purged.cause)
+    (purged.log.others.counts, purge_rose (contents_of e) (queue_of n) (rewrite_queue_of n) (HasOpenGroup n) (HasLastId n) (has_failed e) (has_failed n) (folders_of e) (refusals_of e) (refusals_of n) c.purge_expired_files.result purged.failed purged.log.cause)
 
 pub returns-in-Purge-clause-progress : goal.returns-in-Purge-clause-progress
 returns-in-Purge-clause-progress g c =
     let e = c.args.engine.now in
     let n = c.purge_expired_files.new.self in
     let purged = c.purge_expired_files.ensures in
-    rw c.in-Purge.is (does_purge e n Purge (ToCompact c.purge_expired_files.result) purged.progress purged.any_moment purged.unchanged)
+    rw c.in-Purge.is (does_purge e n Purge (ToCompact c.purge_expired_files.result) purged.log.progress purged.log.any_moment purged.unchanged)
 
 pub returns-in-Purge-clause-purged : goal.returns-in-Purge-clause-purged
 returns-in-Purge-clause-purged g c =
     let purged = c.purge_expired_files.ensures in
-    rw c.in-Purge.is (purged_expired c.purge_expired_files.result c.args.engine.now c.purge_expired_files.new.self purged.value)
+    rw c.in-Purge.is (purged_expired c.purge_expired_files.result c.args.engine.now c.purge_expired_files.new.self purged.expired.value)
 
 -- The batches of a group.
 
@@ -319,9 +321,9 @@ returns-in-Ok-build_group-clause-failed g c =
     let write = c.write_group.ensures in
     rw c.in-WriteGroup.is (group_fails c.in-WriteGroup.parts c.deref_mut.result.now c.write_group.new.batches c.deref-in-Ok-build_group.result.now c.args.engine.now c.write_group.new.self (group_built g at) (group_flags g at) c.write_group.result write.ok write.failed (λ failed. (write.unchanged failed).0.failed) write.cause)
 
-pub returns-in-Ok-build_group-clause-refused : goal.returns-in-Ok-build_group-clause-refused
-returns-in-Ok-build_group-clause-refused g c =
-    let at = (goal.at.returns-in-Ok-build_group-clause-refused g c).After-write_group in
+pub returns-in-Ok-build_group-clause-cause : goal.returns-in-Ok-build_group-clause-cause
+returns-in-Ok-build_group-clause-cause g c =
+    let at = (goal.at.returns-in-Ok-build_group-clause-cause g c).After-write_group in
     let write = c.write_group.ensures in
     group_refuses c.in-WriteGroup.parts c.deref_mut.result.now c.write_group.new.batches c.deref-in-Ok-build_group.result.now c.args.engine.now c.write_group.new.self (group_built g at) (group_flags g at) c.write_group.result write.ok write.cause write.others.counts
 
@@ -343,3 +345,60 @@ returns-in-Err-build_group-clause-failed g c =
 
 pub returns-in-Err-build_group-clause-progress : goal.returns-in-Err-build_group-clause-progress
 returns-in-Err-build_group-clause-progress g c = let e = c.args.engine.now in rw c.in-WriteGroup.is (does_read e e _ _ (read_same e) refl refl)
+
+-- Log files that an opening passed over.
+
+pub returns-in-Ok-clause-passed : goal.returns-in-Ok-clause-passed
+returns-in-Ok-clause-passed g c = record { files = c.write.ensures.advance.log.passed; still = c.write.ensures.advance.log.still }
+
+pub returns-in-Ok-build_group-clause-passed : goal.returns-in-Ok-build_group-clause-passed
+returns-in-Ok-build_group-clause-passed g c = record { files = c.write_group.ensures.others.passed; still = c.write_group.ensures.others.still }
+
+pub returns-in-Sync-clause-passed : goal.returns-in-Sync-clause-passed
+returns-in-Sync-clause-passed g c = record { files = c.sync.ensures.advance.log.passed; still = c.sync.ensures.advance.log.still }
+
+pub returns-in-CompactTo-clause-passed : goal.returns-in-CompactTo-clause-passed
+returns-in-CompactTo-clause-passed g c = record { files = c.compact_to.ensures.advance.log.passed; still = c.compact_to.ensures.advance.log.still }
+
+pub returns-in-RewriteAppend-clause-passed : goal.returns-in-RewriteAppend-clause-passed
+returns-in-RewriteAppend-clause-passed g c =
+    let log = c.must_rewrite_append_queue.ensures.log.others in
+    record { files = log.passed; still = log.still }
+
+pub returns-in-RewriteRewrite-clause-passed : goal.returns-in-RewriteRewrite-clause-passed
+returns-in-RewriteRewrite-clause-passed g c =
+    let log = c.must_rewrite_rewrite_queue.ensures.log.others in
+    record { files = log.passed; still = log.still }
+
+pub returns-in-PurgeStale-clause-passed : goal.returns-in-PurgeStale-clause-passed
+returns-in-PurgeStale-clause-passed g c =
+    let log = c.must_purge_all_stale.ensures.log.others in
+    record { files = log.passed; still = log.still }
+
+pub returns-in-Purge-clause-passed : goal.returns-in-Purge-clause-passed
+returns-in-Purge-clause-passed g c =
+    let log = c.purge_expired_files.ensures.log.others in
+    record { files = log.passed; still = log.still }
+
+pub returns-in-Entry-clause-passed : goal.returns-in-Entry-clause-passed
+returns-in-Entry-clause-passed g c =
+    let read = c.get_entry.ensures.unchanged in
+    passes_read c.args.engine.now c.get_entry.new.self read.files read.pipes
+
+pub returns-in-Err-clause-passed : goal.returns-in-Err-clause-passed
+returns-in-Err-clause-passed g c = passes_none c.args.engine.now
+
+pub returns-in-Err-build_group-clause-passed : goal.returns-in-Err-build_group-clause-passed
+returns-in-Err-build_group-clause-passed g c = passes_none c.args.engine.now
+
+pub returns-in-Get-clause-passed : goal.returns-in-Get-clause-passed
+returns-in-Get-clause-passed g c = passes_none c.args.engine.now
+
+pub returns-in-First-clause-passed : goal.returns-in-First-clause-passed
+returns-in-First-clause-passed g c = passes_none c.args.engine.now
+
+pub returns-in-Last-clause-passed : goal.returns-in-Last-clause-passed
+returns-in-Last-clause-passed g c = passes_none c.args.engine.now
+
+pub returns-in-Groups-clause-passed : goal.returns-in-Groups-clause-passed
+returns-in-Groups-clause-passed g c = passes_none c.args.engine.now

@@ -1,4 +1,4 @@
-use Rattle.std.proofs.Common.{◌≡◌, ◌∷◌, ◌||◌, ℕ, Option, false, is_some, List, ◌++◌, ap, append_assoc, arith, ◌∙◌, Bool, [], inl, inr, refl, sym, subst}
+use Rattle.std.proofs.Common.{◌≡◌, ◌∷◌, ◌||◌, ℕ, Option, false, is_some, List, ◌++◌, map, ap, append_assoc, arith, ◌∙◌, Bool, [], inl, inr, refl, sym, subst}
 use Rattle.std.proofs.lemmas.Result.{err_from_is_err_and}
 use Rattle.raft_records.specs.Contents.{Contents, after_batches}
 use Rattle.raft_records.specs.Item.{Batch}
@@ -13,10 +13,15 @@ use Rattle.raft_pipes.specs.Completed.{ReadsCompletedRecordsIfSimpleOf}
 use Rattle.raft_pipes.specs.Folder.{AreClear}
 use Rattle.raft_held.specs.Queues.{AreSingleIn}
 use Rattle.raft_script.specs.Trial.{LeavesDetectable}
-use Rattle.raft_script.specs.Durability.{LeavesAllowedAfter, Progress, State, Steps, durable_groups_of, progress_from, state_of}
-use Rattle.raft_script.proofs.StepsLemmas.{failure_place, leads_moments, never_failed, nothing_known}
+use Rattle.raft_script.specs.Durability.{IsCall, IsStep, LeavesAllowedAfter, Steps, durable_groups_of}
+use Rattle.raft_script.specs.Headline.{RunState, progress_from, run_state_of}
+use Rattle.raft_script.proofs.StepsLemmas.{failure_place, leads_moments, never_failed, nothing_known, steps_shown}
 use Rattle.raft_script.proofs.TrialLemmas.{opened_after, refused_after}
 use Rattle.raft_script.proofs.trials.run_over.Goals as goal
+
+-- a state has failed
+abbrev fails : RunState → Bool
+fails s = s.failed
 
 pub returns-in_ok-ran-in-Ok-clause-ok : goal.returns-in_ok-ran-in-Ok-clause-ok
 returns-in_ok-ran-in-Ok-clause-ok g c =
@@ -34,17 +39,18 @@ returns-in_ok-ran-in-Ok-clause-ok g c =
     let run = c.in_ok-ran-in-Ok.ensures in
     let durable : durable_of e ≡ m = opened.ok.synced.0 ∙ opened.contents in
     let left = opened_after (folders_of e) dir m (durable_of e) (unsynced_of e) ops outcomes ran.failed_at (directory_of after) opened.ok.folders_are durable opened.ok.synced.1 run.ok.now in
-    let steps : Steps dir m (known_at dir files) (progress_from []) (state_of e) ops outcomes ran.failed_at (state_of after) =
-    subst (λ (f : Folders). Steps f m (known_at dir files) (progress_from []) (state_of e) ops outcomes ran.failed_at (state_of after)) opened.ok.folders_are
-    (subst (λ (x : Contents). Steps (folders_of e) x (known_at dir files) (progress_from []) (state_of e) ops outcomes ran.failed_at (state_of after)) durable
-    (subst (λ (k : ℕ → Bool). Steps (folders_of e) (durable_of e) k (progress_from []) (state_of e) ops outcomes ran.failed_at (state_of after)) known
-    (subst (λ (l : List Batch). Steps (folders_of e) (durable_of e) (durable_groups_of e) (progress_from l) (state_of e) ops outcomes ran.failed_at (state_of after)) opened.ok.synced.1 run.ok.steps))) in
+    let shown = steps_shown run_state_of (IsCall (folders_of e) (durable_of e) (durable_groups_of e)) (IsStep (folders_of e) (durable_of e) (durable_groups_of e)) (λ p op outcome a b call. call.step) (durable_of e) has_failed fails (λ a. refl) (progress_from (unsynced_of e)) e ops outcomes ran.failed_at after run.ok.steps in
+    let steps : Steps fails (IsStep dir m (known_at dir files)) m (progress_from []) (run_state_of e) ops outcomes ran.failed_at (run_state_of after) =
+    subst (λ (f : Folders). Steps fails (IsStep f m (known_at dir files)) m (progress_from []) (run_state_of e) ops outcomes ran.failed_at (run_state_of after)) opened.ok.folders_are
+    (subst (λ (x : Contents). Steps fails (IsStep (folders_of e) x (known_at dir files)) x (progress_from []) (run_state_of e) ops outcomes ran.failed_at (run_state_of after)) durable
+    (subst (λ (k : ℕ → Bool). Steps fails (IsStep (folders_of e) (durable_of e) k) (durable_of e) (progress_from []) (run_state_of e) ops outcomes ran.failed_at (run_state_of after)) known
+    (subst (λ (l : List Batch). Steps fails (IsStep (folders_of e) (durable_of e) (durable_groups_of e)) (durable_of e) (progress_from l) (run_state_of e) ops outcomes ran.failed_at (run_state_of after)) opened.ok.synced.1 shown))) in
     λ _. record {
       answered = inl (record {
         opened = refl;
-        before = state_of e;
+        before = run_state_of e;
         stands = opened.ok.stands;
-        now = state_of after;
+        now = run_state_of after;
         moments = sym c.give_up.ensures.unchanged.1;
         steps = steps;
         counted = (let rose = run.ok.counted in let same = c.give_up.ensures.unchanged.2 in omega (arith, rose, ap (λ (r : Refusals). r.storage) same));
@@ -91,7 +97,7 @@ returns-in_ok-ran-in-Ok-clause-crash g c = λ done opened none.
     let folders : folders_of ran ≡ dir = c.in_ok-ran-in-Ok.ensures.folder ∙ c.in-Ok.ensures.opened.ok.folders_are in
     let steps = c.in_ok-ran-in-Ok.ensures.ok.steps in
     let stood = c.in-Ok.ensures.opened.ok.stands in
-    let stands : has_failed ran ≡ false = sym (ap (λ (s : State). s.failed) steps.ends) ∙ never_failed (state_of e) steps.states stood (sym none ∙ steps.place ∙ ap (λ (b : Bool). failure_place b steps.states) stood) in
+    let stands : has_failed ran ≡ false = sym (ap has_failed steps.ends) ∙ never_failed has_failed e steps.states stood (sym none ∙ steps.place ∙ ap (λ (b : Bool). failure_place b (map has_failed steps.states)) stood) in
     let begun : begun_of ran ≡ g.F.FileSystem.directory c.args.files ∷ [] = c.in_ok-ran-in-Ok.ensures.others ∙ c.in-Ok.ensures.opened.value in
     let all : (queue : LogQueue) → AllByRecursion (ReadsCompletedRecordsIfSimpleOf queue dir) (begun_of ran) = λ queue. subst (λ (l : List Directory). AllByRecursion (ReadsCompletedRecordsIfSimpleOf queue dir) l) (sym begun) ((λ past. done queue), tt) in
     let told : LeavesDetectable dir (directory_of ran) = subst (λ (p : Folders). ((queue : LogQueue) → AllByRecursion (ReadsCompletedRecordsIfSimpleOf queue p) (begun_of ran)) → LeavesDetectable p (directory_of ran)) folders (c.the_damage_of_an_engine_is_detectable.ensures.crash stands) all in
@@ -109,9 +115,9 @@ returns-in_ok-ran-in-Ok-clause-any_moment g c =
     let before = g.F.FileSystem.moments c.args.files in
     let opened = c.in-Ok.ensures.opened.any_moment in
     let allowed = c.in_ok-ran-in-Ok.ensures.any_moment in
-    let run = leads_moments (folders_of e) (durable_of e) (progress_from (unsynced_of e)) (state_of e) c.args.ops.now c.in_ok-ran-in-Ok.ran.outcomes.items allowed.0 allowed.1 in (
+    let run = leads_moments (folders_of e) (durable_of e) (progress_from (unsynced_of e)) (run_state_of e) c.args.ops.now c.in_ok-ran-in-Ok.ran.outcomes.items allowed.0 allowed.1 in (
       run.0 ++ opened.added,
-      c.give_up.ensures.unchanged.1 ∙ sym (ap (λ (s : State). s.moments) allowed.2) ∙ run.1 ∙ ap (λ (l : List Directory). run.0 ++ l) opened.is ∙ sym (append_assoc run.0 opened.added before),
+      c.give_up.ensures.unchanged.1 ∙ sym (ap (λ (s : RunState). s.moments) allowed.2) ∙ run.1 ∙ ap (λ (l : List Directory). run.0 ++ l) opened.is ∙ sym (append_assoc run.0 opened.added before),
     )
 
 pub returns-in-Err-clause-any_moment : goal.returns-in-Err-clause-any_moment

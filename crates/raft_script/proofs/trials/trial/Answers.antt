@@ -9,7 +9,7 @@ use Rattle.raft_tables.specs.Known.{known_in}
 use Rattle.raft_base.specs.declared.pipe_log.LogQueue.{LogQueue}
 use Rattle.raft_pipes.specs.Folder.{readable_queue}
 use Rattle.raft_pipes.specs.Numbered.{in_queue}
-use Rattle.raft_script.specs.Durability.{CanBeOpened}
+use Rattle.raft_script.specs.Headline.{OpensTolerantly}
 use Rattle.raft_config.specs.Folders.{folders_in}
 use Rattle.raft_config.proofs.ConfigLemmas.{contradiction-copy, same_contradiction}
 use Rattle.raft_config.specs.Sanitized.{IsContradiction, contradiction}
@@ -34,7 +34,7 @@ pub returns-clause-value : goal.returns-clause-value
 returns-clause-value c =
     let config = c.args.config in
     let dir = folders_in config in
-    let again = c.in_ok-again.again in
+    let copy = c.in_ok-again.again in
     let first = c.new_files.result in
     let last = c.in_ok-ran.files in
     let before = memory_directory first in
@@ -48,34 +48,34 @@ returns-clause-value c =
     run_shown config c.args.ops.now ran (shown_of first) (shown_of last) (none_known dir before (unread free)) (true_of_none dir before (c.crash_leaves_contents.ensures.none dir before) free none) c.in_ok-ran.ensures.ok in
     let m = memory_directory c.in_ok-left.left in
     let restarted = c.in_ok-left.ensures.ok in
-    let copied : contradiction again ≡ contradiction config = contradiction-copy config again c.in_ok-again.ensures.value in
-    let same : folders_in again ≡ dir = same_folders config again c.in_ok-again.ensures.value in
+    let copied : contradiction copy ≡ contradiction config = contradiction-copy config copy c.in_ok-again.ensures.value in
+    let same : folders_in copy ≡ dir = same_folders config copy c.in_ok-again.ensures.value in
     let mode = config.recovery_mode in
-    let mode_is : again.recovery_mode ≡ mode = ap (λ (x : Config). x.recovery_mode) c.in_ok-again.ensures.value.others in
+    let mode_is : copy.recovery_mode ≡ mode = ap (λ (x : Config). x.recovery_mode) c.in_ok-again.ensures.value.others in
     record {
       last = last;
       runs = record {
         first = first;
-        stop_is = search rules;
         none = none;
-        uncounted = c.new_files.ensures.cause;
+        fails = c.new_files.ensures.stop;
         added = c.in_ok-ran.ensures.any_moment.0;
         later = c.in_ok-ran.ensures.any_moment.1;
         free = λ opened. free_of_clear dir before (c.in_ok-ran.ensures.clear opened);
         runs = shown;
       };
       left = leaves;
-      after = m;
+      again = c.in_ok-left.left;
       restarted = restarted;
+      fails = (c.in_ok-left.ensures.others.1, c.in_ok-left.ensures.others.0, c.in_ok-left.ensures.counts);
       detectable = λ opened stands whole stale. c.in_ok-ran.ensures.crash (none_done dir before (λ absent queue. (c.a_queue_recovers_its_batches.ensures.none queue dir before absent).0) none) opened stands (λ queue f kept file at. record { only_writes = c.in_ok-left.ensures.only_writes f.1 file at }) stale c.in_ok-left.ensures.consistent c.args.choices.now whole;
       torn = λ named before queue f last file at.
           let read = before queue f file last at in
           c.premise_can_be_met.ensures.own f.1 (in_queue queue f.0) files file at read.0 c.in_ok-left.ensures.consistent read.1 c.args.choices.now named read.2 file at;
-      found = image_same (folders_in again) dir m c.open_image.result same c.open_image.ensures.value;
+      found = image_same (folders_in copy) dir m c.open_image.result same c.open_image.ensures.value;
       refused = λ free detectable tolerant fine.
-          let opens : CanBeOpened dir m = ((shown free).after.2 left m leaves restarted).opens detectable in
-          opened_outside mode again.recovery_mode dir (folders_in again) m c.open_image.result mode_is same (opens.openable mode tolerant) opens.clear opens.single (c.open_image.ensures.refused (copied ∙ fine));
-      cause = λ free. opened_log (IsContradiction config) (IsContradiction again) mode again.recovery_mode dir (folders_in again) m c.open_image.result (λ e no. same_contradiction config again e copied no) mode_is same
+          let opens : OpensTolerantly dir m = ((shown free).after.2 left m leaves restarted).opens detectable in
+          opened_outside mode copy.recovery_mode dir (folders_in copy) m c.open_image.result mode_is same (opens.openable mode tolerant) opens.clear opens.single (c.open_image.ensures.refused (copied ∙ fine));
+      cause = λ free. opened_log (IsContradiction config) (IsContradiction copy) mode copy.recovery_mode dir (folders_in copy) m c.open_image.result (λ e no. same_contradiction config copy e copied no) mode_is same
           (clear_restarted dir files m left restarted (shown free).clear) (single_restarted dir files m left restarted (shown free).single) c.open_image.ensures.cause;
     }
 
@@ -93,15 +93,14 @@ returns-in_err-left-clause-cause c =
     let shown : HaveNoLogPath dir → RunsOver config no_contents (known_in []) c.args.ops.now ran (shown_of first) (shown_of last) = λ free.
     run_shown config c.args.ops.now ran (shown_of first) (shown_of last) (none_known dir before (unread free)) (true_of_none dir before (c.crash_leaves_contents.ensures.none dir before) free none) c.in_ok-ran.ensures.ok in
     let p = err_from_is_err_and c.from_residual-in_err-left.result c.from_residual-in_err-left.ensures.1 in
-    rw (p.1, p.2) (choices_refused files c.args.choices.now c.in_err-left.field-0.0 (λ named. c.premise_can_be_met.ensures.allowed c.args.choices.now files named c.in_err-left.ensures.consistent) c.in_err-left.ensures.refused
+    rw (p.1, p.2) (choices_refused files c.args.choices.now c.in_err-left.field-0.0 (λ named. c.premise_can_be_met.ensures.allowed c.args.choices.now files named c.in_err-left.ensures.consistent) c.in_err-left.ensures.cause
     (λ not_left. record {
       ran = ran;
       last = last;
       runs = record {
         first = first;
-        stop_is = search rules;
         none = none;
-        uncounted = c.new_files.ensures.cause;
+        fails = c.new_files.ensures.stop;
         added = c.in_ok-ran.ensures.any_moment.0;
         later = c.in_ok-ran.ensures.any_moment.1;
         free = λ opened. free_of_clear dir before (c.in_ok-ran.ensures.clear opened);

@@ -18,4 +18,4 @@ returns-in-Ok c = record { value = (refl, c.in-Ok.ensures.ok, keeps_from _ _ _ _
 pub returns-in-Err : goal.returns-in-Err
 returns-in-Err c =
     let kept : to_z w32 (of_z w32 c.in-Err.unopened.code) ≡ c.in-Err.unopened.code = search rules in
-    record { value = (unopened_from _ _ _ _ _ _ _ (sym kept) c.requires.unrefused c.in-Err.ensures.refused, keeps_from _ _ _ _ _ _ c.requires.new c.in-Err.ensures.any_moment) }
+    record { value = (unopened_from _ _ _ _ _ _ _ (sym kept) c.requires.unrefused c.in-Err.ensures.cause, keeps_from _ _ _ _ _ _ c.requires.new c.in-Err.ensures.any_moment) }

@@ -21,8 +21,8 @@ returns-in-Err-clause-keeps g c = elim c.match-add_items.branch [
 pub returns-in-Err-clause-cause : goal.returns-in-Err-clause-cause
 returns-in-Err-clause-cause g c = elim c.match-add_items.branch [
   | in-Ok w ↦ inr (items_refused _ w.write-done.new.self _ _ _ w.write-done.result _ (sym w.done-is ∙ c.in-Err.is) (λ i. (w.self-is i).1.1.0) (taken_items c.args.self.now.emptied w.in-Ok.ensures.ok) w.write-done.ensures.failed w.write-done.ensures.cause)
-  | in-Err-Malformed w ↦ inl (inl (none_taken _ _ w.in-Err-Malformed.field-0-is w.in-Err-Malformed.ensures.refused, invalid_code (sym w.done-is ∙ c.in-Err.is)), λ i. (w.self-is i).1.1.0)
+  | in-Err-Malformed w ↦ inl (inl (none_taken _ _ w.in-Err-Malformed.field-0-is w.in-Err-Malformed.ensures.cause, invalid_code (sym w.done-is ∙ c.in-Err.is)), λ i. (w.self-is i).1.1.0)
   | in-Err-Refused w ↦
       let is : w.in-Err-Refused.field-0 ≡ Refused c.in-Err.fault = (let shown = w.in-Err-Refused.field-0-is in let fault = w.in-Err-Refused.fault-is in let done = w.done-is in let err = c.in-Err.is in cc) in
-      inl (inr (item_refused _ _ _ is w.in-Err-Refused.ensures.refused), λ i. (w.self-is i).1.1.0)
+      inl (inr (item_refused _ _ _ is w.in-Err-Refused.ensures.cause), λ i. (w.self-is i).1.1.0)
 ]

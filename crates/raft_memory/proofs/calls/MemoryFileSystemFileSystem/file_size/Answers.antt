@@ -12,8 +12,8 @@ returns-in-Some-get-clause-size c =
     let stands : tree.get_by_text c.args.self.now.namespace.files path ≡ Some c.in-Some-get.file.now = search rules in
     (c.in-Some-get.file.now, file_at-namespace_directory c.args.self.now.namespace path ∙ stands, ap length c.bytes.ensures.value)
 
-pub returns-in-None-clause-refused : goal.returns-in-None-clause-refused
-returns-in-None-clause-refused c =
+pub returns-in-None-clause-cause : goal.returns-in-None-clause-cause
+returns-in-None-clause-cause c =
     let path = string_bytes c.args.handle.now.path in
     let none : tree.get_by_text c.args.self.now.namespace.files path ≡ None = search rules in
     let cause : IsAbsent (memory_directory c.args.self.now) path c.count-in-None.result = (c.count-in-None.ensures.value, file_at-namespace_directory c.args.self.now.namespace path ∙ none) in

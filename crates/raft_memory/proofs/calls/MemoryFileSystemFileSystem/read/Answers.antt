@@ -12,8 +12,8 @@ returns-in-Some-get-clause-ok c =
     subst (λ o. ReadsAt o c.args.at c.copy_from.result c.args.bytes.now c.copy_from.new.bytes) (sym (file_at-namespace_directory c.args.self.now.namespace path ∙ stands))
     (subst (λ b. IsReading b c.args.at c.copy_from.result c.args.bytes.now c.copy_from.new.bytes) c.bytes.ensures.value c.copy_from.ensures)
 
-pub returns-in-None-clause-refused : goal.returns-in-None-clause-refused
-returns-in-None-clause-refused c =
+pub returns-in-None-clause-cause : goal.returns-in-None-clause-cause
+returns-in-None-clause-cause c =
     let path = string_bytes c.args.reader.now.path in
     let none : tree.get_by_text c.args.self.now.namespace.files path ≡ None = search rules in
     inr (c.refuse-in-None.ensures.value, file_at-namespace_directory c.args.self.now.namespace path ∙ none)

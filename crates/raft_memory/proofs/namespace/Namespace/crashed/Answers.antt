@@ -47,8 +47,8 @@ loop-path-preserved c =
       copied = subst (λ l. Copied (IsLeft (left_by c.args.choices.now (namespace_directory c.args.self.now))) l c.put_left.new.files) (sym more) turn.1;
     }
 
-pub returns-in_err-put_left-clause-refused : goal.returns-in_err-put_left-clause-refused
-returns-in_err-put_left-clause-refused c =
+pub returns-in_err-put_left-clause-cause : goal.returns-in_err-put_left-clause-cause
+returns-in_err-put_left-clause-cause c =
     let done = map deref_pair c.loop-path.yielded in
     let k = c.in-Some.path.now in
     let file = c.in-Some.file.now in
@@ -56,6 +56,6 @@ returns-in_err-put_left-clause-refused c =
     let count : c.loop-path.turn ≡ length done = c.loop-path.invariant.count ∙ sym (length-map c.loop-path.yielded deref_pair) in
     let pick : c.choice_at.result.now ≡ slice_index_or c.args.choices.now (length done) choice.Synced = c.choice_at.ensures ∙ ap (slice_index_or c.args.choices.now c.loop-path.turn) c.loop-path.invariant.left_over ∙ ap (λ (i : ℕ). slice_index_or c.args.choices.now i choice.Synced) count in
     let allowed = allowed_here c.args.choices.now c.args.self.now done c.loop-path.path-iterator c.next.new.self k file c.loop-path.invariant.whole next c.iter-path-items.ensures.ordered in
-    let refused = refuses_unless_more _ (Leaves (namespace_directory c.args.self.now) (left_by c.args.choices.now (namespace_directory c.args.self.now))) c.in_err-put_left.field-0.0 allowed (rw pick at c.in_err-put_left.ensures.refused) in
+    let refused = refuses_unless_more _ (Leaves (namespace_directory c.args.self.now) (left_by c.args.choices.now (namespace_directory c.args.self.now))) c.in_err-put_left.field-0.0 allowed (rw pick at c.in_err-put_left.ensures.cause) in
     let gave = err_from_is_err_and c.from_residual-in_err-put_left.result c.from_residual-in_err-put_left.ensures.1 in
     rw (gave.1, gave.2) refused

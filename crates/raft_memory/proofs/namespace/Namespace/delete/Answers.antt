@@ -5,8 +5,8 @@ use Rattle.std.proofs.lemmas.Grind.{common_steps}
 use Rattle.raft_memory.proofs.MemoryLemmas.{file_at-namespace_directory, removed_after, none_from_not_some}
 use Rattle.raft_memory.proofs.namespace.Namespace.delete.Goals as goal
 
-pub returns-then-not-contains_key-clause-refused : goal.returns-then-not-contains_key-clause-refused
-returns-then-not-contains_key-clause-refused c =
+pub returns-then-not-contains_key-clause-cause : goal.returns-then-not-contains_key-clause-cause
+returns-then-not-contains_key-clause-cause c =
     let lacks : is_some (tree.get_by_text c.args.self.now.files c.args.path.now) ≡ false = grind (arith, common_steps) in
     (refl, file_at-namespace_directory c.args.self.now c.args.path.now ∙ none_from_not_some _ lacks)
 

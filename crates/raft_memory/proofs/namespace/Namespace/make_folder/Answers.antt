@@ -15,8 +15,8 @@ returns-then-has_folder-clause-ok c =
     let stands : folders_of c.args.self.now.folders.items c.args.path.now ≡ true = search rules in
     folder_made_again c.args.self.now.files c.args.self.now.folders.items c.args.path.now stands
 
-pub returns-then-any-clause-refused : goal.returns-then-any-clause-refused
-returns-then-any-clause-refused c =
+pub returns-then-any-clause-cause : goal.returns-then-any-clause-cause
+returns-then-any-clause-cause c =
     let files = c.args.self.now.files in
     let path = c.args.path.now in
     let found = any_from_yields_List (λ k. is_on_way (string_bytes k) path) _ _ c.any.result c.any.ensures.ran (YieldsList-from_rest (tree.keys files) c.keys.ensures.rest) (λ x b q k. search (rules, tests)) in

@@ -13,4 +13,4 @@ pub returns : goal.returns
 returns c =
     let all : map string_bytes c.loop-path.names.items ≡ filter_map (name_in c.args.folder.now) (map string_bytes (tree.keys c.args.self.now.files)) = grind (arith, common_steps, append-nil, c.in-None.ensures.steps) in
     let keys = keys-directory_of c.args.self.now.files (folders_of c.args.self.now.folders.items) c.keys-path-items.ensures.ordered in
-    record { value = all ∙ ap (filter_map (name_in c.args.folder.now)) (sym keys); refused = tt }
+    record { value = all ∙ ap (filter_map (name_in c.args.folder.now)) (sym keys); cause = tt }

@@ -16,8 +16,8 @@ unreachable-requires c = grind (arith, text_keys)
 pub unreachable-requires-in_default-insert : goal.unreachable-requires-in_default-insert
 unreachable-requires-in_default-insert c = grind (arith, text_keys)
 
-pub returns-then-not-contains_key-clause-refused : goal.returns-then-not-contains_key-clause-refused
-returns-then-not-contains_key-clause-refused c =
+pub returns-then-not-contains_key-clause-cause : goal.returns-then-not-contains_key-clause-cause
+returns-then-not-contains_key-clause-cause c =
     let lacks : is_some (tree.get_by_text c.args.self.now.files c.args.from.now) ≡ false = grind (arith, common_steps) in
     inr (refl, file_at-namespace_directory c.args.self.now c.args.from.now ∙ none_from_not_some _ lacks)
 

@@ -15,7 +15,7 @@ returns-in-Some-clause-ok c =
     changed_after c.args.self.now.files (c.get_mut.follows.lender c.rename.new.self) _ c.args.path.now renamed_of _ c.rename.new.self stands
     c.rename.ensures ((c.get_mut.follows.holds c.rename.new.self).3 (search rules))
 
-pub returns-in-None-clause-refused : goal.returns-in-None-clause-refused
-returns-in-None-clause-refused c =
+pub returns-in-None-clause-cause : goal.returns-in-None-clause-cause
+returns-in-None-clause-cause c =
     let none : tree.get_by_text c.args.self.now.files c.args.path.now ≡ None = search rules in
     (refl, file_at-namespace_directory c.args.self.now c.args.path.now ∙ none)

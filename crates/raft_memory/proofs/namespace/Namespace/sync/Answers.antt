@@ -15,7 +15,7 @@ returns-in-Some-clause-ok c =
     changed_after c.args.self.now.files (c.get_mut.follows.lender c.sync.new.self) _ c.args.path.now synced_of _ c.sync.new.self stands
     c.sync.ensures ((c.get_mut.follows.holds c.sync.new.self).3 (search rules))
 
-pub returns-in-None-clause-refused : goal.returns-in-None-clause-refused
-returns-in-None-clause-refused c =
+pub returns-in-None-clause-cause : goal.returns-in-None-clause-cause
+returns-in-None-clause-cause c =
     let none : tree.get_by_text c.args.self.now.files c.args.path.now ≡ None = search rules in
     (refl, file_at-namespace_directory c.args.self.now c.args.path.now ∙ none)

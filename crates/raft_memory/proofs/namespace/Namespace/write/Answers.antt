@@ -23,7 +23,7 @@ returns-in_err-write-in-Some-clause-err c =
     let refused = err_from_is_err_and c.from_residual.result c.from_residual.ensures.1 in
     rw refused.1 (same_after c.args.self.now.files (c.get_mut.follows.lender c.write.new.self) _ c.args.path.now c.write.new.self (stands ∙ ap Some (sym same)) (c.get_mut.follows.holds c.write.new.self).0)
 
-pub returns-in-None-clause-refused : goal.returns-in-None-clause-refused
-returns-in-None-clause-refused c =
+pub returns-in-None-clause-cause : goal.returns-in-None-clause-cause
+returns-in-None-clause-cause c =
     let none : tree.get_by_text c.args.self.now.files c.args.path.now ≡ None = search rules in
     inr (refl, file_at-namespace_directory c.args.self.now c.args.path.now ∙ none)

@@ -1,4 +1,0 @@
-pub mod DetectableDamageLemmas
-pub mod PremiseLemmas
-pub mod PastLemmas
-pub mod QueueLemmas

@@ -1,8 +1,0 @@
-use Rattle.raft_damage.proofs.QueueLemmas.{queue_torn, queue_whole}
-use Rattle.raft_damage.proofs.laws.damage_of_a_queue_is_detectable.Goals as goal
-
-pub returns : goal.returns
-returns c = record {
-  detectable = λ queue p folders batches counts n has completed past none. queue_whole queue p folders batches counts n has none completed past;
-  first_records = λ queue p folders batches counts n has completed past none. queue_torn queue p folders batches counts n has none completed past;
-}

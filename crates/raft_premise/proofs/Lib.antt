@@ -1,4 +1,0 @@
-pub mod CompletedLemmas
-pub mod CompletedOpeningLemmas
-pub mod CompletedZerosLemmas
-pub mod CompletedFreshLemmas
