@@ -2,7 +2,7 @@
 ghost use Rattle.std.specs.Prelude.{◌≡◌, []};
 
 use raft_records::{Factory, Fault, IoKind, LogBatch};
-use raft_rows::{Row, each_holds};
+use raft_rows::{Row, first_wrong};
 use std::alloc::Global;
 use std::test::Fail;
 
@@ -64,7 +64,8 @@ impl Row for Text {
 
 #[test]
 fn faults_have_texts(rt: HostRuntime) -> Result<(), Fail> {
-    each_holds(&rt, &mut (), &TEXTS)
+    assert_eq!(rt; first_wrong(rt.alloc(), &mut (), &TEXTS)?, None);
+    Ok(())
 }
 
 #[derive(Drop)]

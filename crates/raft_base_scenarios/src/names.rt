@@ -5,7 +5,7 @@ use raft_files::{
     FileNameExt, LogFileFormat, build_reserved_file_name, is_zero_padded, parse_reserved_file_name,
 };
 use raft_records::{Fault, FileId, LogQueue, Version};
-use raft_rows::{Row, each_holds};
+use raft_rows::{Row, first_wrong};
 use std::alloc::Global;
 use std::test::Fail;
 
@@ -62,7 +62,8 @@ impl Row for Parsed {
 
 #[test]
 fn names_are_parsed(rt: HostRuntime) -> Result<(), Fail> {
-    each_holds(&rt, &mut (), &PARSED)
+    assert_eq!(rt; first_wrong(rt.alloc(), &mut (), &PARSED)?, None);
+    Ok(())
 }
 
 /// A file's number, its name, its path in the folder `data`, and its name as a reserved file.
@@ -109,7 +110,8 @@ impl Row for Built {
 
 #[test]
 fn names_are_built(rt: HostRuntime) -> Result<(), Fail> {
-    each_holds(&rt, &mut (), &BUILT)
+    assert_eq!(rt; first_wrong(rt.alloc(), &mut (), &BUILT)?, None);
+    Ok(())
 }
 
 const MAGIC: &[u8] = b"RAFT-LOG-FILE-HEADER-9986AB3E47F320B394C8E84916EB0ED5";
@@ -163,7 +165,8 @@ impl Row for Header {
 
 #[test]
 fn headers_are_written_and_read(rt: HostRuntime) -> Result<(), Fail> {
-    each_holds(&rt, &mut (), &HEADERS)
+    assert_eq!(rt; first_wrong(rt.alloc(), &mut (), &HEADERS)?, None);
+    Ok(())
 }
 
 /// Bytes that begin with no header.
@@ -194,7 +197,8 @@ impl Row for NoHeader {
 
 #[test]
 fn other_headers_are_refused(rt: HostRuntime) -> Result<(), Fail> {
-    each_holds(&rt, &mut (), &NO_HEADERS)
+    assert_eq!(rt; first_wrong(rt.alloc(), &mut (), &NO_HEADERS)?, None);
+    Ok(())
 }
 
 /// Bytes between records, and whether they pass for padding.
@@ -218,5 +222,6 @@ impl Row for Padding {
 
 #[test]
 fn padding_is_zero_at_both_ends(rt: HostRuntime) -> Result<(), Fail> {
-    each_holds(&rt, &mut (), &PADDINGS)
+    assert_eq!(rt; first_wrong(rt.alloc(), &mut (), &PADDINGS)?, None);
+    Ok(())
 }

@@ -2,7 +2,7 @@
 
 use raft_config::Config;
 use raft_records::{Fault, Fresh, ReadableSize, Version};
-use raft_rows::{Row, each_holds};
+use raft_rows::{Row, first_wrong};
 use std::alloc::Global;
 use std::test::Fail;
 
@@ -137,5 +137,6 @@ impl Row for Settings {
 
 #[test]
 fn settings_are_sanitized(rt: HostRuntime) -> Result<(), Fail> {
-    each_holds(&rt, &mut (), &SETTINGS)
+    assert_eq!(rt; first_wrong(rt.alloc(), &mut (), &SETTINGS)?, None);
+    Ok(())
 }

@@ -1,7 +1,7 @@
 //! Sizes as texts, the order of files, and their signatures.
 
 use raft_records::{Fault, FileId, LogFileContext, LogQueue, ReadableSize, Version};
-use raft_rows::{Row, each_holds};
+use raft_rows::{Row, first_wrong};
 use std::alloc::Global;
 use std::test::Fail;
 
@@ -40,7 +40,8 @@ impl Row for Size {
 
 #[test]
 fn sizes_are_read(rt: HostRuntime) -> Result<(), Fail> {
-    each_holds(&rt, &mut (), &SIZES)
+    assert_eq!(rt; first_wrong(rt.alloc(), &mut (), &SIZES)?, None);
+    Ok(())
 }
 
 enum Unit {
@@ -75,7 +76,8 @@ impl Row for Made {
 
 #[test]
 fn sizes_are_made(rt: HostRuntime) -> Result<(), Fail> {
-    each_holds(&rt, &mut (), &MADE)
+    assert_eq!(rt; first_wrong(rt.alloc(), &mut (), &MADE)?, None);
+    Ok(())
 }
 
 /// A file, which comes after those of the rows before.
@@ -102,7 +104,8 @@ impl Row for Later {
 #[test]
 fn rewrite_files_come_first(rt: HostRuntime) -> Result<(), Fail> {
     let mut before = FileId::new(LogQueue::Rewrite, 0);
-    each_holds(&rt, &mut before, &FILES)
+    assert_eq!(rt; first_wrong(rt.alloc(), &mut before, &FILES)?, None);
+    Ok(())
 }
 
 /// A version, a file's number, and what its records are signed with.
@@ -129,5 +132,6 @@ impl Row for Signature {
 
 #[test]
 fn records_are_signed_in_version_2(rt: HostRuntime) -> Result<(), Fail> {
-    each_holds(&rt, &mut (), &SIGNATURES)
+    assert_eq!(rt; first_wrong(rt.alloc(), &mut (), &SIGNATURES)?, None);
+    Ok(())
 }

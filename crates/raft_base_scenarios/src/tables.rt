@@ -3,7 +3,7 @@
 use crate::asks::{Ask, item_of, one_item};
 use crate::changes::{Change, push_items};
 use raft_records::{Fault, FileId, LogItem, LogQueue};
-use raft_rows::{Row, each_holds};
+use raft_rows::{Row, first_wrong};
 use raft_tables::{GlobalStats, MemTable, MemTables};
 use std::alloc::{AllocError, Global};
 use std::test::Fail;
@@ -361,25 +361,29 @@ impl Row for Step {
 #[test]
 fn items_apply_in_order(rt: HostRuntime) -> Result<(), Fail> {
     let mut tables = MemTables::new(rt.alloc());
-    each_holds(&rt, &mut tables, &APPLIED)
+    assert_eq!(rt; first_wrong(rt.alloc(), &mut tables, &APPLIED)?, None);
+    Ok(())
 }
 
 #[test]
 fn tables_are_listed_in_order(rt: HostRuntime) -> Result<(), Fail> {
     let mut tables = MemTables::new(rt.alloc());
-    each_holds(&rt, &mut tables, &LISTED)
+    assert_eq!(rt; first_wrong(rt.alloc(), &mut tables, &LISTED)?, None);
+    Ok(())
 }
 
 #[test]
 fn entries_are_put_and_dropped(rt: HostRuntime) -> Result<(), Fail> {
     let mut tables = MemTables::new(rt.alloc());
-    each_holds(&rt, &mut tables, &ENTRIES)
+    assert_eq!(rt; first_wrong(rt.alloc(), &mut tables, &ENTRIES)?, None);
+    Ok(())
 }
 
 #[test]
 fn items_are_checked(rt: HostRuntime) -> Result<(), Fail> {
     let mut tables = MemTables::new(rt.alloc());
-    each_holds(&rt, &mut tables, &CHECKS)
+    assert_eq!(rt; first_wrong(rt.alloc(), &mut tables, &CHECKS)?, None);
+    Ok(())
 }
 
 /// What the key of a table holds, or nothing.
@@ -420,5 +424,6 @@ impl Row for Value {
 fn a_table_keeps_each_key_once(rt: HostRuntime) -> Result<(), Fail> {
     let mut table = MemTable::new(rt.alloc());
     assert!(rt; is_held(&table, None));
-    each_holds(&rt, &mut table, &HELD)
+    assert_eq!(rt; first_wrong(rt.alloc(), &mut table, &HELD)?, None);
+    Ok(())
 }

@@ -3,7 +3,7 @@
 use raft_base::{FileBlockHandle, FileId, LogQueue};
 use raft_purge_rules::{Needs, Rounds, Watermarks, plan_purge};
 use raft_records::{EntryIndex, Fault, LogItem, LogItemContent};
-use raft_rows::{Row, each_holds};
+use raft_rows::{Row, first_wrong};
 use raft_tables::{GlobalStats, MemTables};
 use std::alloc::{AllocError, Global};
 use std::mem;
@@ -106,5 +106,6 @@ impl Row for Round {
 fn a_group_that_was_asked_for_in_vain_is_rewritten(rt: HostRuntime) -> Result<(), Fail> {
     let alloc = rt.alloc();
     let mut state = (tables_of(alloc, &PLACED)?, Rounds::new(alloc));
-    each_holds(&rt, &mut state, &ROUNDS)
+    assert_eq!(rt; first_wrong(rt.alloc(), &mut state, &ROUNDS)?, None);
+    Ok(())
 }

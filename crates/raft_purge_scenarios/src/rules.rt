@@ -5,7 +5,7 @@ use raft_purge_rules::{
     QueueUse, RewrittenEntries, append_needs_rewrite, compact_watermark, rewrite_needs_rewrite,
     rewrite_watermark,
 };
-use raft_rows::{Row, each_holds};
+use raft_rows::{Row, first_wrong};
 use std::alloc::Global;
 use std::test::Fail;
 
@@ -37,7 +37,8 @@ impl Row for Marks {
 
 #[test]
 fn watermarks_are_before_the_last_file(rt: HostRuntime) -> Result<(), Fail> {
-    each_holds(&rt, &mut (), &MARKS)
+    assert_eq!(rt; first_wrong(rt.alloc(), &mut (), &MARKS)?, None);
+    Ok(())
 }
 
 /// Files of 1 KB each over a threshold of 10 KB: whether the Append queue needs a rewriting.
@@ -64,7 +65,8 @@ impl Row for Full {
 
 #[test]
 fn a_queue_above_its_threshold_needs_a_rewriting(rt: HostRuntime) -> Result<(), Fail> {
-    each_holds(&rt, &mut (), &FULL)
+    assert_eq!(rt; first_wrong(rt.alloc(), &mut (), &FULL)?, None);
+    Ok(())
 }
 
 /// Of ten rewritten entries so many are garbage, over a ratio of 600 thousandths: whether the Rewrite queue needs a
@@ -97,5 +99,6 @@ impl Row for Garbage {
 
 #[test]
 fn garbage_needs_a_rewriting(rt: HostRuntime) -> Result<(), Fail> {
-    each_holds(&rt, &mut (), &GARBAGE)
+    assert_eq!(rt; first_wrong(rt.alloc(), &mut (), &GARBAGE)?, None);
+    Ok(())
 }

@@ -5,4 +5,4 @@ mod files;
 mod rows;
 
 pub use files::{FileParts, HEADER, NOTHING, PUT, PUTS, ZEROS, fill};
-pub use rows::{Row, each_holds};
+pub use rows::{Row, first_wrong};

@@ -2,8 +2,6 @@
 
 use raft_records::Fault;
 use std::alloc::Global;
-use std::process::Abort;
-use std::test::Fail;
 
 /// A row of a table, and what the rows of the table share.
 pub trait Row {
@@ -13,14 +11,16 @@ pub trait Row {
     fn holds(&self, alloc: Global, state: &mut Self::State) -> Result<bool, Fault>;
 }
 
-/// Fails where a row comes to something else.
-pub fn each_holds<R: Abort + AllocGlobal, T: Row>(
-    rt: &R,
+/// The place of the first row that comes to something else.
+pub fn first_wrong<T: Row>(
+    alloc: Global,
     state: &mut T::State,
     rows: &'static [T],
-) -> Result<(), Fail> {
+) -> Result<Option<usize>, Fault> {
     for (place, row) in rows.iter().enumerate() {
-        assert!(rt; row.holds(rt.alloc(), state)?, "row {place}");
+        if !row.holds(alloc, state)? {
+            return Ok(Some(place));
+        }
     }
-    Ok(())
+    Ok(None)
 }

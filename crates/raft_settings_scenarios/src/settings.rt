@@ -2,7 +2,7 @@
 
 use raft_config::Config;
 use raft_records::{Fault, Fresh, ReadableSize};
-use raft_rows::{Row, each_holds};
+use raft_rows::{Row, first_wrong};
 use raft_settings::{read, with_text, write};
 use std::alloc::Global;
 use std::test::Fail;
@@ -73,7 +73,8 @@ impl Row for Read {
 
 #[test]
 fn texts_are_read_and_written(rt: HostRuntime) -> Result<(), Fail> {
-    each_holds(&rt, &mut (), &TEXTS)
+    assert_eq!(rt; first_wrong(rt.alloc(), &mut (), &TEXTS)?, None);
+    Ok(())
 }
 
 /// A text that is refused, and why.
@@ -118,7 +119,8 @@ impl Row for Refused {
 
 #[test]
 fn texts_are_refused(rt: HostRuntime) -> Result<(), Fail> {
-    each_holds(&rt, &mut (), &REFUSED)
+    assert_eq!(rt; first_wrong(rt.alloc(), &mut (), &REFUSED)?, None);
+    Ok(())
 }
 
 /// A text over the settings of another, and the size of the read block and the number of threads that come of it.
@@ -153,7 +155,8 @@ impl Row for Laid {
 
 #[test]
 fn texts_are_laid_over_settings(rt: HostRuntime) -> Result<(), Fail> {
-    each_holds(&rt, &mut (), &LAID)
+    assert_eq!(rt; first_wrong(rt.alloc(), &mut (), &LAID)?, None);
+    Ok(())
 }
 
 /// Settings from text, and what of them is used, or why they are refused.
@@ -223,7 +226,8 @@ impl Row for Sanitized {
 
 #[test]
 fn sanitized_settings(rt: HostRuntime) -> Result<(), Fail> {
-    each_holds(&rt, &mut (), &SANITIZED)
+    assert_eq!(rt; first_wrong(rt.alloc(), &mut (), &SANITIZED)?, None);
+    Ok(())
 }
 
 /// Numbers that TOML doesn't have aren't written.
