@@ -32,6 +32,11 @@ const MIXED: [Plan; 12] = [
 
 const MAX_CALLS: u64 = 400;
 
+/// So many calls at least change files: seven of the opening (the folder, and a file of each queue with its header and a sync),
+/// seven writes of records, five syncs of purges, and four for each of five next files that these begin (a sync of the last
+/// one, the file, its header and a sync).
+const MIN_CHANGES: u64 = 39;
+
 /// A crash leaves up to so many of the touched bytes of each file.
 const KEPT: usize = 65;
 
@@ -244,11 +249,31 @@ fn stop_in(
 }
 
 #[test]
-fn openings_may_stop_after_changes_1_to_30(rt: HostRuntime) -> Result<(), Fail> {
-    stop_in(&rt, rt.alloc(), 1..31, None)
+fn openings_may_stop_after_changes_1_to_13(rt: HostRuntime) -> Result<(), Fail> {
+    stop_in(&rt, rt.alloc(), 1..14, None)
 }
 
 #[test]
-fn openings_may_stop_after_changes_from_31_on(rt: HostRuntime) -> Result<(), Fail> {
-    stop_in(&rt, rt.alloc(), 31..MAX_CALLS, Some(40))
+fn openings_may_stop_after_changes_14_to_26(rt: HostRuntime) -> Result<(), Fail> {
+    stop_in(&rt, rt.alloc(), 14..27, None)
+}
+
+#[test]
+fn openings_may_stop_after_changes_27_to_39(rt: HostRuntime) -> Result<(), Fail> {
+    stop_in(&rt, rt.alloc(), 27..40, None)
+}
+
+#[test]
+fn openings_may_stop_after_changes_40_to_52(rt: HostRuntime) -> Result<(), Fail> {
+    stop_in(&rt, rt.alloc(), 40..53, None)
+}
+
+#[test]
+fn openings_may_stop_after_changes_53_to_65(rt: HostRuntime) -> Result<(), Fail> {
+    stop_in(&rt, rt.alloc(), 53..66, None)
+}
+
+#[test]
+fn openings_may_stop_after_changes_from_66_on(rt: HostRuntime) -> Result<(), Fail> {
+    stop_in(&rt, rt.alloc(), 66..MAX_CALLS, Some(MIN_CHANGES))
 }
