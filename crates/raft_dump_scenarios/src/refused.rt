@@ -57,18 +57,33 @@ const KINDS: [IoKind; 3] = [IoKind::NoSpace, IoKind::NotFound, IoKind::Other];
 /// More calls of a sort than a dump makes.
 const MANY: u64 = 50;
 
-// What the dump gives: none where something fails for another reason than the call.
+/// Why a dump may fail: as this kind of call, or for want of memory.
+#[derive(Clone, Copy)]
+enum Cause {
+    Call(IoKind),
+    Memory,
+}
+
+fn is_by(fault: &Fault, cause: Cause) -> bool {
+    match (fault, cause) {
+        (Fault::Io(by, _), Cause::Call(kind)) => *by == kind,
+        (Fault::Memory, Cause::Memory) => true,
+        _ => false,
+    }
+}
+
+// What the dump gives: none where something fails for another reason.
 fn walked<F: FileSystem>(
     alloc: Global,
     fs: &mut F,
     mut items: LogItemReader<F>,
-    kind: IoKind,
+    cause: Cause,
 ) -> Result<Option<Vec<u64>>, Fault> {
     let mut given = Vec::new(alloc);
     for _ in 0..MANY {
         match items.next(fs) {
             Some(Ok(item)) => given.push(item.raft_group_id)?,
-            Some(Err(Fault::Io(by, _))) if by == kind => given.push(FAILED)?,
+            Some(Err(fault)) if is_by(&fault, cause) => given.push(FAILED)?,
             Some(Err(_)) => return Ok(None),
             None => return Ok(Some(given)),
         }
@@ -76,15 +91,15 @@ fn walked<F: FileSystem>(
     Ok(None)
 }
 
-// What a dump of the folder gives; only its own failure, where that fails as the call did.
+// What a dump of the folder gives; only its own failure, where it can't be begun.
 fn dumped<F: FileSystem>(
     alloc: Global,
     fs: &mut F,
-    kind: IoKind,
+    cause: Cause,
 ) -> Result<Option<Vec<u64>>, Fault> {
     match dump_with_file_system(alloc, "a", fs) {
-        Ok(items) => walked(alloc, fs, items, kind),
-        Err(Fault::Io(by, _)) if by == kind => Ok(Some(vec![in alloc; FAILED]?)),
+        Ok(items) => walked(alloc, fs, items, cause),
+        Err(fault) if is_by(&fault, cause) => Ok(Some(vec![in alloc; FAILED]?)),
         Err(_) => Ok(None),
     }
 }
@@ -117,10 +132,10 @@ fn fails_at<F: Failing>(
     let mut fs = F::fresh(alloc);
     fill(&mut fs, alloc, FILES)?;
     fs.fail(call, nth, kind)?;
-    let given = dumped(alloc, &mut fs, kind)?;
+    let given = dumped(alloc, &mut fs, Cause::Call(kind))?;
     let is_failed = fs.refusals() > 0;
     let is_right = if is_failed {
-        is_without_one(&given) && is_whole(&dumped(alloc, &mut fs, kind)?)
+        is_without_one(&given) && is_whole(&dumped(alloc, &mut fs, Cause::Call(kind))?)
     } else {
         is_whole(&given)
     };
@@ -159,5 +174,23 @@ fn first_wrong<F: Failing>(alloc: Global) -> Result<Option<usize>, Fault> {
 #[test]
 fn a_failing_call_fails_its_file_alone(rt: HostRuntime) -> Result<(), Fail> {
     assert_eq!(rt; first_wrong::<MemoryFileSystem>(rt.alloc())?, None);
+    Ok(())
+}
+
+// Whether a dump gives all; with the Nth request for memory refused (`rt try --test --fail-alloc N`) all but a file, and the
+// next one all.
+fn is_given<F: Failing>(alloc: Global) -> Result<bool, Fault> {
+    let mut fs = F::fresh(alloc);
+    fill(&mut fs, alloc, FILES)?;
+    let given = dumped(alloc, &mut fs, Cause::Memory)?;
+    Ok(
+        is_whole(&given)
+            || is_without_one(&given) && is_whole(&dumped(alloc, &mut fs, Cause::Memory)?),
+    )
+}
+
+#[test]
+fn a_dump_without_memory_goes_on(rt: HostRuntime) -> Result<(), Fail> {
+    assert!(rt; is_given::<MemoryFileSystem>(rt.alloc())?);
     Ok(())
 }

@@ -122,3 +122,21 @@ fn a_failing_call_fails_the_check(rt: HostRuntime) -> Result<(), Fail> {
     assert_eq!(rt; first_wrong::<MemoryFileSystem>(rt.alloc())?, None);
     Ok(())
 }
+
+// Whether a check finds all holes; with the Nth request for memory refused (`rt try --test --fail-alloc N`) it says so, and
+// the next one finds them.
+fn is_found<F: Failing>(alloc: Global) -> Result<bool, Fault> {
+    let mut fs = F::fresh(alloc);
+    store_all(alloc, &mut fs)?;
+    match consistency_check_with_file_system(alloc, "data", fs) {
+        Ok((holes, _fs)) => Ok(holes.as_slice() == HOLES),
+        Err((Fault::Memory, fs)) => Ok(checked(alloc, fs, IoKind::Other).0 == Some(true)),
+        Err(_) => Ok(false),
+    }
+}
+
+#[test]
+fn a_check_without_memory_is_made_again(rt: HostRuntime) -> Result<(), Fail> {
+    assert!(rt; is_found::<MemoryFileSystem>(rt.alloc())?);
+    Ok(())
+}
