@@ -9,5 +9,3 @@ mod program;
 mod purges;
 #[cfg(test)]
 mod settings;
-#[cfg(test)]
-mod streams;

@@ -22,7 +22,7 @@ const TWO: &[Step] = &[
 ];
 
 /// A value that fills the room, so that no zeros stand after it.
-pub(crate) const LONG: &[Step] = &[
+const LONG: &[Step] = &[
     Step::Open,
     Step::Put(1, b"a", &[1; 1024]),
     Step::Write(false, Ok(1052)),
@@ -36,7 +36,7 @@ const HAS_A: Step = Step::Run(&[Plan::Get(1, b"a")], &[Answer::Value(Some(&[1]))
 const HAS_NOTHING: Step = Step::Run(&[Plan::Get(1, b"a")], &[Answer::Value(None)]);
 
 /// A failed engine answers nothing.
-pub(crate) const FAILS: Step = Step::Run(
+const FAILS: Step = Step::Run(
     &[Plan::Get(1, b"a"), Plan::Sync],
     &[Answer::Fails(11), Answer::Fails(11)],
 );

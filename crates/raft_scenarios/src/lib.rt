@@ -18,8 +18,6 @@ mod kept;
 #[cfg(test)]
 mod kept_purges;
 #[cfg(test)]
-mod noise;
-#[cfg(test)]
 mod opening;
 #[cfg(test)]
 mod purge_steps;
@@ -31,8 +29,6 @@ mod queues;
 mod reads;
 #[cfg(test)]
 mod recycling;
-#[cfg(test)]
-mod refused;
 #[cfg(test)]
 mod reserved;
 #[cfg(test)]

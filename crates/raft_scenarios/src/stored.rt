@@ -30,8 +30,7 @@ fn joined(alloc: Global, parts: &[&[u8]]) -> Result<Vec<u8>, AllocError> {
     Ok(bytes)
 }
 
-/// Makes a file of these parts.
-pub(crate) fn store<F: FileSystem>(
+fn store<F: FileSystem>(
     alloc: Global,
     files: &mut F,
     path: &str,

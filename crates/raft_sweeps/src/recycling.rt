@@ -140,13 +140,12 @@ fn refuse_one(
     wanted: &[Outcome],
     call: FsCall,
     nth: u64,
-    kind: IoKind,
 ) -> Result<bool, Fail> {
     let mut files = new_files(alloc, sittings)?;
-    files.refuse(call, nth, kind)?;
+    files.refuse(call, nth, IoKind::Other)?;
     let (ran, files) = sit_twice(alloc, files, sittings)?;
     begin_as_wanted(rt, &ran.outcomes, wanted);
-    are_answers(rt, &sittings.all, &ran.outcomes, kind);
+    are_answers(rt, &sittings.all, &ran.outcomes, IoKind::Other);
     if is_done_without(call) {
         assert_eq!(rt; ran.outcomes.len(), wanted.len(), "{call:?} {nth}");
         assert!(rt; ran.outcomes.iter().all(is_done), "{call:?} {nth}");
@@ -157,16 +156,16 @@ fn refuse_one(
     Ok(files.refusals() > 0)
 }
 
-fn refuse_each(rt: &impl Abort, alloc: Global, folders: Folders, kind: IoKind) -> Result<(), Fail> {
+fn refuse_each(rt: &impl Abort, alloc: Global, folders: Folders) -> Result<(), Fail> {
     let sittings = both_sittings(alloc, folders)?;
     let (wanted, _) = sit_twice(alloc, new_files(alloc, &sittings)?, &sittings)?;
     assert_eq!(rt; wanted.outcomes.len(), sittings.all.len());
     assert!(rt; wanted.outcomes.iter().all(is_done));
     for call in CALLS {
-        let mut met = refuse_one(rt, alloc, &sittings, &wanted.outcomes, call, 1, kind)?;
+        let mut met = refuse_one(rt, alloc, &sittings, &wanted.outcomes, call, 1)?;
         assert!(rt; met || matches!(folders, Folders::One), "{call:?}");
         for nth in 2..MAX_CALLS {
-            met = met && refuse_one(rt, alloc, &sittings, &wanted.outcomes, call, nth, kind)?;
+            met = met && refuse_one(rt, alloc, &sittings, &wanted.outcomes, call, nth)?;
         }
         assert!(rt; !met);
     }
@@ -175,20 +174,10 @@ fn refuse_each(rt: &impl Abort, alloc: Global, folders: Folders, kind: IoKind) -
 
 #[test]
 fn each_call_of_recycling_may_be_refused(rt: HostRuntime) -> Result<(), Fail> {
-    refuse_each(&rt, rt.alloc(), Folders::One, IoKind::Other)
+    refuse_each(&rt, rt.alloc(), Folders::One)
 }
 
 #[test]
 fn each_call_of_recycling_in_two_folders_may_be_refused(rt: HostRuntime) -> Result<(), Fail> {
-    refuse_each(&rt, rt.alloc(), Folders::Two, IoKind::Other)
-}
-
-#[test]
-fn each_call_of_recycling_in_two_folders_may_find_nothing(rt: HostRuntime) -> Result<(), Fail> {
-    refuse_each(&rt, rt.alloc(), Folders::Two, IoKind::NotFound)
-}
-
-#[test]
-fn each_call_of_recycling_in_two_folders_may_find_no_space(rt: HostRuntime) -> Result<(), Fail> {
-    refuse_each(&rt, rt.alloc(), Folders::Two, IoKind::NoSpace)
+    refuse_each(&rt, rt.alloc(), Folders::Two)
 }
