@@ -5,6 +5,7 @@ use Rattle.std.specs.Prelude.{◌↔◌, Result, ℤ, option_map, pos}
 use Rattle.raft_base.specs.declared.errors.Fault.{Fault}
 use Rattle.raft_base.specs.declared.errors.Fault.TheVariants as fault
 use Rattle.raft_env.specs.Moments.{HoldsThroughout}
+use Rattle.raft_env.specs.Refusal.{FailsCountedAt}
 use Rattle.raft_env.specs.declared.env.FileSystem.{Ghosts}
 use Rattle.raft_held.specs.Crash.{LeavesAllowed, RecoversContents, pending_of}
 use Rattle.raft_log_engine.specs.Advance.{Advances, ChangesOnlyItsLog, state_of}
@@ -16,7 +17,7 @@ use Rattle.raft_log_engine.proofs.CrashLemmas.{moments_more}
 use Rattle.raft_log_engine.proofs.EngineLemmas.{engine_still_more}
 use Rattle.raft_records.specs.Item.{Batch}
 use Rattle.raft_pipes.specs.Folder.{LeavesOtherFiles}
-use Rattle.raft_pipes.specs.Queue.{IsFileRefusalIn}
+use Rattle.raft_pipes.specs.Queue.{NamesLog}
 use Rattle.raft_base.specs.Fault.{fault_code}
 use Rattle.raft_log_engine.specs.declared.engine.Refused.{Refused}
 use Rattle.raft_c_batch.specs.Batch.{IsBatchRefusal}
@@ -100,10 +101,10 @@ module _ {F H R W : Type 0} {g : Ghosts F H R W} where
   -- a close that was refused
   pub close_refused : {code : ℤ} (e : Engine F H R W g) (r : Refused F) → code ≡ pos (fault_code r.fault) → RecoversContents (folders_of e) (durable_of e) (unsynced_of e) (g.directory r.file_system)
       → HoldsThroughout (moments_of e) (g.moments r.file_system) (g.directory r.file_system) (LeavesAllowed (folders_of e) (durable_of e) (unsynced_of e)) → ((r.fault ≡ fault.Failed) ↔ (has_failed e ≡ true))
-      → (has_failed e ≡ false → IsFileRefusalIn (folders_of e) (refusals_of e) (g.refusals_of r.file_system) r.fault) → LeavesOtherFiles (folders_of e) (directory_of e) (g.directory r.file_system) → IsClosedAs code e r.file_system
+      → (has_failed e ≡ false → FailsCountedAt (NamesLog (folders_of e)) (refusals_of e) (g.refusals_of r.file_system) r.fault) → LeavesOtherFiles (folders_of e) (directory_of e) (g.directory r.file_system) → IsClosedAs code e r.file_system
   close_refused e r is keeps moments told by others = record {
     ok = λ done. absurd (let none = code_of r.fault is done in let some = fault_code_some r.fault in omega (arith, none, some));
-    err = λ other. record { fails = r.fault; code_is = is; cause = for_fault (has_failed e) (IsFileRefusalIn (folders_of e) (refusals_of e) (g.refusals_of r.file_system)) r.fault told by; keeps = keeps };
+    err = λ other. record { fails = r.fault; code_is = is; cause = for_fault (has_failed e) (FailsCountedAt (NamesLog (folders_of e)) (refusals_of e) (g.refusals_of r.file_system)) r.fault told by; keeps = keeps };
     any_moment = moments;
     others = others;
   }

@@ -4,10 +4,11 @@ use Rattle.raft_base.specs.Fault.{fault_code}
 use Rattle.raft_base.specs.declared.errors.Fault.{Fault}
 use Rattle.raft_base.specs.declared.errors.Fault.TheVariants as fault
 use Rattle.raft_env.specs.Moments.{HoldsThroughout}
+use Rattle.raft_env.specs.Refusal.{FailsAt, FailsCountedAt}
 use Rattle.raft_env.specs.declared.env.FileSystem.{Ghosts}
 use Rattle.raft_held.specs.Crash.{LeavesAllowed, pending_of}
 use Rattle.raft_pipes.specs.Folder.{LeavesOtherFiles}
-use Rattle.raft_pipes.specs.Queue.{IsFileRefusalIn, IsRefusalIn}
+use Rattle.raft_pipes.specs.Queue.{NamesLog}
 use Rattle.raft_records.specs.Contents.{Contents}
 use Rattle.raft_records.specs.Item.{Batch}
 use Rattle.raft_c_batch.specs.Batch.{IsBatchRefusal, index_in, read_batch}
@@ -81,7 +82,8 @@ module _ {F H R W : Type 0} {g : Ghosts F H R W} where
   -- why a change isn't carried out
   abbrev pub IsChangeFault : Change → Engine F H R W g → Engine F H R W g → Fault → Type 0
   IsChangeFault (Write bytes sync) old new e = IsWriteFault (read_batch bytes.now) old new e
-  IsChangeFault Sync old new e = IsRefusalFor (has_failed old) (IsFileRefusalIn (folders_of old)
+  IsChangeFault Sync old new e =
+      IsRefusalFor (has_failed old) (FailsCountedAt (NamesLog (folders_of old))
       (refusals_of old) (refusals_of new)) e
   IsChangeFault (CompactTo group index) old new e = IsRefusalFor (has_failed old)
       (IsAppendRefusal (folders_of old) (queue_of new) (has_failed new) (refusals_of old)
@@ -116,11 +118,11 @@ module _ {F H R W : Type 0} {g : Ghosts F H R W} where
   IsQueryFault (query.Get group key) old new e = e ≡ fault.Memory
   IsQueryFault (query.Entry group index) old new e = (e ≡ fault.Memory)
       ⊎ IsEntryRefusalAt IsStoredAs index_of index (entry_of (contents_of old) group index) e
-      ⊎ IsRefusalIn (folders_of old) (refusals_of old) (refusals_of new) e
+      ⊎ FailsAt (NamesLog (folders_of old)) (refusals_of old) (refusals_of new) e
   IsQueryFault (query.Fetch fetch) old new e = (e ≡ fault.Memory)
       ⊎ IsFetchFault IsStoredAs index_of fetch.begin fetch.end (max_of fetch.max_size)
       ((contents_of old).entries fetch.group)
-      (IsRefusalIn (folders_of old) (refusals_of old) (refusals_of new) e) e
+      (FailsAt (NamesLog (folders_of old)) (refusals_of old) (refusals_of new) e) e
   IsQueryFault (query.Scan scan) old new e = e ≡ fault.Memory
   IsQueryFault query.Groups old new e = e ≡ fault.Memory
   IsQueryFault (query.Span group) old new e = ⊥

@@ -16,7 +16,7 @@ use Rattle.raft_pipes.specs.Numbered.{AreDistinct}
 use Rattle.raft_pipes.proofs.NamesInLemmas.{has_cases, has_later, none_before, stands_in}
 use Rattle.raft_pipes.proofs.QueueFilesLemmas.{all_back, all_push}
 use Rattle.raft_base.specs.declared.errors.Fault.{Fault}
-use Rattle.raft_env.specs.Refusal.{IsRefusal, NoFewer, Refusals, added_count, no_refusals}
+use Rattle.raft_env.specs.Refusal.{FailsAt, NamesFile, NoFewer, Refusals, added_count, no_refusals}
 use Rattle.raft_opening.proofs.FilesLemmas.{refused_after}
 use Rattle.raft_fork.specs.Fork.{AreBeingCopied, AreCopied, CanBeCopied, Source, copies_in, copy_in, source_of}
 use Rattle.raft_fork.specs.Refused.{IsCopyRefusal}
@@ -119,23 +119,23 @@ module _ (files : List SourceFile) (i : ℕ) (item : SourceFile) (within : i < l
 
 -- a refused copy
 module _ (target : Path) (front : List Source) (f : Source) (rest : List Source) (all : List Source) (is : all ≡ front ++ f ∷ rest) (old mid new : Refusals) (before : NoFewer (added_count old no_refusals) mid) where
-  at_copy : (e : Fault) → IsRefusal (copy_in target f) mid new e → IsCopyRefusal target all old new e
+  at_copy : (e : Fault) → FailsAt (NamesFile (copy_in target f)) mid new e → IsCopyRefusal target all old new e
   at_copy e refused = subst (λ fs. IsCopyRefusal target fs old new e) (sym is) (inr (
     copy_in target f,
     inl (subst (λ paths. Contains paths (copy_in target f)) (sym (map-append (copy_in target) front (f ∷ rest))) (stands_in (copies_in target front) (copy_in target f) (copies_in target rest))),
     refused_after (copy_in target f) old mid new e before refused,
   ))
 
-  at_source : (e : Fault) → IsRefusal f.1 mid new e → IsCopyRefusal target all old new e
+  at_source : (e : Fault) → FailsAt (NamesFile f.1) mid new e → IsCopyRefusal target all old new e
   at_source e refused = subst (λ fs. IsCopyRefusal target fs old new e) (sym is) (inr (
     f.1,
     inr (subst (λ paths. Contains paths f.1) (sym (map-append (λ (g : Source). g.1) front (f ∷ rest))) (stands_in (map (λ (g : Source). g.1) front) f.1 (map (λ (g : Source). g.1) rest))),
     refused_after f.1 old mid new e before refused,
   ))
 
-  pub copy_refused : (e : Fault) (to from : Path) → to ≡ copy_in target f → from ≡ f.1 → (IsRefusal to mid new e ⊎ IsRefusal from mid new e) → IsCopyRefusal target all old new e
-  copy_refused e to from to_is from_is (inl refused) = at_copy e (subst (λ p. IsRefusal p mid new e) to_is refused)
-  copy_refused e to from to_is from_is (inr refused) = at_source e (subst (λ p. IsRefusal p mid new e) from_is refused)
+  pub copy_refused : (e : Fault) (to from : Path) → to ≡ copy_in target f → from ≡ f.1 → (FailsAt (NamesFile to) mid new e ⊎ FailsAt (NamesFile from) mid new e) → IsCopyRefusal target all old new e
+  copy_refused e to from to_is from_is (inl refused) = at_copy e (subst (λ p. FailsAt (NamesFile p) mid new e) to_is refused)
+  copy_refused e to from to_is from_is (inr refused) = at_source e (subst (λ p. FailsAt (NamesFile p) mid new e) from_is refused)
 
 -- counts of one call after another
 pub counts_then : (old mid new : Refusals) → NoFewer (added_count old no_refusals) mid → NoFewer (added_count mid no_refusals) new → NoFewer (added_count old no_refusals) new

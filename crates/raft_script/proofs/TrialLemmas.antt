@@ -25,7 +25,7 @@ use Rattle.raft_tables.specs.Known.{known_in}
 use Rattle.raft_held.specs.Contents.{contents_at, known_at, recovered_groups}
 use Rattle.raft_base.specs.declared.pipe_log.LogQueue.{LogQueue}
 use Rattle.raft_base.specs.declared.pipe_log.LogQueue.TheVariants.{Append, Rewrite}
-use Rattle.raft_env.specs.Refusal.{Refusals}
+use Rattle.raft_env.specs.Refusal.{FailsAt, Refusals}
 use Rattle.raft_config.specs.Config.{IsCopy}
 use Rattle.raft_config.specs.Folders.{Folders, all_of, beside_main, folders_in}
 use Rattle.raft_config.specs.Recovery.{tolerates_corruption}
@@ -36,7 +36,7 @@ use Rattle.raft_opening.specs.LogFile.{IsDamage}
 use Rattle.raft_pipes.specs.LogFile.{IsOpenableLog}
 use Rattle.raft_pipes.specs.Numbered.{StandAlone, end_of_numbers, has_file, in_queue, last_run, path_of, paths_of}
 use Rattle.raft_opening.specs.Queue.{HasDamageOf, IsOpenRefusalOf}
-use Rattle.raft_pipes.specs.Queue.{IsOpenableOf, IsRefusalIn}
+use Rattle.raft_pipes.specs.Queue.{IsOpenableOf, NamesLog}
 use Rattle.raft_script.specs.Durability.{LeavesAllowedAfter, progress_after_all}
 use Rattle.raft_script.specs.Headline.{LeavesFrom, Progress, progress_from}
 use Rattle.raft_pipes.proofs.TakenLemmas.{one_free}
@@ -167,7 +167,7 @@ refused_inside mode folders n old new e (queue, refused) clear single = by_fault
     by_fault _ refused = absurd refused
 
 -- what a read of an engine's image fails as
-pub read_fails : (folders : Folders) (old new : Refusals) (e : Fault) → IsRefusalIn folders old new e → IsStorageOrMemory e
+pub read_fails : (folders : Folders) (old new : Refusals) (e : Fault) → FailsAt (NamesLog folders) old new e → IsStorageOrMemory e
 read_fails folders old new (fault.Io kind text) refused = tt
 read_fails folders old new fault.Memory refused = tt
 read_fails folders old new _ refused = absurd refused

@@ -13,7 +13,7 @@ use Rattle.raft_base.specs.declared.pipe_log.LogQueue.{LogQueue}
 use Rattle.raft_queue_laws.specs.DetectableDamage.{EachAddsOnlyItsRecord, HaveNoStaleRecordIn, IsReadAsBefore}
 use Rattle.raft_pipes.specs.Numbered.{in_queue}
 use Rattle.raft_pipes.specs.QueueFiles.{last_kept}
-use Rattle.raft_env.specs.Refusal.{Refusals, no_refusals}
+use Rattle.raft_env.specs.Refusal.{Refusals, RoseBy, no_refusals}
 use Rattle.raft_memory.specs.declared.crash.Choice.{Choice}
 use Rattle.raft_held.specs.Contents.{contents_at}
 use Rattle.raft_held.specs.Crash.{RecoversContents}
@@ -21,7 +21,7 @@ use Rattle.raft_log_engine.specs.Image.{IsImageOf}
 use Rattle.raft_script.specs.Durability.{IsStep, LeavesAllowedAfter, Steps}
 use Rattle.raft_script.specs.Headline.{RunState, progress_from}
 use Rattle.raft_held.specs.Queues.{AreDetectableIn, AreSingleIn, HaveDamageIn, HaveSimplePastIn, IsOpeningRefusal}
-use Rattle.raft_script.specs.Failure.{IsStorageOrMemory, StorageRefusalsRoseBy, io_count}
+use Rattle.raft_script.specs.Failure.{IsStorageOrMemory, io_count}
 use Rattle.raft_pipes.specs.Folder.{AreClear, IsLogPath, IsReservedPath}
 use Rattle.raft_config.specs.Folders.{Folders, all_of, folders_in}
 use Rattle.raft_config.specs.Sanitized.{IsContradiction, contradiction}
@@ -63,7 +63,7 @@ pub record AreAnswered (folders : Folders) (m : Contents) (known : ℕ → Bool)
   pub steps : Steps (λ (s : RunState). s.failed) (IsStep folders m known) m (progress_from [])
       before ops ran.outcomes ran.failed_at now
   -- storage counted at least as many failed calls as answered `Io`
-  pub counted : StorageRefusalsRoseBy (io_count ran.outcomes) no_refusals new.refusals
+  pub counted : RoseBy (io_count ran.outcomes) no_refusals new.refusals
 
 -- the opening failed for such a cause, and no operation was done; the files keep what they kept
 pub record AreNotAsked (config : Config) (m : Contents) (ran : Ran) (old new : Shown)

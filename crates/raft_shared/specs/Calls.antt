@@ -5,7 +5,8 @@ use Rattle.raft_base.specs.declared.errors.Fault.{Fault}
 use Rattle.raft_base.specs.declared.errors.Fault.TheVariants as fault
 use Rattle.raft_records.specs.Item.{Batch}
 use Rattle.raft_env.specs.declared.env.FileSystem.{Ghosts}
-use Rattle.raft_pipes.specs.Queue.{IsFileRefusalIn}
+use Rattle.raft_env.specs.Refusal.{FailsCountedAt}
+use Rattle.raft_pipes.specs.Queue.{NamesLog}
 use Rattle.raft_log_engine.specs.Advance.{Advances, state_of}
 use Rattle.raft_log_engine.specs.Cause.{HasNoneInFlight, IsUnwritable, IsWriteRefusal, StandsUnless}
 use Rattle.raft_held.specs.Crash.{pending_of, written_batch}
@@ -32,7 +33,8 @@ module _ {F H R W : Type 0} {g : Ghosts F H R W} where
         (refusals_of old) (refusals_of new) e)
     pub memory : has_failed old ≡ false → items ≡ []
         → (sync ≡ false → (result ≡ Ok 0) × ChangesNoFile old new)
-        × IfErr result (IsFileRefusalIn (folders_of old) (refusals_of old) (refusals_of new))
+        × IfErr result (FailsCountedAt (NamesLog (folders_of old)) (refusals_of old)
+            (refusals_of new))
 
   -- `sync`
   pub record IsSync (old new : Engine F H R W g) (result : Result (Unit {0}) Fault) : Type 0 where
@@ -45,7 +47,7 @@ module _ {F H R W : Type 0} {g : Ghosts F H R W} where
     pub failed : (result ≡ Err fault.Failed) ↔ (has_failed old ≡ true)
     pub unchanged : has_failed old ≡ true → StaysFailed old new
     pub cause : IfErr result (λ e. has_failed old ≡ false
-        → IsFileRefusalIn (folders_of old) (refusals_of old) (refusals_of new) e)
+        → FailsCountedAt (NamesLog (folders_of old)) (refusals_of old) (refusals_of new) e)
 
   -- `get`
   pub record IsGet (group : ℕ) (key : List ℕ) (engine : Engine F H R W g)
