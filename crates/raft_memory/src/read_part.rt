@@ -24,7 +24,8 @@ impl MemoryFileSystem {
     ) -> Result<(), FsFault>
         ensures ok { OnOk result (IsPartAt (file_at (memory_directory self.old) path.now) at len
             bytes.new.items) }
-        ensures unchanged { OnlyReads memory_directory memory_moments self.old self.new }
+        ensures unchanged { OnlyReads memory_directory memory_moments memory_refusals self.old
+            self.new }
         ensures counts { CountsCall result self.old self.new }
         ensures cause { RefusesAs (due_in_block (armed_of self.old))
             (λ e. WasArmed (arms_after_block (armed_of self.old)) FsCall.Read e
