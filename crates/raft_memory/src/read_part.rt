@@ -9,7 +9,7 @@ use raft_env::{FsFault, IoKind};
 use std::alloc::AllocError;
 
 impl MemoryFileSystem {
-    ghost use Rattle.raft_memory.specs.Memory.{memory_directory, memory_moments, armed_of, stop_of, CountsCall};
+    ghost use Rattle.raft_memory.specs.Memory.{memory_directory, memory_moments, memory_refusals, armed_of, stop_of, CountsCall};
     ghost use Rattle.raft_memory.specs.Armed.{arms_after_block, due_in_block};
     ghost use Rattle.raft_memory.specs.Refused.{IsMissing, RefusesAs, WasArmed};
 
