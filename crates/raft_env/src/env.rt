@@ -184,7 +184,7 @@ pub trait FileSystem: Send + Sync {
     /// Adds the reader's refusals to those of the file system.
     fn end_reader(&mut self, reader: Self::Reader)
         ensures unchanged { OnlyReads directory moments refusals_of self.old self.new }
-        ensures cause { refusals_of self.new ≡ added_count (refusals_of self.old)
+        ensures counts { refusals_of self.new ≡ added_count (refusals_of self.old)
             (reader_refusals reader) };
 
     /// Refused as `Other` for a handle that was opened to be read only.
@@ -263,7 +263,7 @@ pub trait FileSystem: Send + Sync {
         ensures counts { CountsRefusalOf result (refusals_of self.old) (refusals_of self.new) };
 
     fn file_size(&mut self, handle: &Self::Handle) -> Result<usize, FsFault>
-        ensures size { IfOk result (λ n. (file : File)
+        ensures value { IfOk result (λ n. (file : File)
             × (file_at (directory self.old) (handle_path handle.now) ≡ Some file)
             × (n ≡ length file.now)) }
         ensures fits { IfOk result (λ n. n < 2 ^ 63) }

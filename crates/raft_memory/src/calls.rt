@@ -179,7 +179,7 @@ impl FileSystem for MemoryFileSystem {
     fn end_reader(&mut self, reader: MemoryReader)
         ensures unchanged { OnlyReads memory_directory memory_moments memory_refusals self.old
             self.new }
-        ensures cause { memory_refusals self.new
+        ensures counts { memory_refusals self.new
             ≡ added_count (memory_refusals self.old) (by_storage reader.refused) }
         ensures others { (armed_of self.new ≡ armed_of self.old)
             × (stop_of self.new ≡ stop_of self.old) }
@@ -374,7 +374,7 @@ impl FileSystem for MemoryFileSystem {
     }
 
     fn file_size(&mut self, handle: &MemoryHandle) -> Result<usize, FsFault>
-        ensures size { IfOk result (λ n. (file : File)
+        ensures value { IfOk result (λ n. (file : File)
             × (file_at (memory_directory self.old) (string_bytes handle.now.path) ≡ Some file)
             × (n ≡ length file.now)) }
         ensures fits { IfOk result (λ n. n < 2 ^ 63) }
