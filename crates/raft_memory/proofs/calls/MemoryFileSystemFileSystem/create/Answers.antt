@@ -1,4 +1,4 @@
-use Rattle.std.proofs.Common.{◌≡◌, inr, ◌∷◌, map, ap, rules}
+use Rattle.std.proofs.Common.{◌≡◌, refl, inr, ◌∷◌, map, ap, rules}
 use Rattle.raft_env.specs.Directory.{after_create}
 use Rattle.raft_memory.specs.Files.{namespace_directory}
 use Rattle.raft_env.proofs.MomentsLemmas.{moves_one}

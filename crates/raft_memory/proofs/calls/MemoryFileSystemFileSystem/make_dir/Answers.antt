@@ -1,4 +1,4 @@
-use Rattle.std.proofs.Common.{◌≡◌, ◌∷◌, map, ap, rules}
+use Rattle.std.proofs.Common.{◌≡◌, refl, ◌∷◌, map, ap, rules}
 use Rattle.raft_env.specs.Directory.{folder_made}
 use Rattle.raft_memory.specs.Files.{namespace_directory}
 use Rattle.raft_memory.proofs.FilesFolderLemmas.{making_done, making_none}

@@ -1,4 +1,4 @@
-use Rattle.std.proofs.Common.{◌≡◌, inr, ◌∷◌, map, ap, rules}
+use Rattle.std.proofs.Common.{◌≡◌, refl, inr, ◌∷◌, map, ap, rules}
 use Rattle.std.specs.String.{string_bytes}
 use Rattle.raft_env.specs.Outcomes.{synced_of}
 use Rattle.raft_env.specs.Directory.{update_file}

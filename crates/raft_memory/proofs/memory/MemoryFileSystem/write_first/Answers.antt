@@ -1,4 +1,4 @@
-use Rattle.std.proofs.Common.{◌≡◌, ◌∷◌, map, ap, rules}
+use Rattle.std.proofs.Common.{◌≡◌, refl, ◌∷◌, map, ap, rules}
 use Rattle.std.specs.String.{string_bytes}
 use Rattle.raft_env.specs.Directory.{update_file}
 use Rattle.raft_memory.specs.Files.{namespace_directory}

@@ -1,4 +1,4 @@
-use Rattle.std.proofs.Common.{◌≡◌, ◌≤◌, ◌∷◌, ◌/◌, false, List, ℕ, length, take, map, ap, arith, rules}
+use Rattle.std.proofs.Common.{◌≡◌, refl, ◌≤◌, ◌∷◌, ◌/◌, false, List, ℕ, length, take, map, ap, arith, rules}
 use Rattle.std.proofs.lemmas.Grind.{common_steps}
 use Rattle.raft_env.specs.Outcomes.{file_after_write, overlay}
 use Rattle.raft_env.specs.Directory.{update_file}
