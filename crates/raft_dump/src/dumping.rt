@@ -17,8 +17,8 @@ pub fn dump_with_file_system<F: FileSystem>(
 ) -> Result<LogItemReader<F>, Fault>
     ensures value { IfOk result (IsDump path.now (F.directory file_system.old)
         ((F.directory file_system.old).is_folder path.now)) }
-    ensures unchanged { OnlyReads F.directory F.moments F.refusals_of file_system.old
-        file_system.new }
+    ensures unchanged { OnlyReads F.directory F.moments F.refusals_of
+        file_system.old file_system.new }
     ensures cause { IfErr result (IsNoDump path.now (F.directory file_system.old)
         (F.refusals_of file_system.old) (F.refusals_of file_system.new)
         ((F.directory file_system.old).is_folder path.now)) }
