@@ -62,18 +62,18 @@ module _ {F H R W : Type 0} {g : Ghosts F H R W} where
       → Opens {g = g} config found (Err (record { fault = why; file_system = files }))
   opens_given_up config found e files why is now moments counts opens =
       let given : OnlyReads g.directory g.moments g.refusals_of e.file_system files = record { same_files = now; same_moments = moments; no_fewer = subst (NoFewer (refusals_of e)) (sym counts) (omega arith, omega arith) } in record {
-    opened = record {
-      contents = tt;
-      ok = tt;
-      rounds = tt;
-      value = tt;
-      settings = tt;
-      durable = tt;
-      now = tt;
-      any_moment = moves_then_reads opens.opened.any_moment given;
-      readable = moves_then_reads opens.opened.readable given;
-      unchanged = subst (λ (f : Fault). IsUntouched (g.directory found) (g.directory files) f) (sym is) tt;
-      others = subst (λ (n : Directory). LeavesAllButOpened (folders_in config) (g.directory found) n) (sym now) opens.opened.others;
-    };
-    refused = inr (subst (λ (f : Fault). IsOpeningRefusal config.recovery_mode (folders_in config) (g.directory found) (g.refusals_of found) (g.refusals_of files) f) (sym is) (Append, tt));
-  }
+        opened = record {
+          contents = tt;
+          ok = tt;
+          rounds = tt;
+          value = tt;
+          settings = tt;
+          durable = tt;
+          now = tt;
+          any_moment = moves_then_reads opens.opened.any_moment given;
+          readable = moves_then_reads opens.opened.readable given;
+          unchanged = subst (λ (f : Fault). IsUntouched (g.directory found) (g.directory files) f) (sym is) tt;
+          others = subst (λ (n : Directory). LeavesAllButOpened (folders_in config) (g.directory found) n) (sym now) opens.opened.others;
+        };
+        refused = inr (subst (λ (f : Fault). IsOpeningRefusal config.recovery_mode (folders_in config) (g.directory found) (g.refusals_of found) (g.refusals_of files) f) (sym is) (Append, tt));
+      }
