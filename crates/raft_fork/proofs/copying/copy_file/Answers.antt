@@ -11,7 +11,7 @@ pub returns-in_err-copy_bytes-clause-any_moment : goal.returns-in_err-copy_bytes
 returns-in_err-copy_bytes-clause-any_moment g c =
     let f = g.F.FileSystem in
     let n = f.directory c.args.file_system.now in
-    let made = rw (c.open.ensures.unchanged.0, c.open.ensures.unchanged.1) at c.make_empty.ensures.any_moment in
+    let made = rw (c.open.ensures.unchanged.same_files, c.open.ensures.unchanged.same_moments) at c.make_empty.ensures.any_moment in
     moments_then c.args.to.now n (f.directory c.make_empty.new.file_system) (f.directory c.copy_bytes.new.file_system) _ _ _ made c.copy_bytes.ensures.any_moment
 
 pub returns-in-Ok-sync-clause-ok : goal.returns-in-Ok-sync-clause-ok
@@ -22,7 +22,7 @@ returns-in-Ok-sync-clause-ok g c =
     let n = f.directory c.args.file_system.now in
     let copied = f.directory c.copy_bytes.new.file_system in
     let new = f.directory c.sync.new.self in
-    let made = rw (c.open.ensures.unchanged.0, c.open.ensures.unchanged.1) at c.make_empty.ensures.any_moment in
+    let made = rw (c.open.ensures.unchanged.same_files, c.open.ensures.unchanged.same_moments) at c.make_empty.ensures.any_moment in
     let same : bytes_at from (f.directory c.make_empty.new.file_system) ≡ bytes_at from n = ap bytes_of (made.here from (stands_apart n from to c.requires.stands c.requires.free)) in
     let synced = rw (c.copy_bytes.ensures.writer, c.in_ok-writer.ensures.writer) at c.in-Ok-sync.ensures.ok in
     subst (λ bytes. IsDurable to bytes new) (c.in_ok-copy_bytes.ensures.ok.1 ∙ same) (synced_durable to copied new c.in_ok-copy_bytes.ensures.ok.0 synced)
@@ -34,7 +34,7 @@ returns-in-Ok-sync-clause-any_moment g c =
     let n = f.directory c.args.file_system.now in
     let copied = f.directory c.copy_bytes.new.file_system in
     let new = f.directory c.sync.new.self in
-    let made = rw (c.open.ensures.unchanged.0, c.open.ensures.unchanged.1) at c.make_empty.ensures.any_moment in
+    let made = rw (c.open.ensures.unchanged.same_files, c.open.ensures.unchanged.same_moments) at c.make_empty.ensures.any_moment in
     let syncing = rw (c.copy_bytes.ensures.writer, c.in_ok-writer.ensures.writer) at c.sync.ensures.any_moment in
     moments_then to n copied new _ _ _
     (moments_then to n (f.directory c.make_empty.new.file_system) copied _ _ _ made c.copy_bytes.ensures.any_moment)
@@ -47,7 +47,7 @@ returns-clause-any_moment g c =
     let n = f.directory c.args.file_system.now in
     let copied = f.directory c.copy_bytes.new.file_system in
     let new = f.directory c.sync.new.self in
-    let made = rw (c.open.ensures.unchanged.0, c.open.ensures.unchanged.1) at c.make_empty.ensures.any_moment in
+    let made = rw (c.open.ensures.unchanged.same_files, c.open.ensures.unchanged.same_moments) at c.make_empty.ensures.any_moment in
     let syncing = rw (c.copy_bytes.ensures.writer, c.in_ok-writer.ensures.writer) at c.sync.ensures.any_moment in
     moments_then to n copied new _ _ _
     (moments_then to n (f.directory c.make_empty.new.file_system) copied _ _ _ made c.copy_bytes.ensures.any_moment)

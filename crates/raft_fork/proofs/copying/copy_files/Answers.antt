@@ -34,9 +34,6 @@ loop-file-init g c =
 pub returns-in_err-path-clause-any_moment : goal.returns-in_err-path-clause-any_moment
 returns-in_err-path-clause-any_moment g c = c.loop-file.invariant.moments
 
-pub returns-in_err-path-clause-counts : goal.returns-in_err-path-clause-counts
-returns-in_err-path-clause-counts g c = c.loop-file.invariant.counts
-
 pub returns-in_err-path-clause-cause : goal.returns-in_err-path-clause-cause
 returns-in_err-path-clause-cause g c =
     let p = err_from_is_err_and c.from_residual-in_err-path.result c.from_residual-in_err-path.ensures.1 in
@@ -95,9 +92,6 @@ returns-in_err-copy_file-clause-any_moment g c =
     let to_is : c.as_str-in-loop-file.result.now ≡ copy_in target (source_of item) = c.as_str-in-loop-file.ensures.value ∙ c.in_ok-path.ensures.ok in
     moments_next target n front (source_of item) rest can mid so_far.others (map source_of files) is so_far.copied c.as_str-in-loop-file.result.now to_is _ _ _ (f.directory c.copy_file.new.file_system) so_far.moments c.copy_file.ensures.any_moment
 
-pub returns-in_err-copy_file-clause-counts : goal.returns-in_err-copy_file-clause-counts
-returns-in_err-copy_file-clause-counts g c = counts_then _ _ _ c.loop-file.invariant.counts c.copy_file.ensures.counts
-
 pub returns-in_err-copy_file-clause-cause : goal.returns-in_err-copy_file-clause-cause
 returns-in_err-copy_file-clause-cause g c =
     let f = g.F.FileSystem in
@@ -135,9 +129,6 @@ returns-in_err-push-clause-any_moment g c =
     let to_is : c.as_str-in-loop-file.result.now ≡ copy_in target (source_of item) = c.as_str-in-loop-file.ensures.value ∙ c.in_ok-path.ensures.ok in
     moments_next target n front (source_of item) rest can mid so_far.others (map source_of files) is so_far.copied c.as_str-in-loop-file.result.now to_is _ _ _ (f.directory c.copy_file.new.file_system) so_far.moments c.copy_file.ensures.any_moment
 
-pub returns-in_err-push-clause-counts : goal.returns-in_err-push-clause-counts
-returns-in_err-push-clause-counts g c = counts_then _ _ _ c.loop-file.invariant.counts c.copy_file.ensures.counts
-
 pub returns-in_err-push-clause-cause : goal.returns-in_err-push-clause-cause
 returns-in_err-push-clause-cause g c =
     let p = err_from_is_err_and c.from_residual-in_err-push.result c.from_residual-in_err-push.ensures.1 in
@@ -159,7 +150,7 @@ loop-file-preserved g c =
     let so_far = c.loop-file.invariant in
     let to_is : c.as_str-in-loop-file.result.now ≡ copy_in target (source_of item) = c.as_str-in-loop-file.ensures.value ∙ c.in_ok-path.ensures.ok in
     let after = f.directory c.copy_file.new.file_system in
-    let only : LeavesOthers (copy_in target (source_of item)) mid after = subst (λ path. LeavesOthers path mid after) to_is c.copy_file.ensures.any_moment.here in
+    let only : LeavesOthers (copy_in target (source_of item)) mid after = subst (λ path. LeavesOthers path mid after) to_is c.copy_file.ensures.any_moment.throughout.here in
     let written = c.copy_file.new.buffer in
     let next : map source_of (take (i + 1) files) ≡ front ++ source_of item ∷ [] = next_part files i item (omega (arith, c.loop-file-test.true)) c.file-item.is in
     let durable : IsDurable (copy_in target (source_of item)) (bytes_at (string_bytes item.path) mid) after = rw (sym to_is, sym c.as_str.ensures.value) c.in_ok-copy_file.ensures.ok in
@@ -192,6 +183,3 @@ returns-clause-folders g c = c.loop-file.invariant.folders
 
 pub returns-clause-any_moment : goal.returns-clause-any_moment
 returns-clause-any_moment g c = c.loop-file.invariant.moments
-
-pub returns-clause-counts : goal.returns-clause-counts
-returns-clause-counts g c = c.loop-file.invariant.counts

@@ -9,14 +9,14 @@ returns-in-Err-clause-any_moment g c =
 
 pub returns-in-Ok-new_writer-clause-ok : goal.returns-in-Ok-new_writer-clause-ok
 returns-in-Ok-new_writer-clause-ok g c =
-    rw c.new_writer.ensures.unchanged.0 (created_empty c.args.path.now (g.F.FileSystem.directory c.args.file_system.now) (g.F.FileSystem.directory c.create.new.self) c.requires c.in-Ok.ensures.ok)
+    rw c.new_writer.ensures.unchanged.same_files (created_empty c.args.path.now (g.F.FileSystem.directory c.args.file_system.now) (g.F.FileSystem.directory c.create.new.self) c.requires c.in-Ok.ensures.ok)
 
 pub returns-in-Ok-new_writer-clause-any_moment : goal.returns-in-Ok-new_writer-clause-any_moment
 returns-in-Ok-new_writer-clause-any_moment g c =
-    rw (c.new_writer.ensures.unchanged.0, c.new_writer.ensures.unchanged.1)
+    rw (c.new_writer.ensures.unchanged.same_files, c.new_writer.ensures.unchanged.same_moments)
     (passes_weaker _ _ _ _ _ (λ n one. others_created c.args.path.now (g.F.FileSystem.directory c.args.file_system.now) n one) c.create.ensures.any_moment)
 
 pub returns-clause-any_moment : goal.returns-clause-any_moment
 returns-clause-any_moment g c =
-    rw (c.new_writer.ensures.unchanged.0, c.new_writer.ensures.unchanged.1)
+    rw (c.new_writer.ensures.unchanged.same_files, c.new_writer.ensures.unchanged.same_moments)
     (passes_weaker _ _ _ _ _ (λ n one. others_created c.args.path.now (g.F.FileSystem.directory c.args.file_system.now) n one) c.create.ensures.any_moment)

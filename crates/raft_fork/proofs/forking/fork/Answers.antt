@@ -28,7 +28,7 @@ returns-in_err-files-clause-any_moment g c =
     let target = c.args.target.now in
     let n = f.directory c.args.file_system.now in
     let mid = f.directory c.make_target.new.file_system in
-    rw (c.find_sources.ensures.unchanged.0, c.find_sources.ensures.unchanged.1)
+    rw (c.find_sources.ensures.unchanged.same_files, c.find_sources.ensures.unchanged.same_moments)
     (nothing_copied (folders_in source) target n mid _ _ c.make_target.ensures.any_moment)
 
 pub returns-in_err-files-clause-cause : goal.returns-in_err-files-clause-cause
@@ -60,7 +60,7 @@ copy_files-requires-after_bounds g c κs within =
     let stand = ap (map string_bytes) c.deref.ensures.value ∙ c.in_ok-folders.ensures.value in
     let are = c.in_ok-files.ensures.value in
     let single = c.in_ok-files.ensures.single in
-    subst (λ m. CanBeCopied target (map source_of c.deref-2.result.now) m) (sym c.find_sources.ensures.unchanged.0)
+    subst (λ m. CanBeCopied target (map source_of c.deref-2.result.now) m) (sym c.find_sources.ensures.unchanged.same_files)
     (subst (λ given. CanBeCopied target (map source_of given) mid) (sym c.deref-2.ensures.value) (ready (folders_in source) target n mid others there stand files are free single))
 
 pub returns-in_err-copied-clause-any_moment : goal.returns-in_err-copied-clause-any_moment
@@ -77,7 +77,7 @@ returns-in_err-copied-clause-any_moment g c =
     let stand = ap (map string_bytes) c.deref.ensures.value ∙ c.in_ok-folders.ensures.value in
     let are = c.in_ok-files.ensures.value in
     let single = c.in_ok-files.ensures.single in
-    let copying = rw (c.find_sources.ensures.unchanged.0, c.find_sources.ensures.unchanged.1, c.deref-2.ensures.value) at c.copy_files.ensures.any_moment in
+    let copying = rw (c.find_sources.ensures.unchanged.same_files, c.find_sources.ensures.unchanged.same_moments, c.deref-2.ensures.value) at c.copy_files.ensures.any_moment in
     moments_before (folders_in source) target n mid others there stand files are (f.directory c.copy_files.new.file_system) _ _ _ free single c.make_target.ensures.any_moment copying
 
 pub returns-in_err-copied-clause-cause : goal.returns-in_err-copied-clause-cause
@@ -120,9 +120,9 @@ returns-clause-ok g c =
     let are = c.in_ok-files.ensures.value in
     let single = c.in_ok-files.ensures.single in
     let after = f.directory c.copy_files.new.file_system in
-    let copied = rw (c.find_sources.ensures.unchanged.0, c.deref-2.ensures.value) at c.in_ok-copied.ensures.ok in
-    let copying = rw (c.find_sources.ensures.unchanged.0, c.find_sources.ensures.unchanged.1, c.deref-2.ensures.value) at c.copy_files.ensures.any_moment in
-    let kept = c.in_ok-copied.ensures.folders ∙ ap (λ (m : Directory). m.is_folder) c.find_sources.ensures.unchanged.0 in
+    let copied = rw (c.find_sources.ensures.unchanged.same_files, c.deref-2.ensures.value) at c.in_ok-copied.ensures.ok in
+    let copying = rw (c.find_sources.ensures.unchanged.same_files, c.find_sources.ensures.unchanged.same_moments, c.deref-2.ensures.value) at c.copy_files.ensures.any_moment in
+    let kept = c.in_ok-copied.ensures.folders ∙ ap (λ (m : Directory). m.is_folder) c.find_sources.ensures.unchanged.same_files in
     is_fork (folders_in source) target n mid others there stand files are after free c.in_ok-make_target.ensures.folder kept single copied (others_of target files mid after copying.here)
 
 pub returns-clause-copies : goal.returns-clause-copies
@@ -155,5 +155,5 @@ returns-clause-any_moment g c =
     let stand = ap (map string_bytes) c.deref.ensures.value ∙ c.in_ok-folders.ensures.value in
     let are = c.in_ok-files.ensures.value in
     let single = c.in_ok-files.ensures.single in
-    let copying = rw (c.find_sources.ensures.unchanged.0, c.find_sources.ensures.unchanged.1, c.deref-2.ensures.value) at c.copy_files.ensures.any_moment in
+    let copying = rw (c.find_sources.ensures.unchanged.same_files, c.find_sources.ensures.unchanged.same_moments, c.deref-2.ensures.value) at c.copy_files.ensures.any_moment in
     moments_before (folders_in source) target n mid others there stand files are (f.directory c.copy_files.new.file_system) _ _ _ free single c.make_target.ensures.any_moment copying

@@ -15,5 +15,5 @@ returns-clause-ok g c =
     let n = g.F.FileSystem.directory c.args.file_system.now in
     let mid = g.F.FileSystem.directory c.make_folder.new.file_system in
     on_ok _ _ c.refuse_logs-2.result
-    (λ none. is_free target n mid c.make_folder.ensures.others c.in_ok-make_folder.ensures.ok c.in_ok-refuse_logs.ensures.none (subst (λ m. kept_files (target ∷ []) Rewrite m ≡ []) c.in_ok-refuse_logs.ensures.unchanged.0 none))
+    (λ none. is_free target n mid c.make_folder.ensures.others c.in_ok-make_folder.ensures.ok c.in_ok-refuse_logs.ensures.none (subst (λ m. kept_files (target ∷ []) Rewrite m ≡ []) c.in_ok-refuse_logs.ensures.unchanged.same_files none))
     c.refuse_logs-2.ensures.none
