@@ -148,8 +148,8 @@ AreReadAsBefore folders files choices = (queue : LogQueue) (f : ℕ × Path) (fi
     → let id = in_queue queue f.0 in (file.renamed_after ≡ None) × EachAddsOnlyItsRecord id file
     × IsReadAsBefore id file (left_by choices files f.1)
 
--- an opening of files, and a read of all that it found, left these: at each moment of it the folders
--- kept what they had kept, and it answers `Io` only where storage failed a call of it
+-- an opening of files, and a read of all that it found, left these: at each moment of it the
+-- folders kept what they had kept, and it answers `Io` only where storage failed a call of it
 pub record Reopens {F : Type 0} (directory : F → Directory) (moments : F → List Directory)
     (refusals_of : F → Refusals) (folders : Folders) (found : F) (opened : Result Image Fault)
     : Type 0 where
