@@ -21,8 +21,7 @@ pub fn consistency_check(
         AreHoles (log_holes (folder_at path.now) (memory_directory files)) found.0.items) }
     ensures folder { OnOk result ((memory_directory files).is_folder path.now ≡ true) }
     ensures any_moment { MovesBy memory_directory memory_moments memory_refusals LeavesAll files
-        (handed_back
-        result) }
+        (handed_back result) }
     ensures cause { IfErr result (λ r. IsCheckRefusal path.now (memory_directory files)
         (memory_refusals files) (memory_refusals r.1) r.0) }
 {

@@ -1,9 +1,11 @@
 -- How moments are put together.
-use Rattle.std.proofs.Common.{◌≡◌, List, [], ◌∷◌, ◌++◌, sym, ◌∙◌, ap, refl, subst, arith, append_assoc}
+use Rattle.std.proofs.Common.{◌≡◌, Result, Ok, Err, List, [], ◌∷◌, ◌++◌, sym, ◌∙◌, ap, refl, subst, arith, append_assoc}
 use Rattle.std.specs.List.{AllByRecursion}
 use Rattle.raft_env.specs.Directory.{Directory}
 use Rattle.raft_env.specs.Moments.{HoldsThroughout, MovesBy, OnlyReads}
-use Rattle.raft_env.specs.Refusal.{NoFewer, Refusals}
+use Rattle.raft_env.specs.Refusal.{CountsRefusal, CountsRefusalOf, NoFewer, Refusals}
+use Rattle.raft_env.specs.declared.env.FsFault.{FsFault}
+use Rattle.raft_env.specs.declared.env.FsFault.TheVariants.{Io, Memory}
 
 both : (P : Directory → Type 0) (xs ys : List Directory) → AllByRecursion P xs → AllByRecursion P ys → AllByRecursion P (xs ++ ys)
 both P [] ys a b = b
@@ -35,6 +37,15 @@ module _ (P : Directory → Type 0) where
 all_fewer : (old mid new : Refusals) → NoFewer old mid → NoFewer mid new → NoFewer old new
 all_fewer old mid new a b = (omega (arith, a.0, b.0), omega (arith, a.1, b.1))
 
+-- a file call's fault is counted, so no count fell
+pub counted_no_fewer : (f : FsFault) (old new : Refusals) → CountsRefusal f old new → NoFewer old new
+counted_no_fewer (Io kind) old new h = (h.1, omega (arith, h.2))
+counted_no_fewer Memory old new h = (omega (arith, h.0), omega (arith, h.1))
+
+pub counts_no_fewer : {T : Type 0} (r : Result T FsFault) (old new : Refusals) → CountsRefusalOf r old new → NoFewer old new
+counts_no_fewer (Ok value) old new h = (omega (arith, h.0), omega (arith, h.1))
+counts_no_fewer (Err f) old new h = counted_no_fewer f old new h
+
 -- how calls on a file system go on
 module _ {F : Type 0} {directory : F → Directory} {moments : F → List Directory} {refusals_of : F → Refusals} where
   -- a call that is told of by a weaker relation
@@ -47,6 +58,10 @@ module _ {F : Type 0} {directory : F → Directory} {moments : F → List Direct
     throughout = passes_then _ _ _ _ _ _ a.throughout (passes_weaker _ _ _ _ _ f b.throughout);
     no_fewer = all_fewer _ _ _ a.no_fewer b.no_fewer;
   }
+
+  -- a call of one moment more
+  pub moves_one : {R : Directory → Directory → Type 0} {old new : F} → moments new ≡ directory new ∷ moments old → refusals_of new ≡ refusals_of old → R (directory old) (directory new) → MovesBy directory moments refusals_of R old new
+  moves_one e same here = record { throughout = passes_one _ _ _ _ e here; no_fewer = rw same (omega arith, omega arith) }
 
   -- a file system that stays as it was
   pub moves_none : {R : Directory → Directory → Type 0} {old : F} → R (directory old) (directory old) → MovesBy directory moments refusals_of R old old

@@ -22,7 +22,7 @@ returns-in_err-add_queue-2-clause-cause g c =
     let p = err_from_is_err_and c.from_residual-in_err-add_queue-2.result c.from_residual-in_err-add_queue-2.ensures.1 in
     let refused = rw c.in_ok-add_queue.ensures.unchanged.same_files at c.in_err-add_queue-2.ensures.cause in
     rw (p.1, p.2)
-    (later_source there n old mid new c.in_err-add_queue-2.field-0.0 c.add_queue.ensures.counts refused)
+    (later_source there n old mid new c.in_err-add_queue-2.field-0.0 c.add_queue.ensures.unchanged.no_fewer refused)
 
 pub returns-clause-single : goal.returns-clause-single
 returns-clause-single g c = λ queue.
