@@ -3,7 +3,6 @@ use Rattle.std.specs.Prelude.{◌≡◌, ◌⊎◌, ℕ, Bool, true, false, List
 use Rattle.raft_base.specs.Fault.{fault_code}
 use Rattle.raft_base.specs.declared.errors.Fault.{Fault}
 use Rattle.raft_base.specs.declared.errors.Fault.TheVariants as fault
-use Rattle.raft_env.specs.Moments.{HoldsThroughout}
 use Rattle.raft_env.specs.Refusal.{FailsAt, FailsCountedAt}
 use Rattle.raft_env.specs.declared.env.FileSystem.{Ghosts}
 use Rattle.raft_held.specs.Crash.{LeavesAllowed, pending_of}
@@ -14,9 +13,10 @@ use Rattle.raft_records.specs.Item.{Batch}
 use Rattle.raft_c_batch.specs.Batch.{IsBatchRefusal, index_in, read_batch}
 use Rattle.raft_c_batch.specs.declared.batch.BatchFault.TheVariants.{Refused}
 use Rattle.raft_c_batch.specs.declared.entry.Entry.{Entry as StoredEntry}
+use Rattle.raft_log_engine.specs.Advance.{StaysWithin, state_of}
 use Rattle.raft_log_engine.specs.Cause.{IsAppendRefusal, IsWriteRefusal}
 use Rattle.raft_log_engine.specs.Durability.{HasOnlyRead}
-use Rattle.raft_log_engine.specs.Engine.{contents_of, directory_of, durable_of, folders_of, has_failed, moments_of, queue_of, refusals_of, rewrite_queue_of, unsynced_of}
+use Rattle.raft_log_engine.specs.Engine.{contents_of, directory_of, durable_of, folders_of, has_failed, queue_of, refusals_of, rewrite_queue_of, unsynced_of}
 use Rattle.raft_log_engine.specs.Purge.{HasLastId, HasOpenGroup, IsPurgeFault}
 use Rattle.raft_log_engine.specs.Reads.{IsEntryRefusalAt, IsFetchFault, compact_batch, entry_of}
 use Rattle.raft_log_engine.specs.declared.engine.Engine.{Engine}
@@ -57,8 +57,8 @@ module _ {F H R W : Type 0} {g : Ghosts F H R W} where
   -- flight the first ones; files that are no log's are as before
   pub record KeepsLog (flight : List Batch) (old new : Engine F H R W g) : Type 0 where
     pub any_moment :
-        HoldsThroughout (moments_of old) (moments_of new) (directory_of new)
-        (LeavesAllowed (folders_of old) (durable_of old) (unsynced_of old ++ flight))
+        StaysWithin (LeavesAllowed (folders_of old) (durable_of old) (unsynced_of old ++ flight))
+        (state_of old) (state_of new)
     pub others : LeavesOtherFiles (folders_of old) (directory_of old) (directory_of new)
 
   -- why the engine doesn't write the batch of some bytes

@@ -1,5 +1,5 @@
 -- What a trial shows.
-use Rattle.std.specs.Prelude.{◌≡◌, ◌⊎◌, ℕ, Bool, Contains, false, List, [], ◌++◌, Option, Some, None, IfOk, IfErr}
+use Rattle.std.specs.Prelude.{◌≡◌, ◌⊎◌, ℕ, Bool, Contains, false, true, List, [], ◌++◌, Option, Some, None, Result, IfOk, IfErr}
 use Rattle.raft_records.specs.Contents.{Contents, no_contents}
 use Rattle.raft_tables.specs.Known.{known_in}
 use Rattle.raft_base.specs.declared.errors.Fault.{Fault}
@@ -8,6 +8,7 @@ use Rattle.raft_memory.specs.Memory.{armed_of, memory_directory, memory_moments,
 use Rattle.raft_memory.specs.declared.memory.MemoryFileSystem.{MemoryFileSystem}
 use Rattle.raft_env.specs.Consistent.{AreConsistent}
 use Rattle.raft_env.specs.Directory.{Directory, IsRestarted, Leaves, Path, file_at}
+use Rattle.raft_env.specs.Moments.{MovesBy}
 use Rattle.raft_env.specs.Outcomes.{File}
 use Rattle.raft_base.specs.declared.pipe_log.LogQueue.{LogQueue}
 use Rattle.raft_queue_laws.specs.DetectableDamage.{EachAddsOnlyItsRecord, HaveNoStaleRecordIn, IsReadAsBefore}
@@ -16,12 +17,13 @@ use Rattle.raft_pipes.specs.QueueFiles.{last_kept}
 use Rattle.raft_env.specs.Refusal.{Refusals, RoseBy, no_refusals}
 use Rattle.raft_memory.specs.declared.crash.Choice.{Choice}
 use Rattle.raft_held.specs.Contents.{contents_at}
-use Rattle.raft_held.specs.Crash.{RecoversContents}
+use Rattle.raft_held.specs.Crash.{RecoversContents, StillRecovers}
 use Rattle.raft_log_engine.specs.Image.{IsImageOf}
+use Rattle.raft_log_engine.specs.declared.engine.image.Image.{Image}
 use Rattle.raft_script.specs.Durability.{IsStep, LeavesAllowedAfter, Steps}
 use Rattle.raft_script.specs.Headline.{RunState, progress_from}
 use Rattle.raft_held.specs.Queues.{AreDetectableIn, AreSingleIn, HaveDamageIn, HaveSimplePastIn, IsOpeningRefusal}
-use Rattle.raft_script.specs.Failure.{IsStorageOrMemory, io_count}
+use Rattle.raft_script.specs.Failure.{IsStorageOrMemory, io_count, is_io}
 use Rattle.raft_pipes.specs.Folder.{AreClear, IsLogPath, IsReservedPath}
 use Rattle.raft_config.specs.Folders.{Folders, all_of, folders_in}
 use Rattle.raft_config.specs.Sanitized.{IsContradiction, contradiction}
@@ -146,6 +148,15 @@ AreReadAsBefore folders files choices = (queue : LogQueue) (f : ℕ × Path) (fi
     → let id = in_queue queue f.0 in (file.renamed_after ≡ None) × EachAddsOnlyItsRecord id file
     × IsReadAsBefore id file (left_by choices files f.1)
 
+-- an opening of files, and a read of all that it found, left these: at each moment of it the
+-- folders kept what they had kept, and it answers `Io` only where storage failed a call of it
+pub record Reopens {F : Type 0} (directory : F → Directory) (moments : F → List Directory)
+    (refusals_of : F → Refusals) (folders : Folders) (found : F) (opened : Result Image Fault)
+    : Type 0 where
+  pub left : F
+  pub any_moment : MovesBy directory moments refusals_of (StillRecovers folders) found left
+  pub counted : is_io opened ≡ true → RoseBy 1 (refusals_of found) (refusals_of left)
+
 -- what a trial showed of the run
 abbrev pub ran_in : Trial → Ran
 ran_in t =
@@ -164,6 +175,8 @@ pub record IsTrialOf (config : Config) (ops : List Op) (stop : Option ℕ) (choi
   pub restarted : let files = memory_directory last in
       IsRestarted files (left_by choices files) (memory_directory again)
   pub fails : FailsAtStop None again
+  pub reopened : Reopens memory_directory memory_moments memory_refusals (folders_in config) again
+      t.opened
   -- where an engine was opened and none failed, choices that leave each file whole, as it is now
   -- or as it was synced, leave detectable damage where nothing decodes that a last file held when
   -- it was renamed, if it was

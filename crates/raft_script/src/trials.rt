@@ -12,7 +12,7 @@ ghost use Rattle.raft_held.specs.Crash.{RecoversContents};
 ghost use Rattle.raft_pipes.specs.Folder.{AreClear};
 ghost use Rattle.raft_held.specs.Queues.{AreOpenableIn, AreSingleIn, ReadCompletedRecordsIn};
 ghost use Rattle.raft_script.specs.Failure.{IsStorageOrMemory};
-ghost use Rattle.raft_script.specs.Trial.{AreNotAllowed, FailsAtStop, HaveNoLogPath, IsLogRefusal, IsTrialOf, LeavesDetectable, Ran, RunsOver, Shown};
+ghost use Rattle.raft_script.specs.Trial.{AreNotAllowed, FailsAtStop, HaveNoLogPath, IsLogRefusal, IsTrialOf, LeavesDetectable, Ran, Reopens, RunsOver, Shown};
 
 use crate::operation::{Op, Trial};
 use crate::runs::{RunReport, crash_is_said_of_files, run_watched};
@@ -27,7 +27,8 @@ use std::alloc::Global;
 
 /// Opens a log in memory, does the operations, crashes, and opens again. From the first opening on
 /// the calls that may change files are counted from 1, and from the one at `stop` on each fails;
-/// the opening after the crash has no stop. Where the first opening fails no operation is done,
+/// the opening after the crash has no stop, and at each moment of it the folders keep what they
+/// kept. Where the first opening fails no operation is done,
 /// and the trial says why: settings contradict one another, a storage call failed, or memory was
 /// wanting. The choices say what the crash leaves; bytes that storage doesn't allow are refused,
 /// and no others. Where the damage of what the crash leaves is detectable, a tolerant opening
@@ -141,6 +142,8 @@ fn run_over<F: FileSystem + Drop>(
 fn open_image<F: FileSystem + Drop>(alloc: Global, config: Config, files: F) -> Result<Image, Fault>
     ensures value { IfOk result (λ image.
         IsImageOf image.groups.items (contents_at (folders_in config) (F.directory files))) }
+    ensures any_moment { Reopens F.directory F.moments F.refusals_of (folders_in config) files
+        result }
     ensures refused { contradiction config ≡ None → IfErr result (λ e.
         AreOpenableIn config.recovery_mode (folders_in config) (F.directory files)
         → AreClear (folders_in config) (F.directory files)

@@ -5,6 +5,8 @@ use Rattle.raft_log_engine.specs.Image.{IsImageOf}
 use Rattle.raft_config.proofs.ConfigLemmas.{no_contradiction}
 use Rattle.raft_script.proofs.TrialLemmas.{read_fails, refused_inside, refused_outside}
 use Rattle.raft_config.specs.Folders.{folders_in}
+use Rattle.raft_env.proofs.MomentsLemmas.{moves_then_reads}
+use Rattle.raft_script.proofs.TrialLemmas.{opening_rose, read_rose}
 use Rattle.raft_script.proofs.trials.open_image.Goals as goal
 
 pub returns-in-Ok-clause-value : goal.returns-in-Ok-clause-value
@@ -33,3 +35,22 @@ returns-in-Err-clause-cause g c =
       | inl found ↦ inl found
       | inr refused ↦ inr (refused_inside c.args.config.recovery_mode (folders_in c.args.config) files (g.F.FileSystem.refusals_of c.args.files) (g.F.FileSystem.refusals_of c.in-Err.refused.file_system) c.in-Err.refused.fault refused clear single)
     ]
+
+pub returns-in-Ok-clause-any_moment : goal.returns-in-Ok-clause-any_moment
+returns-in-Ok-clause-any_moment g c =
+    let opened = c.in-Ok.ensures.opened in
+    let e = c.in-Ok.engine in
+    let read = c.image.ensures.unchanged in
+    record {
+      left = c.image.new.self.file_system;
+      any_moment = moves_then_reads opened.any_moment (record { same_files = read.files; same_moments = read.moments; no_fewer = read.refusals });
+      counted = read_rose (folders_of e) (g.F.FileSystem.refusals_of c.args.files) (refusals_of e) (refusals_of c.image.new.self) c.image.result opened.any_moment.no_fewer
+          (IfErr-weaker c.image.result _ _ (λ e fails. fails opened.ok.stands) c.image.ensures.cause);
+    }
+
+pub returns-in-Err-clause-any_moment : goal.returns-in-Err-clause-any_moment
+returns-in-Err-clause-any_moment g c = record {
+  left = c.in-Err.refused.file_system;
+  any_moment = c.in-Err.ensures.opened.any_moment;
+  counted = opening_rose c.args.config (g.F.FileSystem.directory c.args.files) (g.F.FileSystem.refusals_of c.args.files) (g.F.FileSystem.refusals_of c.in-Err.refused.file_system) c.in-Err.refused.fault c.in-Err.ensures.refused;
+}

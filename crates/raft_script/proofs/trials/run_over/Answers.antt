@@ -74,7 +74,7 @@ returns-in-Err-clause-ok g c =
     let files = g.F.FileSystem.directory c.in-Err.refused.file_system in
     let e = c.in-Err.refused.fault in
     λ keeps.
-    let kept = c.in-Err.ensures.opened.any_moment.here m [] keeps in
+    let kept = c.in-Err.ensures.opened.any_moment.throughout.here m [] keeps in
     record {
       answered = inr (record {
         fault = e;
@@ -113,7 +113,7 @@ pub returns-in_ok-ran-in-Ok-clause-any_moment : goal.returns-in_ok-ran-in-Ok-cla
 returns-in_ok-ran-in-Ok-clause-any_moment g c =
     let e = c.in-Ok.engine in
     let before = g.F.FileSystem.moments c.args.files in
-    let opened = c.in-Ok.ensures.opened.any_moment in
+    let opened = c.in-Ok.ensures.opened.any_moment.throughout in
     let allowed = c.in_ok-ran-in-Ok.ensures.any_moment in
     let run = leads_moments (folders_of e) (durable_of e) (progress_from (unsynced_of e)) (run_state_of e) c.args.ops.now c.in_ok-ran-in-Ok.ran.outcomes.items allowed.0 allowed.1 in (
       run.0 ++ opened.added,
@@ -121,7 +121,7 @@ returns-in_ok-ran-in-Ok-clause-any_moment g c =
     )
 
 pub returns-in-Err-clause-any_moment : goal.returns-in-Err-clause-any_moment
-returns-in-Err-clause-any_moment g c = (c.in-Err.ensures.opened.any_moment.added, c.in-Err.ensures.opened.any_moment.is)
+returns-in-Err-clause-any_moment g c = (c.in-Err.ensures.opened.any_moment.throughout.added, c.in-Err.ensures.opened.any_moment.throughout.is)
 
 pub returns-in_err-ran-in-Ok-clause-cause : goal.returns-in_err-ran-in-Ok-clause-cause
 returns-in_err-ran-in-Ok-clause-cause g c =

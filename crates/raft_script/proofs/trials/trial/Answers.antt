@@ -14,7 +14,7 @@ use Rattle.raft_config.specs.Folders.{folders_in}
 use Rattle.raft_config.proofs.ConfigLemmas.{contradiction-copy, same_contradiction}
 use Rattle.raft_config.specs.Sanitized.{IsContradiction, contradiction}
 use Rattle.raft_config.specs.declared.config.Config.{Config}
-use Rattle.raft_script.proofs.TrialLemmas.{choices_refused, clear_of_none, clear_restarted, free_of_clear, image_same, no_log, none_done, none_known, opened_log, opened_outside, run_shown, same_folders, single_restarted, true_of_none}
+use Rattle.raft_script.proofs.TrialLemmas.{choices_refused, clear_of_none, clear_restarted, free_of_clear, image_same, no_log, none_done, none_known, opened_log, opened_outside, reopens_same, run_shown, same_folders, single_restarted, true_of_none}
 use Rattle.raft_script.specs.Trial.{HaveNoLogPath, Ran, RunsOver, shown_of}
 use Rattle.raft_script.proofs.trials.trial.Goals as goal
 
@@ -67,6 +67,7 @@ returns-clause-value c =
       again = c.in_ok-left.left;
       restarted = restarted;
       fails = (c.in_ok-left.ensures.others.1, c.in_ok-left.ensures.others.0, c.in_ok-left.ensures.counts);
+      reopened = reopens_same (folders_in copy) dir c.in_ok-left.left c.open_image.result same c.open_image.ensures.any_moment;
       detectable = λ opened stands whole stale. c.in_ok-ran.ensures.crash (none_done dir before (λ absent queue. (c.a_queue_recovers_its_batches.ensures.none queue dir before absent).0) none) opened stands (λ queue f kept file at. record { only_writes = c.in_ok-left.ensures.only_writes f.1 file at }) stale c.in_ok-left.ensures.consistent c.args.choices.now whole;
       torn = λ named before queue f last file at.
           let read = before queue f file last at in
