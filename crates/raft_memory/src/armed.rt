@@ -100,6 +100,7 @@ impl Armed {
     }
 
     /// Counts the call, and says with which fault it is to fail.
+    #[inline(always)]
     pub(crate) fn fault_for(&mut self, call: FsCall) -> Option<IoKind>
         ensures value { result ≡ due_kind call (arms_of self.old.refusals.items) }
         ensures armed { arms_of self.new.refusals.items
@@ -116,6 +117,7 @@ impl Armed {
     }
 
     /// The same of a call that changes files, which counts for the stop too.
+    #[inline(always)]
     pub(crate) fn fault_for_change(&mut self, call: FsCall) -> Option<IoKind>
         ensures value { result ≡ injected call (arms_of self.old.refusals.items) self.old.stop }
         ensures armed { arms_of self.new.refusals.items

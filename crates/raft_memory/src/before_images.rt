@@ -38,6 +38,7 @@ impl BeforeImages {
     }
 
     /// Saves what stands between two places. What stands after the end is a zero.
+    #[inline(always)]
     pub(crate) fn save(&mut self, bytes: &[u8], from: usize, end: usize) -> Result<(), AllocError>
         ensures ok { OnOk result ((i : ℕ) → before_image_at self.new i
             ≡ option_or (before_image_at self.old i)

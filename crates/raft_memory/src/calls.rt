@@ -213,6 +213,7 @@ impl FileSystem for MemoryFileSystem {
         }
     }
 
+    #[inline(always)]
     fn write(&mut self, writer: &mut MemoryWriter, at: usize, bytes: &[u8]) -> Result<(), FsFault>
         ensures writer { string_bytes writer.new.path ≡ string_bytes writer.old.path }
         ensures value { OnOk result (HasFile (memory_directory self.old)

@@ -62,6 +62,7 @@ impl MemoryFile {
     }
 
     /// A write of `given`, of which `kept` reached the file.
+    #[inline(always)]
     pub(crate) fn write(
         &mut self,
         at: usize,
@@ -276,6 +277,7 @@ fn longest_of(is_done: bool, at: usize, size: usize, left: usize) -> usize
 }
 
 // A range that begins where the last one ends is joined to it, so appends stay one range.
+#[inline(always)]
 fn add_range(ranges: &mut Vec<(usize, usize)>, from: usize, size: usize)
     requires fits { from + size < 2 ^ 64 }
     requires room { vec_len ranges.old < vec_capacity ranges.old }
@@ -297,6 +299,7 @@ fn add_range(ranges: &mut Vec<(usize, usize)>, from: usize, size: usize)
 }
 
 // Writes over what is there, and past the end; no bytes change nothing.
+#[inline(always)]
 fn overlay(bytes: &mut Vec<u8>, at: usize, given: &[u8]) -> Result<(), AllocError>
     requires { at + length given.now < 2 ^ 63 }
     ensures ok { OnOk result (bytes.new.items ≡ overlay bytes.old.items at given.now) }
@@ -324,6 +327,7 @@ fn make_room(bytes: &mut Vec<u8>, end: usize) -> Result<(), AllocError>
     bytes.reserve(LARGE_GROWTH)
 }
 
+#[inline(always)]
 fn put(bytes: &mut [u8], at: usize, given: &[u8])
     requires { at + length given.now ≤ length bytes.old }
     ensures unchanged { length bytes.new ≡ length bytes.old }

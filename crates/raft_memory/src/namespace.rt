@@ -82,6 +82,7 @@ impl Namespace {
 impl Namespace {
     ghost use Rattle.raft_memory.specs.Files.{namespace_directory};
 
+    #[inline(always)]
     pub(crate) fn write(
         &mut self,
         path: &str,
