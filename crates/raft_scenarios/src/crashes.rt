@@ -1,10 +1,9 @@
 //! What an opening finds after a crash, and after a refusal of storage.
 
-use crate::held::Failing;
-use crate::rows::{Rows, each_holds};
-use crate::stories::{Step, Story};
+use crate::rows::each_holds;
 use raft_env::IoKind;
 use raft_memory::FsCall;
+use raft_stories::{Failing, Rows, Step, Story};
 use raft_test_rows::{Answer, EMPTY, Left, Plan, State};
 use std::test::Fail;
 

@@ -12,8 +12,6 @@ mod expired;
 #[cfg(test)]
 mod folders;
 #[cfg(test)]
-mod held;
-#[cfg(test)]
 mod kept;
 #[cfg(test)]
 mod kept_purges;
@@ -41,7 +39,3 @@ mod rows;
 mod scans;
 #[cfg(test)]
 mod spilled;
-#[cfg(test)]
-mod stored;
-#[cfg(test)]
-mod stories;

@@ -1,11 +1,10 @@
 //! Purges of a part of the log, in parts, and ones that are refused.
 
-use crate::held::Failing;
 use crate::purges::{KEY_IN_EACH, TEN_LONG_ENTRIES};
-use crate::rows::{Rows, each_holds};
-use crate::stories::{Step, Story};
+use crate::rows::each_holds;
 use raft_env::IoKind;
 use raft_memory::FsCall;
+use raft_stories::{Failing, Rows, Step, Story};
 use raft_test_rows::{Answer, Change, Left, Plan};
 use std::test::Fail;
 

@@ -6,21 +6,21 @@ use raft_records::ReadableSize;
 use raft_test_rows::settings;
 use std::alloc::{AllocError, Global};
 
-pub(crate) const HEADER_1: &[u8] =
+pub const HEADER_1: &[u8] =
     b"RAFT-LOG-FILE-HEADER-9986AB3E47F320B394C8E84916EB0ED5\0\0\0\0\0\0\0\x01";
 
-pub(crate) const HEADER_2: &[u8] =
+pub const HEADER_2: &[u8] =
     b"RAFT-LOG-FILE-HEADER-9986AB3E47F320B394C8E84916EB0ED5\0\0\0\0\0\0\0\x02\0\0\0\0\0\0\0\0";
 
 /// The header of version 2 without its first byte.
-pub(crate) const HEADER_MOVED: &[u8] =
+pub const HEADER_MOVED: &[u8] =
     b"AFT-LOG-FILE-HEADER-9986AB3E47F320B394C8E84916EB0ED5\0\0\0\0\0\0\0\x02\0\0\0\0\0\0\0\0";
 
 /// A file's path, and its bytes part by part.
-pub(crate) type Stored = (&'static str, &'static [&'static [u8]]);
+pub type Stored = (&'static str, &'static [&'static [u8]]);
 
 /// The first file of the Rewrite queue, as an opening makes it.
-pub(crate) const FIRST_REWRITE: Stored = ("raft/0000000000000001.rewrite", &[HEADER_2]);
+pub const FIRST_REWRITE: Stored = ("raft/0000000000000001.rewrite", &[HEADER_2]);
 
 fn joined(alloc: Global, parts: &[&[u8]]) -> Result<Vec<u8>, AllocError> {
     let mut bytes = Vec::new(alloc);
@@ -116,7 +116,7 @@ pub(crate) fn store_all<F: FileSystem>(
     Ok(files.list("raft")?.len())
 }
 
-pub(crate) fn settings_in(alloc: Global, mode: RecoveryMode) -> Result<Config, AllocError> {
+pub fn settings_in(alloc: Global, mode: RecoveryMode) -> Result<Config, AllocError> {
     let mut config = settings(alloc)?;
     config.recovery_mode = mode;
     Ok(config)
@@ -131,11 +131,7 @@ pub(crate) fn settings_to(alloc: Global, size: u64) -> Result<Config, AllocError
 }
 
 /// The same with a second folder.
-pub(crate) fn settings_with(
-    alloc: Global,
-    mode: RecoveryMode,
-    spill: &str,
-) -> Result<Config, AllocError> {
+pub fn settings_with(alloc: Global, mode: RecoveryMode, spill: &str) -> Result<Config, AllocError> {
     let mut config = settings_in(alloc, mode)?;
     let mut folder = String::new(alloc);
     folder.push_str(spill)?;

@@ -1,6 +1,6 @@
 //! Files in memory, or an engine over them.
 
-use crate::recycling::{Keeping, settings_of};
+use crate::keeping::{Keeping, settings_of};
 use crate::stored::{Stored, are_stored, settings_in, settings_to, settings_with, store_all};
 use raft_env::{FileSystem, IoKind};
 use raft_log_engine::{Config, Engine, RecoveryMode, Refused};
@@ -12,13 +12,13 @@ use std::mem;
 
 /// Which call fails: the nth of a sort, in this way, or the nth that changes files, and each after it.
 #[derive(Clone, Copy)]
-pub(crate) enum Failing {
+pub enum Failing {
     Nth(FsCall, u64, IoKind),
     From(u64),
 }
 
 /// Files that fail and crash as they are told.
-pub(crate) trait Faulty: FileSystem + Drop {
+pub trait Faulty: FileSystem + Drop {
     fn fresh(alloc: Global) -> Self;
 
     fn fail(&mut self, failing: Failing) -> Result<(), Fault>;
@@ -73,7 +73,7 @@ impl Faulty for MemoryFileSystem {
 
 /// Where the files are.
 #[derive(Drop)]
-pub(crate) enum Held<F: FileSystem> {
+pub enum Held<F: FileSystem> {
     Files(F),
     Engine(Engine<F>),
     /// What the last opening or closing gave back.

@@ -1,10 +1,10 @@
 //! Stories as rows of tables: steps on an engine over files in memory, each with what it comes to.
 
-use crate::expired::{Apart, writes_apart};
+use crate::apart::{Apart, writes_apart};
+use crate::fetches::{Fetch, fetches};
 use crate::folders::TAIL;
 use crate::held::{Failing, Faulty, Held};
-use crate::reads::{Fetch, fetches};
-use crate::recycling::{Keeping, Length, stand};
+use crate::keeping::{Keeping, Length, stand};
 use crate::rows::Wrong;
 use crate::scans::{Scan, has_messages, is_handed_over};
 use crate::spilled::{SPILL, store};
@@ -16,7 +16,7 @@ use raft_script::{TextEntry, run};
 use raft_test_rows::{Answer, Left, Plan, State, are_answers, first_refused, ops_of};
 use std::alloc::Global;
 
-pub(crate) enum Step {
+pub enum Step {
     /// Opens the files, which an engine gives up first.
     Open,
     /// .. where a log file is full at so many KB, and ten times as many are purged.
@@ -74,9 +74,9 @@ pub(crate) enum Step {
 }
 
 /// Steps from new files on, part by part.
-pub(crate) struct Story {
-    pub(crate) name: &'static str,
-    pub(crate) parts: &'static [&'static [Step]],
+pub struct Story {
+    pub name: &'static str,
+    pub parts: &'static [&'static [Step]],
 }
 
 fn put(
