@@ -2,7 +2,9 @@
 //! batches that are refused.
 
 use raft_env::FileSystem;
-use raft_log_engine::{Command, Config, Engine, Fault, LogBatch, MemoryFileSystem, ReadableSize};
+use raft_log_engine::{
+    Command, Config, Engine, Fault, Fresh, LogBatch, MemoryFileSystem, ReadableSize,
+};
 use raft_script::TextEntry;
 use std::alloc::{AllocError, Global};
 use std::test::Fail;

@@ -1,5 +1,6 @@
 //! Openings with settings that contradict one another.
 
+use raft_env::FileSystem;
 use raft_log_engine::{Config, Engine, RecoveryMode};
 use raft_memory::MemoryFileSystem;
 use raft_records::{Fault, ReadableSize};
