@@ -171,6 +171,13 @@ fn are_copied<F: FileSystem>(
     Ok(equal)
 }
 
+fn is_refused(answer: Result<CopyDetails, Fault>, code: u8) -> bool {
+    match answer {
+        Ok(_) => false,
+        Err(fault) => fault.code() == code,
+    }
+}
+
 // Whether the fork comes to what the row says, and a second one to the same place is refused where the first one copied
 // something.
 fn is_as_said<F: FileSystem>(alloc: Global, files: &mut F, row: &Fork) -> Result<bool, Fault> {
@@ -178,7 +185,7 @@ fn is_as_said<F: FileSystem>(alloc: Global, files: &mut F, row: &Fork) -> Result
     let source = read(alloc, row.settings)?;
     match (fork(alloc, &source, files, "b"), &row.copied) {
         (Ok(details), Ok(wanted)) => {
-            let is_refused = fork(alloc, &source, files, "b").is_err();
+            let is_refused = is_refused(fork(alloc, &source, files, "b"), 1);
             match are_copied(files, &details, wanted) {
                 Ok(equal) => Ok(equal && is_refused != wanted.is_empty()),
                 Err(fault) => Err(fault.with_path(alloc, "b")),

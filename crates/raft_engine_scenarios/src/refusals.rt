@@ -102,3 +102,22 @@ fn each_failing_call_fails_the_fork(rt: HostRuntime) -> Result<(), Fail> {
     }
     Ok(())
 }
+
+// Whether a fork is done; with the Nth request for memory refused (`rt try --test --fail-alloc N`) it says so, and one to
+// another folder is done.
+fn is_made<F: Failing>(alloc: Global) -> Result<bool, Fault> {
+    let mut files = F::fresh(alloc);
+    store_all(alloc, &mut files, SOURCE)?;
+    let source = read(alloc, PLAIN)?;
+    let copied = match fork(alloc, &source, &mut files, "b") {
+        Err(Fault::Memory) => fork(alloc, &source, &mut files, "c")?.copied,
+        answer => answer?.copied,
+    };
+    Ok(copied.len() == SOURCE.len())
+}
+
+#[test]
+fn a_fork_without_memory_is_made_again(rt: HostRuntime) -> Result<(), Fail> {
+    assert!(rt; is_made::<MemoryFileSystem>(rt.alloc())?);
+    Ok(())
+}

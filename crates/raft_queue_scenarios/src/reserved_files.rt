@@ -281,6 +281,21 @@ fn len_at<F: FileSystem>(fs: &mut F, path: &str) -> Result<Option<usize>, FsFaul
     Ok(Some(fs.file_size(&handle)?))
 }
 
+// Whether the file at the path begins with so many zeros.
+fn has_zeros<F: FileSystem>(
+    alloc: Global,
+    fs: &mut F,
+    path: &str,
+    len: usize,
+) -> Result<bool, FsFault> {
+    let handle = fs.open(path, Permission::ReadOnly)?;
+    let mut reader = fs.new_reader(&handle)?;
+    let mut bytes = vec![in alloc; 7; len]?;
+    let read = fs.read(&mut reader, 0, &mut bytes);
+    fs.end_reader(reader);
+    Ok(read? == len && bytes.iter().all(|byte| *byte == 0))
+}
+
 fn are_spare(spare: &[SpareFile], wanted: &[&str]) -> bool {
     spare.len() == wanted.len()
         && spare
@@ -368,6 +383,9 @@ fn an_opening_makes_reserved_files(rt: HostRuntime) -> Result<(), Fail> {
         files = opened(rt.alloc(), &config, files)?;
         for path in &[RESERVED_1, RESERVED_2, RESERVED_3, RESERVED_4] {
             assert!(rt; len_at(&mut files, path)? == *len, "{path}");
+            if let Some(len) = len {
+                assert!(rt; has_zeros(rt.alloc(), &mut files, path, *len)?, "{path}");
+            }
         }
     }
     Ok(())

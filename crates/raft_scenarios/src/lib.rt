@@ -16,6 +16,8 @@ mod kept;
 #[cfg(test)]
 mod kept_purges;
 #[cfg(test)]
+mod noise;
+#[cfg(test)]
 mod opening;
 #[cfg(test)]
 mod purge_steps;
@@ -27,6 +29,8 @@ mod queues;
 mod reads;
 #[cfg(test)]
 mod recycling;
+#[cfg(test)]
+mod refused;
 #[cfg(test)]
 mod reserved;
 #[cfg(test)]

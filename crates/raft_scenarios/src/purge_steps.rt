@@ -8,7 +8,7 @@ use raft_stories::{Failing, Rows, Step, Story};
 use raft_test_rows::{Answer, Change, Left, Plan};
 use std::test::Fail;
 
-const KEYS: &[Step] = &[Step::Run(
+pub(crate) const KEYS: &[Step] = &[Step::Run(
     &[Plan::Get(1, b"a"), Plan::Get(1, b"b"), Plan::Get(2, b"c")],
     &[
         Answer::Value(Some(&[1; 1000])),
@@ -17,7 +17,7 @@ const KEYS: &[Step] = &[Step::Run(
     ],
 )];
 
-const FIRST_AND_LAST: &[Step] = &[Step::Run(
+pub(crate) const FIRST_AND_LAST: &[Step] = &[Step::Run(
     &[Plan::First(3), Plan::Last(3)],
     &[Answer::Index(Some(1)), Answer::Index(Some(10))],
 )];

@@ -7,6 +7,7 @@ mod files;
 mod folders;
 mod held;
 mod keeping;
+mod noise;
 mod restarts;
 mod rows;
 mod scans;
@@ -22,6 +23,7 @@ pub use files::{
 pub use folders::{ABSOLUTE, ANY, Folder, Opening, TAIL};
 pub use held::{Failing, Faulty};
 pub use keeping::Keeping;
+pub use noise::{Noise, Places};
 pub use restarts::Calls;
 pub use rows::{Rows, first_wrong};
 pub use scans::Scan;

@@ -2,6 +2,7 @@
 
 use crate::folders::{Folder, wrong_opening};
 use crate::held::{Faulty, Held};
+use crate::noise::{Noise, Places, wrong_noise, wrong_place};
 use crate::restarts::{Calls, wrong_call};
 use crate::spilled::{Spilled, wrong_spill};
 use crate::stories::{Story, wrong_story};
@@ -16,6 +17,10 @@ pub enum Rows {
     Spills(&'static [Spilled]),
     /// Openings with failing calls, and what a crash leaves after each; after none the files are whole.
     Failures(&'static [Calls], &'static [Option<Left>]),
+    /// Openings of three files, of which a byte is another one.
+    Places(&'static [Places]),
+    /// Openings of bytes that no engine wrote.
+    Noise(&'static [Noise]),
 }
 
 /// The first row that comes to something else, and where in it.
@@ -29,5 +34,7 @@ pub fn first_wrong<F: Faulty>(alloc: Global, files: F, rows: Rows) -> Wrong {
         Rows::Openings(folders, closes) => wrong_opening(alloc, &mut held, folders, closes),
         Rows::Spills(rows) => wrong_spill(alloc, &mut held, rows),
         Rows::Failures(calls, lefts) => wrong_call(alloc, &mut held, calls, lefts),
+        Rows::Places(places) => wrong_place(alloc, &mut held, places),
+        Rows::Noise(rows) => wrong_noise(alloc, &mut held, rows),
     }
 }

@@ -30,7 +30,8 @@ fn joined(alloc: Global, parts: &[&[u8]]) -> Result<Vec<u8>, AllocError> {
     Ok(bytes)
 }
 
-fn store<F: FileSystem>(
+/// Makes a file of these parts.
+pub(crate) fn store<F: FileSystem>(
     alloc: Global,
     files: &mut F,
     path: &str,
