@@ -9,3 +9,5 @@ mod checks;
 mod dumps;
 #[cfg(test)]
 mod parts;
+#[cfg(test)]
+mod refused;

@@ -9,3 +9,5 @@ mod program;
 mod purges;
 #[cfg(test)]
 mod settings;
+#[cfg(test)]
+mod streams;

@@ -33,13 +33,13 @@ const ONE_AND_THREE: &[u8] =
     b"\x00\x00\x00\x00\x00\x00\x1f\x00\x00\x00\x00\x00\x00\x00\x00\x10\x02\x07\x01\x01\x01\x00\x07\x01\x01\x03\x00\xbd\x8e\xe2\x8c";
 
 /// A file's path and its bytes.
-type Stored = (&'static str, &'static [&'static [u8]]);
+pub(crate) type Stored = (&'static str, &'static [&'static [u8]]);
 
-const APPEND_1: Stored = ("data/0000000000000001.raftlog", &[HEADER, ONE_TO_THREE]);
+pub(crate) const APPEND_1: Stored = ("data/0000000000000001.raftlog", &[HEADER, ONE_TO_THREE]);
 
-const APPEND_2: Stored = ("data/0000000000000002.raftlog", &[HEADER, SIX]);
+pub(crate) const APPEND_2: Stored = ("data/0000000000000002.raftlog", &[HEADER, SIX]);
 
-const APPEND_3: Stored = ("data/0000000000000003.raftlog", &[HEADER, ONE_AND_FOUR]);
+pub(crate) const APPEND_3: Stored = ("data/0000000000000003.raftlog", &[HEADER, ONE_AND_FOUR]);
 
 /// Log files, the folder that is looked through, and the groups with holes in it, or the code
 /// with which that is refused.
@@ -105,7 +105,11 @@ static CASES: [Case; 7] = [
     },
 ];
 
-fn store<F: FileSystem>(files: &mut F, path: &str, parts: &[&[u8]]) -> Result<(), FsFault> {
+pub(crate) fn store<F: FileSystem>(
+    files: &mut F,
+    path: &str,
+    parts: &[&[u8]],
+) -> Result<(), FsFault> {
     files.make_dir("data")?;
     let handle = files.create(path)?;
     let mut writer = files.new_writer(&handle)?;

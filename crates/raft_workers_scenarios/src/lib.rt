@@ -7,4 +7,6 @@ mod checks;
 #[cfg(test)]
 mod machines;
 #[cfg(test)]
+mod refused;
+#[cfg(test)]
 mod shares;
