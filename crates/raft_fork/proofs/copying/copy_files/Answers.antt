@@ -7,9 +7,8 @@ use Rattle.raft_env.proofs.MomentsLemmas.{moves_none}
 use Rattle.raft_files.specs.Writer.{bytes_at}
 use Rattle.raft_pipes.specs.Files.{IsDurable}
 use Rattle.raft_pipes.specs.Folder.{LeavesOthers}
-use Rattle.raft_fork.proofs.CopiesLemmas.{IsNextCopy, copy_moves, next_copied, next_copy, next_free, next_others, next_part, next_refused, next_stands, none_being_copied}
+use Rattle.raft_fork.proofs.CopiesLemmas.{copy_moves, next_copied, next_copy, next_free, next_others, next_part, next_refused, next_stands, none_being_copied}
 use Rattle.raft_fork.specs.Fork.{AreCopied, copies_in, copy_in, source_of}
-use Rattle.raft_fork.proofs.copying.copy_files.Given
 use Rattle.raft_fork.proofs.copying.copy_files.Goals as goal
 
 pub returns-in_err-buffer-clause-cause : goal.returns-in_err-buffer-clause-cause
@@ -56,21 +55,20 @@ copy_file-requires-clause-free g c κs within =
 pub copy_file-requires-clause-room : goal.copy_file-requires-clause-room
 copy_file-requires-clause-room g c κs within = omega (arith, c.loop-file.invariant.room, ap length c.deref_mut.ensures.value)
 
--- the file whose copy was refused
-next_of_refused : (g : Given.Over) (c : goal.After-from_residual-in_err-copy_file g) → IsNextCopy c.args.target.now c.args.files.now c.loop-file.file-index c.file-item.result (g.F.FileSystem.directory c.args.file_system.now) (g.F.FileSystem.directory c.loop-file.file_system)
-next_of_refused g c =
-    next_copy c.args.target.now c.args.files.now c.loop-file.file-index c.file-item.result _ _ (omega (arith, c.loop-file-test.true)) c.file-item.is c.requires c.loop-file.invariant.copied c.loop-file.invariant.others
-
 pub returns-in_err-copy_file-clause-any_moment : goal.returns-in_err-copy_file-clause-any_moment
 returns-in_err-copy_file-clause-any_moment g c =
-    copy_moves c.args.target.now c.args.files.now c.loop-file.file-index c.file-item.result c.as_str-in-loop-file.result.now (next_of_refused g c) (c.as_str-in-loop-file.ensures.value ∙ c.in_ok-path.ensures.ok) c.loop-file.invariant.moments c.copy_file.ensures.any_moment
+    let so_far = c.loop-file.invariant in
+    let next = next_copy c.args.target.now c.args.files.now c.loop-file.file-index c.file-item.result _ (g.F.FileSystem.directory c.loop-file.file_system) (omega (arith, c.loop-file-test.true)) c.file-item.is c.requires so_far.copied so_far.others in
+    copy_moves c.args.target.now c.args.files.now c.loop-file.file-index c.file-item.result c.as_str-in-loop-file.result.now next (c.as_str-in-loop-file.ensures.value ∙ c.in_ok-path.ensures.ok) so_far.moments c.copy_file.ensures.any_moment
 
 pub returns-in_err-copy_file-clause-cause : goal.returns-in_err-copy_file-clause-cause
 returns-in_err-copy_file-clause-cause g c =
     let counts = g.F.FileSystem.refusals_of in
+    let so_far = c.loop-file.invariant in
+    let next = next_copy c.args.target.now c.args.files.now c.loop-file.file-index c.file-item.result _ (g.F.FileSystem.directory c.loop-file.file_system) (omega (arith, c.loop-file-test.true)) c.file-item.is c.requires so_far.copied so_far.others in
     let p = err_from_is_err_and c.from_residual-in_err-copy_file.result c.from_residual-in_err-copy_file.ensures.1 in
     rw (p.1, p.2)
-    (next_refused c.args.target.now c.args.files.now c.loop-file.file-index c.file-item.result _ _ (next_of_refused g c) (counts c.args.file_system.now) (counts c.loop-file.file_system) (counts c.copy_file.new.file_system) c.loop-file.invariant.moments.no_fewer
+    (next_refused c.args.target.now c.args.files.now c.loop-file.file-index c.file-item.result _ _ next (counts c.args.file_system.now) (counts c.loop-file.file_system) (counts c.copy_file.new.file_system) c.loop-file.invariant.moments.no_fewer
     c.in_err-copy_file.field-0.0 c.as_str-in-loop-file.result.now c.as_str.result.now (c.as_str-in-loop-file.ensures.value ∙ c.in_ok-path.ensures.ok) c.as_str.ensures.value c.in_err-copy_file.ensures.cause)
 
 pub returns-in_err-push-clause-any_moment : goal.returns-in_err-push-clause-any_moment

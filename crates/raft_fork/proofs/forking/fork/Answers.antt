@@ -10,7 +10,6 @@ use Rattle.raft_fork.proofs.CopiesLemmas.{others_of}
 use Rattle.raft_fork.proofs.ForkLemmas.{HasFound, copies_before, forking_moves, is_fork, ready}
 use Rattle.raft_fork.proofs.RefusedLemmas.{fork_copy, fork_source, fork_target}
 use Rattle.raft_pipes.proofs.PipeDoubtLemmas.{fewer_then}
-use Rattle.raft_fork.proofs.forking.fork.Given
 use Rattle.raft_fork.proofs.forking.fork.Goals as goal
 
 pub returns-in_err-make_target-clause-any_moment : goal.returns-in_err-make_target-clause-any_moment
@@ -48,20 +47,19 @@ copy_files-requires-after_bounds g c κs within =
     (subst (λ given. CanBeCopied target (map source_of given) mid) (sym c.deref-2.ensures.value)
     (ready (folders_in c.args.source.now) target (f.directory c.args.file_system.now) mid c.make_target.ensures.others (map string_bytes c.deref.result.now) stand (map source_of c.in_ok-files.files.items) c.in_ok-files.ensures.value c.in_ok-make_target.ensures.ok c.in_ok-files.ensures.single))
 
--- what was found, where the copying failed
-found_refused : (g : Given.Over) (c : goal.After-from_residual-in_err-copied g) → HasFound (folders_in c.args.source.now) c.args.target.now (map string_bytes c.deref.result.now) (map source_of c.in_ok-files.files.items) (g.F.FileSystem.directory c.args.file_system.now) (g.F.FileSystem.directory c.make_target.new.file_system)
-found_refused g c = record {
-  others = c.make_target.ensures.others;
-  free = c.in_ok-make_target.ensures.ok;
-  stand = ap (map string_bytes) c.deref.ensures.value ∙ c.in_ok-folders.ensures.value;
-  are = c.in_ok-files.ensures.value;
-  single = c.in_ok-files.ensures.single;
-}
-
 pub returns-in_err-copied-clause-any_moment : goal.returns-in_err-copied-clause-any_moment
 returns-in_err-copied-clause-any_moment g c =
-    forking_moves (folders_in c.args.source.now) c.args.target.now (map string_bytes c.deref.result.now) (map source_of c.in_ok-files.files.items) (map source_of c.deref-2.result.now) (found_refused g c) (ap (map source_of) c.deref-2.ensures.value)
-    c.make_target.ensures.any_moment c.find_sources.ensures.unchanged c.copy_files.ensures.any_moment
+    let f = g.F.FileSystem in
+    let there = map string_bytes c.deref.result.now in
+    let files = map source_of c.in_ok-files.files.items in
+    let has : HasFound (folders_in c.args.source.now) c.args.target.now there files (f.directory c.args.file_system.now) (f.directory c.make_target.new.file_system) = record {
+      others = c.make_target.ensures.others;
+      free = c.in_ok-make_target.ensures.ok;
+      stand = ap (map string_bytes) c.deref.ensures.value ∙ c.in_ok-folders.ensures.value;
+      are = c.in_ok-files.ensures.value;
+      single = c.in_ok-files.ensures.single;
+    } in
+    forking_moves (folders_in c.args.source.now) c.args.target.now there files (map source_of c.deref-2.result.now) has (ap (map source_of) c.deref-2.ensures.value) c.make_target.ensures.any_moment c.find_sources.ensures.unchanged c.copy_files.ensures.any_moment
 
 pub returns-in_err-copied-clause-cause : goal.returns-in_err-copied-clause-cause
 returns-in_err-copied-clause-cause g c =
@@ -70,25 +68,14 @@ returns-in_err-copied-clause-cause g c =
     let target = c.args.target.now in
     let n = f.directory c.args.file_system.now in
     let mid = f.directory c.make_target.new.file_system in
-    let has = found_refused g c in
     let p = err_from_is_err_and c.from_residual-in_err-copied.result c.from_residual-in_err-copied.ensures.1 in
     let e = c.in_err-copied.field-0.0 in
     let found = f.refusals_of c.find_sources.new.file_system in
     let new = f.refusals_of c.copy_files.new.file_system in
-    let copies : map source_of c.deref-2.result.now ≡ all_sources_in (standing (folders_in source) n) mid = ap (map source_of) c.deref-2.ensures.value ∙ has.are ∙ ap (λ there. all_sources_in there mid) has.stand in
+    let copies : map source_of c.deref-2.result.now ≡ all_sources_in (standing (folders_in source) n) mid = ap (map source_of) c.deref-2.ensures.value ∙ c.in_ok-files.ensures.value ∙ ap (λ there. all_sources_in there mid) (ap (map string_bytes) c.deref.ensures.value ∙ c.in_ok-folders.ensures.value) in
     let refused = subst (λ files. IsCopyRefusal target files found new e) copies c.in_err-copied.ensures.cause in
     rw (p.1, p.2)
-    (fork_copy source target n (f.refusals_of c.args.file_system.now) new mid found e has.others (fewer_then _ _ _ c.make_target.ensures.any_moment.no_fewer c.find_sources.ensures.unchanged.no_fewer) refused)
-
--- .. and where it went well
-found : (g : Given.Over) (c : CONTEXT g) → HasFound (folders_in c.args.source.now) c.args.target.now (map string_bytes c.deref.result.now) (map source_of c.in_ok-files.files.items) (g.F.FileSystem.directory c.args.file_system.now) (g.F.FileSystem.directory c.make_target.new.file_system)
-found g c = record {
-  others = c.make_target.ensures.others;
-  free = c.in_ok-make_target.ensures.ok;
-  stand = ap (map string_bytes) c.deref.ensures.value ∙ c.in_ok-folders.ensures.value;
-  are = c.in_ok-files.ensures.value;
-  single = c.in_ok-files.ensures.single;
-}
+    (fork_copy source target n (f.refusals_of c.args.file_system.now) new mid found e c.make_target.ensures.others (fewer_then _ _ _ c.make_target.ensures.any_moment.no_fewer c.find_sources.ensures.unchanged.no_fewer) refused)
 
 pub returns-clause-ok : goal.returns-clause-ok
 returns-clause-ok g c =
@@ -97,22 +84,31 @@ returns-clause-ok g c =
     let mid = f.directory c.make_target.new.file_system in
     let files = map source_of c.in_ok-files.files.items in
     let after = f.directory c.copy_files.new.file_system in
-    let has = found g c in
+    let stand = ap (map string_bytes) c.deref.ensures.value ∙ c.in_ok-folders.ensures.value in
     let same = c.find_sources.ensures.unchanged.same_files in
     let copied = rw (same, c.deref-2.ensures.value) at c.in_ok-copied.ensures.ok in
     let being = rw (same, c.deref-2.ensures.value) at c.copy_files.ensures.any_moment.throughout.here in
     let kept = c.in_ok-copied.ensures.folders ∙ ap (λ (m : Directory). m.is_folder) same in
-    is_fork (folders_in c.args.source.now) target (f.directory c.args.file_system.now) mid has.others (map string_bytes c.deref.result.now) has.stand files has.are after has.free c.in_ok-make_target.ensures.folder kept has.single copied (others_of target files mid after being)
+    is_fork (folders_in c.args.source.now) target (f.directory c.args.file_system.now) mid c.make_target.ensures.others (map string_bytes c.deref.result.now) stand files c.in_ok-files.ensures.value after c.in_ok-make_target.ensures.ok c.in_ok-make_target.ensures.folder kept c.in_ok-files.ensures.single copied (others_of target files mid after being)
 
 pub returns-clause-copies : goal.returns-clause-copies
 returns-clause-copies g c =
     let f = g.F.FileSystem in
     let target = c.args.target.now in
-    let has = found g c in
+    let stand = ap (map string_bytes) c.deref.ensures.value ∙ c.in_ok-folders.ensures.value in
     c.in_ok-copied.ensures.copies ∙ ap (λ given. copies_in target (map source_of given)) c.deref-2.ensures.value
-    ∙ copies_before (folders_in c.args.source.now) target (f.directory c.args.file_system.now) (f.directory c.make_target.new.file_system) has.others (map string_bytes c.deref.result.now) has.stand (map source_of c.in_ok-files.files.items) has.are
+    ∙ copies_before (folders_in c.args.source.now) target (f.directory c.args.file_system.now) (f.directory c.make_target.new.file_system) c.make_target.ensures.others (map string_bytes c.deref.result.now) stand (map source_of c.in_ok-files.files.items) c.in_ok-files.ensures.value
 
 pub returns-clause-any_moment : goal.returns-clause-any_moment
 returns-clause-any_moment g c =
-    forking_moves (folders_in c.args.source.now) c.args.target.now (map string_bytes c.deref.result.now) (map source_of c.in_ok-files.files.items) (map source_of c.deref-2.result.now) (found g c) (ap (map source_of) c.deref-2.ensures.value)
-    c.make_target.ensures.any_moment c.find_sources.ensures.unchanged c.copy_files.ensures.any_moment
+    let f = g.F.FileSystem in
+    let there = map string_bytes c.deref.result.now in
+    let files = map source_of c.in_ok-files.files.items in
+    let has : HasFound (folders_in c.args.source.now) c.args.target.now there files (f.directory c.args.file_system.now) (f.directory c.make_target.new.file_system) = record {
+      others = c.make_target.ensures.others;
+      free = c.in_ok-make_target.ensures.ok;
+      stand = ap (map string_bytes) c.deref.ensures.value ∙ c.in_ok-folders.ensures.value;
+      are = c.in_ok-files.ensures.value;
+      single = c.in_ok-files.ensures.single;
+    } in
+    forking_moves (folders_in c.args.source.now) c.args.target.now there files (map source_of c.deref-2.result.now) has (ap (map source_of) c.deref-2.ensures.value) c.make_target.ensures.any_moment c.find_sources.ensures.unchanged c.copy_files.ensures.any_moment
