@@ -1,5 +1,5 @@
 -- What a trial's crash leaves, and what its opening finds.
-use Rattle.std.proofs.Common.{◌≡◌, ◌⊎◌, ⊎_elim, inl, inr, ℕ, false, true, List, [], ◌∷◌, ◌++◌, Option, Some, None, refl, sym, ap, subst, ◌∙◌}
+use Rattle.std.proofs.Common.{◌≡◌, ◌⊎◌, ⊎_elim, inl, inr, ℕ, false, true, List, [], ◌∷◌, ◌++◌, Option, Some, None, arith, refl, sym, ap, subst, ◌∙◌}
 use Rattle.std.specs.Prelude.{Bool, IsSome, IfOk, IfErr, Result, Ok, Err, filter, is_some, map, option_map}
 use Rattle.std.specs.FinMap.{get-empty}
 use Rattle.std.specs.String.{string_bytes}
