@@ -5,8 +5,7 @@ ghost use Rattle.raft_tables.specs.KeyHash.{first_state, hash_step, hash_write};
 
 use std::hash::{BuildHasher, Hasher};
 
-/// Makes the hash of each key. The library's own multiplies twice for each byte of a key: this
-/// takes half the time.
+/// Makes the hash of each key. The library's own folds a product of 128 bits at each byte of a key.
 #[derive(Clone, Copy)]
 pub struct KeyHash;
 
