@@ -58,10 +58,19 @@ fn store_all<F: FileSystem>(alloc: Global, fs: &mut F) -> Result<(), Fault> {
 // Whether all holes are found, or else the check failed as the call did, and the files; none where something else came of it.
 fn checked<F: FileSystem + Drop>(alloc: Global, fs: F, kind: IoKind) -> (Option<bool>, F) {
     match consistency_check_with_file_system(alloc, "data", fs) {
-        Ok((holes, fs)) if holes.as_slice() == HOLES => (Some(true), fs),
-        Ok((_, fs)) => (None, fs),
-        Err((Fault::Io(by, _), fs)) if by == kind => (Some(false), fs),
-        Err((_, fs)) => (None, fs),
+        Ok((holes, fs)) => (found_all(&holes), fs),
+        Err((fault, fs)) => (failed_as(&fault, kind), fs),
+    }
+}
+
+fn found_all(holes: &[(u64, u64)]) -> Option<bool> {
+    if holes == HOLES { Some(true) } else { None }
+}
+
+fn failed_as(fault: &Fault, kind: IoKind) -> Option<bool> {
+    match fault {
+        Fault::Io(by, _) if *by == kind => Some(false),
+        _ => None,
     }
 }
 
