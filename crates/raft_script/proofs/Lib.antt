@@ -6,5 +6,6 @@ pub mod ProgressLemmas
 pub mod StepsLemmas
 pub mod RunLemmas
 pub mod TrialLemmas
+pub mod TrialOpeningLemmas
 pub mod PassedLemmas
 pub mod PurgesLemmas
