@@ -121,8 +121,8 @@ fn is_without_one(given: &Option<Vec<u64>>) -> bool {
     }
 }
 
-// Whether the nth call of the sort came, and failed its file alone, and the next dump gives all; none where something else
-// came of it.
+// Whether the nth call of the sort came, and failed its file alone, and the next dump gives all;
+// none where something else came of it.
 fn fails_at<F: Failing>(
     alloc: Global,
     call: FsCall,
@@ -177,8 +177,8 @@ fn a_failing_call_fails_its_file_alone(rt: HostRuntime) -> Result<(), Fail> {
     Ok(())
 }
 
-// Whether a dump gives all; with the Nth request for memory refused (`rt try --test --fail-alloc N`) all but a file, and the
-// next one all.
+// Whether a dump gives all; with the Nth request for memory refused (`rt try --test --fail-alloc
+// N`) all but a file, and the next one all.
 fn is_given<F: Failing>(alloc: Global) -> Result<bool, Fault> {
     let mut fs = F::fresh(alloc);
     fill(&mut fs, alloc, FILES)?;

@@ -49,8 +49,8 @@ static SORTS: [Sort; 10] = [
 /// More calls of a sort than a fork makes.
 const MANY: u64 = 50;
 
-// Whether a fork of these files is done, or else failed as the call did, and a fork to another folder is done then; none
-// where it came to something else.
+// Whether a fork of these files is done, or else failed as the call did, and a fork to another
+// folder is done then; none where it came to something else.
 fn is_done<F: Failing>(alloc: Global, files: &mut F) -> Result<Option<bool>, Fault> {
     let source = read(alloc, PLAIN)?;
     match fork(alloc, &source, files, "b") {
@@ -103,8 +103,8 @@ fn each_failing_call_fails_the_fork(rt: HostRuntime) -> Result<(), Fail> {
     Ok(())
 }
 
-// Whether a fork is done; with the Nth request for memory refused (`rt try --test --fail-alloc N`) it says so, and one to
-// another folder is done.
+// Whether a fork is done; with the Nth request for memory refused (`rt try --test --fail-alloc N`)
+// it says so, and one to another folder is done.
 fn is_made<F: Failing>(alloc: Global) -> Result<bool, Fault> {
     let mut files = F::fresh(alloc);
     store_all(alloc, &mut files, SOURCE)?;

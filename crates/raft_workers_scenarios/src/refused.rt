@@ -55,7 +55,8 @@ fn store_all<F: FileSystem>(alloc: Global, fs: &mut F) -> Result<(), Fault> {
     Ok(())
 }
 
-// Whether all holes are found, or else the check failed as the call did, and the files; none where something else came of it.
+// Whether all holes are found, or else the check failed as the call did, and the files; none where
+// something else came of it.
 fn checked<F: FileSystem + Drop>(alloc: Global, fs: F, kind: IoKind) -> (Option<bool>, F) {
     match consistency_check_with_file_system(alloc, "data", fs) {
         Ok((holes, fs)) => (found_all(&holes), fs),
@@ -74,8 +75,8 @@ fn failed_as(fault: &Fault, kind: IoKind) -> Option<bool> {
     }
 }
 
-// Whether the nth call of the sort came, and failed the check, and the next one finds all; none where something else came
-// of it.
+// Whether the nth call of the sort came, and failed the check, and the next one finds all; none
+// where something else came of it.
 fn fails_at<F: Failing>(
     alloc: Global,
     call: FsCall,
@@ -132,8 +133,8 @@ fn a_failing_call_fails_the_check(rt: HostRuntime) -> Result<(), Fail> {
     Ok(())
 }
 
-// Whether a check finds all holes; with the Nth request for memory refused (`rt try --test --fail-alloc N`) it says so, and
-// the next one finds them.
+// Whether a check finds all holes; with the Nth request for memory refused (`rt try --test --fail-
+// alloc N`) it says so, and the next one finds them.
 fn is_found<F: Failing>(alloc: Global) -> Result<bool, Fault> {
     let mut fs = F::fresh(alloc);
     store_all(alloc, &mut fs)?;
