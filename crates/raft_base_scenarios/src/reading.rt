@@ -257,11 +257,11 @@ fn holds<F: FileSystem>(
 {
     match step {
         Step::Replay(wanted, end) => {
-            let answer = reader.next(fs, alloc, PATH);
+            let answer = reader.next(fs, alloc, PATH, false);
             is_found(seq, answer, wanted) && reader.valid_offset() == *end
         }
         Step::Read(wanted, end) => {
-            let answer = reader.next_readable(fs, alloc, PATH);
+            let answer = reader.next(fs, alloc, PATH, true);
             is_found(seq, answer, wanted) && reader.valid_offset() == *end
         }
     }

@@ -209,8 +209,8 @@ impl Log {
 
     /// Copies the last answer, as much of it as there is room for, and tells its length.
     pub(crate) fn copy_answer(&self, out: &mut [u8]) -> u64
-        ensures len { result ≡ length self.now.answer.bytes.items }
-        ensures value { take result out.new ≡ take (length out.old) self.now.answer.bytes.items }
+        ensures value { result ≡ length self.now.answer.bytes.items }
+        ensures out { take result out.new ≡ take (length out.old) self.now.answer.bytes.items }
     {
         let bytes = self.answer.bytes.as_slice();
         let count = bytes.len().min(out.len());

@@ -1,8 +1,9 @@
 //! Entries that begin with their index.
-ghost use Rattle.std.specs.Prelude.{◌≡◌, drop, option_map, IfOk, Some};
+ghost use Rattle.std.specs.Prelude.{◌≡◌, ◌++◌, drop, option_map, IfOk, Some};
+ghost use Rattle.raft_codec.specs.Number.{u64_bytes};
 ghost use Rattle.raft_c_batch.specs.Batch.{index_in, stored_of};
 
-use raft_codec::number::take_u64;
+use raft_codec::number::{push_u64, take_u64};
 use raft_records::{Fault, Message, MessageExt};
 use std::alloc::{AllocError, Global};
 
@@ -17,6 +18,16 @@ pub struct Entry {
 }
 
 impl Entry {
+    pub fn new(alloc: Global, index: u64, value: &[u8]) -> Result<Entry, AllocError>
+        ensures value { IfOk result (λ entry.
+            stored_of entry ≡ (index, u64_bytes index ++ value.now)) }
+    {
+        let mut bytes = Vec::with_capacity(alloc, value.len().saturating_add(INDEX_LEN))?;
+        push_u64(&mut bytes, index)?;
+        bytes.extend_from_slice(value)?;
+        Ok(Entry { index, bytes })
+    }
+
     /// The entry that is stored as these bytes, if they are long enough for an index.
     pub fn of(alloc: Global, bytes: &[u8]) -> Result<Option<Entry>, AllocError>
         ensures value { IfOk result (λ entry. option_map stored_of entry

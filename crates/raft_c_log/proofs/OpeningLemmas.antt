@@ -22,7 +22,7 @@ module _ {F H R W : Type 0} {g : Ghosts F H R W} {text : List ℕ} {found : F} w
   opened_by e (inr refused) = absurd (let clash = refused.2 in cc)
 
   pub opening_keeps : (e : Engine F H R W g) → OpensBy text found (Ok e) → KeepsNamed text (g.directory found) (g.moments found) (moments_of e) (directory_of e)
-  opening_keeps e (inl by) = inl (by.settings, by.read, by.opens.opened.any_moment)
+  opening_keeps e (inl by) = inl (by.settings, by.read, by.opens.opened.any_moment.throughout)
   opening_keeps e (inr refused) = absurd (let clash = refused.2 in cc)
 
   pub refused_by : {code : ℤ} (r : Refused F) → code ≡ pos (fault_code r.fault) → OpensBy {g = g} text found (Err r) → IsUnopened text code (g.directory found) (g.refusals_of found) (g.refusals_of r.file_system)
@@ -32,7 +32,7 @@ module _ {F H R W : Type 0} {g : Ghosts F H R W} {text : List ℕ} {found : F} w
       record { fails = r.fault; code_is = is; cause = inl (subst (λ (e : Fault). IsTextRefusal text e) same refused.1) }
 
   pub refusal_keeps : (r : Refused F) → OpensBy {g = g} text found (Err r) → KeepsNamed text (g.directory found) (g.moments found) (g.moments r.file_system) (g.directory r.file_system)
-  refusal_keeps r (inl by) = inl (by.settings, by.read, by.opens.opened.any_moment)
+  refusal_keeps r (inl by) = inl (by.settings, by.read, by.opens.opened.any_moment.throughout)
   refusal_keeps r (inr refused) =
       let same : r.file_system ≡ found = (let whole = refused.2 in cc) in
       inr (ap (λ (f : F). g.moments f) same, ap (λ (f : F). g.directory f) same)

@@ -4,19 +4,20 @@ use Rattle.std.proofs.Common.{◌≡◌, ◌⊎◌, ◌∙◌, ℕ, Bool, true, 
 use Rattle.std.specs.Prelude.{◌↔◌, Result, ℤ, option_map, pos}
 use Rattle.raft_base.specs.declared.errors.Fault.{Fault}
 use Rattle.raft_base.specs.declared.errors.Fault.TheVariants as fault
-use Rattle.raft_env.specs.Moments.{HoldsThroughout}
+use Rattle.raft_env.specs.Moments.{MovesBy}
+use Rattle.raft_env.specs.Refusal.{FailsCountedAt}
 use Rattle.raft_env.specs.declared.env.FileSystem.{Ghosts}
 use Rattle.raft_held.specs.Crash.{LeavesAllowed, RecoversContents, pending_of}
-use Rattle.raft_log_engine.specs.Advance.{Advances, ChangesOnlyItsLog, state_of}
+use Rattle.raft_log_engine.specs.Advance.{Advances, ChangesOnlyItsLog, StaysWithin, state_of}
 use Rattle.raft_log_engine.specs.Cause.{IsWriteRefusal}
 use Rattle.raft_log_engine.specs.Durability.{HasOnlyRead}
-use Rattle.raft_log_engine.specs.Engine.{contents_of, directory_of, durable_of, folders_of, has_failed, moments_of, queue_of, refusals_of, unsynced_of}
+use Rattle.raft_log_engine.specs.Engine.{contents_of, directory_of, durable_of, folders_of, has_failed, queue_of, refusals_of, unsynced_of}
 use Rattle.raft_log_engine.specs.declared.engine.Engine.{Engine}
-use Rattle.raft_log_engine.proofs.CrashLemmas.{moments_more}
+use Rattle.raft_log_engine.proofs.AdvanceLemmas.{stays_more}
 use Rattle.raft_log_engine.proofs.EngineLemmas.{engine_still_more}
 use Rattle.raft_records.specs.Item.{Batch}
 use Rattle.raft_pipes.specs.Folder.{LeavesOtherFiles}
-use Rattle.raft_pipes.specs.Queue.{IsFileRefusalIn}
+use Rattle.raft_pipes.specs.Queue.{NamesLog}
 use Rattle.raft_base.specs.Fault.{fault_code}
 use Rattle.raft_log_engine.specs.declared.engine.Refused.{Refused}
 use Rattle.raft_c_batch.specs.Batch.{IsBatchRefusal}
@@ -70,9 +71,9 @@ module _ {F H R W : Type 0} {g : Ghosts F H R W} where
   keeps_still {flight} {old} same = subst (λ (e : Engine F H R W g). KeepsLog flight old e) (sym same) (keeps_same flight old)
 
   -- one with nothing in flight
-  pub keeps_none : {old new : Engine F H R W g} → HoldsThroughout (moments_of old) (moments_of new) (directory_of new) (LeavesAllowed (folders_of old) (durable_of old) (unsynced_of old)) → ChangesOnlyItsLog (state_of old) (state_of new) → KeepsLog [] old new
+  pub keeps_none : {old new : Engine F H R W g} → StaysWithin (LeavesAllowed (folders_of old) (durable_of old) (unsynced_of old)) (state_of old) (state_of new) → ChangesOnlyItsLog (state_of old) (state_of new) → KeepsLog [] old new
   keeps_none {old} {new} moments only = record {
-    any_moment = moments_more (folders_of old) (durable_of old) (unsynced_of old) [] (moments_of old) (moments_of new) (directory_of new) moments;
+    any_moment = stays_more [] moments;
     others = only.others;
   }
 
@@ -99,11 +100,11 @@ module _ {F H R W : Type 0} {g : Ghosts F H R W} where
 
   -- a close that was refused
   pub close_refused : {code : ℤ} (e : Engine F H R W g) (r : Refused F) → code ≡ pos (fault_code r.fault) → RecoversContents (folders_of e) (durable_of e) (unsynced_of e) (g.directory r.file_system)
-      → HoldsThroughout (moments_of e) (g.moments r.file_system) (g.directory r.file_system) (LeavesAllowed (folders_of e) (durable_of e) (unsynced_of e)) → ((r.fault ≡ fault.Failed) ↔ (has_failed e ≡ true))
-      → (has_failed e ≡ false → IsFileRefusalIn (folders_of e) (refusals_of e) (g.refusals_of r.file_system) r.fault) → LeavesOtherFiles (folders_of e) (directory_of e) (g.directory r.file_system) → IsClosedAs code e r.file_system
+      → MovesBy g.directory g.moments g.refusals_of (λ _. LeavesAllowed (folders_of e) (durable_of e) (unsynced_of e)) e.file_system r.file_system → ((r.fault ≡ fault.Failed) ↔ (has_failed e ≡ true))
+      → (has_failed e ≡ false → FailsCountedAt (NamesLog (folders_of e)) (refusals_of e) (g.refusals_of r.file_system) r.fault) → LeavesOtherFiles (folders_of e) (directory_of e) (g.directory r.file_system) → IsClosedAs code e r.file_system
   close_refused e r is keeps moments told by others = record {
     ok = λ done. absurd (let none = code_of r.fault is done in let some = fault_code_some r.fault in omega (arith, none, some));
-    err = λ other. record { fails = r.fault; code_is = is; cause = for_fault (has_failed e) (IsFileRefusalIn (folders_of e) (refusals_of e) (g.refusals_of r.file_system)) r.fault told by; keeps = keeps };
+    err = λ other. record { fails = r.fault; code_is = is; cause = for_fault (has_failed e) (FailsCountedAt (NamesLog (folders_of e)) (refusals_of e) (g.refusals_of r.file_system)) r.fault told by; keeps = keeps };
     any_moment = moments;
     others = others;
   }

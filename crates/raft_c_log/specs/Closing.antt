@@ -1,13 +1,14 @@
 -- What a close of an open log leaves.
-use Rattle.std.specs.Prelude.{◌≡◌, ◌↔◌, true, false, [], ℤ, pos}
+use Rattle.std.specs.Prelude.{◌≡◌, ℤ, pos}
 use Rattle.raft_base.specs.Fault.{fault_code}
 use Rattle.raft_base.specs.declared.errors.Fault.{Fault}
-use Rattle.raft_env.specs.Moments.{HoldsThroughout}
+use Rattle.raft_env.specs.Moments.{MovesBy}
+use Rattle.raft_env.specs.Refusal.{FailsCountedAt}
 use Rattle.raft_env.specs.declared.env.FileSystem.{Ghosts}
 use Rattle.raft_held.specs.Crash.{LeavesAllowed, RecoversContents}
 use Rattle.raft_pipes.specs.Folder.{LeavesOtherFiles}
-use Rattle.raft_pipes.specs.Queue.{IsFileRefusalIn}
-use Rattle.raft_log_engine.specs.Engine.{contents_of, directory_of, durable_of, folders_of, has_failed, is_known_in, moments_of, refusals_of, unsynced_of}
+use Rattle.raft_pipes.specs.Queue.{NamesLog}
+use Rattle.raft_log_engine.specs.Engine.{contents_of, directory_of, durable_of, folders_of, has_failed, is_known_in, refusals_of, unsynced_of}
 use Rattle.raft_log_engine.specs.Opening.{IsClosedIn}
 use Rattle.raft_log_engine.specs.declared.engine.Engine.{Engine}
 use Rattle.raft_c_log.specs.Refusals.{IsRefusalFor}
@@ -17,7 +18,8 @@ module _ {F H R W : Type 0} {g : Ghosts F H R W} where
   pub record IsCloseRefused (code : ℤ) (e : Engine F H R W g) (files : F) : Type 0 where
     pub fails : Fault
     pub code_is : code ≡ pos (fault_code fails)
-    pub cause : IsRefusalFor (has_failed e) (IsFileRefusalIn (folders_of e) (refusals_of e)
+    pub cause : IsRefusalFor (has_failed e) (FailsCountedAt (NamesLog (folders_of e))
+        (refusals_of e)
         (g.refusals_of files)) fails
     pub keeps : RecoversContents (folders_of e) (durable_of e) (unsynced_of e) (g.directory files)
 
@@ -28,7 +30,6 @@ module _ {F H R W : Type 0} {g : Ghosts F H R W} where
         code ≡ pos 0 → IsClosedIn (folders_of e) (contents_of e) (is_known_in e)
         (g.directory files)
     pub err : (code ≡ pos 0 → ⊥) → IsCloseRefused code e files
-    pub any_moment :
-        HoldsThroughout (moments_of e) (g.moments files) (g.directory files)
-        (LeavesAllowed (folders_of e) (durable_of e) (unsynced_of e))
+    pub any_moment : MovesBy g.directory g.moments g.refusals_of (λ _. LeavesAllowed (folders_of e)
+        (durable_of e) (unsynced_of e)) e.file_system files
     pub others : LeavesOtherFiles (folders_of e) (directory_of e) (g.directory files)

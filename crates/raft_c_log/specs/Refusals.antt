@@ -3,19 +3,19 @@ use Rattle.std.specs.Prelude.{◌≡◌, ◌⊎◌, ℕ, Bool, true, false, List
 use Rattle.raft_base.specs.Fault.{fault_code}
 use Rattle.raft_base.specs.declared.errors.Fault.{Fault}
 use Rattle.raft_base.specs.declared.errors.Fault.TheVariants as fault
-use Rattle.raft_env.specs.Moments.{HoldsThroughout}
+use Rattle.raft_env.specs.Refusal.{FailsAt, FailsCountedAt}
 use Rattle.raft_env.specs.declared.env.FileSystem.{Ghosts}
 use Rattle.raft_held.specs.Crash.{LeavesAllowed, pending_of}
 use Rattle.raft_pipes.specs.Folder.{LeavesOtherFiles}
-use Rattle.raft_pipes.specs.Queue.{IsFileRefusalIn, IsRefusalIn}
+use Rattle.raft_pipes.specs.Queue.{NamesLog}
 use Rattle.raft_records.specs.Contents.{Contents}
 use Rattle.raft_records.specs.Item.{Batch}
 use Rattle.raft_c_batch.specs.Batch.{IsBatchRefusal, index_in, read_batch}
 use Rattle.raft_c_batch.specs.declared.batch.BatchFault.TheVariants.{Refused}
 use Rattle.raft_c_batch.specs.declared.entry.Entry.{Entry as StoredEntry}
+use Rattle.raft_log_engine.specs.Advance.{StaysWithin, state_of}
 use Rattle.raft_log_engine.specs.Cause.{IsAppendRefusal, IsWriteRefusal}
-use Rattle.raft_log_engine.specs.Durability.{HasOnlyRead}
-use Rattle.raft_log_engine.specs.Engine.{contents_of, directory_of, durable_of, folders_of, has_failed, moments_of, queue_of, refusals_of, rewrite_queue_of, unsynced_of}
+use Rattle.raft_log_engine.specs.Engine.{contents_of, directory_of, durable_of, folders_of, has_failed, queue_of, refusals_of, rewrite_queue_of, unsynced_of}
 use Rattle.raft_log_engine.specs.Purge.{HasLastId, HasOpenGroup, IsPurgeFault}
 use Rattle.raft_log_engine.specs.Reads.{IsEntryRefusalAt, IsFetchFault, compact_batch, entry_of}
 use Rattle.raft_log_engine.specs.declared.engine.Engine.{Engine}
@@ -56,8 +56,8 @@ module _ {F H R W : Type 0} {g : Ghosts F H R W} where
   -- flight the first ones; files that are no log's are as before
   pub record KeepsLog (flight : List Batch) (old new : Engine F H R W g) : Type 0 where
     pub any_moment :
-        HoldsThroughout (moments_of old) (moments_of new) (directory_of new)
-        (LeavesAllowed (folders_of old) (durable_of old) (unsynced_of old ++ flight))
+        StaysWithin (LeavesAllowed (folders_of old) (durable_of old) (unsynced_of old ++ flight))
+        (state_of old) (state_of new)
     pub others : LeavesOtherFiles (folders_of old) (directory_of old) (directory_of new)
 
   -- why the engine doesn't write the batch of some bytes
@@ -81,7 +81,8 @@ module _ {F H R W : Type 0} {g : Ghosts F H R W} where
   -- why a change isn't carried out
   abbrev pub IsChangeFault : Change → Engine F H R W g → Engine F H R W g → Fault → Type 0
   IsChangeFault (Write bytes sync) old new e = IsWriteFault (read_batch bytes.now) old new e
-  IsChangeFault Sync old new e = IsRefusalFor (has_failed old) (IsFileRefusalIn (folders_of old)
+  IsChangeFault Sync old new e =
+      IsRefusalFor (has_failed old) (FailsCountedAt (NamesLog (folders_of old))
       (refusals_of old) (refusals_of new)) e
   IsChangeFault (CompactTo group index) old new e = IsRefusalFor (has_failed old)
       (IsAppendRefusal (folders_of old) (queue_of new) (has_failed new) (refusals_of old)
@@ -116,11 +117,11 @@ module _ {F H R W : Type 0} {g : Ghosts F H R W} where
   IsQueryFault (query.Get group key) old new e = e ≡ fault.Memory
   IsQueryFault (query.Entry group index) old new e = (e ≡ fault.Memory)
       ⊎ IsEntryRefusalAt IsStoredAs index_of index (entry_of (contents_of old) group index) e
-      ⊎ IsRefusalIn (folders_of old) (refusals_of old) (refusals_of new) e
+      ⊎ FailsAt (NamesLog (folders_of old)) (refusals_of old) (refusals_of new) e
   IsQueryFault (query.Fetch fetch) old new e = (e ≡ fault.Memory)
       ⊎ IsFetchFault IsStoredAs index_of fetch.begin fetch.end (max_of fetch.max_size)
       ((contents_of old).entries fetch.group)
-      (IsRefusalIn (folders_of old) (refusals_of old) (refusals_of new) e) e
+      (FailsAt (NamesLog (folders_of old)) (refusals_of old) (refusals_of new) e) e
   IsQueryFault (query.Scan scan) old new e = e ≡ fault.Memory
   IsQueryFault query.Groups old new e = e ≡ fault.Memory
   IsQueryFault (query.Span group) old new e = ⊥

@@ -1,6 +1,6 @@
 //! What a batch changes of a group.
 
-use crate::entries::Entry;
+use raft_c_batch::Entry;
 use raft_env::FileSystem;
 use raft_log_engine::{Engine, LogBatch};
 use raft_records::{Command, Fault};

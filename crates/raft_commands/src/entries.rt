@@ -1,71 +1,17 @@
 //! Commands on the entries of a group, and on groups.
-ghost use Rattle.std.specs.Prelude.{◌≡◌};
-
 use crate::changes::{Change, write};
 use anyhow::Result;
-use raft_codec::number::{push_u64, take_u64};
+use raft_c_batch::Entry;
 use raft_command_line::Indexes;
 use raft_console::{Output, failure};
 use raft_env::FileSystem;
 use raft_inspect::Word;
 use raft_log_engine::Engine;
-use raft_records::{Fault, Message, MessageExt};
-use std::alloc::{AllocError, Global};
-
-/// The bytes before an entry's value, which are its index, the greatest first.
-const INDEX_LEN: usize = 8;
+use raft_records::{Fault, MessageExt};
+use std::alloc::Global;
 
 /// The bytes of entries that are held at once.
 const PAGE_BYTES: usize = 1024 * 1024;
-
-/// An entry: its index in eight bytes, and its value.
-#[derive(Drop)]
-pub(crate) struct Entry {
-    index: u64,
-    bytes: Vec<u8>,
-}
-
-impl Entry {
-    fn new(alloc: Global, index: u64, value: &[u8]) -> Result<Entry, AllocError> {
-        let mut bytes = Vec::new(alloc);
-        push_u64(&mut bytes, index)?;
-        bytes.extend_from_slice(value)?;
-        Ok(Entry { index, bytes })
-    }
-
-    fn value(&self) -> &[u8] {
-        self.bytes.get(INDEX_LEN..).unwrap_or(&[])
-    }
-}
-
-impl Message for Entry {
-    ghost bytes_of = { λ e. e.bytes.items };
-
-    ghost is_parsed = { λ bytes e. e.bytes.items ≡ bytes };
-
-    // Bytes that are too short for an index have the index 0.
-    fn parse(alloc: Global, bytes: &[u8]) -> Result<Entry, Fault> {
-        let index = take_u64(bytes).map_or(0, |(index, _)| index);
-        Ok(Entry {
-            index,
-            bytes: bytes.to_vec(alloc)?,
-        })
-    }
-
-    fn to_bytes(&self, buffer: &mut Vec<u8>) -> Result<(), AllocError> {
-        buffer.extend_from_slice(&self.bytes)
-    }
-}
-
-impl MessageExt for Entry {
-    type Entry = Entry;
-
-    ghost index_of = { λ e. e.index };
-
-    fn index(entry: &Entry) -> u64 {
-        entry.index
-    }
-}
 
 /// Adds entries with these values from an index on, or after the last, and prints their first and
 /// last index.
@@ -172,7 +118,7 @@ fn list_page<F: FileSystem>(
     }
     for entry in &entries {
         out.line(&[
-            ("index", Word::Number(entry.index)),
+            ("index", Word::Number(Entry::index(entry))),
             ("value", Word::Bytes(entry.value())),
         ])?;
     }

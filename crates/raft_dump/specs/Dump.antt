@@ -6,7 +6,7 @@ use Rattle.raft_base.specs.declared.errors.Fault.TheVariants as fault
 use Rattle.raft_base.specs.declared.pipe_log.FileId.{FileId}
 use Rattle.raft_env.specs.Directory.{Directory, HasFile, Path, name_in}
 use Rattle.raft_env.specs.PathParts.{IsParent}
-use Rattle.raft_env.specs.Refusal.{IsRefusal, Refusals}
+use Rattle.raft_env.specs.Refusal.{FailsAt, NamesFile, Refusals}
 use Rattle.raft_files.specs.Name.{parsed_name}
 use Rattle.raft_dump.specs.Items.{ItemsState}
 use Rattle.raft_dump.specs.LogFiles.{files_in}
@@ -41,7 +41,7 @@ IsNoLogFile path n _ = ⊥
 -- no folder stands there; else its names can't be listed, or memory is wanting
 abbrev pub IsNoFolder : Path → Directory → Refusals → Refusals → Fault → Type 0
 IsNoFolder path n before after (fault.InvalidArgument text) = n.is_folder path ≡ false
-IsNoFolder path n before after e = IsRefusal path before after e
+IsNoFolder path n before after e = FailsAt (NamesFile path) before after e
 
 -- what stands at a path is dumped as a folder or as a file
 abbrev pub IsDump : Path → Directory → Bool → ItemsState → Type 0

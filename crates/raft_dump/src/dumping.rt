@@ -1,7 +1,6 @@
 //! What the log files at a path hold.
 ghost use Rattle.std.specs.Prelude.{IfErr, IfOk};
 ghost use Rattle.raft_env.specs.Moments.{OnlyReads};
-ghost use Rattle.raft_env.specs.Refusal.{NoFewer};
 ghost use Rattle.raft_dump.specs.Dump.{IsDump, IsNoDump};
 
 use crate::item_reader::LogItemReader;
@@ -18,8 +17,8 @@ pub fn dump_with_file_system<F: FileSystem>(
 ) -> Result<LogItemReader<F>, Fault>
     ensures value { IfOk result (IsDump path.now (F.directory file_system.old)
         ((F.directory file_system.old).is_folder path.now)) }
-    ensures unchanged { OnlyReads F.directory F.moments file_system.old file_system.new }
-    ensures counts { NoFewer (F.refusals_of file_system.old) (F.refusals_of file_system.new) }
+    ensures unchanged { OnlyReads F.directory F.moments F.refusals_of
+        file_system.old file_system.new }
     ensures cause { IfErr result (IsNoDump path.now (F.directory file_system.old)
         (F.refusals_of file_system.old) (F.refusals_of file_system.new)
         ((F.directory file_system.old).is_folder path.now)) }

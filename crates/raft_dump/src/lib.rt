@@ -10,7 +10,7 @@ mod plan;
 mod stale;
 
 pub use build::{build_file_reader, build_file_writer};
-pub use check::{FileCheck, check_file};
+pub use check::{FileCheck, are_zeros, check_file, without_header};
 pub use dumping::dump_with_file_system;
 pub use files::{LogFile, log_file, log_files};
 pub use item_reader::{LogItemReader, RecordPlace};

@@ -53,7 +53,7 @@ fn is_record_of(alloc: Global, id: FileId, bytes: &[u8]) -> Result<bool, Fault>
     ensures memory { IfErr result (λ e. e ≡ Memory) }
 {
     let context = LogFileContext::new(id, Version::V2);
-    match decode_record(alloc, bytes, 0, &context, Vec::new(alloc)) {
+    match decode_record(alloc, bytes, 0, &context, Vec::new(alloc), true) {
         Ok(_) => Ok(true),
         Err(Fault::Memory) => Err(Fault::Memory),
         Err(_) => Ok(false),

@@ -26,15 +26,15 @@ pub enum FsFault {
 }
 
 impl FsFault {
-    ghost use Rattle.raft_env.specs.Refusal.{RefusalsRoseForFault, CountsRefusal, IsFaultOf, IsFileRefusal, IsRefusal};
+    ghost use Rattle.raft_env.specs.Refusal.{RefusalsRoseForFault, CountsRefusal, FailsAt, FailsCountedAt, IsFaultOf, NamesFile};
 
     /// The fault of a call on the file at the path. It names none where there is no memory for that.
     pub fn with_path(self, alloc: Global, path: &str) -> Fault
         ensures value { IsFaultOf path.now self result }
         ensures cause { (old new : Refusals) → RefusalsRoseForFault self old new
-            → IsRefusal path.now old new result }
+            → FailsAt (NamesFile path.now) old new result }
         ensures refused { (old new : Refusals) → CountsRefusal self old new
-            → IsFileRefusal path.now old new result }
+            → FailsCountedAt (NamesFile path.now) old new result }
         ensures never_failed { result ≡ Fault.Failed → ⊥ }
     {
         match self {
@@ -110,7 +110,7 @@ pub trait FileSystem: Send + Sync {
         ensures handle { IfOk result (λ h. (handle_path h ≡ path.now) × (may_write h ≡ true)) }
         ensures ok { OnOk result (directory self.new ≡ after_create path.now (directory self.old)) }
         ensures err { OnErr result (directory self.new ≡ directory self.old) }
-        ensures any_moment { MovesBy directory moments (λ old. IsOneOf old
+        ensures any_moment { MovesBy directory moments refusals_of (λ old. IsOneOf old
             (after_create path.now old))
             self.old self.new }
         ensures counts { CountsRefusalOf result (refusals_of self.old) (refusals_of self.new) };
@@ -120,7 +120,7 @@ pub trait FileSystem: Send + Sync {
             × HasFile (directory self.old) path.now) }
         ensures may_write { IfOk result (λ h. may_write h ≡ true
             ↔ (permission ≡ Permission.ReadWrite)) }
-        ensures unchanged { OnlyReads directory moments self.old self.new }
+        ensures unchanged { OnlyReads directory moments refusals_of self.old self.new }
         ensures counts { CountsRefusalOf result (refusals_of self.old) (refusals_of self.new) };
 
     /// A handle of the file finds none from then on.
@@ -128,7 +128,7 @@ pub trait FileSystem: Send + Sync {
         ensures value { OnOk result (HasFile (directory self.old) path.now) }
         ensures ok { OnOk result (directory self.new ≡ without_file path.now (directory self.old)) }
         ensures err { OnErr result (directory self.new ≡ directory self.old) }
-        ensures any_moment { MovesBy directory moments (λ old. IsOneOf old
+        ensures any_moment { MovesBy directory moments refusals_of (λ old. IsOneOf old
             (without_file path.now old))
             self.old self.new }
         ensures counts { CountsRefusalOf result (refusals_of self.old) (refusals_of self.new) };
@@ -141,7 +141,7 @@ pub trait FileSystem: Send + Sync {
         ensures ok { OnOk result (directory self.new
             ≡ after_rename from.now to.now (directory self.old)) }
         ensures err { OnErr result (directory self.new ≡ directory self.old) }
-        ensures any_moment { MovesBy directory moments (λ old. IsOneOf old
+        ensures any_moment { MovesBy directory moments refusals_of (λ old. IsOneOf old
             (after_rename from.now to.now old))
             self.old self.new }
         ensures counts { CountsRefusalOf result (refusals_of self.old) (refusals_of self.new) };
@@ -152,7 +152,7 @@ pub trait FileSystem: Send + Sync {
         ensures ok { OnOk result (directory self.new
             ≡ after_rename from.now to.now (directory self.old)) }
         ensures err { OnErr result (directory self.new ≡ directory self.old) }
-        ensures any_moment { MovesBy directory moments (λ old. IsOneOf old
+        ensures any_moment { MovesBy directory moments refusals_of (λ old. IsOneOf old
             (after_rename from.now to.now old))
             self.old self.new }
         ensures counts { CountsRefusalOf result (refusals_of self.old) (refusals_of self.new) }
@@ -166,7 +166,7 @@ pub trait FileSystem: Send + Sync {
         ensures value { OnOk result (HasFile (directory self.old) from.now) }
         ensures ok { OnOk result (directory self.new
             ≡ after_rename from.now to.now (directory self.old)) }
-        ensures any_moment { MovesBy directory moments (λ old. IsOneOf old
+        ensures any_moment { MovesBy directory moments refusals_of (λ old. IsOneOf old
             (after_rename from.now to.now old))
             self.old self.new }
         ensures counts { CountsRefusalOf result (refusals_of self.old) (refusals_of self.new) }
@@ -178,13 +178,13 @@ pub trait FileSystem: Send + Sync {
     fn new_reader(&mut self, handle: &Self::Handle) -> Result<Self::Reader, FsFault>
         ensures reader { IfOk result (λ r. (reader_path r ≡ handle_path handle.now)
             × (reader_refusals r ≡ no_refusals)) }
-        ensures unchanged { OnlyReads directory moments self.old self.new }
+        ensures unchanged { OnlyReads directory moments refusals_of self.old self.new }
         ensures counts { CountsRefusalOf result (refusals_of self.old) (refusals_of self.new) };
 
     /// Adds the reader's refusals to those of the file system.
     fn end_reader(&mut self, reader: Self::Reader)
-        ensures unchanged { OnlyReads directory moments self.old self.new }
-        ensures cause { refusals_of self.new ≡ added_count (refusals_of self.old)
+        ensures unchanged { OnlyReads directory moments refusals_of self.old self.new }
+        ensures counts { refusals_of self.new ≡ added_count (refusals_of self.old)
             (reader_refusals reader) };
 
     /// Refused as `Other` for a handle that was opened to be read only.
@@ -192,7 +192,7 @@ pub trait FileSystem: Send + Sync {
         ensures writer { IfOk result (λ w. (writer_path w ≡ handle_path handle.now)
             × (may_write handle.now ≡ true)) }
         ensures cause { may_write handle.now ≡ false → result ≡ Err (FsFault.Io IoKind.Other) }
-        ensures unchanged { OnlyReads directory moments self.old self.new }
+        ensures unchanged { OnlyReads directory moments refusals_of self.old self.new }
         ensures counts { CountsRefusalOf result (refusals_of self.old) (refusals_of self.new) };
 
     /// Writes over what stands there, and past the end.
@@ -203,7 +203,7 @@ pub trait FileSystem: Send + Sync {
         ensures ok { OnOk result (directory self.new ≡ update_file (writer_path writer.old)
             (λ f. file_after_write at bytes.now true (overlay f.now at bytes.now) f)
             (directory self.old)) }
-        ensures any_moment { MovesBy directory moments
+        ensures any_moment { MovesBy directory moments refusals_of
             (IsWriting (writer_path writer.old) at bytes.now) self.old self.new }
         ensures counts { CountsRefusalOf result (refusals_of self.old) (refusals_of self.new) };
 
@@ -213,7 +213,7 @@ pub trait FileSystem: Send + Sync {
         ensures value { OnOk result (HasFile (directory self.old) (writer_path writer.old)) }
         ensures ok { OnOk result (directory self.new ≡ update_file (writer_path writer.old)
             (λ f. file_after_resize (take size f.now) f) (directory self.old)) }
-        ensures any_moment { MovesBy directory moments (IsTruncating (writer_path writer.old) size)
+        ensures any_moment { MovesBy directory moments refusals_of (IsTruncating (writer_path writer.old) size)
             self.old self.new }
         ensures counts { CountsRefusalOf result (refusals_of self.old) (refusals_of self.new) };
 
@@ -224,7 +224,7 @@ pub trait FileSystem: Send + Sync {
         ensures fits { OnOk result (at + size < 2 ^ 63) }
         ensures ok { OnOk result (directory self.new ≡ update_file (writer_path writer.old)
             (λ f. file_after_resize (pad_to f.now (at + size)) f) (directory self.old)) }
-        ensures any_moment { MovesBy directory moments
+        ensures any_moment { MovesBy directory moments refusals_of
             (IsAllocating (writer_path writer.old) (at + size)) self.old self.new }
         ensures counts { CountsRefusalOf result (refusals_of self.old) (refusals_of self.new) };
 
@@ -235,7 +235,7 @@ pub trait FileSystem: Send + Sync {
         ensures ok { OnOk result (directory self.new
             ≡ update_file (writer_path writer.old) synced_of (directory self.old)) }
         ensures err { OnErr result (directory self.new ≡ directory self.old) }
-        ensures any_moment { MovesBy directory moments
+        ensures any_moment { MovesBy directory moments refusals_of
             (λ old. IsOneOf old (update_file (writer_path writer.old) synced_of old)) self.old
             self.new }
         ensures counts { CountsRefusalOf result (refusals_of self.old) (refusals_of self.new) };
@@ -259,36 +259,36 @@ pub trait FileSystem: Send + Sync {
     ) -> Result<(), FsFault>
         ensures ok { OnOk result (IsPartAt (file_at (directory self.old) path.now) at len
             bytes.new.items) }
-        ensures unchanged { OnlyReads directory moments self.old self.new }
+        ensures unchanged { OnlyReads directory moments refusals_of self.old self.new }
         ensures counts { CountsRefusalOf result (refusals_of self.old) (refusals_of self.new) };
 
     fn file_size(&mut self, handle: &Self::Handle) -> Result<usize, FsFault>
-        ensures size { IfOk result (λ n. (file : File)
+        ensures value { IfOk result (λ n. (file : File)
             × (file_at (directory self.old) (handle_path handle.now) ≡ Some file)
             × (n ≡ length file.now)) }
         ensures fits { IfOk result (λ n. n < 2 ^ 63) }
-        ensures unchanged { OnlyReads directory moments self.old self.new }
+        ensures unchanged { OnlyReads directory moments refusals_of self.old self.new }
         ensures counts { CountsRefusalOf result (refusals_of self.old) (refusals_of self.new) };
 
     /// Makes a folder, with those on the way to it. A folder that stands stays. A refusal may leave
     /// some of them made.
     fn make_dir(&mut self, path: &str) -> Result<(), FsFault>
         ensures ok { OnOk result (directory self.new ≡ folder_made path.now (directory self.old)) }
-        ensures any_moment { MovesBy directory moments (IsMakingFolder path.now) self.old self.new }
+        ensures any_moment { MovesBy directory moments refusals_of (IsMakingFolder path.now) self.old self.new }
         ensures counts { CountsRefusalOf result (refusals_of self.old) (refusals_of self.new) };
 
     /// The names of the files in a folder, in the order of their bytes.
     fn list(&mut self, dir: &str) -> Result<Vec<String>, FsFault>
         ensures names { IfOk result (λ names. map string_bytes names.items
             ≡ names_in dir.now (directory self.old)) }
-        ensures unchanged { OnlyReads directory moments self.old self.new }
+        ensures unchanged { OnlyReads directory moments refusals_of self.old self.new }
         ensures counts { CountsRefusalOf result (refusals_of self.old) (refusals_of self.new) };
 
     /// The bytes that a folder has room for.
     fn free_space(&mut self, dir: &str) -> Result<u64, FsFault>
         ensures value { IfOk result (λ n. n ≡ free_at self.new dir.now) }
         ensures others { (p : Path) → (p ≡ dir.now → ⊥) → free_at self.new p ≡ free_at self.old p }
-        ensures unchanged { OnlyReads directory moments self.old self.new }
+        ensures unchanged { OnlyReads directory moments refusals_of self.old self.new }
         ensures counts { CountsRefusalOf result (refusals_of self.old) (refusals_of self.new) };
 
     fn exists_metadata(&self, path: &str) -> bool
@@ -300,7 +300,7 @@ pub trait FileSystem: Send + Sync {
         ensures err { OnErr result ((p : Path) → metadata_of self.new p ≡ metadata_of self.old p) }
         ensures others { (p : Path) → (p ≡ path.now → ⊥)
             → metadata_of self.new p ≡ metadata_of self.old p }
-        ensures unchanged { OnlyReads directory moments self.old self.new }
+        ensures unchanged { OnlyReads directory moments refusals_of self.old self.new }
         ensures counts { CountsRefusalOf result (refusals_of self.old) (refusals_of self.new) };
 
     fn is_dir(&self, path: &str) -> bool

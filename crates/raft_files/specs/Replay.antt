@@ -8,6 +8,7 @@ use Rattle.raft_base.specs.declared.pipe_log.FileId.{FileId}
 use Rattle.raft_files.specs.declared.format.LogFileFormat.{LogFileFormat}
 use Rattle.raft_files.specs.Header.{header_len, header_of}
 use Rattle.raft_files.specs.Scan.{PlacedRecord, placed_by, record_place}
+use Rattle.raft_records.specs.declared.record_format.TheConstants.{RECORD_HEADER_LEN}
 
 -- the record that a replay takes at a place
 unfoldable pub replayed_at : Option ℕ → List ℕ → ℕ → Option PlacedRecord
@@ -35,7 +36,8 @@ replayed_records id bytes = replayed_in id bytes (header_of bytes)
 -- the entries block that stands after a header
 abbrev pub block_after : List ℕ → Option Header → List ℕ
 block_after bytes None = []
-block_after bytes (Some header) = take (header.footer - 16) (drop 16 bytes)
+block_after bytes (Some header) =
+    take (header.footer - RECORD_HEADER_LEN) (drop RECORD_HEADER_LEN bytes)
 
 -- the entries block of the record at a place is sound
 abbrev pub has_sound_block_at : List ℕ → ℕ → Bool

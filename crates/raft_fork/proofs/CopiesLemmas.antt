@@ -2,12 +2,13 @@
 use Rattle.std.proofs.Common.{◌≡◌, ◌≢◌, ◌⊎◌, ◌∙◌, ℕ, ◌+◌, ◌<◌, length, get_or, take, drop, List, [], ◌∷◌, ◌++◌, map, Option, None, IsSome, refl, ap, sym, subst, inl, inr, arith, append_assoc}
 use Rattle.std.specs.Prelude.{Contains}
 use Rattle.std.specs.List.{AllByRecursion}
+use Rattle.std.specs.String.{string_bytes}
 use Rattle.std.proofs.lemmas.List.{drop_more, map-append, take-append-drop, take_more}
 use Rattle.std.proofs.lemmas.List.Elements.{Contains-append_left}
 use Rattle.raft_env.specs.Directory.{Directory, HasFile, Path, file_at}
 use Rattle.raft_env.specs.Outcomes.{File}
-use Rattle.raft_env.specs.Moments.{HoldsThroughout}
-use Rattle.raft_env.proofs.MomentsLemmas.{passes_then, passes_weaker}
+use Rattle.raft_env.specs.Moments.{MovesBy}
+use Rattle.raft_env.proofs.MomentsLemmas.{moves_then}
 use Rattle.raft_files.specs.Writer.{bytes_at, bytes_of}
 use Rattle.raft_pipes.specs.Files.{IsDurable}
 use Rattle.raft_opening.specs.Files.{LeavesAllBut}
@@ -16,8 +17,8 @@ use Rattle.raft_pipes.specs.Numbered.{AreDistinct}
 use Rattle.raft_pipes.proofs.NamesInLemmas.{has_cases, has_later, none_before, stands_in}
 use Rattle.raft_pipes.proofs.QueueFilesLemmas.{all_back, all_push}
 use Rattle.raft_base.specs.declared.errors.Fault.{Fault}
-use Rattle.raft_env.specs.Refusal.{IsRefusal, NoFewer, Refusals, added_count, no_refusals}
-use Rattle.raft_opening.proofs.FilesLemmas.{refused_after}
+use Rattle.raft_env.specs.Refusal.{FailsAt, NamesFile, NoFewer, Refusals}
+use Rattle.raft_pipes.proofs.FileListLemmas.{refused_later}
 use Rattle.raft_fork.specs.Fork.{AreBeingCopied, AreCopied, CanBeCopied, Source, copies_in, copy_in, source_of}
 use Rattle.raft_fork.specs.Refused.{IsCopyRefusal}
 use Rattle.raft_fork.specs.declared.source.SourceFile.{SourceFile}
@@ -86,13 +87,6 @@ module _ (target : Path) (n : Directory) (front : List Source) (f : Source) (res
       pub moment_next : AreCopied target front n mid → AreBeingCopied target (front ++ f ∷ rest) n after
       moment_next copied = record { done = front; rest = f ∷ rest; is = refl; copied = earlier front (λ q among. among) copied; others = others_next }
 
-    -- the moments of one more copy
-    pub moments_next : (all : List Source) → all ≡ front ++ f ∷ rest → AreCopied target front n mid → (path : Path) → path ≡ copy_in target f → (old between new : List Directory) (after : Directory)
-        → HoldsThroughout old between mid (AreBeingCopied target all n) → HoldsThroughout between new after (LeavesOthers path mid) → HoldsThroughout old new after (AreBeingCopied target all n)
-    moments_next all is copied path path_is old between new after earlier later =
-        passes_then (AreBeingCopied target all n) old between new mid after earlier
-        (passes_weaker (LeavesOthers path mid) (AreBeingCopied target all n) between new after (λ m only. subst (λ fs. AreBeingCopied target fs n m) (sym is) (moment_next m (subst (λ p. LeavesOthers p mid m) path_is only) copied)) later)
-
 -- what has been copied, or is on its way, is some of the files
 among_started : (target : Path) (done rest : List Source) (q : Path) → Contains (copies_in target (done ++ take 1 rest)) q → Contains (copies_in target (done ++ rest)) q
 among_started target done [] q among = among
@@ -118,25 +112,64 @@ module _ (files : List SourceFile) (i : ℕ) (item : SourceFile) (within : i < l
   next_part = ap (map source_of) (take_more files i item within ∙ ap (λ x. take i files ++ x ∷ []) (sym is)) ∙ map-append source_of (take i files) (item ∷ [])
 
 -- a refused copy
-module _ (target : Path) (front : List Source) (f : Source) (rest : List Source) (all : List Source) (is : all ≡ front ++ f ∷ rest) (old mid new : Refusals) (before : NoFewer (added_count old no_refusals) mid) where
-  at_copy : (e : Fault) → IsRefusal (copy_in target f) mid new e → IsCopyRefusal target all old new e
+module _ (target : Path) (front : List Source) (f : Source) (rest : List Source) (all : List Source) (is : all ≡ front ++ f ∷ rest) (old mid new : Refusals) (before : NoFewer old mid) where
+  at_copy : (e : Fault) → FailsAt (NamesFile (copy_in target f)) mid new e → IsCopyRefusal target all old new e
   at_copy e refused = subst (λ fs. IsCopyRefusal target fs old new e) (sym is) (inr (
     copy_in target f,
     inl (subst (λ paths. Contains paths (copy_in target f)) (sym (map-append (copy_in target) front (f ∷ rest))) (stands_in (copies_in target front) (copy_in target f) (copies_in target rest))),
-    refused_after (copy_in target f) old mid new e before refused,
+    refused_later (copy_in target f) old mid new e before refused,
   ))
 
-  at_source : (e : Fault) → IsRefusal f.1 mid new e → IsCopyRefusal target all old new e
+  at_source : (e : Fault) → FailsAt (NamesFile f.1) mid new e → IsCopyRefusal target all old new e
   at_source e refused = subst (λ fs. IsCopyRefusal target fs old new e) (sym is) (inr (
     f.1,
     inr (subst (λ paths. Contains paths f.1) (sym (map-append (λ (g : Source). g.1) front (f ∷ rest))) (stands_in (map (λ (g : Source). g.1) front) f.1 (map (λ (g : Source). g.1) rest))),
-    refused_after f.1 old mid new e before refused,
+    refused_later f.1 old mid new e before refused,
   ))
 
-  pub copy_refused : (e : Fault) (to from : Path) → to ≡ copy_in target f → from ≡ f.1 → (IsRefusal to mid new e ⊎ IsRefusal from mid new e) → IsCopyRefusal target all old new e
-  copy_refused e to from to_is from_is (inl refused) = at_copy e (subst (λ p. IsRefusal p mid new e) to_is refused)
-  copy_refused e to from to_is from_is (inr refused) = at_source e (subst (λ p. IsRefusal p mid new e) from_is refused)
+  pub copy_refused : (e : Fault) (to from : Path) → to ≡ copy_in target f → from ≡ f.1 → (FailsAt (NamesFile to) mid new e ⊎ FailsAt (NamesFile from) mid new e) → IsCopyRefusal target all old new e
+  copy_refused e to from to_is from_is (inl refused) = at_copy e (subst (λ p. FailsAt (NamesFile p) mid new e) to_is refused)
+  copy_refused e to from to_is from_is (inr refused) = at_source e (subst (λ p. FailsAt (NamesFile p) mid new e) from_is refused)
 
--- counts of one call after another
-pub counts_then : (old mid new : Refusals) → NoFewer (added_count old no_refusals) mid → NoFewer (added_count mid no_refusals) new → NoFewer (added_count old no_refusals) new
-counts_then old mid new before after = (omega (arith, before.0, after.0), omega (arith, before.1, after.1))
+-- the next file to copy is this one, at its place among them, and those before it are copied
+pub record IsNextCopy (target : Path) (files : List SourceFile) (i : ℕ) (item : SourceFile) (n mid : Directory) : Type 0 where
+  pub within : i < length files
+  pub place : item ≡ get_or files i item
+  pub can : CanBeCopied target (map source_of (take i files) ++ source_of item ∷ map source_of (drop (i + 1) files)) n
+  pub copied : AreCopied target (map source_of (take i files)) n mid
+  pub others : LeavesAllBut (copies_in target (map source_of (take i files))) n mid
+
+pub next_copy : (target : Path) (files : List SourceFile) (i : ℕ) (item : SourceFile) (n mid : Directory) → i < length files → item ≡ get_or files i item → CanBeCopied target (map source_of files) n → AreCopied target (map source_of (take i files)) n mid → LeavesAllBut (copies_in target (map source_of (take i files))) n mid → IsNextCopy target files i item n mid
+next_copy target files i item n mid within place can copied others = record { within = within; place = place; can = subst (λ fs. CanBeCopied target fs n) (parts files i item within place) can; copied = copied; others = others }
+
+module _ (target : Path) (files : List SourceFile) (i : ℕ) (item : SourceFile) (n mid : Directory) (next : IsNextCopy target files i item n mid) where
+  pub next_stands : HasFile mid (string_bytes item.path)
+  next_stands = source_stands target n (map source_of (take i files)) (source_of item) (map source_of (drop (i + 1) files)) next.can mid next.others
+
+  pub next_free : file_at mid (copy_in target (source_of item)) ≡ None
+  next_free = copy_free target n (map source_of (take i files)) (source_of item) (map source_of (drop (i + 1) files)) next.can mid next.others
+
+  pub next_refused : (old between new : Refusals) → NoFewer old between → (e : Fault) (to from : Path) → to ≡ copy_in target (source_of item) → from ≡ string_bytes item.path → (FailsAt (NamesFile to) between new e ⊎ FailsAt (NamesFile from) between new e) → IsCopyRefusal target (map source_of files) old new e
+  next_refused = copy_refused target (map source_of (take i files)) (source_of item) (map source_of (drop (i + 1) files)) (map source_of files) (parts files i item next.within next.place)
+
+  -- its copy is made
+  pub next_copied : (after : Directory) → LeavesOthers (copy_in target (source_of item)) mid after → IsDurable (copy_in target (source_of item)) (bytes_at (string_bytes item.path) mid) after → AreCopied target (map source_of (take (i + 1) files)) n after
+  next_copied after only durable =
+      subst (λ fs. AreCopied target fs n after) (sym (next_part files i item next.within next.place))
+      (copied_next target n (map source_of (take i files)) (source_of item) (map source_of (drop (i + 1) files)) next.can mid next.others after only next.copied durable)
+
+  pub next_others : (after : Directory) → LeavesOthers (copy_in target (source_of item)) mid after → LeavesAllBut (copies_in target (map source_of (take (i + 1) files))) n after
+  next_others after only =
+      subst (λ fs. LeavesAllBut (copies_in target fs) n after) (sym (next_part files i item next.within next.place))
+      (others_next target n (map source_of (take i files)) (source_of item) (map source_of (drop (i + 1) files)) next.can mid next.others after only)
+
+  next_moment : (m : Directory) → LeavesOthers (copy_in target (source_of item)) mid m → AreBeingCopied target (map source_of files) n m
+  next_moment m only =
+      subst (λ fs. AreBeingCopied target fs n m) (sym (parts files i item next.within next.place))
+      (moment_next target n (map source_of (take i files)) (source_of item) (map source_of (drop (i + 1) files)) next.can mid next.others m only next.copied)
+
+-- .. by calls on a file system
+pub copy_moves : {F : Type 0} {directory : F → Directory} {moments : F → List Directory} {refusals_of : F → Refusals} (target : Path) (files : List SourceFile) (i : ℕ) (item : SourceFile) (path : Path) {old mid new : F} → IsNextCopy target files i item (directory old) (directory mid) → path ≡ copy_in target (source_of item)
+    → MovesBy directory moments refusals_of (AreBeingCopied target (map source_of files)) old mid → MovesBy directory moments refusals_of (LeavesOthers path) mid new → MovesBy directory moments refusals_of (AreBeingCopied target (map source_of files)) old new
+copy_moves {directory = directory} target files i item path {old} {mid} next path_is earlier later =
+    moves_then earlier (λ m only. next_moment target files i item (directory old) (directory mid) next m (subst (λ p. LeavesOthers p (directory mid) m) path_is only)) later

@@ -3,15 +3,17 @@ use Rattle.std.proofs.Common.{◌≡◌, ◌∙◌, List, [], ◌∷◌, ap, sym
 use Rattle.std.specs.Prelude.{Contains}
 use Rattle.raft_base.specs.declared.pipe_log.LogQueue.{LogQueue}
 use Rattle.raft_env.specs.Directory.{Directory, Path}
-use Rattle.raft_env.specs.Moments.{HoldsThroughout}
-use Rattle.raft_env.proofs.MomentsLemmas.{passes_then, passes_weaker}
+use Rattle.raft_env.specs.Moments.{MovesBy, OnlyReads}
+use Rattle.raft_env.specs.Refusal.{Refusals}
+use Rattle.raft_env.proofs.MomentsLemmas.{moves_after_reads, moves_then, moves_weaker}
 use Rattle.raft_files.specs.Writer.{bytes_of}
 use Rattle.raft_config.specs.Folders.{Folders}
 use Rattle.raft_pipes.specs.Files.{IsDurable}
+use Rattle.raft_pipes.specs.Folder.{HasMadeFolder}
 use Rattle.raft_opening.specs.Files.{LeavesAllBut}
 use Rattle.raft_pipes.specs.Queue.{LeavesAll}
 use Rattle.raft_pipes.specs.Numbered.{AreSingle}
-use Rattle.raft_fork.specs.Fork.{AreBeingCopied, AreCopied, CanBeCopied, HasMadeFolder, HasNoLogIn, IsForkOf, IsForking, IsFree, Source, all_sources_in, copies_in, copy_in, sources_of, standing}
+use Rattle.raft_fork.specs.Fork.{AreBeingCopied, AreCopied, CanBeCopied, HasNoLogIn, IsForkOf, IsForking, IsFree, Source, all_sources_in, copies_in, copy_in, sources_of, standing}
 use Rattle.raft_fork.proofs.FoldersLemmas.{folder_then}
 use Rattle.raft_fork.proofs.PlacesLemmas.{can_be_copied, single_same, sources_same}
 
@@ -56,12 +58,20 @@ module _ (folders : Folders) (target : Path) (old mid : Directory) (same : Leave
     others = λ q out. being.others q out ∙ same q;
   }
 
-  pub moments_before : (n : Directory) (first between last : List Directory) → IsFree target old → ((queue : LogQueue) → AreSingle there queue mid) → HoldsThroughout first between mid (LeavesAll old) → HoldsThroughout between last n (AreBeingCopied target files mid) → HoldsThroughout first last n (IsForking folders target old)
-  moments_before n first between last free single made copied =
-      passes_then (IsForking folders target old) first between last mid n
-      (passes_weaker (LeavesAll old) (IsForking folders target old) first between mid (λ m all. inl all) made)
-      (passes_weaker (AreBeingCopied target files mid) (IsForking folders target old) between last n (λ m being. inr (record { free = free; single = single_before single; files = being_before m being })) copied)
+  pub part_of_fork : (n : Directory) → IsFree target old → ((queue : LogQueue) → AreSingle there queue mid) → AreBeingCopied target files mid n → IsForking folders target old n
+  part_of_fork n free single being = inr (record { free = free; single = single_before single; files = being_before n being })
 
--- where nothing is copied yet
-pub nothing_copied : (folders : Folders) (target : Path) (old now : Directory) (first last : List Directory) → HoldsThroughout first last now (LeavesAll old) → HoldsThroughout first last now (IsForking folders target old)
-nothing_copied folders target old now first last made = passes_weaker (LeavesAll old) (IsForking folders target old) first last now (λ m all. inl all) made
+-- what was found of a fork's folders once the target was made
+pub record HasFound (folders : Folders) (target : Path) (there : List Path) (files : List Source) (old mid : Directory) : Type 0 where
+  pub others : LeavesAll old mid
+  pub free : IsFree target old
+  pub stand : there ≡ standing folders old
+  pub are : files ≡ all_sources_in there mid
+  pub single : (queue : LogQueue) → AreSingle there queue mid
+
+-- calls that make the target, look for the files and copy them
+pub forking_moves : {F : Type 0} {directory : F → Directory} {moments : F → List Directory} {refusals_of : F → Refusals} (folders : Folders) (target : Path) (there : List Path) (files given : List Source) {old mid found new : F} → HasFound folders target there files (directory old) (directory mid) → given ≡ files
+    → MovesBy directory moments refusals_of LeavesAll old mid → OnlyReads directory moments refusals_of mid found → MovesBy directory moments refusals_of (AreBeingCopied target given) found new → MovesBy directory moments refusals_of (IsForking folders target) old new
+forking_moves {directory = directory} {moments} {refusals_of} folders target there files given {old} {mid} {found} {new} has given_is made finding copying =
+    moves_then (moves_weaker (λ n all. inl all) made) (λ n being. part_of_fork folders target (directory old) (directory mid) has.others there has.stand files has.are n has.free has.single being)
+    (moves_after_reads finding (subst (λ fs. MovesBy directory moments refusals_of (AreBeingCopied target fs) found new) given_is copying))

@@ -9,7 +9,7 @@ use Rattle.raft_base.specs.declared.errors.Fault.TheVariants as fault
 use Rattle.raft_base.specs.declared.pipe_log.LogQueue.{LogQueue}
 use Rattle.raft_base.specs.declared.pipe_log.LogQueue.TheVariants.{Append, Rewrite}
 use Rattle.raft_env.specs.Directory.{Directory, HasFile, Path, file_at}
-use Rattle.raft_env.specs.Refusal.{IsRefusal, NoFewer, Refusals}
+use Rattle.raft_env.specs.Refusal.{FailsAt, NamesFile, NoFewer, Refusals}
 use Rattle.raft_config.specs.Folders.{folders_in}
 use Rattle.raft_config.specs.declared.config.Config.{Config}
 use Rattle.raft_pipes.specs.FileList.{IsListRefusal}
@@ -21,7 +21,8 @@ use Rattle.raft_pipes.proofs.PlacesLemmas.{here_first, none_stands, one_of}
 use Rattle.raft_pipes.proofs.QueueFilesLemmas.{no_file}
 use Rattle.raft_opening.proofs.SingleLemmas.{single_numbered}
 use Rattle.raft_fork.specs.Fork.{IsFree, Source, all_sources_in, copies_in, copy_in, sources_in, standing}
-use Rattle.raft_fork.specs.Refused.{HasLogIn, IsCopyRefusal, IsFolderRefusal, IsForkRefusal, IsInFolder, IsInOneOf, IsInvalid, IsSettingsRefusal, IsSourceRefusal, IsTargetRefusal, fork_contradiction}
+use Rattle.raft_pipes.specs.Queue.{IsMakeRefusal}
+use Rattle.raft_fork.specs.Refused.{HasLogIn, IsCopyRefusal, IsForkRefusal, IsInFolder, IsInOneOf, IsInvalid, IsSettingsRefusal, IsSourceRefusal, IsTargetRefusal, fork_contradiction}
 use Rattle.raft_fork.proofs.PlacesLemmas.{numbered, single_same}
 
 -- no log file stands where none is kept
@@ -63,15 +64,15 @@ pub has_log : (folder : Path) (queue : LogQueue) (n : Directory) (files : List (
 has_log folder queue n files are some = has_log_at folder queue n files (subst (AllByRecursion (IsKept queue n (folder ∷ []))) (sym are) (kept_all queue n (folder ∷ []))) some
 
 -- refusals of the target
-target_refused : (target : Path) (n : Directory) (old new : Refusals) (e : Fault) → IsRefusal target old new e → IsTargetRefusal target n old new e
+target_refused : (target : Path) (n : Directory) (old new : Refusals) (e : Fault) → FailsAt (NamesFile target) old new e → IsTargetRefusal target n old new e
 target_refused target n old new (fault.InvalidArgument text) refused = absurd refused
 target_refused target n old new _ refused = refused
 
 pub listed_refused : (target : Path) (n : Directory) (old new : Refusals) (e : Fault) → IsListRefusal (target ∷ []) old new e → IsTargetRefusal target n old new e
 listed_refused target n old new e (inl is) = subst (IsTargetRefusal target n old new) (sym is) tt
-listed_refused target n old new e (inr (folder, among, refused)) = target_refused target n old new e (subst (λ f. IsRefusal f old new e) (sym (one_of target folder among)) refused)
+listed_refused target n old new e (inr (folder, among, refused)) = target_refused target n old new e (subst (λ f. FailsAt (NamesFile f) old new e) (sym (one_of target folder among)) refused)
 
-pub folder_refused : (target : Path) (n : Directory) (old new : Refusals) (e : Fault) → IsFolderRefusal target n old new e → IsTargetRefusal target n old new e
+pub folder_refused : (target : Path) (n : Directory) (old new : Refusals) (e : Fault) → IsMakeRefusal target n old new e → IsTargetRefusal target n old new e
 folder_refused target n old new (fault.InvalidArgument text) refused = inl refused
 folder_refused target n old new _ refused = refused
 
@@ -86,7 +87,7 @@ pub listed_source : (there : List Path) (n : Directory) (old new : Refusals) (e 
 listed_source there n old new e (inl is) = subst (IsSourceRefusal there n old new) (sym is) tt
 listed_source there n old new e (inr (folder, among, refused)) = by_fault e refused
   where
-    by_fault : (e : Fault) → IsRefusal folder old new e → IsSourceRefusal there n old new e
+    by_fault : (e : Fault) → FailsAt (NamesFile folder) old new e → IsSourceRefusal there n old new e
     by_fault (fault.InvalidArgument text) refused = absurd refused
     by_fault (fault.Io kind text) refused = (refused.0, (folder, (folder, among, inl refl), refused.1))
     by_fault _ refused = refused
@@ -166,7 +167,7 @@ module _ (c : Config) (target : Path) (n : Directory) (old new : Refusals) where
   fork_copy m mid e same fewer (inl wanting) = fork_memory e wanting
   fork_copy m mid e same fewer (inr refused) = by_fault e (place_of_copy target (standing (folders_in c) n) m refused.0 refused.1) refused.2
     where
-      by_fault : (e : Fault) → IsInOneOf (target ∷ standing (folders_in c) n) refused.0 → IsRefusal refused.0 mid new e → IsForkRefusal c target n old new e
+      by_fault : (e : Fault) → IsInOneOf (target ∷ standing (folders_in c) n) refused.0 → FailsAt (NamesFile refused.0) mid new e → IsForkRefusal c target n old new e
       by_fault (fault.Io kind text) place at = (omega (arith, fewer.0, at.0), (refused.0, place, at.1))
       by_fault fault.Memory place at = tt
       by_fault _ place at = absurd at

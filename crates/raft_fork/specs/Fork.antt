@@ -1,16 +1,16 @@
 -- What a fork of log files is.
-use Rattle.std.specs.Prelude.{◌≡◌, ◌⊎◌, ◌++◌, ◌||◌, true, Contains, List, [], None, map, take}
+use Rattle.std.specs.Prelude.{◌≡◌, ◌⊎◌, ◌++◌, true, Contains, List, [], None, map, take}
 use Rattle.std.specs.List.{AllByRecursion, filter}
 use Rattle.std.specs.String.{string_bytes}
 use Rattle.raft_base.specs.declared.pipe_log.FileId.{FileId}
 use Rattle.raft_base.specs.declared.pipe_log.LogQueue.{LogQueue}
 use Rattle.raft_base.specs.declared.pipe_log.LogQueue.TheVariants.{Append, Rewrite}
-use Rattle.raft_env.specs.Directory.{Directory, HasFile, Path, file_at, is_on_way}
+use Rattle.raft_env.specs.Directory.{Directory, HasFile, Path, file_at}
 use Rattle.raft_files.specs.Writer.{bytes_at}
 use Rattle.raft_config.specs.Folders.{Folders, all_of}
 use Rattle.raft_pipes.specs.Files.{IsDurable}
 use Rattle.raft_opening.specs.Files.{LeavesAllBut}
-use Rattle.raft_pipes.specs.Folder.{IsLogPathIn}
+use Rattle.raft_pipes.specs.Folder.{HasMadeFolder, IsLogPathIn}
 use Rattle.raft_pipes.specs.Numbered.{AreDistinct, AreSingle, in_queue, kept_files, path_of}
 use Rattle.raft_pipes.specs.Queue.{LeavesAll}
 use Rattle.raft_fork.specs.declared.forking.CopyDetails.{CopyDetails}
@@ -67,13 +67,6 @@ AreThereOrEmpty folders n =
 pub record IsFree (target : Path) (n : Directory) : Type 0 where
   pub folder : HasFile n target → ⊥
   pub logs : HasNoLogIn target n
-
--- the target is a folder, and but for it and those on the way to it the folders are as before
-pub record HasMadeFolder (target : Path) (old new : Directory) : Type 0 where
-  pub made : new.is_folder target ≡ true
-  pub kept : (q : Path) → old.is_folder q ≡ true → new.is_folder q ≡ true
-  pub only : (q : Path) → new.is_folder q ≡ true
-      → (is_on_way q target || old.is_folder q) ≡ true
 
 -- the target has copies of the folders' log files and no others, and all else is as before
 pub record IsForkOf (folders : Folders) (target : Path) (old new : Directory) : Type 0 where

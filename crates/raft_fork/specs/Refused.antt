@@ -1,10 +1,11 @@
 -- Why a fork is refused.
-use Rattle.std.specs.Prelude.{◌≡◌, ◌⊎◌, List, ◌∷◌, ℕ, codes, Option, Some, None, Contains, map, if◌then◌else◌, Bool, true, false}
+use Rattle.std.specs.Prelude.{◌≡◌, ◌⊎◌, List, ◌∷◌, ℕ, codes, Option, Some, None, String, Contains, map, if◌then◌else◌, Bool, true, false}
+use Rattle.std.specs.declared.alloc.Global.{Global}
 use Rattle.raft_base.specs.declared.errors.Fault.{Fault}
 use Rattle.raft_base.specs.declared.errors.Fault.TheVariants as fault
 use Rattle.raft_base.specs.declared.pipe_log.LogQueue.{LogQueue}
 use Rattle.raft_env.specs.Directory.{Directory, HasFile, Path}
-use Rattle.raft_env.specs.Refusal.{IsRefusal, NamesFile, Refusals, StorageRefusalsRose}
+use Rattle.raft_env.specs.Refusal.{FailsAt, NamesFile, Refusals}
 use Rattle.raft_config.specs.Folders.{folders_in}
 use Rattle.raft_config.specs.Sanitized.{contradiction}
 use Rattle.raft_config.specs.declared.config.Config.{Config}
@@ -36,16 +37,11 @@ IsSettingsRefusal c _ = ⊥
 abbrev pub HasLogIn : Path → Directory → Type 0
 HasLogIn target n = (path : Path) × IsLogPathIn target path × HasFile n path
 
--- a folder isn't made where a file stands in its place, or where that call fails
-abbrev pub IsFolderRefusal : Path → Directory → Refusals → Refusals → Fault → Type 0
-IsFolderRefusal folder n old new (fault.InvalidArgument text) = HasFile n folder
-IsFolderRefusal folder n old new e = IsRefusal folder old new e
-
 -- .. as a target also where a log file stands in it
 abbrev pub IsTargetRefusal : Path → Directory → Refusals → Refusals → Fault → Type 0
 IsTargetRefusal target n old new (fault.InvalidArgument text) =
     HasFile n target ⊎ HasLogIn target n
-IsTargetRefusal target n old new e = IsRefusal target old new e
+IsTargetRefusal target n old new e = FailsAt (NamesFile target) old new e
 
 -- a folder, or a log file in it
 abbrev pub IsInFolder : Path → Path → Type 0
@@ -55,21 +51,22 @@ IsInFolder folder path = (path ≡ folder) ⊎ IsLogPathIn folder path
 abbrev pub IsInOneOf : List Path → Path → Type 0
 IsInOneOf folders path = (folder : Path) × Contains folders folder × IsInFolder folder path
 
+-- the text of a fault by storage names such a place
+abbrev pub NamesOneOf : List Path → String Global → Type 0
+NamesOneOf folders text = (path : Path) × IsInOneOf folders path × NamesFile path text
+
 -- a number that a recovery would keep stands in both of the folders that are there, or a call on one
 -- of them or on a log file in one fails
 abbrev pub IsSourceRefusal : List Path → Directory → Refusals → Refusals → Fault → Type 0
 IsSourceRefusal there n old new (fault.InvalidArgument text) =
     (queue : LogQueue) × (AreSingle there queue n → ⊥)
-IsSourceRefusal there n old new (fault.Io kind text) = StorageRefusalsRose old new
-    × ((path : Path) × IsInOneOf there path × NamesFile path text)
-IsSourceRefusal there n old new fault.Memory = Unit {0}
-IsSourceRefusal there n old new _ = ⊥
+IsSourceRefusal there n old new e = FailsAt (NamesOneOf there) old new e
 
 -- memory is wanting, or a call on a source file or on its copy fails
 abbrev pub IsCopyRefusal : Path → List Source → Refusals → Refusals → Fault → Type 0
 IsCopyRefusal target files old new e = (e ≡ fault.Memory) ⊎ ((path : Path)
     × (Contains (copies_in target files) path ⊎ Contains (map (λ f. f.1) files) path)
-    × IsRefusal path old new e)
+    × FailsAt (NamesFile path) old new e)
 
 -- which argument is refused: settings for the first thing that is wrong with them; else a target
 -- that isn't free; else a source in both of whose folders a number that would be kept stands
@@ -83,7 +80,5 @@ IsInvalid None there target n text = HasFile n target ⊎ HasLogIn target n
 abbrev pub IsForkRefusal : Config → Path → Directory → Refusals → Refusals → Fault → Type 0
 IsForkRefusal c target n old new (fault.InvalidArgument text) =
     IsInvalid (fork_contradiction c) (standing (folders_in c) n) target n text.now
-IsForkRefusal c target n old new (fault.Io kind text) = StorageRefusalsRose old new
-    × ((path : Path) × IsInOneOf (target ∷ standing (folders_in c) n) path × NamesFile path text)
-IsForkRefusal c target n old new fault.Memory = Unit {0}
-IsForkRefusal c target n old new _ = ⊥
+IsForkRefusal c target n old new e =
+    FailsAt (NamesOneOf (target ∷ standing (folders_in c) n)) old new e

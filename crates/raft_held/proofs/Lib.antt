@@ -4,6 +4,7 @@ pub mod StepsLemmas
 pub mod PurgeStepsLemmas
 pub mod DropOldLemmas
 pub mod LogLemmas
+pub mod SplicedLemmas
 pub mod LogDropLemmas
 pub mod RenewalLemmas
 pub mod LogTakeLemmas

@@ -1,5 +1,5 @@
 -- What the steps of a purge make of both queues, in contents.
-use Rattle.std.proofs.Common.{◌≡◌, ◌≤◌, false, ◌∙◌, ◌++◌, ◌∷◌, ℕ, zero, suc, List, [], take, drop, length, ap, append_assoc, append-nil, arith, length-append, refl, subst, sym}
+use Rattle.std.proofs.Common.{◌≡◌, ◌≤◌, false, ◌∙◌, ◌++◌, ◌∷◌, ℕ, zero, suc, List, [], take, length, ap, append_assoc, append-nil, arith, length-append, refl, subst, sym}
 use Rattle.std.proofs.lemmas.List.{drop_at}
 use Rattle.std.proofs.Math.Logic.{∥∥₁_map}
 use Rattle.raft_base.specs.declared.pipe_log.LogQueue.{LogQueue}

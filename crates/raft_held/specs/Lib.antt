@@ -4,7 +4,6 @@ pub mod Crash
 pub mod DropOld
 pub mod Held
 pub mod Index
-pub mod Kept
 pub mod Log
 pub mod Queues
 pub mod Renewal

@@ -31,7 +31,8 @@ pub fn inspect<F: FileSystem>(
     ensures found { IfOk result (λ found. found.queue ≡ queue) }
     ensures value { IfOk result (λ found. AreChecksOf (F.directory file_system.old)
         found.files.items found.checks.items) }
-    ensures unchanged { OnlyReads F.directory F.moments file_system.old file_system.new }
+    ensures unchanged { OnlyReads F.directory F.moments F.refusals_of file_system.old
+        file_system.new }
 {
     let mut files = Vec::new(alloc);
     for folder in folders {
@@ -49,7 +50,8 @@ fn checks_of<F: FileSystem>(
 ) -> Result<Vec<FileCheck>, Fault>
     ensures value { IfOk result (λ checks.
         AreChecksOf (F.directory file_system.old) files.now checks.items) }
-    ensures unchanged { OnlyReads F.directory F.moments file_system.old file_system.new }
+    ensures unchanged { OnlyReads F.directory F.moments F.refusals_of file_system.old
+        file_system.new }
 {
     let mut checks = Vec::new(alloc);
     let mut left = files;
@@ -67,7 +69,8 @@ fn add_files<F: FileSystem>(
     queue: LogQueue,
     files: &mut Vec<LogFile>,
 ) -> Result<(), Fault>
-    ensures unchanged { OnlyReads F.directory F.moments file_system.old file_system.new }
+    ensures unchanged { OnlyReads F.directory F.moments F.refusals_of file_system.old
+        file_system.new }
 {
     let names = match file_system.list(folder) {
         Ok(names) => names,

@@ -7,7 +7,7 @@ use Rattle.raft_base.specs.declared.errors.Fault.{Fault}
 use Rattle.raft_base.specs.declared.errors.Fault.TheVariants as fault
 use Rattle.raft_env.specs.Consistent.{AreConsistent}
 use Rattle.raft_env.specs.Directory.{CrashImage, Directory, IsRestarted, Leaves}
-use Rattle.raft_env.specs.Refusal.{IsFaultOf, Refusals}
+use Rattle.raft_env.specs.Refusal.{FailsAt, IsFaultOf, Refusals}
 use Rattle.raft_env.specs.declared.env.FsFault.{FsFault}
 use Rattle.raft_env.specs.declared.env.FsFault.TheVariants as fs
 use Rattle.raft_config.proofs.ConfigLemmas.{contradiction-copy, same_contradiction}
@@ -24,7 +24,7 @@ use Rattle.raft_memory.proofs.ChoiceTornLemmas.{choices_may_leave}
 use Rattle.raft_memory.specs.Choice.{NameNoBytes, RefusesUnless, left_by}
 use Rattle.raft_memory.specs.declared.crash.Choice.{Choice}
 use Rattle.raft_memory.specs.Memory.{no_files}
-use Rattle.raft_pipes.specs.Queue.{IsFolderRefusal}
+use Rattle.raft_pipes.specs.Queue.{NamesPlace}
 use Rattle.raft_log_engine.specs.Engine.{begun_of, directory_of, folders_of, found_groups_of, found_of, has_failed, refusals_of}
 use Rattle.raft_log_engine.specs.Opening.{BeginsAsClosed, IsNewIn}
 use Rattle.raft_log_engine.specs.declared.engine.Engine.{Engine}
@@ -137,7 +137,7 @@ module _ {F H R W : Type 0} {g : Ghosts F H R W} where
 
   -- .. that fails
   pub reopened_or_refused : (old : Engine F H R W g) (after : F → Refusals) (opening : Result (Engine F H R W g) (Refused F)) → IfOk opening (IsReopened old) → (IsErrAnd opening (λ r. r.fault ≡ fault.Failed) ↔ (has_failed old ≡ true))
-      → (has_failed old ≡ false → IfErr opening (λ r. IsFolderRefusal (folders_of old) (refusals_of old) (after r.file_system) r.fault)) → MatchResult opening (IsReopened old) (λ r. IsReopenFault old r.fault)
+      → (has_failed old ≡ false → IfErr opening (λ r. FailsAt (NamesPlace (folders_of old)) (refusals_of old) (after r.file_system) r.fault)) → MatchResult opening (IsReopened old) (λ r. IsReopenFault old r.fault)
   reopened_or_refused old after (Ok e) opened failed cause = opened
   reopened_or_refused old after (Err r) opened failed cause = elim (cases_Bool (has_failed old)) [
     | inl gone ↦ inl (gone, failed.1 gone)

@@ -4,7 +4,7 @@ use Rattle.std.specs.declared.alloc.Global.{Global}
 use Rattle.raft_base.specs.declared.errors.Fault.{Fault}
 use Rattle.raft_base.specs.declared.errors.Fault.TheVariants as fault
 use Rattle.raft_env.specs.Directory.{CrashImage, Directory, IsRestarted, Leaves}
-use Rattle.raft_env.specs.Refusal.{Refusals}
+use Rattle.raft_env.specs.Refusal.{FailsAt, Refusals}
 use Rattle.raft_env.specs.declared.env.FileSystem.{Ghosts}
 use Rattle.raft_log_engine.specs.declared.engine.Engine.{Engine}
 use Rattle.raft_log_engine.specs.Engine.{IsSpanOf, begun_of, contents_of, directory_of, folders_of, has_failed, is_known_in, refusals_of}
@@ -13,7 +13,7 @@ use Rattle.raft_config.specs.Folders.{Folders, folders_in}
 use Rattle.raft_config.specs.Sanitized.{IsContradiction}
 use Rattle.raft_config.specs.declared.config.Config.{Config}
 use Rattle.raft_memory.specs.Memory.{no_files}
-use Rattle.raft_pipes.specs.Queue.{IsFolderRefusal}
+use Rattle.raft_pipes.specs.Queue.{NamesPlace}
 use Rattle.raft_records.specs.Contents.{Contents, after_batches, no_contents}
 use Rattle.raft_tables.specs.Known.{known_in}
 use Rattle.raft_held.specs.Crash.{contents_after_crash, known_after_crash}
@@ -79,7 +79,7 @@ module _ {F H R W : Type 0} {g : Ghosts F H R W} where
   abbrev pub IsReopenFault : Engine F H R W g → Fault → Type 0
   IsReopenFault old e = ((has_failed old ≡ true) × (e ≡ fault.Failed))
       ⊎ ((has_failed old ≡ false) × (new : Refusals)
-      × IsFolderRefusal (folders_of old) (refusals_of old) new e)
+      × FailsAt (NamesPlace (folders_of old)) (refusals_of old) new e)
 
   -- a new engine holds what a crash left of another one's files
   abbrev pub HoldsAfterCrash : Folders → Engine F H R W g → Engine F H R W g → Type 0

@@ -1,6 +1,6 @@
 -- What an opening says, by its settings as they are used, where they contradict one another, and where
 -- the engine is given up.
-use Rattle.std.proofs.Common.{◌≡◌, List, Result, Ok, Err, None, inl, inr, refl, subst, sym}
+use Rattle.std.proofs.Common.{◌≡◌, Result, Ok, Err, None, arith, inl, inr, refl, subst, sym}
 use Rattle.std.specs.Prelude.{◌⊎◌, MatchResult}
 use Rattle.raft_base.specs.declared.errors.Fault.{Fault}
 use Rattle.raft_base.specs.declared.errors.Fault.TheVariants as fault
@@ -8,18 +8,18 @@ use Rattle.raft_base.specs.declared.pipe_log.LogQueue.TheVariants.{Append}
 use Rattle.raft_config.specs.Folders.{folders_in}
 use Rattle.raft_config.specs.Sanitized.{IsContradiction, contradiction, sanitized}
 use Rattle.raft_config.specs.declared.config.Config.{Config}
-use Rattle.raft_env.proofs.MomentsLemmas.{passes_none}
+use Rattle.raft_env.proofs.MomentsLemmas.{moves_none, moves_then_reads}
 use Rattle.raft_env.specs.Directory.{Directory}
-use Rattle.raft_env.specs.Moments.{HoldsThroughout}
+use Rattle.raft_env.specs.Moments.{OnlyReads}
+use Rattle.raft_env.specs.Refusal.{NoFewer}
 use Rattle.raft_env.specs.declared.env.FileSystem.{Ghosts}
-use Rattle.raft_held.specs.Crash.{StillRecovers}
-use Rattle.raft_held.specs.Queues.{IsOpeningRefusal, LeavesReadableIn}
+use Rattle.raft_held.specs.Queues.{IsOpeningRefusal}
 use Rattle.raft_opening.proofs.OpenLemmas.{left_alone}
 use Rattle.raft_opening.specs.Folder.{LeavesAllButOpened}
 use Rattle.raft_opening.specs.Queue.{IsUntouched}
 use Rattle.raft_queues.specs.Builder.{CanBeOpenedIn}
 use Rattle.raft_queues.proofs.SameFilesLemmas.{readable_same}
-use Rattle.raft_log_engine.specs.Engine.{directory_of, moments_of}
+use Rattle.raft_log_engine.specs.Engine.{directory_of, moments_of, refusals_of}
 use Rattle.raft_log_engine.specs.Opening.{AnswersOpening, Opens, OpensWith}
 use Rattle.raft_log_engine.specs.declared.engine.Engine.{Engine}
 use Rattle.raft_log_engine.specs.declared.engine.Refused.{Refused}
@@ -49,8 +49,8 @@ module _ {F H R W : Type 0} {g : Ghosts F H R W} where
       settings = tt;
       durable = tt;
       now = tt;
-      any_moment = passes_none _ _ _ (g.directory found) refl (λ m batches kept. kept);
-      readable = passes_none _ _ _ (g.directory found) refl (λ queue. readable_same (folders_in (sanitized config)) queue (g.directory found) (g.directory found) (λ k path fits is. refl));
+      any_moment = moves_none (λ m batches kept. kept);
+      readable = moves_none (λ queue. readable_same (folders_in (sanitized config)) queue (g.directory found) (g.directory found) (λ k path fits is. refl));
       unchanged = left_alone (g.directory found) (g.directory found) why (λ path. refl);
       others = λ q none reserved. refl;
     };
@@ -58,23 +58,22 @@ module _ {F H R W : Type 0} {g : Ghosts F H R W} where
   }
 
   -- an opened engine that is given up for lack of memory
-  pub opens_given_up : (config : Config) (found : F) (e : Engine F H R W g) (files : F) (why : Fault) → why ≡ fault.Memory → g.directory files ≡ directory_of e → g.moments files ≡ moments_of e → Opens config found (Ok e)
+  pub opens_given_up : (config : Config) (found : F) (e : Engine F H R W g) (files : F) (why : Fault) → why ≡ fault.Memory → g.directory files ≡ directory_of e → g.moments files ≡ moments_of e → g.refusals_of files ≡ refusals_of e → Opens config found (Ok e)
       → Opens {g = g} config found (Err (record { fault = why; file_system = files }))
-  opens_given_up config found e files why is now moments opens = record {
-    opened = record {
-      contents = tt;
-      ok = tt;
-      rounds = tt;
-      value = tt;
-      settings = tt;
-      durable = tt;
-      now = tt;
-      any_moment = subst (λ (n : Directory). HoldsThroughout (g.moments found) (g.moments files) n (StillRecovers (folders_in config) (g.directory found))) (sym now)
-          (subst (λ (ms : List Directory). HoldsThroughout (g.moments found) ms (directory_of e) (StillRecovers (folders_in config) (g.directory found))) (sym moments) opens.opened.any_moment);
-      readable = subst (λ (n : Directory). HoldsThroughout (g.moments found) (g.moments files) n (LeavesReadableIn (folders_in config) (g.directory found))) (sym now)
-          (subst (λ (ms : List Directory). HoldsThroughout (g.moments found) ms (directory_of e) (LeavesReadableIn (folders_in config) (g.directory found))) (sym moments) opens.opened.readable);
-      unchanged = subst (λ (f : Fault). IsUntouched (g.directory found) (g.directory files) f) (sym is) tt;
-      others = subst (λ (n : Directory). LeavesAllButOpened (folders_in config) (g.directory found) n) (sym now) opens.opened.others;
-    };
-    refused = inr (subst (λ (f : Fault). IsOpeningRefusal config.recovery_mode (folders_in config) (g.directory found) (g.refusals_of found) (g.refusals_of files) f) (sym is) (Append, tt));
-  }
+  opens_given_up config found e files why is now moments counts opens =
+      let given : OnlyReads g.directory g.moments g.refusals_of e.file_system files = record { same_files = now; same_moments = moments; no_fewer = subst (NoFewer (refusals_of e)) (sym counts) (omega arith, omega arith) } in record {
+        opened = record {
+          contents = tt;
+          ok = tt;
+          rounds = tt;
+          value = tt;
+          settings = tt;
+          durable = tt;
+          now = tt;
+          any_moment = moves_then_reads opens.opened.any_moment given;
+          readable = moves_then_reads opens.opened.readable given;
+          unchanged = subst (λ (f : Fault). IsUntouched (g.directory found) (g.directory files) f) (sym is) tt;
+          others = subst (λ (n : Directory). LeavesAllButOpened (folders_in config) (g.directory found) n) (sym now) opens.opened.others;
+        };
+        refused = inr (subst (λ (f : Fault). IsOpeningRefusal config.recovery_mode (folders_in config) (g.directory found) (g.refusals_of found) (g.refusals_of files) f) (sym is) (Append, tt));
+      }

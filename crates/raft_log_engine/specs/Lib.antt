@@ -1,5 +1,6 @@
 pub mod Attempt
 pub mod Batches
+pub mod Calls
 pub mod Cause
 pub mod Engine
 pub mod Events

@@ -7,9 +7,9 @@ use Rattle.raft_base.specs.declared.pipe_log.LogQueue.TheVariants.{Append, Rewri
 use Rattle.raft_config.specs.Folders.{Folders}
 use Rattle.raft_env.specs.Directory.{Directory}
 use Rattle.raft_env.specs.declared.env.FileSystem.{Ghosts}
-use Rattle.raft_env.specs.Refusal.{Refusals, StorageRefusalsRose}
+use Rattle.raft_env.specs.Refusal.{FailsAt, Refusals, RoseBy}
 use Rattle.raft_pipes.specs.PipeState.{HasLastNumber, PipeState, last_seq}
-use Rattle.raft_pipes.specs.Queue.{IsRefusalIn}
+use Rattle.raft_pipes.specs.Queue.{NamesLog}
 use Rattle.raft_queues.specs.Dual.{DualState}
 use Rattle.raft_records.specs.Contents.{Contents}
 use Rattle.raft_tables.specs.FirstFiles.{first_of_tables}
@@ -142,8 +142,9 @@ IsPurgeFault x append rewrite ends_open no_id folders fails old new fault.Range 
 IsPurgeFault x append rewrite ends_open no_id folders fails old new (fault.InvalidArgument text) =
     ((fails ≡ false) ⊎ ends_open) × IsUnfit x (fault.InvalidArgument text)
 IsPurgeFault x append rewrite ends_open no_id folders fails old new fault.TryAgain =
-    StorageRefusalsRose old new × (fails ≡ true)
-IsPurgeFault x append rewrite ends_open no_id folders fails old new e = IsRefusalIn folders old new e
+    RoseBy 1 old new × (fails ≡ true)
+IsPurgeFault x append rewrite ends_open no_id folders fails old new e =
+    FailsAt (NamesLog folders) old new e
 
 -- some log is so
 abbrev pub IsOfSome : LogState → Type 0

@@ -5,16 +5,15 @@ use Rattle.std.specs.Ordering.{nat_cmp}
 use Rattle.std.specs.declared.alloc.Global.{Global}
 use Rattle.raft_base.specs.declared.errors.Fault.{Fault}
 use Rattle.raft_base.specs.declared.pipe_log.LogQueue.{LogQueue}
-use Rattle.raft_env.specs.Moments.{HoldsThroughout}
 use Rattle.raft_env.specs.declared.env.FileSystem.{Ghosts}
 use Rattle.raft_listeners.specs.Heard.{HasHeard, Heard}
 use Rattle.raft_tables.specs.Tables.{tables_of}
 use Rattle.raft_held.specs.Crash.{LeavesAllowed}
 use Rattle.raft_purge.specs.Dropping.{KeepsFront}
 use Rattle.raft_purge.specs.Scope.{HasLostFront}
-use Rattle.raft_log_engine.specs.Advance.{ChangesOnlyItsLog, state_of}
+use Rattle.raft_log_engine.specs.Advance.{ChangesOnlyItsLog, StaysWithin, state_of}
 use Rattle.raft_log_engine.specs.Durability.{Progresses, durability_of}
-use Rattle.raft_log_engine.specs.Engine.{contents_of, directory_of, durable_of, folders_of, has_failed, moments_of, queue_of, refusals_of, rewrite_queue_of, has_groups_together, spans_of, unsynced_of}
+use Rattle.raft_log_engine.specs.Engine.{contents_of, directory_of, durable_of, folders_of, has_failed, queue_of, refusals_of, rewrite_queue_of, has_groups_together, spans_of, unsynced_of}
 use Rattle.raft_log_engine.specs.Events.{AreRecordsCut, HearsPurge}
 use Rattle.raft_log_engine.specs.Expired.{AsksBarrier, HasPurgedExpired}
 use Rattle.raft_log_engine.specs.Purge.{HasFreed, HasLostSome, HasPurged, IsFailureCause, IsIdlePurge, IsPurgeFault, LeavesBehind, LeavesOthers}
@@ -30,8 +29,8 @@ module _ {F H R W : Type 0} {g : Ghosts F H R W} where
       (result : Result T Fault) (old new : Engine F H R W g) : Type 0 where
     pub contents : contents_of new ≡ contents_of old
     pub progress : Progresses [] (is_ok result) [] (durability_of old) (durability_of new)
-    pub any_moment : HoldsThroughout (moments_of old) (moments_of new) (directory_of new)
-        (LeavesAllowed (folders_of old) (durable_of old) (unsynced_of old))
+    pub any_moment : StaysWithin (LeavesAllowed (folders_of old) (durable_of old) (unsynced_of old))
+        (state_of old) (state_of new)
     pub others : ChangesOnlyItsLog (state_of old) (state_of new)
     pub front :
         has_failed old ≡ false → has_failed new ≡ true → KeepsFront queue old.pipes new.pipes

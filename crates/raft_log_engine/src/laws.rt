@@ -3,13 +3,13 @@ ghost use Rattle.std.specs.Prelude.{◌≡◌, ◌++◌, ℕ, List, [], false};
 ghost use Rattle.raft_records.specs.Contents.{Contents, after_batches, no_contents};
 ghost use Rattle.raft_records.specs.Item.{Batch};
 ghost use Rattle.raft_env.specs.Directory.{Directory, IsRestarted, CrashImage};
-ghost use Rattle.raft_env.specs.Moments.{HoldsThroughout};
 ghost use Rattle.raft_held.specs.Begins.{LogStandsFor};
 ghost use Rattle.raft_held.specs.Crash.{IsAllowedFrom, LeavesAllowed, RecoversContents, contents_after_crash, known_after_crash};
 ghost use Rattle.raft_files.specs.Records.{as_it_is};
 ghost use Rattle.raft_held.specs.Contents.{contents_at, known_at};
+ghost use Rattle.raft_log_engine.specs.Advance.{StaysWithin, state_of};
 ghost use Rattle.raft_log_engine.specs.Opening.{FoundCompletedRecords};
-ghost use Rattle.raft_log_engine.specs.Engine.{contents_of, directory_of, durable_of, folders_of, has_failed, moments_of, queue_of, settings_of, unsynced_of};
+ghost use Rattle.raft_log_engine.specs.Engine.{contents_of, directory_of, durable_of, folders_of, has_failed, queue_of, settings_of, unsynced_of};
 ghost use Rattle.raft_queue_laws.specs.DetectableDamage.{HaveNoStaleRecordIn};
 ghost use Rattle.raft_env.specs.Consistent.{AreConsistent};
 ghost use Rattle.raft_memory.specs.Choice.{AreWhole, left_by};
@@ -65,9 +65,9 @@ pub fn crash_leaves_contents()
 pub fn an_engine_recovers_what_it_keeps<F: FileSystem>(engine: &Engine<F>)
     ensures crash { LeavesAllowed (folders_of engine.now) (durable_of engine.now)
         (unsynced_of engine.now) (directory_of engine.now) }
-    ensures any_moment { (more : List Batch) → HoldsThroughout (moments_of engine.now)
-        (moments_of engine.now) (directory_of engine.now) (LeavesAllowed (folders_of engine.now)
-        (durable_of engine.now) (unsynced_of engine.now ++ more)) }
+    ensures any_moment { (more : List Batch) → StaysWithin (LeavesAllowed (folders_of engine.now)
+        (durable_of engine.now) (unsynced_of engine.now ++ more)) (state_of engine.now)
+        (state_of engine.now) }
     ensures contents { has_failed engine.now ≡ false
         → contents_of engine.now ≡ after_batches (durable_of engine.now) (unsynced_of engine.now) }
     ensures written { has_failed engine.now ≡ false

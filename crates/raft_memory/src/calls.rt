@@ -53,7 +53,7 @@ impl FileSystem for MemoryFileSystem {
         ensures ok { OnOk result (memory_directory self.new
             ≡ after_create path.now (memory_directory self.old)) }
         ensures err { OnErr result (memory_directory self.new ≡ memory_directory self.old) }
-        ensures any_moment { MovesBy memory_directory memory_moments
+        ensures any_moment { MovesBy memory_directory memory_moments memory_refusals
             (λ old. IsOneOf old (after_create path.now old)) self.old self.new }
         ensures counts { CountsCall result self.old self.new }
         ensures cause { RefusesAs (injected FsCall.Create (armed_of self.old) (stop_of self.old))
@@ -84,7 +84,8 @@ impl FileSystem for MemoryFileSystem {
             × HasFile (memory_directory self.old) path.now) }
         ensures may_write { IfOk result (λ h. h.may_write ≡ true
             ↔ (permission ≡ Permission.ReadWrite)) }
-        ensures unchanged { OnlyReads memory_directory memory_moments self.old self.new }
+        ensures unchanged { OnlyReads memory_directory memory_moments memory_refusals self.old
+            self.new }
         ensures counts { CountsCall result self.old self.new }
         ensures cause { RefusesAs (injected FsCall.Open (armed_of self.old) None)
             (IsMissing (memory_directory self.old) path.now) result }
@@ -111,7 +112,7 @@ impl FileSystem for MemoryFileSystem {
         ensures ok { OnOk result (memory_directory self.new
             ≡ without_file path.now (memory_directory self.old)) }
         ensures err { OnErr result (memory_directory self.new ≡ memory_directory self.old) }
-        ensures any_moment { MovesBy memory_directory memory_moments
+        ensures any_moment { MovesBy memory_directory memory_moments memory_refusals
             (λ old. IsOneOf old (without_file path.now old)) self.old self.new }
         ensures counts { CountsCall result self.old self.new }
         ensures cause { RefusesAs (injected FsCall.Delete (armed_of self.old) (stop_of self.old))
@@ -135,7 +136,7 @@ impl FileSystem for MemoryFileSystem {
         ensures ok { OnOk result (memory_directory self.new
             ≡ after_rename from.now to.now (memory_directory self.old)) }
         ensures err { OnErr result (memory_directory self.new ≡ memory_directory self.old) }
-        ensures any_moment { MovesBy memory_directory memory_moments
+        ensures any_moment { MovesBy memory_directory memory_moments memory_refusals
             (λ old. IsOneOf old (after_rename from.now to.now old)) self.old self.new }
         ensures counts { CountsCall result self.old self.new }
         ensures cause { RefusesAs (injected FsCall.Rename (armed_of self.old) (stop_of self.old))
@@ -158,7 +159,8 @@ impl FileSystem for MemoryFileSystem {
     fn new_reader(&mut self, handle: &MemoryHandle) -> Result<MemoryReader, FsFault>
         ensures reader { IfOk result (λ r. (string_bytes r.path ≡ string_bytes handle.now.path)
             × (by_storage r.refused ≡ no_refusals)) }
-        ensures unchanged { OnlyReads memory_directory memory_moments self.old self.new }
+        ensures unchanged { OnlyReads memory_directory memory_moments memory_refusals self.old
+            self.new }
         ensures counts { CountsCall result self.old self.new }
         ensures cause { RefusesAs (injected FsCall.NewReader (armed_of self.old) None)
             (λ e. e ≡ FsFault.Memory) result }
@@ -175,8 +177,9 @@ impl FileSystem for MemoryFileSystem {
     }
 
     fn end_reader(&mut self, reader: MemoryReader)
-        ensures unchanged { OnlyReads memory_directory memory_moments self.old self.new }
-        ensures cause { memory_refusals self.new
+        ensures unchanged { OnlyReads memory_directory memory_moments memory_refusals self.old
+            self.new }
+        ensures counts { memory_refusals self.new
             ≡ added_count (memory_refusals self.old) (by_storage reader.refused) }
         ensures others { (armed_of self.new ≡ armed_of self.old)
             × (stop_of self.new ≡ stop_of self.old) }
@@ -191,7 +194,8 @@ impl FileSystem for MemoryFileSystem {
             × (handle.now.may_write ≡ true
             → RefusesAs (injected FsCall.NewWriter (armed_of self.old) None)
             (λ e. e ≡ FsFault.Memory) result) }
-        ensures unchanged { OnlyReads memory_directory memory_moments self.old self.new }
+        ensures unchanged { OnlyReads memory_directory memory_moments memory_refusals self.old
+            self.new }
         ensures counts { CountsCall result self.old self.new }
         ensures stop { stop_of self.new ≡ stop_of self.old }
         ensures armed { armed_of self.new ≡ arms_after FsCall.NewWriter (armed_of self.old) }
@@ -223,7 +227,7 @@ impl FileSystem for MemoryFileSystem {
             (injected FsCall.Write (armed_of self.old) (stop_of self.old)) e
             (string_bytes writer.old.path) at bytes.now (memory_directory self.old)
             (memory_directory self.new)) }
-        ensures any_moment { MovesBy memory_directory memory_moments
+        ensures any_moment { MovesBy memory_directory memory_moments memory_refusals
             (IsWriting (string_bytes writer.old.path) at bytes.now) self.old self.new }
         ensures counts { CountsCall result self.old self.new }
         ensures cause { (result ≡ Err FsFault.Memory)
@@ -262,7 +266,7 @@ impl FileSystem for MemoryFileSystem {
             ≡ update_file (string_bytes writer.old.path)
             (λ f. file_after_resize (take size f.now) f) (memory_directory self.old)) }
         ensures err { OnErr result (memory_directory self.new ≡ memory_directory self.old) }
-        ensures any_moment { MovesBy memory_directory memory_moments
+        ensures any_moment { MovesBy memory_directory memory_moments memory_refusals
             (IsTruncating (string_bytes writer.old.path) size) self.old self.new }
         ensures counts { CountsCall result self.old self.new }
         ensures cause { RefusesAs (injected FsCall.Truncate (armed_of self.old)
@@ -291,7 +295,7 @@ impl FileSystem for MemoryFileSystem {
             ≡ update_file (string_bytes writer.old.path)
             (λ f. file_after_resize (pad_to f.now (at + size)) f) (memory_directory self.old)) }
         ensures err { OnErr result (memory_directory self.new ≡ memory_directory self.old) }
-        ensures any_moment { MovesBy memory_directory memory_moments
+        ensures any_moment { MovesBy memory_directory memory_moments memory_refusals
             (IsAllocating (string_bytes writer.old.path) (at + size)) self.old self.new }
         ensures counts { CountsCall result self.old self.new }
         ensures cause { RefusesAs (injected FsCall.Allocate (armed_of self.old)
@@ -321,7 +325,7 @@ impl FileSystem for MemoryFileSystem {
         ensures ok { OnOk result (memory_directory self.new
             ≡ update_file (string_bytes writer.old.path) synced_of (memory_directory self.old)) }
         ensures err { OnErr result (memory_directory self.new ≡ memory_directory self.old) }
-        ensures any_moment { MovesBy memory_directory memory_moments
+        ensures any_moment { MovesBy memory_directory memory_moments memory_refusals
             (λ old. IsOneOf old (update_file (string_bytes writer.old.path) synced_of old)) self.old
             self.new }
         ensures counts { CountsCall result self.old self.new }
@@ -371,11 +375,12 @@ impl FileSystem for MemoryFileSystem {
     }
 
     fn file_size(&mut self, handle: &MemoryHandle) -> Result<usize, FsFault>
-        ensures size { IfOk result (λ n. (file : File)
+        ensures value { IfOk result (λ n. (file : File)
             × (file_at (memory_directory self.old) (string_bytes handle.now.path) ≡ Some file)
             × (n ≡ length file.now)) }
         ensures fits { IfOk result (λ n. n < 2 ^ 63) }
-        ensures unchanged { OnlyReads memory_directory memory_moments self.old self.new }
+        ensures unchanged { OnlyReads memory_directory memory_moments memory_refusals self.old
+            self.new }
         ensures counts { CountsCall result self.old self.new }
         ensures cause { RefusesAs (injected FsCall.FileSize (armed_of self.old) None)
             (IsAbsent (memory_directory self.old) (string_bytes handle.now.path)) result }
@@ -395,7 +400,8 @@ impl FileSystem for MemoryFileSystem {
         ensures ok { OnOk result (memory_directory self.new
             ≡ folder_made path.now (memory_directory self.old)) }
         ensures err { OnErr result (memory_directory self.new ≡ memory_directory self.old) }
-        ensures any_moment { MovesBy memory_directory memory_moments (IsMakingFolder path.now)
+        ensures any_moment { MovesBy memory_directory memory_moments memory_refusals
+            (IsMakingFolder path.now)
             self.old self.new }
         ensures counts { CountsCall result self.old self.new }
         ensures cause { RefusesAs (injected FsCall.MakeDir (armed_of self.old) (stop_of self.old))
@@ -417,7 +423,8 @@ impl FileSystem for MemoryFileSystem {
     fn list(&mut self, dir: &str) -> Result<Vec<String>, FsFault>
         ensures names { IfOk result (λ names. map string_bytes names.items
             ≡ names_in dir.now (memory_directory self.old)) }
-        ensures unchanged { OnlyReads memory_directory memory_moments self.old self.new }
+        ensures unchanged { OnlyReads memory_directory memory_moments memory_refusals self.old
+            self.new }
         ensures counts { CountsCall result self.old self.new }
         ensures cause { RefusesAs (injected FsCall.List (armed_of self.old) None)
             (HasNoFolder (memory_directory self.old) dir.now) result }
@@ -438,7 +445,8 @@ impl FileSystem for MemoryFileSystem {
         ensures others { (p : Path) → (p ≡ dir.now → ⊥)
             → memory_free self.new p ≡ memory_free self.old p }
         ensures free { memory_free self.new ≡ memory_free self.old }
-        ensures unchanged { OnlyReads memory_directory memory_moments self.old self.new }
+        ensures unchanged { OnlyReads memory_directory memory_moments memory_refusals self.old
+            self.new }
         ensures counts { CountsCall result self.old self.new }
         ensures cause { RefusesAs (injected FsCall.FreeSpace (armed_of self.old) None)
             (λ e. ⊥) result }
@@ -461,7 +469,8 @@ impl FileSystem for MemoryFileSystem {
             ≡ memory_metadata self.old p) }
         ensures others { (p : Path) → (p ≡ path.now → ⊥)
             → memory_metadata self.new p ≡ memory_metadata self.old p }
-        ensures unchanged { OnlyReads memory_directory memory_moments self.old self.new }
+        ensures unchanged { OnlyReads memory_directory memory_moments memory_refusals self.old
+            self.new }
         ensures counts { CountsCall result self.old self.new }
         ensures cause { RefusesAs
             (injected FsCall.DeleteMetadata (armed_of self.old) (stop_of self.old))

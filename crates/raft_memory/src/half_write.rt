@@ -18,7 +18,7 @@ impl MemoryFileSystem {
             ≡ half_left path.now at bytes.now (memory_directory self.old)) }
         ensures err { OnErr result (memory_directory self.new ≡ memory_directory self.old) }
         ensures memory { IfErr result (λ e. e ≡ FsFault.Memory) }
-        ensures any_moment { MovesBy memory_directory memory_moments
+        ensures any_moment { MovesBy memory_directory memory_moments memory_refusals
             (IsWriting path.now at bytes.now) self.old self.new }
         ensures counts { memory_refusals self.new ≡ memory_refusals self.old }
         ensures others { (armed_of self.new ≡ armed_of self.old)

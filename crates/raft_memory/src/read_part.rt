@@ -9,7 +9,7 @@ use raft_env::{FsFault, IoKind};
 use std::alloc::AllocError;
 
 impl MemoryFileSystem {
-    ghost use Rattle.raft_memory.specs.Memory.{memory_directory, memory_moments, armed_of, stop_of, CountsCall};
+    ghost use Rattle.raft_memory.specs.Memory.{memory_directory, memory_moments, memory_refusals, armed_of, stop_of, CountsCall};
     ghost use Rattle.raft_memory.specs.Armed.{arms_after_block, due_in_block};
     ghost use Rattle.raft_memory.specs.Refused.{IsMissing, RefusesAs, WasArmed};
 
@@ -24,7 +24,8 @@ impl MemoryFileSystem {
     ) -> Result<(), FsFault>
         ensures ok { OnOk result (IsPartAt (file_at (memory_directory self.old) path.now) at len
             bytes.new.items) }
-        ensures unchanged { OnlyReads memory_directory memory_moments self.old self.new }
+        ensures unchanged { OnlyReads memory_directory memory_moments memory_refusals self.old
+            self.new }
         ensures counts { CountsCall result self.old self.new }
         ensures cause { RefusesAs (due_in_block (armed_of self.old))
             (λ e. WasArmed (arms_after_block (armed_of self.old)) FsCall.Read e

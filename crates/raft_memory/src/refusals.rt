@@ -1,6 +1,6 @@
 //! How often calls on files failed.
 ghost use Rattle.std.specs.Prelude.{◌≡◌};
-ghost use Rattle.raft_env.specs.Refusal.{CountsRefusal, added_count, no_refusals};
+ghost use Rattle.raft_env.specs.Refusal.{CountsRefusal, NoFewer, added_count, no_refusals};
 
 use raft_base::History;
 use raft_env::FsFault;
@@ -38,7 +38,9 @@ impl RefusalCount {
 
     /// Adds refusals by storage.
     pub(crate) fn add(&mut self, count: u64)
-        ensures { refusals_in self.new ≡ added_count (refusals_in self.old) (by_storage count) }
+        ensures value { refusals_in self.new
+            ≡ added_count (refusals_in self.old) (by_storage count) }
+        ensures counts { NoFewer (refusals_in self.old) (refusals_in self.new) }
     {
         self.storage = self.storage.saturating_add(count);
     }

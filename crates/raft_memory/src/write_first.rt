@@ -30,7 +30,7 @@ impl MemoryFileSystem {
             (string_bytes writer.old.path) (after_first at bytes.now count)
             (memory_directory self.old)) }
         ensures err { OnErr result (memory_directory self.new ≡ memory_directory self.old) }
-        ensures any_moment { MovesBy memory_directory memory_moments
+        ensures any_moment { MovesBy memory_directory memory_moments memory_refusals
             (IsWriting (string_bytes writer.old.path) at bytes.now) self.old self.new }
         ensures counts { CountsRefusalOf result (memory_refusals self.old)
             (memory_refusals self.new) }

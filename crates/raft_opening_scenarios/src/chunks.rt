@@ -1,8 +1,9 @@
 //! Log files of which each is a chunk of its own: what the newer ones leave of the older ones.
 
-use crate::openings::{MODES, Opened, WORKERS, open_by_workers, open_in_order, store};
+use crate::openings::{MODES, Opened, WORKERS, open_by_workers, open_in_order};
 use raft_env::{FileSystem, FsFault};
 use raft_memory::MemoryFileSystem;
+use raft_rows::store_in;
 use std::alloc::Global;
 use std::process::Abort;
 use std::test::Fail;
@@ -54,13 +55,15 @@ static CASES: [Case; 2] = [
 ];
 
 fn store_both<F: FileSystem>(files: &mut F, case: &Case) -> Result<(), FsFault> {
-    store(
+    store_in(
         files,
+        "raft",
         "raft/0000000000000001.raftlog",
         &[HEADER, case.older],
     )?;
-    store(
+    store_in(
         files,
+        "raft",
         "raft/0000000000000002.raftlog",
         &[HEADER, case.newer],
     )

@@ -123,23 +123,6 @@ pub(crate) fn are_same_files<F: FileSystem>(
     Ok(are_same)
 }
 
-/// Makes a folder's file of these parts.
-pub(crate) fn store<F: FileSystem>(
-    files: &mut F,
-    path: &str,
-    parts: &[&[u8]],
-) -> Result<(), FsFault> {
-    files.make_dir("raft")?;
-    let handle = files.create(path)?;
-    let mut writer = files.new_writer(&handle)?;
-    let mut at = 0;
-    for part in parts {
-        files.write(&mut writer, at, part)?;
-        at = at.saturating_add(part.len());
-    }
-    Ok(())
-}
-
 /// Writes another byte at this place of a file.
 pub(crate) fn break_byte<F: FileSystem>(
     files: &mut F,

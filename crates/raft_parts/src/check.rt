@@ -1,7 +1,6 @@
 //! What can be read of a log file of which one part at a time is in memory.
 ghost use Rattle.std.specs.Prelude.{◌≡◌, ◌++◌, ◌≤◌, ◌==◌, ◌-◌, ◌+◌, ◌^◌, ℕ, List, None, IfErr, IfOk, OnOk, drop, length, min, take, true};
 ghost use Rattle.std.specs.List.{list_all};
-ghost use Rattle.raft_files.specs.Header.{header_of};
 ghost use Rattle.raft_dump.specs.Check.{IsCheckOf, IsReadingOf};
 ghost use Rattle.raft_dump.specs.Stale.{HasStaleRecord, stale_len};
 ghost use Rattle.raft_parts.specs.Parts.{AreOf, BeginsWith, IsReadRefusal, IsWanted};
@@ -9,9 +8,11 @@ ghost use Rattle.raft_parts.specs.Parts.{AreOf, BeginsWith, IsReadRefusal, IsWan
 use crate::image::image_of_part;
 use crate::source::{PartSource, read_whole_part};
 use crate::wanted::{PART_LEN, wanted_behind};
-use raft_dump::{FileCheck, LogFile, STALE_LEN, begins_stale, check_file};
+use raft_dump::{
+    FileCheck, LogFile, STALE_LEN, are_zeros, begins_stale, check_file, without_header,
+};
 use raft_files::LogFileFormat;
-use raft_records::{Fault, FileId};
+use raft_records::Fault;
 use std::alloc::Global;
 
 /// Reads a log file of this size as `check_file` of `raft_dump` does, and holds one part of it at a
@@ -58,22 +59,6 @@ fn read_parts<S: PartSource>(
         return Ok(without_header(file.id, size));
     }
     read_records(alloc, file, format, &front.bytes[..len], size, source)
-}
-
-fn without_header(id: FileId, len: usize) -> FileCheck
-    ensures value { (bytes : List ℕ) → length bytes ≡ len → header_of bytes ≡ None
-        → IsReadingOf id bytes result }
-{
-    FileCheck {
-        id,
-        format: None,
-        records: 0,
-        end: 0,
-        len,
-        zeros: false,
-        stale: false,
-        stop: Some(Fault::Corruption),
-    }
 }
 
 // Aligned records stand where their places in the file have it.
@@ -184,12 +169,6 @@ fn has_zeros<S: PartSource>(
         at += len;
     }
     Ok(true)
-}
-
-fn are_zeros(bytes: &[u8]) -> bool
-    ensures value { result ≡ list_all (λ b. b == 0) bytes.now }
-{
-    bytes.iter().all(|byte| *byte == 0)
 }
 
 // Whether the first record behind those that can be read is signed for an earlier file.

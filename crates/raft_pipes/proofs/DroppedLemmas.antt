@@ -10,7 +10,7 @@ use Rattle.raft_base.specs.declared.errors.Fault.TheVariants as fault
 use Rattle.raft_base.specs.declared.pipe_log.LogQueue.{LogQueue}
 use Rattle.raft_env.specs.Directory.{Directory, IsOneOf, Path, file_at, without_file}
 use Rattle.raft_env.specs.Moments.{HoldsThroughout}
-use Rattle.raft_env.specs.Refusal.{IsFileRefusal, NoFewer, Refusals}
+use Rattle.raft_env.specs.Refusal.{FailsCountedAt, NamesFile, NoFewer, Refusals}
 use Rattle.raft_env.proofs.DirectoryLemmas.{file_at-removed_other}
 use Rattle.raft_env.proofs.MomentsLemmas.{passes_then, passes_weaker}
 use Rattle.raft_config.specs.Folders.{Folders, all_of}
@@ -20,6 +20,7 @@ use Rattle.raft_pipes.specs.PipeState.{AreNamedFrom, files_from}
 use Rattle.raft_pipes.specs.Purge.{HasDroppedSome, IsDeleteRefusal, deleted_of, is_spared, without_files}
 use Rattle.raft_pipes.specs.QueueFiles.{QueueFile, places_of}
 use Rattle.raft_pipes.specs.Spare.{SealedFile}
+use Rattle.raft_pipes.proofs.PipeDoubtLemmas.{counted_later}
 use Rattle.raft_pipes.proofs.PipeNamesLemmas.{is_log_path}
 use Rattle.raft_pipes.proofs.PlacesLemmas.{one_of}
 
@@ -90,15 +91,9 @@ module _ (room : ℕ) (files : List SealedFile) (at : ℕ) (f : SealedFile) (old
 
 -- Refusals.
 
--- an earlier count is no greater
-refused_later : (path : Path) (first before after : Refusals) (e : Fault) → NoFewer first before → IsFileRefusal path before after e → IsFileRefusal path first after e
-refused_later path first before after (fault.Io kind text) rose refused = (omega (arith, rose.0, refused.0), refused.1)
-refused_later path first before after fault.Memory rose refused = omega (arith, rose.1, refused)
-refused_later path first before after _ rose refused = absurd refused
-
-pub delete_refused : (paths : List Path) (at : ℕ) (path : Path) (first before after : Refusals) (e : Fault) → path ≡ get_or paths at path → at < length paths → NoFewer first before → IsFileRefusal path before after e → IsDeleteRefusal (drop at paths) first after e
+pub delete_refused : (paths : List Path) (at : ℕ) (path : Path) (first before after : Refusals) (e : Fault) → path ≡ get_or paths at path → at < length paths → NoFewer first before → FailsCountedAt (NamesFile path) before after e → IsDeleteRefusal (drop at paths) first after e
 delete_refused paths at path first before after e path_is within rose refused =
-    subst (λ (ps : List Path). IsDeleteRefusal ps first after e) (sym (drop_more paths at path within)) (subst (λ (q : Path). IsFileRefusal q first after e) path_is (refused_later path first before after e rose refused))
+    subst (λ (ps : List Path). IsDeleteRefusal ps first after e) (sym (drop_more paths at path within)) (subst (λ (q : Path). FailsCountedAt (NamesFile q) first after e) path_is (counted_later path first before after e rose refused))
 
 -- the first of those that stay of some front stays of all
 pub front_refused : (count asked : ℕ) (paths : List Path) (first after : Refusals) (e : Fault) → IsDeleteRefusal (drop count (take asked paths)) first after e → IsDeleteRefusal (drop count paths) first after e
@@ -110,7 +105,7 @@ front_refused (suc count) (suc asked) [] first after e refused = absurd refused
 front_refused (suc count) (suc asked) (path ∷ paths) first after e refused = front_refused count asked paths first after e refused
 
 -- it is one of them
-pub refused_among : (count : ℕ) (paths : List Path) (first after : Refusals) (e : Fault) → IsDeleteRefusal (drop count paths) first after e → (path : Path) × Contains paths path × IsFileRefusal path first after e
+pub refused_among : (count : ℕ) (paths : List Path) (first after : Refusals) (e : Fault) → IsDeleteRefusal (drop count paths) first after e → (path : Path) × Contains paths path × FailsCountedAt (NamesFile path) first after e
 refused_among zero [] first after e refused = absurd refused
 refused_among zero (path ∷ paths) first after e refused = (path, (0, omega arith, refl), refused)
 refused_among (suc count) [] first after e refused = absurd refused

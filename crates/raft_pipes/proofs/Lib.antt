@@ -15,6 +15,7 @@ pub mod FrontLemmas
 pub mod KindLemmas
 pub mod ListedLemmas
 pub mod LogFileLemmas
+pub mod MadeFolderLemmas
 pub mod NamesInLemmas
 pub mod NamesLemmas
 pub mod NumberedLemmas

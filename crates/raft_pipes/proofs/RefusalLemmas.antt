@@ -4,7 +4,7 @@ use Rattle.raft_base.specs.declared.errors.Fault.{Fault}
 use Rattle.raft_base.specs.declared.errors.Fault.TheVariants as fault
 use Rattle.raft_env.specs.Directory.{Directory, HasFile, Path, after_create, file_at, with_file}
 use Rattle.raft_env.specs.Outcomes.{synced_file}
-use Rattle.raft_env.specs.Refusal.{CountsRefusal, IsFaultOf, IsFileRefusal, NoFewer, Refusals, RefusalsRoseForFault}
+use Rattle.raft_env.specs.Refusal.{CountsRefusal, FailsCountedAt, IsFaultOf, NamesFile, NoFewer, Refusals, RefusalsRoseForFault}
 use Rattle.raft_env.specs.declared.env.FsFault.{FsFault}
 use Rattle.raft_env.specs.declared.env.FsFault.TheVariants.{Io, Memory}
 use Rattle.raft_env.proofs.DirectoryLemmas.{file_at-placed_same}
@@ -46,7 +46,7 @@ begin_standing path n old mid new Memory before h stands = inr stands
 
 -- A rotation is stopped.
 
-pub close_refused : (path next : Path) (n : Directory) (old new : Refusals) (e : Fault) → IsFileRefusal path old new e → IsRotationRefusal path next n old new e
+pub close_refused : (path next : Path) (n : Directory) (old new : Refusals) (e : Fault) → FailsCountedAt (NamesFile path) old new e → IsRotationRefusal path next n old new e
 close_refused path next n old new (fault.Io kind text) h = (h.0, inl h.1)
 close_refused path next n old new fault.Memory h = inl h
 close_refused path next n old new _ h = absurd h
@@ -60,11 +60,11 @@ next_stopped path next n old mid new _ before h = absurd h
 
 -- An append is refused.
 
-pub write_refused : (path : Path) (old mid new : Refusals) (f : FsFault) (e : Fault) → RefusalsRoseForFault f old mid → (f ≡ Memory → old.memory < mid.memory) → NoFewer mid new → IsFaultOf path f e → IsFileRefusal path old new e
-write_refused path old mid new (Io kind) e rose counted more (text, is, names) = subst (λ (x : Fault). IsFileRefusal path old new x) (sym is) (omega (arith, rose.0, more.0), names)
-write_refused path old mid new Memory e rose counted more is = subst (λ (x : Fault). IsFileRefusal path old new x) (sym is) (omega (arith, counted refl, more.1))
+pub write_refused : (path : Path) (old mid new : Refusals) (f : FsFault) (e : Fault) → RefusalsRoseForFault f old mid → (f ≡ Memory → old.memory < mid.memory) → NoFewer mid new → IsFaultOf path f e → FailsCountedAt (NamesFile path) old new e
+write_refused path old mid new (Io kind) e rose counted more (text, is, names) = subst (λ (x : Fault). FailsCountedAt (NamesFile path) old new x) (sym is) (omega (arith, rose.0, more.0), names)
+write_refused path old mid new Memory e rose counted more is = subst (λ (x : Fault). FailsCountedAt (NamesFile path) old new x) (sym is) (omega (arith, counted refl, more.1))
 
-pub file_since : (path : Path) (old mid new : Refusals) (e : Fault) → NoFewer old mid → IsFileRefusal path mid new e → IsFileRefusal path old new e
+pub file_since : (path : Path) (old mid new : Refusals) (e : Fault) → NoFewer old mid → FailsCountedAt (NamesFile path) mid new e → FailsCountedAt (NamesFile path) old new e
 file_since path old mid new (fault.Io kind text) before h = (omega (arith, h.0, before.0), h.1)
 file_since path old mid new fault.Memory before h = omega (arith, h, before.1)
 file_since path old mid new _ before h = absurd h
@@ -84,7 +84,7 @@ pub change_same : (p p' : PipeState) (n : Directory) (old new : Refusals) (e : F
 change_same p p' n old new e same (next, is_next, h) = (next, next_same p p' same next is_next, subst (λ (path : Path). IsRotationRefusal path next n old new e) (sym same.path) h)
 
 -- a call on the last file alone
-pub last_refused : (p : PipeState) (n : Directory) (old new : Refusals) (e : Fault) → IsFileRefusal p.writer.path old new e → IsChangeRefusal p n old new e
+pub last_refused : (p : PipeState) (n : Directory) (old new : Refusals) (e : Fault) → FailsCountedAt (NamesFile p.writer.path) old new e → IsChangeRefusal p n old new e
 last_refused p n old new e h =
     let next = path_of p.folders.main (in_queue p.queue (suc (last_seq p))) in
     (next, (p.folders.main, main_among p.folders, refl), close_refused p.writer.path next n old new e h)

@@ -1,5 +1,6 @@
 pub mod Blocks
 pub mod ByFile
+pub mod Calls
 pub mod Completed
 pub mod Counts
 pub mod DurableEnd

@@ -8,6 +8,6 @@ pub mod rotation;
 mod spare;
 pub mod spare_laws;
 
-pub use log_folders::LogFolders;
+pub use log_folders::{LogFolders, make_folder};
 pub use pipe::{AppendFault, RotationFault, SinglePipe};
 pub use spare::{SealedFile, SpareFile};

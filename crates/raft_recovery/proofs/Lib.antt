@@ -17,9 +17,6 @@ pub mod UnchangedLemmas
 pub mod StandsLemmas
 pub mod DropRewriteLemmas
 pub mod ExactLemmas
-pub mod ProgramLemmas
-pub mod CompleteGroupsLemmas
-pub mod ValueLemmas
 pub mod ReadLemmas
 pub mod TogetherLemmas
 pub mod TakesLemmas

@@ -6,8 +6,6 @@ pub mod Valid
 pub mod Stands
 pub mod Dropping
 pub mod DroppingFront
-pub mod Change
-pub mod Program
 pub mod Together
 pub mod Takes
 pub mod Bounds

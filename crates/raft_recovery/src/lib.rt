@@ -2,14 +2,10 @@
 #![tactic(auto)]
 
 pub mod bound_laws;
-pub mod change;
-mod complete_groups;
 pub mod drop_append_laws;
 pub mod drop_rewrite_laws;
 pub mod group_laws;
 pub mod laws;
-pub mod recovered;
-pub mod recovered_value;
 pub mod rewrite_laws;
 pub mod stands_laws;
 pub mod takes_laws;

@@ -7,5 +7,3 @@ mod laws;
 pub mod marks;
 pub mod rewriting;
 pub mod syncs;
-#[cfg(test)]
-mod table;

@@ -42,21 +42,32 @@ fn add_files<F: FileSystem>(fs: &mut F, files: &'static [FileParts]) -> Result<(
     fs.make_dir("a")?;
     fs.make_dir("b")?;
     for (path, parts) in files {
-        add_file(fs, path, parts)?;
+        store(fs, path, parts)?;
     }
     Ok(())
 }
 
-fn add_file<F: FileSystem>(
-    fs: &mut F,
-    path: &str,
-    parts: &'static [&'static [u8]],
-) -> Result<(), FsFault> {
+/// Makes a file of these parts, in a folder that is there.
+pub fn store<F: FileSystem>(fs: &mut F, path: &str, parts: &[&[u8]]) -> Result<(), FsFault> {
     let handle = fs.create(path)?;
     let mut writer = fs.new_writer(&handle)?;
+    let mut at = 0;
     for part in parts {
-        let end = fs.file_size(&handle)?;
-        fs.write(&mut writer, end, part)?;
+        fs.write(&mut writer, at, part)?;
+        at = at.saturating_add(part.len());
     }
     Ok(())
+}
+
+/// .. in this folder, which is made, or in none.
+pub fn store_in<F: FileSystem>(
+    fs: &mut F,
+    folder: &str,
+    path: &str,
+    parts: &[&[u8]],
+) -> Result<(), FsFault> {
+    if !folder.is_empty() {
+        fs.make_dir(folder)?;
+    }
+    store(fs, path, parts)
 }

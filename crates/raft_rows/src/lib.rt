@@ -4,5 +4,5 @@
 mod files;
 mod rows;
 
-pub use files::{FileParts, HEADER, NOTHING, PUT, PUTS, ZEROS, fill};
+pub use files::{FileParts, HEADER, NOTHING, PUT, PUTS, ZEROS, fill, store, store_in};
 pub use rows::{Row, first_wrong};

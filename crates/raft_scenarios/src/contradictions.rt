@@ -1,10 +1,10 @@
 //! Openings with settings that contradict one another.
 
-use crate::stored::{settings_in, settings_with};
 use raft_env::FileSystem;
 use raft_log_engine::{Config, Engine, RecoveryMode};
 use raft_memory::MemoryFileSystem;
 use raft_records::{Fault, ReadableSize};
+use raft_stories::{settings_in, settings_with};
 use std::alloc::Global;
 use std::test::Fail;
 

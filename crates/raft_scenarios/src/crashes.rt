@@ -1,10 +1,9 @@
 //! What an opening finds after a crash, and after a refusal of storage.
 
-use crate::held::Failing;
-use crate::rows::{Rows, each_holds};
-use crate::stories::{Step, Story};
+use crate::rows::each_holds;
 use raft_env::IoKind;
 use raft_memory::FsCall;
+use raft_stories::{Failing, Rows, Step, Story};
 use raft_test_rows::{Answer, EMPTY, Left, Plan, State};
 use std::test::Fail;
 
@@ -22,7 +21,7 @@ const TWO: &[Step] = &[
 ];
 
 /// A value that fills the room, so that no zeros stand after it.
-const LONG: &[Step] = &[
+pub(crate) const LONG: &[Step] = &[
     Step::Open,
     Step::Put(1, b"a", &[1; 1024]),
     Step::Write(false, Ok(1052)),
@@ -36,7 +35,7 @@ const HAS_A: Step = Step::Run(&[Plan::Get(1, b"a")], &[Answer::Value(Some(&[1]))
 const HAS_NOTHING: Step = Step::Run(&[Plan::Get(1, b"a")], &[Answer::Value(None)]);
 
 /// A failed engine answers nothing.
-const FAILS: Step = Step::Run(
+pub(crate) const FAILS: Step = Step::Run(
     &[Plan::Get(1, b"a"), Plan::Sync],
     &[Answer::Fails(11), Answer::Fails(11)],
 );

@@ -1,49 +1,11 @@
 //! Purges by watermarks: which groups are asked for, and which files go.
 
-use crate::held::Failing;
-use crate::rows::{Rows, each_holds};
-use crate::stories::{Step, Story};
-use raft_env::{FileSystem, IoKind};
-use raft_log_engine::Engine;
+use crate::rows::each_holds;
+use raft_env::IoKind;
 use raft_memory::FsCall;
-use raft_records::Fault;
-use raft_script::{Act, Op, run};
-use raft_test_rows::{Answer, Plan, first_refused};
-use std::alloc::{AllocError, Global};
+use raft_stories::{Apart, Failing, Rows, Step, Story};
+use raft_test_rows::{Answer, Plan};
 use std::test::Fail;
-
-/// Entries, each in a batch of its own.
-#[derive(Clone, Copy)]
-pub(crate) struct Apart {
-    /// The first and the last group, of each of which there is one with each index.
-    pub(crate) groups: (u64, u64),
-    /// The first and the last index.
-    pub(crate) indexes: (u64, u64),
-    /// The bytes of an entry.
-    pub(crate) len: usize,
-}
-
-fn ops_of(alloc: Global, apart: &Apart) -> Result<Vec<Op>, AllocError> {
-    let mut ops = Vec::new(alloc);
-    for group in apart.groups.0..=apart.groups.1 {
-        for index in apart.indexes.0..=apart.indexes.1 {
-            let entry = (index, vec![in alloc; b'x'; apart.len]?);
-            let act = Act::Entries(group, vec![in alloc; entry]?);
-            ops.push(Op::Write(vec![in alloc; act]?, false))?;
-        }
-    }
-    Ok(ops)
-}
-
-/// Whether each of the batches is written.
-pub(crate) fn writes_apart<F: FileSystem>(
-    alloc: Global,
-    engine: &mut Engine<F>,
-    apart: &Apart,
-) -> Result<bool, Fault> {
-    let ops = ops_of(alloc, apart)?;
-    Ok(first_refused(&run(alloc, engine, &ops)?).is_none())
-}
 
 // A record of an entry of 10 bytes has 40 bytes, so that a log file, which is full at 1 KB and begins with a header of
 // 69 bytes, takes 24 of them. One of an entry of 1 KB fills a file.

@@ -1,11 +1,11 @@
 //! What an opening makes of a folder of several log files.
 
-use crate::held::{Faulty, Held};
-use crate::rows::{Rows, Wrong, each_holds};
-use crate::stored::{FIRST_REWRITE, HEADER_1, HEADER_2, HEADER_MOVED, Stored};
-use raft_log_engine::RecoveryMode;
+use crate::rows::each_holds;
+use raft_stories::{
+    ABSOLUTE, ALL, ANY, BROKEN_2, BROKEN_3, Folder, HEADER_1, HEADER_2, HEADER_MOVED, LOG_1, LOG_2,
+    LOG_3, Opening, PUT_2, PUT_3, Rows, Stored, TAIL, WITHOUT_2, WITHOUT_3,
+};
 use raft_test_rows::{EMPTY, State};
-use std::alloc::Global;
 use std::test::Fail;
 
 /// A header of version 2 with alignment 16.
@@ -13,28 +13,11 @@ const HEADER_ALIGNED: &[u8] =
     b"RAFT-LOG-FILE-HEADER-9986AB3E47F320B394C8E84916EB0ED5\0\0\0\0\0\0\0\x02\0\0\0\0\0\0\0\x10";
 
 // The records below were made by Python's struct and zlib: one put each, for the file of that number in version 2.
-pub(crate) const PUT_1: &[u8] =
-    b"\x00\x00\x00\x00\x00\x00\x1c\x00\x00\x00\x00\x00\x00\x00\x00\x10\x01\x01\x03\x01\x01\x61\x01\x01\xf9\x48\xbe\x2b";
-
-pub(crate) const PUT_2: &[u8] =
-    b"\x00\x00\x00\x00\x00\x00\x1c\x00\x00\x00\x00\x00\x00\x00\x00\x10\x01\x01\x03\x01\x01\x62\x01\x02\x19\xa7\xf1\xb0";
-
-pub(crate) const PUT_3: &[u8] =
-    b"\x00\x00\x00\x00\x00\x00\x1c\x00\x00\x00\x00\x00\x00\x00\x00\x10\x01\x02\x03\x01\x01\x63\x01\x03\x24\xe7\xdc\xf7";
-
 const PUT_4: &[u8] =
     b"\x00\x00\x00\x00\x00\x00\x1c\x00\x00\x00\x00\x00\x00\x00\x00\x10\x01\x02\x03\x01\x01\x64\x01\x04\x05\x64\xf7\x6c";
 
 const PUT_5: &[u8] =
     b"\x00\x00\x00\x00\x00\x00\x1c\x00\x00\x00\x00\x00\x00\x00\x00\x10\x01\x01\x03\x01\x01\x61\x01\x05\xe4\x8c\xd3\x2c";
-
-/// The put of file 2, but for a bit of its value.
-pub(crate) const BROKEN_2: &[u8] =
-    b"\x00\x00\x00\x00\x00\x00\x1c\x00\x00\x00\x00\x00\x00\x00\x00\x10\x01\x01\x03\x01\x01\x62\x01\x03\x19\xa7\xf1\xb0";
-
-/// The same of file 3.
-pub(crate) const BROKEN_3: &[u8] =
-    b"\x00\x00\x00\x00\x00\x00\x1c\x00\x00\x00\x00\x00\x00\x00\x00\x10\x01\x02\x03\x01\x01\x63\x01\x02\x24\xe7\xdc\xf7";
 
 /// Two entries in file 2, of whose block a bit is broken.
 const ENTRIES_2: &[u8] =
@@ -43,13 +26,6 @@ const ENTRIES_2: &[u8] =
 /// The put of file 3, with the mark of a compressed block.
 const LZ4_3: &[u8] =
     b"\x00\x00\x00\x00\x00\x00\x23\x01\x00\x00\x00\x00\x00\x00\x00\x17\x78\x79\x7a\x67\xba\x8e\xeb\x01\x02\x03\x01\x01\x63\x01\x03\x24\xe7\xdc\xf7";
-
-/// Files 1, 2 and 3, one put each.
-pub(crate) const LOG_1: Stored = ("raft/0000000000000001.raftlog", &[HEADER_2, PUT_1]);
-
-pub(crate) const LOG_2: Stored = ("raft/0000000000000002.raftlog", &[HEADER_2, PUT_2]);
-
-pub(crate) const LOG_3: Stored = ("raft/0000000000000003.raftlog", &[HEADER_2, PUT_3]);
 
 const LOG_4: Stored = ("raft/0000000000000004.raftlog", &[HEADER_2, PUT_4]);
 
@@ -63,37 +39,6 @@ const CUT_3: Stored = ("raft/0000000000000003.raftlog", &[HEADER_2]);
 const BEGUN_2: Stored = ("raft/0000000000000002.raftlog", &[HEADER_1]);
 
 const BEGUN_3: Stored = ("raft/0000000000000003.raftlog", &[HEADER_1]);
-
-pub(crate) const ALL: State = State {
-    a: 1,
-    b: 2,
-    c: 3,
-    ..EMPTY
-};
-
-pub(crate) const WITHOUT_2: State = State { b: 0, ..ALL };
-
-pub(crate) const WITHOUT_3: State = State { c: 0, ..ALL };
-
-pub(crate) const ABSOLUTE: RecoveryMode = RecoveryMode::AbsoluteConsistency;
-
-pub(crate) const TAIL: RecoveryMode = RecoveryMode::TolerateTailCorruption;
-
-pub(crate) const ANY: RecoveryMode = RecoveryMode::TolerateAnyCorruption;
-
-/// In a mode an opening holds a state, or it fails with a code, and it changes these files.
-pub(crate) struct Opening(
-    pub(crate) RecoveryMode,
-    pub(crate) Result<State, u8>,
-    pub(crate) &'static [Stored],
-);
-
-/// Files, and what openings of them come to.
-pub(crate) struct Folder {
-    pub(crate) name: &'static str,
-    pub(crate) files: &'static [Stored],
-    pub(crate) openings: &'static [Opening],
-}
 
 static BROKEN: [Folder; 11] = [
     Folder {
@@ -298,93 +243,6 @@ static NAMES: [Folder; 1] = [Folder {
         Opening(ANY, Ok(ALL), &[]),
     ],
 }];
-
-/// Whether an opening came to what is wanted; a key k is there where the state has something else.
-pub(crate) fn has_come_to<F: Faulty>(held: &mut Held<F>, wanted: &Result<State, u8>) -> bool {
-    match wanted {
-        Ok(state) => held.has(*state) && held.has_key(b"k", state.other),
-        Err(code) => held.code() == Some(*code),
-    }
-}
-
-fn comes_to<F: Faulty>(
-    alloc: Global,
-    held: &mut Held<F>,
-    mode: RecoveryMode,
-    wanted: &Result<State, u8>,
-) -> bool {
-    held.open(alloc, mode) && has_come_to(held, wanted)
-}
-
-/// After an opening the engine is closed where that is asked, or gives the files up.
-pub(crate) fn put_back<F: Faulty>(held: &mut Held<F>, closes: bool) {
-    if closes && held.code().is_none() {
-        held.close();
-    }
-    held.give_up();
-}
-
-fn has_rewritten(files: &[Stored]) -> bool {
-    for (path, _) in files {
-        if path.ends_with(".rewrite") {
-            return true;
-        }
-    }
-    false
-}
-
-// An opening that is done makes a file of the Rewrite queue, where there is none.
-fn made_by(opening: &Opening, files: &[Stored]) -> &'static [Stored] {
-    if opening.1.is_err() || has_rewritten(files) {
-        &[]
-    } else {
-        &[FIRST_REWRITE]
-    }
-}
-
-// Whether an opening comes to what is wanted, and, where it holds a state, the next one to the same.
-fn holds<F: Faulty>(
-    alloc: Global,
-    held: &mut Held<F>,
-    files: &[Stored],
-    opening: &Opening,
-    closes: bool,
-) -> bool {
-    let Opening(mode, wanted, changed) = opening;
-    held.renew(alloc);
-    let Some(count) = held.store(alloc, files) else {
-        return false;
-    };
-    let is_opened = comes_to(alloc, held, *mode, wanted);
-    put_back(held, closes);
-    let made = made_by(opening, files);
-    let count = count.saturating_add(made.len());
-    is_opened
-        && held.stores(alloc, files, changed, count)
-        && held.stores(alloc, made, &[], count)
-        && (wanted.is_err() || comes_to(alloc, held, TAIL, wanted))
-}
-
-/// The first folder, and the opening of it, that comes to something else.
-pub(crate) fn wrong_opening<F: Faulty>(
-    alloc: Global,
-    held: &mut Held<F>,
-    folders: &'static [Folder],
-    closes: bool,
-) -> Wrong {
-    for Folder {
-        name,
-        files,
-        openings,
-    } in folders {
-        for (place, opening) in openings.iter().enumerate() {
-            if !holds(alloc, held, files, opening, closes) {
-                return Some((*name, place));
-            }
-        }
-    }
-    None
-}
 
 #[test]
 fn each_mode_cuts_its_files(rt: HostRuntime) -> Result<(), Fail> {

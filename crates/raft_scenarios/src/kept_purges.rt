@@ -1,12 +1,9 @@
 //! Entries that are read before and after purges: where their block is kept no file is read.
 
-use crate::expired::Apart;
-use crate::held::Failing;
-use crate::reads::Fetch;
-use crate::rows::{Rows, each_holds};
-use crate::stories::{Step, Story};
+use crate::rows::each_holds;
 use raft_env::IoKind;
 use raft_memory::FsCall;
+use raft_stories::{Apart, Failing, Fetch, Rows, Step, Story};
 use raft_test_rows::{Answer, Change, Plan};
 use std::test::Fail;
 

@@ -12,11 +12,11 @@ mod expired;
 #[cfg(test)]
 mod folders;
 #[cfg(test)]
-mod held;
-#[cfg(test)]
 mod kept;
 #[cfg(test)]
 mod kept_purges;
+#[cfg(test)]
+mod noise;
 #[cfg(test)]
 mod opening;
 #[cfg(test)]
@@ -30,6 +30,8 @@ mod reads;
 #[cfg(test)]
 mod recycling;
 #[cfg(test)]
+mod refused;
+#[cfg(test)]
 mod reserved;
 #[cfg(test)]
 mod restarts;
@@ -41,7 +43,3 @@ mod rows;
 mod scans;
 #[cfg(test)]
 mod spilled;
-#[cfg(test)]
-mod stored;
-#[cfg(test)]
-mod stories;

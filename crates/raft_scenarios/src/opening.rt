@@ -1,8 +1,7 @@
 //! What an opening makes of a log file that can't be read to its end.
 
-use crate::folders::{ABSOLUTE, ANY, Folder, Opening, TAIL};
-use crate::rows::{Rows, each_holds};
-use crate::stored::{HEADER_1, HEADER_2, HEADER_MOVED};
+use crate::rows::each_holds;
+use raft_stories::{ABSOLUTE, ANY, Folder, HEADER_1, HEADER_2, HEADER_MOVED, Opening, Rows, TAIL};
 use raft_test_rows::{EMPTY, State};
 use std::test::Fail;
 

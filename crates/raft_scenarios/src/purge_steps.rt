@@ -1,15 +1,14 @@
 //! Purges of a part of the log, in parts, and ones that are refused.
 
-use crate::held::Failing;
 use crate::purges::{KEY_IN_EACH, TEN_LONG_ENTRIES};
-use crate::rows::{Rows, each_holds};
-use crate::stories::{Step, Story};
+use crate::rows::each_holds;
 use raft_env::IoKind;
 use raft_memory::FsCall;
+use raft_stories::{Failing, Rows, Step, Story};
 use raft_test_rows::{Answer, Change, Left, Plan};
 use std::test::Fail;
 
-const KEYS: &[Step] = &[Step::Run(
+pub(crate) const KEYS: &[Step] = &[Step::Run(
     &[Plan::Get(1, b"a"), Plan::Get(1, b"b"), Plan::Get(2, b"c")],
     &[
         Answer::Value(Some(&[1; 1000])),
@@ -18,7 +17,7 @@ const KEYS: &[Step] = &[Step::Run(
     ],
 )];
 
-const FIRST_AND_LAST: &[Step] = &[Step::Run(
+pub(crate) const FIRST_AND_LAST: &[Step] = &[Step::Run(
     &[Plan::First(3), Plan::Last(3)],
     &[Answer::Index(Some(1)), Answer::Index(Some(10))],
 )];

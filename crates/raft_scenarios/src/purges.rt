@@ -1,10 +1,9 @@
 //! Purges: which files of both queues are there then, and what is found of the log.
 
-use crate::held::Failing;
-use crate::rows::{Rows, each_holds};
-use crate::stories::{Step, Story};
+use crate::rows::each_holds;
 use raft_env::IoKind;
 use raft_memory::FsCall;
+use raft_stories::{Failing, Rows, Step, Story};
 use raft_test_rows::{Answer, Change, Left, Plan};
 use std::test::Fail;
 

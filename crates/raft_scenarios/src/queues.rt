@@ -1,7 +1,7 @@
 //! What is written to several log files, read of them and found again.
 
-use crate::rows::{Rows, each_holds};
-use crate::stories::{Step, Story};
+use crate::rows::each_holds;
+use raft_stories::{Rows, Step, Story};
 use raft_test_rows::{Answer, Change, Left, Plan};
 use std::test::Fail;
 

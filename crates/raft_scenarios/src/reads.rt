@@ -1,23 +1,9 @@
 //! What an engine answers of entries by the bounds of a fetch.
 
-use crate::rows::{Rows, each_holds};
-use crate::stories::{Step, Story};
-use raft_env::FileSystem;
-use raft_log_engine::Engine;
-use raft_script::TextEntry;
+use crate::rows::each_holds;
+use raft_stories::{Fetch, Rows, Step, Story};
 use raft_test_rows::{Answer, Change, Plan};
-use std::alloc::Global;
 use std::test::Fail;
-
-/// A group, the bounds, how many bytes are asked for at most, and how many entries are answered or the code of the
-/// fault.
-pub(crate) struct Fetch(
-    pub(crate) u64,
-    pub(crate) u64,
-    pub(crate) u64,
-    pub(crate) Option<usize>,
-    pub(crate) Result<usize, u8>,
-);
 
 const FILL: &[Step] = &[
     Step::Open,
@@ -82,18 +68,6 @@ static STORIES: [Story; 2] = [
         ],
     },
 ];
-
-/// Whether it is answered so.
-pub(crate) fn fetches<F: FileSystem>(alloc: Global, engine: &mut Engine<F>, fetch: &Fetch) -> bool {
-    let Fetch(group, begin, end, max, wanted) = fetch;
-    let mut entries: Vec<TextEntry> = Vec::new(alloc);
-    let fetched = engine.fetch_entries_to::<TextEntry>(*group, *begin, *end, *max, &mut entries);
-    match (fetched, wanted) {
-        (Ok(count), Ok(wanted)) => count == *wanted && entries.len() == *wanted,
-        (Err(fault), Err(code)) => fault.code() == *code && entries.is_empty(),
-        _ => false,
-    }
-}
 
 #[test]
 fn fetch_bounds(rt: HostRuntime) -> Result<(), Fail> {

@@ -1,13 +1,9 @@
 //! Reserved files that an opening makes, uses or deletes, the folder that a new file goes to, and files of either version.
 
-use crate::held::Failing;
-use crate::recycling::Keeping;
-use crate::rows::{Rows, each_holds};
-use crate::spilled::SPILL;
-use crate::stored::{HEADER_2, Stored};
-use crate::stories::{Step, Story};
+use crate::rows::each_holds;
 use raft_env::IoKind;
 use raft_memory::FsCall;
+use raft_stories::{Failing, HEADER_2, Keeping, Rows, SPILL, Step, Stored, Story};
 use raft_test_rows::{Answer, Change, Left, Plan};
 use std::test::Fail;
 

@@ -1,8 +1,9 @@
 //! What an opening finds in the files of both queues.
 
-use crate::folders::{ABSOLUTE, ALL, ANY, Folder, LOG_1, Opening, PUT_2, TAIL};
-use crate::rows::{Rows, each_holds};
-use crate::stored::{HEADER_2, Stored};
+use crate::rows::each_holds;
+use raft_stories::{
+    ABSOLUTE, ALL, ANY, Folder, HEADER_2, LOG_1, Opening, PUT_2, Rows, Stored, TAIL,
+};
 use raft_test_rows::State;
 use std::test::Fail;
 

@@ -1,38 +1,9 @@
 //! Tables of rows, each of which begins with new files.
 
-use crate::folders::{Folder, wrong_opening};
-use crate::held::{Faulty, Held};
-use crate::restarts::{Calls, wrong_call};
-use crate::spilled::{Spilled, wrong_spill};
-use crate::stories::{Story, wrong_story};
 use raft_memory::MemoryFileSystem;
-use raft_test_rows::Left;
-use std::alloc::Global;
+use raft_stories::{Rows, first_wrong};
 use std::process::Abort;
 use std::test::Fail;
-
-pub(crate) enum Rows {
-    Stories(&'static [Story]),
-    /// Openings, and whether the engine is closed then.
-    Openings(&'static [Folder], bool),
-    /// Openings of two folders.
-    Spills(&'static [Spilled]),
-    /// Openings with failing calls, and what a crash leaves after each; after none the files are whole.
-    Failures(&'static [Calls], &'static [Option<Left>]),
-}
-
-/// The first row that comes to something else, and where in it.
-pub(crate) type Wrong = Option<(&'static str, usize)>;
-
-fn first_wrong<F: Faulty>(alloc: Global, files: F, rows: Rows) -> Wrong {
-    let mut held = Held::Files(files);
-    match rows {
-        Rows::Stories(stories) => wrong_story(alloc, &mut held, stories),
-        Rows::Openings(folders, closes) => wrong_opening(alloc, &mut held, folders, closes),
-        Rows::Spills(rows) => wrong_spill(alloc, &mut held, rows),
-        Rows::Failures(calls, lefts) => wrong_call(alloc, &mut held, calls, lefts),
-    }
-}
 
 /// Fails where a row comes to something else.
 pub(crate) fn each_holds<R: Abort + AllocGlobal>(rt: &R, rows: Rows) -> Result<(), Fail> {

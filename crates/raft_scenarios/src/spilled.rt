@@ -1,20 +1,13 @@
 //! What an opening makes of log files that stand in both folders of the settings.
 
-use crate::folders::{
-    ABSOLUTE, ALL, ANY, BROKEN_2, BROKEN_3, LOG_1, LOG_2, LOG_3, Opening, PUT_1, PUT_2, PUT_3,
-    TAIL, WITHOUT_2, WITHOUT_3, has_come_to, put_back,
-};
-use crate::held::{Faulty, Held};
 use crate::rewritten::REWRITTEN;
-use crate::rows::{Rows, Wrong, each_holds};
-use crate::stored::{FIRST_REWRITE, HEADER_2, Stored};
-use crate::stories::{Step, Story};
+use crate::rows::each_holds;
+use raft_stories::{
+    ABSOLUTE, ALL, ANY, BROKEN_2, BROKEN_3, FIRST_REWRITE, HEADER_2, LOG_1, LOG_2, LOG_3, Opening,
+    PUT_1, PUT_2, PUT_3, Rows, SPILL, Spilled, Step, Stored, Story, TAIL, WITHOUT_2, WITHOUT_3,
+};
 use raft_test_rows::{Answer, Change, EMPTY, Left, Plan, State};
-use std::alloc::Global;
 use std::test::Fail;
-
-/// The second folder.
-pub(crate) const SPILL: &str = "spill";
 
 const SPILL_1: Stored = ("spill/0000000000000001.raftlog", &[HEADER_2, PUT_1]);
 
@@ -25,14 +18,6 @@ const SPILL_3: Stored = ("spill/0000000000000003.raftlog", &[HEADER_2, PUT_3]);
 const FIRST_LOG: Stored = ("raft/0000000000000001.raftlog", &[HEADER_2]);
 
 const THIRD: State = State { c: 3, ..EMPTY };
-
-/// Files, what openings of both folders come to, and the files that these make.
-pub(crate) struct Spilled {
-    name: &'static str,
-    files: &'static [Stored],
-    openings: &'static [Opening],
-    made: &'static [Stored],
-}
 
 static WHOLE: [Spilled; 6] = [
     Spilled {
@@ -235,72 +220,6 @@ static STORIES: [Story; 1] = [Story {
         ],
     ],
 }];
-
-/// Makes the files, and the second folder where some stand in it. Answers how many each folder has.
-pub(crate) fn store<F: Faulty>(
-    alloc: Global,
-    held: &mut Held<F>,
-    files: &[Stored],
-) -> Option<(usize, usize)> {
-    let spilled = files
-        .iter()
-        .filter(|file| file.0.starts_with("spill/"))
-        .count();
-    if spilled > 0 && held.files()?.make_dir(SPILL).is_err() {
-        return None;
-    }
-    Some((held.store(alloc, files)?, spilled))
-}
-
-// Whether the second folder has so many files.
-fn has_spilled<F: Faulty>(held: &mut Held<F>, count: usize) -> bool {
-    let Some(files) = held.files() else {
-        return false;
-    };
-    match files.list(SPILL) {
-        Ok(names) => names.len() == count,
-        Err(_) => count == 0,
-    }
-}
-
-fn made_by(row: &Spilled, opening: &Opening) -> &'static [Stored] {
-    if opening.1.is_err() { &[] } else { row.made }
-}
-
-// Whether an opening comes to what is wanted, and, where it holds a state, the next one to the same.
-fn holds<F: Faulty>(alloc: Global, held: &mut Held<F>, row: &Spilled, opening: &Opening) -> bool {
-    let Opening(mode, wanted, changed) = opening;
-    held.renew(alloc);
-    let Some((main, spilled)) = store(alloc, held, row.files) else {
-        return false;
-    };
-    let is_opened = held.open_with_spill(alloc, *mode, SPILL) && has_come_to(held, wanted);
-    put_back(held, true);
-    let made = made_by(row, opening);
-    let count = main.saturating_add(made.len());
-    is_opened
-        && held.stores(alloc, row.files, changed, count)
-        && held.stores(alloc, made, &[], count)
-        && has_spilled(held, spilled)
-        && (wanted.is_err()
-            || held.open_with_spill(alloc, TAIL, SPILL) && has_come_to(held, wanted))
-}
-
-/// The first row, and the opening of it, that comes to something else.
-pub(crate) fn wrong_spill<F: Faulty>(
-    alloc: Global,
-    held: &mut Held<F>,
-    rows: &'static [Spilled],
-) -> Wrong {
-    for row in rows {
-        for (place, opening) in row.openings.iter().enumerate() {
-            if !holds(alloc, held, row, opening) {
-                return Some((row.name, place));
-            }
-        }
-    }
-    None
-}
 
 #[test]
 fn both_folders_are_read(rt: HostRuntime) -> Result<(), Fail> {

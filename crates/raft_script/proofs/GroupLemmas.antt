@@ -12,7 +12,7 @@ use Rattle.raft_base.specs.declared.errors.Fault.{Fault}
 use Rattle.raft_base.specs.declared.errors.Fault.TheVariants as fault
 use Rattle.raft_env.specs.Directory.{Directory}
 use Rattle.raft_env.specs.Moments.{HoldsThroughout}
-use Rattle.raft_env.specs.Refusal.{NoFewer, Refusals, StorageRefusalsRose}
+use Rattle.raft_env.specs.Refusal.{NoFewer, Refusals, RoseBy}
 use Rattle.raft_env.specs.declared.env.FileSystem.{Ghosts}
 use Rattle.raft_records.specs.Contents.{Contents, after_batch}
 use Rattle.raft_records.specs.Batch.{BatchView}
@@ -26,7 +26,7 @@ use Rattle.raft_log_engine.specs.Group.{AreGroupAnswers, FailsWithChoice, GroupS
 use Rattle.raft_log_engine.specs.declared.engine.Engine.{Engine}
 use Rattle.raft_script.specs.Durability.{Does, LeavesInFlight}
 use Rattle.raft_script.specs.Batches.{Part, batch_of_acts, batches_of_parts, group_batches, of_both}
-use Rattle.raft_script.specs.Failure.{FailsBy, IsStorageOrMemory, Refuses, StorageRefusalsRoseBy, is_io}
+use Rattle.raft_script.specs.Failure.{FailsBy, IsStorageOrMemory, Refuses, is_io}
 use Rattle.raft_script.specs.Run.{AreBatchAnswers, IsBatchRefusal, IsGroupRefusal, IsUnbuiltGroup, IsWrittenGroup}
 use Rattle.raft_script.proofs.StepsLemmas.{all_weaker}
 use Rattle.raft_script.proofs.RunLemmas.{same_err}
@@ -129,24 +129,24 @@ module _ (folders : Folders) (p : PipeState) (fails : Bool) (stands : fails ≡ 
   batch_answers target_size m (b ∷ batches) (Err e ∷ answers) s s' are = (batch_refusal_of m b s.refusals are.0.refusals e are.1.cause, batch_answers target_size m batches answers are.0 s' are.2)
 
 -- storage's count rose by as many as it refused
-refused_rose : (folders : Folders) (p : PipeState) (m : Contents) (batch : Batch) (old new : Refusals) (e : Fault) → engine.IsWriteRefusal folders p m batch false old new e → is_io {T = ℕ} (Err e) ≡ true → StorageRefusalsRose old new
+refused_rose : (folders : Folders) (p : PipeState) (m : Contents) (batch : Batch) (old new : Refusals) (e : Fault) → engine.IsWriteRefusal folders p m batch false old new e → is_io {T = ℕ} (Err e) ≡ true → RoseBy 1 old new
 refused_rose folders p m batch old new (fault.Io kind path) h io = h.1.0
 refused_rose folders p m batch old new fault.TryAgain h io = let twice = h.1 in omega (arith, twice)
 refused_rose folders p m batch old new _ h io = absurd (let clash = io in cc)
 
-more_rose : (io : Bool) (n : ℕ) (old mid new : Refusals) → NoFewer old mid → (io ≡ true → StorageRefusalsRose old mid) → StorageRefusalsRoseBy n mid new → StorageRefusalsRoseBy ((0 + cond io 1 0) + n) old new
+more_rose : (io : Bool) (n : ℕ) (old mid new : Refusals) → NoFewer old mid → (io ≡ true → RoseBy 1 old mid) → RoseBy n mid new → RoseBy ((0 + cond io 1 0) + n) old new
 more_rose true n old mid new counts rose more = let one = rose refl in omega (arith, one, more)
 more_rose false n old mid new counts rose more = omega (arith, counts.0, more)
 
-batches_rose : (target_size : ℕ) (folders : Folders) (p : PipeState) (m : Contents) (batches : List Batch) (answers : List (Result ℕ Fault)) (s s' : GroupState) → AreGroupAnswers target_size folders p m batches answers s s' → StorageRefusalsRoseBy (count_by is_io answers) s.refusals s'.refusals
+batches_rose : (target_size : ℕ) (folders : Folders) (p : PipeState) (m : Contents) (batches : List Batch) (answers : List (Result ℕ Fault)) (s s' : GroupState) → AreGroupAnswers target_size folders p m batches answers s s' → RoseBy (count_by is_io answers) s.refusals s'.refusals
 batches_rose target_size folders p m [] [] s s' are = omega (arith, ap (λ (x : GroupState). x.refusals.storage) are)
 batches_rose target_size folders p m [] (a ∷ answers) s s' are = absurd are
 batches_rose target_size folders p m (b ∷ batches) [] s s' are = absurd are
 batches_rose target_size folders p m (b ∷ batches) (Ok len ∷ answers) s s' are =
-    subst (λ (n : ℕ). StorageRefusalsRoseBy n s.refusals s'.refusals) (sym (sum_by-append (λ (r : Result ℕ Fault). cond (is_io r) 1 0) (Ok len ∷ []) answers))
+    subst (λ (n : ℕ). RoseBy n s.refusals s'.refusals) (sym (sum_by-append (λ (r : Result ℕ Fault). cond (is_io r) 1 0) (Ok len ∷ []) answers))
     (more_rose false (count_by is_io answers) s.refusals are.0.refusals s'.refusals are.1.counts (λ io. absurd (let clash = io in cc)) (batches_rose target_size folders p (after_batch m b) batches answers are.0 s' are.2))
 batches_rose target_size folders p m (b ∷ batches) (Err e ∷ answers) s s' are =
-    subst (λ (n : ℕ). StorageRefusalsRoseBy n s.refusals s'.refusals) (sym (sum_by-append (λ (r : Result ℕ Fault). cond (is_io r) 1 0) (Err e ∷ []) answers))
+    subst (λ (n : ℕ). RoseBy n s.refusals s'.refusals) (sym (sum_by-append (λ (r : Result ℕ Fault). cond (is_io r) 1 0) (Err e ∷ []) answers))
     (more_rose (is_io {T = ℕ} (Err e)) (count_by is_io answers) s.refusals are.0.refusals s'.refusals are.1.counts (refused_rose folders p m b s.refusals are.0.refusals e are.1.cause) (batches_rose target_size folders p m batches answers are.0 s' are.2))
 
 -- an engine's write of the batches is answered as the operation

@@ -5,6 +5,8 @@ pub mod NumberLemmas
 pub mod ProgressLemmas
 pub mod StepsLemmas
 pub mod RunLemmas
+pub mod RefusalLemmas
 pub mod TrialLemmas
+pub mod TrialOpeningLemmas
 pub mod PassedLemmas
 pub mod PurgesLemmas

@@ -4,7 +4,7 @@ use Rattle.std.proofs.lemmas.Bool.{cases_Bool}
 use Rattle.raft_env.specs.Directory.{Directory, file_at}
 use Rattle.raft_env.specs.declared.env.FileSystem.{Ghosts}
 use Rattle.raft_queues.specs.Dual.{DualState}
-use Rattle.raft_queues.specs.PassedOver.{LeavesPassedOver, StayPassedOver}
+use Rattle.raft_queues.specs.PassedOver.{StayPassedOver}
 use Rattle.raft_log_engine.specs.Engine.{directory_of, has_failed}
 use Rattle.raft_log_engine.specs.declared.engine.Engine.{Engine}
 use Rattle.raft_script.specs.Durability.{PassesOver}

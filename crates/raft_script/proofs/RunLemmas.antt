@@ -5,7 +5,6 @@ use Rattle.std.proofs.lemmas.Bool.{cases_Bool}
 use Rattle.std.proofs.lemmas.List.{append-nil, nil_from_length}
 use Rattle.std.proofs.lemmas.List.Sums.{sum_by-append}
 use Rattle.std.proofs.Math.Seq.{take-suc}
-use Rattle.raft_env.specs.Refusal.{Refusals, StorageRefusalsRose}
 use Rattle.raft_records.specs.Contents.{Contents, after_batch, after_batches}
 use Rattle.raft_env.specs.declared.env.FileSystem.{Ghosts}
 use Rattle.raft_records.specs.Item.{Batch}
@@ -19,7 +18,8 @@ use Rattle.std.specs.declared.alloc.Global.{Global}
 use Rattle.raft_log_engine.specs.Cause as engine
 use Rattle.raft_log_engine.specs.Purge as purges
 use Rattle.raft_pipes.specs.PipeState.{HasLastNumber, PipeState}
-use Rattle.raft_pipes.specs.Queue.{IsFileRefusalIn, IsRefusalIn}
+use Rattle.raft_pipes.specs.Queue.{NamesLog}
+use Rattle.raft_env.specs.Refusal.{FailsAt, FailsCountedAt, Refusals, RoseBy}
 use Rattle.raft_log_engine.specs.Durability.{HasWritten}
 use Rattle.raft_log_engine.specs.Engine.{contents_of, has_failed, queue_of, refusals_of}
 use Rattle.raft_log_engine.specs.declared.engine.Engine.{Engine}
@@ -27,7 +27,7 @@ use Rattle.raft_held.specs.Contents.{known_from}
 use Rattle.raft_held.specs.Crash.{written_batch}
 use Rattle.raft_purge.specs.Unfit.{IsUnfit}
 use Rattle.raft_script.specs.Batches.{accepted_of, batch_of_acts, batches_of_parts, is_answered, items_of_act, of_both}
-use Rattle.raft_script.specs.Failure.{FailsBy, FailsFor, FailsInPurge, IsFailing, IsPurgeFailure, IsRenewalFailure, IsSteadyBy, IsStorageOrMemory, Refuses, StorageRefusalsRoseBy, io_count, io_in, is_io}
+use Rattle.raft_script.specs.Failure.{FailsBy, FailsFor, FailsInPurge, IsFailing, IsPurgeFailure, IsRenewalFailure, IsSteadyBy, IsStorageOrMemory, Refuses, io_count, io_in, is_io}
 use Rattle.raft_script.specs.Run.{AreBatchAnswers, IsAnswer, IsBatchRefusal, IsCompactRefusal, IsEngineRefusal, IsGetRefusal, IsOutOfNumbers, IsPurgeAnswer, IsRefusedPurge, IsTextRefusal, IsUnbuilt, IsWriteRefusal, IsWritten}
 use Rattle.raft_log_engine.specs.Reads.{IsEntryAnswer, IsEntryRefusalAt, IsGroupList, compact_count, entry_of}
 use Rattle.raft_script.specs.Entry.{IsTextOf, index_of}
@@ -144,7 +144,7 @@ module _ {F H R W : Type 0} {g : Ghosts F H R W} (acts : List Act) (items rest :
 
 -- .. and so is a compaction
 module _ (m n : Contents) (group index : ℕ) (failed : Bool) (folders : Folders) (old new : Refusals) (same : failed ≡ false → m ≡ n) where
-  engine_refusal : (e : Fault) → IsRefusalIn folders old new e → IsEngineRefusal e
+  engine_refusal : (e : Fault) → FailsAt (NamesLog folders) old new e → IsEngineRefusal e
   engine_refusal (fault.Io kind path) h = tt
   engine_refusal fault.Memory h = tt
   engine_refusal _ h = absurd h
@@ -169,7 +169,7 @@ module _ (m n : Contents) (group index : ℕ) (failed : Bool) (folders : Folders
 
   -- a read of an entry
   pub entry_answered : (result : Result (Option TextEntry) Fault) → IfOk result (IsEntryAnswer IsTextOf index_of index (entry_of n group index)) → ((result ≡ Err fault.Failed) ↔ (failed ≡ true))
-      → IfErr result (λ e. failed ≡ false → IsEntryRefusalAt IsTextOf index_of index (entry_of n group index) e ⊎ IsRefusalIn folders old new e)
+      → IfErr result (λ e. failed ≡ false → IsEntryRefusalAt IsTextOf index_of index (entry_of n group index) e ⊎ FailsAt (NamesLog folders) old new e)
       → MatchResult result (IsEntryAnswer IsTextOf index_of index (entry_of m group index)) (IsTextRefusal index (entry_of m group index))
   entry_answered (Ok found) is fails cause = elim (cases_Bool failed) [
     | inl gone ↦ absurd (let clash = fails.1 gone in cc)
@@ -192,8 +192,8 @@ module _ (m n : Contents) (group index : ℕ) (failed : Bool) (folders : Folders
   no_entry_again (Some bytes) told = told
 
   -- .. that storage fails is counted
-  pub entry_rose : (result : Result (Option TextEntry) Fault) → ((result ≡ Err fault.Failed) ↔ (failed ≡ true)) → IfErr result (λ e. failed ≡ false → IsEntryRefusalAt IsTextOf index_of index (entry_of n group index) e ⊎ IsRefusalIn folders old new e)
-      → is_io result ≡ true → StorageRefusalsRose old new
+  pub entry_rose : (result : Result (Option TextEntry) Fault) → ((result ≡ Err fault.Failed) ↔ (failed ≡ true)) → IfErr result (λ e. failed ≡ false → IsEntryRefusalAt IsTextOf index_of index (entry_of n group index) e ⊎ FailsAt (NamesLog folders) old new e)
+      → is_io result ≡ true → RoseBy 1 old new
   entry_rose (Ok found) fails cause io = absurd cc
   entry_rose (Err (fault.Io kind path)) fails cause io = elim (cases_Bool failed) [
     | inl gone ↦ absurd (let clash = fails.1 gone in cc)
@@ -234,7 +234,7 @@ compaction_fails P R Q failed fails folders p old new result ok told still cause
 
 -- .. and so a sync, which fails it where it isn't answered
 pub sync_fails : {T : Type 0} (failed fails : Bool) (folders : Folders) (old new : Refusals) (result : Result T Fault) → OnOk result (fails ≡ false) → OnErr result (fails ≡ true) → ((result ≡ Err fault.Failed) ↔ (failed ≡ true)) → (failed ≡ true → fails ≡ true)
-    → IfErr result (λ e. failed ≡ false → IsFileRefusalIn folders old new e) → FailsBy failed result fails (λ _. ⊥) × (is_ok result ≡ false → fails ≡ true)
+    → IfErr result (λ e. failed ≡ false → FailsCountedAt (NamesLog folders) old new e) → FailsBy failed result fails (λ _. ⊥) × (is_ok result ≡ false → fails ≡ true)
 sync_fails {T} failed fails folders old new result stands err told still cause = (
   record {
     still = still;
@@ -245,12 +245,12 @@ sync_fails {T} failed fails folders old new result stands err told still cause =
   ended result err,
 )
   where
-    by_fault : (e : Fault) → IsFileRefusalIn folders old new e → IsStorageOrMemory e
+    by_fault : (e : Fault) → FailsCountedAt (NamesLog folders) old new e → IsStorageOrMemory e
     by_fault (fault.Io kind text) h = tt
     by_fault fault.Memory h = tt
     by_fault _ h = absurd h
 
-    caused : (result : Result T Fault) → OnOk result (fails ≡ false) → IfErr result (λ e. failed ≡ false → IsFileRefusalIn folders old new e) → failed ≡ false → fails ≡ true → IsErrAnd result IsStorageOrMemory
+    caused : (result : Result T Fault) → OnOk result (fails ≡ false) → IfErr result (λ e. failed ≡ false → FailsCountedAt (NamesLog folders) old new e) → failed ≡ false → fails ≡ true → IsErrAnd result IsStorageOrMemory
     caused (Ok x) stands cause alive dies = absurd (let clash = sym dies ∙ stands in cc)
     caused (Err e) stands cause alive dies = by_fault e (cause alive)
 
@@ -283,10 +283,10 @@ module _ {T : Type 0} (x : Contents) (append rewrite : PipeState) (ends_open no_
       ]
 
   -- that storage fails is counted
-  pub purge_rose : is_io result ≡ true → StorageRefusalsRose old new
+  pub purge_rose : is_io result ≡ true → RoseBy 1 old new
   purge_rose io = by_result result told cause io
     where
-      by_result : (r : Result T Fault) → ((r ≡ Err fault.Failed) ↔ (failed ≡ true)) → (failed ≡ false → IfErr r IsCaused) → is_io r ≡ true → StorageRefusalsRose old new
+      by_result : (r : Result T Fault) → ((r ≡ Err fault.Failed) ↔ (failed ≡ true)) → (failed ≡ false → IfErr r IsCaused) → is_io r ≡ true → RoseBy 1 old new
       by_result (Ok count) told cause io = absurd cc
       by_result (Err (fault.Io kind path)) told cause io = elim (cases_Bool failed) [
         | inl gone ↦ absurd (let clash = told.1 gone in cc)
@@ -481,15 +481,15 @@ stands_so_far false = refl
 
 -- Storage's refusals.
 
-rose_in : (outcome : Outcome) (old new : Refusals) → Refuses outcome old new → StorageRefusalsRoseBy (io_in outcome) old new
+rose_in : (outcome : Outcome) (old new : Refusals) → Refuses outcome old new → RoseBy (io_in outcome) old new
 rose_in (Sizes (Ok answers)) old new refuses = refuses.1
 rose_in _ old new refuses = by_case _ refuses.1
   where
-    by_case : (b : Bool) → (b ≡ true → StorageRefusalsRose old new) → StorageRefusalsRoseBy (cond b 1 0) old new
+    by_case : (b : Bool) → (b ≡ true → RoseBy 1 old new) → RoseBy (cond b 1 0) old new
     by_case true rose = rose refl
     by_case false rose = omega (arith, refuses.0.0)
 
 -- one outcome more
-pub rose_more : (outcomes : List Outcome) (outcome : Outcome) (old mid new : Refusals) → StorageRefusalsRoseBy (io_count outcomes) old mid → Refuses outcome mid new → StorageRefusalsRoseBy (io_count (outcomes ++ outcome ∷ [])) old new
+pub rose_more : (outcomes : List Outcome) (outcome : Outcome) (old mid new : Refusals) → RoseBy (io_count outcomes) old mid → Refuses outcome mid new → RoseBy (io_count (outcomes ++ outcome ∷ [])) old new
 rose_more outcomes outcome old mid new so_far refuses =
-    subst (λ (n : ℕ). StorageRefusalsRoseBy n old new) (sym (sum_by-append io_in outcomes (outcome ∷ []))) (let more = rose_in outcome mid new refuses in omega (arith, so_far, more))
+    subst (λ (n : ℕ). RoseBy n old new) (sym (sum_by-append io_in outcomes (outcome ∷ []))) (let more = rose_in outcome mid new refuses in omega (arith, so_far, more))

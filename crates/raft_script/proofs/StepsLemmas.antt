@@ -24,7 +24,7 @@ use Rattle.raft_script.specs.Headline.{IsAllowedInside, Leads, LeavesBetween, Le
 use Rattle.raft_script.specs.Failure.{IsFailing}
 use Rattle.raft_script.specs.declared.operation.Op.{Op}
 use Rattle.raft_script.specs.declared.operation.Outcome.{Outcome}
-use Rattle.raft_script.proofs.ProgressLemmas.{rests}
+use Rattle.raft_log_engine.proofs.ProgressLemmas.{rests}
 use Rattle.raft_script.proofs.RunLemmas.{IsNextPlace, stands_answered}
 
 -- Where an engine failed.
@@ -276,7 +276,7 @@ module _ {F H R W : Type 0} {g : Ghosts F H R W} (old new : Engine F H R W g) (o
     flight = [];
     may_be = ∣ ([], refl) ∣₁;
     progress = subst (λ (l : List Batch). Progresses l (is_covering op outcome) [] (durability_of old) (durability_of new)) (sym none)
-        (subst (λ (covers : Bool). Progresses [] covers [] (durability_of old) (durability_of new)) (sym covers_none) (subst (λ (d : Durability). Progresses [] false [] (durability_of old) d) (sym read.state) (rests (durability_of old))));
+        (subst (λ (covers : Bool). Progresses [] covers [] (durability_of old) (durability_of new)) (sym covers_none) (subst (λ (d : Durability). Progresses [] false [] (durability_of old) d) (sym read.state) (rests (durability_of old) [])));
     moments = λ alive. ([], read.moments, tt);
     rests = λ gone. read.moments;
   }

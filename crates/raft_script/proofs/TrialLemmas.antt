@@ -1,5 +1,5 @@
 -- What a trial's crash leaves, and what its opening finds.
-use Rattle.std.proofs.Common.{◌≡◌, ◌⊎◌, ⊎_elim, inl, inr, ℕ, false, true, List, [], ◌∷◌, ◌++◌, Option, Some, None, refl, sym, ap, subst, ◌∙◌}
+use Rattle.std.proofs.Common.{◌≡◌, ◌⊎◌, ⊎_elim, inl, inr, ℕ, false, true, List, [], ◌∷◌, ◌++◌, Option, Some, None, arith, refl, sym, ap, subst, ◌∙◌}
 use Rattle.std.specs.Prelude.{Bool, IsSome, IfOk, IfErr, Result, Ok, Err, filter, is_some, map, option_map}
 use Rattle.std.specs.FinMap.{get-empty}
 use Rattle.std.specs.String.{string_bytes}
@@ -25,9 +25,10 @@ use Rattle.raft_tables.specs.Known.{known_in}
 use Rattle.raft_held.specs.Contents.{contents_at, known_at, recovered_groups}
 use Rattle.raft_base.specs.declared.pipe_log.LogQueue.{LogQueue}
 use Rattle.raft_base.specs.declared.pipe_log.LogQueue.TheVariants.{Append, Rewrite}
-use Rattle.raft_env.specs.Refusal.{Refusals}
+use Rattle.raft_env.specs.Refusal.{FailsAt, NoFewer, Refusals, RoseBy}
 use Rattle.raft_config.specs.Config.{IsCopy}
 use Rattle.raft_config.specs.Folders.{Folders, all_of, beside_main, folders_in}
+use Rattle.raft_config.specs.Sanitized.{IsContradiction}
 use Rattle.raft_config.specs.Recovery.{tolerates_corruption}
 use Rattle.raft_pipes.specs.Files.{EachFile, IsOpenableFile, is_last}
 use Rattle.raft_opening.specs.Files.{HasDamageAmong}
@@ -36,13 +37,13 @@ use Rattle.raft_opening.specs.LogFile.{IsDamage}
 use Rattle.raft_pipes.specs.LogFile.{IsOpenableLog}
 use Rattle.raft_pipes.specs.Numbered.{StandAlone, end_of_numbers, has_file, in_queue, last_run, path_of, paths_of}
 use Rattle.raft_opening.specs.Queue.{HasDamageOf, IsOpenRefusalOf}
-use Rattle.raft_pipes.specs.Queue.{IsOpenableOf, IsRefusalIn}
+use Rattle.raft_pipes.specs.Queue.{IsOpenableOf, NamesLog}
 use Rattle.raft_script.specs.Durability.{LeavesAllowedAfter, progress_after_all}
 use Rattle.raft_script.specs.Headline.{LeavesFrom, Progress, progress_from}
 use Rattle.raft_pipes.proofs.TakenLemmas.{one_free}
 use Rattle.raft_held.specs.Queues.{AreOpenableIn, AreSingleIn, IsOpeningRefusal, ReadCompletedRecordsIn}
-use Rattle.raft_script.specs.Failure.{IsStorageOrMemory}
-use Rattle.raft_script.specs.Trial.{HaveNoLogPath, IsLogRefusal, Ran, RunsOver, Shown}
+use Rattle.raft_script.specs.Failure.{IsStorageOrMemory, is_io}
+use Rattle.raft_script.specs.Trial.{HaveNoLogPath, IsLogRefusal, Ran, Reopens, RunsOver, Shown}
 use Rattle.raft_config.specs.declared.config.Config.{Config}
 use Rattle.raft_config.specs.declared.config.RecoveryMode.{RecoveryMode}
 use Rattle.raft_script.specs.declared.operation.Op.{Op}
@@ -167,10 +168,28 @@ refused_inside mode folders n old new e (queue, refused) clear single = by_fault
     by_fault _ refused = absurd refused
 
 -- what a read of an engine's image fails as
-pub read_fails : (folders : Folders) (old new : Refusals) (e : Fault) → IsRefusalIn folders old new e → IsStorageOrMemory e
+pub read_fails : (folders : Folders) (old new : Refusals) (e : Fault) → FailsAt (NamesLog folders) old new e → IsStorageOrMemory e
 read_fails folders old new (fault.Io kind text) refused = tt
 read_fails folders old new fault.Memory refused = tt
 read_fails folders old new _ refused = absurd refused
+
+-- .. and what answers `Io` storage counted
+pub read_rose : (folders : Folders) (old mid new : Refusals) (result : Result Image Fault) → NoFewer old mid → IfErr result (FailsAt (NamesLog folders) mid new) → is_io result ≡ true → RoseBy 1 old new
+read_rose folders old mid new (Ok image) before refused io = let clash = io in absurd cc
+read_rose folders old mid new (Err (fault.Io kind text)) before refused io = let rose = refused.0 in omega (arith, before.0, rose)
+read_rose folders old mid new (Err fault.Memory) before refused io = let clash = io in absurd cc
+read_rose folders old mid new (Err _) before refused io = absurd refused
+
+pub opening_rose : (config : Config) (n : Directory) (old new : Refusals) (e : Fault) → IsContradiction config e ⊎ IsOpeningRefusal config.recovery_mode (folders_in config) n old new e → is_io {T = Image} (Err e) ≡ true → RoseBy 1 old new
+opening_rose config n old new (fault.Io kind text) (inl against) io = absurd against
+opening_rose config n old new (fault.Io kind text) (inr (queue, refused)) io = refused.0
+opening_rose config n old new fault.TryAgain (inl against) io = absurd against
+opening_rose config n old new fault.TryAgain (inr (queue, refused)) io = absurd refused
+opening_rose config n old new _ refused io = let clash = io in absurd cc
+
+-- as it is said of a copy of the settings
+pub reopens_same : {F : Type 0} {directory : F → Directory} {moments : F → List Directory} {refusals_of : F → Refusals} (dir folders : Folders) (found left : F) (opened : Result Image Fault) → dir ≡ folders → Reopens directory moments refusals_of dir found left opened → Reopens directory moments refusals_of folders found left opened
+reopens_same {F} {directory} {moments} {refusals_of} dir folders found left opened same reopens = subst (λ (p : Folders). Reopens directory moments refusals_of p found left opened) same reopens
 
 pub opened_outside : (mode again : RecoveryMode) (folders dir : Folders) (m : Directory) (opened : Result Image Fault) → again ≡ mode → dir ≡ folders → AreOpenableIn mode folders m → AreClear folders m → AreSingleIn folders m
     → IfErr opened (λ e. AreOpenableIn again dir m → AreClear dir m → AreSingleIn dir m → IsStorageOrMemory e) → IfErr opened IsStorageOrMemory

@@ -1,9 +1,9 @@
 -- When operations fail an engine, and which refusals storage counts.
-use Rattle.std.specs.Prelude.{◌≡◌, ◌⊎◌, ℕ, ◌+◌, ◌-◌, ◌^◌, ◌≤◌, min, Bool, true, false, List, Result, Ok, Err, is_ok, IsErrAnd, cond}
+use Rattle.std.specs.Prelude.{◌≡◌, ◌⊎◌, ℕ, Bool, true, false, List, Result, Ok, Err, is_ok, IsErrAnd, cond}
 use Rattle.std.specs.List.{count_by, sum_by}
 use Rattle.raft_base.specs.declared.errors.Fault.{Fault}
 use Rattle.raft_base.specs.declared.errors.Fault.TheVariants as fault
-use Rattle.raft_env.specs.Refusal.{NoFewer, Refusals, StorageRefusalsRose}
+use Rattle.raft_env.specs.Refusal.{NoFewer, Refusals, RoseBy}
 use Rattle.raft_script.specs.Run.{IsUnbuilt, IsUnbuiltGroup}
 use Rattle.raft_script.specs.declared.operation.Op.{Op}
 use Rattle.raft_script.specs.declared.operation.Op.TheVariants as operation
@@ -106,14 +106,10 @@ io_in outcome = cond (is_refused_by_storage outcome) 1 0
 abbrev pub io_count : List Outcome → ℕ
 io_count outcomes = sum_by io_in outcomes
 
--- storage's count rose by so many at least, or it is full
-abbrev pub StorageRefusalsRoseBy : ℕ → Refusals → Refusals → Type 0
-StorageRefusalsRoseBy count old new = min (old.storage + count) (2 ^ 64 - 1) ≤ new.storage
-
 -- storage's count rose where the operation failed in it, by as many as the batches of a group that
 -- did, and no count fell
 abbrev pub Refuses : Outcome → Refusals → Refusals → Type 0
 Refuses (Sizes (Ok answers)) old new =
-    NoFewer old new × StorageRefusalsRoseBy (count_by is_io answers.items) old new
+    NoFewer old new × RoseBy (count_by is_io answers.items) old new
 Refuses outcome old new = NoFewer old new × (is_refused_by_storage outcome ≡ true
-    → StorageRefusalsRose old new)
+    → RoseBy 1 old new)

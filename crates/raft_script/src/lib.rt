@@ -11,4 +11,4 @@ pub use number::number_of;
 pub use operation::{Act, Op, Outcome, Trial};
 pub use runs::{run, step};
 pub use text_entry::{TextEntry, entries_between};
-pub use trials::{a_folder_alone_has_no_log_path, trial};
+pub use trials::{a_folder_alone_has_no_log_path, trial, trial_twice};

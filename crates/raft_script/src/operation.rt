@@ -75,6 +75,9 @@ pub struct Trial {
     pub failed_at: Option<usize>,
     /// Why the first opening failed, if it did.
     pub refused: Option<Fault>,
-    /// What the opening after the crash found.
+    /// What an opening found that came between two crashes, and was given up; of one crash alone there
+    /// is none.
+    pub second: Option<Result<Image, Fault>>,
+    /// What the opening after the last crash found.
     pub opened: Result<Image, Fault>,
 }

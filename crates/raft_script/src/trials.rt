@@ -12,7 +12,7 @@ ghost use Rattle.raft_held.specs.Crash.{RecoversContents};
 ghost use Rattle.raft_pipes.specs.Folder.{AreClear};
 ghost use Rattle.raft_held.specs.Queues.{AreOpenableIn, AreSingleIn, ReadCompletedRecordsIn};
 ghost use Rattle.raft_script.specs.Failure.{IsStorageOrMemory};
-ghost use Rattle.raft_script.specs.Trial.{AreNotAllowed, FailsAtStop, HaveNoLogPath, IsLogRefusal, IsTrialOf, LeavesDetectable, Ran, RunsOver, Shown};
+ghost use Rattle.raft_script.specs.Trial.{AreNotAllowed, AreNotAllowedAgain, FailsAtStop, HaveNoLogPath, IsCrashOf, IsLogRefusal, IsTrialOf, IsTrialTwiceOf, LeavesDetectable, LeavesSound, Ran, Reopens, RunsOver, Shown};
 
 use crate::operation::{Op, Trial};
 use crate::runs::{RunReport, crash_is_said_of_files, run_watched};
@@ -27,7 +27,8 @@ use std::alloc::Global;
 
 /// Opens a log in memory, does the operations, crashes, and opens again. From the first opening on
 /// the calls that may change files are counted from 1, and from the one at `stop` on each fails;
-/// the opening after the crash has no stop. Where the first opening fails no operation is done,
+/// the opening after the crash has no stop, and at each moment of it the folders keep what they
+/// kept. Where the first opening fails no operation is done,
 /// and the trial says why: settings contradict one another, a storage call failed, or memory was
 /// wanting. The choices say what the crash leaves; bytes that storage doesn't allow are refused,
 /// and no others. Where the damage of what the crash leaves is detectable, a tolerant opening
@@ -46,8 +47,75 @@ pub fn trial(
     stop: Option<u64>,
     choices: &[Choice],
 ) -> Result<Trial, Fault>
+    ensures value { IfOk result (IsTrialOf config ops.now stop choices.now) }
+    ensures cause { IfErr result (λ e. (e ≡ Fault.Memory)
+        ⊎ ((fault_code e ≡ 1) × (NameNoBytes choices.now → ⊥)
+        × AreNotAllowed config ops.now stop choices.now)) }
+{
+    let again = config.clone()?;
+    let (ran, refused, left) = crashed(alloc, config, ops, stop, choices)?;
+    let (opened, _) = open_and_give_up(alloc, again, left);
+    Ok(Trial {
+        outcomes: ran.outcomes,
+        failed_at: ran.failed_at,
+        refused,
+        second: None,
+        opened,
+    })
+}
+
+/// As `trial`, but the opening after the crash is given up: from the call at `again` on, counted from
+/// 1, each of its calls that may change files fails. Then the files crash by `more`, and the last
+/// opening, which has no stop, tells what they hold. Where the damage of both crashes is
+/// detectable, that is what the first crash left: recovery may be broken off anywhere and loses
+/// nothing.
+pub fn trial_twice(
+    alloc: Global,
+    config: Config,
+    ops: &[Op],
+    stop: Option<u64>,
+    choices: &[Choice],
+    again: Option<u64>,
+    more: &[Choice],
+) -> Result<Trial, Fault>
     ensures value { IfOk result
-        (IsTrialOf config ops.now stop choices.now) }
+        (IsTrialTwiceOf config ops.now stop choices.now again more.now) }
+    ensures cause { IfErr result (λ e. (e ≡ Fault.Memory)
+        ⊎ ((fault_code e ≡ 1) × (NameNoBytes choices.now → ⊥)
+        × AreNotAllowed config ops.now stop choices.now)
+        ⊎ ((fault_code e ≡ 1) × (NameNoBytes more.now → ⊥)
+        × AreNotAllowedAgain config ops.now stop choices.now again more.now)) }
+{
+    crash_leaves_contents();
+    premise_can_be_met();
+    let second = config.clone()?;
+    let last = config.clone()?;
+    let (ran, refused, first) = crashed(alloc, config, ops, stop, choices)?;
+    let (image, files) = open_and_give_up(alloc, second, stopped(first, again));
+    let left = files.crash(more)?;
+    let (opened, _) = open_and_give_up(alloc, last, left);
+    Ok(Trial {
+        outcomes: ran.outcomes,
+        failed_at: ran.failed_at,
+        refused,
+        second: Some(image),
+        opened,
+    })
+}
+
+// Opens the log over new files, does the operations, and crashes.
+fn crashed(
+    alloc: Global,
+    config: Config,
+    ops: &[Op],
+    stop: Option<u64>,
+    choices: &[Choice],
+) -> Result<(RunReport, Option<Fault>, MemoryFileSystem), Fault>
+    ensures value { IfOk result (λ r. let ran : Ran = record {
+      outcomes = r.0.outcomes.items;
+      failed_at = r.0.failed_at;
+      refused = r.1;
+    } in IsCrashOf config ops.now stop choices.now ran r.2) }
     ensures cause { IfErr result (λ e. (e ≡ Fault.Memory)
         ⊎ ((fault_code e ≡ 1) × (NameNoBytes choices.now → ⊥)
         × AreNotAllowed config ops.now stop choices.now)) }
@@ -56,15 +124,9 @@ pub fn trial(
     crash_leaves_a_prefix();
     crash_leaves_contents();
     premise_can_be_met();
-    let again = config.clone()?;
     let (ran, refused, files) = run_over(alloc, config, new_files(alloc, stop), ops)?;
     let left = files.crash(choices)?;
-    Ok(Trial {
-        outcomes: ran.outcomes,
-        failed_at: ran.failed_at,
-        refused,
-        opened: open_image(alloc, again, left),
-    })
+    Ok((ran, refused, left))
 }
 
 /// A folder alone hasn't the path of a log file or of a reserved one: of it all that is said of a
@@ -78,7 +140,15 @@ fn new_files(alloc: Global, stop: Option<u64>) -> MemoryFileSystem
     ensures any_moment { memory_moments result ≡ no_files ∷ [] }
     ensures stop { FailsAtStop stop result }
 {
-    let mut files = MemoryFileSystem::new(alloc);
+    stopped(MemoryFileSystem::new(alloc), stop)
+}
+
+// The files with a stop, where one is given.
+fn stopped(mut files: MemoryFileSystem, stop: Option<u64>) -> MemoryFileSystem
+    ensures unchanged { memory_directory result ≡ memory_directory files }
+    ensures any_moment { memory_moments result ≡ memory_moments files }
+    ensures stop { FailsAtStop None files → FailsAtStop stop result }
+{
     if let Some(nth) = stop {
         files.stop_at(nth);
     }
@@ -116,6 +186,9 @@ fn run_over<F: FileSystem + Drop>(
     ensures crash { IfOk result (λ r.
         ReadCompletedRecordsIn (folders_in config) (F.directory files) → r.1 ≡ None
         → r.0.failed_at ≡ None → LeavesDetectable (folders_in config) (F.directory r.2)) }
+    ensures sound { IfOk result (λ r. let dir = folders_in config in
+        RecoversContents dir (contents_at dir (F.directory files)) [] (F.directory files)
+        → LeavesSound dir (F.directory r.2)) }
     ensures any_moment { IfOk result (λ r.
         (added : List Directory) × (F.moments r.2 ≡ added ++ F.moments files)) }
     ensures cause { IfErr result (λ e. e ≡ Fault.Memory) }
@@ -138,19 +211,29 @@ fn run_over<F: FileSystem + Drop>(
     }
 }
 
-fn open_image<F: FileSystem + Drop>(alloc: Global, config: Config, files: F) -> Result<Image, Fault>
-    ensures value { IfOk result (λ image.
+// What an opening finds, and the files as it left them.
+fn open_and_give_up<F: FileSystem + Drop>(
+    alloc: Global,
+    config: Config,
+    files: F,
+) -> (Result<Image, Fault>, F)
+    ensures value { IfOk result.0 (λ image.
         IsImageOf image.groups.items (contents_at (folders_in config) (F.directory files))) }
-    ensures refused { contradiction config ≡ None → IfErr result (λ e.
+    ensures refused { contradiction config ≡ None → IfErr result.0 (λ e.
         AreOpenableIn config.recovery_mode (folders_in config) (F.directory files)
         → AreClear (folders_in config) (F.directory files)
         → AreSingleIn (folders_in config) (F.directory files) → IsStorageOrMemory e) }
-    ensures cause { IfErr result (λ e. AreClear (folders_in config) (F.directory files)
+    ensures cause { IfErr result.0 (λ e. AreClear (folders_in config) (F.directory files)
         → AreSingleIn (folders_in config) (F.directory files) → IsContradiction config e
         ⊎ IsLogRefusal config.recovery_mode (folders_in config) (F.directory files) e) }
+    ensures any_moment { Reopens F.directory F.moments F.refusals_of (folders_in config) files
+        result.1 result.0 }
 {
     match Engine::open_in_order(alloc, config, files) {
-        Ok(mut engine) => engine.image(),
-        Err(refused) => Err(refused.fault),
+        Ok(mut engine) => {
+            let found = engine.image();
+            (found, engine.give_up())
+        }
+        Err(refused) => (Err(refused.fault), refused.file_system),
     }
 }

@@ -1,5 +1,6 @@
 //! Calls of the engine, with all that it says of each in one relation.
-ghost use Rattle.raft_shared.specs.Calls.{IsGet, IsSync, IsWrite};
+ghost use Rattle.raft_log_engine.specs.Calls.{IsSync, IsWrite};
+ghost use Rattle.raft_shared.specs.Calls.{IsGet};
 
 use raft_log_engine::{Engine, Fault, FileSystem, LogBatch};
 

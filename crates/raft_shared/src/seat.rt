@@ -38,7 +38,7 @@ impl Seat {
 
     pub(crate) fn make_room(&mut self) -> Result<(), Fault>
         ensures ok { OnOk result (vec_len self.new.receipts < vec_capacity self.new.receipts) }
-        ensures same { (self.new.number ≡ self.old.number)
+        ensures unchanged { (self.new.number ≡ self.old.number)
             × (self.new.receipts.items ≡ self.old.receipts.items) }
         ensures cause { IfErr result (λ fault. fault ≡ Fault.Memory) }
     {
@@ -48,7 +48,7 @@ impl Seat {
 
     pub(crate) fn add(&mut self, receipt: Receipt)
         requires { vec_len self.old.receipts < vec_capacity self.old.receipts }
-        ensures same { self.new.number ≡ self.old.number }
+        ensures unchanged { self.new.number ≡ self.old.number }
         ensures value { self.new.receipts.items ≡ self.old.receipts.items ++ receipt ∷ [] }
     {
         let Ok(()) = self.receipts.push(receipt) else {

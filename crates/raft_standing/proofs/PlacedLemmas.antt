@@ -1,12 +1,12 @@
 -- The items of a record stand in the file of its block.
-use Rattle.std.proofs.Common.{◌≡◌, ℕ, ◌+◌, ◌&&◌, Bool, true, List, [], ◌∷◌, length, Option, Some, refl, sym, ◌∙◌, ap, subst}
+use Rattle.std.proofs.Common.{◌≡◌, ℕ, ◌+◌, ◌&&◌, true, List, [], ◌∷◌, length, Some, refl, ◌∙◌, ap}
 use Rattle.std.specs.List.{AllByRecursion as Each, list_all}
 use Rattle.raft_base.specs.declared.pipe_log.FileBlockHandle.{FileBlockHandle}
 use Rattle.raft_base.specs.declared.pipe_log.LogQueue.TheVariants.{Rewrite}
 use Rattle.raft_records.specs.FileBatches.{AreInFile, IsInFile}
 use Rattle.raft_records.specs.Item.{Batch, Content, Entries, Entry, Clean, Compact, Put, Delete}
 use Rattle.raft_records.specs.Layout.{place_content, place_entries, place_items}
-use Rattle.raft_records.specs.PlacedItem.{PlacedItem, are_all_placed}
+use Rattle.raft_records.specs.PlacedItem.{are_all_placed}
 use Rattle.raft_records.specs.Record.{entry_bytes_of}
 use Rattle.raft_tables.specs.Counters.{is_rewrite, is_rewritten}
 

@@ -1,5 +1,5 @@
 -- What holds of the tables and the marks that are owed, in terms of both queues.
-use Rattle.std.specs.Prelude.{◌≡◌, ◌^◌, ◌-◌, List, [], ◌++◌}
+use Rattle.std.specs.Prelude.{◌≡◌, ◌^◌, ◌-◌, List, ◌++◌}
 use Rattle.raft_records.specs.FileBatches.{FileBatch, batches_of}
 use Rattle.raft_records.specs.Places.{Blocks}
 use Rattle.raft_recovery.specs.Bounds.{AreItemsBelow}

@@ -140,12 +140,13 @@ fn refuse_one(
     wanted: &[Outcome],
     call: FsCall,
     nth: u64,
+    kind: IoKind,
 ) -> Result<bool, Fail> {
     let mut files = new_files(alloc, sittings)?;
-    files.refuse(call, nth, IoKind::Other)?;
+    files.refuse(call, nth, kind)?;
     let (ran, files) = sit_twice(alloc, files, sittings)?;
     begin_as_wanted(rt, &ran.outcomes, wanted);
-    are_answers(rt, &sittings.all, &ran.outcomes, IoKind::Other);
+    are_answers(rt, &sittings.all, &ran.outcomes, kind);
     if is_done_without(call) {
         assert_eq!(rt; ran.outcomes.len(), wanted.len(), "{call:?} {nth}");
         assert!(rt; ran.outcomes.iter().all(is_done), "{call:?} {nth}");
@@ -156,16 +157,16 @@ fn refuse_one(
     Ok(files.refusals() > 0)
 }
 
-fn refuse_each(rt: &impl Abort, alloc: Global, folders: Folders) -> Result<(), Fail> {
+fn refuse_each(rt: &impl Abort, alloc: Global, folders: Folders, kind: IoKind) -> Result<(), Fail> {
     let sittings = both_sittings(alloc, folders)?;
     let (wanted, _) = sit_twice(alloc, new_files(alloc, &sittings)?, &sittings)?;
     assert_eq!(rt; wanted.outcomes.len(), sittings.all.len());
     assert!(rt; wanted.outcomes.iter().all(is_done));
     for call in CALLS {
-        let mut met = refuse_one(rt, alloc, &sittings, &wanted.outcomes, call, 1)?;
+        let mut met = refuse_one(rt, alloc, &sittings, &wanted.outcomes, call, 1, kind)?;
         assert!(rt; met || matches!(folders, Folders::One), "{call:?}");
         for nth in 2..MAX_CALLS {
-            met = met && refuse_one(rt, alloc, &sittings, &wanted.outcomes, call, nth)?;
+            met = met && refuse_one(rt, alloc, &sittings, &wanted.outcomes, call, nth, kind)?;
         }
         assert!(rt; !met);
     }
@@ -174,10 +175,20 @@ fn refuse_each(rt: &impl Abort, alloc: Global, folders: Folders) -> Result<(), F
 
 #[test]
 fn each_call_of_recycling_may_be_refused(rt: HostRuntime) -> Result<(), Fail> {
-    refuse_each(&rt, rt.alloc(), Folders::One)
+    refuse_each(&rt, rt.alloc(), Folders::One, IoKind::Other)
 }
 
 #[test]
 fn each_call_of_recycling_in_two_folders_may_be_refused(rt: HostRuntime) -> Result<(), Fail> {
-    refuse_each(&rt, rt.alloc(), Folders::Two)
+    refuse_each(&rt, rt.alloc(), Folders::Two, IoKind::Other)
+}
+
+#[test]
+fn each_call_of_recycling_in_two_folders_may_find_nothing(rt: HostRuntime) -> Result<(), Fail> {
+    refuse_each(&rt, rt.alloc(), Folders::Two, IoKind::NotFound)
+}
+
+#[test]
+fn each_call_of_recycling_in_two_folders_may_find_no_space(rt: HostRuntime) -> Result<(), Fail> {
+    refuse_each(&rt, rt.alloc(), Folders::Two, IoKind::NoSpace)
 }

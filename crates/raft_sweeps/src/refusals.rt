@@ -7,8 +7,8 @@ use raft_memory::{FsCall, MemoryFileSystem};
 use raft_records::Fault;
 use raft_script::{Op, Outcome, run};
 use raft_test_rows::{
-    EXPIRED, Left, MAX_FILES, OPERATIONS, PURGES, Plan, State, choices_of, fault_of, first_refused,
-    is_allowed, is_done, ops_of, settings, state_of,
+    Change, EXPIRED, Left, MAX_FILES, OPERATIONS, PURGES, Plan, State, choices_of, fault_of,
+    first_refused, is_allowed, is_done, ops_of, settings, state_of,
 };
 use std::alloc::Global;
 use std::process::Abort;
@@ -143,12 +143,12 @@ fn each_call_may_be_refused(rt: HostRuntime) -> Result<(), Fail> {
 
 #[test]
 fn each_call_of_purges_may_be_refused(rt: HostRuntime) -> Result<(), Fail> {
-    refuse_each(&rt, rt.alloc(), &PURGES, &[IoKind::Other])
+    refuse_each(&rt, rt.alloc(), &PURGES, &[IoKind::NotFound, IoKind::Other])
 }
 
 #[test]
 fn each_call_of_purges_by_watermarks_may_be_refused(rt: HostRuntime) -> Result<(), Fail> {
-    refuse_each(&rt, rt.alloc(), &EXPIRED, &[IoKind::Other])
+    refuse_each(&rt, rt.alloc(), &EXPIRED, &KINDS)
 }
 
 #[test]
@@ -186,6 +186,28 @@ fn lose_nothing(rt: &impl Abort, alloc: Global, plans: &[Plan]) -> Result<(), Fa
         );
     }
     Ok(())
+}
+
+/// Groups of batches that go to next files.
+const GROUPED: [Plan; 3] = [
+    Plan::WriteGroup(&[
+        (&[Change::Put(1, b"a", &[1; 500])], false),
+        (&[Change::Entries(3, 1, 3, b"x")], true),
+        (&[Change::Put(2, b"c", &[2; 500])], false),
+    ]),
+    Plan::WriteGroup(&[
+        (&[Change::Entries(3, 2, 4, b"y")], false),
+        (
+            &[Change::Delete(1, b"a"), Change::Put(2, b"d", &[3; 500])],
+            false,
+        ),
+    ]),
+    Plan::Groups,
+];
+
+#[test]
+fn groups_without_memory_lose_nothing(rt: HostRuntime) -> Result<(), Fail> {
+    lose_nothing(&rt, rt.alloc(), &GROUPED)
 }
 
 #[test]

@@ -1,7 +1,7 @@
 //! Trials: operations, a crash and an opening in one call.
 
 use raft_records::Fault;
-use raft_script::{Trial, trial};
+use raft_script::{Trial, trial, trial_twice};
 use raft_test_rows::{
     Answer, Change, EMPTY, Left, Plan, State, are_answers, choice_of, ops_of, settings, state_of,
 };
@@ -150,6 +150,52 @@ fn trial_really_crashes(rt: HostRuntime) {
             "{:?} {:?}",
             case.1,
             case.4
+        );
+    }
+}
+
+/// What the first crash is to leave, a stop of the opening after it, what the second is to leave, and what is found.
+struct Twice(Left, Option<u64>, Left, State);
+
+const TWICE: [Twice; 5] = [
+    Twice(Left::Synced, None, Left::All, FIRST),
+    Twice(Left::All, None, Left::Synced, BOTH),
+    Twice(Left::All, Some(1), Left::All, BOTH),
+    Twice(Left::Torn(1, 0), Some(1), Left::Synced, FIRST),
+    Twice(Left::Torn(1, 255), Some(2), Left::All, FIRST),
+];
+
+fn holds_twice(alloc: Global, case: &Twice) -> Result<bool, Fault> {
+    let Twice(left, again, more, found) = case;
+    let ops = ops_of(alloc, &PLANS)?;
+    let first = choice_of(alloc, left)?;
+    let second = choice_of(alloc, more)?;
+    let shown = trial_twice(
+        alloc,
+        settings(alloc)?,
+        &ops,
+        None,
+        &[first],
+        *again,
+        &[second],
+    )?;
+    let is_second = match &shown.second {
+        Some(Ok(image)) => again.is_none() && state_of(image) == *found,
+        Some(Err(_)) => again.is_some(),
+        None => false,
+    };
+    Ok(is_second && finds(&shown, *found))
+}
+
+#[test]
+fn trial_really_crashes_twice(rt: HostRuntime) {
+    for case in &TWICE {
+        assert_eq!(rt;
+            holds_twice(rt.alloc(), case),
+            Ok(true),
+            "{:?} {:?}",
+            case.1,
+            case.3
         );
     }
 }

@@ -1,4 +1,5 @@
 pub mod EntryTable
+pub mod KeyHash
 pub mod Table
 pub mod Known
 pub mod Tables

@@ -6,6 +6,7 @@ pub mod entries;
 pub mod group_ids;
 mod growing;
 mod joining;
+pub mod key_hash;
 mod leaving;
 pub mod memtable;
 pub mod memtables;

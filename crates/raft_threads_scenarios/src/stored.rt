@@ -1,10 +1,11 @@
 //! Log files that the tests of workers read.
 
 use raft_config::{Config, RecoveryMode};
-use raft_env::{FileSystem, FsFault};
+use raft_env::FileSystem;
 use raft_files::FileNameExt;
 use raft_queues::DualPipesBuilder;
 use raft_records::{Fault, FileId, Fresh, LogBatch, LogFileContext, LogQueue, Version};
+use raft_rows::store;
 use std::alloc::Global;
 
 /// That of a file in version 2.
@@ -16,26 +17,20 @@ const TORN: &[u8] = &[7; 5];
 
 const FOLDER: &str = "data";
 
-fn write<F: FileSystem>(fs: &mut F, path: &str, parts: &[&[u8]]) -> Result<(), FsFault> {
-    let handle = fs.create(path)?;
-    let mut writer = fs.new_writer(&handle)?;
-    let mut at = 0;
-    for part in parts {
-        fs.write(&mut writer, at, part)?;
-        at = at.saturating_add(part.len());
-    }
-    Ok(())
-}
-
 // A file of one batch, which puts this key, and of bytes that can't be read.
-fn store<F: FileSystem>(alloc: Global, fs: &mut F, queue: LogQueue, key: u8) -> Result<(), Fault> {
+fn store_key<F: FileSystem>(
+    alloc: Global,
+    fs: &mut F,
+    queue: LogQueue,
+    key: u8,
+) -> Result<(), Fault> {
     let id = FileId::new(queue, u64::from(key));
     let mut batch = LogBatch::new(alloc);
     batch.put(1, vec![in alloc; key]?, Vec::new(alloc))?;
     batch.finish_populate()?;
     batch.prepare_write(&LogFileContext::new(id, Version::V2));
     let path = id.build_file_path(alloc, FOLDER)?;
-    match write(fs, path.as_str(), &[HEADER, batch.encoded_bytes(), TORN]) {
+    match store(fs, path.as_str(), &[HEADER, batch.encoded_bytes(), TORN]) {
         Ok(()) => Ok(()),
         Err(fault) => Err(fault.with_path(alloc, path.as_str())),
     }
@@ -54,10 +49,10 @@ pub(crate) fn store_both<F: FileSystem>(
         Err(fault) => return Err(fault.with_path(alloc, FOLDER)),
     }
     for key in 1..append.saturating_add(1) {
-        store(alloc, fs, LogQueue::Append, key)?;
+        store_key(alloc, fs, LogQueue::Append, key)?;
     }
     for key in 1..rewrite.saturating_add(1) {
-        store(alloc, fs, LogQueue::Rewrite, key)?;
+        store_key(alloc, fs, LogQueue::Rewrite, key)?;
     }
     Ok(())
 }

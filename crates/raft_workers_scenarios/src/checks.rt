@@ -1,8 +1,9 @@
 //! The holes in the log files of a folder.
 
 use raft_consistency::{consistency_check, consistency_check_with_file_system};
-use raft_env::{FileSystem, FsFault};
+use raft_env::FileSystem;
 use raft_memory::MemoryFileSystem;
+use raft_rows::store_in;
 use std::alloc::Global;
 use std::test::Fail;
 
@@ -105,29 +106,13 @@ static CASES: [Case; 7] = [
     },
 ];
 
-pub(crate) fn store<F: FileSystem>(
-    files: &mut F,
-    path: &str,
-    parts: &[&[u8]],
-) -> Result<(), FsFault> {
-    files.make_dir("data")?;
-    let handle = files.create(path)?;
-    let mut writer = files.new_writer(&handle)?;
-    let mut at = 0;
-    for part in parts {
-        files.write(&mut writer, at, part)?;
-        at = at.saturating_add(part.len());
-    }
-    Ok(())
-}
-
 fn is_as_said<F: FileSystem + Drop>(
     alloc: Global,
     mut files: F,
     case: &Case,
 ) -> Result<bool, Fail> {
     for (path, parts) in case.stored {
-        store(&mut files, path, parts)?;
+        store_in(&mut files, "data", path, parts)?;
     }
     let found = consistency_check_with_file_system(alloc, case.path, files);
     Ok(match (found, &case.wanted) {
@@ -141,7 +126,7 @@ fn is_as_said<F: FileSystem + Drop>(
 fn is_found_in_memory(alloc: Global, case: &Case) -> Result<bool, Fail> {
     let mut files = MemoryFileSystem::new(alloc);
     for (path, parts) in case.stored {
-        store(&mut files, path, parts)?;
+        store_in(&mut files, "data", path, parts)?;
     }
     Ok(
         match (consistency_check(alloc, case.path, files), &case.wanted) {

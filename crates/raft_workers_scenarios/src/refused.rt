@@ -1,10 +1,11 @@
 //! Checks of a folder's entries in which a call on the files fails.
 
-use crate::checks::{APPEND_1, APPEND_2, APPEND_3, Stored, store};
+use crate::checks::{APPEND_1, APPEND_2, APPEND_3, Stored};
 use raft_consistency::consistency_check_with_file_system;
 use raft_env::{FileSystem, IoKind};
 use raft_memory::{FsCall, MemoryFileSystem};
 use raft_records::Fault;
+use raft_rows::store_in;
 use std::alloc::Global;
 use std::test::Fail;
 
@@ -48,7 +49,7 @@ const MANY: u64 = 50;
 
 fn store_all<F: FileSystem>(alloc: Global, fs: &mut F) -> Result<(), Fault> {
     for (path, parts) in FILES {
-        if let Err(fault) = store(fs, path, parts) {
+        if let Err(fault) = store_in(fs, "data", path, parts) {
             return Err(fault.with_path(alloc, path));
         }
     }

@@ -1,16 +1,14 @@
 //! Workloads of entries: consecutive indexes from 1 on, in 100 groups.
-ghost use Rattle.std.specs.Prelude.{◌≡◌};
-
 use crate::blocks::{next_state, then_sum};
 use crate::log::open;
 use crate::measure::{Host, Report};
 use crate::parts::{Part, run_part};
 use crate::workload::{GROUPS, Load};
 use anyhow::Result;
-use raft_codec::number::take_u64;
+use raft_c_batch::Entry;
 use raft_env::FileSystem;
 use raft_log_engine::Engine;
-use raft_records::{Fault, Message, MessageExt};
+use raft_records::Fault;
 use std::alloc::{AllocError, Global};
 use std::io;
 
@@ -27,44 +25,6 @@ const READS: [Part; 4] = [
     Part::EntryAgain,
     Part::Fetch,
 ];
-
-/// An entry: its bytes, of which the first eight are its index.
-#[derive(Drop)]
-pub(crate) struct Entry {
-    index: u64,
-    bytes: Vec<u8>,
-}
-
-impl Message for Entry {
-    ghost bytes_of = { λ e. e.bytes.items };
-
-    ghost is_parsed = { λ bytes e. e.bytes.items ≡ bytes };
-
-    fn parse(alloc: Global, bytes: &[u8]) -> Result<Entry, Fault> {
-        let index = take_u64(bytes).map_or(0, |(index, _)| index);
-        Ok(Entry {
-            index,
-            bytes: bytes.to_vec(alloc)?,
-        })
-    }
-
-    fn to_bytes(&self, buffer: &mut Vec<u8>) -> Result<(), AllocError> {
-        buffer.extend_from_slice(&self.bytes)
-    }
-}
-
-/// Entries by their first bytes.
-pub(crate) struct Entries;
-
-impl MessageExt for Entries {
-    type Entry = Entry;
-
-    ghost index_of = { λ e. e.index };
-
-    fn index(entry: &Entry) -> u64 {
-        entry.index
-    }
-}
 
 /// A place in a group's log.
 #[derive(Clone, Copy)]
@@ -127,10 +87,7 @@ pub(crate) fn entries_of(
     let mut entries = Vec::new(alloc);
     for number in 0..len {
         let index = first.saturating_add(number);
-        let mut own = Vec::with_capacity(alloc, bytes.len())?;
-        own.extend_from_slice(&index.to_be_bytes())?;
-        own.extend_from_slice(bytes.get(8..).unwrap_or(&[]))?;
-        entries.push(Entry { index, bytes: own })?;
+        entries.push(Entry::new(alloc, index, bytes.get(8..).unwrap_or(&[]))?)?;
     }
     Ok(entries)
 }
@@ -189,8 +146,8 @@ pub(crate) fn read_each<F: FileSystem>(
 ) -> Result<u64, Fault> {
     let mut sum = 0;
     for Place { group, index } in places {
-        if let Some(entry) = engine.get_entry::<Entries>(*group, *index)? {
-            sum = then_sum(sum, &entry.bytes);
+        if let Some(entry) = engine.get_entry::<Entry>(*group, *index)? {
+            sum = then_sum(sum, entry.bytes());
         }
     }
     Ok(sum as u64)
@@ -209,7 +166,7 @@ pub(crate) fn fetch_each<F: FileSystem>(
         let last = engine.last_index(*group).unwrap_or(0);
         let end = index.saturating_add(FETCH_LEN).min(last.saturating_add(1));
         entries.clear();
-        let count = engine.fetch_entries_to::<Entries>(*group, *index, end, None, &mut entries)?;
+        let count = engine.fetch_entries_to::<Entry>(*group, *index, end, None, &mut entries)?;
         fetched = fetched.saturating_add(count as u64);
     }
     Ok(fetched)

@@ -2,14 +2,14 @@
 
 use crate::blocks::{filled, mark, next_state};
 use crate::entries::{
-    Entries, Entry, Place, entries_of, fetch_each, places_again, places_in_order, places_of,
-    read_each,
+    Place, entries_of, fetch_each, places_again, places_in_order, places_of, read_each,
 };
 use crate::log::{Key, get_each, key_of, keys_of};
 use crate::measure::{Against, Host, Measure, Report, Stopwatch, micros_since};
 use crate::purges::{Purge, compact_each, kept_of};
 use crate::workload::{GROUPS, Load};
 use anyhow::Result;
+use raft_c_batch::Entry;
 use raft_env::FileSystem;
 use raft_log_engine::Engine;
 use raft_records::{Fault, LogBatch};
@@ -216,7 +216,7 @@ fn perform<R: Host, F: FileSystem>(
 pub(crate) fn add(batch: &mut LogBatch, written: Written) -> Result<(), Fault> {
     match written {
         Written::Put(group, key, value) => batch.put(group, key, value),
-        Written::Entries(group, entries) => batch.add_entries::<Entries>(group, &entries),
+        Written::Entries(group, entries) => batch.add_entries::<Entry>(group, &entries),
     }
 }
 

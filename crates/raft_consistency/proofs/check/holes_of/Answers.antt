@@ -1,5 +1,6 @@
 use Rattle.std.proofs.Common.{◌∙◌, subst}
 use Rattle.std.proofs.lemmas.Result.{IfErr-weaker, IfOk-weaker, err_from_is_err_and}
+use Rattle.raft_env.proofs.MomentsLemmas.{moves_then_reads}
 use Rattle.raft_config.specs.Folders.{Folders}
 use Rattle.raft_consistency.specs.Check.{log_holes}
 use Rattle.raft_consistency.specs.Holes.{AreHoles}
@@ -20,7 +21,7 @@ returns-clause-value g c =
     let s = c.scan.new.self in
     let files = g.F.FileSystem.directory in
     let scan = c.in_ok-scan.ensures in
-    IfOk-weaker c.holes_of_found.result _ _ (λ pairs are. holes_before b.folders (files b.file_system) (files s.file_system) scan.any_moment.here pairs.items
+    IfOk-weaker c.holes_of_found.result _ _ (λ pairs are. holes_before b.folders (files b.file_system) (files s.file_system) scan.any_moment.throughout.here pairs.items
     (subst (λ (f : Folders). AreHoles (log_holes f (files s.file_system)) pairs.items) scan.settings.folders are)) c.holes_of_found.ensures.value
 
 pub returns-clause-cause : goal.returns-clause-cause
@@ -30,6 +31,9 @@ returns-clause-cause g c =
     let files = g.F.FileSystem.directory in
     let counts = g.F.FileSystem.refusals_of in
     let scan = c.in_ok-scan.ensures in
-    IfErr-weaker c.holes_of_found.result _ _ (λ e refused. read_fails b.folders (files b.file_system) (files s.file_system) scan.any_moment.here s.mode (counts b.file_system) (counts s.file_system) (counts c.holes_of_found.new.builder.file_system) e
-    (scan.settings.mode ∙ c.requires) scan.counts
+    IfErr-weaker c.holes_of_found.result _ _ (λ e refused. read_fails b.folders (files b.file_system) (files s.file_system) scan.any_moment.throughout.here s.mode (counts b.file_system) (counts s.file_system) (counts c.holes_of_found.new.builder.file_system) e
+    (scan.settings.mode ∙ c.requires) scan.any_moment.no_fewer
     (subst (λ (f : Folders). IsOrderRefusal s.mode f (files s.file_system) (counts s.file_system) (counts c.holes_of_found.new.builder.file_system) e) scan.settings.folders refused)) c.holes_of_found.ensures.cause
+
+pub returns-clause-any_moment : goal.returns-clause-any_moment
+returns-clause-any_moment g c = moves_then_reads c.scan.ensures.any_moment c.holes_of_found.ensures.unchanged

@@ -1,7 +1,6 @@
 use Rattle.std.proofs.Common.{◌≡◌, ◌≤◌, ◌<◌, ◌-◌, ◌^◌, length, take}
 use Rattle.raft_env.specs.Directory.{HasFile}
-use Rattle.raft_env.specs.Moments.{HoldsThroughout}
-use Rattle.raft_env.specs.Refusal.{NoFewer, added_count, no_refusals}
+use Rattle.raft_env.specs.Moments.{MovesBy}
 use Rattle.raft_files.specs.Writer.{bytes_at}
 use Rattle.raft_pipes.specs.Folder.{LeavesOthers}
 use Rattle.raft_fork.proofs.copying.copy_bytes.Given as goal
@@ -20,8 +19,7 @@ invariant-loop-at g l =
       copied : bytes_at l.to (f.directory l.file_system) ≡ take l.at bytes;
       folders : (f.directory l.file_system).is_folder ≡ (f.directory l.fn.file_system).is_folder;
       room : 0 < length l.buffer;
-      counts : NoFewer (added_count (f.refusals_of l.fn.file_system) no_refusals) (f.refusals_of l.file_system);
-      moments : HoldsThroughout (f.moments l.fn.file_system) (f.moments l.file_system) (f.directory l.file_system) (LeavesOthers l.to (f.directory l.fn.file_system));
+      moments : MovesBy f.directory f.moments f.refusals_of (LeavesOthers l.to) l.fn.file_system l.file_system;
     }
 
 abbrev pub decreases-loop-at : goal.decreases-loop-at

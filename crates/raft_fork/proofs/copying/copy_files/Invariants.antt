@@ -1,7 +1,6 @@
 use Rattle.std.proofs.Common.{◌≡◌, ◌<◌, length, map, take}
 use Rattle.std.specs.String.{string_bytes}
-use Rattle.raft_env.specs.Moments.{HoldsThroughout}
-use Rattle.raft_env.specs.Refusal.{NoFewer, added_count, no_refusals}
+use Rattle.raft_env.specs.Moments.{MovesBy}
 use Rattle.raft_opening.specs.Files.{LeavesAllBut}
 use Rattle.raft_fork.specs.Fork.{AreBeingCopied, AreCopied, copies_in, source_of}
 use Rattle.raft_fork.proofs.copying.copy_files.Given as goal
@@ -19,6 +18,5 @@ invariant-loop-file g l =
       copied : AreCopied l.fn.target done old mid;
       others : LeavesAllBut (copies_in l.fn.target done) old mid;
       folders : mid.is_folder ≡ old.is_folder;
-      counts : NoFewer (added_count (f.refusals_of l.fn.file_system) no_refusals) (f.refusals_of l.file_system);
-      moments : HoldsThroughout (f.moments l.fn.file_system) (f.moments l.file_system) mid (AreBeingCopied l.fn.target (map source_of l.fn.files) old);
+      moments : MovesBy f.directory f.moments f.refusals_of (AreBeingCopied l.fn.target (map source_of l.fn.files)) l.fn.file_system l.file_system;
     }

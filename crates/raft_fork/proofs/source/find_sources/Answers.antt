@@ -20,13 +20,13 @@ returns-in_err-add_queue-2-clause-cause g c =
     let new = f.refusals_of c.add_queue-2.new.file_system in
     let there = map string_bytes c.args.folders.now in
     let p = err_from_is_err_and c.from_residual-in_err-add_queue-2.result c.from_residual-in_err-add_queue-2.ensures.1 in
-    let refused = rw c.in_ok-add_queue.ensures.unchanged.0 at c.in_err-add_queue-2.ensures.cause in
+    let refused = rw c.in_ok-add_queue.ensures.unchanged.same_files at c.in_err-add_queue-2.ensures.cause in
     rw (p.1, p.2)
-    (later_source there n old mid new c.in_err-add_queue-2.field-0.0 c.add_queue.ensures.counts refused)
+    (later_source there n old mid new c.in_err-add_queue-2.field-0.0 c.add_queue.ensures.unchanged.no_fewer refused)
 
 pub returns-clause-single : goal.returns-clause-single
 returns-clause-single g c = λ queue.
     let n = g.F.FileSystem.directory c.args.file_system.now in
     let there = map string_bytes c.args.folders.now in
-    let rewrite = subst (λ m. AreSingle there Rewrite m) c.in_ok-add_queue.ensures.unchanged.0 c.in_ok-add_queue-2.ensures.single in
+    let rewrite = subst (λ m. AreSingle there Rewrite m) c.in_ok-add_queue.ensures.unchanged.same_files c.in_ok-add_queue-2.ensures.single in
     single_both there n c.in_ok-add_queue.ensures.single rewrite queue

@@ -1,7 +1,7 @@
 use Rattle.std.proofs.Common.{[], ◌∷◌, refl}
 use Rattle.raft_base.specs.declared.pipe_log.LogQueue.TheVariants.{Append}
 use Rattle.raft_held.specs.Contents.{known_from}
-use Rattle.raft_held.specs.Held.{LeaveKnown, syncs}
+use Rattle.raft_held.specs.Held.{LeaveKnown}
 use Rattle.raft_held.proofs.StepsLemmas.{held_appended, held_appending, held_begins, held_kept, held_recovers, held_still, held_synced, known_more, known_synced}
 use Rattle.raft_held.proofs.steps.calls_on_the_append_queue_keep_contents.Goals as goal
 

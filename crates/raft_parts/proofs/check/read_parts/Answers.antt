@@ -10,7 +10,7 @@ returns-in_default-clause-value g c = λ bytes size_is are.
     let e = c.in_ok-front.ensures in
     let split = subst (AreOf bytes) e.ok are in
     let front = bytes_of_part bytes c.in_ok-front.front 0 69 e.value.0 (e.value.1 ∙ c.max_encoded_len.ensures.value) split.0 in
-    c.without_header.ensures.value bytes size_is (header_none bytes c.in_ok-front.front.bytes.items front (ap header_of (sym c.as_slice.ensures.value) ∙ c.in_default.ensures.value))
+    c.without_header.ensures.value bytes (sym size_is) (header_none bytes c.in_ok-front.front.bytes.items front (ap header_of (sym c.as_slice.ensures.value) ∙ c.in_default.ensures.value))
 
 pub returns-then-size-len-clause-value : goal.returns-then-size-len-clause-value
 returns-then-size-len-clause-value g c = λ bytes size_is are.

@@ -18,6 +18,7 @@ use Rattle.raft_script.proofs.StepsLemmas.{does_purge, does_read, in_flight, rea
 use Rattle.raft_script.proofs.PassedLemmas.{passes_none, passes_read}
 use Rattle.raft_script.proofs.ProgressLemmas.{purge_stands}
 use Rattle.raft_script.proofs.RunLemmas.{compaction_answered, compaction_fails, entry_answered, entry_rose, groups_answered, purge_answered, purge_fails, purge_rose, renewal_fails, steady_by, sync_fails, write_answered}
+use Rattle.raft_script.proofs.RefusalLemmas.{compaction_rose, sync_rose, write_rose}
 use Rattle.raft_log_engine.specs.Purge.{HasLastId, HasOpenGroup}
 use Rattle.raft_records.specs.Batch.{BatchView}
 use Rattle.raft_script.proofs.GroupLemmas.{does_group, group_answered, group_fails, group_refuses, unbuilt_answered, unbuilt_fails}
@@ -47,7 +48,7 @@ returns-in-Ok-clause-progress g c =
       flight = flight;
       may_be = ∣ (true ∷ [], refl) ∣₁;
       progress = written_progress acts c.in-Write.sync _ flight c.write.result (durability_of e) (durability_of n) (progress_alone (contents_of e) batch items is c.write.result c.in-Write.sync (durability_of e) (durability_of n) write.advance.progress);
-      moments = λ alive. in_flight e (Write acts c.in-Write.sync) flight (pending_of (contents_of e) items) (moments_of n) (directory_of n) ∣ (true ∷ [], refl) ∣₁ (alone (contents_of e) batch items is) write.advance.any_moment;
+      moments = λ alive. in_flight e (Write acts c.in-Write.sync) flight (pending_of (contents_of e) items) (moments_of n) (directory_of n) ∣ (true ∷ [], refl) ∣₁ (alone (contents_of e) batch items is) write.advance.any_moment.throughout;
       rests = λ failed. (write.unchanged failed).0.moments;
     })
 
@@ -65,7 +66,7 @@ returns-in-Sync-clause-progress g c =
       flight = [];
       may_be = ∣ ([], refl) ∣₁;
       progress = c.sync.ensures.advance.progress;
-      moments = λ alive. in_flight e Sync [] [] (moments_of n) (directory_of n) ∣ ([], refl) ∣₁ refl c.sync.ensures.advance.any_moment;
+      moments = λ alive. in_flight e Sync [] [] (moments_of n) (directory_of n) ∣ ([], refl) ∣₁ refl c.sync.ensures.advance.any_moment.throughout;
       rests = search rules;
     })
 
@@ -75,6 +76,27 @@ returns-in-Sync-clause-failed g c =
     let n = c.sync.new.self in
     let sync = c.sync.ensures in
     rw c.in-Sync.is (sync_fails (has_failed e) (has_failed n) (folders_of e) (refusals_of e) (refusals_of n) c.sync.result sync.stands sync.err sync.failed (λ gone. (sync.unchanged gone).failed) sync.cause)
+
+pub returns-in-Ok-clause-cause : goal.returns-in-Ok-clause-cause
+returns-in-Ok-clause-cause g c =
+    let write = c.write.ensures in
+    let e = c.args.engine.now in
+    let n = c.write.new.self in
+    (write.advance.any_moment.no_fewer, write_rose (folders_of e) (queue_of n) (contents_of e) c.in-Ok.batch.items (has_failed e) (has_failed n) (refusals_of e) (refusals_of n) c.write.result write.failed write.cause)
+
+pub returns-in-Sync-clause-cause : goal.returns-in-Sync-clause-cause
+returns-in-Sync-clause-cause g c =
+    let sync = c.sync.ensures in
+    let e = c.args.engine.now in
+    let n = c.sync.new.self in
+    (sync.advance.any_moment.no_fewer, sync_rose (folders_of e) (has_failed e) (refusals_of e) (refusals_of n) c.sync.result sync.failed sync.cause)
+
+pub returns-in-CompactTo-clause-cause : goal.returns-in-CompactTo-clause-cause
+returns-in-CompactTo-clause-cause g c =
+    let compaction = c.compact_to.ensures in
+    let e = c.args.engine.now in
+    let n = c.compact_to.new.self in
+    (compaction.advance.any_moment.no_fewer, compaction_rose (folders_of e) (queue_of n) (has_failed e) (has_failed n) (refusals_of e) (refusals_of n) c.compact_to.result compaction.failed compaction.cause)
 
 pub returns-in-Ok-clause-failed : goal.returns-in-Ok-clause-failed
 returns-in-Ok-clause-failed g c = rw c.in-Write.is (record {
@@ -109,7 +131,7 @@ returns-in-CompactTo-clause-progress g c =
       flight = flight;
       may_be = ∣ (true ∷ [], refl) ∣₁;
       progress = compaction_progress m c.in-CompactTo.group c.in-CompactTo.index batch result (durability_of e) (durability_of n) c.compact_to.ensures.advance.progress;
-      moments = λ alive. in_flight e (CompactTo c.in-CompactTo.group c.in-CompactTo.index) flight (pending_of m batch) (moments_of n) (directory_of n) ∣ (true ∷ [], refl) ∣₁ (alone m batch batch refl) c.compact_to.ensures.advance.any_moment;
+      moments = λ alive. in_flight e (CompactTo c.in-CompactTo.group c.in-CompactTo.index) flight (pending_of m batch) (moments_of n) (directory_of n) ∣ (true ∷ [], refl) ∣₁ (alone m batch batch refl) c.compact_to.ensures.advance.any_moment.throughout;
       rests = λ failed. (c.compact_to.ensures.unchanged failed).moments;
     })
 
@@ -184,14 +206,14 @@ returns-in-RewriteAppend-clause-cause g c =
     let e = c.args.engine.now in
     let n = c.must_rewrite_append_queue.new.self in
     let purged = c.must_rewrite_append_queue.ensures in
-    (purged.log.others.counts, purge_rose (contents_of e) (queue_of n) (rewrite_queue_of n) ⊥ ⊥ (has_failed e) (has_failed n) (folders_of e) (refusals_of e) (refusals_of n) c.must_rewrite_append_queue.result purged.failed purged.log.cause)
+    (purged.log.any_moment.no_fewer, purge_rose (contents_of e) (queue_of n) (rewrite_queue_of n) ⊥ ⊥ (has_failed e) (has_failed n) (folders_of e) (refusals_of e) (refusals_of n) c.must_rewrite_append_queue.result purged.failed purged.log.cause)
 
 pub returns-in-RewriteAppend-clause-progress : goal.returns-in-RewriteAppend-clause-progress
 returns-in-RewriteAppend-clause-progress g c =
     let e = c.args.engine.now in
     let n = c.must_rewrite_append_queue.new.self in
     let purged = c.must_rewrite_append_queue.ensures in
-    rw c.in-RewriteAppend.is (does_purge e n (RewriteAppend c.in-RewriteAppend.watermark c.in-RewriteAppend.step) (Dropped c.must_rewrite_append_queue.result) purged.log.progress purged.log.any_moment purged.unchanged)
+    rw c.in-RewriteAppend.is (does_purge e n (RewriteAppend c.in-RewriteAppend.watermark c.in-RewriteAppend.step) (Dropped c.must_rewrite_append_queue.result) purged.log.progress purged.log.any_moment.throughout purged.unchanged)
 
 pub returns-in-RewriteRewrite-clause-value : goal.returns-in-RewriteRewrite-clause-value
 returns-in-RewriteRewrite-clause-value g c =
@@ -212,14 +234,14 @@ returns-in-RewriteRewrite-clause-cause g c =
     let e = c.args.engine.now in
     let n = c.must_rewrite_rewrite_queue.new.self in
     let purged = c.must_rewrite_rewrite_queue.ensures in
-    (purged.log.others.counts, purge_rose (contents_of e) (queue_of n) (rewrite_queue_of n) (HasOpenGroup n) (HasLastId n) (has_failed e) (has_failed n) (folders_of e) (refusals_of e) (refusals_of n) c.must_rewrite_rewrite_queue.result purged.failed purged.log.cause)
+    (purged.log.any_moment.no_fewer, purge_rose (contents_of e) (queue_of n) (rewrite_queue_of n) (HasOpenGroup n) (HasLastId n) (has_failed e) (has_failed n) (folders_of e) (refusals_of e) (refusals_of n) c.must_rewrite_rewrite_queue.result purged.failed purged.log.cause)
 
 pub returns-in-RewriteRewrite-clause-progress : goal.returns-in-RewriteRewrite-clause-progress
 returns-in-RewriteRewrite-clause-progress g c =
     let e = c.args.engine.now in
     let n = c.must_rewrite_rewrite_queue.new.self in
     let purged = c.must_rewrite_rewrite_queue.ensures in
-    rw c.in-RewriteRewrite.is (does_purge e n (RewriteRewrite) (Dropped c.must_rewrite_rewrite_queue.result) purged.log.progress purged.log.any_moment purged.unchanged)
+    rw c.in-RewriteRewrite.is (does_purge e n (RewriteRewrite) (Dropped c.must_rewrite_rewrite_queue.result) purged.log.progress purged.log.any_moment.throughout purged.unchanged)
 
 pub returns-in-PurgeStale-clause-value : goal.returns-in-PurgeStale-clause-value
 returns-in-PurgeStale-clause-value g c =
@@ -240,14 +262,14 @@ returns-in-PurgeStale-clause-cause g c =
     let e = c.args.engine.now in
     let n = c.must_purge_all_stale.new.self in
     let purged = c.must_purge_all_stale.ensures in
-    (purged.log.others.counts, purge_rose (contents_of e) (queue_of n) (rewrite_queue_of n) ⊥ ⊥ (has_failed e) (has_failed n) (folders_of e) (refusals_of e) (refusals_of n) c.must_purge_all_stale.result purged.failed purged.log.cause)
+    (purged.log.any_moment.no_fewer, purge_rose (contents_of e) (queue_of n) (rewrite_queue_of n) ⊥ ⊥ (has_failed e) (has_failed n) (folders_of e) (refusals_of e) (refusals_of n) c.must_purge_all_stale.result purged.failed purged.log.cause)
 
 pub returns-in-PurgeStale-clause-progress : goal.returns-in-PurgeStale-clause-progress
 returns-in-PurgeStale-clause-progress g c =
     let e = c.args.engine.now in
     let n = c.must_purge_all_stale.new.self in
     let purged = c.must_purge_all_stale.ensures in
-    rw c.in-PurgeStale.is (does_purge e n (PurgeStale) (Dropped c.must_purge_all_stale.result) purged.log.progress purged.log.any_moment purged.unchanged)
+    rw c.in-PurgeStale.is (does_purge e n (PurgeStale) (Dropped c.must_purge_all_stale.result) purged.log.progress purged.log.any_moment.throughout purged.unchanged)
 
 pub returns-in-RewriteAppend-clause-purged : goal.returns-in-RewriteAppend-clause-purged
 returns-in-RewriteAppend-clause-purged g c =
@@ -283,14 +305,14 @@ returns-in-Purge-clause-cause g c =
     let e = c.args.engine.now in
     let n = c.purge_expired_files.new.self in
     let purged = c.purge_expired_files.ensures in
-    (purged.log.others.counts, purge_rose (contents_of e) (queue_of n) (rewrite_queue_of n) (HasOpenGroup n) (HasLastId n) (has_failed e) (has_failed n) (folders_of e) (refusals_of e) (refusals_of n) c.purge_expired_files.result purged.failed purged.log.cause)
+    (purged.log.any_moment.no_fewer, purge_rose (contents_of e) (queue_of n) (rewrite_queue_of n) (HasOpenGroup n) (HasLastId n) (has_failed e) (has_failed n) (folders_of e) (refusals_of e) (refusals_of n) c.purge_expired_files.result purged.failed purged.log.cause)
 
 pub returns-in-Purge-clause-progress : goal.returns-in-Purge-clause-progress
 returns-in-Purge-clause-progress g c =
     let e = c.args.engine.now in
     let n = c.purge_expired_files.new.self in
     let purged = c.purge_expired_files.ensures in
-    rw c.in-Purge.is (does_purge e n Purge (ToCompact c.purge_expired_files.result) purged.log.progress purged.log.any_moment purged.unchanged)
+    rw c.in-Purge.is (does_purge e n Purge (ToCompact c.purge_expired_files.result) purged.log.progress purged.log.any_moment.throughout purged.unchanged)
 
 pub returns-in-Purge-clause-purged : goal.returns-in-Purge-clause-purged
 returns-in-Purge-clause-purged g c =
@@ -325,13 +347,13 @@ pub returns-in-Ok-build_group-clause-cause : goal.returns-in-Ok-build_group-clau
 returns-in-Ok-build_group-clause-cause g c =
     let at = (goal.at.returns-in-Ok-build_group-clause-cause g c).After-write_group in
     let write = c.write_group.ensures in
-    group_refuses c.in-WriteGroup.parts c.deref_mut.result.now c.write_group.new.batches c.deref-in-Ok-build_group.result.now c.args.engine.now c.write_group.new.self (group_built g at) (group_flags g at) c.write_group.result write.ok write.cause write.others.counts
+    group_refuses c.in-WriteGroup.parts c.deref_mut.result.now c.write_group.new.batches c.deref-in-Ok-build_group.result.now c.args.engine.now c.write_group.new.self (group_built g at) (group_flags g at) c.write_group.result write.ok write.cause write.any_moment.no_fewer
 
 pub returns-in-Ok-build_group-clause-progress : goal.returns-in-Ok-build_group-clause-progress
 returns-in-Ok-build_group-clause-progress g c =
     let at = (goal.at.returns-in-Ok-build_group-clause-progress g c).After-write_group in
     let write = c.write_group.ensures in
-    rw c.in-WriteGroup.is (does_group c.in-WriteGroup.parts c.deref_mut.result.now c.write_group.new.batches c.deref-in-Ok-build_group.result.now c.args.engine.now c.write_group.new.self (group_built g at) (group_flags g at) c.write_group.result write.progress write.any_moment (λ failed. (write.unchanged failed).0.moments))
+    rw c.in-WriteGroup.is (does_group c.in-WriteGroup.parts c.deref_mut.result.now c.write_group.new.batches c.deref-in-Ok-build_group.result.now c.args.engine.now c.write_group.new.self (group_built g at) (group_flags g at) c.write_group.result write.progress write.any_moment.throughout (λ failed. (write.unchanged failed).0.moments))
 
 pub returns-in-Err-build_group-clause-value : goal.returns-in-Err-build_group-clause-value
 returns-in-Err-build_group-clause-value g c =

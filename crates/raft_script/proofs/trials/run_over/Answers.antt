@@ -12,7 +12,7 @@ use Rattle.raft_base.specs.declared.pipe_log.LogQueue.{LogQueue}
 use Rattle.raft_pipes.specs.Completed.{ReadsCompletedRecordsIfSimpleOf}
 use Rattle.raft_pipes.specs.Folder.{AreClear}
 use Rattle.raft_held.specs.Queues.{AreSingleIn}
-use Rattle.raft_script.specs.Trial.{LeavesDetectable}
+use Rattle.raft_script.specs.Trial.{LeavesDetectable, LeavesSound}
 use Rattle.raft_script.specs.Durability.{IsCall, IsStep, LeavesAllowedAfter, Steps, durable_groups_of}
 use Rattle.raft_script.specs.Headline.{RunState, progress_from, run_state_of}
 use Rattle.raft_script.proofs.StepsLemmas.{failure_place, leads_moments, never_failed, nothing_known, steps_shown}
@@ -74,7 +74,7 @@ returns-in-Err-clause-ok g c =
     let files = g.F.FileSystem.directory c.in-Err.refused.file_system in
     let e = c.in-Err.refused.fault in
     λ keeps.
-    let kept = c.in-Err.ensures.opened.any_moment.here m [] keeps in
+    let kept = c.in-Err.ensures.opened.any_moment.throughout.here m [] keeps in
     record {
       answered = inr (record {
         fault = e;
@@ -113,7 +113,7 @@ pub returns-in_ok-ran-in-Ok-clause-any_moment : goal.returns-in_ok-ran-in-Ok-cla
 returns-in_ok-ran-in-Ok-clause-any_moment g c =
     let e = c.in-Ok.engine in
     let before = g.F.FileSystem.moments c.args.files in
-    let opened = c.in-Ok.ensures.opened.any_moment in
+    let opened = c.in-Ok.ensures.opened.any_moment.throughout in
     let allowed = c.in_ok-ran-in-Ok.ensures.any_moment in
     let run = leads_moments (folders_of e) (durable_of e) (progress_from (unsynced_of e)) (run_state_of e) c.args.ops.now c.in_ok-ran-in-Ok.ran.outcomes.items allowed.0 allowed.1 in (
       run.0 ++ opened.added,
@@ -121,9 +121,23 @@ returns-in_ok-ran-in-Ok-clause-any_moment g c =
     )
 
 pub returns-in-Err-clause-any_moment : goal.returns-in-Err-clause-any_moment
-returns-in-Err-clause-any_moment g c = (c.in-Err.ensures.opened.any_moment.added, c.in-Err.ensures.opened.any_moment.is)
+returns-in-Err-clause-any_moment g c = (c.in-Err.ensures.opened.any_moment.throughout.added, c.in-Err.ensures.opened.any_moment.throughout.is)
 
 pub returns-in_err-ran-in-Ok-clause-cause : goal.returns-in_err-ran-in-Ok-clause-cause
 returns-in_err-ran-in-Ok-clause-cause g c =
     let p = err_from_is_err_and c.from_residual.result c.from_residual.ensures.1 in
     rw (p.1, p.2) c.in_err-ran-in-Ok.ensures.cause
+
+pub returns-in_ok-ran-in-Ok-clause-sound : goal.returns-in_ok-ran-in-Ok-clause-sound
+returns-in_ok-ran-in-Ok-clause-sound g c =
+    let after = c.run_watched.new.engine in
+    let folders : folders_of after ≡ folders_in c.args.config = c.in_ok-ran-in-Ok.ensures.folder ∙ c.in-Ok.ensures.opened.ok.folders_are in
+    let left = c.crash_leaves_contents.ensures.left (folders_of after) (durable_of after) (unsynced_of after) (g.F.FileSystem.directory c.give_up.result) c.give_up.ensures.crash in
+    λ keeps. subst (λ (p : Folders). LeavesSound p (g.F.FileSystem.directory c.give_up.result)) folders (λ d leaves. (left d leaves).sound)
+
+pub returns-in-Err-clause-sound : goal.returns-in-Err-clause-sound
+returns-in-Err-clause-sound g c =
+    let dir = folders_in c.args.config in
+    let m = contents_at dir (g.F.FileSystem.directory c.args.files) in
+    let files = g.F.FileSystem.directory c.in-Err.refused.file_system in
+    λ keeps d leaves. (c.crash_leaves_contents.ensures.left dir m [] files (c.in-Err.ensures.opened.any_moment.throughout.here m [] keeps) d leaves).sound

@@ -18,7 +18,7 @@ loop-group-init g c =
     let tables = c.args.tables.now in
     record {
       reads = reads_nothing c.args.reader.now;
-      building = rw (c.new-groups.ensures.items, c.deref-group-items.ensures.value) (building_begun (contents_in blocks (tables_of tables)) c.in_ok-named.named.items named.ascending (λ group none. holds_nothing blocks tables group (sym (named.value group) ∙ none)));
+      building = rw (c.new-groups.ensures.items, c.deref-group-items.ensures.value) (building_begun (contents_in blocks (tables_of tables)) c.in_ok-named.named.items named.sorted (λ group none. holds_nothing blocks tables group (sym (named.value group) ∙ none)));
     }
 
 pub group_image-requires-clause-readable : goal.group_image-requires-clause-readable

@@ -6,8 +6,8 @@ use Rattle.raft_memory.specs.Refused.{IsAbsent}
 use Rattle.raft_memory.proofs.MemoryLemmas.{file_at-namespace_directory}
 use Rattle.raft_memory.proofs.calls.MemoryFileSystemFileSystem.file_size.Goals as goal
 
-pub returns-in-Some-get-clause-size : goal.returns-in-Some-get-clause-size
-returns-in-Some-get-clause-size c =
+pub returns-in-Some-get-clause-value : goal.returns-in-Some-get-clause-value
+returns-in-Some-get-clause-value c =
     let path = string_bytes c.args.handle.now.path in
     let stands : tree.get_by_text c.args.self.now.namespace.files path ≡ Some c.in-Some-get.file.now = search rules in
     (c.in-Some-get.file.now, file_at-namespace_directory c.args.self.now.namespace path ∙ stands, ap length c.bytes.ensures.value)
