@@ -1,0 +1,4 @@
+pub mod Held
+pub mod Changes
+pub mod Walk
+pub mod Allowed

@@ -1,0 +1,6 @@
+pub mod CallLemmas
+pub mod CodeLemmas
+pub mod FetchLemmas
+pub mod OpeningLemmas
+pub mod RefusalLemmas
+pub mod ScanLemmas

@@ -1,0 +1,5 @@
+pub mod HistoryLemmas
+pub mod CallLemmas
+pub mod SharedLemmas
+pub mod SettledLemmas
+pub mod Crossing
