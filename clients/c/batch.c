@@ -1,0 +1,174 @@
+/* Batches as bytes, and the parts of answers. */
+#include "parts.h"
+
+#include <stdlib.h>
+
+/* Its first eight bytes are the number of its items. */
+struct raftlog_batch {
+    uint8_t *data;
+    size_t len, room;
+    uint64_t count;
+};
+
+static bool take_number(const raftlog_bytes *bytes, size_t *at, uint64_t *number) {
+    if (*at > bytes->len || bytes->len - *at < 8) return false;
+    *number = parts_number(bytes->data + *at);
+    *at += 8;
+    return true;
+}
+
+static bool take_part(const raftlog_bytes *bytes, size_t *at, raftlog_slice *part) {
+    uint64_t len;
+    if (!take_number(bytes, at, &len) || bytes->len - *at < len) return false;
+    part->data = bytes->data + *at;
+    part->len = len;
+    *at += len;
+    return true;
+}
+
+bool raftlog_next_entry(const raftlog_bytes *entries, size_t *at, raftlog_entry *entry) {
+    raftlog_slice part;
+    if (!take_part(entries, at, &part) || part.len < 8) return false;
+    entry->index = parts_number(part.data);
+    entry->data = part.data + 8;
+    entry->len = part.len - 8;
+    return true;
+}
+
+bool raftlog_next_pair(const raftlog_bytes *pairs, size_t *at, raftlog_slice *key, raftlog_slice *value) {
+    return take_part(pairs, at, key) && take_part(pairs, at, value);
+}
+
+bool raftlog_next_group(const raftlog_bytes *groups, size_t *at, uint64_t *group) {
+    return take_number(groups, at, group);
+}
+
+raftlog_batch *raftlog_batch_new(void) { return calloc(1, sizeof(raftlog_batch)); }
+
+void raftlog_batch_free(raftlog_batch *batch) {
+    if (batch) free(batch->data);
+    free(batch);
+}
+
+void raftlog_batch_clear(raftlog_batch *batch) { batch->len = 0, batch->count = 0; }
+
+bool raftlog_batch_is_empty(const raftlog_batch *batch) { return batch->count == 0; }
+
+/* Makes room for an item, and before the first one for the number of them. */
+static bool reserve(raftlog_batch *batch, size_t more) {
+    if (more > SIZE_MAX / 4 || batch->len > SIZE_MAX / 4) return false;
+    if (batch->room < batch->len + more + 8) {
+        size_t room = batch->room * 2;
+        if (room < batch->len + more + 8) room = batch->len + more + 8;
+        if (room < 256) room = 256;
+        uint8_t *data = realloc(batch->data, room);
+        if (!data) return false;
+        batch->data = data;
+        batch->room = room;
+    }
+    if (batch->len == 0) batch->len = 8;
+    return true;
+}
+
+static void push_number(raftlog_batch *batch, uint64_t number) {
+    uint64_t bytes = htobe64(number);
+    memcpy(batch->data + batch->len, &bytes, 8);
+    batch->len += 8;
+}
+
+static void push_bytes(raftlog_batch *batch, const void *bytes, size_t len) {
+    if (len) memcpy(batch->data + batch->len, bytes, len);
+    batch->len += len;
+}
+
+static void push_part(raftlog_batch *batch, const void *part, size_t len) {
+    push_number(batch, len);
+    push_bytes(batch, part, len);
+}
+
+static void push_head(raftlog_batch *batch, uint8_t kind, uint64_t group) {
+    batch->data[batch->len++] = kind;
+    push_number(batch, group);
+    batch->count++;
+}
+
+int raftlog_batch_put(raftlog_batch *batch, uint64_t group, const void *key, size_t key_len, const void *value,
+                      size_t value_len) {
+    if (!batch || (!key && key_len) || (!value && value_len)) return RAFTLOG_INVALID;
+    if (key_len > SIZE_MAX / 16 || value_len > SIZE_MAX / 16) return RAFTLOG_RANGE;
+    if (!reserve(batch, 25 + key_len + value_len)) return RAFTLOG_NO_MEMORY;
+    push_head(batch, 1, group);
+    push_part(batch, key, key_len);
+    push_part(batch, value, value_len);
+    return RAFTLOG_OK;
+}
+
+int raftlog_batch_delete(raftlog_batch *batch, uint64_t group, const void *key, size_t key_len) {
+    if (!batch || (!key && key_len)) return RAFTLOG_INVALID;
+    if (key_len > SIZE_MAX / 16) return RAFTLOG_RANGE;
+    if (!reserve(batch, 17 + key_len)) return RAFTLOG_NO_MEMORY;
+    push_head(batch, 2, group);
+    push_part(batch, key, key_len);
+    return RAFTLOG_OK;
+}
+
+int raftlog_batch_entries(raftlog_batch *batch, uint64_t group, const raftlog_entry *entries, size_t count) {
+    size_t size = 17;
+    if (!batch || (!entries && count)) return RAFTLOG_INVALID;
+    if (!count) return RAFTLOG_OK;
+    for (size_t i = 0; i < count; i++) {
+        if (!entries[i].data && entries[i].len) return RAFTLOG_INVALID;
+        if (entries[i].len > SIZE_MAX / 16 || size > SIZE_MAX / 16) return RAFTLOG_RANGE;
+        size += 16 + entries[i].len;
+    }
+    if (!reserve(batch, size)) return RAFTLOG_NO_MEMORY;
+    push_head(batch, 3, group);
+    push_number(batch, count);
+    for (size_t i = 0; i < count; i++) {
+        push_number(batch, 8 + entries[i].len);
+        push_number(batch, entries[i].index);
+        push_bytes(batch, entries[i].data, entries[i].len);
+    }
+    return RAFTLOG_OK;
+}
+
+int raftlog_batch_clean(raftlog_batch *batch, uint64_t group) {
+    if (!batch) return RAFTLOG_INVALID;
+    if (!reserve(batch, 9)) return RAFTLOG_NO_MEMORY;
+    push_head(batch, 4, group);
+    return RAFTLOG_OK;
+}
+
+int raftlog_batch_compact(raftlog_batch *batch, uint64_t group, uint64_t index) {
+    if (!batch) return RAFTLOG_INVALID;
+    if (!reserve(batch, 17)) return RAFTLOG_NO_MEMORY;
+    push_head(batch, 5, group);
+    push_number(batch, index);
+    return RAFTLOG_OK;
+}
+
+/* All its bytes, which begin with the number of its items. */
+static raftlog_slice whole(raftlog_batch *batch) {
+    static const uint8_t empty[8];
+    uint64_t count = htobe64(batch->count);
+    if (batch->len) memcpy(batch->data, &count, 8);
+    return batch->len ? (raftlog_slice){batch->data, batch->len} : (raftlog_slice){empty, sizeof empty};
+}
+
+static int written(raftlog_batch *batch, int code) {
+    if (code == RAFTLOG_OK) raftlog_batch_clear(batch);
+    return code;
+}
+
+int raftlog_write(raftlog *log, raftlog_batch *batch, bool sync) {
+    if (!batch) return RAFTLOG_INVALID;
+    raftlog_slice bytes = whole(batch);
+    return written(batch, raftlog_write_bytes(log, bytes.data, bytes.len, sync));
+}
+
+int raftlog_write_once(raftlog *log, raftlog_batch *batch, const uint64_t *groups, const uint64_t *numbers, size_t count,
+                       bool sync) {
+    if (!batch) return RAFTLOG_INVALID;
+    raftlog_slice bytes = whole(batch);
+    return written(batch, raftlog_write_once_bytes(log, bytes.data, bytes.len, groups, numbers, count, sync));
+}

@@ -1,0 +1,203 @@
+/* Orders of a log on its files, and how they are carried out. */
+#include "parts.h"
+
+#include <errno.h>
+#include <fcntl.h>
+#include <stdio.h>
+#include <stdlib.h>
+#include <sys/mman.h>
+#include <sys/stat.h>
+#include <unistd.h>
+
+/* Orders that were carried out are written over from this many bytes on, and a file of them that is longer is cut. */
+enum { ORDERS_ROOM = 1 << 18, ORDERS_MAPPED = 1 << 20 };
+
+/* What is ordered, as crates/raft_orders numbers it. */
+enum { CREATE = 1, DELETE, RENAME, MAKE_FOLDER, WRITE, TRUNCATE, ALLOCATE, SYNC };
+
+/* A byte, a number and two lengths stand before the parts of an order. */
+enum { HEAD = 25 };
+
+char *parts_joined(const char *folder, const char *name) {
+    size_t len = strlen(folder) + strlen(name) + 2;
+    char *path = malloc(len);
+    if (path) snprintf(path, len, *name ? "%s/%s" : "%s", folder, name);
+    return path;
+}
+
+int parts_sync(const char *path) {
+    int fd = open(path, O_RDONLY | O_CLOEXEC);
+    if (fd < 0) return errno;
+    int error = fsync(fd) ? errno : 0;
+    close(fd);
+    return error;
+}
+
+/* The name of what stands at the path stays through a crash. */
+int parts_sync_name(const char *path) {
+    char *parent = strdup(path);
+    if (!parent) return ENOMEM;
+    size_t len = strlen(parent);
+    while (len > 1 && parent[len - 1] == '/') parent[--len] = 0;
+    char *slash = strrchr(parent, '/');
+    if (!slash) strcpy(parent, len ? "." : "/");
+    else slash[slash == parent] = 0;
+    int error = parts_sync(parent);
+    free(parent);
+    return error;
+}
+
+/* Makes a folder with those on the way to it, and syncs the folder of each that it made. */
+int parts_make_folders(const char *path) {
+    char *place = strdup(path);
+    if (!place) return ENOMEM;
+    int error = 0;
+    for (size_t end = 1, len = strlen(place); !error && end <= len; end++) {
+        if (place[end] != '/' && place[end] != 0) continue;
+        char was = place[end];
+        struct stat found;
+        place[end] = 0;
+        if (!stat(place, &found)) error = S_ISDIR(found.st_mode) ? 0 : ENOTDIR;
+        else if (errno != ENOENT) error = errno;
+        else if (!mkdir(place, 0777)) error = parts_sync_name(place);
+        else if (errno != EEXIST) error = errno;
+        place[end] = was;
+    }
+    free(place);
+    return error;
+}
+
+void parts_let_file_go(raftlog *log) {
+    if (log->file >= 0) close(log->file);
+    free(log->path);
+    log->file = -1;
+    log->path = NULL;
+}
+
+/* Opens the file at a path from the folder to be changed, where it isn't the one that is open. */
+static int open_file(raftlog *log, const char *path) {
+    if (log->path && !strcmp(log->path, path)) return 0;
+    parts_let_file_go(log);
+    char *place = parts_joined(log->folder, path);
+    if (!place) return ENOMEM;
+    log->file = open(place, O_RDWR | O_CLOEXEC);
+    int error = log->file < 0 ? errno : 0;
+    free(place);
+    if (!error && !(log->path = strdup(path))) error = ENOMEM;
+    return error;
+}
+
+static int write_at(int fd, const uint8_t *bytes, size_t len, uint64_t at) {
+    while (len) {
+        ssize_t moved = pwrite(fd, bytes, len, (off_t)at);
+        if (moved < 0 && errno == EINTR) continue;
+        if (moved <= 0) return moved ? errno : EIO;
+        bytes += moved, at += (uint64_t)moved, len -= (size_t)moved;
+    }
+    return 0;
+}
+
+static int resize(int fd, uint64_t size, bool cut) {
+    struct stat found;
+    if (fstat(fd, &found)) return errno;
+    if (cut ? (uint64_t)found.st_size <= size : (uint64_t)found.st_size >= size) return 0;
+    return ftruncate(fd, (off_t)size) ? errno : 0;
+}
+
+/* Carries out what is done to names: their folders are synced, so that a crash leaves the new names. */
+static int order_names(raftlog *log, int kind, const char *path, const char *to) {
+    parts_let_file_go(log);
+    char *place = parts_joined(log->folder, path), *other = parts_joined(log->folder, to);
+    int error = !place || !other ? ENOMEM : 0, fd;
+    if (!error && kind == CREATE) {
+        fd = open(place, O_RDWR | O_CREAT | O_CLOEXEC, 0666);
+        if (fd < 0) error = errno;
+        else close(fd);
+        if (!error) error = parts_sync_name(place);
+    } else if (!error && kind == DELETE) {
+        error = unlink(place) ? errno : parts_sync_name(place);
+    } else if (!error && kind == RENAME) {
+        error = rename(place, other) ? errno : parts_sync_name(other);
+        if (!error) error = parts_sync_name(place);
+    } else if (!error) {
+        error = parts_make_folders(place);
+    }
+    free(place);
+    free(other);
+    return error;
+}
+
+static int carry_out(raftlog *log, int kind, uint64_t number, const char *first, const uint8_t *second, size_t len) {
+    if (kind < WRITE) {
+        char *to = malloc(len + 1);
+        if (!to) return ENOMEM;
+        memcpy(to, second, len);
+        to[len] = 0;
+        int error = order_names(log, kind, first, to);
+        free(to);
+        return error;
+    }
+    int error = open_file(log, first);
+    if (error) return error;
+    switch (kind) {
+    case WRITE: return write_at(log->file, second, len, number);
+    case TRUNCATE: return resize(log->file, number, true);
+    case ALLOCATE: return resize(log->file, number, false);
+    case SYNC: return fdatasync(log->file) ? errno : 0;
+    default: return EINVAL;
+    }
+}
+
+/* Maps the orders up to this place. */
+static int map_orders(raftlog *log, size_t end) {
+    if (end <= log->mapped) return 0;
+    size_t len = log->mapped ? log->mapped : ORDERS_MAPPED;
+    while (len < end) len *= 2;
+    void *at = log->order ? mremap(log->order, log->mapped, len, MREMAP_MAYMOVE)
+                          : mmap(NULL, len, PROT_READ, MAP_SHARED, log->orders, 0);
+    if (at == MAP_FAILED) return ENOMEM;
+    log->order = at;
+    log->mapped = len;
+    return 0;
+}
+
+/* The next orders are written over those that were carried out. */
+static int begin_anew(raftlog *log) {
+    if (lseek(log->orders, 0, SEEK_SET)) return EIO;
+    if (log->mapped > ORDERS_MAPPED) {
+        if (ftruncate(log->orders, 0)) return errno;
+        munmap(log->order, log->mapped);
+        log->order = NULL;
+        log->mapped = 0;
+    }
+    log->obeyed = 0;
+    return 0;
+}
+
+/* Carries out the order at a place of those up to the end, and tells how long it is. */
+static int obey_one(raftlog *log, const uint8_t *at, size_t left, size_t *len) {
+    char path[4096];
+    if (left < HEAD) return EINVAL;
+    uint64_t number = parts_number(at + 1), first = parts_number(at + 9), second = parts_number(at + 17);
+    if (first >= sizeof path || left - HEAD < first || left - HEAD - first < second) return EINVAL;
+    memcpy(path, at + HEAD, first);
+    path[first] = 0;
+    *len = HEAD + first + second;
+    return carry_out(log, *at, number, path, at + HEAD + first, second);
+}
+
+/* Carries out the orders that were given since the last time, up to the first that fails. */
+int parts_obey(raftlog *log) {
+    if (log->orders < 0) return 0;
+    off_t end = lseek(log->orders, 0, SEEK_CUR);
+    if (end < 0) return errno;
+    int error = map_orders(log, (size_t)end);
+    while (!error && log->obeyed < (size_t)end) {
+        size_t len = 0;
+        error = obey_one(log, log->order + log->obeyed, (size_t)end - log->obeyed, &len);
+        log->obeyed += len;
+    }
+    if (!error && log->obeyed >= ORDERS_ROOM) error = begin_anew(log);
+    return error;
+}
+

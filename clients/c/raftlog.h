@@ -1,0 +1,240 @@
+/* raftlog: a log for many Raft groups, in a folder. Batches of entries, keys and values are appended to one shared log,
+ * synced where that is asked for, and found again after a crash.
+ *
+ * Answers. A function that answers an `int` answers RAFTLOG_OK (0) where it was done, RAFTLOG_ABSENT (20) where what was
+ * asked for isn't there, and else the code of a failure, whose text `raftlog_message` has. Each call may answer
+ * RAFTLOG_INVALID for a NULL that has to be something, RAFTLOG_NO_MEMORY, and RAFTLOG_FAILED once the log has failed; the
+ * comment on it names what else it may answer. After a failure nothing is lost that was answered before: a change that is
+ * refused leaves what the log holds, and where RAFTLOG_IO or RAFTLOG_FAILED is answered the next opening finds it.
+ *
+ * Units. Groups and indexes are 64-bit numbers; an index of 2^64 - 1 is none. Sizes and lengths are in bytes. A key, a
+ * value and an entry may be empty; a pointer may be NULL where its length is 0. A key that begins with two underscores is
+ * the engine's own, and so is the key "\xffonce", at which it keeps the number of a group; reads don't tell it.
+ *
+ * Who owns what. A log, a batch and a buffer are the caller's from the call that made them to the call that frees them.
+ * What is handed in is copied before the call ends. What is answered stands in a buffer of the caller's, and lasts until
+ * the next call that is given that buffer; entries, keys and values that are taken from it point into it.
+ *
+ * Threads. A log may be used by many threads: a mutex in it lets one call in at a time. A batch, a buffer and what points
+ * into it belong to one thread at a time. No log may be used in a child that was forked, or in a signal's handler.
+ *
+ * What is proved, of the functions behind these (crates/raft_c): of each code, what the log has done and what it holds
+ * then; of a failure, why it comes; and that at each moment inside a call a crash leaves what was synced before. Trusted
+ * are the files beside this one: that one call at a time is let in, with pointers that are valid and a log that is open;
+ * that their prototypes of the proved functions are these functions'; and that each change of a file that a call ordered
+ * was carried out, in turn, before the call is answered. README.md, "What is trusted", has the whole list. */
+#ifndef RAFTLOG_H
+#define RAFTLOG_H
+
+#include <stdbool.h>
+#include <stddef.h>
+#include <stdint.h>
+
+#ifdef __cplusplus
+extern "C" {
+#endif
+
+enum {
+    RAFTLOG_OK = 0,
+    /* The folder, a setting, a key, a bound or the bytes of a batch are refused, or a NULL that has to be something. */
+    RAFTLOG_INVALID = 1,
+    /* What stands in a log file can't be read, and the recovery mode doesn't tolerate it. */
+    RAFTLOG_CORRUPTION = 2,
+    /* A file call failed, and the log with it, but for reads: as for RAFTLOG_FAILED. */
+    RAFTLOG_IO = 3,
+    /* Space was wanting. The log stands, and the write can be tried again. (In a folder want of space is RAFTLOG_IO.) */
+    RAFTLOG_TRY_AGAIN = 4,
+    /* Entries that don't follow on one another, or on those that the group has. */
+    RAFTLOG_GAP = 5,
+    /* An index of 2^64 - 1, a record that is too long, or no number that is left for a next file. */
+    RAFTLOG_RANGE = 6,
+    /* A fetch that begins before the first entry. */
+    RAFTLOG_COMPACTED = 7,
+    /* A fetch that ends past the last entry. */
+    RAFTLOG_NO_ENTRY = 8,
+    /* The bytes of an entry are those of another index. */
+    RAFTLOG_WRONG_INDEX = 9,
+    /* The bytes of an entry are too short for an index. */
+    RAFTLOG_NOT_AN_ENTRY = 10,
+    /* The log failed before: close it, and open its folder again. */
+    RAFTLOG_FAILED = 11,
+    /* Memory is wanting. The log stands. */
+    RAFTLOG_NO_MEMORY = 12,
+    /* The log holds a compressed record, which can't be read. */
+    RAFTLOG_LZ4 = 13,
+    /* Of the numbers of a write some are greater than those that their groups keep, and others aren't. */
+    RAFTLOG_STALE_NUMBER = 18,
+    /* What was asked for isn't there. */
+    RAFTLOG_ABSENT = 20,
+    /* The folder is open already, in this process or another one. */
+    RAFTLOG_IN_USE = 30,
+    /* A link, a device, a file of several names or a name that is no UTF-8 stands in the folder. */
+    RAFTLOG_NOT_PLAIN = 31,
+    /* The folder can't be made, locked or read. */
+    RAFTLOG_FOLDER = 32
+};
+
+typedef struct raftlog raftlog;
+typedef struct raftlog_batch raftlog_batch;
+
+/* Bytes of the caller's, or of an answer that they point into. */
+typedef struct {
+    const uint8_t *data;
+    size_t len;
+} raftlog_slice;
+
+typedef struct {
+    uint64_t index;
+    const uint8_t *data;
+    size_t len;
+} raftlog_entry;
+
+/* Bytes that a call answers, which the caller owns. Begin with all zeros; a buffer may be used for many calls, each of
+ * which puts its answer there in place of the last one, and makes room for it where that is wanting. */
+typedef struct {
+    uint8_t *data;
+    size_t len;
+    size_t room;
+} raftlog_bytes;
+
+/* Frees the room, and leaves an empty buffer, which may be used again. */
+void raftlog_bytes_free(raftlog_bytes *bytes);
+
+/* ---- opening and closing */
+
+/* Opens the log in a folder, which is made where it is missing, and hands it over in `*out`; it is the caller's until
+ * `raftlog_close`. It may not be open already, in this process or another one. The settings are TOML, as
+ * "target-file-size = \"64MB\"\nrecovery-mode = \"absolute-consistency\""; those that aren't named, and all for NULL or "",
+ * are the defaults, and a key that is no setting's is passed over.
+ * On a failure `*out` is NULL, and as much of the text as fits in `room` bytes stands in `text` (which may be NULL), ended
+ * by a NUL: RAFTLOG_INVALID (no folder, or settings that are refused), RAFTLOG_IN_USE, RAFTLOG_NOT_PLAIN, RAFTLOG_FOLDER,
+ * RAFTLOG_CORRUPTION, RAFTLOG_LZ4, RAFTLOG_RANGE or RAFTLOG_IO. */
+int raftlog_open(const char *folder, const char *settings, raftlog **out, char *text, size_t room);
+
+/* The same in memory, for tests: it fails as RAFTLOG_INVALID for settings that are refused. */
+int raftlog_open_memory(const char *settings, raftlog **out, char *text, size_t room);
+
+/* Syncs and closes, and frees the log whatever it answers; after RAFTLOG_OK all that was written survives a crash. Else
+ * RAFTLOG_IO or RAFTLOG_FAILED: the next opening finds what was answered before; where the machine crashes first, what was synced, and perhaps more. No other call may be
+ * running. NULL is no log, and answers RAFTLOG_OK. */
+int raftlog_close(raftlog *log);
+
+/* The text of the last failure of a call on this log, as much of it as fits in `room` bytes, ended by a NUL; answers the
+ * whole length in bytes, without the NUL. `text` may be NULL for the length alone. */
+size_t raftlog_message(raftlog *log, char *text, size_t room);
+
+/* What a code says. It lasts as long as the program. */
+const char *raftlog_code_text(int code);
+
+/* ---- batches */
+
+/* A batch without items, which is written whole or not at all; NULL where memory is wanting. It is the caller's until
+ * `raftlog_batch_free`. Adding to it copies what is added, and fails as RAFTLOG_NO_MEMORY, RAFTLOG_RANGE (2^59 bytes), or
+ * RAFTLOG_INVALID for a NULL that has a length; then the batch is as it was. */
+raftlog_batch *raftlog_batch_new(void);
+/* NULL is no batch. */
+void raftlog_batch_free(raftlog_batch *batch);
+/* Takes all items out of it, and keeps its room. */
+void raftlog_batch_clear(raftlog_batch *batch);
+bool raftlog_batch_is_empty(const raftlog_batch *batch);
+/* Puts a value at a key. A key that begins with two underscores is refused when the batch is written. */
+int raftlog_batch_put(raftlog_batch *batch, uint64_t group, const void *key, size_t key_len, const void *value,
+                      size_t value_len);
+/* Deletes a key, if it is there. */
+int raftlog_batch_delete(raftlog_batch *batch, uint64_t group, const void *key, size_t key_len);
+/* Adds entries, whose indexes follow on one another; those that the group has from the first one on are replaced. That
+ * they follow on one another and on those that the group has is looked at when the batch is written. */
+int raftlog_batch_entries(raftlog_batch *batch, uint64_t group, const raftlog_entry *entries, size_t count);
+/* All entries and keys of the group go. */
+int raftlog_batch_clean(raftlog_batch *batch, uint64_t group);
+/* The entries below an index go. */
+int raftlog_batch_compact(raftlog_batch *batch, uint64_t group, uint64_t index);
+
+/* ---- changes */
+
+/* Writes a batch, and empties it where that was done; else it is as it was. After RAFTLOG_OK with `sync` it survives a
+ * crash, with all that was written before it; without, it does after the next sync. It fails as RAFTLOG_INVALID (a key with
+ * two underscores, or that of a number), RAFTLOG_GAP, RAFTLOG_RANGE or RAFTLOG_TRY_AGAIN, after which the log stands, or as
+ * RAFTLOG_IO. */
+int raftlog_write(raftlog *log, raftlog_batch *batch, bool sync);
+
+/* Writes a batch that acts once, however often it is written: with it each of these groups takes the number beside it, and
+ * keeps it until it is cleaned. Each number has to be greater than the one that its group keeps; a group that keeps none
+ * counts as having 0. Where none of them is, the batch was written already: nothing is written, and RAFTLOG_OK is answered,
+ * after a sync where that was asked. It fails as RAFTLOG_INVALID too where there are no groups or one of them stands there
+ * twice, as RAFTLOG_STALE_NUMBER, and as `raftlog_write`; after RAFTLOG_IO or RAFTLOG_FAILED write it again once the log is
+ * open again. */
+int raftlog_write_once(raftlog *log, raftlog_batch *batch, const uint64_t *groups, const uint64_t *numbers, size_t count,
+                       bool sync);
+
+/* The same of the bytes of a batch, for other languages: how many items there are, and of each a byte that says what it
+ * is, its group, and then
+ *   1 put: the key, the value;  2 delete: the key;  3 entries: how many, one at least, and each of them;  4 clean;
+ *   5 compact: the index.
+ * A key, a value and an entry have their length before them, and an entry begins with its index. Each number takes eight
+ * bytes, the greatest first. Bytes that are no batch are refused as RAFTLOG_INVALID. */
+int raftlog_write_bytes(raftlog *log, const void *bytes, size_t len, bool sync);
+int raftlog_write_once_bytes(raftlog *log, const void *bytes, size_t len, const uint64_t *groups, const uint64_t *numbers,
+                             size_t count, bool sync);
+
+/* Syncs all that was written: after RAFTLOG_OK it survives a crash. RAFTLOG_IO fails the log. */
+int raftlog_sync(raftlog *log);
+
+/* Drops the entries below an index, without a sync, and tells how many they were (`count` may be NULL). It fails as
+ * RAFTLOG_RANGE or RAFTLOG_TRY_AGAIN, after which the log stands, or as RAFTLOG_IO. */
+int raftlog_compact_to(raftlog *log, uint64_t group, uint64_t index, uint64_t *count);
+
+/* Purges. They change nothing that the log holds, sync it, and free the room of what it no longer needs. They fail as
+ * RAFTLOG_RANGE, RAFTLOG_INVALID or RAFTLOG_TRY_AGAIN, or as RAFTLOG_IO.
+ *
+ * By the settings' thresholds (`purge-threshold`, `purge-rewrite-threshold`), to be called now and then: it does nothing
+ * while the log is small. It tells which groups hold old entries and should be compacted, for `raftlog_next_group`
+ * (`groups` may be NULL). */
+int raftlog_purge_expired_files(raftlog *log, raftlog_bytes *groups);
+/* Whatever their size, of which they tell how many files of a queue are gone (`count` may be NULL): the first writes what
+ * stands in the log files of the Append queue to the Rewrite queue, and drops them; the second writes what stands in those
+ * of the Rewrite queue to a new one, and drops them; the third drops the files in front in which nothing stands any more,
+ * of both queues, and counts those of the Append queue. A dropped file is deleted, or kept to be used again. */
+int raftlog_must_rewrite_append_queue(raftlog *log, uint64_t *count);
+int raftlog_must_rewrite_rewrite_queue(raftlog *log, uint64_t *count);
+int raftlog_must_purge_all_stale(raftlog *log, uint64_t *count);
+
+/* ---- reads, which change nothing that the log holds */
+
+/* The value that a group has at a key: RAFTLOG_ABSENT where there is none. */
+int raftlog_get(raftlog *log, uint64_t group, const void *key, size_t key_len, raftlog_bytes *value);
+
+/* The bytes of the group's entry with an index: RAFTLOG_ABSENT where there is none. It may fail as RAFTLOG_IO, after which
+ * the log stands, and, where another program wrote the entry, as RAFTLOG_WRONG_INDEX or RAFTLOG_NOT_AN_ENTRY. */
+int raftlog_get_entry(raftlog *log, uint64_t group, uint64_t index, raftlog_bytes *value);
+
+/* The entries from `begin` up to the one before `end`: as many as take at most `max_size` bytes together (each counts
+ * with 8 more), but one at least; 0 is no bound. A group without entries and keys has none, whatever the bounds. It fails
+ * as RAFTLOG_INVALID where `end` is below `begin`, as RAFTLOG_COMPACTED, as RAFTLOG_NO_ENTRY, and as `raftlog_get_entry`. */
+int raftlog_fetch_entries(raftlog *log, uint64_t group, uint64_t begin, uint64_t end, uint64_t max_size,
+                          raftlog_bytes *entries);
+/* The next of the fetched entries, which points into the bytes; false after the last one. `*at` begins with 0. */
+bool raftlog_next_entry(const raftlog_bytes *entries, size_t *at, raftlog_entry *entry);
+
+/* The index of the group's first and of its last entry: RAFTLOG_ABSENT where the group has none. */
+int raftlog_first_index(raftlog *log, uint64_t group, uint64_t *index);
+int raftlog_last_index(raftlog *log, uint64_t group, uint64_t *index);
+
+/* The keys from `start` up to those before `end` with their values, in the order of the bytes or the other way round.
+ * Each bound may be NULL for none; the limit counts pairs, and 0 is none. */
+int raftlog_scan(raftlog *log, uint64_t group, const raftlog_slice *start, const raftlog_slice *end, bool reverse,
+                 uint64_t limit, raftlog_bytes *pairs);
+/* The next of the scanned pairs, which points into the bytes; false after the last one. `*at` begins with 0. */
+bool raftlog_next_pair(const raftlog_bytes *pairs, size_t *at, raftlog_slice *key, raftlog_slice *value);
+
+/* The groups into which something was put since they were last cleaned, in order. An opening after a purge may have
+ * forgotten one that is empty. */
+int raftlog_groups(raftlog *log, raftlog_bytes *groups);
+/* The next of the groups; false after the last one. `*at` begins with 0. */
+bool raftlog_next_group(const raftlog_bytes *groups, size_t *at, uint64_t *group);
+
+#ifdef __cplusplus
+}
+#endif
+
+#endif

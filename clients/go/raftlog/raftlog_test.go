@@ -1,0 +1,206 @@
+package raftlog
+
+import (
+	"bytes"
+	"encoding/binary"
+	"path/filepath"
+	"sync"
+	"testing"
+)
+
+func must(t *testing.T, err error) {
+	t.Helper()
+	if err != nil {
+		t.Fatal(err)
+	}
+}
+
+func exercise(t *testing.T, log *Engine) {
+	var b Batch
+	b.Put(1, []byte("a"), []byte("first"))
+	b.Put(1, []byte("b"), nil)
+	b.Put(1, []byte("c"), []byte("third"))
+	b.Delete(1, []byte("c"))
+	var entries []Entry
+	for i := uint64(5); i < 15; i++ {
+		entries = append(entries, Entry{i, []byte("entry")})
+	}
+	b.AddEntries(7, entries)
+	must(t, log.Write(&b, true))
+	value, found, err := log.Get(1, []byte("a"))
+	if err != nil || !found || string(value) != "first" {
+		t.Fatal(value, found, err)
+	}
+	if _, found, err = log.Get(1, []byte("c")); found || err != nil {
+		t.Fatal(found, err)
+	}
+	first, last, found, err := log.Span(7)
+	if first != 5 || last != 14 || !found || err != nil {
+		t.Fatal(first, last, found, err)
+	}
+	fetched, err := log.FetchEntries(7, 5, 15, 27)
+	if err != nil || len(fetched) != 2 || fetched[1].Index != 6 || string(fetched[1].Data) != "entry" {
+		t.Fatal(fetched, err)
+	}
+	if _, err = log.FetchEntries(7, 4, 9, 0); !HasCode(err, Compacted) || err.Error() != "raftlog: entry compacted" {
+		t.Fatal(err)
+	}
+	if _, err = log.FetchEntries(7, 5, 16, 0); !HasCode(err, NoEntry) {
+		t.Fatal(err)
+	}
+	pairs, err := log.Scan(1, nil, nil, true, 0)
+	if err != nil || len(pairs) != 2 || string(pairs[0].Key) != "b" || string(pairs[1].Value) != "first" {
+		t.Fatal(pairs, err)
+	}
+	if pairs, err = log.Scan(1, []byte("a"), []byte("b"), false, 0); err != nil || len(pairs) != 1 {
+		t.Fatal(pairs, err)
+	}
+	if count, err := log.CompactTo(7, 8); count != 3 || err != nil {
+		t.Fatal(count, err)
+	}
+	b.Compact(7, 10)
+	b.Clean(1)
+	must(t, log.Write(&b, false))
+	if groups, err := log.Groups(); err != nil || len(groups) != 1 || groups[0] != 7 {
+		t.Fatal(groups, err)
+	}
+	b.AddEntries(7, []Entry{{100, []byte("x")}})
+	if err = log.Write(&b, true); !HasCode(err, Gap) || b.Empty() {
+		t.Fatal(err)
+	}
+	must(t, log.Sync())
+	if groups, err := log.PurgeExpiredFiles(); err != nil || len(groups) != 0 {
+		t.Fatal(groups, err)
+	}
+	if _, err = log.MustRewriteAppendQueue(); err != nil {
+		t.Fatal(err)
+	}
+	if _, err = log.MustRewriteRewriteQueue(); err != nil {
+		t.Fatal(err)
+	}
+	if _, last, _, err := log.Span(7); last != 14 || err != nil {
+		t.Fatal(last, err)
+	}
+}
+
+func TestMemory(t *testing.T) {
+	log, err := OpenMemory("")
+	must(t, err)
+	exercise(t, log)
+	must(t, log.Close())
+	if _, _, err := log.Get(1, nil); !HasCode(err, Failed) {
+		t.Fatal(err)
+	}
+}
+
+func TestOnce(t *testing.T) {
+	log, err := OpenMemory("")
+	must(t, err)
+	put := func(value string, numbers ...Number) error {
+		var b Batch
+		b.Put(1, []byte("k"), []byte(value))
+		return log.WriteOnce(&b, numbers, true)
+	}
+	has := func(wanted string) {
+		t.Helper()
+		if value, _, err := log.Get(1, []byte("k")); err != nil || string(value) != wanted {
+			t.Fatal(value, err)
+		}
+	}
+	must(t, put("a", Number{1, 5}))
+	must(t, put("b", Number{1, 5}))
+	has("a")
+	if err := put("c", Number{1, 6}, Number{2, 0}); !HasCode(err, Stale) {
+		t.Fatal(err)
+	}
+	if err := put("c"); !HasCode(err, Invalid) {
+		t.Fatal(err)
+	}
+	has("a")
+	must(t, put("c", Number{1, 6}, Number{2, 1}))
+	has("c")
+	must(t, log.Close())
+}
+
+func TestFolder(t *testing.T) {
+	folder := filepath.Join(t.TempDir(), "log")
+	log, err := Open(folder, "")
+	must(t, err)
+	exercise(t, log)
+	if _, err = Open(folder, ""); !HasCode(err, InUse) {
+		t.Fatal(err)
+	}
+	must(t, log.Close())
+	log, err = Open(folder, `target-file-size = "4KB"`)
+	must(t, err)
+	first, last, found, err := log.Span(7)
+	if first != 10 || last != 14 || !found || err != nil {
+		t.Fatal(first, last, found, err)
+	}
+	must(t, log.Close())
+}
+
+func TestGoroutines(t *testing.T) {
+	log, err := OpenMemory("")
+	must(t, err)
+	var wait sync.WaitGroup
+	for g := uint64(1); g <= 8; g++ {
+		wait.Add(1)
+		go func(g uint64) {
+			defer wait.Done()
+			var b Batch
+			var key [8]byte
+			for i := uint64(0); i < 1000; i++ {
+				binary.LittleEndian.PutUint64(key[:], i)
+				b.Put(g, key[:], key[:])
+				if err := log.Write(&b, false); err != nil {
+					t.Error(err)
+				}
+				if value, _, err := log.Get(g, key[:]); err != nil || !bytes.Equal(value, key[:]) {
+					t.Error(value, err)
+				}
+			}
+		}(g)
+	}
+	wait.Wait()
+	must(t, log.Close())
+}
+
+func BenchmarkPut(b *testing.B) {
+	log, _ := OpenMemory("")
+	defer log.Close()
+	var batch Batch
+	var key [16]byte
+	value := make([]byte, 100)
+	b.ResetTimer()
+	for i := 0; i < b.N; i++ {
+		binary.LittleEndian.PutUint64(key[:], uint64(i)*0x9E3779B97F4A7C15|0x80)
+		batch.Put(1+uint64(i%100), key[:], value)
+		if err := log.Write(&batch, false); err != nil {
+			b.Fatal(err)
+		}
+	}
+}
+
+func BenchmarkGet(b *testing.B) {
+	log, _ := OpenMemory("")
+	defer log.Close()
+	var batch Batch
+	var key [16]byte
+	value := make([]byte, 100)
+	for i := 0; i < 100000; i++ {
+		binary.LittleEndian.PutUint64(key[:], uint64(i)*0x9E3779B97F4A7C15|0x80)
+		batch.Put(1+uint64(i%100), key[:], value)
+	}
+	if err := log.Write(&batch, false); err != nil {
+		b.Fatal(err)
+	}
+	b.ResetTimer()
+	for i := 0; i < b.N; i++ {
+		j := i * 7919 % 100000
+		binary.LittleEndian.PutUint64(key[:], uint64(j)*0x9E3779B97F4A7C15|0x80)
+		if _, found, err := log.Get(1+uint64(j%100), key[:]); !found || err != nil {
+			b.Fatal(found, err)
+		}
+	}
+}

@@ -1,0 +1,483 @@
+//! A log for many Raft groups in a folder: batches of entries, keys and values are appended to one shared log, synced
+//! where that is asked for, and found again after a crash. The engine is proved in Rattle; this crate only calls it. What
+//! it trusts is listed in `raftlog.h`.
+//!
+//! ```
+//! let log = raftlog::Engine::open_memory("")?;
+//! let mut batch = raftlog::LogBatch::new();
+//! batch.put(1, b"state", b"follower").add_entries(1, [(1, b"one".as_slice()), (2, b"two")]);
+//! log.write(&mut batch, true)?;
+//! assert_eq!(log.get(1, b"state")?.as_deref(), Some(b"follower".as_slice()));
+//! assert_eq!(log.fetch_entries(1, 1, 3, None)?.len(), 2);
+//! # Ok::<(), raftlog::Error>(())
+//! ```
+mod sys;
+
+use std::ffi::{c_char, c_int, CStr, CString};
+use std::fmt;
+use std::os::unix::ffi::OsStrExt;
+use std::path::Path;
+use std::ptr;
+
+/// Why a call failed.
+#[derive(Clone, Copy, Debug, PartialEq, Eq)]
+#[non_exhaustive]
+pub enum Code {
+    Invalid,
+    Corruption,
+    Io,
+    TryAgain,
+    Gap,
+    Range,
+    Compacted,
+    NoEntry,
+    WrongIndex,
+    NotAnEntry,
+    Failed,
+    NoMemory,
+    Lz4,
+    StaleNumber,
+    InUse,
+    NotPlain,
+    Folder,
+    Other(i32),
+}
+
+impl Code {
+    fn of(code: c_int) -> Code {
+        match code {
+            1 => Code::Invalid,
+            2 => Code::Corruption,
+            3 => Code::Io,
+            4 => Code::TryAgain,
+            5 => Code::Gap,
+            6 => Code::Range,
+            7 => Code::Compacted,
+            8 => Code::NoEntry,
+            9 => Code::WrongIndex,
+            10 => Code::NotAnEntry,
+            11 => Code::Failed,
+            12 => Code::NoMemory,
+            13 => Code::Lz4,
+            18 => Code::StaleNumber,
+            30 => Code::InUse,
+            31 => Code::NotPlain,
+            32 => Code::Folder,
+            code => Code::Other(code),
+        }
+    }
+}
+
+/// A failure, with its text.
+#[derive(Clone, Debug, PartialEq, Eq)]
+pub struct Error {
+    pub code: Code,
+    pub message: String,
+}
+
+impl Error {
+    fn invalid(message: &str) -> Error {
+        Error { code: Code::Invalid, message: message.into() }
+    }
+}
+
+impl fmt::Display for Error {
+    fn fmt(&self, f: &mut fmt::Formatter<'_>) -> fmt::Result {
+        f.write_str(&self.message)
+    }
+}
+
+impl std::error::Error for Error {}
+
+pub type Result<T> = std::result::Result<T, Error>;
+
+const OK: c_int = 0;
+const ABSENT: c_int = 20;
+
+fn code_text(code: c_int) -> String {
+    unsafe { CStr::from_ptr(sys::raftlog_code_text(code)) }.to_string_lossy().into_owned()
+}
+
+// The bytes of a batch without items: their number.
+const NO_ITEMS: [u8; 8] = [0; 8];
+
+/// A batch, which is written whole or not at all.
+#[derive(Clone, Debug)]
+pub struct LogBatch {
+    bytes: Vec<u8>,
+    count: u64,
+}
+
+impl Default for LogBatch {
+    fn default() -> LogBatch {
+        LogBatch { bytes: NO_ITEMS.to_vec(), count: 0 }
+    }
+}
+
+impl LogBatch {
+    pub fn new() -> LogBatch {
+        LogBatch::default()
+    }
+
+    pub fn is_empty(&self) -> bool {
+        self.count == 0
+    }
+
+    pub fn clear(&mut self) {
+        self.bytes.truncate(8);
+        self.count(0);
+    }
+
+    fn count(&mut self, count: u64) {
+        self.count = count;
+        self.bytes[..8].copy_from_slice(&count.to_be_bytes());
+    }
+
+    fn number(&mut self, number: u64) {
+        self.bytes.extend_from_slice(&number.to_be_bytes());
+    }
+
+    fn part(&mut self, part: &[u8]) {
+        self.number(part.len() as u64);
+        self.bytes.extend_from_slice(part);
+    }
+
+    fn head(&mut self, kind: u8, group: u64) {
+        self.bytes.push(kind);
+        self.number(group);
+        self.count(self.count + 1);
+    }
+
+    /// Puts a value at a key. A key that begins with two underscores is refused when the batch is written.
+    pub fn put(&mut self, group: u64, key: &[u8], value: &[u8]) -> &mut LogBatch {
+        self.head(1, group);
+        self.part(key);
+        self.part(value);
+        self
+    }
+
+    /// Deletes a key.
+    pub fn delete(&mut self, group: u64, key: &[u8]) -> &mut LogBatch {
+        self.head(2, group);
+        self.part(key);
+        self
+    }
+
+    /// Entries with consecutive indexes; those that the group has from the first one on are replaced. Nothing for none.
+    pub fn add_entries<'a>(&mut self, group: u64, entries: impl IntoIterator<Item = (u64, &'a [u8])>) -> &mut LogBatch {
+        let start = self.bytes.len();
+        self.head(3, group);
+        let at = self.bytes.len();
+        self.number(0);
+        let mut count = 0u64;
+        for (index, data) in entries {
+            self.number(data.len() as u64 + 8);
+            self.number(index);
+            self.bytes.extend_from_slice(data);
+            count += 1;
+        }
+        if count == 0 {
+            self.bytes.truncate(start);
+            self.count(self.count - 1);
+            return self;
+        }
+        self.bytes[at..at + 8].copy_from_slice(&count.to_be_bytes());
+        self
+    }
+
+    /// All entries and keys of the group go.
+    pub fn clean(&mut self, group: u64) -> &mut LogBatch {
+        self.head(4, group);
+        self
+    }
+
+    /// The entries below an index go.
+    pub fn compact(&mut self, group: u64, index: u64) -> &mut LogBatch {
+        self.head(5, group);
+        self.number(index);
+        self
+    }
+}
+
+// Bytes of the C library.
+struct Bytes(sys::raftlog_bytes);
+
+impl Bytes {
+    fn new() -> Bytes {
+        Bytes(sys::raftlog_bytes { data: ptr::null_mut(), len: 0, room: 0 })
+    }
+
+    fn as_slice(&self) -> &[u8] {
+        if self.0.data.is_null() {
+            return &[];
+        }
+        unsafe { std::slice::from_raw_parts(self.0.data, self.0.len) }
+    }
+
+    fn parts(&self) -> Parts<'_> {
+        Parts(self.as_slice())
+    }
+}
+
+impl Drop for Bytes {
+    fn drop(&mut self) {
+        unsafe { sys::raftlog_bytes_free(&mut self.0) }
+    }
+}
+
+struct Parts<'a>(&'a [u8]);
+
+impl<'a> Parts<'a> {
+    fn number(&mut self) -> Option<u64> {
+        let (number, rest) = self.0.split_first_chunk::<8>()?;
+        self.0 = rest;
+        Some(u64::from_be_bytes(*number))
+    }
+
+    fn part(&mut self) -> Option<&'a [u8]> {
+        let len = self.number()? as usize;
+        let (part, rest) = self.0.split_at_checked(len)?;
+        self.0 = rest;
+        Some(part)
+    }
+}
+
+/// An open log. It is closed, with a sync, when it is dropped; `close` tells whether that was done.
+pub struct Engine {
+    log: *mut sys::raftlog,
+}
+
+// One call at a time is let in by the C library's mutex.
+unsafe impl Send for Engine {}
+unsafe impl Sync for Engine {}
+
+impl fmt::Debug for Engine {
+    fn fmt(&self, f: &mut fmt::Formatter<'_>) -> fmt::Result {
+        f.debug_struct("Engine").finish_non_exhaustive()
+    }
+}
+
+impl Engine {
+    /// Opens the log in a folder, which is made where it is missing. The settings are TOML, as
+    /// `target-file-size = "64MB"`; those that aren't named are the defaults.
+    pub fn open(folder: impl AsRef<Path>, settings: &str) -> Result<Engine> {
+        let folder = CString::new(folder.as_ref().as_os_str().as_bytes()).map_err(|_| Error::invalid("the folder's path has a NUL"))?;
+        Engine::opened(settings, |settings, out, text, room| unsafe {
+            sys::raftlog_open(folder.as_ptr(), settings, out, text, room)
+        })
+    }
+
+    /// A log in memory, for tests.
+    pub fn open_memory(settings: &str) -> Result<Engine> {
+        Engine::opened(settings, |settings, out, text, room| unsafe {
+            sys::raftlog_open_memory(settings, out, text, room)
+        })
+    }
+
+    fn opened(
+        settings: &str,
+        open: impl FnOnce(*const c_char, *mut *mut sys::raftlog, *mut c_char, usize) -> c_int,
+    ) -> Result<Engine> {
+        let settings = CString::new(settings).map_err(|_| Error::invalid("the settings have a NUL"))?;
+        let mut log = ptr::null_mut();
+        let mut text = [0u8; 512];
+        match open(settings.as_ptr(), &mut log, text.as_mut_ptr().cast(), text.len()) {
+            OK => Ok(Engine { log }),
+            code => {
+                let found = CStr::from_bytes_until_nul(&text).map_or(String::new(), |t| t.to_string_lossy().into_owned());
+                let message = if found.is_empty() { code_text(code) } else { found };
+                Err(Error { code: Code::of(code), message })
+            }
+        }
+    }
+
+    // Another thread's call may have failed in between: then the text is that one's.
+    fn failure(&self, code: c_int) -> Error {
+        let mut text = [0u8; 512];
+        unsafe { sys::raftlog_message(self.log, text.as_mut_ptr().cast(), text.len()) };
+        let message = CStr::from_bytes_until_nul(&text).map_or(code_text(code), |t| t.to_string_lossy().into_owned());
+        Error { code: Code::of(code), message }
+    }
+
+    fn done(&self, code: c_int) -> Result<()> {
+        self.found(code).map(|_| ())
+    }
+
+    // Whether what was asked for is there.
+    fn found(&self, code: c_int) -> Result<bool> {
+        match code {
+            OK => Ok(true),
+            ABSENT => Ok(false),
+            code => Err(self.failure(code)),
+        }
+    }
+
+    /// Writes a batch, and empties it where that was done. After an `Ok` with `sync` it survives a crash, with all that
+    /// was written before it.
+    pub fn write(&self, batch: &mut LogBatch, sync: bool) -> Result<()> {
+        self.done(unsafe { sys::raftlog_write_bytes(self.log, batch.bytes.as_ptr().cast(), batch.bytes.len(), sync) })?;
+        batch.clear();
+        Ok(())
+    }
+
+    /// Writes a batch that acts once, however often it is written: with it each of these groups takes the number beside
+    /// it. Each number has to be greater than the one that its group keeps; where none is, nothing is written.
+    pub fn write_once(&self, batch: &mut LogBatch, pairs: &[(u64, u64)], sync: bool) -> Result<()> {
+        let (groups, numbers): (Vec<u64>, Vec<u64>) = pairs.iter().copied().unzip();
+        let bytes = &batch.bytes;
+        self.done(unsafe {
+            sys::raftlog_write_once_bytes(
+                self.log,
+                bytes.as_ptr().cast(),
+                bytes.len(),
+                groups.as_ptr(),
+                numbers.as_ptr(),
+                pairs.len(),
+                sync,
+            )
+        })?;
+        batch.clear();
+        Ok(())
+    }
+
+    /// Syncs all that was written.
+    pub fn sync(&self) -> Result<()> {
+        self.done(unsafe { sys::raftlog_sync(self.log) })
+    }
+
+    /// The value that a group has at a key.
+    pub fn get(&self, group: u64, key: &[u8]) -> Result<Option<Vec<u8>>> {
+        let mut value = Bytes::new();
+        let code = unsafe { sys::raftlog_get(self.log, group, key.as_ptr().cast(), key.len(), &mut value.0) };
+        Ok(self.found(code)?.then(|| value.as_slice().to_vec()))
+    }
+
+    /// The bytes of a group's entry with an index.
+    pub fn get_entry(&self, group: u64, index: u64) -> Result<Option<Vec<u8>>> {
+        let mut value = Bytes::new();
+        let code = unsafe { sys::raftlog_get_entry(self.log, group, index, &mut value.0) };
+        Ok(self.found(code)?.then(|| value.as_slice().to_vec()))
+    }
+
+    /// The entries from `begin` up to the one before `end` with their indexes: as many as take at most `max_size` bytes
+    /// together, each with 8 more, but one at least.
+    pub fn fetch_entries(&self, group: u64, begin: u64, end: u64, max_size: Option<u64>) -> Result<Vec<(u64, Vec<u8>)>> {
+        let mut bytes = Bytes::new();
+        self.done(unsafe { sys::raftlog_fetch_entries(self.log, group, begin, end, max_size.unwrap_or(0), &mut bytes.0) })?;
+        let mut parts = bytes.parts();
+        let mut entries = Vec::new();
+        while let Some((index, data)) = parts.part().and_then(|entry| entry.split_first_chunk::<8>()) {
+            entries.push((u64::from_be_bytes(*index), data.to_vec()));
+        }
+        Ok(entries)
+    }
+
+    /// The index of a group's first entry.
+    pub fn first_index(&self, group: u64) -> Result<Option<u64>> {
+        let mut index = 0;
+        let code = unsafe { sys::raftlog_first_index(self.log, group, &mut index) };
+        Ok(self.found(code)?.then_some(index))
+    }
+
+    /// .. and of its last one.
+    pub fn last_index(&self, group: u64) -> Result<Option<u64>> {
+        let mut index = 0;
+        let code = unsafe { sys::raftlog_last_index(self.log, group, &mut index) };
+        Ok(self.found(code)?.then_some(index))
+    }
+
+    /// Drops the entries below an index, without a sync, and says how many.
+    pub fn compact_to(&self, group: u64, index: u64) -> Result<u64> {
+        let mut count = 0;
+        self.done(unsafe { sys::raftlog_compact_to(self.log, group, index, &mut count) })?;
+        Ok(count)
+    }
+
+    /// Purges by the settings' thresholds, to be called now and then: rewrites what old files still hold, and drops them.
+    /// Changes nothing that the log holds, and does nothing while the log is small. Answers the groups that hold old
+    /// entries and should be compacted.
+    pub fn purge_expired_files(&self) -> Result<Vec<u64>> {
+        let mut groups = Bytes::new();
+        self.done(unsafe { sys::raftlog_purge_expired_files(self.log, &mut groups.0) })?;
+        let mut parts = groups.parts();
+        Ok(std::iter::from_fn(|| parts.number()).collect())
+    }
+
+    /// Writes what stands in the log files of the Append queue to the Rewrite queue, drops them, and says how many.
+    pub fn must_rewrite_append_queue(&self) -> Result<u64> {
+        let mut count = 0;
+        self.done(unsafe { sys::raftlog_must_rewrite_append_queue(self.log, &mut count) })?;
+        Ok(count)
+    }
+
+    /// Writes what stands in the log files of the Rewrite queue to a new one, drops them, and says how many.
+    pub fn must_rewrite_rewrite_queue(&self) -> Result<u64> {
+        let mut count = 0;
+        self.done(unsafe { sys::raftlog_must_rewrite_rewrite_queue(self.log, &mut count) })?;
+        Ok(count)
+    }
+
+    /// Drops the log files in front in which nothing stands, of both queues, and says how many of the Append queue.
+    pub fn must_purge_all_stale(&self) -> Result<u64> {
+        let mut count = 0;
+        self.done(unsafe { sys::raftlog_must_purge_all_stale(self.log, &mut count) })?;
+        Ok(count)
+    }
+
+    /// The keys from `start` up to those before `end` with their values, in the order of the bytes or the other way round;
+    /// at most `limit`.
+    pub fn scan(
+        &self,
+        group: u64,
+        start: Option<&[u8]>,
+        end: Option<&[u8]>,
+        reverse: bool,
+        limit: Option<u64>,
+    ) -> Result<Vec<(Vec<u8>, Vec<u8>)>> {
+        if limit == Some(0) {
+            return Ok(Vec::new());
+        }
+        let slice = |bytes: &[u8]| sys::raftlog_slice { data: bytes.as_ptr(), len: bytes.len() };
+        let (start, end) = (start.map(slice), end.map(slice));
+        let mut bytes = Bytes::new();
+        self.done(unsafe {
+            sys::raftlog_scan(
+                self.log,
+                group,
+                start.as_ref().map_or(ptr::null(), |s| s as *const _),
+                end.as_ref().map_or(ptr::null(), |s| s as *const _),
+                reverse,
+                limit.unwrap_or(0),
+                &mut bytes.0,
+            )
+        })?;
+        let mut parts = bytes.parts();
+        let mut pairs = Vec::new();
+        while let (Some(key), Some(value)) = (parts.part(), parts.part()) {
+            pairs.push((key.to_vec(), value.to_vec()));
+        }
+        Ok(pairs)
+    }
+
+    /// The groups into which something was put since they were last cleaned, in order.
+    pub fn raft_groups(&self) -> Result<Vec<u64>> {
+        let mut bytes = Bytes::new();
+        self.done(unsafe { sys::raftlog_groups(self.log, &mut bytes.0) })?;
+        let mut parts = bytes.parts();
+        Ok(std::iter::from_fn(|| parts.number()).collect())
+    }
+
+    /// Syncs and closes.
+    pub fn close(mut self) -> Result<()> {
+        match unsafe { sys::raftlog_close(std::mem::replace(&mut self.log, ptr::null_mut())) } {
+            OK => Ok(()),
+            code => Err(Error { code: Code::of(code), message: code_text(code) }),
+        }
+    }
+}
+
+impl Drop for Engine {
+    fn drop(&mut self) {
+        unsafe { sys::raftlog_close(self.log) };
+    }
+}

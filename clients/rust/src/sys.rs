@@ -1,0 +1,45 @@
+//! `raftlog.h`.
+#![allow(non_camel_case_types)]
+use std::ffi::{c_char, c_int, c_void};
+
+#[repr(C)]
+pub struct raftlog {
+    _private: [u8; 0],
+}
+
+#[repr(C)]
+pub struct raftlog_slice {
+    pub data: *const u8,
+    pub len: usize,
+}
+
+#[repr(C)]
+pub struct raftlog_bytes {
+    pub data: *mut u8,
+    pub len: usize,
+    pub room: usize,
+}
+
+extern "C" {
+    pub fn raftlog_bytes_free(bytes: *mut raftlog_bytes);
+    pub fn raftlog_open(folder: *const c_char, settings: *const c_char, out: *mut *mut raftlog, text: *mut c_char, room: usize) -> c_int;
+    pub fn raftlog_open_memory(settings: *const c_char, out: *mut *mut raftlog, text: *mut c_char, room: usize) -> c_int;
+    pub fn raftlog_close(log: *mut raftlog) -> c_int;
+    pub fn raftlog_message(log: *mut raftlog, text: *mut c_char, room: usize) -> usize;
+    pub fn raftlog_code_text(code: c_int) -> *const c_char;
+    pub fn raftlog_write_bytes(log: *mut raftlog, bytes: *const c_void, len: usize, sync: bool) -> c_int;
+    pub fn raftlog_write_once_bytes(log: *mut raftlog, bytes: *const c_void, len: usize, groups: *const u64, numbers: *const u64, count: usize, sync: bool) -> c_int;
+    pub fn raftlog_sync(log: *mut raftlog) -> c_int;
+    pub fn raftlog_get(log: *mut raftlog, group: u64, key: *const c_void, key_len: usize, value: *mut raftlog_bytes) -> c_int;
+    pub fn raftlog_get_entry(log: *mut raftlog, group: u64, index: u64, value: *mut raftlog_bytes) -> c_int;
+    pub fn raftlog_fetch_entries(log: *mut raftlog, group: u64, begin: u64, end: u64, max_size: u64, entries: *mut raftlog_bytes) -> c_int;
+    pub fn raftlog_first_index(log: *mut raftlog, group: u64, index: *mut u64) -> c_int;
+    pub fn raftlog_last_index(log: *mut raftlog, group: u64, index: *mut u64) -> c_int;
+    pub fn raftlog_compact_to(log: *mut raftlog, group: u64, index: u64, count: *mut u64) -> c_int;
+    pub fn raftlog_must_rewrite_append_queue(log: *mut raftlog, count: *mut u64) -> c_int;
+    pub fn raftlog_must_rewrite_rewrite_queue(log: *mut raftlog, count: *mut u64) -> c_int;
+    pub fn raftlog_must_purge_all_stale(log: *mut raftlog, count: *mut u64) -> c_int;
+    pub fn raftlog_purge_expired_files(log: *mut raftlog, groups: *mut raftlog_bytes) -> c_int;
+    pub fn raftlog_scan(log: *mut raftlog, group: u64, start: *const raftlog_slice, end: *const raftlog_slice, reverse: bool, limit: u64, pairs: *mut raftlog_bytes) -> c_int;
+    pub fn raftlog_groups(log: *mut raftlog, groups: *mut raftlog_bytes) -> c_int;
+}

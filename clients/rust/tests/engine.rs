@@ -1,0 +1,124 @@
+use raftlog::{Code, Engine, LogBatch};
+use std::sync::Arc;
+
+fn folder(name: &str) -> std::path::PathBuf {
+    let folder = std::env::temp_dir().join(format!("raftlog-test-{}-{name}", std::process::id()));
+    let _ = std::fs::remove_dir_all(&folder);
+    folder
+}
+
+fn exercise(log: &Engine) {
+    let mut batch = LogBatch::new();
+    batch.put(1, b"a", b"first").put(1, b"b", b"").put(1, b"c", b"third").delete(1, b"c");
+    batch.add_entries(7, (5..15u64).map(|index| (index, b"entry".as_slice())));
+    log.write(&mut batch, true).unwrap();
+    assert!(batch.is_empty());
+    assert_eq!(log.get(1, b"a").unwrap().unwrap(), b"first");
+    assert_eq!(log.get(1, b"b").unwrap().unwrap(), b"");
+    assert_eq!(log.get(1, b"c").unwrap(), None);
+    assert_eq!(log.get_entry(7, 8).unwrap().unwrap(), b"entry");
+    assert_eq!(log.get_entry(7, 15).unwrap(), None);
+    assert_eq!((log.first_index(7).unwrap(), log.last_index(7).unwrap()), (Some(5), Some(14)));
+    assert_eq!(log.first_index(1).unwrap(), None);
+    let entries = log.fetch_entries(7, 5, 15, Some(27)).unwrap();
+    assert_eq!(entries, [(5, b"entry".to_vec()), (6, b"entry".to_vec())]);
+    assert_eq!(log.fetch_entries(7, 4, 15, None).unwrap_err().code, Code::Compacted);
+    assert_eq!(log.fetch_entries(7, 5, 16, None).unwrap_err().to_string(), "entry not found");
+    let pairs = log.scan(1, None, None, true, None).unwrap();
+    assert_eq!(pairs, [(b"b".to_vec(), vec![]), (b"a".to_vec(), b"first".to_vec())]);
+    assert_eq!(log.scan(1, Some(b"a"), Some(b"b"), false, None).unwrap().len(), 1);
+    assert_eq!(log.scan(1, None, None, false, Some(1)).unwrap().len(), 1);
+    assert_eq!(log.compact_to(7, 8).unwrap(), 3);
+    batch.compact(7, 10).clean(1);
+    log.write(&mut batch, false).unwrap();
+    assert_eq!(log.first_index(7).unwrap(), Some(10));
+    assert_eq!(log.raft_groups().unwrap(), [7]);
+    batch.add_entries(7, [(100, b"x".as_slice())]).put(1, b"k", b"v");
+    assert_eq!(log.write(&mut batch, true).unwrap_err().code, Code::Gap);
+    assert!(!batch.is_empty());
+    assert_eq!(log.get(1, b"k").unwrap(), None);
+    log.sync().unwrap();
+    log.must_purge_all_stale().unwrap();
+    assert_eq!(log.purge_expired_files().unwrap(), []);
+    log.must_rewrite_append_queue().unwrap();
+    log.must_rewrite_rewrite_queue().unwrap();
+    assert_eq!(log.last_index(7).unwrap(), Some(14));
+}
+
+#[test]
+fn bad_arguments() {
+    let log = Engine::open_memory("").unwrap();
+    let mut batch = LogBatch::new();
+    batch.put(1, b"", b"").put(1, &vec![1; 1 << 20], b"v").add_entries(2, []);
+    log.write(&mut batch, false).unwrap();
+    assert_eq!(log.get(1, b"").unwrap().unwrap(), b"");
+    assert_eq!(log.get(1, &vec![1; 1 << 20]).unwrap().unwrap(), b"v");
+    assert_eq!(log.first_index(2).unwrap(), None);
+    batch.put(1, b"__x", b"v").put(1, b"y", b"v");
+    assert_eq!(log.write(&mut batch, false).unwrap_err().code, Code::Invalid);
+    assert_eq!(log.get(1, b"y").unwrap(), None);
+    for settings in ["target-file-size = 3 MB", "target-file-size = \"3 stones\"", "recovery-mode = \"hopeful\"", "a\0b"] {
+        assert_eq!(Engine::open_memory(settings).unwrap_err().code, Code::Invalid, "{settings}");
+    }
+    assert_eq!(Engine::open("", "").unwrap_err().code, Code::Invalid);
+    assert_eq!(Engine::open("/proc/none/x", "").unwrap_err().code, Code::Folder);
+    log.write(&mut LogBatch::new(), true).unwrap();
+}
+
+#[test]
+fn writes_that_act_once() {
+    let log = Engine::open_memory("").unwrap();
+    let mut batch = LogBatch::new();
+    batch.put(1, b"k", b"a");
+    log.write_once(&mut batch, &[(1, 5)], true).unwrap();
+    assert!(batch.is_empty());
+    batch.put(1, b"k", b"b");
+    log.write_once(&mut batch, &[(1, 5)], true).unwrap();
+    assert_eq!(log.get(1, b"k").unwrap().unwrap(), b"a");
+    batch.put(1, b"k", b"c");
+    assert_eq!(log.write_once(&mut batch, &[(1, 6), (2, 0)], true).unwrap_err().code, Code::StaleNumber);
+    assert_eq!(log.write_once(&mut batch, &[], true).unwrap_err().code, Code::Invalid);
+    assert!(!batch.is_empty());
+    log.write_once(&mut batch, &[(1, 6), (2, 1)], true).unwrap();
+    assert_eq!(log.get(1, b"k").unwrap().unwrap(), b"c");
+}
+
+#[test]
+fn in_memory() {
+    exercise(&Engine::open_memory("").unwrap());
+}
+
+#[test]
+fn in_a_folder() {
+    let folder = folder("calls");
+    let log = Engine::open(&folder, "").unwrap();
+    exercise(&log);
+    let error = Engine::open(&folder, "").unwrap_err();
+    assert_eq!(error.code, Code::InUse);
+    assert!(error.message.contains(folder.to_str().unwrap()));
+    drop(log);
+    let log = Engine::open(&folder, "target-file-size = \"4KB\"").unwrap();
+    assert_eq!((log.first_index(7).unwrap(), log.last_index(7).unwrap()), (Some(10), Some(14)));
+    log.close().unwrap();
+    std::fs::remove_dir_all(folder).unwrap();
+}
+
+#[test]
+fn by_threads() {
+    let log = Arc::new(Engine::open_memory("").unwrap());
+    let threads: Vec<_> = (0..4u64)
+        .map(|thread| {
+            let log = Arc::clone(&log);
+            std::thread::spawn(move || {
+                let mut batch = LogBatch::new();
+                for i in 0..1000u64 {
+                    batch.put(thread + 1, &i.to_le_bytes(), &(i * thread).to_le_bytes());
+                    log.write(&mut batch, i % 10 == 0).unwrap();
+                    assert_eq!(log.get(thread + 1, &i.to_le_bytes()).unwrap().unwrap(), (i * thread).to_le_bytes());
+                }
+            })
+        })
+        .collect();
+    threads.into_iter().for_each(|thread| thread.join().unwrap());
+    assert_eq!((1..5).map(|group| log.scan(group, None, None, false, None).unwrap().len()).sum::<usize>(), 4000);
+}

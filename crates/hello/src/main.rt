@@ -1,0 +1,28 @@
+//! Puts a key with a sync into a log in a folder, and finds it after the next opening.
+#![tactic(auto)]
+
+use raft_disk::DiskFileSystem;
+use raft_log_engine::{Config, Engine, Fault, FileSystem, Fresh, LogBatch};
+use std::alloc::Global;
+
+fn main(rt: HostRuntime) -> Result<(), anyhow::Error> {
+    put(rt.alloc(), DiskFileSystem::open(rt, "log")?)?;
+    let found = has(rt.alloc(), DiskFileSystem::open(rt, "log")?)?;
+    println!(rt; "the key is found: {found}")?;
+    Ok(())
+}
+
+fn put<F: FileSystem + Drop>(alloc: Global, files: F) -> Result<(), Fault> {
+    let mut engine = Engine::open_in_order(alloc, Config::fresh(alloc), files)?;
+    let mut batch = LogBatch::new(alloc);
+    batch.put(1, b"state".to_vec(alloc)?, b"follower".to_vec(alloc)?)?;
+    engine.write(&mut batch, true)?;
+    engine.close()?;
+    Ok(())
+}
+
+fn has<F: FileSystem + Drop>(alloc: Global, files: F) -> Result<bool, Fault> {
+    let engine = Engine::open_in_order(alloc, Config::fresh(alloc), files)?;
+    let value = engine.get(1, b"state")?;
+    Ok(value.is_some())
+}

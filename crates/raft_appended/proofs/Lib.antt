@@ -1,0 +1,5 @@
+pub mod AppendedLemmas
+pub mod CodedLemmas
+pub mod HoleLemmas
+mod JoinedLemmas
+pub mod OverLemmas

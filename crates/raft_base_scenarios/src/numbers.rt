@@ -1,0 +1,173 @@
+//! Numbers and checksums as bytes.
+
+use raft_codec::checksum::crc32;
+use raft_codec::number::{push_u32, push_u64, push_var, take_u32, take_u64, take_var, var_len};
+use raft_records::Fault;
+use raft_rows::{Row, first_wrong};
+use std::alloc::{AllocError, Global};
+use std::test::Fail;
+
+enum Form {
+    Eight,
+    Four,
+    Varying,
+}
+
+/// A form, a number, and its bytes in that form.
+struct Number(Form, u64, &'static [u8]);
+
+static NUMBERS: [Number; 8] = [
+    Number(
+        Form::Eight,
+        0x0102_0304_0506_0708,
+        &[1, 2, 3, 4, 5, 6, 7, 8],
+    ),
+    Number(Form::Four, 0x090A_0B0C, &[12, 11, 10, 9]),
+    Number(Form::Varying, 0, &[0]),
+    Number(Form::Varying, 127, &[0x7F]),
+    Number(Form::Varying, 128, &[0x80, 1]),
+    Number(Form::Varying, 300, &[0xAC, 2]),
+    Number(
+        Form::Varying,
+        0x1_0000_0000,
+        &[0x80, 0x80, 0x80, 0x80, 0x10],
+    ),
+    Number(
+        Form::Varying,
+        u64::MAX,
+        &[0xFF, 0xFF, 0xFF, 0xFF, 0xFF, 0xFF, 0xFF, 0xFF, 0xFF, 1],
+    ),
+];
+
+/// Bytes that begin with no number of the form.
+struct NoNumber(Form, &'static [u8]);
+
+static REFUSED: [NoNumber; 7] = [
+    NoNumber(Form::Eight, &[0; 7]),
+    NoNumber(Form::Four, &[0; 3]),
+    NoNumber(Form::Varying, &[]),
+    NoNumber(Form::Varying, &[0x80]),
+    NoNumber(Form::Varying, &[0x80, 0]),
+    NoNumber(
+        Form::Varying,
+        &[0xFF, 0xFF, 0xFF, 0xFF, 0xFF, 0xFF, 0xFF, 0xFF, 0xFF, 2],
+    ),
+    NoNumber(
+        Form::Varying,
+        &[
+            0x80, 0x80, 0x80, 0x80, 0x80, 0x80, 0x80, 0x80, 0x80, 0x80, 1,
+        ],
+    ),
+];
+
+/// A byte that stands after a number.
+const BEHIND: &[u8] = &[0xEE];
+
+// In place of a number for which the form has no room 0 is written.
+fn push(form: &Form, bytes: &mut Vec<u8>, number: u64) -> Result<(), AllocError> {
+    match form {
+        Form::Eight => push_u64(bytes, number),
+        Form::Four => push_u32(bytes, u32::try_from(number).unwrap_or(0)),
+        Form::Varying => push_var(bytes, number),
+    }
+}
+
+fn take<'a>(form: &Form, bytes: &'a [u8]) -> Option<(u64, &'a [u8])> {
+    match form {
+        Form::Eight => take_u64(bytes),
+        Form::Four => {
+            let (number, rest) = take_u32(bytes)?;
+            Some((u64::from(number), rest))
+        }
+        Form::Varying => take_var(bytes),
+    }
+}
+
+fn len_of(form: &Form, number: u64) -> usize {
+    match form {
+        Form::Eight => 8,
+        Form::Four => 4,
+        Form::Varying => var_len(number),
+    }
+}
+
+// Whether the number is read, and this byte is left.
+fn is_taken(form: &Form, bytes: &[u8], number: u64) -> bool {
+    match take(form, bytes) {
+        Some((taken, rest)) => taken == number && rest == BEHIND,
+        None => false,
+    }
+}
+
+impl Row for Number {
+    type State = ();
+
+    // The bytes are written, and the number is read from them.
+    fn holds(&self, alloc: Global, _: &mut ()) -> Result<bool, Fault> {
+        let Number(form, number, wanted) = self;
+        let mut bytes = Vec::new(alloc);
+        push(form, &mut bytes, *number)?;
+        let is_written = bytes.as_slice() == *wanted && bytes.len() == len_of(form, *number);
+        bytes.extend_from_slice(BEHIND)?;
+        Ok(is_written && is_taken(form, &bytes, *number))
+    }
+}
+
+#[test]
+fn numbers_have_their_bytes(rt: HostRuntime) -> Result<(), Fail> {
+    assert_eq!(rt; first_wrong(rt.alloc(), &mut (), &NUMBERS)?, None);
+    Ok(())
+}
+
+impl Row for NoNumber {
+    type State = ();
+
+    fn holds(&self, _: Global, _: &mut ()) -> Result<bool, Fault> {
+        Ok(take(&self.0, self.1).is_none())
+    }
+}
+
+#[test]
+fn other_bytes_are_no_number(rt: HostRuntime) -> Result<(), Fail> {
+    assert_eq!(rt; first_wrong(rt.alloc(), &mut (), &REFUSED)?, None);
+    Ok(())
+}
+
+/// Bytes, how many of `(7 * i + 3) % 256` stand behind them, and the checksum of all by zlib.
+struct Checksum(&'static [u8], u32, u32);
+
+static CHECKSUMS: [Checksum; 10] = [
+    Checksum(b"123456789", 0, 0xCBF4_3926),
+    Checksum(b"", 0, 0),
+    Checksum(b"", 1, 0x4B0B_BE37),
+    Checksum(b"", 15, 0x7C61_9EDC),
+    Checksum(b"", 16, 0x191F_3D9F),
+    Checksum(b"", 17, 0x7BA7_5EE3),
+    Checksum(b"", 31, 0xD07F_9B5B),
+    Checksum(b"", 32, 0xA10E_8695),
+    Checksum(b"", 33, 0x6BC5_3502),
+    Checksum(b"", 1000, 0x17BC_2A46),
+];
+
+fn push_counted(bytes: &mut Vec<u8>, len: u32) -> Result<(), AllocError> {
+    for i in 0..len {
+        bytes.push(((7 * u64::from(i) + 3) % 256) as u8)?;
+    }
+    Ok(())
+}
+
+impl Row for Checksum {
+    type State = ();
+
+    fn holds(&self, alloc: Global, _: &mut ()) -> Result<bool, Fault> {
+        let mut bytes = self.0.to_vec(alloc)?;
+        push_counted(&mut bytes, self.1)?;
+        Ok(crc32(&bytes) == self.2)
+    }
+}
+
+#[test]
+fn checksums_agree_with_zlib(rt: HostRuntime) -> Result<(), Fail> {
+    assert_eq!(rt; first_wrong(rt.alloc(), &mut (), &CHECKSUMS)?, None);
+    Ok(())
+}

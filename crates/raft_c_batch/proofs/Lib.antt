@@ -1,0 +1,4 @@
+pub mod LoopLemmas
+pub mod WrittenLemmas
+pub mod PartLemmas
+pub mod ReadLemmas

@@ -1,0 +1,141 @@
+-- What was read so far, and what is left.
+use Rattle.std.proofs.Common.{◌≡◌, ◌≢◌, ◌∙◌, ℕ, zero, suc, List, [], ◌∷◌, ◌++◌, Option, Some, None, Result, Ok, Err, IfErr, IsErrAnd, option_and_then, option_map, arith, refl, sym, ap, subst, append_assoc, append-nil, length, false, nat_eq}
+use Rattle.std.proofs.lemmas.Bool.Decides.{nat_tests}
+use Rattle.raft_codec.specs.Number.{take_u64}
+use Rattle.raft_records.specs.Batch.{BatchView, with_entries_item}
+use Rattle.raft_records.specs.Item.{Entry, Entries, Item, Batch}
+use Rattle.raft_c_batch.specs.declared.batch.BatchFault.{BatchFault}
+use Rattle.raft_c_batch.specs.declared.batch.BatchFault.TheVariants.{Malformed, Refused}
+use Rattle.raft_c_batch.specs.Batch.{IsBatchRefusal, all_items, read_batch, take_each, take_entries, take_entry, take_item, take_items, with_item_taken, with_taken}
+
+-- these and those that were read
+abbrev pub before : {A : Type 0} → List A → List A × List ℕ → List A × List ℕ
+before xs taken = (xs ++ taken.0, taken.1)
+
+-- one more in front of those that were read
+abbrev in_front : {A : Type 0} → A → List A × List ℕ → List A × List ℕ
+in_front x taken = (x ∷ taken.0, taken.1)
+
+before_one : {A : Type 0} (xs : List A) (x : A) (rest : Option (List A × List ℕ))
+    → option_map (before (xs ++ x ∷ [])) rest ≡ option_map (before xs) (option_map (in_front x) rest)
+before_one xs x None = refl
+before_one xs x (Some taken) = ap (λ ys. Some (ys, taken.1)) (append_assoc xs (x ∷ []) taken.0)
+
+before_none : {A : Type 0} (xs : List A) (rest : Option (List A × List ℕ)) → option_map (before xs) rest ≡ None → rest ≡ None
+before_none xs None none = refl
+before_none xs (Some taken) none = absurd cc
+
+pub if_err : {T : Type 0} (r : Result T BatchFault) (Q : BatchFault → Type 0) (e : BatchFault)
+    → IsErrAnd r (λ f. f ≡ e) → Q e → IfErr r Q
+if_err (Ok x) Q e is holds = tt
+if_err (Err f) Q e is holds = subst Q (sym is) holds
+
+-- Entries.
+
+pub entries_next : (xs : List Entry) (x : Entry) (n left : ℕ) (bytes tail : List ℕ) → n ≡ suc left
+    → take_entry bytes ≡ Some (x, tail)
+    → option_map (before (xs ++ x ∷ [])) (take_each left tail) ≡ option_map (before xs) (take_each n bytes)
+unfolding take_each
+entries_next xs x n left bytes tail more taken = rw (more, taken) (before_one xs x (take_each left tail))
+
+pub entries_none : (n : ℕ) (bytes : List ℕ) → n ≢ 0 → take_entry bytes ≡ None → take_each n bytes ≡ None
+unfolding take_each
+entries_none zero bytes some none = absurd (omega arith)
+entries_none (suc n) bytes some none = rw none refl
+
+pub entries_end : (xs : List Entry) (n : ℕ) (bytes : List ℕ) → n ≡ 0 → option_map (before xs) (take_each n bytes) ≡ Some (xs, bytes)
+unfolding take_each
+entries_end xs n bytes none = rw none (ap (λ ys. Some (ys, bytes)) (append-nil xs))
+
+pub entry_refused : (e : BatchFault) (xs : List Entry) (count left : ℕ) (bytes rest : List ℕ) → left ≢ 0
+    → option_map (before xs) (take_each left rest) ≡ take_each count bytes
+    → IsBatchRefusal (take_entry rest) e → IsBatchRefusal (take_each count bytes) e
+entry_refused Malformed xs count left bytes rest some read none =
+    sym read ∙ ap (option_map (before xs)) (entries_none left rest some none)
+entry_refused (Refused f) xs count left bytes rest some read is = is
+
+-- entries that were read are an item
+pub entries_added : (batch : BatchView) (group count : ℕ) (bytes rest tail : List ℕ) (es : List Entry) → count ≢ 0
+    → take_u64 bytes ≡ Some (count, rest) → take_each count rest ≡ Some (es, tail)
+    → option_map (with_taken batch.items group) (take_entries bytes) ≡ Some ((with_entries_item batch group es).items, tail)
+unfolding take_each
+entries_added batch group zero bytes rest tail es some counted taken = absurd (omega arith)
+entries_added batch group (suc n) bytes rest tail es some counted taken = rw (counted, test, taken) (by_list es (nonempty (take_entry rest) taken))
+  where
+    test : nat_eq (suc n) 0 ≡ false
+    test = grind (arith, nat_tests)
+
+    -- the list has one at least
+    nonempty : (o : Option (Entry × List ℕ))
+        → option_and_then {U = List Entry × List ℕ} (λ (e : Entry × List ℕ). option_map (in_front e.0) (take_each n e.1)) o ≡ Some (es, tail)
+        → es ≢ []
+    nonempty None is = absurd cc
+    nonempty (Some e) is = by_rest (take_each n e.1) is
+      where
+        by_rest : (o : Option (List Entry × List ℕ)) → option_map (in_front e.0) o ≡ Some (es, tail) → es ≢ []
+        by_rest None is = absurd cc
+        by_rest (Some more) is = λ none. let same : e.0 ∷ more.0 ≡ es = grind (arith, is) in absurd (omega (arith, ap length (same ∙ none)))
+
+    by_list : (es : List Entry) → es ≢ []
+        → ◌≡◌ {A = Option (Batch × List ℕ)} (Some (batch.items ++ record { group = group; content = Entries es } ∷ [], tail)) (Some ((with_entries_item batch group es).items, tail))
+    by_list [] some = absurd (some refl)
+    by_list (e ∷ es) some = refl
+
+-- Items.
+
+pub items_next : (xs : Batch) (x : Item) (n left : ℕ) (bytes tail : List ℕ) → n ≡ suc left
+    → take_item bytes ≡ Some (x, tail)
+    → option_map (before (xs ++ x ∷ [])) (take_items left tail) ≡ option_map (before xs) (take_items n bytes)
+unfolding take_items
+items_next xs x n left bytes tail more taken = rw (more, taken) (before_one xs x (take_items left tail))
+
+pub items_none : (n : ℕ) (bytes : List ℕ) → n ≢ 0 → take_item bytes ≡ None → take_items n bytes ≡ None
+unfolding take_items
+items_none zero bytes some none = absurd (omega arith)
+items_none (suc n) bytes some none = rw none refl
+
+pub items_end : (xs : Batch) (n : ℕ) (bytes : List ℕ) → n ≡ 0 → option_map (before xs) (take_items n bytes) ≡ Some (xs, bytes)
+unfolding take_items
+items_end xs n bytes none = rw none (ap (λ ys. Some (ys, bytes)) (append-nil xs))
+
+pub item_added : (xs new : Batch) (n left : ℕ) (bytes tail : List ℕ) → n ≡ suc left
+    → option_map (with_item_taken xs) (take_item bytes) ≡ Some (new, tail)
+    → option_map (before new) (take_items left tail) ≡ option_map (before xs) (take_items n bytes)
+item_added xs new n left bytes tail more taken = by_item (take_item bytes) refl taken
+  where
+    by_item : (o : Option (Item × List ℕ)) → take_item bytes ≡ o → option_map (with_item_taken xs) o ≡ Some (new, tail)
+        → option_map (before new) (take_items left tail) ≡ option_map (before xs) (take_items n bytes)
+    by_item None is e = absurd cc
+    by_item (Some (x, rest)) is e =
+        let here : new ≡ xs ++ x ∷ [] = grind (arith, e) in
+        let after : tail ≡ rest = grind (arith, e) in
+        rw (here, after) (items_next xs x n left bytes rest more is)
+
+pub item_refused : (e : BatchFault) (xs ys : Batch) (count left : ℕ) (bytes rest now : List ℕ) → left ≢ 0
+    → take_u64 bytes ≡ Some (count, rest)
+    → option_map (before ys) (take_items left now) ≡ option_map (before xs) (take_items count rest)
+    → IsBatchRefusal (take_item now) e → IsBatchRefusal (read_batch bytes) e
+item_refused Malformed xs ys count left bytes rest now some counted read none =
+    let gone : take_items count rest ≡ None = before_none xs (take_items count rest)
+    (sym read ∙ ap (option_map (before ys)) (items_none left now some none)) in
+    rw (counted, gone) refl
+item_refused (Refused f) xs ys count left bytes rest now some counted read is = is
+
+module _ (xs ys : Batch) (count : ℕ) (bytes rest tail : List ℕ) (counted : take_u64 bytes ≡ Some (count, rest))
+    (read : option_map (before xs) (take_items count rest) ≡ Some (ys, tail)) where
+  pub items_fill : length tail ≡ 0 → option_map (λ (items : Batch). xs ++ items) (read_batch bytes) ≡ Some ys
+  items_fill none = rw counted (by_items (take_items count rest) read)
+    where
+      by_items : (o : Option (Batch × List ℕ)) → option_map (before xs) o ≡ Some (ys, tail)
+          → option_map (λ (items : Batch). xs ++ items) (option_and_then all_items o) ≡ Some ys
+      by_items None e = absurd cc
+      by_items (Some (is, [])) e = grind (arith, e)
+      by_items (Some (is, b ∷ bs)) e = let same : b ∷ bs ≡ tail = grind (arith, e) in absurd (omega (arith, ap length same))
+
+  pub items_left : length tail ≢ 0 → read_batch bytes ≡ None
+  items_left some = rw counted (by_items (take_items count rest) read)
+    where
+      by_items : (o : Option (Batch × List ℕ)) → option_map (before xs) o ≡ Some (ys, tail) → option_and_then all_items o ≡ None
+      by_items None e = absurd cc
+      by_items (Some (is, [])) e = let same : [] ≡ tail = grind (arith, e) in absurd (omega (arith, ap length same))
+      by_items (Some (is, b ∷ bs)) e = refl

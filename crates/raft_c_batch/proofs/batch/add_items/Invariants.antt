@@ -1,0 +1,9 @@
+use Rattle.std.proofs.Common.{◌≡◌, ◌-◌, option_map}
+use Rattle.raft_c_batch.specs.Batch.{take_items}
+use Rattle.raft_c_batch.proofs.LoopLemmas.{before}
+use Rattle.raft_c_batch.proofs.batch.add_items.Given as goal
+
+abbrev pub invariant-loop : goal.invariant-loop
+invariant-loop l = record {
+  read : option_map (before l.batch.items) (take_items (l.count - l.counter) l.rest) ≡ option_map (before l.fn.batch.items) (take_items l.count l.initial.rest);
+}

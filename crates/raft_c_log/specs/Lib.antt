@@ -1,0 +1,6 @@
+pub mod Calls
+pub mod Closing
+pub mod Limit
+pub mod Opening
+pub mod Outcomes
+pub mod Refusals

@@ -1,0 +1,62 @@
+-- What an opening with settings as text hands back.
+use Rattle.std.specs.Prelude.{◌≡◌, ◌⊎◌, ℕ, List, ℤ, pos, Result, Err}
+use Rattle.raft_base.specs.Fault.{fault_code}
+use Rattle.raft_base.specs.declared.errors.Fault.{Fault}
+use Rattle.raft_config.specs.Folders.{folders_in}
+use Rattle.raft_config.specs.Sanitized.{IsContradiction}
+use Rattle.raft_config.specs.declared.config.Config.{Config}
+use Rattle.raft_env.specs.Directory.{Directory}
+use Rattle.raft_env.specs.Moments.{HoldsThroughout}
+use Rattle.raft_env.specs.Refusal.{Refusals}
+use Rattle.raft_env.specs.declared.env.FileSystem.{Ghosts}
+use Rattle.raft_held.specs.Contents.{contents_at}
+use Rattle.raft_held.specs.Crash.{StillRecovers}
+use Rattle.raft_held.specs.Queues.{IsOpeningRefusal}
+use Rattle.raft_log_engine.specs.Engine.{contents_of}
+use Rattle.raft_log_engine.specs.Opening.{IsNewIn, Opens}
+use Rattle.raft_log_engine.specs.declared.engine.Engine.{Engine}
+use Rattle.raft_log_engine.specs.declared.engine.Refused.{Refused}
+use Rattle.raft_settings.specs.Reading.{IsLoneReadRefusal, ReadsAlone}
+
+-- bytes are no text, or no settings are read of them
+abbrev pub IsTextRefusal : List ℕ → Fault → Type 0
+IsTextRefusal text e = (fault_code e ≡ 1) ⊎ IsLoneReadRefusal text e
+
+-- the folders of a text's settings keep at each moment what they kept before; or no settings are read,
+-- and nothing changes
+abbrev pub KeepsNamed : List ℕ → Directory → List Directory → List Directory → Directory → Type 0
+KeepsNamed text n before after now =
+    ((settings : Config) × ReadsAlone text settings
+    × HoldsThroughout before after now (StillRecovers (folders_in settings) n))
+    ⊎ ((after ≡ before) × (now ≡ n))
+
+-- an opening is refused by a fault of this code: the text's, or the engine's
+pub record IsUnopened (text : List ℕ) (code : ℤ) (n : Directory) (old new : Refusals)
+    : Type 0 where
+  pub fails : Fault
+  pub code_is : code ≡ pos (fault_code fails)
+  pub cause :
+      IsTextRefusal text fails ⊎ ((settings : Config) × ReadsAlone text settings
+      × (IsContradiction settings fails
+      ⊎ IsOpeningRefusal settings.recovery_mode (folders_in settings) n old new fails))
+
+module _ {F H R W : Type 0} {g : Ghosts F H R W} where
+  -- an engine that holds what stands in the folders that a text names
+  pub record IsOpenedBy (text : List ℕ) (n : Directory) (e : Engine F H R W g) : Type 0 where
+    pub settings : Config
+    pub read : ReadsAlone text settings
+    pub contents : contents_of e ≡ contents_at (folders_in settings) n
+    pub new : IsNewIn (folders_in settings) e
+
+  -- files are opened with a text's settings, as an engine opens them
+  pub record OpensWithText (text : List ℕ) (found : F) (result : Result (Engine F H R W g) (Refused F))
+      : Type 0 where
+    pub settings : Config
+    pub read : ReadsAlone text settings
+    pub opens : Opens settings found result
+
+  -- .. or the text is refused, and they stay
+  abbrev pub OpensBy : List ℕ → F → Result (Engine F H R W g) (Refused F) → Type 0
+  OpensBy text found result = OpensWithText text found result
+      ⊎ ((e : Fault) × IsTextRefusal text e
+      × (result ≡ Err (record { fault = e; file_system = found })))

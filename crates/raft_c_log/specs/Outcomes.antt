@@ -1,0 +1,29 @@
+-- What calls on an open log come to, by their codes.
+use Rattle.std.specs.Prelude.{◌≡◌, true, false, ℤ, pos}
+use Rattle.raft_env.specs.declared.env.FileSystem.{Ghosts}
+use Rattle.raft_log_engine.specs.Durability.{HasOnlyRead}
+use Rattle.raft_log_engine.specs.Engine.{contents_of}
+use Rattle.raft_log_engine.specs.declared.engine.Engine.{Engine}
+use Rattle.raft_c_log.specs.Calls.{HasAnswered, HasChanged}
+use Rattle.raft_c_log.specs.Refusals.{IsRefused, IsUnanswered, KeepsLog, flight_of}
+use Rattle.raft_c_log.specs.declared.answer.Answer.{Answer}
+use Rattle.raft_c_log.specs.declared.calls.Change.{Change}
+use Rattle.raft_c_log.specs.declared.calls.Query.{Query}
+
+module _ {F H R W : Type 0} {g : Ghosts F H R W} where
+  -- a change ended with this code: 0 where it is done
+  pub record HasEnded (change : Change) (code : ℤ) (old new : Engine F H R W g) (answer : Answer)
+      : Type 0 where
+    pub ok : code ≡ pos 0 → HasChanged change old new answer
+    pub err : (code ≡ pos 0 → ⊥) → IsRefused change code old new
+    pub keeps : KeepsLog (flight_of change (contents_of old)) old new
+
+  -- a query is answered with this code: 0 where what it asks for is there, 20 where it isn't. The log
+  -- stays
+  pub record IsReply (q : Query) (code : ℤ) (old new : Engine F H R W g) (answer : Answer)
+      : Type 0 where
+    pub found : code ≡ pos 0 → HasAnswered q old answer true
+    pub absent : code ≡ pos 20 → HasAnswered q old answer false
+    pub err : (code ≡ pos 0 → ⊥) → (code ≡ pos 20 → ⊥) → IsUnanswered q code old new
+    pub only : HasOnlyRead old new
+    pub contents : contents_of new ≡ contents_of old

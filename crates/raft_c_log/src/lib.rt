@@ -1,0 +1,15 @@
+//! An open log for callers in other languages, whose calls tell codes and leave their answers as
+//! bytes and numbers.
+#![tactic(auto)]
+
+mod answer;
+mod calls;
+mod numbers;
+mod open_log;
+mod opening;
+mod scan;
+
+pub use answer::Answer;
+pub use calls::{Change, Fetch, Query, Scan};
+pub use open_log::OpenLog;
+pub use opening::Unopened;

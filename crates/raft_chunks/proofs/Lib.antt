@@ -1,0 +1,5 @@
+pub mod ChunkLemmas
+pub mod KnownLemmas
+pub mod NotedLemmas
+pub mod ReachLemmas
+mod OlderLemmas

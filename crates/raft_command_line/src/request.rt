@@ -1,0 +1,175 @@
+//! What the program is asked to do.
+
+use raft_base::ReadableSize;
+use raft_config::{Config, RecoveryMode};
+use std::alloc::{AllocError, Global};
+
+#[derive(Drop)]
+pub struct Request<'a> {
+    pub folder: &'a str,
+    pub options: Options<'a>,
+    pub verb: Verb<'a>,
+    /// Whether what is changed is synced, and the log closed.
+    pub sync: bool,
+}
+
+/// The words that each command takes.
+#[derive(Clone, Copy)]
+pub struct Options<'a> {
+    /// A second folder, by its path from the first one, whose log files are read too.
+    pub spill: Option<&'a str>,
+    pub mode: RecoveryMode,
+    /// Whether a word named the mode.
+    pub mode_is_named: bool,
+    /// The size at which a log file is full.
+    pub target: Option<ReadableSize>,
+    /// How many workers read the files at an opening.
+    pub threads: Option<u64>,
+    /// The file of the settings.
+    pub settings: Option<&'a str>,
+    /// The settings over which the other words are laid, once they were read.
+    pub base: Option<&'a Config>,
+    /// Each line is printed as an object.
+    pub json: bool,
+    /// Keys and values are read and printed as hexadecimal digits.
+    pub hex: bool,
+    /// No progress and no notes are printed.
+    pub quiet: bool,
+}
+
+/// What to do, with its group first, and then a key, a value or indexes.
+#[derive(Drop)]
+pub enum Verb<'a> {
+    Put(u64, &'a str, &'a str),
+    /// A file of lines, each a key, a tab and a value.
+    Lines(u64, &'a str),
+    Delete(u64, &'a str),
+    /// Values of entries, and the index of the first.
+    Append(u64, Vec<&'a str>, Option<u64>),
+    Compact(u64, u64),
+    Clean(u64),
+    Load(Load),
+    Purge(Purge),
+    Repair,
+    /// The settings in force.
+    Settings,
+    /// The folder of the copy.
+    Fork(&'a str),
+    Look(Look<'a>),
+}
+
+/// Which log files are to go.
+#[derive(Clone, Copy)]
+pub enum Purge {
+    /// The Append queue's, whose records that still count are written to the Rewrite queue.
+    Append,
+    /// The Rewrite queue's, whose records that still count are written anew.
+    Rewrite,
+    /// The Append queue's first ones, of which nothing counts any more.
+    Stale,
+    /// As far as the settings' thresholds ask for it.
+    Expired,
+}
+
+/// What to look at, without a change.
+#[derive(Clone, Copy)]
+pub enum Look<'a> {
+    Get(u64, &'a str),
+    /// The keys of one group or of all, and how many at most.
+    List(Option<u64>, Option<u64>),
+    Scan(u64, Range<'a>),
+    Entry(u64, u64),
+    Entries(u64, Indexes),
+    Groups,
+    Stat,
+    Verify(Load),
+    /// Of one file, or of all.
+    Dump(Option<&'a str>),
+    Check,
+    /// The holes that entries leave.
+    Consistency,
+    Picture,
+}
+
+/// The first and the last index of entries, and how many at most.
+#[derive(Clone, Copy)]
+pub struct Indexes {
+    pub from: Option<u64>,
+    pub to: Option<u64>,
+    pub limit: Option<u64>,
+}
+
+/// Keys from one on, before another, how many at most, and whether from the last on.
+#[derive(Clone, Copy)]
+pub struct Range<'a> {
+    pub from: Option<&'a str>,
+    pub to: Option<&'a str>,
+    pub limit: Option<u64>,
+    pub reverse: bool,
+}
+
+/// How many keys, of how many bytes each, and after how many of them to sync, and to purge; 0 stands for never.
+#[derive(Clone, Copy)]
+pub struct Load {
+    pub count: u64,
+    pub size: u64,
+    pub sync_each: u64,
+    pub purge_each: u64,
+}
+
+impl<'a> Request<'a> {
+    /// A log that isn't synced isn't closed either, since that syncs it.
+    pub fn new(
+        folder: &'a str,
+        options: Options<'a>,
+        verb: Verb<'a>,
+        no_sync: bool,
+    ) -> Request<'a> {
+        let sync = match &verb {
+            Verb::Load(load) => load.sync_each > 0,
+            _ => !no_sync,
+        };
+        Request {
+            folder,
+            options,
+            verb,
+            sync,
+        }
+    }
+}
+
+impl<'a> Request<'a> {
+    /// The same over these settings.
+    pub fn over(self, settings: &'a Config) -> Request<'a> {
+        Request {
+            folder: self.folder,
+            options: self.options.over(settings),
+            verb: self.verb,
+            sync: self.sync,
+        }
+    }
+}
+
+impl<'a> Options<'a> {
+    // What no word names is that of the settings.
+    fn over(self, settings: &'a Config) -> Options<'a> {
+        let mut options = self;
+        options.base = Some(settings);
+        if !self.mode_is_named {
+            options.mode = settings.recovery_mode;
+        }
+        if let (None, Some(spill)) = (self.spill, &settings.spill_dir) {
+            options.spill = Some(spill.as_str());
+        }
+        options
+    }
+
+    /// The folders whose log files are read, by their paths from the first one.
+    pub fn folders(&self, alloc: Global) -> Result<Vec<&'a str>, AllocError> {
+        let mut folders = vec![in alloc; ""]?;
+        if let Some(spill) = self.spill {
+            folders.push(spill)?;
+        }
+        Ok(folders)
+    }
+}

@@ -1,0 +1,165 @@
+//! Commands on the entries of a group, and on groups.
+use crate::changes::{Change, write};
+use anyhow::Result;
+use raft_c_batch::Entry;
+use raft_command_line::Indexes;
+use raft_console::{Output, failure};
+use raft_env::FileSystem;
+use raft_inspect::Word;
+use raft_log_engine::Engine;
+use raft_records::{Fault, MessageExt};
+use std::alloc::Global;
+
+/// The bytes of entries that are held at once.
+const PAGE_BYTES: usize = 1024 * 1024;
+
+/// Adds entries with these values from an index on, or after the last, and prints their first and
+/// last index.
+pub(crate) fn append<F: FileSystem>(
+    alloc: Global,
+    engine: &mut Engine<F>,
+    group: u64,
+    values: &[Vec<u8>],
+    at: Option<u64>,
+    sync: bool,
+    out: &mut Output,
+) -> Result<()> {
+    let next = engine
+        .last_index(group)
+        .map_or(1, |last| last.saturating_add(1));
+    let first = at.unwrap_or(next);
+    if let Err(fault) = append_from(alloc, engine, group, first, values, sync) {
+        return Err(failure("the entries cannot be appended", &fault));
+    }
+    let last = engine.last_index(group).unwrap_or(first);
+    out.line(&[("first", Word::Number(first)), ("last", Word::Number(last))])
+}
+
+fn append_from<F: FileSystem>(
+    alloc: Global,
+    engine: &mut Engine<F>,
+    group: u64,
+    first: u64,
+    values: &[Vec<u8>],
+    sync: bool,
+) -> Result<(), Fault> {
+    let mut entries = Vec::new(alloc);
+    for (place, value) in values.iter().enumerate() {
+        let index = first.saturating_add(place as u64);
+        entries.push(Entry::new(alloc, index, value)?)?;
+    }
+    write(alloc, engine, group, Change::Append(&entries), sync)
+}
+
+/// Prints the value of the entry, and says whether there is one.
+pub(crate) fn get<F: FileSystem>(
+    engine: &mut Engine<F>,
+    group: u64,
+    index: u64,
+    out: &mut Output,
+) -> Result<bool> {
+    match engine.get_entry::<Entry>(group, index) {
+        Ok(Some(entry)) => {
+            out.line(&[("value", Word::Bytes(entry.value()))])?;
+            Ok(true)
+        }
+        Ok(None) => Ok(false),
+        Err(fault) => Err(failure("the entry cannot be read", &fault)),
+    }
+}
+
+/// Prints a line for each entry from the first index to the last, so many at most.
+pub(crate) fn list<F: FileSystem>(
+    alloc: Global,
+    engine: &mut Engine<F>,
+    group: u64,
+    indexes: Indexes,
+    out: &mut Output,
+) -> Result<bool> {
+    let begin = indexes.from.or(engine.first_index(group)).unwrap_or(0);
+    let end = indexes
+        .to
+        .or(engine.last_index(group))
+        .map_or(begin, |last| last.saturating_add(1))
+        .min(begin.saturating_add(indexes.limit.unwrap_or(u64::MAX)));
+    let mut next = begin;
+    for _ in 0..u64::MAX {
+        if next >= end {
+            break;
+        }
+        let count = list_page(alloc, engine, group, next, end, out)?;
+        if count == 0 {
+            break;
+        }
+        next = next.saturating_add(count as u64);
+    }
+    Ok(true)
+}
+
+// Prints as many entries as one page has room for, and says how many.
+fn list_page<F: FileSystem>(
+    alloc: Global,
+    engine: &mut Engine<F>,
+    group: u64,
+    begin: u64,
+    end: u64,
+    out: &mut Output,
+) -> Result<usize> {
+    let mut entries = Vec::new(alloc);
+    let fetched = engine.fetch_entries_to::<Entry>(
+        group,
+        begin,
+        end,
+        Some(PAGE_BYTES),
+        &mut entries,
+    );
+    if let Err(fault) = fetched {
+        return Err(failure("the entries cannot be read", &fault));
+    }
+    for entry in &entries {
+        out.line(&[
+            ("index", Word::Number(Entry::index(entry))),
+            ("value", Word::Bytes(entry.value())),
+        ])?;
+    }
+    Ok(entries.len())
+}
+
+/// Drops the entries below an index, and prints how many they were.
+pub(crate) fn compact<F: FileSystem>(
+    engine: &mut Engine<F>,
+    group: u64,
+    index: u64,
+    sync: bool,
+    out: &mut Output,
+) -> Result<()> {
+    match compacted(engine, group, index, sync) {
+        Ok(count) => out.line(&[("dropped", Word::Number(count))]),
+        Err(fault) => Err(failure("the group cannot be compacted", &fault)),
+    }
+}
+
+fn compacted<F: FileSystem>(
+    engine: &mut Engine<F>,
+    group: u64,
+    index: u64,
+    sync: bool,
+) -> Result<u64, Fault> {
+    let count = engine.compact_to(group, index)?;
+    if sync {
+        engine.sync()?;
+    }
+    Ok(count)
+}
+
+/// Prints the number of each group.
+pub(crate) fn groups<F: FileSystem>(engine: &Engine<F>, out: &mut Output) -> Result<bool> {
+    let groups = match engine.raft_groups() {
+        Ok(groups) => groups,
+        Err(fault) => return Err(failure("the groups cannot be listed", &fault)),
+    };
+    for group in groups {
+        out.line(&[("group", Word::Number(group))])?;
+    }
+    Ok(true)
+}

@@ -1,0 +1,208 @@
+//! Reads of keys.
+
+use anyhow::{Error, Result};
+use raft_command_line::{Options, Range};
+use raft_console::{Output, bytes_of, failure};
+use raft_env::FileSystem;
+use raft_inspect::Word;
+use raft_log_engine::Engine;
+use raft_records::Fault;
+
+/// A range of keys in bytes.
+#[derive(Drop)]
+struct Bounds {
+    from: Option<Vec<u8>>,
+    to: Option<Vec<u8>>,
+    reverse: bool,
+}
+
+impl Bounds {
+    fn read(rt: &HostRuntime, range: Range<'_>, hex: bool) -> Result<Bounds> {
+        let from = match range.from {
+            Some(key) => Some(bytes_of(rt, key, hex)?),
+            None => None,
+        };
+        let to = match range.to {
+            Some(key) => Some(bytes_of(rt, key, hex)?),
+            None => None,
+        };
+        Ok(Bounds {
+            from,
+            to,
+            reverse: range.reverse,
+        })
+    }
+
+    fn all() -> Bounds {
+        Bounds {
+            from: None,
+            to: None,
+            reverse: false,
+        }
+    }
+}
+
+/// What is shown of a key.
+#[derive(Clone, Copy)]
+enum Shown {
+    /// The key and its value.
+    Pairs,
+    /// The group, the key and the length of its value.
+    Lengths,
+}
+
+/// Prints the value at the key, and says whether there is one.
+pub(crate) fn get<F: FileSystem>(
+    engine: &Engine<F>,
+    group: u64,
+    key: &[u8],
+    out: &mut Output,
+) -> Result<bool> {
+    match engine.get(group, key) {
+        Ok(Some(value)) => {
+            out.line(&[("value", Word::Bytes(&value))])?;
+            Ok(true)
+        }
+        Ok(None) => Ok(false),
+        Err(fault) => Err(failure("the key cannot be read", &fault)),
+    }
+}
+
+/// Prints a line for each key of the group, or of all groups, so many at most.
+pub(crate) fn list<F: FileSystem>(
+    rt: &HostRuntime,
+    engine: &Engine<F>,
+    group: Option<u64>,
+    limit: Option<u64>,
+    options: &Options<'_>,
+) -> Result<bool> {
+    let groups = match engine.raft_groups() {
+        Ok(groups) => groups,
+        Err(fault) => return Err(failure("the groups cannot be listed", &fault)),
+    };
+    let bounds = Bounds::all();
+    let mut printer = Printer::new(rt, options, Shown::Lengths, limit);
+    for each in groups {
+        if group.is_none_or(|group| group == each) {
+            printer.group = each;
+            show(engine, &bounds, &mut printer)?;
+        }
+    }
+    printer.end()
+}
+
+/// Prints a line for each key of a group in the range, so many at most.
+pub(crate) fn scan<F: FileSystem>(
+    rt: &HostRuntime,
+    engine: &Engine<F>,
+    group: u64,
+    range: Range<'_>,
+    options: &Options<'_>,
+) -> Result<bool> {
+    let bounds = Bounds::read(rt, range, options.hex)?;
+    let mut printer = Printer::new(rt, options, Shown::Pairs, range.limit);
+    printer.group = group;
+    show(engine, &bounds, &mut printer)?;
+    printer.end()
+}
+
+// Prints the keys of the printer's group.
+fn show<F: FileSystem>(engine: &Engine<F>, bounds: &Bounds, printer: &mut Printer) -> Result<()> {
+    if printer.left == 0 {
+        return Ok(());
+    }
+    let from = bounds.from.as_ref().map(|key| key.as_slice());
+    let to = bounds.to.as_ref().map(|key| key.as_slice());
+    let scanned = engine.scan_raw_messages(
+        printer.group,
+        from,
+        to,
+        bounds.reverse,
+        &mut |key: &[u8], value: &[u8]| printer.print(key, value),
+    );
+    match scanned {
+        Ok(()) => Ok(()),
+        Err(fault) => Err(failure("the keys cannot be read", &fault)),
+    }
+}
+
+/// Prints keys, up to a limit or an error.
+#[derive(Drop)]
+struct Printer {
+    out: Output,
+    group: u64,
+    shown: Shown,
+    /// How many lines may still be printed.
+    left: u64,
+    failed: Option<Error>,
+}
+
+impl Printer {
+    fn new(rt: &HostRuntime, options: &Options<'_>, shown: Shown, limit: Option<u64>) -> Printer {
+        Printer {
+            out: Output::new(*rt, options),
+            group: 0,
+            shown,
+            left: limit.unwrap_or(u64::MAX),
+            failed: None,
+        }
+    }
+
+    // Whether the scan goes on.
+    fn print(&mut self, key: &[u8], value: &[u8]) -> bool {
+        self.left = self.left.saturating_sub(1);
+        match self.add(key, value) {
+            Ok(()) => self.left > 0,
+            Err(error) => {
+                self.left = 0;
+                self.failed = Some(error);
+                false
+            }
+        }
+    }
+
+    fn add(&mut self, key: &[u8], value: &[u8]) -> Result<()> {
+        match self.shown {
+            Shown::Pairs => self.out.line(&[
+                ("key", Word::Bytes(key)),
+                ("value", Word::Bytes(value)),
+            ]),
+            Shown::Lengths => self.out.line(&[
+                ("group", Word::Number(self.group)),
+                ("key", Word::Bytes(key)),
+                ("length", Word::Number(value.len() as u64)),
+            ]),
+        }
+    }
+
+    fn end(self) -> Result<bool> {
+        let Printer {
+            mut out,
+            failed,
+            ..
+        } = self;
+        match failed {
+            Some(error) => Err(error),
+            None => {
+                out.print()?;
+                Ok(true)
+            }
+        }
+    }
+}
+
+/// How many keys a group has.
+pub(crate) fn count<F: FileSystem>(engine: &Engine<F>, group: u64) -> Result<u64, Fault> {
+    let mut count = 0u64;
+    engine.scan_raw_messages(
+        group,
+        None,
+        None,
+        false,
+        &mut |_: &[u8], _: &[u8]| {
+            count = count.saturating_add(1);
+            true
+        },
+    )?;
+    Ok(count)
+}

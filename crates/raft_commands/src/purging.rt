@@ -1,0 +1,91 @@
+//! Purges a log, and tells what became of its files.
+
+use crate::opening::open;
+use crate::stored::{Stored, Total};
+use anyhow::Result;
+use raft_command_line::{Options, Purge};
+use raft_console::{Output, Progress, Status, failure};
+use raft_env::FileSystem;
+use raft_inspect::Word;
+use raft_log_engine::Engine;
+use raft_records::{Fault, FileSeq};
+use std::alloc::Global;
+use std::thread::Threads;
+
+/// Purges the log, and prints a line for each group that is to be compacted, how many log files were
+/// dropped, and how many reserved files are kept to be used as next ones.
+pub(crate) fn purge<R: Threads + Sync, F: FileSystem + Drop>(
+    rt: &HostRuntime,
+    threads: &R,
+    mut files: F,
+    purge: Purge,
+    options: &Options<'_>,
+    out: &mut Output,
+) -> Result<Status> {
+    let alloc = rt.alloc();
+    let mut progress = Progress::new(*rt, options.quiet)?;
+    let before = find(alloc, &mut files, options)?;
+    progress.begin("the log is being opened")?;
+    let engine = open(threads, alloc, files, options)?;
+    let mut left = purge_and_close(alloc, engine, purge, &mut progress, out)?;
+    let after = find(alloc, &mut left, options)?;
+    add_total("dropped", before.gone(&left), out)?;
+    add_total("reserved", after.reserved, out)?;
+    out.print()?;
+    Ok(Status::Done)
+}
+
+fn find<F: FileSystem>(alloc: Global, files: &mut F, options: &Options<'_>) -> Result<Stored> {
+    match Stored::find(alloc, files, options) {
+        Ok(stored) => Ok(stored),
+        Err(fault) => Err(failure("the log cannot be measured", &fault)),
+    }
+}
+
+fn purge_and_close<F: FileSystem + Drop>(
+    alloc: Global,
+    mut engine: Engine<F>,
+    purge: Purge,
+    progress: &mut Progress,
+    out: &mut Output,
+) -> Result<F> {
+    progress.begin("the log is being purged")?;
+    match asked_by(alloc, &mut engine, purge) {
+        Ok(groups) => add_groups(&groups, out)?,
+        Err(fault) => return Err(failure("the log cannot be purged", &fault)),
+    }
+    progress.begin("the log is being closed")?;
+    match engine.close() {
+        Ok(files) => Ok(files),
+        Err(refused) => Err(failure("the log cannot be closed", &refused.fault)),
+    }
+}
+
+// Purges, and answers the groups whose compaction is asked for.
+fn asked_by<F: FileSystem>(
+    alloc: Global,
+    engine: &mut Engine<F>,
+    purge: Purge,
+) -> Result<Vec<u64>, Fault> {
+    match purge {
+        Purge::Append => engine.must_rewrite_append_queue(None, None)?,
+        Purge::Rewrite => engine.must_rewrite_rewrite_queue()?,
+        Purge::Stale => engine.must_purge_all_stale()?,
+        Purge::Expired => return engine.purge_expired_files(FileSeq::MAX),
+    };
+    Ok(Vec::new(alloc))
+}
+
+fn add_groups(groups: &[u64], out: &mut Output) -> Result<()> {
+    for group in groups {
+        out.named(&[("compact", Word::Number(*group))])?;
+    }
+    Ok(())
+}
+
+fn add_total(name: &'static str, total: Total, out: &mut Output) -> Result<()> {
+    out.named(&[
+        (name, Word::Number(total.files)),
+        ("bytes", Word::Number(total.bytes)),
+    ])
+}

@@ -1,0 +1,109 @@
+//! The files of a log as they stand in its folders: log files, and those kept to be used again.
+
+use raft_command_line::Options;
+use raft_dump::log_files;
+use raft_env::{FileSystem, FsFault, Permission};
+use raft_looks::is_reserved;
+use raft_records::Fault;
+use std::alloc::Global;
+
+/// How many files, and how many bytes they have.
+#[derive(Clone, Copy)]
+pub(crate) struct Total {
+    pub files: u64,
+    pub bytes: u64,
+}
+
+impl Total {
+    /// Of no files.
+    pub fn new() -> Total {
+        Total { files: 0, bytes: 0 }
+    }
+
+    pub fn add(&mut self, len: u64) {
+        self.files = self.files.saturating_add(1);
+        self.bytes = self.bytes.saturating_add(len);
+    }
+}
+
+/// The log files that stand, each with its path and its bytes, and the reserved ones.
+#[derive(Drop)]
+pub(crate) struct Stored {
+    log: Vec<(String, u64)>,
+    pub reserved: Total,
+}
+
+impl Stored {
+    /// Those in the folders of the options.
+    pub fn find<F: FileSystem>(
+        alloc: Global,
+        files: &mut F,
+        options: &Options<'_>,
+    ) -> Result<Stored, Fault> {
+        let mut stored = Stored {
+            log: Vec::new(alloc),
+            reserved: Total::new(),
+        };
+        for folder in options.folders(alloc)? {
+            stored.add_folder(alloc, files, folder)?;
+        }
+        Ok(stored)
+    }
+
+    fn add_folder<F: FileSystem>(
+        &mut self,
+        alloc: Global,
+        files: &mut F,
+        folder: &str,
+    ) -> Result<(), Fault> {
+        // An opening makes it where it is missing.
+        if !files.is_dir(folder) {
+            return Ok(());
+        }
+        let names = match files.list(folder) {
+            Ok(names) => names,
+            Err(fault) => return Err(fault.with_path(alloc, folder)),
+        };
+        for file in log_files(alloc, folder, &names)? {
+            let len = len_of(alloc, files, file.path.as_str())?;
+            self.log.push((file.path, len))?;
+        }
+        for name in &names {
+            if is_reserved(alloc, name.as_str())? {
+                let path = path_in(alloc, folder, name.as_str())?;
+                self.reserved.add(len_of(alloc, files, path.as_str())?);
+            }
+        }
+        Ok(())
+    }
+
+    /// Those of the log files that stand no more.
+    pub fn gone<F: FileSystem>(&self, files: &F) -> Total {
+        let mut gone = Total::new();
+        for (path, len) in &self.log {
+            if !files.is_file(path.as_str()) {
+                gone.add(*len);
+            }
+        }
+        gone
+    }
+}
+
+fn path_in(alloc: Global, folder: &str, name: &str) -> Result<String, Fault> {
+    if folder.is_empty() {
+        return Ok(String::from_str(alloc, name)?);
+    }
+    Ok(format!(in alloc; "{folder}/{name}")?)
+}
+
+fn len_of<F: FileSystem>(alloc: Global, files: &mut F, path: &str) -> Result<u64, Fault> {
+    match file_len(files, path) {
+        Ok(len) => Ok(len as u64),
+        Err(fault) => Err(fault.with_path(alloc, path)),
+    }
+}
+
+fn file_len<F: FileSystem>(files: &mut F, path: &str) -> Result<usize, FsFault> {
+    let handle = files.open(path, Permission::ReadOnly)?;
+    files.file_size(&handle)
+}

@@ -1,0 +1,4 @@
+pub mod Config
+pub mod Folders
+pub mod Recovery
+pub mod Sanitized

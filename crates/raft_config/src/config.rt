@@ -1,0 +1,241 @@
+//! Settings.
+ghost use Rattle.std.specs.Prelude.{◌≡◌, IfOk, IfErr, OnOk, OnErr, None};
+ghost use Rattle.std.specs.Option.{option_map};
+ghost use Rattle.raft_config.specs.Sanitized.{spare_files};
+
+use raft_records::{Fault, Fresh, ReadableSize, Version};
+use std::alloc::Global;
+
+/// What an opening does about records that can't be read.
+#[derive(Clone, Copy, Debug, PartialEq, Eq)]
+pub enum RecoveryMode {
+    AbsoluteConsistency,
+    TolerateTailCorruption,
+    TolerateAnyCorruption,
+}
+
+impl RecoveryMode {
+    ghost use Rattle.raft_config.specs.Recovery.{tolerates_corruption};
+
+    /// Whether an opening cuts off the broken bytes of a file: in the tail mode those of the last file of a queue alone.
+    pub fn tolerates_corruption(self, is_last: bool) -> bool
+        ensures value { result ≡ tolerates_corruption self is_last }
+    {
+        match self {
+            RecoveryMode::AbsoluteConsistency => false,
+            RecoveryMode::TolerateTailCorruption => is_last,
+            RecoveryMode::TolerateAnyCorruption => true,
+        }
+    }
+}
+
+/// How many bytes an opening reads at least at once.
+const MIN_RECOVERY_READ_BLOCK_SIZE: u64 = 512;
+
+const MIN_RECOVERY_THREADS: usize = 1;
+
+/// How many files are kept for recycling at most.
+const MAX_SPARE_FILES: u64 = u32::MAX as u64;
+
+/// The settings of an engine. `specs/Config.antt` lists each with its default.
+#[derive(Debug, PartialEq, Drop)]
+pub struct Config {
+    /// The folder of the log files. The empty path is the root.
+    pub dir: String,
+    /// A second folder, whose log files are read too. A new file goes there where `dir` has no room for it.
+    pub spill_dir: Option<String>,
+    pub recovery_mode: RecoveryMode,
+    /// How many bytes an opening reads at once.
+    pub recovery_read_block_size: ReadableSize,
+    pub recovery_threads: usize,
+    /// Read and ignored.
+    pub bytes_per_sync: Option<ReadableSize>,
+    pub format_version: Version,
+    /// The size at which a log file is full.
+    pub target_file_size: ReadableSize,
+    /// The size of the Append queue above which it is purged.
+    pub purge_threshold: ReadableSize,
+    /// The same of the Rewrite queue.
+    pub purge_rewrite_threshold: Option<ReadableSize>,
+    /// The part of rewritten entries, in thousandths, that has to be garbage for a rewriting of the Rewrite queue.
+    pub purge_rewrite_garbage_ratio: u64,
+    /// Read and ignored.
+    pub memory_limit: Option<ReadableSize>,
+    /// Whether files that a purge drops are kept, and used again for next ones.
+    pub enable_log_recycle: bool,
+    /// Whether an opening makes such files ahead, filled with zeros.
+    pub prefill_for_recycle: bool,
+    /// How many bytes such files take at most, as the purge threshold is for the Append queue.
+    pub prefill_limit: Option<ReadableSize>,
+}
+
+impl Config {
+    ghost use Rattle.raft_config.specs.Config.{IsCopy};
+    ghost use Rattle.raft_config.specs.Sanitized.{IsContradiction, contradiction, is_recycling, prefill_capacity, prefill_limit, recycle_capacity, rewrite_threshold, sanitized, spills_into_dir};
+
+    /// The same settings.
+    pub fn clone(&self) -> Result<Config, Fault>
+        ensures value { IfOk result (IsCopy self.now) }
+        ensures cause { IfErr result (λ e. e ≡ Fault.Memory) }
+    {
+        let spill_dir = match &self.spill_dir {
+            Some(dir) => Some(dir.clone()?),
+            None => None,
+        };
+        Ok(Config {
+            dir: self.dir.clone()?,
+            spill_dir,
+            recovery_mode: self.recovery_mode,
+            recovery_read_block_size: self.recovery_read_block_size,
+            recovery_threads: self.recovery_threads,
+            bytes_per_sync: self.bytes_per_sync,
+            format_version: self.format_version,
+            target_file_size: self.target_file_size,
+            purge_threshold: self.purge_threshold,
+            purge_rewrite_threshold: self.purge_rewrite_threshold,
+            purge_rewrite_garbage_ratio: self.purge_rewrite_garbage_ratio,
+            memory_limit: self.memory_limit,
+            enable_log_recycle: self.enable_log_recycle,
+            prefill_for_recycle: self.prefill_for_recycle,
+            prefill_limit: self.prefill_limit,
+        })
+    }
+
+    /// Fails as `InvalidArgument` where settings contradict one another, and changes nothing then. Else missing limits
+    /// are filled in, a read block is raised to 512 bytes and the number of threads to 1.
+    pub fn sanitize(&mut self) -> Result<(), Fault>
+        ensures ok { OnOk result ((contradiction self.old ≡ None)
+            × (self.new ≡ sanitized self.old)) }
+        ensures stands { OnOk result ((contradiction self.new ≡ None)
+            × (sanitized self.new ≡ self.new)) }
+        ensures err { OnErr result (self.new ≡ self.old) }
+        ensures cause { IfErr result (IsContradiction self.old) }
+    {
+        if let Some(reason) = self.contradiction() {
+            return Err(Fault::InvalidArgument(reason));
+        }
+        let block_size = self
+            .recovery_read_block_size
+            .0
+            .max(MIN_RECOVERY_READ_BLOCK_SIZE);
+        self.recovery_read_block_size = ReadableSize(block_size);
+        self.recovery_threads = self.recovery_threads.max(MIN_RECOVERY_THREADS);
+        self.purge_rewrite_threshold = Some(self.rewrite_threshold());
+        self.prefill_limit = self.used_prefill_limit();
+        Ok(())
+    }
+
+    // What the settings are refused for.
+    fn contradiction(&self) -> Option<&'static str>
+        ensures value { option_map (λ reason. reason.now) result ≡ contradiction self.now }
+    {
+        if self.target_file_size.0 == 0 {
+            Some("target-file-size is 0")
+        } else if self.purge_threshold.0 < self.target_file_size.0 {
+            Some("purge-threshold is below target-file-size")
+        } else if self.enable_log_recycle && !self.format_version.has_log_signing() {
+            Some("enable-log-recycle needs format-version 2")
+        } else if self.prefill_for_recycle && !self.enable_log_recycle {
+            Some("prefill-for-recycle needs enable-log-recycle")
+        } else if self.spills_into_dir() {
+            Some("spill-dir is dir")
+        } else {
+            None
+        }
+    }
+
+    fn spills_into_dir(&self) -> bool
+        ensures value { result ≡ spills_into_dir self.now }
+    {
+        match &self.spill_dir {
+            Some(spill_dir) => spill_dir == &self.dir,
+            None => false,
+        }
+    }
+
+    /// The size of the Rewrite queue above which it is purged: where none is set a tenth of the Append queue's, and
+    /// that of a file at least.
+    pub fn rewrite_threshold(&self) -> ReadableSize
+        ensures value { result ≡ rewrite_threshold self.now }
+    {
+        match self.purge_rewrite_threshold {
+            Some(threshold) => threshold,
+            None => ReadableSize((self.purge_threshold.0 / 10).max(self.target_file_size.0)),
+        }
+    }
+
+    fn used_prefill_limit(&self) -> Option<ReadableSize>
+        ensures value { result ≡ prefill_limit self.now }
+    {
+        if !self.prefill_for_recycle {
+            return None;
+        }
+        Some(self.prefill_limit.unwrap_or(self.purge_threshold))
+    }
+
+    /// How many files are kept at most to be used again: half as many again as the Append queue has at its purge.
+    pub fn recycle_capacity(&self) -> usize
+        ensures value { result ≡ recycle_capacity self.now }
+    {
+        if self.is_recycling() {
+            spare_files(self.purge_threshold, self.target_file_size)
+        } else {
+            0
+        }
+    }
+
+    /// How many of them an opening makes ahead.
+    pub fn prefill_capacity(&self) -> usize
+        ensures value { result ≡ prefill_capacity self.now }
+    {
+        if self.is_recycling() && self.prefill_for_recycle {
+            let limit = self.prefill_limit.unwrap_or(ReadableSize(0));
+            spare_files(limit, self.target_file_size)
+        } else {
+            0
+        }
+    }
+
+    fn is_recycling(&self) -> bool
+        ensures value { result ≡ is_recycling self.now }
+    {
+        self.enable_log_recycle && self.format_version.has_log_signing()
+    }
+}
+
+fn spare_files(size: ReadableSize, target: ReadableSize) -> usize
+    ensures value { result ≡ spare_files size.0 target.0 }
+{
+    if target.0 == 0 {
+        return 0;
+    }
+    let files = (size.0 / target.0).saturating_mul(3) / 2;
+    files.min(MAX_SPARE_FILES) as usize
+}
+
+impl Fresh for Config {
+    ghost use Rattle.raft_config.specs.Config.{IsDefault};
+
+    ghost is_fresh = { IsDefault };
+
+    /// The default settings.
+    fn fresh(alloc: Global) -> Config {
+        Config {
+            dir: String::new(alloc),
+            spill_dir: None,
+            recovery_mode: RecoveryMode::TolerateTailCorruption,
+            recovery_read_block_size: ReadableSize::kb(16),
+            recovery_threads: 4,
+            bytes_per_sync: None,
+            format_version: Version::V2,
+            target_file_size: ReadableSize::mb(128),
+            purge_threshold: ReadableSize::gb(10),
+            purge_rewrite_threshold: None,
+            purge_rewrite_garbage_ratio: 600,
+            memory_limit: None,
+            enable_log_recycle: true,
+            prefill_for_recycle: false,
+            prefill_limit: None,
+        }
+    }
+}

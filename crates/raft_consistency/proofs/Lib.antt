@@ -1,0 +1,3 @@
+pub mod HoleLemmas
+pub mod ReadLemmas
+pub mod TakenLemmas

@@ -1,0 +1,9 @@
+use denote.Param.Send.{sendable}
+use Rattle.raft_memory.proofs.Sent.{memory_send, memory_sync}
+use Rattle.raft_consistency.proofs.in_memory.consistency_check.Goals as goal
+
+pub consistency_check_with_file_system-requires-send-F : goal.consistency_check_with_file_system-requires-send-F
+consistency_check_with_file_system-requires-send-F g c = search (sendable, memory_send) depth 20
+
+pub consistency_check_with_file_system-requires-sync-F : goal.consistency_check_with_file_system-requires-sync-F
+consistency_check_with_file_system-requires-sync-F g c = search (sendable, memory_sync) depth 20

@@ -1,0 +1,58 @@
+//! What a command prints.
+
+use anyhow::Result;
+use raft_command_line::Options;
+use raft_inspect::{Field, Lines};
+use std::io::{self, Write};
+
+/// How many bytes are kept before they are printed.
+const FULL: usize = 64 * 1024;
+
+/// Lines that are printed once there are many, and at the end.
+#[derive(Drop)]
+pub struct Output {
+    rt: HostRuntime,
+    pub lines: Lines,
+}
+
+impl Output {
+    pub fn new(rt: HostRuntime, options: &Options<'_>) -> Output {
+        Output {
+            rt,
+            lines: Lines::new(rt.alloc(), options.json, options.hex),
+        }
+    }
+
+    /// Adds a line of these words.
+    pub fn line(&mut self, fields: &[Field<'_>]) -> Result<()> {
+        self.lines.line(fields)?;
+        self.print_if_full()
+    }
+
+    /// Adds a line of these words, each after its name.
+    pub fn named(&mut self, fields: &[Field<'_>]) -> Result<()> {
+        self.lines.named(fields)?;
+        self.print_if_full()
+    }
+
+    pub fn print_if_full(&mut self) -> Result<()> {
+        if self.lines.as_bytes().len() < FULL {
+            return Ok(());
+        }
+        self.print()
+    }
+
+    /// Prints what was added.
+    pub fn print(&mut self) -> Result<()> {
+        print_bytes(&self.rt, self.lines.as_bytes())?;
+        self.lines.clear();
+        Ok(())
+    }
+}
+
+/// Prints these bytes.
+pub fn print_bytes(rt: &HostRuntime, bytes: &[u8]) -> io::Result<()> {
+    let mut writer = io::writer(rt);
+    writer.write_all(bytes)?;
+    writer.flush()
+}

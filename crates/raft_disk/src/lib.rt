@@ -1,0 +1,20 @@
+//! Files in a folder of the operating system, with an image of them in memory that answers.
+#![tactic(auto)]
+
+mod disk;
+mod folder;
+mod image;
+mod mirror;
+mod opening;
+mod places;
+mod told;
+mod view;
+
+pub use disk::Disk;
+pub use folder::{Folder, FolderFile};
+pub use image::Image;
+pub use mirror::{DiskHandle, DiskReader, DiskWriter, Mirror};
+pub use opening::{DiskFileSystem, OpenFault};
+pub use places::is_plain;
+pub use told::Call;
+pub use view::{FolderView, image_of};

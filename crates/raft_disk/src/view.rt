@@ -1,0 +1,173 @@
+//! A look at a folder of the operating system: nothing here changes it.
+ghost use Rattle.std.specs.Prelude.{◌≡◌, ◌∷◌, [], IfOk};
+ghost use Rattle.raft_env.specs.Refusal.{no_refusals};
+ghost use Rattle.raft_memory.specs.Memory.{memory_directory, memory_moments, memory_refusals};
+ghost use Rattle.raft_memory.specs.Settled.{settled_files};
+
+use crate::opening::{OpenFault, check_place};
+use crate::places::{LOCK, join};
+use raft_memory::MemoryFileSystem;
+use std::alloc::Global;
+use std::fs::{self, DirEntry, File, TryLockError};
+use std::io::{self, ErrorKind, Read, Seek, SeekFrom};
+
+/// A folder whose files can be read. It has no call that changes one, makes a name or waits for a
+/// lock. While it lasts, no process can begin to write to the folder.
+#[derive(Drop)]
+pub struct FolderView {
+    rt: HostRuntime,
+    path: String,
+    /// The lock's file, whose lock is shared with others that look; none where it is missing.
+    lock: Option<File>,
+    in_use: bool,
+}
+
+impl FolderView {
+    /// A look at a folder. It fails where there is none.
+    pub fn open(rt: HostRuntime, path: &str) -> Result<FolderView, OpenFault> {
+        let alloc = rt.alloc();
+        check_place(&rt, path)?;
+        if let Err(e) = fs::metadata(&rt, path) {
+            return Err(OpenFault::at(alloc, path, e));
+        }
+        let place = String::from_str(alloc, path)?;
+        let lock = match open_lock(&rt, path) {
+            Ok(lock) => lock,
+            Err(e) => return Err(OpenFault::Lock(place, e)),
+        };
+        let in_use = match &lock {
+            Some(file) => is_held(file),
+            None => false,
+        };
+        Ok(FolderView {
+            rt,
+            path: place,
+            lock,
+            in_use,
+        })
+    }
+
+    /// Whether a writer has the folder open, so that what is read may change meanwhile.
+    pub fn is_in_use(&self) -> bool {
+        self.in_use
+    }
+
+    /// The names of the files in a folder, by its path from here, in the order of their bytes, but for the lock's. Links
+    /// count as what they lead to.
+    pub fn names(&self, folder: &str) -> Result<Vec<String>, OpenFault> {
+        let alloc = self.rt.alloc();
+        let place = self.place(folder)?;
+        let entries = match fs::read_dir(&self.rt, place.as_str()) {
+            Ok(entries) => entries,
+            Err(e) => return Err(OpenFault::Io(place, e)),
+        };
+        let mut names = Vec::new(alloc);
+        for entry in entries {
+            match entry {
+                Ok(entry) => self.add_name(&entry, &mut names)?,
+                Err(e) => return Err(OpenFault::at(alloc, place.as_str(), e)),
+            }
+        }
+        names.sort()?;
+        Ok(names)
+    }
+
+    fn add_name(&self, entry: &DirEntry, names: &mut Vec<String>) -> Result<(), OpenFault> {
+        let alloc = self.rt.alloc();
+        let place = entry.path();
+        if entry.file_name() == LOCK {
+            return Ok(());
+        }
+        match fs::metadata(&self.rt, place.as_str()) {
+            Ok(metadata) if metadata.is_file() => {
+                Ok(names.push(String::from_str(alloc, entry.file_name())?)?)
+            }
+            Ok(_) => Ok(()),
+            // A writer deleted it, or a link leads nowhere.
+            Err(e) if e.kind() == ErrorKind::NotFound => Ok(()),
+            Err(e) => Err(OpenFault::at(alloc, place.as_str(), e)),
+        }
+    }
+
+    /// The bytes of the file at a path from here.
+    pub fn read(&self, path: &str) -> Result<Vec<u8>, OpenFault> {
+        let place = self.place(path)?;
+        match read_file(&self.rt, place.as_str()) {
+            Ok(bytes) => Ok(bytes),
+            Err(e) => Err(OpenFault::Io(place, e)),
+        }
+    }
+
+    /// So many bytes of the file at a path from here, from a place on, fewer where it ends.
+    pub fn read_part(&self, path: &str, at: u64, len: usize) -> Result<Vec<u8>, OpenFault> {
+        let place = self.place(path)?;
+        match read_part(&self.rt, place.as_str(), at, len) {
+            Ok(bytes) => Ok(bytes),
+            Err(e) => Err(OpenFault::Io(place, e)),
+        }
+    }
+
+    /// How many bytes the file at a path from here has.
+    pub fn size(&self, path: &str) -> Result<u64, OpenFault> {
+        let place = self.place(path)?;
+        match fs::metadata(&self.rt, place.as_str()) {
+            Ok(metadata) => Ok(metadata.len()),
+            Err(e) => Err(OpenFault::Io(place, e)),
+        }
+    }
+
+    fn place(&self, path: &str) -> Result<String, OpenFault> {
+        match join(self.rt.alloc(), self.path.as_str(), path) {
+            Ok(place) => Ok(place),
+            Err(_) => Err(OpenFault::Memory),
+        }
+    }
+}
+
+fn open_lock(rt: &HostRuntime, path: &str) -> io::Result<Option<File>> {
+    let place = join(rt.alloc(), path, LOCK)?;
+    match File::open(rt, place.as_str()) {
+        Ok(file) => Ok(Some(file)),
+        Err(e) if e.kind() == ErrorKind::NotFound => Ok(None),
+        Err(e) => Err(e),
+    }
+}
+
+// Takes the lock with others that look, if it can. A system without locks tells of no writer.
+fn is_held(lock: &File) -> bool {
+    matches!(lock.try_lock_shared(), Err(TryLockError::WouldBlock))
+}
+
+// Room for one byte more than the file has lets the reading end without making more.
+fn read_file(rt: &HostRuntime, place: &str) -> io::Result<Vec<u8>> {
+    let mut file = File::open(rt, place)?;
+    let size = file.metadata()?.len();
+    let room = usize::try_from(size)
+        .unwrap_or(usize::MAX)
+        .saturating_add(1);
+    let mut bytes = Vec::with_capacity(rt.alloc(), room)?;
+    file.read_to_end(&mut bytes)?;
+    Ok(bytes)
+}
+
+fn read_part(rt: &HostRuntime, place: &str, at: u64, len: usize) -> io::Result<Vec<u8>> {
+    let mut file = File::open(rt, place)?;
+    file.seek(SeekFrom::Start(at))?;
+    let mut bytes = Vec::with_capacity(rt.alloc(), len.saturating_add(1))?;
+    file.take(len as u64).read_to_end(&mut bytes)?;
+    Ok(bytes)
+}
+
+/// Files in memory that are those which were read, each at its path, and these folders.
+pub fn image_of(
+    alloc: Global,
+    files: Vec<(String, Vec<u8>)>,
+    folders: Vec<String>,
+) -> Result<MemoryFileSystem, OpenFault>
+    ensures value { IfOk result (λ m. memory_directory m
+        ≡ settled_files files.items folders.items) }
+    ensures any_moment { IfOk result (λ m. memory_moments m ≡ memory_directory m ∷ []) }
+    ensures counts { IfOk result (λ m. memory_refusals m ≡ no_refusals) }
+{
+    Ok(MemoryFileSystem::settled(alloc, files, folders)?)
+}

@@ -1,0 +1,14 @@
+//! Tests of files in a folder of the operating system. Each makes a folder of its own below the system's folder for
+//! temporary files, and removes it.
+#![tactic(auto)]
+
+#[cfg(test)]
+mod calls;
+#[cfg(test)]
+mod crashes;
+#[cfg(test)]
+mod openings;
+#[cfg(test)]
+mod temp;
+#[cfg(test)]
+mod views;

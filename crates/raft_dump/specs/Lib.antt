@@ -1,0 +1,6 @@
+pub mod Build
+pub mod Check
+pub mod Dump
+pub mod Items
+pub mod LogFiles
+pub mod Stale

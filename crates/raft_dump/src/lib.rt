@@ -1,0 +1,18 @@
+//! What log files hold, item by item, and what can be read of a file: for tools that look at a log.
+#![tactic(auto)]
+
+mod build;
+mod check;
+mod dumping;
+mod files;
+mod item_reader;
+mod plan;
+mod stale;
+
+pub use build::{build_file_reader, build_file_writer};
+pub use check::{FileCheck, are_zeros, check_file, without_header};
+pub use dumping::dump_with_file_system;
+pub use files::{LogFile, log_file, log_files};
+pub use item_reader::{LogItemReader, RecordPlace};
+pub use plan::{Planned, passed_over, plan_opening};
+pub use stale::{STALE_LEN, begins_stale};

@@ -1,0 +1,143 @@
+//! What a check tells of a file, and what an opening would do with a queue's files.
+
+use raft_config::RecoveryMode;
+use raft_dump::{FileCheck, Planned, check_file, log_files, passed_over, plan_opening};
+use raft_env::FileSystem;
+use raft_memory::MemoryFileSystem;
+use raft_records::Fault;
+use raft_rows::{FileParts, HEADER, NOTHING, PUT, PUTS, ZEROS, fill};
+use std::alloc::Global;
+use std::test::Fail;
+
+/// How many records are read, where the reading ends, how long the file is, whether the rest is zeros, and the code of
+/// what stops the reading.
+struct Found(usize, usize, usize, bool, Option<u8>);
+
+struct Case {
+    parts: &'static [FileParts],
+    found: Found,
+}
+
+static CASES: [Case; 7] = [
+    Case {
+        parts: &[("a/0000000000000001.raftlog", &[HEADER, PUT, NOTHING, PUTS])],
+        found: Found(3, 144, 144, true, None),
+    },
+    Case {
+        parts: &[("a/0000000000000001.raftlog", &[HEADER])],
+        found: Found(0, 61, 61, true, None),
+    },
+    // Room ahead, and damage in it.
+    Case {
+        parts: &[("a/0000000000000001.raftlog", &[HEADER, PUT, ZEROS])],
+        found: Found(1, 89, 189, true, Some(2)),
+    },
+    Case {
+        parts: &[("a/0000000000000001.raftlog", &[HEADER, PUT, ZEROS, b"x"])],
+        found: Found(1, 89, 190, false, Some(2)),
+    },
+    // What stands behind a broken record isn't read.
+    Case {
+        parts: &[("a/0000000000000001.raftlog", &[HEADER, PUT, b"torn", PUT])],
+        found: Found(1, 89, 121, false, Some(2)),
+    },
+    Case {
+        parts: &[("a/0000000000000001.raftlog", &[])],
+        found: Found(0, 0, 0, true, Some(2)),
+    },
+    Case {
+        parts: &[("a/0000000000000001.raftlog", &[ZEROS, ZEROS])],
+        found: Found(0, 0, 200, true, Some(2)),
+    },
+];
+
+fn is_found(check: &FileCheck, found: &Found) -> bool {
+    let stop = match &check.stop {
+        Some(fault) => Some(fault.code()),
+        None => None,
+    };
+    check.records == found.0
+        && check.end == found.1
+        && check.len == found.2
+        && check.zeros == found.3
+        && stop == found.4
+        && check.format.is_some() == (check.end > 0)
+}
+
+// Checks of all log files in the folder a.
+fn checks_of<F: FileSystem>(alloc: Global, fs: &mut F) -> Result<Vec<FileCheck>, Fault> {
+    let names = match fs.list("a") {
+        Ok(names) => names,
+        Err(fault) => return Err(fault.with_path(alloc, "a")),
+    };
+    let mut checks = Vec::new(alloc);
+    for file in log_files(alloc, "a", &names)? {
+        checks.push(check_file(alloc, &file, fs)?)?;
+    }
+    Ok(checks)
+}
+
+fn holds<F: FileSystem>(fs: &mut F, alloc: Global, case: &Case) -> Result<bool, Fault> {
+    fill(fs, alloc, case.parts)?;
+    match checks_of(alloc, fs)?.as_slice() {
+        [check] => Ok(is_found(check, &case.found)),
+        _ => Ok(false),
+    }
+}
+
+#[test]
+fn a_check_tells_what_can_be_read(rt: HostRuntime) -> Result<(), Fail> {
+    for (place, case) in CASES.iter().enumerate() {
+        let mut fs = MemoryFileSystem::new(rt.alloc());
+        assert!(rt; holds(&mut fs, rt.alloc(), case)?, "case {place}");
+    }
+    Ok(())
+}
+
+/// Files of a queue with a missing number; of those behind it two have a broken end.
+static QUEUE: [FileParts; 4] = [
+    ("a/0000000000000001.raftlog", &[HEADER]),
+    ("a/0000000000000003.raftlog", &[HEADER, PUT, b"torn"]),
+    ("a/0000000000000004.raftlog", &[HEADER, PUTS]),
+    ("a/0000000000000005.raftlog", &[HEADER, PUT, ZEROS]),
+];
+
+const FAIL: Planned = Planned::Fail;
+
+const KEEP: Planned = Planned::Keep;
+
+const CUT: Planned = Planned::Cut(89);
+
+static PLANS: [(RecoveryMode, &[Planned]); 3] = [
+    (RecoveryMode::AbsoluteConsistency, &[FAIL, KEEP, FAIL]),
+    (RecoveryMode::TolerateTailCorruption, &[FAIL, KEEP, CUT]),
+    (RecoveryMode::TolerateAnyCorruption, &[CUT, KEEP, CUT]),
+];
+
+fn is_planned<F: FileSystem>(
+    fs: &mut F,
+    alloc: Global,
+    mode: RecoveryMode,
+    planned: &[Planned],
+) -> Result<bool, Fault> {
+    fill(fs, alloc, &QUEUE)?;
+    let checks = checks_of(alloc, fs)?;
+    let passed = passed_over(&checks);
+    let Some(kept) = checks.get(passed..) else {
+        return Ok(false);
+    };
+    let plan = plan_opening(alloc, mode, kept)?;
+    Ok(passed == 1 && plan.as_slice() == planned)
+}
+
+#[test]
+fn an_opening_cuts_what_its_mode_tolerates(rt: HostRuntime) -> Result<(), Fail> {
+    for (place, (mode, planned)) in PLANS.iter().enumerate() {
+        let mut fs = MemoryFileSystem::new(rt.alloc());
+        assert!(rt;
+            is_planned(&mut fs, rt.alloc(), *mode, planned)?,
+            "mode {place}"
+        );
+    }
+    Ok(())
+}

@@ -1,0 +1,206 @@
+//! What dumps of folders and files give.
+
+use raft_dump::{LogFile, LogItemReader, RecordPlace, dump_with_file_system, log_files};
+use raft_env::FileSystem;
+use raft_memory::MemoryFileSystem;
+use raft_records::{Fault, LogItem, LogQueue};
+use raft_rows::{FileParts, HEADER, NOTHING, PUT, PUTS, ZEROS, fill};
+use std::alloc::Global;
+use std::test::Fail;
+
+const APPEND: LogQueue = LogQueue::Append;
+
+const REWRITE: LogQueue = LogQueue::Rewrite;
+
+/// The queue, the number and the place where the record is looked for, and the group of an item or a fault's code.
+struct Answer(LogQueue, u64, usize, Result<u64, u8>);
+
+struct Case {
+    files: &'static [FileParts],
+    /// One path is dumped as what stands there; several are folders of which all files are read together.
+    paths: &'static [&'static str],
+    answers: &'static [Answer],
+}
+
+static CASES: [Case; 8] = [
+    // An empty file is one refusal, a header alone gives nothing.
+    Case {
+        files: &[
+            ("a/0000000000000001.raftlog", &[]),
+            ("a/0000000000000001.rewrite", &[HEADER]),
+        ],
+        paths: &["a"],
+        answers: &[Answer(APPEND, 1, 0, Err(2))],
+    },
+    // The Rewrite queue's files come first, each queue's by number, and other files not at all.
+    Case {
+        files: &[
+            ("a/0000000000000002.raftlog", &[HEADER, PUT]),
+            ("a/0000000000000001.raftlog", &[HEADER, NOTHING, PUTS]),
+            ("a/0000000000000003.rewrite", &[HEADER, PUT, PUT]),
+            ("a/LOCK", &[]),
+            ("b/0000000000000004.raftlog", &[HEADER, PUT]),
+        ],
+        paths: &["a"],
+        answers: &[
+            Answer(REWRITE, 3, 61, Ok(1)),
+            Answer(REWRITE, 3, 89, Ok(1)),
+            Answer(APPEND, 1, 82, Ok(2)),
+            Answer(APPEND, 1, 82, Ok(3)),
+            Answer(APPEND, 2, 61, Ok(1)),
+        ],
+    },
+    // The files of two folders, also where a number stands in both.
+    Case {
+        files: &[
+            ("a/0000000000000001.raftlog", &[HEADER, PUT]),
+            ("b/0000000000000001.raftlog", &[HEADER, PUTS]),
+            ("b/0000000000000001.rewrite", &[HEADER, PUT]),
+        ],
+        paths: &["a", "b"],
+        answers: &[
+            Answer(APPEND, 1, 61, Ok(1)),
+            Answer(REWRITE, 1, 61, Ok(1)),
+            Answer(APPEND, 1, 61, Ok(2)),
+            Answer(APPEND, 1, 61, Ok(3)),
+        ],
+    },
+    // Zeros ahead of a writer that was killed are one broken record behind the last one.
+    Case {
+        files: &[("a/0000000000000001.raftlog", &[HEADER, PUT, ZEROS])],
+        paths: &["a/0000000000000001.raftlog"],
+        answers: &[Answer(APPEND, 1, 61, Ok(1)), Answer(APPEND, 1, 89, Err(2))],
+    },
+    // A dump goes on behind a broken file.
+    Case {
+        files: &[
+            ("a/0000000000000001.raftlog", &[HEADER, PUT, b"torn"]),
+            ("a/0000000000000002.raftlog", &[b"no header"]),
+            ("a/0000000000000003.raftlog", &[HEADER, NOTHING]),
+            ("a/0000000000000004.raftlog", &[HEADER, PUTS]),
+        ],
+        paths: &["a"],
+        answers: &[
+            Answer(APPEND, 1, 61, Ok(1)),
+            Answer(APPEND, 1, 89, Err(2)),
+            Answer(APPEND, 2, 0, Err(2)),
+            Answer(APPEND, 4, 61, Ok(2)),
+            Answer(APPEND, 4, 61, Ok(3)),
+        ],
+    },
+    // An empty folder gives nothing.
+    Case {
+        files: &[],
+        paths: &["b"],
+        answers: &[],
+    },
+    // A file without records gives nothing, nor does one whose only record is empty.
+    Case {
+        files: &[("b/0000000000000007.rewrite", &[HEADER, NOTHING])],
+        paths: &["b/0000000000000007.rewrite"],
+        answers: &[],
+    },
+    Case {
+        files: &[("b/0000000000000007.rewrite", &[HEADER])],
+        paths: &["b/0000000000000007.rewrite"],
+        answers: &[],
+    },
+];
+
+// The log files in these folders, folder by folder.
+fn files_of<F: FileSystem>(
+    alloc: Global,
+    fs: &mut F,
+    folders: &'static [&'static str],
+) -> Result<Vec<LogFile>, Fault> {
+    let mut files = Vec::new(alloc);
+    for folder in folders {
+        let names = match fs.list(folder) {
+            Ok(names) => names,
+            Err(fault) => return Err(fault.with_path(alloc, folder)),
+        };
+        for file in log_files(alloc, folder, &names)? {
+            files.push(file)?;
+        }
+    }
+    Ok(files)
+}
+
+fn reader_of<F: FileSystem>(
+    alloc: Global,
+    fs: &mut F,
+    paths: &'static [&'static str],
+) -> Result<LogItemReader<F>, Fault> {
+    match paths {
+        [path] => dump_with_file_system(alloc, path, fs),
+        folders => Ok(LogItemReader::new(alloc, files_of(alloc, fs, folders)?)),
+    }
+}
+
+fn is_answer(given: Result<LogItem, Fault>, place: Option<RecordPlace>, answer: &Answer) -> bool {
+    let Some(RecordPlace { id, offset }) = place else {
+        return false;
+    };
+    let told = match given {
+        Ok(item) => Ok(item.raft_group_id),
+        Err(fault) => Err(fault.code()),
+    };
+    id.queue == answer.0 && id.seq == answer.1 && offset == answer.2 && told == answer.3
+}
+
+// Whether these answers come, and then no more, also when it is asked for again.
+fn gives<F: FileSystem>(
+    fs: &mut F,
+    items: &mut LogItemReader<F>,
+    answers: &'static [Answer],
+) -> bool {
+    for answer in answers {
+        let Some(given) = items.next(fs) else {
+            return false;
+        };
+        if !is_answer(given, items.place(), answer) {
+            return false;
+        }
+    }
+    items.next(fs).is_none() && items.next(fs).is_none()
+}
+
+fn holds<F: FileSystem>(fs: &mut F, alloc: Global, case: &Case) -> Result<bool, Fault> {
+    fill(fs, alloc, case.files)?;
+    let mut items = reader_of(alloc, fs, case.paths)?;
+    Ok(gives(fs, &mut items, case.answers))
+}
+
+#[test]
+fn files_give_their_items_and_then_an_error(rt: HostRuntime) -> Result<(), Fail> {
+    for (place, case) in CASES.iter().enumerate() {
+        let mut fs = MemoryFileSystem::new(rt.alloc());
+        assert!(rt; holds(&mut fs, rt.alloc(), case)?, "case {place}");
+    }
+    Ok(())
+}
+
+/// Paths of which nothing is dumped, beside two folders and a file `a/LOCK`.
+static REFUSED: [&str; 4] = [
+    "c",
+    "a/LOCK",
+    "a/0000000000000001.raftlog",
+    "a/0000000000000001.raftlog.reserved",
+];
+
+fn is_refused<F: FileSystem>(fs: &mut F, alloc: Global, path: &str) -> Result<bool, Fault> {
+    fill(fs, alloc, &[("a/LOCK", &[])])?;
+    match dump_with_file_system(alloc, path, fs) {
+        Ok(_) => Ok(false),
+        Err(fault) => Ok(fault.code() == 1),
+    }
+}
+
+#[test]
+fn other_paths_are_refused(rt: HostRuntime) -> Result<(), Fail> {
+    for path in &REFUSED {
+        let mut fs = MemoryFileSystem::new(rt.alloc());
+        assert!(rt; is_refused(&mut fs, rt.alloc(), path)?, "{path}");
+    }
+    Ok(())
+}

@@ -1,0 +1,205 @@
+//! A file of more than one part: what is read of its parts is what stands in it.
+
+use raft_base::History;
+use raft_dump::{LogFile, LogItemReader};
+use raft_env::FileSystem;
+use raft_parts::{FilePart, LogFileParts, PartSource, check_parts};
+use raft_records::{Fault, FileId, LogQueue};
+use raft_rows::{HEADER, PUT, ZEROS};
+use std::alloc::{AllocError, Global};
+use std::test::Fail;
+
+const PATH: &str = "0000000000000001.raftlog";
+
+/// Bytes in memory, which are read part by part.
+#[derive(Drop)]
+struct BytesSource<'a> {
+    alloc: Global,
+    bytes: &'a [u8],
+    given: History<FilePart>,
+    /// How many bytes were asked for at most at once.
+    most: usize,
+}
+
+impl PartSource for BytesSource<'_> {
+    ghost given = { λ s. s.given.items };
+
+    fn read_part(&mut self, at: usize, len: usize) -> Result<FilePart, Fault> {
+        self.most = self.most.max(len);
+        let ahead = self.bytes.get(at..).unwrap_or(&[]);
+        let mut bytes = Vec::new(self.alloc);
+        bytes.extend_from_slice(ahead.get(..len).unwrap_or(ahead))?;
+        let part = FilePart { at, len, bytes };
+        self.given = self.given.with(&part);
+        Ok(part)
+    }
+}
+
+/// How many records of 28 bytes a file has behind its header, and what stands behind them; what a
+/// check tells of it, the code of what stops the reading last; and how many bytes are read at most.
+struct Case {
+    count: usize,
+    rest: &'static [u8],
+    records: usize,
+    end: usize,
+    zeros: bool,
+    stop: Option<u8>,
+    most: usize,
+}
+
+static CASES: [Case; 4] = [
+    Case {
+        count: 2,
+        rest: b"",
+        records: 2,
+        end: 117,
+        zeros: true,
+        stop: None,
+        most: 69,
+    },
+    // 560,061 bytes are three parts.
+    Case {
+        count: 20_000,
+        rest: b"",
+        records: 20_000,
+        end: 560_061,
+        zeros: true,
+        stop: None,
+        most: 262_144,
+    },
+    Case {
+        count: 20_000,
+        rest: ZEROS,
+        records: 20_000,
+        end: 560_061,
+        zeros: true,
+        stop: Some(2),
+        most: 262_144,
+    },
+    Case {
+        count: 20_000,
+        rest: b"torn",
+        records: 20_000,
+        end: 560_061,
+        zeros: false,
+        stop: Some(2),
+        most: 262_144,
+    },
+];
+
+fn bytes_of(alloc: Global, case: &Case) -> Result<Vec<u8>, AllocError> {
+    let mut bytes = Vec::new(alloc);
+    bytes.extend_from_slice(HEADER)?;
+    for _ in 0..case.count {
+        bytes.extend_from_slice(PUT)?;
+    }
+    bytes.extend_from_slice(case.rest)?;
+    Ok(bytes)
+}
+
+fn source_of(alloc: Global, bytes: &[u8]) -> BytesSource<'_> {
+    BytesSource {
+        alloc,
+        bytes,
+        given: History::new(),
+        most: 0,
+    }
+}
+
+fn file(alloc: Global) -> Result<LogFile, AllocError> {
+    Ok(LogFile {
+        id: FileId::new(LogQueue::Append, 1),
+        path: String::from_str(alloc, PATH)?,
+    })
+}
+
+fn code_of(fault: Option<&Fault>) -> Option<u8> {
+    match fault {
+        Some(fault) => Some(fault.code()),
+        None => None,
+    }
+}
+
+fn is_checked(alloc: Global, bytes: &[u8], case: &Case) -> Result<bool, Fault> {
+    let mut source = source_of(alloc, bytes);
+    let check = check_parts(alloc, &file(alloc)?, bytes.len(), &mut source)?;
+    Ok(
+        check.records == case.records
+            && check.end == case.end
+            && check.len == bytes.len()
+            && check.zeros == case.zeros
+            && code_of(check.stop.as_ref()) == case.stop
+            && source.most == case.most,
+    )
+}
+
+/// How many items a dump of the parts gives, where it stops, and why.
+#[derive(Drop)]
+struct Dumped {
+    items: usize,
+    end: usize,
+    stop: Option<Fault>,
+}
+
+// Those of one part; where it stops is a place in the part's image.
+fn count_items<F: FileSystem>(alloc: Global, image: &mut F) -> Result<Dumped, Fault> {
+    let mut reader = LogItemReader::new(alloc, vec![in alloc; file(alloc)?]?);
+    let mut items: usize = 0;
+    for _ in 0..u64::MAX {
+        match (reader.next(image), reader.place()) {
+            (Some(Ok(_)), _) => items = items.saturating_add(1),
+            (Some(Err(fault)), Some(place)) => {
+                return Ok(Dumped {
+                    items,
+                    end: place.offset,
+                    stop: Some(fault),
+                });
+            }
+            _ => break,
+        }
+    }
+    Ok(Dumped {
+        items,
+        end: usize::MAX,
+        stop: None,
+    })
+}
+
+fn dump_parts(alloc: Global, bytes: &[u8]) -> Result<Dumped, Fault> {
+    let mut source = source_of(alloc, bytes);
+    let mut parts = LogFileParts::open(alloc, bytes.len(), &mut source)?;
+    let mut items: usize = 0;
+    for _ in 0..u64::MAX {
+        let mut image = parts.next_image(alloc, PATH, &mut source)?;
+        let found = count_items(alloc, &mut image)?;
+        items = items.saturating_add(found.items);
+        let end = parts.place_of(found.end);
+        if !parts.go_on(found.end) {
+            return Ok(Dumped {
+                items,
+                end,
+                stop: found.stop,
+            });
+        }
+    }
+    Err(Fault::Range)
+}
+
+fn is_dumped(alloc: Global, bytes: &[u8], case: &Case) -> Result<bool, Fault> {
+    let found = dump_parts(alloc, bytes)?;
+    Ok(
+        found.items == case.records
+            && code_of(found.stop.as_ref()) == case.stop
+            && (case.stop.is_none() || found.end == case.end),
+    )
+}
+
+#[test]
+fn parts_give_what_stands_in_their_file(rt: HostRuntime) -> Result<(), Fail> {
+    for (place, case) in CASES.iter().enumerate() {
+        let bytes = bytes_of(rt.alloc(), case)?;
+        assert!(rt; is_checked(rt.alloc(), &bytes, case)?, "check {place}");
+        assert!(rt; is_dumped(rt.alloc(), &bytes, case)?, "dump {place}");
+    }
+    Ok(())
+}

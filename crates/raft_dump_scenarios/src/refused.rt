@@ -1,0 +1,196 @@
+//! Dumps in which a call on the files fails: the rest is given as before.
+
+use raft_dump::{LogItemReader, dump_with_file_system};
+use raft_env::{FileSystem, IoKind};
+use raft_memory::{FsCall, MemoryFileSystem};
+use raft_records::Fault;
+use raft_rows::{FileParts, HEADER, PUT, PUTS, fill};
+use std::alloc::Global;
+use std::test::Fail;
+
+/// Files whose calls fail as they are told.
+trait Failing: FileSystem + Drop {
+    fn fresh(alloc: Global) -> Self;
+
+    /// The nth call of a sort fails from now on.
+    fn fail(&mut self, call: FsCall, nth: u64, kind: IoKind) -> Result<(), Fault>;
+}
+
+impl Failing for MemoryFileSystem {
+    fn fresh(alloc: Global) -> MemoryFileSystem {
+        MemoryFileSystem::new(alloc)
+    }
+
+    fn fail(&mut self, call: FsCall, nth: u64, kind: IoKind) -> Result<(), Fault> {
+        self.refuse(call, nth, kind)
+    }
+}
+
+const FILES: &[FileParts] = &[
+    ("a/0000000000000001.raftlog", &[HEADER, PUTS]),
+    ("a/0000000000000002.raftlog", &[HEADER, PUT]),
+    ("a/0000000000000001.rewrite", &[HEADER, PUT]),
+];
+
+/// The items' groups, file by file.
+const WHOLE: &[u64] = &[1, 2, 3, 1];
+
+/// A failed call in a dump.
+const FAILED: u64 = 0;
+
+/// In place of what a file gives, where a call on it fails.
+static WITHOUT: [&[u64]; 3] = [&[FAILED, 2, 3, 1], &[1, FAILED, 1], &[1, 2, 3, FAILED]];
+
+/// A sort of calls, and how many of them a dump of three files makes at the least.
+struct Sort(FsCall, u64);
+
+static SORTS: [Sort; 5] = [
+    Sort(FsCall::List, 1),
+    Sort(FsCall::Open, 3),
+    Sort(FsCall::NewReader, 3),
+    Sort(FsCall::FileSize, 3),
+    Sort(FsCall::Read, 3),
+];
+
+const KINDS: [IoKind; 3] = [IoKind::NoSpace, IoKind::NotFound, IoKind::Other];
+
+/// More calls of a sort than a dump makes.
+const MANY: u64 = 50;
+
+/// Why a dump may fail: as this kind of call, or for want of memory.
+#[derive(Clone, Copy)]
+enum Cause {
+    Call(IoKind),
+    Memory,
+}
+
+fn is_by(fault: &Fault, cause: Cause) -> bool {
+    match (fault, cause) {
+        (Fault::Io(by, _), Cause::Call(kind)) => *by == kind,
+        (Fault::Memory, Cause::Memory) => true,
+        _ => false,
+    }
+}
+
+// What the dump gives: none where something fails for another reason.
+fn walked<F: FileSystem>(
+    alloc: Global,
+    fs: &mut F,
+    mut items: LogItemReader<F>,
+    cause: Cause,
+) -> Result<Option<Vec<u64>>, Fault> {
+    let mut given = Vec::new(alloc);
+    for _ in 0..MANY {
+        match items.next(fs) {
+            Some(Ok(item)) => given.push(item.raft_group_id)?,
+            Some(Err(fault)) if is_by(&fault, cause) => given.push(FAILED)?,
+            Some(Err(_)) => return Ok(None),
+            None => return Ok(Some(given)),
+        }
+    }
+    Ok(None)
+}
+
+// What a dump of the folder gives; only its own failure, where it can't be begun.
+fn dumped<F: FileSystem>(
+    alloc: Global,
+    fs: &mut F,
+    cause: Cause,
+) -> Result<Option<Vec<u64>>, Fault> {
+    match dump_with_file_system(alloc, "a", fs) {
+        Ok(items) => walked(alloc, fs, items, cause),
+        Err(fault) if is_by(&fault, cause) => Ok(Some(vec![in alloc; FAILED]?)),
+        Err(_) => Ok(None),
+    }
+}
+
+fn is_whole(given: &Option<Vec<u64>>) -> bool {
+    match given {
+        Some(given) => given.as_slice() == WHOLE,
+        None => false,
+    }
+}
+
+fn is_without_one(given: &Option<Vec<u64>>) -> bool {
+    match given {
+        Some(given) => {
+            given.as_slice() == [FAILED].as_slice()
+                || WITHOUT.iter().any(|without| given.as_slice() == *without)
+        }
+        None => false,
+    }
+}
+
+// Whether the nth call of the sort came, and failed its file alone, and the next dump gives all;
+// none where something else came of it.
+fn fails_at<F: Failing>(
+    alloc: Global,
+    call: FsCall,
+    nth: u64,
+    kind: IoKind,
+) -> Result<Option<bool>, Fault> {
+    let mut fs = F::fresh(alloc);
+    fill(&mut fs, alloc, FILES)?;
+    fs.fail(call, nth, kind)?;
+    let given = dumped(alloc, &mut fs, Cause::Call(kind))?;
+    let is_failed = fs.refusals() > 0;
+    let is_right = if is_failed {
+        is_without_one(&given) && is_whole(&dumped(alloc, &mut fs, Cause::Call(kind))?)
+    } else {
+        is_whole(&given)
+    };
+    Ok(if is_right { Some(is_failed) } else { None })
+}
+
+// How many calls of the sort failed, or none where something else came of one.
+fn count_failing<F: Failing>(
+    alloc: Global,
+    call: FsCall,
+    kind: IoKind,
+) -> Result<Option<u64>, Fault> {
+    for nth in 1..MANY {
+        match fails_at::<F>(alloc, call, nth, kind)? {
+            Some(true) => {}
+            Some(false) => return Ok(Some(nth - 1)),
+            None => return Ok(None),
+        }
+    }
+    Ok(None)
+}
+
+// The place of the first sort whose failing calls come to something else.
+fn first_wrong<F: Failing>(alloc: Global) -> Result<Option<usize>, Fault> {
+    for (place, sort) in SORTS.iter().enumerate() {
+        for kind in KINDS {
+            match count_failing::<F>(alloc, sort.0, kind)? {
+                Some(count) if count >= sort.1 => {}
+                _ => return Ok(Some(place)),
+            }
+        }
+    }
+    Ok(None)
+}
+
+#[test]
+fn a_failing_call_fails_its_file_alone(rt: HostRuntime) -> Result<(), Fail> {
+    assert_eq!(rt; first_wrong::<MemoryFileSystem>(rt.alloc())?, None);
+    Ok(())
+}
+
+// Whether a dump gives all; with the Nth request for memory refused (`rt try --test --fail-alloc
+// N`) all but a file, and the next one all.
+fn is_given<F: Failing>(alloc: Global) -> Result<bool, Fault> {
+    let mut fs = F::fresh(alloc);
+    fill(&mut fs, alloc, FILES)?;
+    let given = dumped(alloc, &mut fs, Cause::Memory)?;
+    Ok(
+        is_whole(&given)
+            || is_without_one(&given) && is_whole(&dumped(alloc, &mut fs, Cause::Memory)?),
+    )
+}
+
+#[test]
+fn a_dump_without_memory_goes_on(rt: HostRuntime) -> Result<(), Fail> {
+    assert!(rt; is_given::<MemoryFileSystem>(rt.alloc())?);
+    Ok(())
+}

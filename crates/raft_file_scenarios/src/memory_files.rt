@@ -1,0 +1,401 @@
+//! Files in memory: calls and looks at them, refusals and crashes, one after the other.
+
+use raft_env::{FileSystem, FsFault, IoKind, Permission};
+use raft_memory::{Choice, FsCall, MemoryFileSystem};
+use raft_records::Fault;
+use std::alloc::{AllocError, Global};
+use std::test::Fail;
+
+enum Call {
+    MakeDir(&'static str),
+    Create(&'static str),
+    /// Opens the file so and makes a writer.
+    Writer(&'static str, Permission),
+    Write(&'static str, usize, &'static [u8]),
+    Truncate(&'static str, usize),
+    Allocate(&'static str, usize, usize),
+    Sync(&'static str),
+    Delete(&'static str),
+    Rename(&'static str, &'static str),
+    /// Reuses the file under the other path and makes a writer.
+    Reuse(&'static str, &'static str),
+    Size(&'static str, usize),
+    /// Reads from the start into a buffer full of `?`: so many bytes, and the buffer after it.
+    Read(&'static str, usize, &'static [u8]),
+    List(&'static str, &'static [&'static str]),
+}
+
+/// What a crash is to leave of the file with the first path.
+enum Left {
+    Unsaid,
+    All,
+    Synced,
+    Torn(usize, u8),
+    Bytes(&'static [u8]),
+}
+
+enum Step {
+    Does(Call),
+    Refuses(Call, IoKind),
+    IsFolder(&'static str, bool),
+    IsFile(&'static str, bool),
+    /// So many calls failed.
+    Refused(u64),
+    /// The nth call of the sort is to fail.
+    Arm(FsCall, u64),
+    /// No call is the 0th.
+    ArmNone(FsCall),
+    Stop(u64),
+    /// A crash leaves so many bytes of `a`, and these in a buffer full of `?`.
+    Leaves(Left, usize, &'static [u8]),
+    /// A crash can't leave that.
+    LeavesNot(Left),
+}
+
+/// Steps from no files on.
+struct Script {
+    name: &'static str,
+    steps: &'static [Step],
+}
+
+static WRITTEN: Script = Script {
+    name: "written, read, cut and listed",
+    steps: &[
+        Step::Does(Call::MakeDir("log/old")),
+        Step::Does(Call::Create("log/b")),
+        Step::Does(Call::Write("log/b", 0, b"first")),
+        Step::Does(Call::Sync("log/b")),
+        Step::Does(Call::Create("log/a")),
+        Step::Does(Call::Create("log/old/c")),
+        Step::Does(Call::Write("log/b", 7, b"third")),
+        Step::Does(Call::Allocate("log/b", 12, 2)),
+        Step::Does(Call::Read("log/b", 14, b"first\0\0third\0\0??")),
+        Step::Does(Call::Truncate("log/b", 3)),
+        Step::Does(Call::Size("log/b", 3)),
+        Step::Does(Call::List("log", &["a", "b"])),
+        Step::IsFolder("log", true),
+        Step::IsFolder("", true),
+        Step::IsFolder("log/b", false),
+        Step::IsFile("log/b", true),
+        Step::IsFile("log", false),
+        Step::Refused(0),
+    ],
+};
+
+static COUNTED: Script = Script {
+    name: "refusals are counted",
+    steps: &[
+        Step::Does(Call::Create("a")),
+        Step::Refuses(Call::Create("b/a"), IoKind::NotFound),
+        Step::Refuses(Call::Create(""), IoKind::Other),
+        Step::Refuses(Call::MakeDir("a/b"), IoKind::Other),
+        Step::Refuses(Call::List("b", &[]), IoKind::NotFound),
+        Step::Refuses(Call::Writer("b", Permission::ReadWrite), IoKind::NotFound),
+        Step::Refuses(Call::Writer("a", Permission::ReadOnly), IoKind::Other),
+        Step::Refuses(Call::Write("a", usize::MAX, b"x"), IoKind::NoSpace),
+        Step::Refused(7),
+    ],
+};
+
+static ARMED: Script = Script {
+    name: "armed calls are refused",
+    steps: &[
+        Step::Does(Call::Create("a")),
+        Step::ArmNone(FsCall::Sync),
+        Step::Arm(FsCall::Create, 1),
+        Step::Refuses(Call::Create("b"), IoKind::NoSpace),
+        Step::Arm(FsCall::Open, 1),
+        Step::Refuses(Call::Writer("a", Permission::ReadWrite), IoKind::NoSpace),
+        Step::Arm(FsCall::NewReader, 1),
+        Step::Refuses(Call::Read("a", 0, b""), IoKind::NoSpace),
+        Step::Arm(FsCall::NewWriter, 1),
+        Step::Refuses(Call::Writer("a", Permission::ReadWrite), IoKind::NoSpace),
+        Step::Arm(FsCall::Write, 1),
+        Step::Arm(FsCall::Write, 3),
+        Step::Refuses(Call::Write("a", 0, b"abcde"), IoKind::NoSpace),
+        Step::Arm(FsCall::Truncate, 1),
+        Step::Refuses(Call::Truncate("a", 0), IoKind::NoSpace),
+        Step::Arm(FsCall::Allocate, 1),
+        Step::Refuses(Call::Allocate("a", 0, 9), IoKind::NoSpace),
+        Step::Arm(FsCall::Sync, 1),
+        Step::Refuses(Call::Sync("a"), IoKind::NoSpace),
+        Step::Arm(FsCall::Delete, 1),
+        Step::Refuses(Call::Delete("a"), IoKind::NoSpace),
+        Step::Arm(FsCall::Rename, 1),
+        Step::Refuses(Call::Rename("a", "b"), IoKind::NoSpace),
+        Step::Arm(FsCall::FileSize, 1),
+        Step::Refuses(Call::Size("a", 2), IoKind::NoSpace),
+        Step::Arm(FsCall::MakeDir, 1),
+        Step::Refuses(Call::MakeDir("d"), IoKind::NoSpace),
+        Step::Arm(FsCall::List, 1),
+        Step::Refuses(Call::List("", &[]), IoKind::NoSpace),
+        Step::Arm(FsCall::Read, 1),
+        Step::Refuses(Call::Read("a", 0, b"?"), IoKind::NoSpace),
+        Step::Refused(14),
+        // The failed write has written the first half of its bytes.
+        Step::Does(Call::Read("a", 2, b"ab?")),
+        Step::Does(Call::Write("a", 2, b"cd")),
+        Step::Refuses(Call::Write("a", 4, b"ef"), IoKind::NoSpace),
+        Step::Stop(2),
+        Step::Does(Call::Write("a", 0, b"x")),
+        Step::Refuses(Call::Sync("a"), IoKind::Other),
+        Step::Refuses(Call::Create("b"), IoKind::Other),
+        Step::Does(Call::Read("a", 5, b"xbcde?")),
+        Step::Refused(17),
+    ],
+};
+
+static RENAMED: Script = Script {
+    name: "deleted, renamed and reused",
+    steps: &[
+        Step::Does(Call::MakeDir("log")),
+        Step::Does(Call::Create("log/a")),
+        Step::Does(Call::Write("log/a", 0, b"first")),
+        Step::Does(Call::Sync("log/a")),
+        Step::Does(Call::Write("log/a", 3, b"m!")),
+        Step::Does(Call::Create("log/b")),
+        Step::Does(Call::Rename("log/a", "log/c")),
+        Step::Does(Call::List("log", &["b", "c"])),
+        Step::Does(Call::Read("log/c", 5, b"firm!?")),
+        Step::Does(Call::Rename("log/c", "log/b")),
+        Step::Does(Call::Rename("log/b", "log/b")),
+        Step::Does(Call::List("log", &["b"])),
+        Step::Does(Call::Reuse("log/b", "a")),
+        Step::Does(Call::List("log", &[])),
+        Step::Leaves(Left::Synced, 5, b"first?"),
+        Step::Leaves(Left::All, 5, b"firm!?"),
+        Step::Refuses(Call::Rename("b", "c"), IoKind::NotFound),
+        Step::Refuses(Call::Rename("a", "old/c"), IoKind::NotFound),
+        Step::Refuses(Call::Rename("a", "log"), IoKind::Other),
+        Step::Refuses(Call::Reuse("b", "c"), IoKind::NotFound),
+        Step::Refuses(Call::Delete("b"), IoKind::NotFound),
+        Step::Does(Call::Delete("a")),
+        Step::IsFile("a", false),
+        Step::Refused(5),
+    ],
+};
+
+static CRASHED: Script = Script {
+    name: "a crash leaves what was chosen",
+    steps: &[
+        Step::Does(Call::Create("a")),
+        Step::Does(Call::Write("a", 0, b"abcd")),
+        Step::Does(Call::Sync("a")),
+        Step::Does(Call::Write("a", 2, b"xyz")),
+        Step::Leaves(Left::All, 5, b"abxyz?"),
+        Step::Leaves(Left::Synced, 4, b"abcd??"),
+        Step::Leaves(Left::Unsaid, 4, b"abcd??"),
+        Step::Leaves(Left::Torn(1, b'!'), 5, b"abx!!?"),
+        Step::Leaves(Left::Bytes(b"abQR"), 4, b"abQR??"),
+        Step::LeavesNot(Left::Bytes(b"zbcd")),
+    ],
+};
+
+static WRITTEN_OVER: Script = Script {
+    name: "what was written over comes back",
+    steps: &[
+        Step::Does(Call::Create("a")),
+        Step::Does(Call::Write("a", 0, b"abcdef")),
+        Step::Does(Call::Sync("a")),
+        Step::Does(Call::Write("a", 3, b"12")),
+        Step::Does(Call::Truncate("a", 2)),
+        Step::Does(Call::Write("a", 1, b"34567890")),
+        Step::Does(Call::Write("a", 4, b"x")),
+        Step::Leaves(Left::Synced, 6, b"abcdef?"),
+        Step::Does(Call::Sync("a")),
+        Step::Does(Call::Truncate("a", 4)),
+        Step::Leaves(Left::Synced, 9, b"a345x7890?"),
+    ],
+};
+
+/// Each script is a table of its own, since a function is checked with all of each table that it names, and that grows
+/// with the square of the table.
+fn scripts() -> [&'static Script; 6] {
+    [
+        &WRITTEN,
+        &COUNTED,
+        &ARMED,
+        &RENAMED,
+        &CRASHED,
+        &WRITTEN_OVER,
+    ]
+}
+
+fn writer_of<F: FileSystem>(
+    fs: &mut F,
+    path: &str,
+    permission: Permission,
+) -> Result<F::Writer, FsFault> {
+    let handle = fs.open(path, permission)?;
+    fs.new_writer(&handle)
+}
+
+fn size_is<F: FileSystem>(fs: &mut F, path: &str, size: usize) -> Result<bool, FsFault> {
+    let handle = fs.open(path, Permission::ReadOnly)?;
+    Ok(fs.file_size(&handle)? == size)
+}
+
+// A failed read is counted by its reader, and by the files when the reader is given back.
+fn reads<F: FileSystem>(
+    alloc: Global,
+    fs: &mut F,
+    path: &str,
+    count: usize,
+    wanted: &[u8],
+) -> Result<bool, FsFault> {
+    let mut bytes = vec![in alloc; b'?'; wanted.len()]?;
+    let handle = fs.open(path, Permission::ReadOnly)?;
+    let mut reader = fs.new_reader(&handle)?;
+    let answer = fs.read(&mut reader, 0, &mut bytes);
+    let counted = fs.read_refusals(&reader) == u64::from(answer.is_err());
+    fs.end_reader(reader);
+    Ok(answer? == count && counted && bytes.as_slice() == wanted)
+}
+
+fn lists<F: FileSystem>(fs: &mut F, dir: &str, wanted: &[&str]) -> Result<bool, FsFault> {
+    let names = fs.list(dir)?;
+    let are_equal = names
+        .iter()
+        .zip(wanted.iter())
+        .all(|(name, wanted)| name.as_str() == *wanted);
+    Ok(names.len() == wanted.len() && are_equal)
+}
+
+fn change_bytes<F: FileSystem>(
+    fs: &mut F,
+    writer: &mut F::Writer,
+    call: &Call,
+) -> Result<(), FsFault> {
+    match call {
+        Call::Write(_, at, bytes) => fs.write(writer, *at, bytes),
+        Call::Truncate(_, size) => fs.truncate(writer, *size),
+        Call::Allocate(_, at, size) => fs.allocate(writer, *at, *size),
+        Call::Sync(_) => fs.sync(writer),
+        _ => Ok(()),
+    }
+}
+
+fn change_file<F: FileSystem>(fs: &mut F, path: &str, call: &Call) -> Result<(), FsFault> {
+    let mut writer = writer_of(fs, path, Permission::ReadWrite)?;
+    change_bytes(fs, &mut writer, call)
+}
+
+fn reuse<F: FileSystem>(fs: &mut F, from: &str, to: &str) -> Result<(), FsFault> {
+    let handle = fs.reuse_and_open(from, to)?;
+    fs.new_writer(&handle).map(|_| ())
+}
+
+fn change<F: FileSystem>(fs: &mut F, call: &Call) -> Result<(), FsFault> {
+    match call {
+        Call::MakeDir(path) => fs.make_dir(path),
+        Call::Create(path) => fs.create(path).map(|_| ()),
+        Call::Writer(path, permission) => writer_of(fs, path, *permission).map(|_| ()),
+        Call::Write(path, _, _)
+        | Call::Truncate(path, _)
+        | Call::Allocate(path, _, _)
+        | Call::Sync(path) => change_file(fs, path, call),
+        Call::Delete(path) => fs.delete(path),
+        Call::Rename(from, to) => fs.rename(from, to),
+        Call::Reuse(from, to) => reuse(fs, from, to),
+        _ => Ok(()),
+    }
+}
+
+// Whether the call is answered as it says.
+fn is_answered<F: FileSystem>(alloc: Global, fs: &mut F, call: &Call) -> Result<bool, FsFault> {
+    match call {
+        Call::Size(path, size) => size_is(fs, path, *size),
+        Call::Read(path, count, bytes) => reads(alloc, fs, path, *count, bytes),
+        Call::List(dir, names) => lists(fs, dir, names),
+        _ => {
+            change(fs, call)?;
+            Ok(true)
+        }
+    }
+}
+
+fn choices(alloc: Global, left: &Left) -> Result<Vec<Choice>, AllocError> {
+    let choice = match left {
+        Left::Unsaid => return Ok(Vec::new(alloc)),
+        Left::All => Choice::All,
+        Left::Synced => Choice::Synced,
+        Left::Torn(kept, fill) => Choice::Torn(*kept, *fill),
+        Left::Bytes(bytes) => Choice::Bytes(bytes.to_vec(alloc)?),
+    };
+    Ok(vec![in alloc; choice]?)
+}
+
+fn leaves(
+    alloc: Global,
+    fs: &MemoryFileSystem,
+    left: &Left,
+    count: usize,
+    bytes: &[u8],
+) -> Result<bool, Fail> {
+    let mut after = fs.crash(&choices(alloc, left)?)?;
+    Ok(reads(alloc, &mut after, "a", count, bytes)?)
+}
+
+fn leaves_not(alloc: Global, fs: &MemoryFileSystem, left: &Left) -> Result<bool, AllocError> {
+    match fs.crash(&choices(alloc, left)?) {
+        Ok(_) => Ok(false),
+        Err(fault) => Ok(fault.code() == 1),
+    }
+}
+
+// Whether the step comes to what the script says.
+fn holds(alloc: Global, fs: &mut MemoryFileSystem, step: &Step) -> Result<bool, Fail> {
+    match step {
+        Step::Does(wanted) => Ok(is_answered(alloc, fs, wanted)?),
+        Step::Refuses(wanted, kind) => Ok(
+            is_answered(alloc, fs, wanted) == Err(FsFault::Io(*kind)),
+        ),
+        Step::IsFolder(path, wanted) => Ok(fs.is_dir(path) == *wanted),
+        Step::IsFile(path, wanted) => Ok(fs.is_file(path) == *wanted),
+        Step::Refused(count) => Ok(fs.refusals() == *count),
+        Step::Arm(sort, nth) => Ok(fs.refuse(*sort, *nth, IoKind::NoSpace).is_ok()),
+        Step::ArmNone(sort) => Ok(fs.refuse(*sort, 0, IoKind::NoSpace).is_err()),
+        Step::Stop(nth) => {
+            fs.stop_at(*nth);
+            Ok(true)
+        }
+        Step::Leaves(left, count, bytes) => leaves(alloc, fs, left, *count, bytes),
+        Step::LeavesNot(left) => Ok(leaves_not(alloc, fs, left)?),
+    }
+}
+
+// The place of the first step that comes to something else.
+fn first_wrong(alloc: Global, script: &Script) -> Result<Option<usize>, Fail> {
+    let mut fs = MemoryFileSystem::new(alloc);
+    for (place, wanted) in script.steps.iter().enumerate() {
+        if !holds(alloc, &mut fs, wanted)? {
+            return Ok(Some(place));
+        }
+    }
+    Ok(None)
+}
+
+#[test]
+fn files_are_as_the_scripts_say(rt: HostRuntime) -> Result<(), Fail> {
+    for script in &scripts() {
+        assert_eq!(rt; first_wrong(rt.alloc(), script)?, None, "{}", script.name);
+    }
+    Ok(())
+}
+
+fn has_kind_and_path(alloc: Global) -> bool {
+    match FsFault::Io(IoKind::NotFound).with_path(alloc, "log") {
+        Fault::Io(IoKind::NotFound, path) => path.as_str() == "log",
+        _ => false,
+    }
+}
+
+fn has_no_path(alloc: Global) -> bool {
+    matches!(FsFault::Memory.with_path(alloc, "log"), Fault::Memory)
+}
+
+#[test]
+fn a_fault_has_the_kind_and_the_path(rt: HostRuntime) {
+    assert!(rt; has_kind_and_path(rt.alloc()));
+    assert!(rt; has_no_path(rt.alloc()));
+}

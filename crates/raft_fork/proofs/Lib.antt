@@ -1,0 +1,7 @@
+pub mod CopiesLemmas
+pub mod FoldersLemmas
+pub mod ForkLemmas
+pub mod PlacesLemmas
+pub mod ReadsLemmas
+pub mod RefusedLemmas
+pub mod StepsLemmas

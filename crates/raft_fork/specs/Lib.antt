@@ -1,0 +1,2 @@
+pub mod Fork
+pub mod Refused

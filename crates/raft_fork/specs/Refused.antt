@@ -1,0 +1,84 @@
+-- Why a fork is refused.
+use Rattle.std.specs.Prelude.{◌≡◌, ◌⊎◌, List, ◌∷◌, ℕ, codes, Option, Some, None, String, Contains, map, if◌then◌else◌, Bool, true, false}
+use Rattle.std.specs.declared.alloc.Global.{Global}
+use Rattle.raft_base.specs.declared.errors.Fault.{Fault}
+use Rattle.raft_base.specs.declared.errors.Fault.TheVariants as fault
+use Rattle.raft_base.specs.declared.pipe_log.LogQueue.{LogQueue}
+use Rattle.raft_env.specs.Directory.{Directory, HasFile, Path}
+use Rattle.raft_env.specs.Refusal.{FailsAt, NamesFile, Refusals}
+use Rattle.raft_config.specs.Folders.{folders_in}
+use Rattle.raft_config.specs.Sanitized.{contradiction}
+use Rattle.raft_config.specs.declared.config.Config.{Config}
+use Rattle.raft_config.specs.declared.config.RecoveryMode.{RecoveryMode}
+use Rattle.raft_config.specs.declared.config.RecoveryMode.TheVariants.{TolerateAnyCorruption}
+use Rattle.raft_pipes.specs.Folder.{IsLogPathIn}
+use Rattle.raft_pipes.specs.Numbered.{AreSingle}
+use Rattle.raft_fork.specs.Fork.{IsFree, Source, copies_in, standing}
+
+abbrev pub tolerates_all : RecoveryMode → Bool
+tolerates_all TolerateAnyCorruption = true
+tolerates_all _ = false
+
+-- what the source's settings are refused for: files that are used again would be under two names,
+-- and a mode that drops any broken part would drop it here
+abbrev pub fork_contradiction : Config → Option (List ℕ)
+fork_contradiction c =
+    if c.enable_log_recycle then Some (codes "a fork needs enable-log-recycle to be off")
+    else if tolerates_all c.recovery_mode
+    then Some (codes "a fork needs another recovery-mode than tolerate-any-corruption")
+    else contradiction c
+
+abbrev pub IsSettingsRefusal : Config → Fault → Type 0
+IsSettingsRefusal c (fault.InvalidArgument text) = fork_contradiction c ≡ Some text.now
+IsSettingsRefusal c fault.Memory = Unit {0}
+IsSettingsRefusal c _ = ⊥
+
+-- a log file stands in the target
+abbrev pub HasLogIn : Path → Directory → Type 0
+HasLogIn target n = (path : Path) × IsLogPathIn target path × HasFile n path
+
+-- .. as a target also where a log file stands in it
+abbrev pub IsTargetRefusal : Path → Directory → Refusals → Refusals → Fault → Type 0
+IsTargetRefusal target n old new (fault.InvalidArgument text) =
+    HasFile n target ⊎ HasLogIn target n
+IsTargetRefusal target n old new e = FailsAt (NamesFile target) old new e
+
+-- a folder, or a log file in it
+abbrev pub IsInFolder : Path → Path → Type 0
+IsInFolder folder path = (path ≡ folder) ⊎ IsLogPathIn folder path
+
+-- .. one of several
+abbrev pub IsInOneOf : List Path → Path → Type 0
+IsInOneOf folders path = (folder : Path) × Contains folders folder × IsInFolder folder path
+
+-- the text of a fault by storage names such a place
+abbrev pub NamesOneOf : List Path → String Global → Type 0
+NamesOneOf folders text = (path : Path) × IsInOneOf folders path × NamesFile path text
+
+-- a number that a recovery would keep stands in both of the folders that are there, or a call on one
+-- of them or on a log file in one fails
+abbrev pub IsSourceRefusal : List Path → Directory → Refusals → Refusals → Fault → Type 0
+IsSourceRefusal there n old new (fault.InvalidArgument text) =
+    (queue : LogQueue) × (AreSingle there queue n → ⊥)
+IsSourceRefusal there n old new e = FailsAt (NamesOneOf there) old new e
+
+-- memory is wanting, or a call on a source file or on its copy fails
+abbrev pub IsCopyRefusal : Path → List Source → Refusals → Refusals → Fault → Type 0
+IsCopyRefusal target files old new e = (e ≡ fault.Memory) ⊎ ((path : Path)
+    × (Contains (copies_in target files) path ⊎ Contains (map (λ f. f.1) files) path)
+    × FailsAt (NamesFile path) old new e)
+
+-- which argument is refused: settings for the first thing that is wrong with them; else a target
+-- that isn't free; else a source in both of whose folders a number that would be kept stands
+abbrev pub IsInvalid : Option (List ℕ) → List Path → Path → Directory → List ℕ → Type 0
+IsInvalid (Some reason) there target n text = text ≡ reason
+IsInvalid None there target n text = HasFile n target ⊎ HasLogIn target n
+    ⊎ (IsFree target n × ((queue : LogQueue) × (AreSingle there queue n → ⊥)))
+
+-- a fork is refused for an argument, by a call on a file or a folder, which the fault names, or for
+-- lack of memory
+abbrev pub IsForkRefusal : Config → Path → Directory → Refusals → Refusals → Fault → Type 0
+IsForkRefusal c target n old new (fault.InvalidArgument text) =
+    IsInvalid (fork_contradiction c) (standing (folders_in c) n) target n text.now
+IsForkRefusal c target n old new e =
+    FailsAt (NamesOneOf (target ∷ standing (folders_in c) n)) old new e

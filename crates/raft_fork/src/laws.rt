@@ -1,0 +1,35 @@
+//! What a fork opens as.
+ghost use Rattle.std.specs.Prelude.{◌≡◌, [], ◌∷◌, None, ℕ};
+ghost use Rattle.raft_base.specs.declared.pipe_log.LogQueue.{LogQueue};
+ghost use Rattle.raft_env.specs.Directory.{Directory, Path};
+ghost use Rattle.raft_config.specs.Folders.{Folders};
+ghost use Rattle.raft_held.specs.Contents.{contents_at, known_at};
+ghost use Rattle.raft_pipes.specs.Folder.{AreClear, readable_queue};
+ghost use Rattle.raft_pipes.specs.Numbered.{AreSingle};
+ghost use Rattle.raft_fork.specs.Fork.{AreThereOrEmpty, IsForkOf};
+
+/// A fork has, with the target as its one folder, what its source had: no folder's place is taken (`clear`), no number
+/// stands in two (`single`), and of each queue the same batches can be read (`reads`). So both stand for the same contents
+/// (`contents`) and know the same groups (`known`), which is what an opening finds in them. Of the source's folders each is
+/// there, or else no log file stands in it.
+pub fn a_fork_reads_as_its_source()
+    ensures clear { (source : Folders) (target : Path) (n m : Directory)
+        → IsForkOf source target n m
+        → AreClear (record { main = target; spill = None }) m }
+    ensures single { (source : Folders) (target : Path) (n m : Directory)
+        → IsForkOf source target n m → (queue : LogQueue) → AreSingle (target ∷ []) queue m }
+    ensures reads { (source : Folders) (target : Path) (n m : Directory)
+        → IsForkOf source target n m
+        → AreThereOrEmpty source n
+        → (queue : LogQueue) → readable_queue queue (record { main = target; spill = None }) m
+        ≡ readable_queue queue source n }
+    ensures contents { (source : Folders) (target : Path) (n m : Directory)
+        → IsForkOf source target n m
+        → AreThereOrEmpty source n
+        → contents_at (record { main = target; spill = None }) m ≡ contents_at source n }
+    ensures known { (source : Folders) (target : Path) (n m : Directory)
+        → IsForkOf source target n m
+        → AreThereOrEmpty source n
+        → (group : ℕ) → known_at (record { main = target; spill = None }) m group
+        ≡ known_at source n group }
+{}

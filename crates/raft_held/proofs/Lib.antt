@@ -1,0 +1,13 @@
+pub mod ContentsLemmas
+pub mod FirstLemmas
+pub mod StepsLemmas
+pub mod PurgeStepsLemmas
+pub mod DropOldLemmas
+pub mod LogLemmas
+pub mod SplicedLemmas
+pub mod LogDropLemmas
+pub mod RenewalLemmas
+pub mod LogTakeLemmas
+pub mod LogOldLemmas
+pub mod WriteLemmas
+pub mod PassedLemmas

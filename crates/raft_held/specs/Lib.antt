@@ -1,0 +1,10 @@
+pub mod Begins
+pub mod Contents
+pub mod Crash
+pub mod DropOld
+pub mod Held
+pub mod Index
+pub mod Log
+pub mod Queues
+pub mod Renewal
+pub mod Taking

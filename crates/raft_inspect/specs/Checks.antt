@@ -1,0 +1,16 @@
+-- What can be read of the log files of a queue.
+use Rattle.std.specs.Prelude.{List, [], ◌∷◌, ⊤}
+use Rattle.std.specs.String.{string_bytes}
+use Rattle.raft_env.specs.Directory.{Directory}
+use Rattle.raft_files.specs.Writer.{bytes_at}
+use Rattle.raft_dump.specs.Check.{IsCheckOf}
+use Rattle.raft_dump.specs.declared.check.FileCheck.{FileCheck}
+use Rattle.raft_dump.specs.declared.files.LogFile.{LogFile}
+
+-- each of them tells what can be read of the file at its place
+abbrev pub AreChecksOf : Directory → List LogFile → List FileCheck → Type 0
+AreChecksOf n [] [] = ⊤
+AreChecksOf n [] (_ ∷ _) = ⊥
+AreChecksOf n (_ ∷ _) [] = ⊥
+AreChecksOf n (f ∷ files) (c ∷ checks) =
+    IsCheckOf f.id (bytes_at (string_bytes f.path) n) c × AreChecksOf n files checks

@@ -1,0 +1,24 @@
+//! What the files of a log tell of it: what an opening would do with them, lines of what they hold, and a picture. Over
+//! values and file systems, without the engine.
+#![tactic(auto)]
+
+mod cuts;
+mod items;
+mod lines;
+mod outlook;
+mod picture;
+mod queue_files;
+mod report;
+mod spelling;
+mod svg;
+mod usage;
+
+pub use cuts::{Cut, cuts_of, keep_cut};
+pub use items::{add_fault, add_item};
+pub use lines::{Field, Lines, Word};
+pub use outlook::Outlook;
+pub use picture::draw;
+pub use queue_files::{QueueFiles, inspect};
+pub use report::{add_queue, queue_name};
+pub use spelling::{Misspelled, read_digits, read_text};
+pub use usage::{FileUsage, GroupUsage, LogUsage, QueueUsage, measure};

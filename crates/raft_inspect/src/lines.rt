@@ -1,0 +1,215 @@
+//! Lines of words, as text or as objects of JSON.
+ghost use Rattle.std.specs.Prelude.{◌<◌};
+
+use itoa::Buffer;
+use std::alloc::{AllocError, Global};
+use std::str;
+
+/// A word of a line.
+#[derive(Clone, Copy)]
+pub enum Word<'a> {
+    Text(&'a str),
+    Number(u64),
+    /// Bytes that aren't printable ASCII are spelled as `\x00`.
+    Bytes(&'a [u8]),
+}
+
+/// A word and its name.
+pub type Field<'a> = (&'static str, Word<'a>);
+
+/// Lines that are to be printed.
+#[derive(Drop)]
+pub struct Lines {
+    bytes: Vec<u8>,
+    json: bool,
+    hex: bool,
+}
+
+impl Lines {
+    /// No lines yet. With `json` each is an object; with `hex` bytes are spelled as digits.
+    pub fn new(alloc: Global, json: bool, hex: bool) -> Lines {
+        Lines {
+            bytes: Vec::new(alloc),
+            json,
+            hex,
+        }
+    }
+
+    /// The lines that were added since they were cleared.
+    pub fn as_bytes(&self) -> &[u8] {
+        self.bytes.as_slice()
+    }
+
+    /// Takes all lines away.
+    pub fn clear(&mut self) {
+        self.bytes.clear();
+    }
+
+    /// Adds a line of these words, with a tab between two of them. Their names stand in an object alone.
+    pub fn line(&mut self, fields: &[Field<'_>]) -> Result<(), AllocError> {
+        if self.json {
+            return self.object(fields);
+        }
+        for (place, (_, word)) in fields.iter().enumerate() {
+            if place > 0 {
+                self.byte(b'\t')?;
+            }
+            self.word(*word)?;
+        }
+        self.byte(b'\n')
+    }
+
+    /// Adds a line of these words, each after its name, with spaces between them.
+    pub fn named(&mut self, fields: &[Field<'_>]) -> Result<(), AllocError> {
+        if self.json {
+            return self.object(fields);
+        }
+        for (place, (name, word)) in fields.iter().enumerate() {
+            if place > 0 {
+                self.byte(b' ')?;
+            }
+            self.text(name)?;
+            self.byte(b' ')?;
+            self.word(*word)?;
+        }
+        self.byte(b'\n')
+    }
+
+    fn byte(&mut self, byte: u8) -> Result<(), AllocError> {
+        self.bytes.push(byte)?;
+        Ok(())
+    }
+
+    fn text(&mut self, text: &str) -> Result<(), AllocError> {
+        self.bytes.extend_from_slice(text.as_bytes())
+    }
+
+    fn word(&mut self, word: Word<'_>) -> Result<(), AllocError> {
+        match word {
+            Word::Text(text) => self.text(text),
+            Word::Number(number) => self.number(number),
+            Word::Bytes(bytes) if self.hex => self.digits(bytes),
+            Word::Bytes(bytes) => self.spelled(bytes),
+        }
+    }
+
+    fn number(&mut self, number: u64) -> Result<(), AllocError> {
+        let mut buffer = Buffer::new();
+        self.text(buffer.format(number))
+    }
+
+    fn digits(&mut self, bytes: &[u8]) -> Result<(), AllocError> {
+        for byte in bytes {
+            self.pair(*byte)?;
+        }
+        Ok(())
+    }
+
+    // The two digits of a byte.
+    fn pair(&mut self, byte: u8) -> Result<(), AllocError> {
+        self.byte(digit(byte / 16))?;
+        self.byte(digit(byte % 16))
+    }
+
+    // As Rust's `escape_ascii`.
+    fn spelled(&mut self, bytes: &[u8]) -> Result<(), AllocError> {
+        if bytes.iter().all(|byte| is_plain(*byte)) {
+            return self.bytes.extend_from_slice(bytes);
+        }
+        for byte in bytes {
+            self.spell(*byte)?;
+        }
+        Ok(())
+    }
+
+    fn spell(&mut self, byte: u8) -> Result<(), AllocError> {
+        if is_plain(byte) {
+            return self.byte(byte);
+        }
+        match byte {
+            b'\t' => self.text("\\t"),
+            b'\n' => self.text("\\n"),
+            b'\r' => self.text("\\r"),
+            b'"' | b'\'' | b'\\' => {
+                self.byte(b'\\')?;
+                self.byte(byte)
+            }
+            _ => {
+                self.text("\\x")?;
+                self.pair(byte)
+            }
+        }
+    }
+
+    fn object(&mut self, fields: &[Field<'_>]) -> Result<(), AllocError> {
+        self.byte(b'{')?;
+        for (place, (name, word)) in fields.iter().enumerate() {
+            if place > 0 {
+                self.byte(b',')?;
+            }
+            self.quoted(name)?;
+            self.byte(b':')?;
+            self.value(*word)?;
+        }
+        self.text("}\n")
+    }
+
+    // Bytes that are no text stand in an object of their digits.
+    fn value(&mut self, word: Word<'_>) -> Result<(), AllocError> {
+        match word {
+            Word::Text(text) => self.quoted(text),
+            Word::Number(number) => self.number(number),
+            Word::Bytes(bytes) if self.hex => self.digits_object(bytes),
+            Word::Bytes(bytes) => match str::from_utf8(bytes) {
+                Ok(text) => self.quoted(text),
+                Err(_) => self.digits_object(bytes),
+            },
+        }
+    }
+
+    fn digits_object(&mut self, bytes: &[u8]) -> Result<(), AllocError> {
+        self.text("{\"hex\":\"")?;
+        self.digits(bytes)?;
+        self.text("\"}")
+    }
+
+    fn quoted(&mut self, text: &str) -> Result<(), AllocError> {
+        self.byte(b'"')?;
+        for byte in text.as_bytes() {
+            self.quote(*byte)?;
+        }
+        self.byte(b'"')
+    }
+
+    // What JSON has no sign for is spelled by its number.
+    fn quote(&mut self, byte: u8) -> Result<(), AllocError> {
+        match byte {
+            b'\n' => self.text("\\n"),
+            b'\t' => self.text("\\t"),
+            b'"' | b'\\' => {
+                self.byte(b'\\')?;
+                self.byte(byte)
+            }
+            _ if byte < b' ' => {
+                self.text("\\u00")?;
+                self.pair(byte)
+            }
+            _ => self.byte(byte),
+        }
+    }
+}
+
+// Whether a byte is printed as it is.
+fn is_plain(byte: u8) -> bool {
+    matches!(byte, b' '..=b'~') && !matches!(byte, b'"' | b'\'' | b'\\')
+}
+
+fn digit(value: u8) -> u8
+    requires { value < 16 }
+{
+    if value < 10 {
+        b'0' + value
+    } else {
+        b'a' + (value - 10)
+    }
+}

@@ -1,0 +1,162 @@
+//! The log files of a queue, and what can be read of them.
+ghost use Rattle.std.specs.Prelude.{◌≡◌, IfErr, IfOk, drop};
+ghost use Rattle.raft_base.specs.declared.errors.Fault.TheVariants.{Memory};
+ghost use Rattle.raft_env.specs.Moments.{OnlyReads};
+ghost use Rattle.raft_dump.specs.Check.{plan_of};
+ghost use Rattle.raft_inspect.specs.Checks.{AreChecksOf};
+
+use raft_config::RecoveryMode;
+use raft_dump::{FileCheck, LogFile, Planned, check_file, log_files, passed_over, plan_opening};
+use raft_env::FileSystem;
+use raft_records::{Fault, LogQueue};
+use std::alloc::{AllocError, Global};
+
+/// The log files of one queue, by number, and what can be read of each.
+#[derive(Drop)]
+pub struct QueueFiles {
+    pub queue: LogQueue,
+    pub files: Vec<LogFile>,
+    pub checks: Vec<FileCheck>,
+    /// How many of them an opening passes over, since a number is missing behind them.
+    pub passed: usize,
+}
+
+/// Reads the log files of a queue in these folders.
+pub fn inspect<F: FileSystem>(
+    alloc: Global,
+    file_system: &mut F,
+    folders: &[&str],
+    queue: LogQueue,
+) -> Result<QueueFiles, Fault>
+    ensures found { IfOk result (λ found. found.queue ≡ queue) }
+    ensures value { IfOk result (λ found. AreChecksOf (F.directory file_system.old)
+        found.files.items found.checks.items) }
+    ensures unchanged { OnlyReads F.directory F.moments F.refusals_of file_system.old
+        file_system.new }
+{
+    let mut files = Vec::new(alloc);
+    for folder in folders {
+        add_files(alloc, file_system, folder, queue, &mut files)?;
+    }
+    QueueFiles::sort(&mut files)?;
+    let checks = checks_of(alloc, file_system, &files)?;
+    Ok(QueueFiles::new(queue, files, checks))
+}
+
+fn checks_of<F: FileSystem>(
+    alloc: Global,
+    file_system: &mut F,
+    files: &[LogFile],
+) -> Result<Vec<FileCheck>, Fault>
+    ensures value { IfOk result (λ checks.
+        AreChecksOf (F.directory file_system.old) files.now checks.items) }
+    ensures unchanged { OnlyReads F.directory F.moments F.refusals_of file_system.old
+        file_system.new }
+{
+    let mut checks = Vec::new(alloc);
+    let mut left = files;
+    'files: while let Some((file, rest)) = left.split_first() {
+        checks.push(check_file(alloc, file, file_system)?)?;
+        left = rest;
+    }
+    Ok(checks)
+}
+
+fn add_files<F: FileSystem>(
+    alloc: Global,
+    file_system: &mut F,
+    folder: &str,
+    queue: LogQueue,
+    files: &mut Vec<LogFile>,
+) -> Result<(), Fault>
+    ensures unchanged { OnlyReads F.directory F.moments F.refusals_of file_system.old
+        file_system.new }
+{
+    let names = match file_system.list(folder) {
+        Ok(names) => names,
+        Err(fault) => return Err(fault.with_path(alloc, folder)),
+    };
+    for file in log_files(alloc, folder, &names)? {
+        if file.id.queue == queue {
+            files.push(file)?;
+        }
+    }
+    Ok(())
+}
+
+impl QueueFiles {
+    /// Puts files of one queue in the order of their numbers.
+    pub fn sort(files: &mut Vec<LogFile>) -> Result<(), AllocError> {
+        files.sort_by_key(|file| file.id.seq)
+    }
+
+    /// Of files by number, and what can be read of each.
+    pub fn new(queue: LogQueue, files: Vec<LogFile>, checks: Vec<FileCheck>) -> QueueFiles
+        ensures found { (result.queue ≡ queue) × (result.files ≡ files) }
+        ensures read { result.checks ≡ checks }
+    {
+        let passed = passed_over(&checks);
+        QueueFiles {
+            queue,
+            files,
+            checks,
+            passed,
+        }
+    }
+
+    /// The files that an opening doesn't pass over.
+    pub fn kept_files(&self) -> &[LogFile] {
+        self.files.get(self.passed..).unwrap_or(&[])
+    }
+
+    /// What can be read of each of them.
+    pub fn kept_checks(&self) -> &[FileCheck]
+        ensures value { result.now ≡ drop self.now.passed self.now.checks.items }
+    {
+        self.checks.get(self.passed..).unwrap_or(&[])
+    }
+
+    /// What an opening in a mode does with each of them.
+    pub fn plan(&self, alloc: Global, mode: RecoveryMode) -> Result<Vec<Planned>, Fault>
+        ensures value { IfOk result (λ plan. plan.items
+            ≡ plan_of mode (drop self.now.passed self.now.checks.items)) }
+        ensures memory { IfErr result (λ e. e ≡ Memory) }
+    {
+        plan_opening(alloc, mode, self.kept_checks())
+    }
+
+    /// The number of the file before the one at a place.
+    pub fn number_before(&self, place: usize) -> Option<u64> {
+        Some(self.checks.get(place.checked_sub(1)?)?.id.seq)
+    }
+
+    /// Whether an opening finds two files of the number of the first one that it keeps, and fails.
+    pub fn is_doubled(&self) -> bool {
+        match (self.number_before(self.passed), self.kept_checks().first()) {
+            (Some(before), Some(first)) => before == first.id.seq,
+            _ => false,
+        }
+    }
+
+    /// The first file at which an opening in a mode fails, and where its reading ends.
+    pub fn failing(
+        &self,
+        alloc: Global,
+        mode: RecoveryMode,
+    ) -> Result<Option<(&str, usize)>, Fault> {
+        let plan = self.plan(alloc, mode)?;
+        for (place, planned) in plan.iter().enumerate() {
+            if *planned == Planned::Fail {
+                return Ok(self.place_of(place));
+            }
+        }
+        Ok(None)
+    }
+
+    // The path of a kept file, and where its reading ends.
+    fn place_of(&self, place: usize) -> Option<(&str, usize)> {
+        let file = self.kept_files().get(place)?;
+        let check = self.kept_checks().get(place)?;
+        Some((file.path.as_str(), check.end))
+    }
+}

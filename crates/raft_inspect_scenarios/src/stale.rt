@@ -1,0 +1,143 @@
+//! A file that is used again, whose first bytes were written over: what stands behind its records is told from damage.
+
+use raft_config::RecoveryMode;
+use raft_inspect::{Lines, Outlook, QueueFiles, add_queue, inspect};
+use raft_memory::MemoryFileSystem;
+use raft_records::{Fault, LogQueue};
+use std::alloc::Global;
+use std::test::Fail;
+
+/// Headers of versions 1 and 2.
+const V1: &[u8] =
+    b"RAFT-LOG-FILE-HEADER-9986AB3E47F320B394C8E84916EB0ED5\x00\x00\x00\x00\x00\x00\x00\x01";
+
+const V2: &[u8] = b"RAFT-LOG-FILE-HEADER-9986AB3E47F320B394C8E84916EB0ED5\
+    \x00\x00\x00\x00\x00\x00\x00\x02\x00\x00\x00\x00\x00\x00\x00\x00";
+
+/// The record of a put, made by Python: signed for file 7, for files 3 and 9, and unsigned.
+const OWN: &[u8] = b"\x00\x00\x00\x00\x00\x00\x1c\x00\x00\x00\x00\x00\x00\x00\x00\x10\
+    \x01\x01\x03\x01\x01\x61\x01\x78\x67\x81\x67\x02";
+
+const OLD: &[u8] = b"\x00\x00\x00\x00\x00\x00\x1c\x00\x00\x00\x00\x00\x00\x00\x00\x10\
+    \x01\x01\x03\x01\x01\x61\x01\x78\x63\x81\x67\x02";
+
+const LATER: &[u8] = b"\x00\x00\x00\x00\x00\x00\x1c\x00\x00\x00\x00\x00\x00\x00\x00\x10\
+    \x01\x01\x03\x01\x01\x61\x01\x78\x69\x81\x67\x02";
+
+const UNSIGNED: &[u8] = b"\x00\x00\x00\x00\x00\x00\x1c\x00\x00\x00\x00\x00\x00\x00\x00\x10\
+    \x01\x01\x03\x01\x01\x61\x01\x78\x60\x81\x67\x02";
+
+/// Bytes that begin no record, as the end of one that was written over.
+const TORN: &[u8] = b"\x61\x01\x78\x63\x81\x67\x02";
+
+/// The parts of file 7, and the end of the line that tells it: what stands behind its records, and what an opening in each
+/// mode does with it; then how many files the default mode cuts, and how many bytes of an earlier file.
+struct Case {
+    parts: &'static [&'static [u8]],
+    line: &'static str,
+    cut: u64,
+    stale: u64,
+}
+
+static CASES: [Case; 10] = [
+    Case {
+        parts: &[V2, OWN],
+        line: "records 1 read 97 size 97 rest none absolute keep tail keep any keep\n",
+        cut: 0,
+        stale: 0,
+    },
+    Case {
+        parts: &[V2, OWN, TORN, OLD],
+        line: "records 1 read 97 size 132 rest stale absolute fail tail cut any cut\n",
+        cut: 0,
+        stale: 35,
+    },
+    // Nothing was written over yet but the header.
+    Case {
+        parts: &[V2, OLD, OLD],
+        line: "records 0 read 69 size 125 rest stale absolute fail tail cut any cut\n",
+        cut: 0,
+        stale: 56,
+    },
+    // A record of its own stands behind what is broken: it is lost.
+    Case {
+        parts: &[V2, OWN, TORN, OWN],
+        line: "records 1 read 97 size 132 rest broken absolute fail tail cut any cut\n",
+        cut: 1,
+        stale: 0,
+    },
+    Case {
+        parts: &[V2, OWN, TORN, OWN, OLD],
+        line: "records 1 read 97 size 160 rest broken absolute fail tail cut any cut\n",
+        cut: 1,
+        stale: 0,
+    },
+    Case {
+        parts: &[V2, OWN, TORN],
+        line: "records 1 read 97 size 104 rest broken absolute fail tail cut any cut\n",
+        cut: 1,
+        stale: 0,
+    },
+    // No file after it was there before it.
+    Case {
+        parts: &[V2, OWN, LATER],
+        line: "records 1 read 97 size 125 rest broken absolute fail tail cut any cut\n",
+        cut: 1,
+        stale: 0,
+    },
+    Case {
+        parts: &[V2, OWN, &[0; 40], OLD],
+        line: "records 1 read 97 size 165 rest stale absolute fail tail cut any cut\n",
+        cut: 0,
+        stale: 68,
+    },
+    // The records of version 1 tell no file.
+    Case {
+        parts: &[V1, UNSIGNED, OLD],
+        line: "records 1 read 89 size 117 rest broken absolute fail tail cut any cut\n",
+        cut: 1,
+        stale: 0,
+    },
+    Case {
+        parts: &[V2, OWN, &[0; 40]],
+        line: "records 1 read 97 size 137 rest zeros absolute fail tail cut any cut\n",
+        cut: 0,
+        stale: 0,
+    },
+];
+
+fn found_in(alloc: Global, case: &Case) -> Result<QueueFiles, Fault> {
+    let mut bytes = Vec::new(alloc);
+    for part in case.parts {
+        bytes.extend_from_slice(part)?;
+    }
+    let path = String::from_str(alloc, "log/0000000000000007.raftlog")?;
+    let folder = String::from_str(alloc, "log")?;
+    let mut image = MemoryFileSystem::settled(
+        alloc,
+        vec![in alloc; (path, bytes)]?,
+        vec![in alloc; folder]?,
+    )?;
+    inspect(alloc, &mut image, &["log"], LogQueue::Append)
+}
+
+fn is_told(alloc: Global, case: &Case) -> Result<bool, Fault> {
+    let found = found_in(alloc, case)?;
+    let mut lines = Lines::new(alloc, false, false);
+    add_queue(alloc, &found, &mut lines)?;
+    let mut outlook = Outlook::new();
+    outlook.add_queue(alloc, &found, RecoveryMode::TolerateTailCorruption)?;
+    Ok(
+        lines.as_bytes().ends_with(case.line.as_bytes())
+            && outlook.files == case.cut
+            && outlook.stale == case.stale,
+    )
+}
+
+#[test]
+fn stale_records_are_told_from_damage(rt: HostRuntime) -> Result<(), Fail> {
+    for (place, case) in CASES.iter().enumerate() {
+        assert!(rt; is_told(rt.alloc(), case)?, "case {place}");
+    }
+    Ok(())
+}

@@ -1,0 +1,3 @@
+pub mod LineLemmas
+pub mod LineReadingLemmas
+pub mod ProgramLemmas

@@ -1,0 +1,4 @@
+pub mod Waiting
+pub mod Heard
+pub mod Told
+pub mod Telling

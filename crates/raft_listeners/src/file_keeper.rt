@@ -1,0 +1,20 @@
+//! Whoever keeps log files from being dropped.
+ghost use Rattle.raft_listeners.specs.Heard.{HasAnswered};
+
+use crate::event_sink::EventSink;
+use crate::listeners::Listeners;
+use raft_base::FileSeq;
+
+/// Whoever is told of what happens to log files, and keeps some of them from being dropped.
+pub trait FileKeeper: EventSink {
+    /// The file before which a purge of the Append queue may drop files: the active one, or the least
+    /// one that is kept. Each listener and the hook is asked once.
+    fn barrier(&mut self, active: FileSeq) -> FileSeq
+        ensures answered { HasAnswered active result (Self.heard self.old) (Self.heard self.new) };
+}
+
+impl FileKeeper for Listeners {
+    fn barrier(&mut self, active: FileSeq) -> FileSeq {
+        self.barrier(active)
+    }
+}

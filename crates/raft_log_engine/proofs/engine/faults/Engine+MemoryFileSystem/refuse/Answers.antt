@@ -1,0 +1,21 @@
+use Rattle.std.proofs.Common.{subst, sym}
+use Rattle.raft_held.specs.Contents.{Holds}
+use Rattle.raft_log_engine.specs.Engine.{contents_of, is_known_in}
+use Rattle.raft_entry_blocks.specs.Cache.{HoldsBlockIn}
+use Rattle.raft_log_engine.proofs.HeldLemmas.{completed_still, left_still, queues_still}
+use Rattle.raft_log_engine.proofs.engine.faults.Engine+MemoryFileSystem.refuse.Goals as goal
+
+-- its files are the same
+pub invariant_of-self : goal.invariant_of-self
+invariant_of-self c =
+    let e = c.args.self.now in
+    let same = c.refuse.ensures.unchanged in
+    record {
+      emptied = e.emptied;
+      holds = λ alive. subst (λ n. Holds e.pipes n e.tables (contents_of e) (is_known_in e)) (sym same) (e.holds alive);
+      cached = λ alive. subst (λ n. HoldsBlockIn e.pipes n e.cache) (sym same) (e.cached alive);
+      queues = queues_still e _ same;
+      completed = completed_still e _ same;
+      format = e.format;
+      left = left_still e _ same;
+    }

@@ -1,0 +1,171 @@
+-- What purges leave of the queues, and why they fail.
+use Rattle.std.specs.Prelude.{◌≡◌, ◌⊎◌, ◌^◌, ℕ, max, suc, ◌+◌, Bool, true, false, Some, None}
+use Rattle.raft_base.specs.declared.errors.Fault.{Fault}
+use Rattle.raft_base.specs.declared.errors.Fault.TheVariants as fault
+use Rattle.raft_base.specs.declared.pipe_log.LogQueue.{LogQueue}
+use Rattle.raft_base.specs.declared.pipe_log.LogQueue.TheVariants.{Append, Rewrite}
+use Rattle.raft_config.specs.Folders.{Folders}
+use Rattle.raft_env.specs.Directory.{Directory}
+use Rattle.raft_env.specs.declared.env.FileSystem.{Ghosts}
+use Rattle.raft_env.specs.Refusal.{FailsAt, Refusals, RoseBy}
+use Rattle.raft_pipes.specs.PipeState.{HasLastNumber, PipeState, last_seq}
+use Rattle.raft_pipes.specs.Queue.{NamesLog}
+use Rattle.raft_queues.specs.Dual.{DualState}
+use Rattle.raft_records.specs.Contents.{Contents}
+use Rattle.raft_tables.specs.FirstFiles.{first_of_tables}
+use Rattle.raft_tables.specs.GroupIds.{ids_bound}
+use Rattle.raft_tables.specs.declared.memtables.MemTables.{MemTables}
+use Rattle.raft_tables.specs.declared.rewritten.GroupsMet.{GroupsMet}
+use Rattle.raft_purge.specs.Apart.{KeepsOthers}
+use Rattle.raft_purge.specs.Dropping.{HasDroppedOld, HasDroppedSome}
+use Rattle.raft_purge.specs.Expired.{HasDroppedExpired, IsIdle}
+use Rattle.raft_purge.specs.Faults.{IsByChange, IsPurgeRefusal}
+use Rattle.raft_purge.specs.OpenGroup.{EndsOpen, HasNoId, IsAtomicRefusal}
+use Rattle.raft_purge.specs.Emptied.{MovesOnly}
+use Rattle.raft_purge.specs.Scope.{HasEmptied, HasLostFront, HasRewritten, watermark_in}
+use Rattle.raft_tables.specs.Tables.{Tables}
+use Rattle.raft_purge.specs.Steps.{IsLog, LogState, LogValue}
+use Rattle.raft_purge.specs.Unfit.{IsUnfit}
+use Rattle.raft_purge.specs.declared.fault.StepFault.{StepFault}
+use Rattle.raft_log_engine.specs.Engine.{directory_of}
+use Rattle.raft_log_engine.specs.declared.engine.Engine.{Engine}
+use Rattle.raft_log_engine.specs.declared.engine.purge_kind.Purge.{Purge}
+use Rattle.raft_log_engine.specs.declared.engine.purge_kind.Purge.TheVariants.{RewriteAppend, RewriteRewrite, DropStale, DropExpired}
+
+-- so many files left the queue of which a purge answers
+abbrev pub HasFreed : Purge → PipeState → PipeState → PipeState → PipeState → ℕ → Type 0
+HasFreed (RewriteAppend scope) append rewrite append' rewrite' count =
+    append.first + count ≡ append'.first
+HasFreed RewriteRewrite append rewrite append' rewrite' count =
+    rewrite.first + count ≡ rewrite'.first
+HasFreed DropStale append rewrite append' rewrite' count = append.first + count ≡ append'.first
+HasFreed (DropExpired x) append rewrite append' rewrite' count = append.first + count ≡ append'.first
+
+-- how many of the batches that a purge writes need not be full: the last one of each rewriting
+abbrev pub rests_of : Purge → ℕ
+rests_of (RewriteAppend scope) = 1
+rests_of RewriteRewrite = 1
+rests_of DropStale = 0
+rests_of (DropExpired x) = 2
+
+-- where the batches of each atomic group stand together, none of the queue's files is left, else all are
+pub record HasRenewed (together : Bool) (p p' : PipeState) : Type 0 where
+  pub gone : together ≡ true → p'.first ≡ suc (last_seq p)
+  pub kept : together ≡ false → p'.first ≡ p.first
+
+-- each queue went on to a next file. The Append queue begins with the first file in which one of the
+-- tables' entries or values stands, or its last, and the Rewrite queue lost its old files or none
+pub record HasDroppedStale (together : Bool) (m : MemTables) (append rewrite append' rewrite' : PipeState)
+    : Type 0 where
+  pub last : last_seq append' ≡ suc (last_seq append)
+  pub first : append'.first
+      ≡ max append.first (first_of_tables Append (suc (last_seq append)) m)
+  pub old : HasDroppedOld together m rewrite rewrite'
+
+-- what a purge leaves of both queues, by the tables before and after it
+abbrev pub HasPurged : Purge → Bool → MemTables → MemTables → PipeState → PipeState → PipeState
+    → PipeState → Type 0
+HasPurged (RewriteAppend scope) together m m' append rewrite append' rewrite' =
+    HasRewritten scope append append' × HasEmptied scope m m' append rewrite append' rewrite'
+HasPurged RewriteRewrite together m m' append rewrite append' rewrite' =
+    HasRenewed together rewrite rewrite' × (append' ≡ append)
+HasPurged DropStale together m m' append rewrite append' rewrite' =
+    HasDroppedStale together m append rewrite append' rewrite'
+HasPurged (DropExpired x) together m m' append rewrite append' rewrite' =
+    HasDroppedExpired x together m' append rewrite append' rewrite'
+
+-- the queue of which a purge answers
+abbrev pub queue_freed : Purge → LogQueue
+queue_freed RewriteRewrite = Rewrite
+queue_freed _ = Append
+
+-- where the queue of which a purge answers begins once that was refused
+abbrev pub HasLostSome : Purge → MemTables → PipeState → PipeState → PipeState → PipeState → Type 0
+HasLostSome (RewriteAppend scope) m append rewrite append' rewrite' = HasLostFront None m append append'
+HasLostSome RewriteRewrite m append rewrite append' rewrite' =
+    HasDroppedSome (suc (last_seq rewrite)) m rewrite rewrite'
+HasLostSome DropStale m append rewrite append' rewrite' = HasLostFront None m append append'
+HasLostSome (DropExpired x) m append rewrite append' rewrite' =
+    HasLostFront (Some x.barrier) m append append'
+
+-- where only the Append queue is rewritten, groups that aren't keep their places
+abbrev pub LeavesOthers : Purge → Tables → Tables → Type 0
+LeavesOthers (DropExpired x) t t' = x.renews ≡ false → KeepsOthers x.groups.items t t'
+LeavesOthers _ t t' = Unit {0}
+
+-- there is nothing to be rewritten
+abbrev pub IsIdlePurge : Purge → Type 0
+IsIdlePurge (DropExpired x) = IsIdle x
+IsIdlePurge _ = ⊥
+
+-- what stands behind the watermark of a rewriting of the Append queue isn't moved
+abbrev pub LeavesBehind : Purge → PipeState → Tables → Tables → Type 0
+LeavesBehind (RewriteAppend scope) append t t' =
+    MovesOnly (Some (watermark_in scope (last_seq append))) t t'
+LeavesBehind _ append t t' = Unit {0}
+
+-- a rewriting of the Rewrite queue may leave an atomic group there that isn't ended, no other purge
+abbrev pub MayLeaveOpen : Purge → DualState → Directory → Type 0
+MayLeaveOpen RewriteRewrite d n = EndsOpen d n
+MayLeaveOpen (DropExpired x) d n = EndsOpen d n
+MayLeaveOpen _ d n = ⊥
+
+-- it alone may need an id for an atomic group where none is left
+abbrev pub MayLackId : Purge → GroupsMet → Type 0
+MayLackId RewriteRewrite groups = ids_bound groups.ids ≡ 2 ^ 64
+MayLackId (DropExpired x) groups = ids_bound groups.ids ≡ 2 ^ 64
+MayLackId _ groups = ⊥
+
+-- why the steps of a purge fail
+abbrev pub IsRunRefusal : Purge → GroupsMet → DualState → DualState → Directory → Refusals → Refusals
+    → (Fault → Type 0) → StepFault → Type 0
+IsRunRefusal RewriteRewrite groups d d' n' old new U f =
+    IsAtomicRefusal d d' n' old new (λ e. HasNoId groups e ⊎ U e) f
+IsRunRefusal (DropExpired x) groups d d' n' old new U f =
+    IsAtomicRefusal d d' n' old new (λ e. HasNoId groups e ⊎ U e) f
+IsRunRefusal _ groups d d' n' old new U f = IsPurgeRefusal d d' n' old new U f
+
+-- what fails an engine in a purge: an atomic group stands open, or a call failed that was to change
+-- the last file of a queue or to make the next one, and no other, as a read or a delete
+abbrev pub IsFailureCause : Type 0 → DualState → Directory → Refusals → Refusals → Fault → Type 0
+IsFailureCause ends_open d n old new e = ends_open ⊎ IsByChange d n old new e
+
+-- why a purge of a log with these contents fails, in these folders: by a call on its files or for lack
+-- of memory; where no number is left for a next log file of a queue, or no id for an atomic group, or
+-- what is to be written again has no record, which fails no engine unless it leaves an atomic group
+-- open; and for want of space, which fails one and is to be tried again
+abbrev pub IsPurgeFault : Contents → PipeState → PipeState → Type 0 → Type 0 → Folders → Bool
+    → Refusals → Refusals → Fault → Type 0
+IsPurgeFault x append rewrite ends_open no_id folders fails old new fault.Range =
+    ((fails ≡ false) ⊎ ends_open)
+    × (IsUnfit x fault.Range ⊎ (no_id ⊎ (HasLastNumber append ⊎ HasLastNumber rewrite)))
+IsPurgeFault x append rewrite ends_open no_id folders fails old new (fault.InvalidArgument text) =
+    ((fails ≡ false) ⊎ ends_open) × IsUnfit x (fault.InvalidArgument text)
+IsPurgeFault x append rewrite ends_open no_id folders fails old new fault.TryAgain =
+    RoseBy 1 old new × (fails ≡ true)
+IsPurgeFault x append rewrite ends_open no_id folders fails old new e =
+    FailsAt (NamesLog folders) old new e
+
+-- some log is so
+abbrev pub IsOfSome : LogState → Type 0
+IsOfSome s = ∥ ((v : LogValue) × IsLog s v) ∥₁
+
+module _ {F H R W : Type 0} {g : Ghosts F H R W} where
+  -- the tables of an engine
+  abbrev pub tables_in : Engine F H R W g → MemTables
+  tables_in e = e.tables
+
+  -- the Rewrite queue of an engine ends with an atomic group that isn't ended
+  abbrev pub HasOpenGroup : Engine F H R W g → Type 0
+  HasOpenGroup e = EndsOpen e.pipes (directory_of e)
+
+  -- no id is left for an atomic group
+  abbrev pub HasLastId : Engine F H R W g → Type 0
+  HasLastId e = ids_bound e.groups.ids ≡ 2 ^ 64
+
+  -- the same of an engine after a purge
+  abbrev pub LeavesOpen : Purge → Engine F H R W g → Type 0
+  LeavesOpen purge e = MayLeaveOpen purge e.pipes (directory_of e)
+
+  abbrev pub LacksId : Purge → Engine F H R W g → Type 0
+  LacksId purge e = MayLackId purge e.groups

@@ -1,0 +1,86 @@
+-- What the purges of an engine make of it, each of them once, with listeners and without.
+use Rattle.std.specs.Prelude.{◌≡◌, ℕ, true, false, [], IfErr, IfOk, OnErr, OnOk, Result, Some, Vec, is_ok}
+use Rattle.std.specs.List.Sorted.{IsStrictlySortedBy}
+use Rattle.std.specs.Ordering.{nat_cmp}
+use Rattle.std.specs.declared.alloc.Global.{Global}
+use Rattle.raft_base.specs.declared.errors.Fault.{Fault}
+use Rattle.raft_base.specs.declared.pipe_log.LogQueue.{LogQueue}
+use Rattle.raft_env.specs.declared.env.FileSystem.{Ghosts}
+use Rattle.raft_listeners.specs.Heard.{HasHeard, Heard}
+use Rattle.raft_tables.specs.Tables.{tables_of}
+use Rattle.raft_held.specs.Crash.{LeavesAllowed}
+use Rattle.raft_purge.specs.Dropping.{KeepsFront}
+use Rattle.raft_purge.specs.Scope.{HasLostFront}
+use Rattle.raft_log_engine.specs.Advance.{ChangesOnlyItsLog, StaysWithin, state_of}
+use Rattle.raft_log_engine.specs.Durability.{Progresses, durability_of}
+use Rattle.raft_log_engine.specs.Engine.{contents_of, directory_of, durable_of, folders_of, has_failed, queue_of, refusals_of, rewrite_queue_of, has_groups_together, spans_of, unsynced_of}
+use Rattle.raft_log_engine.specs.Events.{AreRecordsCut, HearsPurge}
+use Rattle.raft_log_engine.specs.Expired.{AsksBarrier, HasPurgedExpired}
+use Rattle.raft_log_engine.specs.Purge.{HasFreed, HasLostSome, HasPurged, IsFailureCause, IsIdlePurge, IsPurgeFault, LeavesBehind, LeavesOthers}
+use Rattle.raft_log_engine.specs.declared.engine.Engine.{Engine}
+use Rattle.raft_log_engine.specs.declared.engine.purge_kind.Purge.{Purge}
+use Rattle.raft_log_engine.specs.declared.engine.purge_kind.Purge.TheVariants.{RewriteRewrite}
+
+module _ {F H R W : Type 0} {g : Ghosts F H R W} where
+  -- each purge, which answers of this queue, and where that may be leaves an atomic group open, or lacks
+  -- an id for one: after `Ok` a crash leaves all contents, at any moment what it could leave before. The
+  -- queue loses no file where the engine fails
+  pub record PurgesLog {T : Type 0} (queue : LogQueue) (ends_open no_id : Type 0)
+      (result : Result T Fault) (old new : Engine F H R W g) : Type 0 where
+    pub contents : contents_of new ≡ contents_of old
+    pub progress : Progresses [] (is_ok result) [] (durability_of old) (durability_of new)
+    pub any_moment : StaysWithin (LeavesAllowed (folders_of old) (durable_of old) (unsynced_of old))
+        (state_of old) (state_of new)
+    pub others : ChangesOnlyItsLog (state_of old) (state_of new)
+    pub front :
+        has_failed old ≡ false → has_failed new ≡ true → KeepsFront queue old.pipes new.pipes
+    pub path :
+        has_failed old ≡ false → has_failed new ≡ true → IfErr result (IsFailureCause ends_open new.pipes
+        (directory_of new) (refusals_of old) (refusals_of new))
+    pub cause :
+        has_failed old ≡ false → IfErr result (IsPurgeFault (contents_of old) (queue_of new)
+        (rewrite_queue_of new) ends_open no_id (folders_of old) (has_failed new)
+        (refusals_of old) (refusals_of new))
+
+  -- which files it leaves, how many it answers, and what it moves; it counts no rounds. What is refused
+  -- has lost those files at most
+  pub record FreesFiles (purge : Purge) (result : Result ℕ Fault) (old new : Engine F H R W g)
+      : Type 0 where
+    pub value : IfOk result
+        (HasFreed purge (queue_of old) (rewrite_queue_of old) (queue_of new) (rewrite_queue_of new))
+    pub files : OnOk result (HasPurged purge (has_groups_together old) old.tables new.tables
+        (queue_of old) (rewrite_queue_of old) (queue_of new) (rewrite_queue_of new))
+    pub first : OnErr result (HasLostSome purge new.tables
+        (queue_of old) (rewrite_queue_of old) (queue_of new) (rewrite_queue_of new))
+    pub append : purge ≡ RewriteRewrite → queue_of new ≡ queue_of old
+    pub tables : OnOk result
+        (LeavesBehind purge (queue_of old) (tables_of old.tables) (tables_of new.tables))
+    pub apart : OnOk result (LeavesOthers purge (tables_of old.tables) (tables_of new.tables))
+    pub idle : OnOk result (IsIdlePurge purge → (new.pipes ≡ old.pipes)
+        × (new.tables ≡ old.tables) × (new.stats ≡ old.stats))
+    pub rounds : new.rounds ≡ old.rounds
+
+  -- the same of a purge by watermarks with this barrier, which counts rounds where it is answered
+  pub record FreesExpired (barrier : ℕ) (result : Result (Vec ℕ Global) Fault)
+      (old new : Engine F H R W g) : Type 0 where
+    pub value : IfOk result (λ asked. HasPurgedExpired barrier old new asked.items)
+    pub ascending : IfOk result (λ asked. IsStrictlySortedBy nat_cmp asked.items)
+    pub rounds : OnErr result (new.rounds ≡ old.rounds)
+    pub first : OnErr result (HasLostFront (Some barrier) new.tables (queue_of old) (queue_of new))
+
+  -- what listeners hear of a purge of which all batches but so many are full, unless the engine fails in
+  -- it; nothing of an engine that had failed
+  pub record HearsOfPurge {T : Type 0} (rests : ℕ) (result : Result T Fault)
+      (old new : Engine F H R W g) (heard heard' : Heard) : Type 0 where
+    pub told : has_failed new ≡ false → HearsPurge (λ records. OnOk result (AreRecordsCut rests records))
+        (spans_of old) (spans_of new) heard heard'
+    pub silent : has_failed old ≡ true → HasHeard [] heard heard'
+
+  -- they are asked for the barrier, and hear of the purge with it
+  pub record HearsExpired (result : Result (Vec ℕ Global) Fault) (old new : Engine F H R W g)
+      (heard heard' : Heard) : Type 0 where
+    pub barrier : ℕ
+    pub after : Heard
+    pub asks : AsksBarrier old barrier heard after
+    pub frees : FreesExpired barrier result old new
+    pub hears : HearsOfPurge 2 result old new after heard'

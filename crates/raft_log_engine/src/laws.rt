@@ -1,0 +1,99 @@
+//! What a crash leaves of an engine, whatever calls came before.
+ghost use Rattle.std.specs.Prelude.{◌≡◌, ◌++◌, ℕ, List, [], false};
+ghost use Rattle.raft_records.specs.Contents.{Contents, after_batches, no_contents};
+ghost use Rattle.raft_records.specs.Item.{Batch};
+ghost use Rattle.raft_env.specs.Directory.{Directory, IsRestarted, CrashImage};
+ghost use Rattle.raft_held.specs.Begins.{LogStandsFor};
+ghost use Rattle.raft_held.specs.Crash.{IsAllowedFrom, LeavesAllowed, RecoversContents, contents_after_crash, known_after_crash};
+ghost use Rattle.raft_files.specs.Records.{as_it_is};
+ghost use Rattle.raft_held.specs.Contents.{contents_at, known_at};
+ghost use Rattle.raft_log_engine.specs.Advance.{StaysWithin, state_of};
+ghost use Rattle.raft_log_engine.specs.Opening.{FoundCompletedRecords};
+ghost use Rattle.raft_log_engine.specs.Engine.{contents_of, directory_of, durable_of, folders_of, has_failed, queue_of, settings_of, unsynced_of};
+ghost use Rattle.raft_queue_laws.specs.DetectableDamage.{HaveNoStaleRecordIn};
+ghost use Rattle.raft_env.specs.Consistent.{AreConsistent};
+ghost use Rattle.raft_memory.specs.Choice.{AreWhole, left_by};
+ghost use Rattle.raft_memory.specs.declared.crash.Choice.{Choice};
+ghost use Rattle.raft_pipes.specs.Folder.{AreClear, HasNoLog};
+ghost use Rattle.raft_config.specs.Folders.{Folders};
+ghost use Rattle.raft_held.specs.Queues.{AreDetectableIn, AreOpenableIn, AreSingleIn, AreSoundIn, HaveSimplePastIn};
+ghost use Rattle.raft_config.specs.declared.config.RecoveryMode.{RecoveryMode};
+ghost use Rattle.raft_config.specs.declared.config.RecoveryMode.TheVariants.{AbsoluteConsistency};
+
+use crate::Engine;
+use raft_env::FileSystem;
+
+/// Folders that keep contents through a crash leave them then, possibly with a prefix of the
+/// batches after them: such contents are read first whatever the damage, and alone where that is
+/// detectable. A restart after a crash finds what the crash left. Where that is sound, it keeps it, its log can be opened in each mode but the absolute one,
+/// and no folder's place is taken (`AreClear`), nor does a kept number stand in both folders
+/// (`AreSingleIn`). Where no log stands, nothing is read and nothing is kept. Files that no crash
+/// met, as an engine gave them up, stand for what a crash could leave, and their log can be opened,
+/// where their damage is detectable: what a failed write left of its record may be any bytes.
+pub fn crash_leaves_contents()
+    ensures left { (folders : Folders) (m : Contents) (batches : List Batch) (n : Directory)
+        → RecoversContents folders m batches n → LeavesAllowed folders m batches n }
+    ensures restarted { (folders : Folders) (n m : Directory) (d : CrashImage) → IsRestarted n d m
+        → AreSoundIn folders n d
+        → RecoversContents folders (contents_after_crash folders n d) [] m }
+    ensures found { (folders : Folders) (n m : Directory) (d : CrashImage) → IsRestarted n d m
+        → contents_at folders m ≡ contents_after_crash folders n d }
+    ensures known { (folders : Folders) (n m : Directory) (d : CrashImage) → IsRestarted n d m
+        → (group : ℕ) → known_at folders m group ≡ known_after_crash folders n d group }
+    ensures opens { (folders : Folders) (n m : Directory) (d : CrashImage) → IsRestarted n d m
+        → AreSoundIn folders n d → (mode : RecoveryMode) → (mode ≡ AbsoluteConsistency → ⊥)
+        → AreOpenableIn mode folders m }
+    ensures as_they_are { (folders : Folders) (m : Contents) (batches : List Batch) (n : Directory)
+        → RecoversContents folders m batches n → AreDetectableIn folders n (as_it_is n)
+        → IsAllowedFrom 0 m batches (contents_at folders n) × ((mode : RecoveryMode)
+        → (mode ≡ AbsoluteConsistency → ⊥) → AreOpenableIn mode folders n) }
+    ensures none { (folders : Folders) (n : Directory) → HasNoLog folders n → AreClear folders n
+        → (contents_at folders n ≡ no_contents) × RecoversContents folders no_contents [] n }
+    ensures clear { (folders : Folders) (m : Contents) (batches : List Batch) (n : Directory)
+        → RecoversContents folders m batches n → AreClear folders n }
+    ensures single { (folders : Folders) (m : Contents) (batches : List Batch) (n : Directory)
+        → RecoversContents folders m batches n → AreSingleIn folders n }
+    ensures stays_clear { (folders : Folders) (n m : Directory) (d : CrashImage)
+        → IsRestarted n d m → AreSoundIn folders n d → AreClear folders m }
+{
+    raft_queue_laws::queue::crash_leaves_a_prefix();
+}
+
+/// What an engine keeps a crash leaves now: what is durable, and a prefix of what is unsynced, and
+/// so while no call changes its files, with any batches more. Both make up what an engine holds
+/// that hasn't failed, and all of them stand in its files: they are what is read there first.
+pub fn an_engine_recovers_what_it_keeps<F: FileSystem>(engine: &Engine<F>)
+    ensures crash { LeavesAllowed (folders_of engine.now) (durable_of engine.now)
+        (unsynced_of engine.now) (directory_of engine.now) }
+    ensures any_moment { (more : List Batch) → StaysWithin (LeavesAllowed (folders_of engine.now)
+        (durable_of engine.now) (unsynced_of engine.now ++ more)) (state_of engine.now)
+        (state_of engine.now) }
+    ensures contents { has_failed engine.now ≡ false
+        → contents_of engine.now ≡ after_batches (durable_of engine.now) (unsynced_of engine.now) }
+    ensures written { has_failed engine.now ≡ false
+        → LogStandsFor (folders_of engine.now) (durable_of engine.now) (unsynced_of engine.now)
+        (directory_of engine.now) }
+{}
+
+/// The premise on damage can be met of an engine that hasn't failed. If its opening found no record
+/// of a failed call in the log (as after a crash, where no log stood, or after a `close` or
+/// `reopen` of an engine of which that is true), and of the log's calls, also those before the
+/// opening, only writes failed, and nothing decodes that a last log file held when it was renamed,
+/// the damage of a crash that leaves every file with all its bytes now, or with those of its last
+/// sync, is detectable
+/// (`AreConsistent`: as in memory always).
+pub fn the_damage_of_an_engine_is_detectable<F: FileSystem>(engine: &Engine<F>)
+    ensures crash { let folders = folders_of engine.now in let n = directory_of engine.now in
+        has_failed engine.now ≡ false → FoundCompletedRecords engine.now
+        → HaveSimplePastIn folders n → HaveNoStaleRecordIn folders n → AreConsistent n
+        → (choices : List Choice) → AreWhole choices → ∥ AreDetectableIn folders n (left_by choices n) ∥₁ }
+{
+    raft_queue_laws::damage::damage_of_a_queue_is_detectable();
+}
+
+/// A next log file that the queue of an engine that hasn't failed goes on to has the settings'
+/// version.
+pub fn new_files_have_the_settings_version<F: FileSystem>(engine: &Engine<F>)
+    ensures version { has_failed engine.now ≡ false → (queue_of engine.now).format_version
+        ≡ (settings_of engine.now).format_version }
+{}

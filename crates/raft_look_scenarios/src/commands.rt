@@ -1,0 +1,120 @@
+//! Each command that looks, at a whole log and at one whose first file is broken, which it leaves.
+
+use crate::files::{FileParts, OF_RAFTCTL, TORN_FRONT, make};
+use crate::standing::{set_writable, standing};
+use raft_command_line::{Request, Verb, parse};
+use raft_commands::look;
+use std::alloc::{AllocError, Global};
+use std::fs;
+use std::test::Fail;
+use std::thread::Threads;
+
+/// The words behind the folder, and the status at a whole log and at a broken one; nothing where the
+/// command fails.
+struct Command(&'static [&'static str], Option<u8>, Option<u8>);
+
+static COMMANDS: [Command; 15] = [
+    Command(&["get", "1", "a"], Some(0), None),
+    Command(&["get", "1", "b"], Some(3), None),
+    Command(&["list"], Some(0), None),
+    Command(&["scan", "1"], Some(0), None),
+    Command(&["entry", "7", "1"], Some(0), None),
+    Command(&["entry", "7", "2"], Some(3), None),
+    Command(&["entries", "7"], Some(0), None),
+    Command(&["groups"], Some(0), None),
+    Command(&["stat"], Some(0), None),
+    Command(&["verify", "3", "40"], Some(0), None),
+    Command(&["dump"], Some(0), Some(4)),
+    Command(&["check"], Some(0), Some(5)),
+    Command(&["check", "--mode", "any"], Some(0), Some(4)),
+    Command(&["consistency"], Some(0), Some(0)),
+    Command(&["picture"], Some(0), None),
+];
+
+fn words_of(
+    alloc: Global,
+    folder: &str,
+    command: &'static [&'static str],
+) -> Result<Vec<String>, AllocError> {
+    let mut words = Vec::new(alloc);
+    for word in ["raftctl", folder] {
+        words.push(String::from_str(alloc, word)?)?;
+    }
+    for word in command {
+        words.push(String::from_str(alloc, word)?)?;
+    }
+    words.push(String::from_str(alloc, "--quiet")?)?;
+    Ok(words)
+}
+
+// The status of a look that is asked for, or nothing where it fails.
+fn status_of<R: Threads + Sync>(rt: HostRuntime, threads: &R, request: &Request<'_>) -> Option<u8> {
+    match &request.verb {
+        Verb::Look(what) => match look(rt, threads, request, *what) {
+            Ok(status) => Some(status.code()),
+            Err(_) => None,
+        },
+        _ => None,
+    }
+}
+
+// Whether the command ends so, and leaves the folder.
+fn ends_so<R: Threads + Sync>(
+    rt: HostRuntime,
+    threads: &R,
+    folder: &str,
+    words: &[String],
+    wanted: Option<u8>,
+) -> Result<bool, Fail> {
+    let before = standing(&rt, folder)?;
+    let request = parse(rt.alloc(), words)?;
+    let status = status_of(rt, threads, &request);
+    Ok(status == wanted && standing(&rt, folder)? == before)
+}
+
+// .. also where the folder may not be written.
+fn always_ends_so<R: Threads + Sync>(
+    rt: HostRuntime,
+    threads: &R,
+    folder: &str,
+    command: &'static [&'static str],
+    wanted: Option<u8>,
+) -> Result<bool, Fail> {
+    let words = words_of(rt.alloc(), folder, command)?;
+    let first = ends_so(rt, threads, folder, &words, wanted)?;
+    set_writable(&rt, folder, false)?;
+    let second = ends_so(rt, threads, folder, &words, wanted)?;
+    set_writable(&rt, folder, true)?;
+    Ok(first && second)
+}
+
+// Whether the command ends so at a folder with these files.
+fn ends_so_at<R: Threads + Sync>(
+    rt: HostRuntime,
+    threads: &R,
+    files: &'static [FileParts],
+    command: &'static [&'static str],
+    wanted: Option<u8>,
+) -> Result<bool, Fail> {
+    let folder = make(&rt, "command", files)?;
+    let ended = always_ends_so(rt, threads, folder.as_str(), command, wanted);
+    let removed = fs::remove_dir_all(&rt, folder.as_str());
+    let is_so = ended?;
+    removed?;
+    Ok(is_so)
+}
+
+#[test]
+fn commands_that_look_leave_the_folder(rt: HostRuntime) -> Result<(), Fail> {
+    for (place, Command(words, whole, broken)) in COMMANDS.iter().enumerate() {
+        assert!(rt;
+            ends_so_at(rt, &rt, OF_RAFTCTL, words, *whole)?,
+            "whole: {place}"
+        );
+        assert!(rt;
+            ends_so_at(rt, &rt, TORN_FRONT, words, *broken)?,
+            "broken: {place}"
+        );
+    }
+    Ok(())
+}

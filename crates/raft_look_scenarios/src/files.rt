@@ -1,0 +1,77 @@
+//! The files of a folder, by their parts. Their bytes were made by another program.
+
+use std::{env, fs, io, process};
+
+/// A header of version 1.
+const HEADER: &[u8] =
+    b"RAFT-LOG-FILE-HEADER-9986AB3E47F320B394C8E84916EB0ED5\x00\x00\x00\x00\x00\x00\x00\x01";
+
+/// A record of 28 bytes: a put of a in group 1.
+const PUT: &[u8] = b"\x00\x00\x00\x00\x00\x00\x1c\x00\x00\x00\x00\x00\x00\x00\x00\x10\
+    \x01\x01\x03\x01\x01\x61\x01\x78\x60\x81\x67\x02";
+
+/// A record of 31 bytes: the entry 1 of group 7, which is e.
+const ENTRY: &[u8] = b"\x00\x00\x00\x00\x00\x00\x1f\x00\x00\x00\x00\x00\x00\x00\x00\x15\
+    \x65\x5a\x7a\xda\xef\x01\x07\x01\x01\x01\x01\x93\xa2\xdc\x1f";
+
+/// A record of 39 bytes: the entry 1 of group 7 as `raftctl` writes one, its index in eight bytes and e.
+const INDEXED: &[u8] = b"\x00\x00\x00\x00\x00\x00\x27\x00\x00\x00\x00\x00\x00\x00\x00\x1d\
+    \x00\x00\x00\x00\x00\x00\x00\x01\x65\x38\xb0\xca\xc2\x01\x07\x01\x01\x01\x09\xa1\x2a\x07\x11";
+
+const TORN: &[u8] = b"torn";
+
+/// A name, and the parts of the file.
+pub(crate) type FileParts = (&'static str, &'static [&'static [u8]]);
+
+/// Two queues, a file that is no log's, and the file of a lock.
+pub(crate) const WHOLE: &[FileParts] = &[
+    ("0000000000000001.raftlog", &[HEADER, PUT, ENTRY]),
+    ("0000000000000002.raftlog", &[HEADER, PUT]),
+    ("0000000000000004.rewrite", &[HEADER, PUT, PUT]),
+    ("LOCK", &[]),
+    ("notes", &[TORN]),
+];
+
+/// Two queues with an entry that `raftctl` reads, and a file that is no log's.
+pub(crate) const OF_RAFTCTL: &[FileParts] = &[
+    ("0000000000000001.raftlog", &[HEADER, PUT, INDEXED]),
+    ("0000000000000002.raftlog", &[HEADER, PUT]),
+    ("0000000000000004.rewrite", &[HEADER, PUT]),
+    ("notes", &[TORN]),
+];
+
+/// Torn bytes in the last file, and in the first.
+pub(crate) const TORN_END: &[FileParts] = &[
+    ("0000000000000001.raftlog", &[HEADER, PUT, ENTRY]),
+    ("0000000000000002.raftlog", &[HEADER, PUT, TORN]),
+];
+
+pub(crate) const TORN_FRONT: &[FileParts] = &[
+    ("0000000000000001.raftlog", &[HEADER, PUT, TORN]),
+    ("0000000000000002.raftlog", &[HEADER, PUT]),
+];
+
+/// Makes a folder of this name below that for temporary files, which no other process has, with these
+/// files.
+pub(crate) fn make(
+    rt: &HostRuntime,
+    name: &str,
+    files: &'static [FileParts],
+) -> io::Result<String> {
+    let id = process::id(rt.process());
+    let base = env::temp_dir(rt)?;
+    let folder = format!(in rt.alloc(); "{}/raft-looks-{id}-{name}", base.as_str())?;
+    if fs::exists(rt, folder.as_str())? {
+        fs::remove_dir_all(rt, folder.as_str())?;
+    }
+    fs::create_dir(rt, folder.as_str())?;
+    for (file, parts) in files {
+        let place = format!(in rt.alloc(); "{}/{file}", folder.as_str())?;
+        let mut bytes = Vec::new(rt.alloc());
+        for part in *parts {
+            bytes.extend_from_slice(part)?;
+        }
+        fs::write(rt, place.as_str(), &bytes)?;
+    }
+    Ok(folder)
+}

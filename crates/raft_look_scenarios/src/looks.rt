@@ -1,0 +1,189 @@
+//! Each look at a folder, with what it prints and its status, also at one that may not be written.
+
+use crate::files::{FileParts, TORN_END, TORN_FRONT, WHOLE, make};
+use crate::standing::{set_writable, standing};
+use raft_command_line::Options;
+use raft_config::RecoveryMode;
+use raft_console::{Output, Progress};
+use raft_looks::{Folder, check, dump};
+use std::fs;
+use std::test::Fail;
+
+#[derive(Clone, Copy)]
+enum Look {
+    Check,
+    Dump(Option<&'static str>),
+    /// All log files are read into memory.
+    Image,
+}
+
+struct Case {
+    name: &'static str,
+    files: &'static [FileParts],
+    look: Look,
+    /// The status and what is printed, or nothing where the look fails.
+    told: Option<(u8, &'static str)>,
+}
+
+const CHECK: &str = "\
+    file 0000000000000001.raftlog version 1 records 2 read 120 size 120 rest none absolute keep tail keep any keep\n\
+    file 0000000000000002.raftlog version 1 records 1 read 89 size 89 rest none absolute keep tail keep any keep\n\
+    file 0000000000000004.rewrite version 1 records 2 read 117 size 117 rest none absolute keep tail keep any keep\n\
+    other notes\n\
+    mode absolute opening opens files-cut 0 bytes-lost 0 zeros 0 stale 0\n\
+    mode tail opening opens files-cut 0 bytes-lost 0 zeros 0 stale 0\n\
+    mode any opening opens files-cut 0 bytes-lost 0 zeros 0 stale 0\n";
+
+const CHECK_TORN_END: &str = "\
+    file 0000000000000001.raftlog version 1 records 2 read 120 size 120 rest none absolute keep tail keep any keep\n\
+    file 0000000000000002.raftlog version 1 records 1 read 89 size 93 rest broken absolute fail tail cut any cut\n\
+    mode absolute opening fails files-cut 0 bytes-lost 0 zeros 0 stale 0\n\
+    mode tail opening opens files-cut 1 bytes-lost 4 zeros 0 stale 0\n\
+    mode any opening opens files-cut 1 bytes-lost 4 zeros 0 stale 0\n";
+
+const CHECK_TORN_FRONT: &str = "\
+    file 0000000000000001.raftlog version 1 records 1 read 89 size 93 rest broken absolute fail tail fail any cut\n\
+    file 0000000000000002.raftlog version 1 records 1 read 89 size 89 rest none absolute keep tail keep any keep\n\
+    mode absolute opening fails files-cut 0 bytes-lost 0 zeros 0 stale 0\n\
+    mode tail opening fails files-cut 0 bytes-lost 0 zeros 0 stale 0\n\
+    mode any opening opens files-cut 1 bytes-lost 4 zeros 0 stale 0\n";
+
+const DUMP: &str = "\
+    rewrite\t4\t61\t1\tput\ta\t1\tx\n\
+    rewrite\t4\t89\t1\tput\ta\t1\tx\n\
+    append\t1\t61\t1\tput\ta\t1\tx\n\
+    append\t1\t89\t7\tentry\t1\t1\te\n\
+    append\t2\t61\t1\tput\ta\t1\tx\n";
+
+const DUMP_TORN_END: &str = "\
+    append\t1\t61\t1\tput\ta\t1\tx\n\
+    append\t1\t89\t7\tentry\t1\t1\te\n\
+    append\t2\t61\t1\tput\ta\t1\tx\n\
+    append\t2\t89\tcorruption\n";
+
+const DUMP_TORN_FRONT: &str = "\
+    append\t1\t61\t1\tput\ta\t1\tx\n\
+    append\t1\t89\tcorruption\n\
+    append\t2\t61\t1\tput\ta\t1\tx\n";
+
+const DUMP_ONE: &str = "\
+    append\t2\t61\t1\tput\ta\t1\tx\n";
+
+static CASES: [Case; 9] = [
+    Case {
+        name: "check",
+        files: WHOLE,
+        look: Look::Check,
+        told: Some((0, CHECK)),
+    },
+    Case {
+        name: "check-torn-end",
+        files: TORN_END,
+        look: Look::Check,
+        told: Some((4, CHECK_TORN_END)),
+    },
+    Case {
+        name: "check-torn-front",
+        files: TORN_FRONT,
+        look: Look::Check,
+        told: Some((5, CHECK_TORN_FRONT)),
+    },
+    Case {
+        name: "dump",
+        files: WHOLE,
+        look: Look::Dump(None),
+        told: Some((0, DUMP)),
+    },
+    Case {
+        name: "dump-torn-end",
+        files: TORN_END,
+        look: Look::Dump(None),
+        told: Some((4, DUMP_TORN_END)),
+    },
+    Case {
+        name: "dump-torn-front",
+        files: TORN_FRONT,
+        look: Look::Dump(None),
+        told: Some((4, DUMP_TORN_FRONT)),
+    },
+    Case {
+        name: "dump-one",
+        files: WHOLE,
+        look: Look::Dump(Some("0000000000000002.raftlog")),
+        told: Some((0, DUMP_ONE)),
+    },
+    Case {
+        name: "dump-none",
+        files: WHOLE,
+        look: Look::Dump(Some("notes")),
+        told: None,
+    },
+    Case {
+        name: "image",
+        files: TORN_FRONT,
+        look: Look::Image,
+        told: Some((0, "")),
+    },
+];
+
+const OPTIONS: Options<'static> = Options {
+    spill: None,
+    mode: RecoveryMode::TolerateTailCorruption,
+    mode_is_named: false,
+    target: None,
+    threads: None,
+    settings: None,
+    base: None,
+    json: false,
+    hex: false,
+    quiet: true,
+};
+
+// The status of a look.
+fn looked(rt: HostRuntime, folder: &str, look: Look, out: &mut Output) -> anyhow::Result<u8> {
+    let mut progress = Progress::new(rt, true)?;
+    let folder = Folder::open(rt, folder, &OPTIONS)?;
+    let status = match look {
+        Look::Check => check(rt.alloc(), &folder, &OPTIONS, &mut progress, out)?,
+        Look::Dump(name) => dump(rt.alloc(), &folder, name, &mut progress, out)?,
+        Look::Image => {
+            folder.image(&mut progress)?;
+            return Ok(0);
+        }
+    };
+    Ok(status.code())
+}
+
+// Whether the look tells what the case says.
+fn tells(rt: HostRuntime, folder: &str, case: &Case) -> bool {
+    let mut out = Output::new(rt, &OPTIONS);
+    match (looked(rt, folder, case.look, &mut out), case.told) {
+        (Ok(status), Some((wanted, text))) => {
+            status == wanted && out.lines.as_bytes() == text.as_bytes()
+        }
+        (Err(_), None) => true,
+        _ => false,
+    }
+}
+
+// Whether it does so at the folder and at one that may not be written, and leaves both.
+fn holds(rt: HostRuntime, folder: &str, case: &Case) -> Result<bool, Fail> {
+    let before = standing(&rt, folder)?;
+    let first = tells(rt, folder, case) && standing(&rt, folder)? == before;
+    set_writable(&rt, folder, false)?;
+    let second = tells(rt, folder, case) && standing(&rt, folder)? == before;
+    set_writable(&rt, folder, true)?;
+    Ok(first && second)
+}
+
+#[test]
+fn looks_tell_what_stands_there_and_leave_it(rt: HostRuntime) -> Result<(), Fail> {
+    for case in &CASES {
+        let folder = make(&rt, case.name, case.files)?;
+        let held = holds(rt, folder.as_str(), case);
+        let removed = fs::remove_dir_all(&rt, folder.as_str());
+        assert!(rt; held?, "{}", case.name);
+        removed?;
+    }
+    Ok(())
+}

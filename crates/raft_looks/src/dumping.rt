@@ -1,0 +1,134 @@
+//! What each log file holds, item by item. One part of a file at a time is in memory.
+
+use crate::folder::Folder;
+use anyhow::{Result, bail};
+use raft_console::{Output, Progress, Status, failure};
+use raft_dump::{LogFile, LogItemReader, RecordPlace, build_file_reader};
+use raft_inspect::{add_fault, add_item};
+use raft_memory::MemoryFileSystem;
+use raft_parts::LogFileParts;
+use raft_records::{Fault, LogQueue};
+use std::alloc::Global;
+
+/// Prints a line for each item of one file, or of all: the Rewrite queue's first.
+pub fn dump(
+    alloc: Global,
+    folder: &Folder,
+    name: Option<&str>,
+    progress: &mut Progress,
+    out: &mut Output,
+) -> Result<Status> {
+    let files = chosen(alloc, folder, name)?;
+    if let (Some(name), true) = (name, files.is_empty()) {
+        bail!("{name}: no log file of this folder");
+    }
+    let mut status = Status::Done;
+    for (place, file) in files.iter().enumerate() {
+        progress.at("files dumped", place as u64, files.len() as u64)?;
+        if !dump_file(alloc, folder, file, out)? {
+            status = Status::WouldCut;
+        }
+    }
+    Ok(status)
+}
+
+// The file of this name, or all files.
+fn chosen(alloc: Global, folder: &Folder, name: Option<&str>) -> Result<Vec<LogFile>> {
+    let mut chosen = Vec::new(alloc);
+    for queue in [LogQueue::Rewrite, LogQueue::Append] {
+        for file in folder.files_of(queue)? {
+            if name.is_none_or(|name| file.path.as_str() == name) {
+                chosen.push(file)?;
+            }
+        }
+    }
+    Ok(chosen)
+}
+
+// Prints the items of a file, and says whether it can be read to its end.
+fn dump_file(alloc: Global, folder: &Folder, file: &LogFile, out: &mut Output) -> Result<bool> {
+    let path = file.path.as_str();
+    let mut source = folder.source_of(file);
+    let size = source.size()?;
+    let mut parts = match LogFileParts::open(alloc, size, &mut source) {
+        Ok(parts) => parts,
+        Err(fault) => return Err(source.failure(&fault)),
+    };
+    for _ in 0..u64::MAX {
+        let mut image = match parts.next_image(alloc, path, &mut source) {
+            Ok(image) => image,
+            Err(fault) => return Err(source.failure(&fault)),
+        };
+        let stop = dump_part(alloc, &mut image, file, &parts, out)?;
+        let end = match &stop {
+            Some((place, _)) => place.offset,
+            None => usize::MAX,
+        };
+        let before = parts.place_of(end);
+        if parts.go_on(end) {
+            continue;
+        }
+        let Some((place, fault)) = stop else {
+            return Ok(true);
+        };
+        let place = RecordPlace {
+            id: place.id,
+            offset: before,
+        };
+        if let Err(fault) = add_fault(Some(place), &fault, &mut out.lines) {
+            return Err(failure(path, &fault));
+        }
+        return Ok(false);
+    }
+    Ok(true)
+}
+
+// Prints the items of a part, and says where and why the reading stops before its end.
+fn dump_part(
+    alloc: Global,
+    image: &mut MemoryFileSystem,
+    file: &LogFile,
+    parts: &LogFileParts,
+    out: &mut Output,
+) -> Result<Option<(RecordPlace, Fault)>> {
+    let path = file.path.as_str();
+    let mut reader = match build_file_reader(alloc, image, path) {
+        Ok(reader) => reader,
+        Err(fault) => bail!("{fault}"),
+    };
+    let named = LogFile {
+        id: file.id,
+        path: file.path.clone()?,
+    };
+    let mut items = LogItemReader::new(alloc, vec![in alloc; named]?);
+    let mut stop = None;
+    for _ in 0..u64::MAX {
+        let (Some(next), Some(place)) = (items.next(image), items.place()) else {
+            break;
+        };
+        let item = match next {
+            Ok(item) => item,
+            Err(fault) => {
+                stop = Some((place, fault));
+                break;
+            }
+        };
+        let there = RecordPlace {
+            id: place.id,
+            offset: parts.place_of(place.offset),
+        };
+        if let Err(fault) = add_item(
+            alloc,
+            image,
+            &mut reader,
+            Some(there),
+            &item,
+            &mut out.lines,
+        ) {
+            return Err(failure(path, &fault));
+        }
+        out.print_if_full()?;
+    }
+    reader.end(image);
+    Ok(stop)
+}

@@ -1,0 +1,15 @@
+//! Looks at a folder's log files, which are read and never changed: what can be read of each, what it holds, and all of
+//! them in memory.
+#![tactic(auto)]
+
+mod checking;
+mod dumping;
+mod folder;
+mod reserved;
+mod source;
+
+pub use checking::check;
+pub use dumping::dump;
+pub use folder::{Folder, ReservedFile};
+pub use reserved::is_reserved;
+pub use source::FileSource;

@@ -1,0 +1,14 @@
+pub mod ArmedLemmas
+pub mod ChoiceLemmas
+pub mod ChoiceTornLemmas
+pub mod ChoiceWholeLemmas
+pub mod CrashedLemmas
+pub mod FilesFolderLemmas
+pub mod FilesLemmas
+pub mod MemoryFileBeforeImagesLemmas
+pub mod MemoryFileLemmas
+pub mod MemoryInvariantLemmas
+pub mod MemoryLemmas
+pub mod Sent
+pub mod SetAtLemmas
+pub mod SettledLemmas

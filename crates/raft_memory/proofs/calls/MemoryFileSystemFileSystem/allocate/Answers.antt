@@ -1,0 +1,22 @@
+use Rattle.std.proofs.Common.{◌≡◌, ◌+◌, ◌∷◌, map, ap, rules, true, refl}
+use Rattle.std.specs.String.{string_bytes}
+use Rattle.raft_env.specs.Outcomes.{file_after_resize, pad_to}
+use Rattle.raft_env.specs.Directory.{update_file}
+use Rattle.raft_memory.specs.Files.{namespace_directory}
+use Rattle.raft_env.proofs.MomentsLemmas.{moves_one}
+use Rattle.raft_memory.proofs.MemoryLemmas.{changing}
+use Rattle.raft_memory.proofs.MemoryInvariantLemmas.{invariant-lengthened, invariant-same}
+use Rattle.raft_memory.proofs.calls.MemoryFileSystemFileSystem.allocate.Goals as goal
+
+pub returns-clause-any_moment : goal.returns-clause-any_moment
+returns-clause-any_moment c =
+    let is : namespace_directory c.lengthen.new.self ≡ update_file (string_bytes c.args.writer.now.path) (λ f. file_after_resize (pad_to f.now (c.args.at + c.args.size)) f) (namespace_directory c.args.self.now.namespace) = search rules in
+    moves_one (ap (λ l. namespace_directory c.lengthen.new.self ∷ map namespace_directory l) c.with-past.ensures) refl (changing (string_bytes c.args.writer.now.path) _ _ _ _ _ true _ (λ now. refl) is)
+
+pub invariant_of-self-in-Err : goal.invariant_of-self-in-Err
+invariant_of-self-in-Err c = invariant-same c.args.self.now _ c.in-Err.ensures.err
+
+pub invariant_of-self-2 : goal.invariant_of-self-2
+invariant_of-self-2 c =
+    let is : namespace_directory c.lengthen.new.self ≡ update_file (string_bytes c.args.writer.now.path) (λ f. file_after_resize (pad_to f.now (c.args.at + c.args.size)) f) (namespace_directory c.args.self.now.namespace) = search rules in
+    invariant-lengthened c.args.self.now _ (string_bytes c.args.writer.now.path) (c.args.at + c.args.size) is

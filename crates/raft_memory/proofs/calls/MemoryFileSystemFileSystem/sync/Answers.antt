@@ -1,0 +1,21 @@
+use Rattle.std.proofs.Common.{◌≡◌, refl, inr, ◌∷◌, map, ap, rules}
+use Rattle.std.specs.String.{string_bytes}
+use Rattle.raft_env.specs.Outcomes.{synced_of}
+use Rattle.raft_env.specs.Directory.{update_file}
+use Rattle.raft_memory.specs.Files.{namespace_directory}
+use Rattle.raft_env.proofs.MomentsLemmas.{moves_one}
+use Rattle.raft_memory.proofs.MemoryInvariantLemmas.{invariant-synced, invariant-same}
+use Rattle.raft_memory.proofs.calls.MemoryFileSystemFileSystem.sync.Goals as goal
+
+pub returns-clause-any_moment : goal.returns-clause-any_moment
+returns-clause-any_moment c =
+    let is : namespace_directory c.sync.new.self ≡ update_file (string_bytes c.args.writer.now.path) synced_of (namespace_directory c.args.self.now.namespace) = search rules in
+    moves_one (ap (λ l. namespace_directory c.sync.new.self ∷ map namespace_directory l) c.with-past.ensures) refl (inr is)
+
+pub invariant_of-self-in-Err : goal.invariant_of-self-in-Err
+invariant_of-self-in-Err c = invariant-same c.args.self.now _ c.in-Err.ensures.err
+
+pub invariant_of-self-2 : goal.invariant_of-self-2
+invariant_of-self-2 c =
+    let is : namespace_directory c.sync.new.self ≡ update_file (string_bytes c.args.writer.now.path) synced_of (namespace_directory c.args.self.now.namespace) = search rules in
+    invariant-synced c.args.self.now _ (string_bytes c.args.writer.now.path) is

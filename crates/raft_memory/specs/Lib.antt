@@ -1,0 +1,10 @@
+pub mod MemoryFile
+pub mod Step
+pub mod Armed
+pub mod Files
+pub mod Counted
+pub mod Memory
+pub mod Refused
+pub mod Choice
+pub mod Crashed
+pub mod Settled

@@ -1,0 +1,115 @@
+//! What stood in a file before its changes since the last sync.
+ghost use Rattle.std.specs.Prelude.{◌≡◌, ◌<◌, ◌+◌, ◌-◌, ℕ, length, slice_index, unwrap_or, if◌then◌else◌, None, Some, OnOk, OnErr};
+ghost use Rattle.std.specs.Option.{option_or};
+ghost use Rattle.raft_env.specs.Outcomes.{is_within};
+ghost use Rattle.raft_memory.specs.MemoryFile.{before_image_at};
+
+use std::alloc::{AllocError, Global};
+use std::marker::Model;
+
+/// Bytes by their places in a file. A place that was saved twice has the byte of the first time.
+#[derive(Drop)]
+pub(crate) struct BeforeImages {
+    /// First places and sizes, the oldest first.
+    places: Vec<(usize, usize)>,
+    /// What stood there, one after the other.
+    bytes: Vec<u8>,
+}
+
+impl Model for BeforeImages {
+    ghost use Rattle.std.specs.Prelude.{◌≡◌, length};
+    ghost use Rattle.raft_memory.specs.MemoryFile.{BeforeImages, places_len};
+
+    ghost Value = { BeforeImages };
+
+    ghost view = { λ s. (s.places.items, s.bytes.items) };
+
+    ghost invariant = { λ s. places_len s.places.items ≡ length s.bytes.items };
+}
+
+impl BeforeImages {
+    pub(crate) fn new(alloc: Global) -> BeforeImages
+        ensures { (i : ℕ) → before_image_at result i ≡ None }
+    {
+        BeforeImages {
+            places: Vec::new(alloc),
+            bytes: Vec::new(alloc),
+        }
+    }
+
+    /// Saves what stands between two places. What stands after the end is a zero.
+    #[inline(always)]
+    pub(crate) fn save(&mut self, bytes: &[u8], from: usize, end: usize) -> Result<(), AllocError>
+        ensures ok { OnOk result ((i : ℕ) → before_image_at self.new i
+            ≡ option_or (before_image_at self.old i)
+            (if is_within from (end - from) i then Some (slice_index bytes.now i) else None)) }
+        ensures err { OnErr result (self.new ≡ self.old) }
+    {
+        if end <= from {
+            return Ok(());
+        }
+        self.places.reserve(1)?;
+        push_part(&mut self.bytes, bytes, from, end - from)?;
+        let Ok(()) = self.places.push((from, end - from)) else {
+            unreachable!()
+        };
+        Ok(())
+    }
+
+    pub(crate) fn clear(&mut self)
+        ensures { (i : ℕ) → before_image_at self.new i ≡ None }
+    {
+        self.places.clear();
+        self.bytes.clear();
+    }
+
+    /// Puts what was saved where it stood.
+    pub(crate) fn restore(&self, bytes: &mut [u8])
+        ensures unchanged { length bytes.new ≡ length bytes.old }
+        ensures ok { (i : ℕ) → i < length bytes.old → slice_index bytes.new i
+            ≡ unwrap_or (before_image_at self.now i) (slice_index bytes.old i) }
+    {
+        let mut end = self.bytes.len();
+        let mut left = self.places.len();
+        while left > 0 {
+            left -= 1;
+            let (from, size) = self.places[left];
+            put_part(bytes, from, &self.bytes[end - size..end]);
+            end -= size;
+        }
+    }
+}
+
+// Appends so many bytes from that place on, with zeros for those after the end.
+fn push_part(saved: &mut Vec<u8>, bytes: &[u8], from: usize, size: usize) -> Result<(), AllocError>
+    ensures ok { OnOk result (length saved.new.items ≡ length saved.old.items + size) }
+    ensures unchanged { OnOk result ((i : ℕ) → i < length saved.old.items
+        → slice_index saved.new.items i ≡ slice_index saved.old.items i) }
+    ensures contents { OnOk result ((i : ℕ) → i < size
+        → slice_index saved.new.items (length saved.old.items + i)
+        ≡ slice_index bytes.now (from + i)) }
+    ensures err { OnErr result (saved.new.items ≡ saved.old.items) }
+{
+    let start = saved.len();
+    let Some(end) = start.checked_add(size) else {
+        return Err(AllocError);
+    };
+    saved.resize(end, 0)?;
+    if from < bytes.len() {
+        put_part(saved, start, &bytes[from..]);
+    }
+    Ok(())
+}
+
+// Writes over what stands there; what goes past the end is left out.
+fn put_part(bytes: &mut [u8], from: usize, given: &[u8])
+    ensures unchanged { length bytes.new ≡ length bytes.old }
+    ensures ok { (i : ℕ) → i < length bytes.old → slice_index bytes.new i
+        ≡ (if is_within from (length given.now) i then slice_index given.now (i - from)
+        else slice_index bytes.old i) }
+{
+    if from < bytes.len() {
+        let count = given.len().min(bytes.len() - from);
+        bytes[from..from + count].copy_from_slice(&given[..count]);
+    }
+}

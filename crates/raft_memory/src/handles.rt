@@ -1,0 +1,50 @@
+//! Handles, readers and writers of files in memory, and what a read copies.
+ghost use Rattle.std.specs.Prelude.{◌≡◌};
+ghost use Rattle.std.specs.String.{string_bytes};
+ghost use Rattle.raft_env.specs.Directory.{IsReading};
+ghost use Rattle.raft_env.specs.Refusal.{CountsRefusal};
+ghost use Rattle.raft_memory.specs.Counted.{by_storage};
+
+use raft_env::{FsFault, IoKind};
+
+#[derive(Drop)]
+pub struct MemoryHandle {
+    pub(crate) path: String,
+    pub(crate) may_write: bool,
+}
+
+#[derive(Drop)]
+pub struct MemoryReader {
+    pub(crate) path: String,
+    pub(crate) refused: u64,
+}
+
+#[derive(Drop)]
+pub struct MemoryWriter {
+    pub(crate) path: String,
+}
+
+impl MemoryReader {
+    /// Counts a failed read, and gives its fault.
+    pub(crate) fn refuse(&mut self, kind: IoKind) -> FsFault
+        ensures value { result ≡ FsFault.Io kind }
+        ensures reader { string_bytes self.new.path ≡ string_bytes self.old.path }
+        ensures counts { CountsRefusal result (by_storage self.old.refused)
+            (by_storage self.new.refused) }
+    {
+        self.refused = self.refused.saturating_add(1);
+        FsFault::Io(kind)
+    }
+}
+
+/// As many bytes as there are from that place on, at most as many as fit.
+pub(crate) fn copy_from(from: &[u8], at: usize, bytes: &mut [u8]) -> usize
+    ensures { IsReading from.now at result bytes.old bytes.new }
+{
+    if at >= from.len() {
+        return 0;
+    }
+    let count = bytes.len().min(from.len() - at);
+    bytes[..count].copy_from_slice(&from[at..at + count]);
+    count
+}

@@ -1,0 +1,138 @@
+//! Copies a log into a folder of its own, from which it can be opened.
+
+use crate::copies::{Copy, planned};
+use anyhow::{Result, anyhow, bail};
+use raft_command_line::Request;
+use raft_commands::config;
+use raft_config::Config;
+use raft_console::{Output, Progress, Status, failure};
+use raft_disk::{DiskFileSystem, FolderView, OpenFault, image_of};
+use raft_env::{FileSystem, FsFault};
+use raft_inspect::Word;
+use std::alloc::Global;
+use std::io::ErrorKind;
+
+/// Where the names of the source and of the target stand in memory.
+pub(crate) const SOURCE: &str = "source";
+
+pub(crate) const TARGET: &str = "target";
+
+pub(crate) const BEFORE_NAME: &str = "target/";
+
+/// Copies the log files that an opening of the request's folder keeps into another, which is made
+/// where it is missing, syncs each and prints its name. It fails where the source is open, and as
+/// `raft_fork::fork` does; the copies made so far then stay. Recycling is no hindrance, since no
+/// engine runs.
+pub fn fork_folder(rt: HostRuntime, request: &Request<'_>, target: &str) -> Result<Status> {
+    let source = match FolderView::open(rt, request.folder) {
+        Ok(source) => source,
+        Err(fault) => bail!("{fault}"),
+    };
+    if source.is_in_use() {
+        bail!("{}: it is open already", request.folder);
+    }
+    let settings = config(rt.alloc(), &request.options)?;
+    let copies = plan(rt, &source, target, &settings)?;
+    let files = match DiskFileSystem::open(rt, target) {
+        Ok(files) => files,
+        Err(fault) => bail!("{fault}"),
+    };
+    copy_all(rt, &source, &copies, files, request)
+}
+
+// Decides by the names of the files alone which are copied.
+fn plan(rt: HostRuntime, source: &FolderView, target: &str, config: &Config) -> Result<Vec<Copy>> {
+    let alloc = rt.alloc();
+    let mut files = Vec::new(alloc);
+    let mut folders = vec![in alloc; String::from_str(alloc, SOURCE)?]?;
+    add_names(alloc, source, "", SOURCE, &mut files)?;
+    if let Some(spill) = &config.spill_dir {
+        let place = format!(in alloc; "{SOURCE}/{spill}")?;
+        add_names(alloc, source, spill.as_str(), place.as_str(), &mut files)?;
+        folders.push(place)?;
+    }
+    add_target(rt, target, &mut files)?;
+    let mut image = match image_of(alloc, files, folders) {
+        Ok(image) => image,
+        Err(fault) => bail!("{fault}"),
+    };
+    match planned(alloc, config, &mut image) {
+        Ok(copies) => Ok(copies),
+        Err(fault) => Err(failure("the log cannot be copied", &fault)),
+    }
+}
+
+type Named = (String, Vec<u8>);
+
+// Adds the names of the files in a folder, each of a file without bytes.
+fn add_names(
+    alloc: Global,
+    view: &FolderView,
+    folder: &str,
+    place: &str,
+    files: &mut Vec<Named>,
+) -> Result<()> {
+    let names = match view.names(folder) {
+        Ok(names) => names,
+        Err(fault) => bail!("{fault}"),
+    };
+    for name in &names {
+        let path = format!(in alloc; "{place}/{name}")?;
+        files.push((path, Vec::new(alloc)))?;
+    }
+    Ok(())
+}
+
+// .. of the target, where it is there.
+fn add_target(rt: HostRuntime, target: &str, files: &mut Vec<Named>) -> Result<()> {
+    match FolderView::open(rt, target) {
+        Ok(view) => add_names(rt.alloc(), &view, "", TARGET, files),
+        Err(OpenFault::Io(_, e)) if e.kind() == ErrorKind::NotFound => Ok(()),
+        Err(fault) => Err(anyhow!("{fault}")),
+    }
+}
+
+fn copy_all<F: FileSystem + Drop>(
+    rt: HostRuntime,
+    source: &FolderView,
+    copies: &[Copy],
+    mut files: F,
+    request: &Request<'_>,
+) -> Result<Status> {
+    let mut progress = Progress::new(rt, request.options.quiet)?;
+    let mut out = Output::new(rt, &request.options);
+    for (place, copy) in copies.iter().enumerate() {
+        progress.at("files copied", place as u64, copies.len() as u64)?;
+        copy_file(rt.alloc(), source, copy, &mut files)?;
+        out.line(&[("copied", Word::Text(copy.name.as_str()))])?;
+    }
+    out.print()?;
+    Ok(Status::Done)
+}
+
+fn copy_file<F: FileSystem>(
+    alloc: Global,
+    source: &FolderView,
+    copy: &Copy,
+    files: &mut F,
+) -> Result<()> {
+    let bytes = match source.read(copy.from.as_str()) {
+        Ok(bytes) => bytes,
+        Err(fault) => bail!("{fault}"),
+    };
+    match put_file(files, copy.name.as_str(), &bytes) {
+        Ok(()) => Ok(()),
+        Err(fault) => {
+            let fault = fault.with_path(alloc, copy.name.as_str());
+            Err(failure("the log cannot be copied", &fault))
+        }
+    }
+}
+
+// Makes a file of these bytes, and syncs it.
+fn put_file<F: FileSystem>(files: &mut F, path: &str, bytes: &[u8]) -> Result<(), FsFault> {
+    let handle = files.create(path)?;
+    let mut writer = files.new_writer(&handle)?;
+    files.write(&mut writer, 0, bytes)?;
+    files.sync(&mut writer)
+}

@@ -1,0 +1,9 @@
+pub mod Files
+pub mod Folder
+pub mod LogFile
+pub mod Metadata
+pub mod Open
+pub mod Opened
+pub mod OpenedLogs
+pub mod Prefill
+pub mod Queue

@@ -1,0 +1,7 @@
+//! Files whose changes are given as orders, to a caller that carries them out before it believes an
+//! answer.
+#![tactic(auto)]
+
+mod orders;
+
+pub use orders::{OrderedFile, OrderedFileSystem, Orders, ordered_files};

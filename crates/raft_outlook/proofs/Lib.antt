@@ -1,0 +1,3 @@
+pub mod CheckedLemmas
+pub mod PassedLemmas
+pub mod PlanLemmas

@@ -1,0 +1,54 @@
+//! Where the parts of a log file come from.
+ghost use Rattle.std.specs.Prelude.{◌≡◌, ◌∷◌, List, IfErr, IfOk, OnErr, length};
+ghost use Rattle.raft_parts.specs.Parts.{IsReadRefusal};
+ghost use Rattle.raft_parts.specs.declared.source.FilePart.{FilePart};
+
+use raft_env::{FsFault, IoKind};
+use raft_records::Fault;
+use std::alloc::Global;
+
+/// A part of a file's bytes.
+#[derive(Drop)]
+pub struct FilePart {
+    /// The place from which on bytes were asked for, and how many.
+    pub at: usize,
+    pub len: usize,
+    /// Those that stand there, fewer at the end of the file.
+    pub bytes: Vec<u8>,
+}
+
+/// A file whose bytes are read part by part. No clause can say what a system reads: `given` is what
+/// was told of the file.
+pub trait PartSource {
+    /// The parts that were given so far, the newest first.
+    ghost given: { Self → List FilePart };
+
+    /// So many bytes from a place on, fewer at the end of the file.
+    fn read_part(&mut self, at: usize, len: usize) -> Result<FilePart, Fault>
+        ensures value { IfOk result (λ part. (part.at ≡ at) × (part.len ≡ len)) }
+        ensures ok { IfOk result (λ part. given self.new ≡ part ∷ given self.old) }
+        ensures err { OnErr result (given self.new ≡ given self.old) }
+        ensures cause { IfErr result IsReadRefusal };
+}
+
+/// Exactly so many bytes from a place on. It fails as `Io` where the file ends before, as where it
+/// was cut meanwhile.
+pub fn read_whole_part<S: PartSource>(
+    alloc: Global,
+    path: &str,
+    source: &mut S,
+    at: usize,
+    len: usize,
+) -> Result<FilePart, Fault>
+    ensures value { IfOk result (λ part. (part.at ≡ at) × (part.len ≡ len)
+        × (length part.bytes.items ≡ len)) }
+    ensures ok { IfOk result (λ part. S.given source.new ≡ part ∷ S.given source.old) }
+    ensures cause { IfErr result IsReadRefusal }
+{
+    let part = source.read_part(at, len)?;
+    if part.bytes.len() == len {
+        Ok(part)
+    } else {
+        Err(FsFault::Io(IoKind::Other).with_path(alloc, path))
+    }
+}

@@ -1,0 +1,13 @@
+//! A queue of log files in the settings' folders: how it is appended to, read, rotated and purged.
+#![tactic(auto)]
+
+pub mod file_list;
+mod log_folders;
+mod pipe;
+pub mod rotation;
+mod spare;
+pub mod spare_laws;
+
+pub use log_folders::{LogFolders, make_folder};
+pub use pipe::{AppendFault, RotationFault, SinglePipe};
+pub use spare::{SealedFile, SpareFile};

@@ -1,0 +1,2 @@
+pub mod ChoosingLemmas
+pub mod RoundsLemmas

@@ -1,0 +1,6 @@
+pub mod Choice
+pub mod Choosing
+pub mod Need
+pub mod Plan
+pub mod Rounds
+pub mod Watermarks

@@ -1,0 +1,63 @@
+//! What a purge by watermarks is to do.
+ghost use Rattle.std.specs.Prelude.{◌≡◌, IfOk};
+ghost use Rattle.std.specs.List.Sorted.{IsStrictlySortedBy};
+ghost use Rattle.std.specs.Ordering.{nat_cmp};
+ghost use Rattle.raft_tables.specs.Tables.{tables_of};
+ghost use Rattle.raft_purge_rules.specs.Choosing.{AreDecisions, groups_by};
+ghost use Rattle.raft_purge_rules.specs.Plan.{AreNextRounds, IsPlan};
+ghost use Rattle.raft_purge_rules.specs.declared.choosing.Chosen.TheVariants.{Asked, Rewritten};
+
+use crate::choosing::{Chosen, Decision, Needs, decide_all, groups_by};
+use crate::rounds::Rounds;
+use raft_tables::MemTables;
+use std::alloc::{AllocError, Global};
+
+/// What a purge is to do: which groups are asked for, and which are rewritten, both in ascending
+/// order, and how often in a row groups were asked for once it is done. Where the Append queue isn't
+/// rewritten that stays.
+#[derive(Debug, Drop)]
+pub struct PurgePlan {
+    pub asked: Vec<u64>,
+    pub rewritten: Vec<u64>,
+    pub rounds: Option<Rounds>,
+}
+
+/// The plan of a purge that rewrites these queues, where groups were asked for so often. Nothing but
+/// memory is wanting where it fails.
+pub fn plan_purge(
+    alloc: Global,
+    tables: &MemTables,
+    needs: &Needs,
+    rounds: &Rounds,
+) -> Result<PurgePlan, AllocError>
+    ensures value { IfOk result (IsPlan needs.now rounds.now (tables_of tables.now)) }
+    ensures ascending { IfOk result (λ plan. IsStrictlySortedBy nat_cmp plan.asked.items
+        × IsStrictlySortedBy nat_cmp plan.rewritten.items) }
+{
+    let decisions = decide_all(alloc, tables, needs, rounds)?;
+    let asked = groups_by(alloc, &decisions, Chosen::Asked)?;
+    let rewritten = groups_by(alloc, &decisions, Chosen::Rewritten)?;
+    let rounds = next_rounds(alloc, &decisions, needs, rounds)?;
+    Ok(PurgePlan {
+        asked,
+        rewritten,
+        rounds,
+    })
+}
+
+/// The counts after a purge, and none where they stay.
+fn next_rounds(
+    alloc: Global,
+    decisions: &[Decision],
+    needs: &Needs,
+    rounds: &Rounds,
+) -> Result<Option<Rounds>, AllocError>
+    ensures value { IfOk result (AreNextRounds needs.now.append decisions.now rounds.now) }
+{
+    if needs.append.is_none() {
+        return Ok(None);
+    }
+    let heavy = groups_by(alloc, decisions, Chosen::Heavy)?;
+    let next = rounds.after(&heavy)?;
+    Ok(Some(next))
+}

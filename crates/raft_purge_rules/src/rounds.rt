@@ -1,0 +1,73 @@
+//! How often in a row groups were asked for.
+ghost use Rattle.std.specs.Prelude.{◌≡◌, ◌==◌, ℕ, nat_le, true, IfOk, OnOk, if◌then◌else◌};
+ghost use Rattle.std.specs.List.{list_any};
+ghost use Rattle.raft_purge_rules.specs.Rounds.{next_round, rounds_of};
+
+use std::alloc::{AllocError, Global};
+use std::collections::BTreeMap;
+
+/// In so many rounds in a row a group is asked for and not rewritten.
+pub const MAX_ROUNDS: u32 = 9;
+
+/// Of each group, in how many purges in a row it was asked for and not rewritten.
+#[derive(Debug, Drop)]
+pub struct Rounds {
+    alloc: Global,
+    counts: BTreeMap<u64, u32>,
+}
+
+impl Rounds {
+    /// No group was asked for. It takes no memory.
+    pub fn new(alloc: Global) -> Rounds
+        ensures value { (group : ℕ) → rounds_of result group ≡ 0 }
+    {
+        Rounds {
+            alloc,
+            counts: BTreeMap::new(alloc),
+        }
+    }
+
+    fn of(&self, group: u64) -> u32
+        ensures value { result ≡ rounds_of self.now group }
+    {
+        match self.counts.get(&group) {
+            Some(count) => *count,
+            None => 0,
+        }
+    }
+
+    /// Whether a group that is asked for once more is rewritten.
+    pub fn is_due(&self, group: u64) -> bool
+        ensures value { result ≡ nat_le 9 (rounds_of self.now group) }
+    {
+        self.of(group) >= MAX_ROUNDS
+    }
+
+    fn next(&self, group: u64) -> u32
+        ensures value { result ≡ next_round true (rounds_of self.now group) }
+    {
+        let rounds = self.of(group);
+        if rounds >= MAX_ROUNDS { 0 } else { rounds + 1 }
+    }
+
+    fn set(&mut self, group: u64, rounds: u32) -> Result<(), AllocError>
+        ensures ok { OnOk result ((one : ℕ) → rounds_of self.new one
+            ≡ (if group == one then rounds else rounds_of self.old one)) }
+    {
+        self.counts.insert(group, rounds)?;
+        Ok(())
+    }
+
+    /// The counts after one more purge, which asks for these groups: each of them has one more, but those that were due
+    /// begin anew, and so do all others.
+    pub fn after(&self, asked: &[u64]) -> Result<Rounds, AllocError>
+        ensures value { IfOk result (λ rounds. (group : ℕ) → rounds_of rounds group
+            ≡ next_round (list_any (λ one. one == group) asked.now) (rounds_of self.now group)) }
+    {
+        let mut rounds = Rounds::new(self.alloc);
+        for group in asked {
+            rounds.set(*group, self.next(*group))?;
+        }
+        Ok(rounds)
+    }
+}

@@ -1,0 +1,32 @@
+//! Up to which file a purge rewrites, and before which it asks for compactions.
+ghost use Rattle.std.specs.Prelude.{◌≡◌, ◌≤◌};
+ghost use Rattle.raft_purge_rules.specs.Watermarks.{compact_watermark, rewrite_watermark, watermark};
+
+use raft_base::FileSeq;
+
+/// Of the files from `first` to `last`, the one at seven tenths, before the last one: what stands in it or before it is
+/// rewritten.
+pub fn rewrite_watermark(first: FileSeq, last: FileSeq) -> FileSeq
+    requires { first ≤ last }
+    ensures value { result ≡ rewrite_watermark first last }
+{
+    watermark(first, last, 7)
+}
+
+/// Of the files from `first` to `last`, the one at two tenths, before the last one: a group that refers to a file before
+/// it is old.
+pub fn compact_watermark(first: FileSeq, last: FileSeq) -> FileSeq
+    requires { first ≤ last }
+    ensures value { result ≡ compact_watermark first last }
+{
+    watermark(first, last, 2)
+}
+
+fn watermark(first: FileSeq, last: FileSeq, tenths: u8) -> FileSeq
+    requires { first ≤ last }
+    ensures value { result ≡ watermark tenths first last }
+{
+    let files = last as u128 + 1 - first as u128;
+    let reached = first as u128 + files * tenths as u128 / 10;
+    reached.min(last.saturating_sub(1) as u128) as u64
+}

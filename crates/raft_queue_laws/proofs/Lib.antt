@@ -1,0 +1,7 @@
+pub mod DetectableDamageLemmas
+pub mod PremiseLemmas
+pub mod PastLemmas
+pub mod QueueDamageLemmas
+pub mod ListingLemmas
+pub mod QueueSoundLemmas
+pub mod SpanLemmas

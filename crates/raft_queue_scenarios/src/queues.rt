@@ -1,0 +1,260 @@
+//! A queue of log files: where what is appended stands, what is read of it, and how it goes on to next files.
+ghost use Rattle.std.specs.Prelude.{◌≡◌, IfOk, OnOk};
+ghost use Rattle.raft_pipes.specs.Pipe.{IsPipeOf};
+
+use crate::folders::{HEADER, have_lengths, settings, store};
+use raft_env::FileSystem;
+use raft_memory::MemoryFileSystem;
+use raft_opening::{ReplayMachine, read_files, settle_or_begin};
+use raft_pipes::{AppendFault, LogFolders, RotationFault, SinglePipe};
+use raft_records::{Fault, FileBlockHandle, FileId, LogItem, LogQueue};
+use std::alloc::Global;
+use std::test::Fail;
+
+/// A file with so many bytes is full.
+const TARGET: usize = 1024;
+
+enum Step {
+    /// Appends so many bytes, to the next file where the last one is full: the file and the place where they stand.
+    Append(usize, u64, u64),
+    Rotate,
+    /// Going on to a next file fails with this code.
+    RotateRefused(u8),
+    /// So many bytes are read of this place in this file.
+    Read(u64, u64, usize, usize),
+    /// So many files before this number are deleted, or that fails with this code.
+    Purge(u64, Result<usize, u8>),
+    /// The first file and the last one, and the bytes of all if they are full.
+    Span(u64, u64, usize),
+}
+
+/// A file that stands before the queue is opened, the steps, and the files after them with their lengths.
+struct Case {
+    name: &'static str,
+    found: Option<&'static str>,
+    steps: &'static [Step],
+    files: &'static [(&'static str, usize)],
+}
+
+static ROWS: [Case; 3] = [
+    Case {
+        name: "three files",
+        found: None,
+        steps: &[
+            Step::Span(1, 1, 1024),
+            Step::Append(1024, 1, 69),
+            Step::Append(1024, 2, 69),
+            Step::Rotate,
+            Step::Span(1, 3, 3072),
+            Step::Append(13, 3, 69),
+            Step::Append(13, 3, 82),
+            Step::Read(1, 69, 1024, 1024),
+            Step::Read(2, 69, 1024, 1024),
+            Step::Read(3, 82, 13, 13),
+            Step::Read(12, 69, 13, 0),
+        ],
+        files: &[
+            ("data/0000000000000001.raftlog", 1093),
+            ("data/0000000000000002.raftlog", 1093),
+            ("data/0000000000000003.raftlog", 95),
+        ],
+    },
+    Case {
+        name: "the first files are deleted",
+        found: None,
+        steps: &[
+            Step::Append(1024, 1, 69),
+            Step::Append(1024, 2, 69),
+            Step::Rotate,
+            Step::Purge(4, Err(14)),
+            Step::Purge(2, Ok(1)),
+            Step::Span(2, 3, 2048),
+            Step::Purge(1, Err(14)),
+            Step::Purge(2, Ok(0)),
+            Step::Append(13, 3, 69),
+            Step::Read(1, 69, 1024, 0),
+            Step::Read(2, 69, 1024, 1024),
+        ],
+        files: &[
+            ("data/0000000000000002.raftlog", 1093),
+            ("data/0000000000000003.raftlog", 82),
+        ],
+    },
+    Case {
+        name: "no number after the last one",
+        found: Some("data/9999999999999999.raftlog"),
+        steps: &[
+            Step::RotateRefused(6),
+            Step::Append(1024, 9_999_999_999_999_999, 69),
+            Step::RotateRefused(6),
+            Step::Span(9_999_999_999_999_999, 9_999_999_999_999_999, 1024),
+            Step::Read(9_999_999_999_999_999, 69, 1024, 1024),
+        ],
+        files: &[("data/9999999999999999.raftlog", 1093)],
+    },
+];
+
+fn cases() -> &'static [Case] {
+    &ROWS
+}
+
+/// Takes batches and keeps none.
+#[derive(Drop)]
+struct NoMachine {}
+
+impl ReplayMachine for NoMachine {
+    ghost stands_for = { λ queue blocks earlier machine batches. Unit {0} };
+
+    fn replay(&mut self, _items: &mut Vec<LogItem>, _file: FileId) -> Result<(), Fault> {
+        Ok(())
+    }
+}
+
+fn id_of(seq: u64) -> FileId {
+    FileId::new(LogQueue::Append, seq)
+}
+
+fn fault_of(fault: RotationFault) -> Fault {
+    match fault {
+        RotationFault::NotBegun(fault) | RotationFault::Stopped(fault) => fault,
+    }
+}
+
+// The pipe of the Append queue, over the files that stand.
+fn opened<F: FileSystem>(alloc: Global, fs: &mut F) -> Result<SinglePipe<F>, Fault>
+    ensures stands { IfOk result (λ pipe. IsPipeOf pipe (F.directory fs.new)) }
+{
+    let config = settings(alloc)?;
+    let folders = LogFolders::new(&config)?;
+    folders.make(alloc, fs)?;
+    let queue = LogQueue::Append;
+    let files = folders.find(alloc, queue, fs)?;
+    let mode = config.recovery_mode;
+    let replayed = read_files(alloc, queue, &files, mode, 512, fs, &mut NoMachine {})?;
+    let version = config.format_version;
+    let spare = Vec::new(alloc);
+    settle_or_begin(
+        alloc, queue, folders, files, replayed, version, spare, 0, 0, fs,
+    )
+}
+
+fn append<F: FileSystem>(
+    alloc: Global,
+    fs: &mut F,
+    pipe: &mut SinglePipe<F>,
+    len: usize,
+) -> Result<FileBlockHandle, Fault>
+    requires { IsPipeOf pipe.old (F.directory fs.old) }
+    ensures stands { OnOk result (IsPipeOf pipe.new (F.directory fs.new)) }
+{
+    let bytes = vec![in alloc; 7; len]?;
+    match pipe.rotate_if_full(fs, TARGET) {
+        Ok(()) => {}
+        Err(fault) => return Err(fault_of(fault)),
+    }
+    match pipe.append(fs, &bytes, TARGET, false) {
+        Ok(handle) => Ok(handle),
+        Err(AppendFault::RolledBack(fault)) | Err(AppendFault::InDoubt(fault)) => Err(fault),
+    }
+}
+
+// How many bytes are read of a block, if all of them are those that are appended.
+fn read<F: FileSystem>(
+    alloc: Global,
+    fs: &mut F,
+    pipe: &SinglePipe<F>,
+    block: FileBlockHandle,
+) -> Result<Option<usize>, Fault>
+    ensures unchanged { F.directory fs.new ≡ F.directory fs.old }
+{
+    let mut bytes = Vec::new(alloc);
+    pipe.read_block_to(fs, Some(block), &mut bytes)?;
+    if bytes.iter().all(|byte| *byte == 7) {
+        Ok(Some(bytes.len()))
+    } else {
+        Ok(None)
+    }
+}
+
+// Whether the step comes to what it says.
+fn holds<F: FileSystem>(
+    alloc: Global,
+    fs: &mut F,
+    pipe: &mut SinglePipe<F>,
+    step: &Step,
+) -> Result<bool, Fault>
+    requires { IsPipeOf pipe.old (F.directory fs.old) }
+    ensures stands { OnOk result (IsPipeOf pipe.new (F.directory fs.new)) }
+{
+    match step {
+        Step::Append(len, seq, offset) => {
+            let handle = append(alloc, fs, pipe, *len)?;
+            Ok(handle.id == id_of(*seq) && handle.offset == *offset && handle.len == *len)
+        }
+        Step::Rotate => match pipe.rotate(fs) {
+            Ok(()) => Ok(true),
+            Err(fault) => Err(fault_of(fault)),
+        },
+        Step::RotateRefused(code) => match pipe.rotate(fs) {
+            Ok(()) => Ok(false),
+            Err(RotationFault::NotBegun(fault)) => Ok(fault.code() == *code),
+            Err(RotationFault::Stopped(fault)) => Err(fault),
+        },
+        Step::Read(seq, offset, len, wanted) => {
+            let block = FileBlockHandle {
+                id: id_of(*seq),
+                offset: *offset,
+                len: *len,
+            };
+            Ok(read(alloc, fs, pipe, block)? == Some(*wanted))
+        }
+        Step::Purge(seq, wanted) => Ok(match (pipe.purge_to(fs, *seq), wanted) {
+            (Ok(count), Ok(wanted)) => count == *wanted,
+            (Err(fault), Err(code)) => fault.code() == *code,
+            _ => false,
+        }),
+        Step::Span(first, last, size) => {
+            Ok(pipe.file_span() == (*first, *last) && pipe.total_size(TARGET) == *size)
+        }
+    }
+}
+
+// The place of the first step that comes to something else.
+fn first_wrong<F: FileSystem>(
+    alloc: Global,
+    fs: &mut F,
+    pipe: &mut SinglePipe<F>,
+    steps: &[Step],
+) -> Result<Option<usize>, Fault>
+    requires { IsPipeOf pipe.old (F.directory fs.old) }
+    ensures stands { OnOk result (IsPipeOf pipe.new (F.directory fs.new)) }
+{
+    let mut wrong = None;
+    for (place, step) in steps.iter().enumerate() {
+        if !holds(alloc, fs, pipe, step)? && wrong.is_none() {
+            wrong = Some(place);
+        }
+    }
+    Ok(wrong)
+}
+
+fn is_as_said<F: FileSystem>(alloc: Global, fs: &mut F, case: &Case) -> Result<bool, Fail> {
+    if let Some(path) = case.found {
+        store(fs, path, &[HEADER])?;
+    }
+    let mut pipe = opened(alloc, fs)?;
+    if first_wrong(alloc, fs, &mut pipe, case.steps)?.is_some() {
+        return Ok(false);
+    }
+    pipe.close(fs)?;
+    Ok(have_lengths(fs, case.files)?)
+}
+
+#[test]
+fn one_queue(rt: HostRuntime) -> Result<(), Fail> {
+    for case in cases() {
+        let mut fs = MemoryFileSystem::new(rt.alloc());
+        assert!(rt; is_as_said(rt.alloc(), &mut fs, case)?, "{}", case.name);
+    }
+    Ok(())
+}

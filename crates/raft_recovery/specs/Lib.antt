@@ -1,0 +1,12 @@
+pub mod Groups
+pub mod Recovered
+pub mod Consecutive
+pub mod Rewriting
+pub mod Valid
+pub mod Stands
+pub mod Dropping
+pub mod DroppingFront
+pub mod Together
+pub mod Takes
+pub mod Bounds
+pub mod Ids

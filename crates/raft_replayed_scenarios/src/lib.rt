@@ -1,0 +1,5 @@
+//! Tests of what an opening replays, however it was cut into chunks.
+#![tactic(auto)]
+
+#[cfg(test)]
+mod chunks;

@@ -1,0 +1,14 @@
+pub mod ActLemmas
+pub mod DurabilityLemmas
+pub mod EntryLemmas
+pub mod GroupLemmas
+pub mod NumberLemmas
+pub mod OnceLemmas
+pub mod ProgressLemmas
+pub mod StepsLemmas
+pub mod RunLemmas
+pub mod RefusalLemmas
+pub mod TrialLemmas
+pub mod TrialOpeningLemmas
+pub mod PassedLemmas
+pub mod PurgesLemmas

@@ -1,0 +1,10 @@
+pub mod Batches
+pub mod Run
+pub mod Failure
+pub mod Headline
+pub mod Durability
+pub mod Numbers
+pub mod Entry
+pub mod Trial
+pub mod Purges
+pub mod Number

@@ -1,0 +1,280 @@
+-- What a trial shows.
+use Rattle.std.specs.Prelude.{◌≡◌, ◌⊎◌, ℕ, Bool, Contains, false, true, List, [], ◌++◌, Option, Some, None, Result, IfOk, IfErr}
+use Rattle.raft_records.specs.Contents.{Contents, no_contents}
+use Rattle.raft_tables.specs.Known.{known_in}
+use Rattle.raft_base.specs.declared.errors.Fault.{Fault}
+use Rattle.raft_memory.specs.Choice.{AreWhole, NameNoBytes, left_by}
+use Rattle.raft_memory.specs.Memory.{armed_of, memory_directory, memory_moments, memory_refusals, no_files, stop_of}
+use Rattle.raft_memory.specs.declared.memory.MemoryFileSystem.{MemoryFileSystem}
+use Rattle.raft_env.specs.Consistent.{AreConsistent}
+use Rattle.raft_env.specs.Directory.{CrashImage, Directory, IsRestarted, Leaves, Path, file_at}
+use Rattle.raft_env.specs.Moments.{MovesBy}
+use Rattle.raft_env.specs.Outcomes.{File}
+use Rattle.raft_base.specs.declared.pipe_log.LogQueue.{LogQueue}
+use Rattle.raft_queue_laws.specs.DetectableDamage.{EachAddsOnlyItsRecord, HaveNoStaleRecordIn, IsReadAsBefore}
+use Rattle.raft_pipes.specs.Numbered.{in_queue}
+use Rattle.raft_pipes.specs.QueueFiles.{last_kept}
+use Rattle.raft_env.specs.Refusal.{Refusals, RoseBy, no_refusals}
+use Rattle.raft_memory.specs.declared.crash.Choice.{Choice}
+use Rattle.raft_held.specs.Contents.{contents_at}
+use Rattle.raft_held.specs.Crash.{RecoversContents, StillRecovers}
+use Rattle.raft_log_engine.specs.Image.{IsImageOf}
+use Rattle.raft_once.specs.Numbers.{shown}
+use Rattle.raft_log_engine.specs.declared.engine.image.Image.{Image}
+use Rattle.raft_script.specs.Durability.{IsStep, LeavesAllowedAfter, Steps}
+use Rattle.raft_script.specs.Headline.{RunState, progress_from}
+use Rattle.raft_script.specs.Numbers.{HaveActed}
+use Rattle.raft_held.specs.Queues.{AreDetectableIn, AreSingleIn, AreSoundIn, HaveDamageIn, HaveSimplePastIn, IsOpeningRefusal}
+use Rattle.raft_script.specs.Failure.{IsStorageOrMemory, io_count, is_io}
+use Rattle.raft_pipes.specs.Folder.{AreClear, IsLogPath, IsReservedPath}
+use Rattle.raft_config.specs.Folders.{Folders, all_of, folders_in}
+use Rattle.raft_config.specs.Sanitized.{IsContradiction, contradiction}
+use Rattle.raft_config.specs.declared.config.Config.{Config}
+use Rattle.raft_config.specs.declared.config.RecoveryMode.{RecoveryMode}
+use Rattle.raft_config.specs.declared.config.RecoveryMode.TheVariants.{AbsoluteConsistency}
+use Rattle.raft_script.specs.declared.operation.Op.{Op}
+use Rattle.raft_script.specs.declared.operation.Outcome.{Outcome}
+use Rattle.raft_script.specs.declared.operation.Trial.{Trial}
+
+-- files, each directory that there was, and how many calls failed
+pub record Shown : Type 0 where
+  pub files : Directory
+  pub moments : List Directory
+  pub refusals : Refusals
+
+-- what files in memory show
+abbrev pub shown_of : MemoryFileSystem → Shown
+shown_of memory = record {
+  files = memory_directory memory;
+  moments = memory_moments memory;
+  refusals = memory_refusals memory;
+}
+
+-- what was answered in a run, where the engine failed, and why it wasn't opened
+pub record Ran : Type 0 where
+  pub outcomes : List Outcome
+  pub failed_at : Option ℕ
+  pub refused : Option Fault
+
+-- the operations were answered by an engine that was opened with these contents and groups
+pub record AreAnswered (folders : Folders) (m : Contents) (known : ℕ → Bool) (ops : List Op)
+    (ran : Ran) (new : Shown) : Type 0 where
+  pub opened : ran.refused ≡ None
+  pub before : RunState
+  pub stands : before.failed ≡ false
+  pub now : RunState
+  pub moments : now.moments ≡ new.moments
+  pub steps : Steps (λ (s : RunState). s.failed) (IsStep folders m known) m (progress_from [])
+      before ops ran.outcomes ran.failed_at now
+  pub numbers : HaveActed m m [] ops ran.outcomes
+  -- storage counted at least as many failed calls as answered `Io`
+  pub counted : RoseBy (io_count ran.outcomes) no_refusals new.refusals
+
+-- the opening failed for such a cause, and no operation was done; the files keep what they kept
+pub record AreNotAsked (config : Config) (m : Contents) (ran : Ran) (old new : Shown)
+    : Type 0 where
+  pub fault : Fault
+  pub refused : ran.refused ≡ Some fault
+  pub cause : IsContradiction config fault ⊎ IsOpeningRefusal config.recovery_mode
+      (folders_in config) old.files old.refusals new.refusals fault
+  pub none : ran.outcomes ≡ []
+  pub stands : ran.failed_at ≡ None
+  pub files_keep : RecoversContents (folders_in config) m [] new.files
+
+-- operations over folders that hold these contents and groups, from an opening on
+pub record RunsOver (config : Config) (m : Contents) (known : ℕ → Bool) (ops : List Op) (ran : Ran)
+    (old new : Shown) : Type 0 where
+  pub answered : AreAnswered (folders_in config) m known ops ran new
+      ⊎ AreNotAsked config m ran old new
+  -- a crash leaves of them a prefix of what was accepted, and of what the operation had in flight
+  -- in which the engine failed
+  pub after : LeavesAllowedAfter ran.failed_at (folders_in config) m [] ops ran.outcomes new.files
+  -- no folder's place is taken, and no number of a kept log file stands in both
+  pub clear : AreClear (folders_in config) new.files
+  pub single : AreSingleIn (folders_in config) new.files
+
+-- no folder has the path of a log file or of a reserved one, as one can have that stands in the
+-- other
+abbrev pub HaveNoLogPath : Folders → Type 0
+HaveNoLogPath folders = (folder : Path) → Contains (all_of folders) folder
+    → IsLogPath folders folder ⊎ IsReservedPath folders folder → ⊥
+
+-- from this stop on each call that may change these files fails; no other failure is armed in them,
+-- and none was counted
+abbrev pub FailsAtStop : Option ℕ → MemoryFileSystem → Type 0
+FailsAtStop stop files = (stop_of files ≡ stop) × (armed_of files ≡ [])
+    × (memory_refusals files ≡ no_refusals)
+
+-- operations over files in memory that were empty, with this stop for the calls from the first
+-- opening on: the files once they are done
+pub record RunsFromEmpty (config : Config) (ops : List Op) (stop : Option ℕ) (ran : Ran)
+    (last : MemoryFileSystem) : Type 0 where
+  pub first : MemoryFileSystem
+  pub none : memory_directory first ≡ no_files
+  pub fails : FailsAtStop stop first
+  -- the moments there were by then follow those of the first files
+  pub added : List Directory
+  pub later : memory_moments last ≡ added ++ memory_moments first
+  -- where the opening succeeded no folder has such a path
+  pub free : ran.refused ≡ None → HaveNoLogPath (folders_in config)
+  -- said of folders of which none has such a path
+  pub runs : HaveNoLogPath (folders_in config)
+      → RunsOver config no_contents (known_in []) ops ran (shown_of first) (shown_of last)
+
+-- they may leave files of which storage may not leave what the choices say
+pub record AreNotAllowed (config : Config) (ops : List Op) (stop : Option ℕ)
+    (choices : List Choice) : Type 0 where
+  pub ran : Ran
+  pub last : MemoryFileSystem
+  pub runs : RunsFromEmpty config ops stop ran last
+  pub refused : let files = memory_directory last in Leaves files (left_by choices files) → ⊥
+
+-- an opening fails by storage, for lack of memory, or for the damage of the log in the folders
+abbrev pub IsLogRefusal : RecoveryMode → Folders → Directory → Fault → Type 0
+IsLogRefusal mode folders files e = IsStorageOrMemory e ⊎ HaveDamageIn mode folders files e
+
+-- a crash of detectable damage leaves a log that can be opened, and keeps what is found in it
+abbrev pub LeavesSound : Folders → Directory → Type 0
+LeavesSound folders files = (d : CrashImage) → Leaves files d → AreDetectableIn folders files d
+    → AreSoundIn folders files d
+
+-- where only writes failed on the log of consistent files, and nothing decodes that a last file
+-- held when it was renamed, choices that leave each file whole, as it is now or as it was synced,
+-- leave detectable damage of it
+abbrev pub LeavesDetectable : Folders → Directory → Type 0
+LeavesDetectable folders files = HaveSimplePastIn folders files
+    → HaveNoStaleRecordIn folders files → AreConsistent files
+    → (choices : List Choice) → AreWhole choices
+    → ∥ AreDetectableIn folders files (left_by choices files) ∥₁
+
+-- the last log file of each queue was never renamed, each of its calls brought no record but the
+-- one that it was to write, and the choices leave what is read as it was at a moment since its
+-- last sync
+abbrev pub AreReadAsBefore : Folders → Directory → List Choice → Type 0
+AreReadAsBefore folders files choices = (queue : LogQueue) (f : ℕ × Path) (file : File)
+    → last_kept (all_of folders) queue files ≡ Some f → file_at files f.1 ≡ Some file
+    → let id = in_queue queue f.0 in (file.renamed_after ≡ None) × EachAddsOnlyItsRecord id file
+    × IsReadAsBefore id file (left_by choices files f.1)
+
+-- an opening of files, and a read of all that it found, left these: at each moment of it the
+-- folders kept what they had kept, and it answers `Io` only where storage failed a call of it
+pub record Reopens {F : Type 0} (directory : F → Directory) (moments : F → List Directory)
+    (refusals_of : F → Refusals) (folders : Folders) (found left : F) (opened : Result Image Fault)
+    : Type 0 where
+  pub any_moment : MovesBy directory moments refusals_of (StillRecovers folders) found left
+  pub counted : is_io opened ≡ true → RoseBy 1 (refusals_of found) (refusals_of left)
+
+-- what a trial showed of the run
+abbrev pub ran_in : Trial → Ran
+ran_in t =
+    record { outcomes = t.outcomes.items; failed_at = t.failed_at; refused = t.refused }
+
+-- what these choices leave of the files is detectable damage of the log
+abbrev pub AreDetectablyLeft : Folders → MemoryFileSystem → List Choice → Type 0
+AreDetectablyLeft folders last choices = let files = memory_directory last in
+    AreDetectableIn folders files (left_by choices files)
+
+-- operations over files that were empty, then a crash by these choices, which left these files
+pub record IsCrashOf (config : Config) (ops : List Op) (stop : Option ℕ) (choices : List Choice)
+    (ran : Ran) (left : MemoryFileSystem) : Type 0 where
+  pub last : MemoryFileSystem
+  pub runs : RunsFromEmpty config ops stop ran last
+  -- storage may leave of the files what the choices say, and so they stand after the crash, with no
+  -- stop
+  pub leaves : let files = memory_directory last in Leaves files (left_by choices files)
+  pub restarted : let files = memory_directory last in
+      IsRestarted files (left_by choices files) (memory_directory left)
+  pub fails : FailsAtStop None left
+  -- where an engine was opened and none failed, choices that leave each file whole, as it is now
+  -- or as it was synced, leave detectable damage where nothing decodes that a last file held when
+  -- it was renamed, if it was
+  pub detectable : ran.refused ≡ None → ran.failed_at ≡ None → AreWhole choices
+      → HaveNoStaleRecordIn (folders_in config) (memory_directory last)
+      → ∥ AreDetectablyLeft (folders_in config) last choices ∥₁
+  -- .. whatever failed, and also of files that are left torn, where they are read as before
+  pub torn : NameNoBytes choices
+      → AreReadAsBefore (folders_in config) (memory_directory last) choices
+      → AreDetectablyLeft (folders_in config) last choices
+  -- where it is detectable, a further crash leaves what is found
+  pub kept : HaveNoLogPath (folders_in config) → AreDetectablyLeft (folders_in config) last choices
+      → let found = memory_directory left in
+      RecoversContents (folders_in config) (contents_at (folders_in config) found) [] found
+
+-- an opening of these files, which was given up with those; P: the damage of the last crash is
+-- detectable, Q: of those before it
+pub record IsOpeningOf (P Q : Type 0) (config : Config) (files last : MemoryFileSystem)
+    (opened : Result Image Fault) : Type 0 where
+  pub reopened : Reopens memory_directory memory_moments memory_refusals (folders_in config) files
+      last opened
+  -- it found what they hold, and shows it without the groups' numbers
+  pub found : IfOk opened (λ image. IsImageOf image.groups.items
+      (shown (contents_at (folders_in config) (memory_directory files))))
+  -- where no folder has the path of a log file, a tolerant one doesn't fail for detectable damage
+  pub refused : HaveNoLogPath (folders_in config) → Q → P
+      → (config.recovery_mode ≡ AbsoluteConsistency → ⊥) → contradiction config ≡ None
+      → IfErr opened IsStorageOrMemory
+  -- .. and in any mode and of any damage it fails where settings contradict one another, by
+  -- storage, for lack of memory, or for what is left of the log
+  pub cause : HaveNoLogPath (folders_in config) → Q → IfErr opened (λ e. IsContradiction config e
+      ⊎ IsLogRefusal config.recovery_mode (folders_in config) (memory_directory files) e)
+
+-- operations over files that were empty, then a crash by these choices, then an opening with the
+-- same settings
+pub record IsTrialOf (config : Config) (ops : List Op) (stop : Option ℕ) (choices : List Choice)
+    (t : Trial) : Type 0 where
+  pub again : MemoryFileSystem
+  pub crash : IsCrashOf config ops stop choices (ran_in t) again
+  pub none : t.second ≡ None
+  pub last : MemoryFileSystem
+  pub opening : IsOpeningOf (AreDetectablyLeft (folders_in config) crash.last choices) (Unit {0})
+      config again last t.opened
+
+-- files after a second crash, which came in an opening of those that a first one left; of that
+-- opening the calls that may change files fail from a stop on
+pub record IsSecondCrash (config : Config) (again : Option ℕ) (more : List Choice) (Q : Type 0)
+    (second : Option (Result Image Fault)) (first left : MemoryFileSystem) : Type 0 where
+  pub begun : MemoryFileSystem
+  pub begins : memory_directory begun ≡ memory_directory first
+  pub fails : FailsAtStop again begun
+  pub image : Result Image Fault
+  pub is : second ≡ Some image
+  pub last : MemoryFileSystem
+  pub opening : IsOpeningOf Q (Unit {0}) config begun last image
+  pub leaves : let files = memory_directory last in Leaves files (left_by more files)
+  pub restarted : let files = memory_directory last in
+      IsRestarted files (left_by more files) (memory_directory left)
+  pub fresh : FailsAtStop None left
+  -- where the damage of the first crash is detectable, and that of the second, nothing of what the
+  -- first left is lost or changed, whatever moment of the opening the second came in
+  pub same : HaveNoLogPath (folders_in config) → Q
+      → AreDetectablyLeft (folders_in config) last more
+      → contents_at (folders_in config) (memory_directory left)
+      ≡ contents_at (folders_in config) (memory_directory first)
+
+-- .. then a second crash by more choices in an opening with a stop, and an opening after it
+pub record IsTrialTwiceOf (config : Config) (ops : List Op) (stop : Option ℕ)
+    (choices : List Choice) (again : Option ℕ) (more : List Choice) (t : Trial) : Type 0 where
+  pub first : MemoryFileSystem
+  pub crash : IsCrashOf config ops stop choices (ran_in t) first
+  pub left : MemoryFileSystem
+  pub second : IsSecondCrash config again more
+      (AreDetectablyLeft (folders_in config) crash.last choices) t.second first left
+  pub last : MemoryFileSystem
+  pub opening : IsOpeningOf (AreDetectablyLeft (folders_in config) second.last more)
+      (AreDetectablyLeft (folders_in config) crash.last choices) config left last t.opened
+
+-- files that a second crash came over may be such that storage may not leave of them what the
+-- choices say
+pub record AreNotAllowedAgain (config : Config) (ops : List Op) (stop : Option ℕ)
+    (choices : List Choice) (again : Option ℕ) (more : List Choice) : Type 0 where
+  pub ran : Ran
+  pub first : MemoryFileSystem
+  pub crash : IsCrashOf config ops stop choices ran first
+  pub begun : MemoryFileSystem
+  pub begins : memory_directory begun ≡ memory_directory first
+  pub fails : FailsAtStop again begun
+  pub image : Result Image Fault
+  pub last : MemoryFileSystem
+  pub reopened : Reopens memory_directory memory_moments memory_refusals (folders_in config) begun
+      last image
+  pub refused : let files = memory_directory last in Leaves files (left_by more files) → ⊥

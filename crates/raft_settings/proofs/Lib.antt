@@ -1,0 +1,4 @@
+pub mod DefaultLemmas
+pub mod ReadBackLemmas
+pub mod SizeTextLemmas
+pub mod TableLemmas

@@ -1,0 +1,11 @@
+//! Settings from text and as text, in TOML.
+#![tactic(auto)]
+
+mod laws;
+mod reading;
+mod value;
+mod writing;
+
+pub use laws::a_text_decides_its_settings;
+pub use reading::{read, with_text};
+pub use writing::write;

@@ -1,0 +1,244 @@
+//! Texts of settings: what they are read as, what is written for them, and which are refused.
+
+use raft_config::Config;
+use raft_records::{Fault, Fresh, ReadableSize};
+use raft_rows::{Row, first_wrong};
+use raft_settings::{read, with_text, write};
+use std::alloc::Global;
+use std::test::Fail;
+
+const DEFAULTS: &str = "\
+dir = \"\"
+enable-log-recycle = true
+format-version = 2
+prefill-for-recycle = false
+purge-rewrite-garbage-ratio = 600
+purge-threshold = \"10GB\"
+recovery-mode = \"tolerate-corrupted-tail-records\"
+recovery-read-block-size = \"16KB\"
+recovery-threads = 4
+target-file-size = \"128MB\"
+";
+
+const ALL_SET: &str = "\
+bytes-per-sync = \"1B\"
+dir = \"a/b c\"
+enable-log-recycle = false
+format-version = 1
+memory-limit = \"18446744073709551615B\"
+prefill-for-recycle = true
+prefill-limit = \"1025KB\"
+purge-rewrite-garbage-ratio = 0
+purge-rewrite-threshold = \"3GB\"
+purge-threshold = \"1025MB\"
+recovery-mode = \"tolerate-any-corruption\"
+recovery-read-block-size = \"0B\"
+recovery-threads = 9223372036854775807
+spill-dir = \"\"
+target-file-size = \"1023B\"
+";
+
+/// A text, and the text that is written for the settings that it is read as.
+struct Read(&'static str, &'static str);
+
+static TEXTS: [Read; 6] = [
+    Read("", DEFAULTS),
+    Read(DEFAULTS, DEFAULTS),
+    Read(ALL_SET, ALL_SET),
+    // Keys that are no setting's, comments, and sizes in other units than they are written in.
+    Read(
+        "batch-compression-threshold = \"8KB\"\ncompression-level = 0.5\n# a comment\n[other]\ndir = 1\n",
+        DEFAULTS,
+    ),
+    Read(
+        "recovery-mode = \"tolerate-tail-corruption\"\ntarget-file-size = 134217728\npurge-threshold = \"10240MB\"\n",
+        DEFAULTS,
+    ),
+    Read(
+        "purge-threshold = \"10737418240\"\nrecovery-read-block-size = \"16384B\"\n",
+        DEFAULTS,
+    ),
+];
+
+impl Row for Read {
+    type State = ();
+
+    fn holds(&self, alloc: Global, _: &mut ()) -> Result<bool, Fault> {
+        let config = read(alloc, self.0)?;
+        let written = write(alloc, &config)?;
+        let back = read(alloc, written.as_str())?;
+        Ok(written.as_str() == self.1 && back == config)
+    }
+}
+
+#[test]
+fn texts_are_read_and_written(rt: HostRuntime) -> Result<(), Fail> {
+    assert_eq!(rt; first_wrong(rt.alloc(), &mut (), &TEXTS)?, None);
+    Ok(())
+}
+
+/// A text that is refused, and why.
+struct Refused(&'static str, &'static str);
+
+static REFUSED: [Refused; 14] = [
+    Refused("dir", "the settings are no TOML"),
+    Refused("dir = \"a\"\ndir = \"a\"\n", "the settings are no TOML"),
+    Refused(
+        "target-file-size = 9223372036854775808",
+        "the settings are no TOML",
+    ),
+    Refused("dir = 1", "dir"),
+    Refused("spill-dir = true", "spill-dir"),
+    Refused("recovery-mode = \"tolerate\"", "recovery-mode"),
+    Refused("recovery-threads = -1", "recovery-threads"),
+    Refused("recovery-threads = \"4\"", "recovery-threads"),
+    Refused("format-version = 3", "format-version"),
+    Refused("target-file-size = \"1.5GB\"", "target-file-size"),
+    Refused(
+        "purge-threshold = \"18446744073709551616\"",
+        "purge-threshold",
+    ),
+    Refused(
+        "purge-rewrite-garbage-ratio = 0.6",
+        "purge-rewrite-garbage-ratio",
+    ),
+    Refused("enable-log-recycle = 1", "enable-log-recycle"),
+    Refused("prefill-limit = \"\"", "prefill-limit"),
+];
+
+impl Row for Refused {
+    type State = ();
+
+    fn holds(&self, alloc: Global, _: &mut ()) -> Result<bool, Fault> {
+        match read(alloc, self.0) {
+            Err(Fault::InvalidArgument(reason)) => Ok(reason == self.1),
+            _ => Ok(false),
+        }
+    }
+}
+
+#[test]
+fn texts_are_refused(rt: HostRuntime) -> Result<(), Fail> {
+    assert_eq!(rt; first_wrong(rt.alloc(), &mut (), &REFUSED)?, None);
+    Ok(())
+}
+
+/// A text over the settings of another, and the size of the read block and the number of threads that come of it.
+struct Laid(&'static str, &'static str, u64, usize);
+
+static LAID: [Laid; 4] = [
+    Laid("recovery-threads = 7", "", 16_384, 7),
+    Laid("recovery-threads = 7", "recovery-threads = 9", 16_384, 9),
+    Laid(
+        "recovery-threads = 7",
+        "recovery-read-block-size = \"1MB\"",
+        1_048_576,
+        7,
+    ),
+    Laid(
+        "recovery-read-block-size = 1\nrecovery-threads = 7",
+        "recovery-threads = 0\nformat-version = 1",
+        1,
+        0,
+    ),
+];
+
+impl Row for Laid {
+    type State = ();
+
+    fn holds(&self, alloc: Global, _: &mut ()) -> Result<bool, Fault> {
+        let below = read(alloc, self.0)?;
+        let config = with_text(alloc, &below, self.1)?;
+        Ok(config.recovery_read_block_size.0 == self.2 && config.recovery_threads == self.3)
+    }
+}
+
+#[test]
+fn texts_are_laid_over_settings(rt: HostRuntime) -> Result<(), Fail> {
+    assert_eq!(rt; first_wrong(rt.alloc(), &mut (), &LAID)?, None);
+    Ok(())
+}
+
+/// Settings from text, and what of them is used, or why they are refused.
+struct Sanitized(&'static str, Result<Used, &'static str>);
+
+/// What is used of settings: the size of the read block, the number of threads, the threshold of the Rewrite queue, the
+/// limit of files that are made ahead, and how many files are kept to be used again and made ahead.
+struct Used(u64, usize, u64, Option<u64>, usize, usize);
+
+static SANITIZED: [Sanitized; 6] = [
+    Sanitized("", Ok(Used(16_384, 4, 1_073_741_824, None, 120, 0))),
+    Sanitized(
+        "recovery-read-block-size = 1\nrecovery-threads = 0\ntarget-file-size = \"5000MB\"\n\
+         format-version = 2\nenable-log-recycle = true\nprefill-for-recycle = true",
+        Ok(Used(512, 1, 5_242_880_000, Some(10_737_418_240), 3, 3)),
+    ),
+    Sanitized(
+        "target-file-size = \"1MB\"\npurge-threshold = \"10MB\"\n\
+         prefill-for-recycle = true\nprefill-limit = \"4MB\"",
+        Ok(Used(16_384, 4, 1_048_576, Some(4_194_304), 15, 6)),
+    ),
+    Sanitized(
+        "target-file-size = \"5MB\"\npurge-threshold = \"3MB\"",
+        Err("purge-threshold is below target-file-size"),
+    ),
+    Sanitized(
+        "enable-log-recycle = false\nprefill-for-recycle = true",
+        Err("prefill-for-recycle needs enable-log-recycle"),
+    ),
+    Sanitized("dir = \"a\"\nspill-dir = \"a\"", Err("spill-dir is dir")),
+];
+
+fn is_sanitized(config: &mut Config, wanted: &Result<Used, &'static str>) -> bool {
+    match (config.sanitize(), wanted) {
+        (Ok(()), Ok(wanted)) => is_used(config, wanted),
+        (Err(Fault::InvalidArgument(reason)), Err(wanted)) => reason == *wanted,
+        _ => false,
+    }
+}
+
+fn is_used(config: &Config, wanted: &Used) -> bool {
+    let Used(block_size, threads, threshold, limit, spare, ahead) = wanted;
+    config.recovery_read_block_size.0 == *block_size
+        && config.recovery_threads == *threads
+        && config.rewrite_threshold().0 == *threshold
+        && is_limit(config.prefill_limit, *limit)
+        && config.recycle_capacity() == *spare
+        && config.prefill_capacity() == *ahead
+}
+
+fn is_limit(given: Option<ReadableSize>, wanted: Option<u64>) -> bool {
+    match (given, wanted) {
+        (Some(size), Some(wanted)) => size.0 == wanted,
+        (None, None) => true,
+        _ => false,
+    }
+}
+
+impl Row for Sanitized {
+    type State = ();
+
+    fn holds(&self, alloc: Global, _: &mut ()) -> Result<bool, Fault> {
+        let mut config = read(alloc, self.0)?;
+        Ok(is_sanitized(&mut config, &self.1))
+    }
+}
+
+#[test]
+fn sanitized_settings(rt: HostRuntime) -> Result<(), Fail> {
+    assert_eq!(rt; first_wrong(rt.alloc(), &mut (), &SANITIZED)?, None);
+    Ok(())
+}
+
+/// Numbers that TOML doesn't have aren't written.
+#[test]
+fn great_numbers_are_refused(rt: HostRuntime) -> Result<(), Fail> {
+    let mut config = Config::fresh(rt.alloc());
+    config.recovery_threads = usize::MAX;
+    assert!(rt; write(rt.alloc(), &config).is_err());
+    config.recovery_threads = 1;
+    assert!(rt; write(rt.alloc(), &config).is_ok());
+    config.purge_rewrite_garbage_ratio = u64::MAX;
+    assert!(rt; write(rt.alloc(), &config).is_err());
+    Ok(())
+}

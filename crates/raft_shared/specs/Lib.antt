@@ -1,0 +1,6 @@
+pub mod History
+pub mod Words
+pub mod Begun
+pub mod Calls
+pub mod Shared
+pub mod Settled

@@ -1,0 +1,135 @@
+//! Calls of a shared engine, and what they were answered.
+ghost use Rattle.std.specs.Prelude.{◌≡◌, IfOk, IfErr, option_map};
+ghost use Rattle.raft_shared.specs.Words.{answer_by, reason_of, shared_bytes, without_path};
+
+use raft_log_engine::{Fault, LogBatch};
+use std::alloc::Global;
+use std::sync::Arc;
+
+/// A call, with copies of what it was given.
+#[derive(Drop)]
+pub enum Call {
+    /// A batch, and whether it is synced.
+    Write(LogBatch, bool),
+    /// .. with groups and their numbers.
+    WriteOnce(LogBatch, Vec<(u64, u64)>, bool),
+    Sync,
+    Get(u64, Vec<u8>),
+    First(u64),
+    Last(u64),
+}
+
+/// What a call was answered. A fault of a file names no path.
+#[derive(Drop)]
+pub enum Reply {
+    Size(Result<usize, Fault>),
+    Done(Result<(), Fault>),
+    Value(Result<Option<SharedBytes>, Fault>),
+    Index(Option<u64>),
+}
+
+/// The one copy of a call, which the history, the seat and the caller share.
+pub type SharedCall = Arc<Call, Global>;
+
+/// .. and of a value that was found.
+pub type SharedBytes = Arc<Vec<u8>, Global>;
+
+/// A call as it stands in the history.
+#[derive(Drop)]
+pub struct Recorded {
+    pub seat: usize,
+    pub call: SharedCall,
+    pub reply: Reply,
+}
+
+/// A call as its seat is told of it.
+#[derive(Drop)]
+pub struct Receipt {
+    /// Its place in the history, counted from 0.
+    pub number: usize,
+    pub call: SharedCall,
+    pub reply: Reply,
+}
+
+impl Reply {
+    ghost use Rattle.raft_shared.specs.History.{Done, Size, Value};
+    ghost use Rattle.raft_shared.specs.Words.{answer_of};
+
+    /// The reply of a write. It takes no memory.
+    pub(crate) fn of_size(alloc: Global, size: &Result<usize, Fault>) -> Reply
+        ensures value { answer_of result ≡ Size (answer_by (λ n. n) size.now) }
+    {
+        Reply::Size(match size {
+            Ok(size) => Ok(*size),
+            Err(fault) => Err(without_path(alloc, fault)),
+        })
+    }
+
+    /// The reply of a sync. It takes no memory.
+    pub(crate) fn of_sync(alloc: Global, done: &Result<(), Fault>) -> Reply
+        ensures value { answer_of result ≡ Done (answer_by (λ _. tt) done.now) }
+    {
+        Reply::Done(match done {
+            Ok(()) => Ok(()),
+            Err(fault) => Err(without_path(alloc, fault)),
+        })
+    }
+
+    /// The reply of a look-up.
+    pub(crate) fn of_value(
+        alloc: Global,
+        value: &Result<Option<SharedBytes>, Fault>,
+    ) -> Result<Reply, Fault>
+        ensures ok { IfOk result (λ reply. answer_of reply
+            ≡ Value (answer_by (option_map shared_bytes) value.now)) }
+        ensures cause { IfErr result (λ fault. fault ≡ Fault.Memory) }
+    {
+        Ok(Reply::Value(match value {
+            Ok(Some(value)) => Ok(Some(Arc::try_clone(value)?)),
+            Ok(None) => Ok(None),
+            Err(fault) => Err(without_path(alloc, fault)),
+        }))
+    }
+}
+
+// A value that was found, to be shared. Without memory for it the value is let go.
+pub(crate) fn shared_value(
+    alloc: Global,
+    value: Result<Option<Vec<u8>>, Fault>,
+) -> Result<Result<Option<SharedBytes>, Fault>, Fault>
+    ensures ok { IfOk result (λ shared. answer_by (option_map shared_bytes) shared
+        ≡ answer_by (option_map (λ v. v.items)) value) }
+    ensures cause { IfErr result (λ fault. fault ≡ Fault.Memory) }
+{
+    Ok(match value {
+        Ok(Some(value)) => Ok(Some(Arc::new(alloc, value)?)),
+        Ok(None) => Ok(None),
+        Err(fault) => Err(fault),
+    })
+}
+
+// The fault, of a file without its path. It takes no memory.
+fn without_path(alloc: Global, fault: &Fault) -> Fault
+    ensures value { reason_of result ≡ without_path (reason_of fault.now) }
+{
+    match fault {
+        Fault::InvalidArgument(text) => Fault::InvalidArgument(text),
+        Fault::Corruption => Fault::Corruption,
+        Fault::Io(kind, _) => Fault::Io(*kind, String::new(alloc)),
+        Fault::TryAgain => Fault::TryAgain,
+        Fault::Gap => Fault::Gap,
+        Fault::Range => Fault::Range,
+        Fault::EntryCompacted => Fault::EntryCompacted,
+        Fault::EntryNotFound => Fault::EntryNotFound,
+        Fault::WrongIndex => Fault::WrongIndex,
+        Fault::Parse => Fault::Parse,
+        Fault::Failed => Fault::Failed,
+        Fault::Memory => Fault::Memory,
+        Fault::Lz4 => Fault::Lz4,
+        Fault::FileOutOfRange => Fault::FileOutOfRange,
+        Fault::NotRecovered => Fault::NotRecovered,
+        Fault::TrailFull => Fault::TrailFull,
+        Fault::Layer => Fault::Layer,
+        Fault::StaleNumber => Fault::StaleNumber,
+    }
+}

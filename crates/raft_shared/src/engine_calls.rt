@@ -1,0 +1,49 @@
+//! Calls of the engine, with all that it says of each in one relation.
+ghost use Rattle.raft_log_engine.specs.Calls.{IsSync};
+ghost use Rattle.raft_log_engine.specs.Once.{IsWriteOnce};
+ghost use Rattle.raft_shared.specs.Calls.{IsCallersWrite, IsGet};
+
+use raft_log_engine::{Engine, Fault, FileSystem, LogBatch};
+
+/// `Engine::write`.
+pub(crate) fn write<F: FileSystem>(
+    engine: &mut Engine<F>,
+    batch: &mut LogBatch,
+    sync: bool,
+) -> Result<usize, Fault>
+    ensures value { IsCallersWrite batch.old.items batch.new.items sync engine.old engine.new
+        result }
+{
+    engine.write(batch, sync)
+}
+
+/// `Engine::write_once`.
+pub(crate) fn write_once<F: FileSystem>(
+    engine: &mut Engine<F>,
+    batch: &mut LogBatch,
+    pairs: &[(u64, u64)],
+    sync: bool,
+) -> Result<usize, Fault>
+    ensures value { IsWriteOnce batch.old.items batch.new.items pairs.now sync engine.old engine.new
+        result }
+{
+    engine.write_once(batch, pairs, sync)
+}
+
+/// `Engine::sync`.
+pub(crate) fn sync<F: FileSystem>(engine: &mut Engine<F>) -> Result<(), Fault>
+    ensures value { IsSync engine.old engine.new result }
+{
+    engine.sync()
+}
+
+/// `Engine::get`.
+pub(crate) fn get<F: FileSystem>(
+    engine: &Engine<F>,
+    group: u64,
+    key: &[u8],
+) -> Result<Option<Vec<u8>>, Fault>
+    ensures value { IsGet group key.now engine.now result }
+{
+    engine.get(group, key)
+}

@@ -1,0 +1,13 @@
+//! One engine for many threads: its calls, seat by seat, beside the history that they make.
+#![tactic(auto)]
+
+mod call;
+mod engine_calls;
+mod seat;
+mod settled;
+mod shared;
+
+pub use call::{Call, Receipt, Recorded, Reply, SharedBytes, SharedCall};
+pub use raft_log_engine::{Engine, Fault, FileSystem, LogBatch};
+pub use seat::Seat;
+pub use shared::{Finished, Refused, Shared, Unfinished};

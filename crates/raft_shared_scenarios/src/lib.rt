@@ -1,0 +1,15 @@
+//! Tests of a shared engine: threads over it, and its history.
+#![tactic(auto)]
+
+#[cfg(test)]
+mod asked;
+#[cfg(test)]
+mod histories;
+#[cfg(test)]
+mod memory;
+#[cfg(test)]
+mod seated;
+#[cfg(test)]
+mod stories;
+#[cfg(test)]
+mod threads;

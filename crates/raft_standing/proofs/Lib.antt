@@ -1,0 +1,15 @@
+pub mod EndsLemmas
+pub mod KeyLemmas
+pub mod FitLemmas
+pub mod GroupLemmas
+pub mod DropLemmas
+pub mod MovedLemmas
+pub mod WrittenLemmas
+pub mod TotalLemmas
+pub mod NotedLemmas
+pub mod ReplayedLemmas
+pub mod OpeningLemmas
+pub mod WholeLemmas
+pub mod ReadLemmas
+pub mod QueueLemmas
+pub mod PlacedLemmas

@@ -1,0 +1,17 @@
+//! Tests that cross crates: trials, and every stop, crash and refusal of a list of operations.
+#![tactic(auto)]
+
+#[cfg(test)]
+mod answers;
+#[cfg(test)]
+mod recycling;
+#[cfg(test)]
+mod refusals;
+#[cfg(test)]
+mod reopened;
+#[cfg(test)]
+mod sittings;
+#[cfg(test)]
+mod sweep;
+#[cfg(test)]
+mod trials;

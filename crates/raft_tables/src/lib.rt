@@ -1,0 +1,28 @@
+//! The in-memory index: what each group holds, and the files that it stands in.
+#![tactic(auto)]
+
+mod dropping;
+pub mod entries;
+pub mod group_ids;
+mod growing;
+mod joining;
+pub mod key_hash;
+mod leaving;
+pub mod memtable;
+pub mod memtables;
+mod moving;
+pub mod owed;
+pub mod recovering;
+pub mod rewritten;
+mod span;
+pub mod stats;
+mod validity;
+
+pub use entries::EntryTable;
+pub use group_ids::GroupIds;
+pub use memtable::{KeyAndValue, MemTable};
+pub use memtables::MemTables;
+pub use owed::OwedMarks;
+pub use recovering::MemTableRecoverContext;
+pub use rewritten::{GroupsMet, RewrittenBatches};
+pub use stats::GlobalStats;

@@ -1,0 +1,430 @@
+//! Operations on four keys and eight entries, and what these hold: told from the operations alone, and read from an
+//! image.
+
+use crate::plans::{Change, Plan};
+use raft_log_engine::{Config, Image};
+use raft_records::{Fresh, ReadableSize};
+use raft_script::{Act, Op, Outcome};
+use std::alloc::{AllocError, Global};
+
+/// The first byte of the value at each key and of the word of each entry, 0 where there is none: `a` and `b` are keys
+/// of group 1, `c` and `d` of group 2; the entries are those of group 3, by their indexes.
+#[derive(Clone, Copy, Debug, PartialEq, Eq)]
+pub struct State {
+    pub a: u8,
+    pub b: u8,
+    pub c: u8,
+    pub d: u8,
+    pub words: [u8; 8],
+    /// The number that each of the groups 0 to 3 keeps for writes that act once; no image shows it.
+    pub numbers: [u64; 4],
+    /// Something else is there.
+    pub other: bool,
+}
+
+pub const EMPTY: State = State {
+    a: 0,
+    b: 0,
+    c: 0,
+    d: 0,
+    words: [0; 8],
+    numbers: [0; 4],
+    other: false,
+};
+
+fn with(state: State, group: u64, key: &[u8], value: u8) -> State {
+    match (group, key) {
+        (1, b"a") => State { a: value, ..state },
+        (1, b"b") => State { b: value, ..state },
+        (2, b"c") => State { c: value, ..state },
+        (2, b"d") => State { d: value, ..state },
+        _ => State {
+            other: true,
+            ..state
+        },
+    }
+}
+
+fn first_byte(value: &[u8]) -> u8 {
+    match value.first() {
+        Some(byte) => *byte,
+        None => 0,
+    }
+}
+
+// The first byte of an entry's word, which stands after the colon.
+fn word_byte(text: &[u8]) -> u8 {
+    match text.iter().position(|byte| *byte == b':') {
+        Some(colon) => first_byte(&text[colon + 1..]),
+        None => 0,
+    }
+}
+
+/// The value's byte at a key.
+pub fn value_of(state: State, group: u64, key: &[u8]) -> u8 {
+    match (group, key) {
+        (1, b"a") => state.a,
+        (1, b"b") => state.b,
+        (2, b"c") => state.c,
+        (2, b"d") => state.d,
+        _ => 0,
+    }
+}
+
+fn with_word(state: State, group: u64, index: u64, word: u8) -> State {
+    let mut state = state;
+    match state.words.get_mut(index as usize) {
+        Some(place) if group == 3 => *place = word,
+        _ => state.other = true,
+    }
+    state
+}
+
+// The words at the indexes from `first` up to the one before `end` go.
+fn without_words(words: [u8; 8], first: u64, end: u64) -> [u8; 8] {
+    let mut words = words;
+    for (index, word) in words.iter_mut().enumerate() {
+        if first <= index as u64 && (index as u64) < end {
+            *word = 0;
+        }
+    }
+    words
+}
+
+// Entries stand before those with greater indexes alone, which go.
+fn with_entries(state: State, group: u64, entries: &[(u64, Vec<u8>)]) -> State {
+    let mut state = state;
+    if let Some(first) = entries.first() {
+        state.words = without_words(state.words, first.0, u64::MAX);
+    }
+    for (index, text) in entries {
+        state = with_word(state, group, *index, word_byte(text));
+    }
+    state
+}
+
+fn compacted(state: State, group: u64, index: u64) -> State {
+    if group == 3 {
+        State {
+            words: without_words(state.words, 0, index),
+            ..state
+        }
+    } else {
+        state
+    }
+}
+
+// The groups keep these numbers.
+fn with_numbers(state: State, pairs: &[(u64, u64)]) -> State {
+    let mut state = state;
+    for (group, number) in pairs {
+        match state.numbers.get_mut(*group as usize) {
+            Some(kept) => *kept = *number,
+            None => state.other = true,
+        }
+    }
+    state
+}
+
+fn without_number(state: State, group: u64) -> State {
+    let mut state = state;
+    if let Some(kept) = state.numbers.get_mut(group as usize) {
+        *kept = 0;
+    }
+    state
+}
+
+fn cleaned(state: State, group: u64) -> State {
+    let state = without_number(state, group);
+    match group {
+        1 => State {
+            a: 0,
+            b: 0,
+            ..state
+        },
+        2 => State {
+            c: 0,
+            d: 0,
+            ..state
+        },
+        _ => compacted(state, group, u64::MAX),
+    }
+}
+
+fn after_act(state: State, act: &Act) -> State {
+    match act {
+        Act::Put(group, key, value) => with(state, *group, key, first_byte(value)),
+        Act::Delete(group, key) => with(state, *group, key, 0),
+        Act::Entries(group, entries) => with_entries(state, *group, entries),
+        Act::Clean(group) => cleaned(state, *group),
+        Act::Compact(group, index) => compacted(state, *group, *index),
+    }
+}
+
+/// How many entries of a group have an index below this one.
+pub fn count_below(state: State, group: u64, index: u64) -> u64 {
+    let before = compacted(state, group, index).words;
+    let mut count: u64 = 0;
+    for (word, left) in state.words.iter().zip(before.iter()) {
+        if *word != *left {
+            count = count.saturating_add(1);
+        }
+    }
+    count
+}
+
+fn after_acts(state: State, acts: &[Act]) -> State {
+    let mut state = state;
+    for act in acts {
+        state = after_act(state, act);
+    }
+    state
+}
+
+/// Whether a write with these numbers acts: each is greater than the one that its group keeps.
+pub fn are_new(state: State, pairs: &[(u64, u64)]) -> bool {
+    let mut are_new = true;
+    for (group, number) in pairs {
+        let is_new = match state.numbers.get(*group as usize) {
+            Some(kept) => *number > *kept,
+            None => false,
+        };
+        are_new = are_new && is_new;
+    }
+    are_new
+}
+
+/// The state after an operation that was done, of a group with each of its batches.
+pub fn after(state: State, op: &Op) -> State {
+    let mut state = state;
+    match op {
+        Op::Write(acts, _) => state = after_acts(state, acts),
+        Op::WriteGroup(parts) => {
+            for part in parts {
+                state = after_acts(state, &part.0);
+            }
+        }
+        Op::WriteOnce(acts, pairs, _) => {
+            if are_new(state, pairs) {
+                state = with_numbers(after_acts(state, acts), pairs);
+            }
+        }
+        Op::CompactTo(group, index) => state = compacted(state, *group, *index),
+        Op::Sync | Op::Get(_, _) | Op::Entry(_, _) | Op::First(_) | Op::Last(_) | Op::Groups => {}
+        // A purge changes nothing.
+        Op::RewriteAppend(_, _) | Op::RewriteRewrite | Op::PurgeStale | Op::Purge => {}
+    }
+    state
+}
+
+// The word's first byte, if these are the bytes of the entry of that index.
+fn word_of(index: u64, bytes: &[u8]) -> Option<u8> {
+    match bytes {
+        [digit, b':', word, ..] if u64::from(*digit) == index.saturating_add(48) => Some(*word),
+        _ => None,
+    }
+}
+
+/// What an image shows.
+pub fn state_of(image: &Image) -> State {
+    let mut state = EMPTY;
+    for group in &image.groups {
+        for pair in &group.pairs {
+            state = with(state, group.group, &pair.0, first_byte(&pair.1));
+        }
+        for entry in &group.entries {
+            state = match word_of(entry.0, &entry.1) {
+                Some(word) => with_word(state, group.group, entry.0, word),
+                None => State {
+                    other: true,
+                    ..state
+                },
+            };
+        }
+    }
+    state
+}
+
+/// Whether the operation was done: a write with its record, a group, a sync, a compaction, a read.
+pub fn is_done(outcome: &Outcome) -> bool {
+    match outcome {
+        Outcome::Size(answer) => answer.is_ok(),
+        Outcome::Sizes(answer) => answer.is_ok(),
+        Outcome::Done(answer) => answer.is_ok(),
+        Outcome::Value(answer) => answer.is_ok(),
+        Outcome::Count(answer) => answer.is_ok(),
+        Outcome::Entry(answer) => answer.is_ok(),
+        Outcome::Index(_) => true,
+        Outcome::Groups(answer) => answer.is_ok(),
+        Outcome::Dropped(answer) => answer.is_ok(),
+        Outcome::ToCompact(answer) => answer.is_ok(),
+    }
+}
+
+/// The place of the first operation that failed.
+pub fn first_refused(outcomes: &[Outcome]) -> Option<usize> {
+    outcomes.iter().position(|outcome| !is_done(outcome))
+}
+
+// Whether all that was done before is safe after the operation.
+fn covers(op: &Op) -> bool {
+    match op {
+        Op::Write(_, sync) => *sync,
+        Op::WriteGroup(parts) => parts.iter().any(|part| part.1),
+        Op::WriteOnce(_, _, sync) => *sync,
+        Op::Sync | Op::RewriteAppend(_, _) | Op::RewriteRewrite | Op::PurgeStale | Op::Purge =>
+            true,
+        _ => false,
+    }
+}
+
+// The state as an image shows it.
+fn shown(state: State) -> State {
+    State {
+        numbers: [0; 4],
+        ..state
+    }
+}
+
+/// Whether a log that was answered so may hold the state after a crash: that of the operations done up to a place at
+/// or after the last one that made sure of them, or of all of them and the one in which the engine failed.
+pub fn is_allowed(
+    ops: &[Op],
+    outcomes: &[Outcome],
+    failed_at: Option<usize>,
+    found: State,
+) -> bool {
+    let mut state = EMPTY;
+    let mut allowed = found == EMPTY;
+    for (op, outcome) in ops.iter().zip(outcomes.iter()) {
+        if is_done(outcome) {
+            state = after(state, op);
+            allowed = found == shown(state) || (allowed && !covers(op));
+        }
+    }
+    match failed_at.and_then(|place| ops.get(place)) {
+        Some(op) => allowed || found == shown(after(state, op)),
+        None => allowed,
+    }
+}
+
+/// No more log files than this come of the operations, also where one of them finds no space and goes on to a next one.
+pub const MAX_FILES: usize = 16;
+
+/// A log file is full once it has 1 KB, and two of them are purged.
+pub fn settings(alloc: Global) -> Result<Config, AllocError> {
+    let mut config = Config::fresh(alloc);
+    config.dir.push_str("raft")?;
+    config.target_file_size = ReadableSize::kb(1);
+    config.purge_threshold = ReadableSize::kb(1);
+    Ok(config)
+}
+
+/// Operations on the four keys and the entries. With these settings they fill three files, and what is read of an entry
+/// last stands in one before.
+pub const OPERATIONS: [Plan; 15] = [
+    Plan::Write(&[Change::Put(1, b"a", &[1])], true),
+    Plan::Write(
+        &[Change::Put(1, b"b", &[2; 40]), Change::Put(2, b"c", &[3])],
+        false,
+    ),
+    Plan::Get(1, b"b"),
+    Plan::Write(
+        &[Change::Delete(1, b"a"), Change::Put(2, b"d", &[4; 20])],
+        false,
+    ),
+    Plan::Sync,
+    Plan::Write(&[Change::Put(1, b"a", &[5; 900])], false),
+    Plan::Get(1, b"a"),
+    Plan::Write(&[Change::Delete(2, b"c")], true),
+    Plan::Write(&[Change::Put(2, b"c", &[6; 9])], false),
+    Plan::Write(&[Change::Entries(3, 1, 4, b"x")], false),
+    Plan::Write(&[Change::Put(2, b"d", &[8; 900])], false),
+    Plan::Write(
+        &[
+            Change::Entries(3, 3, 5, b"y"),
+            Change::Put(1, b"b", &[7; 900]),
+        ],
+        true,
+    ),
+    Plan::CompactTo(3, 2),
+    Plan::Entry(3, 2),
+    Plan::Write(&[Change::Clean(2), Change::Compact(3, 4)], false),
+];
+
+/// Operations on the same keys and entries, with each purge of them: keys that are put again, deleted and cleaned,
+/// entries that are written again and compacted, what was rewritten once rewritten again, and what was removed since.
+pub const PURGES: [Plan; 14] = [
+    Plan::Write(
+        &[Change::Put(1, b"a", &[1; 900]), Change::Put(2, b"c", &[1])],
+        false,
+    ),
+    Plan::Write(
+        &[Change::Entries(3, 1, 5, b"x"), Change::Put(1, b"b", &[2])],
+        true,
+    ),
+    Plan::RewriteAppend(None, Some(1)),
+    Plan::RewriteAppend(None, None),
+    Plan::Write(
+        &[
+            Change::Put(1, b"a", &[3]),
+            Change::Delete(1, b"b"),
+            Change::Clean(2),
+            Change::Entries(3, 4, 6, b"y"),
+        ],
+        true,
+    ),
+    Plan::RewriteAppend(Some(2), Some(2)),
+    Plan::CompactTo(3, 3),
+    Plan::RewriteRewrite,
+    Plan::Write(&[Change::Put(2, b"d", &[4; 900])], false),
+    Plan::PurgeStale,
+    Plan::Write(&[Change::Delete(1, b"a")], false),
+    Plan::RewriteAppend(None, None),
+    Plan::Entry(3, 3),
+    Plan::PurgeStale,
+];
+
+/// .. with purges of what the queues need: of the Append queue each time, of the Rewrite queue once most of what was
+/// rewritten is garbage.
+pub const EXPIRED: [Plan; 13] = [
+    Plan::Write(
+        &[
+            Change::Put(1, b"a", &[1; 900]),
+            Change::Put(2, b"c", &[1; 90]),
+        ],
+        false,
+    ),
+    Plan::Write(
+        &[
+            Change::Entries(3, 1, 6, b"x"),
+            Change::Put(2, b"d", &[1; 900]),
+        ],
+        true,
+    ),
+    Plan::Write(&[Change::Put(1, b"b", &[2; 900])], false),
+    Plan::Purge,
+    Plan::Write(
+        &[
+            Change::Put(1, b"a", &[3]),
+            Change::Delete(2, b"d"),
+            Change::Entries(3, 2, 6, b"y"),
+        ],
+        true,
+    ),
+    Plan::Write(&[Change::Put(2, b"c", &[4; 1000])], false),
+    Plan::Purge,
+    Plan::CompactTo(3, 6),
+    Plan::Write(&[Change::Clean(1), Change::Put(1, b"b", &[5; 1000])], false),
+    Plan::Purge,
+    Plan::Write(&[Change::Delete(1, b"b")], false),
+    Plan::Entry(3, 6),
+    Plan::Purge,
+];
+
+/// Entries of one group that are too many for one batch where they are rewritten first.
+pub const REWRITTEN_IN_PARTS: [Plan; 3] = [
+    Plan::Write(&[Change::LongEntries(3, 1, 3, b'x', 66_000)], true),
+    Plan::RewriteAppend(None, None),
+    Plan::RewriteRewrite,
+];

@@ -1,0 +1,110 @@
+//! Two workers that wait for one another.
+
+use crate::stored::{scanned, store_both};
+use raft_config::RecoveryMode;
+use raft_env::FileSystem;
+use raft_memory::MemoryFileSystem;
+use raft_opening::ReplayMachine;
+use raft_queues::RecoveryConfig;
+use raft_records::{Factory, Fault, FileId, LogItem, LogQueue};
+use raft_workers::MergingMachine;
+use std::alloc::Global;
+use std::sync::Arc;
+use std::sync::atomic::{AtomicU64, Ordering};
+use std::test::Fail;
+use std::thread;
+use std::thread::Threads;
+
+/// How often a machine looks for the other one.
+const TURNS: u64 = 10_000_000;
+
+/// Holds its first batch until another machine has begun.
+#[derive(Drop)]
+struct Meeting {
+    begun: Arc<AtomicU64, Global>,
+}
+
+impl ReplayMachine for Meeting {
+    ghost stands_for = { λ queue blocks earlier machine batches. Unit {0} };
+
+    fn replay(&mut self, _items: &mut Vec<LogItem>, _file: FileId) -> Result<(), Fault> {
+        self.begun.fetch_add(1, Ordering::SeqCst);
+        for _ in 0..TURNS {
+            if self.begun.load(Ordering::SeqCst) > 1 {
+                return Ok(());
+            }
+            thread::yield_now();
+        }
+        Err(Fault::Memory)
+    }
+}
+
+impl MergingMachine for Meeting {
+    fn merge(&mut self, _newer: Meeting, _queue: LogQueue) -> Result<(), Fault> {
+        Ok(())
+    }
+}
+
+/// Makes machines that wait for one another.
+#[derive(Drop)]
+struct Meetings {
+    begun: Arc<AtomicU64, Global>,
+}
+
+impl Factory<Meeting> for Meetings {
+    ghost is_new = { λ meeting. Unit {0} };
+
+    fn new_target(&self) -> Result<Meeting, Fault> {
+        Ok(Meeting {
+            begun: Arc::try_clone(&self.begun)?,
+        })
+    }
+}
+
+/// Whether the machines of two Append files meet.
+fn meet<R: Threads + Sync, F: FileSystem + Drop>(
+    rt: &R,
+    alloc: Global,
+    fs: F,
+) -> Result<bool, Fault> {
+    let factory = Meetings {
+        begun: Arc::new(alloc, AtomicU64::new(0))?,
+    };
+    let mut fs = fs;
+    store_both(alloc, &mut fs, 2, 0)?;
+    let mut builder = scanned(alloc, fs, 2)?;
+    let met: Result<(Meeting, Meeting), Fault> = builder.recover(rt, &factory);
+    Ok(met.is_ok())
+}
+
+/// The same where the queue is read by itself, by two workers.
+fn meet_in_queue<R: Threads + Sync, F: FileSystem + Drop>(
+    rt: &R,
+    alloc: Global,
+    fs: F,
+) -> Result<bool, Fault> {
+    let factory = Meetings {
+        begun: Arc::new(alloc, AtomicU64::new(0))?,
+    };
+    let mut fs = fs;
+    store_both(alloc, &mut fs, 2, 0)?;
+    let mut builder = scanned(alloc, fs, 1)?;
+    let recovery = RecoveryConfig {
+        queue: LogQueue::Append,
+        mode: RecoveryMode::TolerateAnyCorruption,
+        concurrency: 2,
+        read_block_size: 512,
+    };
+    let met: Result<Meeting, Fault> = builder.recover_queue(rt, recovery, &factory);
+    Ok(met.is_ok())
+}
+
+#[test]
+fn two_workers_meet(rt: HostRuntime) -> Result<(), Fail> {
+    let alloc = rt.alloc();
+    let met = meet(&rt, alloc, MemoryFileSystem::new(alloc))?;
+    assert!(rt; met, "each machine met the other one");
+    let met = meet_in_queue(&rt, alloc, MemoryFileSystem::new(alloc))?;
+    assert!(rt; met, "each machine of one queue met the other one");
+    Ok(())
+}

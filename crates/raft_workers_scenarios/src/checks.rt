@@ -1,0 +1,152 @@
+//! The holes in the log files of a folder.
+
+use raft_consistency::{consistency_check, consistency_check_with_file_system};
+use raft_env::FileSystem;
+use raft_memory::MemoryFileSystem;
+use raft_rows::store_in;
+use std::alloc::Global;
+use std::test::Fail;
+
+/// That of a file in version 2.
+const HEADER: &[u8] =
+    b"RAFT-LOG-FILE-HEADER-9986AB3E47F320B394C8E84916EB0ED5\0\0\0\0\0\0\0\x02\0\0\0\0\0\0\0\0";
+
+// Records of entries without bytes, by Python's struct and zlib.
+
+/// Entries 1..=3 of group 7, in file 1.
+const ONE_TO_THREE: &[u8] =
+    b"\x00\x00\x00\x00\x00\x00\x1c\x00\x00\x00\x00\x00\x00\x00\x00\x10\x01\x07\x01\x03\x01\x00\x00\x00\x68\x2f\x6f\x58";
+
+/// Entry 6 of group 7, in file 2.
+const SIX: &[u8] =
+    b"\x00\x00\x00\x00\x00\x00\x1a\x00\x00\x00\x00\x00\x00\x00\x00\x10\x01\x07\x01\x01\x06\x00\xc0\x04\x9a\x27";
+
+/// Entries 1 and 4 of group 2, an item each, in file 3.
+const ONE_AND_FOUR: &[u8] =
+    b"\x00\x00\x00\x00\x00\x00\x1f\x00\x00\x00\x00\x00\x00\x00\x00\x10\x02\x02\x01\x01\x01\x00\x02\x01\x01\x04\x00\x4c\x5c\x6a\xed";
+
+/// Entry 4 of group 7, in file 2.
+const FOUR: &[u8] =
+    b"\x00\x00\x00\x00\x00\x00\x1a\x00\x00\x00\x00\x00\x00\x00\x00\x10\x01\x07\x01\x01\x04\x00\x42\x66\xac\x15";
+
+/// Entries 1 and 3 of group 7, an item each, in file 1.
+const ONE_AND_THREE: &[u8] =
+    b"\x00\x00\x00\x00\x00\x00\x1f\x00\x00\x00\x00\x00\x00\x00\x00\x10\x02\x07\x01\x01\x01\x00\x07\x01\x01\x03\x00\xbd\x8e\xe2\x8c";
+
+/// A file's path and its bytes.
+pub(crate) type Stored = (&'static str, &'static [&'static [u8]]);
+
+pub(crate) const APPEND_1: Stored = ("data/0000000000000001.raftlog", &[HEADER, ONE_TO_THREE]);
+
+pub(crate) const APPEND_2: Stored = ("data/0000000000000002.raftlog", &[HEADER, SIX]);
+
+pub(crate) const APPEND_3: Stored = ("data/0000000000000003.raftlog", &[HEADER, ONE_AND_FOUR]);
+
+/// Log files, the folder that is looked through, and the groups with holes in it, or the code
+/// with which that is refused.
+struct Case {
+    name: &'static str,
+    stored: &'static [Stored],
+    path: &'static str,
+    wanted: Result<&'static [(u64, u64)], u8>,
+}
+
+static CASES: [Case; 7] = [
+    Case {
+        name: "two groups have a hole",
+        stored: &[APPEND_1, APPEND_2, APPEND_3],
+        path: "data",
+        wanted: Ok(&[(2, 1), (7, 3)]),
+    },
+    Case {
+        name: "no hole",
+        stored: &[APPEND_1, ("data/0000000000000002.raftlog", &[HEADER, FOUR])],
+        path: "data",
+        wanted: Ok(&[]),
+    },
+    Case {
+        name: "the Rewrite queue's hole comes before the Append queue's",
+        stored: &[
+            APPEND_1,
+            APPEND_2,
+            ("data/0000000000000001.rewrite", &[HEADER, ONE_AND_THREE]),
+        ],
+        path: "data",
+        wanted: Ok(&[(7, 1)]),
+    },
+    Case {
+        name: "a hole behind broken bytes",
+        stored: &[
+            (
+                "data/0000000000000001.raftlog",
+                &[HEADER, ONE_TO_THREE, b"\x07"],
+            ),
+            APPEND_2,
+        ],
+        path: "data",
+        wanted: Ok(&[(7, 3)]),
+    },
+    Case {
+        name: "a file below a missing number is no part of the log",
+        stored: &[APPEND_1, APPEND_3],
+        path: "data",
+        wanted: Ok(&[(2, 1)]),
+    },
+    Case {
+        name: "no log file",
+        stored: &[("data/other", &[HEADER])],
+        path: "data",
+        wanted: Ok(&[]),
+    },
+    Case {
+        name: "no folder",
+        stored: &[APPEND_1],
+        path: "more",
+        wanted: Err(1),
+    },
+];
+
+fn is_as_said<F: FileSystem + Drop>(
+    alloc: Global,
+    mut files: F,
+    case: &Case,
+) -> Result<bool, Fail> {
+    for (path, parts) in case.stored {
+        store_in(&mut files, "data", path, parts)?;
+    }
+    let found = consistency_check_with_file_system(alloc, case.path, files);
+    Ok(match (found, &case.wanted) {
+        (Ok((holes, _files)), Ok(wanted)) => holes.as_slice() == *wanted,
+        (Err((fault, _files)), Err(code)) => fault.code() == *code,
+        _ => false,
+    })
+}
+
+// The same over files in memory.
+fn is_found_in_memory(alloc: Global, case: &Case) -> Result<bool, Fail> {
+    let mut files = MemoryFileSystem::new(alloc);
+    for (path, parts) in case.stored {
+        store_in(&mut files, "data", path, parts)?;
+    }
+    Ok(
+        match (consistency_check(alloc, case.path, files), &case.wanted) {
+            (Ok((holes, _files)), Ok(wanted)) => holes.as_slice() == *wanted,
+            (Err((fault, _files)), Err(code)) => fault.code() == *code,
+            _ => false,
+        },
+    )
+}
+
+#[test]
+fn holes_are_found_in_folders(rt: HostRuntime) -> Result<(), Fail> {
+    for case in &CASES {
+        let files = MemoryFileSystem::new(rt.alloc());
+        assert!(rt; is_as_said(rt.alloc(), files, case)?, "{}", case.name);
+        assert!(rt;
+            is_found_in_memory(rt.alloc(), case)?,
+            "{}, in memory",
+            case.name
+        );
+    }
+    Ok(())
+}

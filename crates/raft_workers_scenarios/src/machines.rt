@@ -1,0 +1,138 @@
+//! The first hole in each group's entries, by one checker and by several that are merged.
+
+use raft_consistency::ConsistencyChecker;
+use raft_records::{EntryIndex, Fault, LogItem, LogItemContent, LogQueue};
+use raft_workers::merge_in_order;
+use std::alloc::{AllocError, Global};
+use std::test::Fail;
+
+/// A group, and the first and the last index of entries.
+type Entries = (u64, u64, u64);
+
+/// Entries in order, and the last index before the first hole of each group with one.
+struct Case {
+    name: &'static str,
+    entries: &'static [Entries],
+    wanted: &'static [(u64, u64)],
+}
+
+static CASES: [Case; 7] = [
+    Case {
+        name: "two holes",
+        entries: &[(1, 1, 3), (1, 5, 6), (1, 9, 9)],
+        wanted: &[(1, 3)],
+    },
+    Case {
+        name: "no hole",
+        entries: &[(1, 1, 3), (1, 4, 6), (1, 7, 7)],
+        wanted: &[],
+    },
+    Case {
+        name: "a hole between the halves comes before one in the newer half",
+        entries: &[(1, 1, 1), (1, 3, 3), (1, 5, 5)],
+        wanted: &[(1, 1)],
+    },
+    Case {
+        name: "a hole in the older half comes before one in the newer half",
+        entries: &[(1, 1, 1), (1, 3, 3), (1, 2, 2), (1, 4, 4)],
+        wanted: &[(1, 1)],
+    },
+    Case {
+        name: "entries that start again leave none",
+        entries: &[(1, 1, 9), (1, 4, 5), (1, 6, 6)],
+        wanted: &[],
+    },
+    Case {
+        name: "two groups",
+        entries: &[(7, 1, 3), (2, 1, 1), (7, 6, 6), (2, 4, 4)],
+        wanted: &[(2, 1), (7, 3)],
+    },
+    Case {
+        name: "the greatest index",
+        entries: &[(1, u64::MAX - 1, u64::MAX - 1), (1, 0, 0)],
+        wanted: &[],
+    },
+];
+
+fn entry(index: u64) -> EntryIndex {
+    EntryIndex {
+        index,
+        entries: None,
+        entry_offset: 0,
+        entry_len: 0,
+        lz4: false,
+    }
+}
+
+fn item(alloc: Global, entries: Entries) -> Result<LogItem, AllocError> {
+    let (group, first, last) = entries;
+    let mut indexes = Vec::new(alloc);
+    indexes.push(entry(first))?;
+    if first < last {
+        indexes.push(entry(last))?;
+    }
+    Ok(LogItem {
+        raft_group_id: group,
+        content: LogItemContent::EntryIndexes(indexes),
+    })
+}
+
+/// A checker that was given these entries, a batch each.
+fn checker(alloc: Global, entries: &[Entries]) -> Result<ConsistencyChecker, AllocError> {
+    let mut checker = ConsistencyChecker::new(alloc);
+    for one in entries {
+        let mut items = Vec::new(alloc);
+        items.push(item(alloc, *one)?)?;
+        checker.take(&items)?;
+    }
+    Ok(checker)
+}
+
+fn are_holes(
+    alloc: Global,
+    checker: ConsistencyChecker,
+    wanted: &[(u64, u64)],
+) -> Result<bool, AllocError> {
+    let holes = checker.finish(alloc)?;
+    let mut equal = holes.len() == wanted.len();
+    for (group, last) in wanted {
+        equal = holes.get(group) == Some(last) && equal;
+    }
+    Ok(equal)
+}
+
+/// A checker for older entries and one for newer ones, merged.
+fn holds_in_halves(
+    alloc: Global,
+    older: &[Entries],
+    newer: &[Entries],
+    wanted: &[(u64, u64)],
+) -> Result<bool, AllocError> {
+    let mut whole = checker(alloc, older)?;
+    whole.join(checker(alloc, newer)?)?;
+    are_holes(alloc, whole, wanted)
+}
+
+/// A machine for each of the entries, merged.
+fn holds_apart(alloc: Global, case: &Case) -> Result<bool, Fault> {
+    let mut machines = Vec::new(alloc);
+    for one in case.entries {
+        machines.push(checker(alloc, &[*one])?)?;
+    }
+    machines.push(ConsistencyChecker::new(alloc))?;
+    let whole = merge_in_order(machines, LogQueue::Append)?;
+    Ok(are_holes(alloc, whole, case.wanted)?)
+}
+
+#[test]
+fn first_hole_of_each_group(rt: HostRuntime) -> Result<(), Fail> {
+    for case in &CASES {
+        for cut in 0..case.entries.len() + 1 {
+            let (older, newer) = case.entries.split_at(cut);
+            let holds = holds_in_halves(rt.alloc(), older, newer, case.wanted)?;
+            assert!(rt; holds, "{}, cut at {}", case.name, cut);
+        }
+        assert!(rt; holds_apart(rt.alloc(), case)?, "{}, one by one", case.name);
+    }
+    Ok(())
+}

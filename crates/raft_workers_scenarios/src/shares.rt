@@ -1,0 +1,89 @@
+//! How many workers read each queue, and how many files each takes.
+
+use raft_workers::{Workers, chunk_len, workers_for};
+use std::test::Fail;
+
+/// Threads and files of both queues, the workers of each, and how many files each of them takes
+/// at most.
+struct Case {
+    threads: usize,
+    files: (usize, usize),
+    workers: (usize, usize),
+    chunks: (usize, usize),
+}
+
+static CASES: [Case; 9] = [
+    Case {
+        threads: 1,
+        files: (5, 0),
+        workers: (1, 1),
+        chunks: (5, 1),
+    },
+    Case {
+        threads: 2,
+        files: (5, 0),
+        workers: (2, 2),
+        chunks: (3, 1),
+    },
+    Case {
+        threads: 8,
+        files: (5, 0),
+        workers: (5, 5),
+        chunks: (1, 1),
+    },
+    Case {
+        threads: 4,
+        files: (6, 2),
+        workers: (3, 1),
+        chunks: (2, 2),
+    },
+    Case {
+        threads: 1,
+        files: (6, 2),
+        workers: (1, 1),
+        chunks: (6, 2),
+    },
+    Case {
+        threads: 4,
+        files: (0, 3),
+        workers: (3, 3),
+        chunks: (1, 1),
+    },
+    Case {
+        threads: 3,
+        files: (1, 9),
+        workers: (1, 2),
+        chunks: (1, 5),
+    },
+    Case {
+        threads: 0,
+        files: (3, 3),
+        workers: (1, 1),
+        chunks: (3, 3),
+    },
+    Case {
+        threads: usize::MAX,
+        files: (2, 2),
+        workers: (2, 2),
+        chunks: (1, 1),
+    },
+];
+
+fn is_as_said(case: &Case) -> bool {
+    let workers = workers_for(case.threads, case.files.0, case.files.1);
+    let wanted = Workers {
+        append: case.workers.0,
+        rewrite: case.workers.1,
+    };
+    workers == wanted
+        && (workers.append == 0 || chunk_len(case.files.0, workers.append) == case.chunks.0)
+        && (workers.rewrite == 0 || chunk_len(case.files.1, workers.rewrite) == case.chunks.1)
+}
+
+#[test]
+fn chunks_for_workers(rt: HostRuntime) -> Result<(), Fail> {
+    for case in &CASES {
+        assert!(rt; is_as_said(case), "{} threads", case.threads);
+    }
+    Ok(())
+}

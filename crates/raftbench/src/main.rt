@@ -1,0 +1,72 @@
+//! Measures the engine over files in memory, or in a folder. Figures that are the same on each run
+//! go to standard output, times to standard error. docs/PERFORMANCE.md has the workloads and what
+//! they showed.
+#![tactic(auto)]
+
+mod blocks;
+mod calls;
+mod disk;
+mod entries;
+mod files;
+mod log;
+mod measure;
+mod openings;
+mod parts;
+mod purges;
+mod shared;
+mod steady;
+mod system;
+mod workload;
+
+use anyhow::{Result, bail};
+use measure::WorkersHost;
+use std::env;
+use system::print_system;
+use workload::{Amount, SMALL, Workload};
+
+fn main(rt: HostRuntime) -> Result<()> {
+    let words = words(&rt)?;
+    print_system(&rt)?;
+    match words.as_slice() {
+        [] => run_all(&rt),
+        [word, folder, rest @ ..] if word.as_str() == "disk" => {
+            disk::run_in(rt, folder.as_str(), amount(rest)?)
+        }
+        [name, rest @ ..] => run_named(&rt, name.as_str(), amount(rest)?),
+    }
+}
+
+// The words after the program's name.
+fn words(rt: &HostRuntime) -> Result<Vec<String>> {
+    let mut words = Vec::new(rt.alloc());
+    for word in env::args(rt)?.skip(1) {
+        words.push(word)?;
+    }
+    Ok(words)
+}
+
+// How many operations, and of how many bytes, where they are asked for.
+fn amount(words: &[String]) -> Result<Amount> {
+    let mut amount = SMALL;
+    if let Some(count) = words.first() {
+        amount.count = count.as_str().parse()?;
+    }
+    if let Some(size) = words.get(1) {
+        amount.size = size.as_str().parse()?;
+    }
+    Ok(amount)
+}
+
+fn run_named<R: WorkersHost>(rt: &R, name: &str, amount: Amount) -> Result<()> {
+    match Workload::named(name) {
+        Some(workload) => workload.run(rt, amount),
+        None => bail!("usage: raftbench [WORKLOAD [COUNT [SIZE]] | disk FOLDER [COUNT [SIZE]]]"),
+    }
+}
+
+fn run_all<R: WorkersHost>(rt: &R) -> Result<()> {
+    for workload in &Workload::ALL {
+        workload.run(rt, SMALL)?;
+    }
+    Ok(())
+}

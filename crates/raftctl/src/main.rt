@@ -1,0 +1,58 @@
+//! Does one command on a log in a folder. `raftctl --help` lists the commands.
+#![tactic(auto)]
+
+use anyhow::Result;
+use clap::Error;
+use raft_command_line::{Request, Verb, parse};
+use raft_commands::{change, look};
+use raft_console::Status;
+use raft_offline::{fork_folder, print_settings, settings_of};
+use std::env;
+use std::process::ExitCode;
+use std::thread::Threads;
+
+fn main(rt: HostRuntime) -> ExitCode {
+    let words = match words(&rt) {
+        Ok(words) => words,
+        Err(error) => return failed(&rt, &error),
+    };
+    match parse(rt.alloc(), words.as_slice()) {
+        Ok(request) => match run(rt, &rt, request) {
+            Ok(status) => ExitCode::from(status.code()),
+            Err(error) => failed(&rt, &error),
+        },
+        Err(error) => misused(&rt, &error),
+    }
+}
+
+fn words(rt: &HostRuntime) -> Result<Vec<String>> {
+    let mut words = Vec::new(rt.alloc());
+    for word in env::args(rt)? {
+        words.push(word)?;
+    }
+    Ok(words)
+}
+
+fn failed(rt: &HostRuntime, error: &anyhow::Error) -> ExitCode {
+    let _ = eprintln!(rt; "raftctl: {error}");
+    ExitCode::FAILURE
+}
+
+// Help is asked for in the same way, and prints with status 0.
+fn misused(rt: &HostRuntime, error: &Error) -> ExitCode {
+    match error.print(rt) {
+        Ok(()) => ExitCode::from(error.exit_code() as u8),
+        Err(_) => ExitCode::FAILURE,
+    }
+}
+
+fn run<R: Threads + Sync>(rt: HostRuntime, threads: &R, request: Request<'_>) -> Result<Status> {
+    let settings = settings_of(&rt, request.folder, request.options.settings)?;
+    let request = request.over(&settings);
+    match &request.verb {
+        Verb::Look(what) => look(rt, threads, &request, *what),
+        Verb::Settings => print_settings(&rt, &request.options),
+        Verb::Fork(target) => fork_folder(rt, &request, target),
+        _ => change(rt, threads, &request),
+    }
+}

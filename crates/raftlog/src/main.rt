@@ -1,0 +1,21 @@
+//! Reads lines on standard input, does what each asks for over a log in memory, and prints the answers.
+#![tactic(auto)]
+
+use raft_lines::{Ended, serve};
+use std::io;
+use std::process::ExitCode;
+
+fn main(rt: HostRuntime) -> ExitCode {
+    match serve(rt.alloc(), rt.reader(), io::writer(&rt)) {
+        Ended::Done => ExitCode::SUCCESS,
+        Ended::BadLine(number) => {
+            let _ = eprintln!(rt; "raftlog: line {number}: bad line");
+            ExitCode::from(2)
+        }
+        Ended::Input => {
+            let _ = eprintln!(rt; "raftlog: input");
+            ExitCode::from(1)
+        }
+        Ended::Output | Ended::Opening => ExitCode::from(1),
+    }
+}

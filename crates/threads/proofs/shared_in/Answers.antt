@@ -1,0 +1,15 @@
+use denote.Param.Send.{sendable}
+use Rattle.raft_memory.proofs.Sent.{memory_send, memory_sync}
+use Rattle.threads.proofs.shared_in.Goals as goal
+
+pub open_in_order-requires-send-F : goal.open_in_order-requires-send-F
+open_in_order-requires-send-F c κs = search (sendable, memory_send) depth 20
+
+pub open_in_order-requires-sync-F : goal.open_in_order-requires-sync-F
+open_in_order-requires-sync-F c κs = search (sendable, memory_sync) depth 20
+
+pub new-requires-send-F : goal.new-requires-send-F
+new-requires-send-F c κs = search (sendable, memory_send) depth 20
+
+pub new-requires-sync-F : goal.new-requires-sync-F
+new-requires-sync-F c κs = search (sendable, memory_sync) depth 20
