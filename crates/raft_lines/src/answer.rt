@@ -132,5 +132,6 @@ fn fault_name(fault: &Fault) -> &'static str {
         Fault::NotRecovered => "not-recovered",
         Fault::TrailFull => "trail-full",
         Fault::Layer => "layer",
+        Fault::StaleNumber => "stale-number",
     }
 }

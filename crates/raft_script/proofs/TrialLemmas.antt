@@ -250,3 +250,4 @@ choices_refused n choices fault.FileOutOfRange may_leave refuses told = absurd r
 choices_refused n choices fault.NotRecovered may_leave refuses told = absurd refuses
 choices_refused n choices fault.TrailFull may_leave refuses told = absurd refuses
 choices_refused n choices fault.Layer may_leave refuses told = absurd refuses
+choices_refused n choices fault.StaleNumber may_leave refuses told = absurd refuses

@@ -128,5 +128,6 @@ fn without_path(alloc: Global, fault: &Fault) -> Fault
         Fault::NotRecovered => Fault::NotRecovered,
         Fault::TrailFull => Fault::TrailFull,
         Fault::Layer => Fault::Layer,
+        Fault::StaleNumber => Fault::StaleNumber,
     }
 }
