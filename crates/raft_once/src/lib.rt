@@ -1,0 +1,2 @@
+//! Writes that act once: the number that each group keeps.
+#![tactic(auto)]
