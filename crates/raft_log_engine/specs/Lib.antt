@@ -16,5 +16,6 @@ pub mod PurgeCalls
 pub mod Recovery
 pub mod Write
 pub mod Image
+pub mod Hidden
 pub mod Reads
 pub mod Scan
