@@ -76,6 +76,9 @@ fn is_same_call(a: &Call, b: &Call) -> bool
         (Call::Write(batch, sync), Call::Write(other, other_sync)) => {
             sync == other_sync && batch.has_items_of(other)
         }
+        (Call::WriteOnce(batch, pairs, sync), Call::WriteOnce(other, other_pairs, other_sync)) => {
+            sync == other_sync && pairs == other_pairs && batch.has_items_of(other)
+        }
         (Call::Sync, Call::Sync) => true,
         (Call::Get(group, key), Call::Get(other, other_key)) => group == other && key == other_key,
         (Call::First(group), Call::First(other)) => group == other,
