@@ -10,6 +10,7 @@ pub mod Group
 pub mod Durability
 pub mod Advance
 pub mod Need
+pub mod Once
 pub mod Opening
 pub mod Purge
 pub mod PurgeCalls
