@@ -11,7 +11,7 @@ use Rattle.raft_records.specs.Item.{Batch}
 use Rattle.raft_records.specs.Validity.{IsValidBatch, batch_refusal}
 use Rattle.raft_log_engine.specs.Advance.{Advances, state_of}
 use Rattle.raft_log_engine.specs.Calls.{IsWrite}
-use Rattle.raft_log_engine.specs.Durability.{ChangesNothing, StaysFailed, accepted_by, covered_by}
+use Rattle.raft_log_engine.specs.Durability.{StaysFailed, accepted_by, covered_by}
 use Rattle.raft_log_engine.specs.Engine.{contents_of, has_failed}
 use Rattle.raft_log_engine.specs.declared.engine.Engine.{Engine}
 
@@ -45,7 +45,7 @@ module _ {F H R W : Type 0} {g : Ghosts F H R W} where
       : Type 0 where
     pub unfit : are_unfit pairs ≡ true
     pub refused : IsErrAnd result (λ e. fault_code e ≡ 1)
-    pub nothing : ChangesNothing old new
+    pub same : new ≡ old
 
   -- none is greater than the one that its group keeps: it is answered as a write without items
   pub record IsOldOnce (pairs : List Pair) (sync : Bool) (old new : Engine F H R W g)
@@ -61,7 +61,7 @@ module _ {F H R W : Type 0} {g : Ghosts F H R W} where
     pub not_old : are_old (contents_of old) pairs ≡ false
     pub not_new : are_new (contents_of old) pairs ≡ false
     pub refused : result ≡ Err fault.StaleNumber
-    pub nothing : ChangesNothing old new
+    pub same : new ≡ old
 
   -- each is, and the batch is refused before any of it is written
   pub record IsRefusedOnce (items : Batch) (pairs : List Pair) (old new : Engine F H R W g)
@@ -69,7 +69,7 @@ module _ {F H R W : Type 0} {g : Ghosts F H R W} where
     pub fit : are_unfit pairs ≡ false
     pub numbers : are_new (contents_of old) pairs ≡ true
     pub cause : IsErrAnd result (IsOnceRefusal (contents_of old) items)
-    pub nothing : ChangesNothing old new
+    pub same : new ≡ old
 
   -- each is, and a copy of the batch is written with the numbers behind its items
   pub record IsActingOnce (items : Batch) (pairs : List Pair) (sync : Bool)
