@@ -7,8 +7,11 @@ use Rattle.raft_base.specs.declared.errors.Fault.TheVariants as fault
 use Rattle.raft_records.specs.Item.{Batch}
 use Rattle.raft_once.specs.Numbers.{has_numbers, meets_number, shown}
 use Rattle.raft_env.specs.declared.env.FileSystem.{Ghosts}
+use Rattle.raft_held.specs.Crash.{pending_of, written_batch}
+use Rattle.raft_log_engine.specs.Advance.{Advances, state_of}
 use Rattle.raft_log_engine.specs.Calls.{IsWrite}
-use Rattle.raft_log_engine.specs.Durability.{ChangesNothing}
+use Rattle.raft_log_engine.specs.Cause.{plain_part}
+use Rattle.raft_log_engine.specs.Durability.{ChangesNothing, accepted_by, covered_by}
 use Rattle.raft_log_engine.specs.Engine.{contents_of, has_failed}
 use Rattle.raft_log_engine.specs.declared.engine.Engine.{Engine}
 
@@ -20,6 +23,9 @@ module _ {F H R W : Type 0} {g : Ghosts F H R W} where
     pub taken : OnOk result (has_numbers items ≡ false)
     pub reserved : has_failed old ≡ false → meets_number (contents_of old) items ≡ true
         → IsErrAnd result (λ e. fault_code e ≡ 1) × ChangesNothing old new
+    pub plain : let part = plain_part items in
+        Advances (accepted_by result (written_batch part)) (covered_by result sync)
+        (pending_of (contents_of old) part) (state_of old) (state_of new)
 
   -- `get`
   pub record IsGet (group : ℕ) (key : List ℕ) (engine : Engine F H R W g)
