@@ -22,6 +22,7 @@ use Rattle.raft_log_engine.specs.Image.{IsImageOf}
 use Rattle.raft_log_engine.specs.declared.engine.image.Image.{Image}
 use Rattle.raft_script.specs.Durability.{IsStep, LeavesAllowedAfter, Steps}
 use Rattle.raft_script.specs.Headline.{RunState, progress_from}
+use Rattle.raft_script.specs.Numbers.{HaveActed}
 use Rattle.raft_held.specs.Queues.{AreDetectableIn, AreSingleIn, AreSoundIn, HaveDamageIn, HaveSimplePastIn, IsOpeningRefusal}
 use Rattle.raft_script.specs.Failure.{IsStorageOrMemory, io_count, is_io}
 use Rattle.raft_pipes.specs.Folder.{AreClear, IsLogPath, IsReservedPath}
@@ -64,6 +65,7 @@ pub record AreAnswered (folders : Folders) (m : Contents) (known : ℕ → Bool)
   pub moments : now.moments ≡ new.moments
   pub steps : Steps (λ (s : RunState). s.failed) (IsStep folders m known) m (progress_from [])
       before ops ran.outcomes ran.failed_at now
+  pub numbers : HaveActed m m [] ops ran.outcomes
   -- storage counted at least as many failed calls as answered `Io`
   pub counted : RoseBy (io_count ran.outcomes) no_refusals new.refusals
 
