@@ -8,6 +8,8 @@ mod recycling;
 #[cfg(test)]
 mod refusals;
 #[cfg(test)]
+mod reopened;
+#[cfg(test)]
 mod sittings;
 #[cfg(test)]
 mod sweep;
