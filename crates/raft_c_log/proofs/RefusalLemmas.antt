@@ -9,7 +9,7 @@ use Rattle.raft_env.specs.Refusal.{FailsCountedAt}
 use Rattle.raft_env.specs.declared.env.FileSystem.{Ghosts}
 use Rattle.raft_held.specs.Crash.{LeavesAllowed, RecoversContents, pending_of}
 use Rattle.raft_log_engine.specs.Advance.{Advances, ChangesOnlyItsLog, StaysWithin, state_of}
-use Rattle.raft_log_engine.specs.Cause.{IsWriteRefusal}
+use Rattle.raft_log_engine.specs.Cause.{IsWriteRefusal, plain_part}
 use Rattle.raft_log_engine.specs.Durability.{HasOnlyRead}
 use Rattle.raft_log_engine.specs.Engine.{contents_of, directory_of, durable_of, folders_of, has_failed, queue_of, refusals_of, unsynced_of}
 use Rattle.raft_log_engine.specs.declared.engine.Engine.{Engine}
@@ -82,7 +82,7 @@ module _ {F H R W : Type 0} {g : Ghosts F H R W} where
   keeps_advance advance = record { any_moment = advance.any_moment; others = advance.log.others }
 
   -- .. that writes the batch of some bytes
-  pub keeps_written : {a : List Batch} {c : Bool} {old mid new : Engine F H R W g} {taken : Option Batch} {items : Batch} → new ≡ mid → taken ≡ Some items → Advances a c (pending_of (contents_of old) items) (state_of old) (state_of mid) → KeepsLog (pending_in (contents_of old) taken) old new
+  pub keeps_written : {a : List Batch} {c : Bool} {old mid new : Engine F H R W g} {taken : Option Batch} {items : Batch} → new ≡ mid → taken ≡ Some items → Advances a c (pending_of (contents_of old) (plain_part items)) (state_of old) (state_of mid) → KeepsLog (pending_in (contents_of old) taken) old new
   keeps_written {old} {mid} {new} {taken} same is advance =
       subst (λ (e : Engine F H R W g). KeepsLog (pending_in (contents_of old) taken) old e) (sym same)
       (subst (λ (t : Option Batch). KeepsLog (pending_in (contents_of old) t) old mid) (sym is) (keeps_advance advance))

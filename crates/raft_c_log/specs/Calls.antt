@@ -9,6 +9,7 @@ use Rattle.raft_purge.specs.Scope.{HasRewritten}
 use Rattle.raft_purge.specs.declared.append_queue.AppendScope.{AppendScope}
 use Rattle.raft_records.specs.Contents.{Contents, after_batch, first_index_of, last_index_of}
 use Rattle.raft_records.specs.Item.{Batch, Entry}
+use Rattle.raft_once.specs.Numbers.{has_numbers, shown}
 use Rattle.raft_c_batch.specs.Batch.{entries_bytes, read_batch}
 use Rattle.raft_c_batch.specs.Parts.{numbers_bytes, pairs_bytes}
 use Rattle.raft_log_engine.specs.Advance.{Advances, state_of}
@@ -75,6 +76,7 @@ module _ {F H R W : Type 0} {g : Ghosts F H R W} where
   pub record IsWrittenBy (bytes : List ℕ) (sync : Bool) (old new : Engine F H R W g) : Type 0 where
     pub items : Batch
     pub read : read_batch bytes ≡ Some items
+    pub plain : has_numbers items ≡ false
     pub len : ℕ
     pub written : HasWritten items [] old new len
     pub advance : Advances (written_batch items) sync (pending_of (contents_of old) items)
@@ -143,13 +145,13 @@ module _ {F H R W : Type 0} {g : Ghosts F H R W} where
   -- what a query answers, and whether that is there
   abbrev pub HasAnswered : Query → Engine F H R W g → Answer → Bool → Type 0
   HasAnswered (query.Get group key) e answer found =
-      answered found answer.bytes.items ≡ (contents_of e).value group key.now
+      answered found answer.bytes.items ≡ (shown (contents_of e)).value group key.now
   HasAnswered (query.Entry group index) e answer found = answered found answer.bytes.items
       ≡ option_map (drop 8) (entry_of (contents_of e) group index)
   HasAnswered (query.Fetch fetch) e answer found =
       (found ≡ true) × IsFetchAnswer fetch (contents_of e) answer.bytes.items
   HasAnswered (query.Scan scan) e answer found =
-      (found ≡ true) × IsScanAnswer scan (contents_of e) answer.bytes.items
+      (found ≡ true) × IsScanAnswer scan (shown (contents_of e)) answer.bytes.items
   HasAnswered query.Groups e answer found =
       (found ≡ true) × IsGroupsAnswer e answer.bytes.items
   HasAnswered (query.Span group) e answer found =

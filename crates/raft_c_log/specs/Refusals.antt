@@ -14,7 +14,7 @@ use Rattle.raft_c_batch.specs.Batch.{IsBatchRefusal, index_in, read_batch}
 use Rattle.raft_c_batch.specs.declared.batch.BatchFault.TheVariants.{Refused}
 use Rattle.raft_c_batch.specs.declared.entry.Entry.{Entry as StoredEntry}
 use Rattle.raft_log_engine.specs.Advance.{StaysWithin, state_of}
-use Rattle.raft_log_engine.specs.Cause.{IsAppendRefusal, IsWriteRefusal}
+use Rattle.raft_log_engine.specs.Cause.{IsAppendRefusal, IsWriteRefusal, plain_part}
 use Rattle.raft_log_engine.specs.Engine.{contents_of, directory_of, durable_of, folders_of, has_failed, queue_of, refusals_of, rewrite_queue_of, unsynced_of}
 use Rattle.raft_log_engine.specs.Purge.{HasLastId, HasOpenGroup, IsPurgeFault}
 use Rattle.raft_log_engine.specs.Reads.{IsEntryRefusalAt, IsFetchFault, compact_batch, entry_of}
@@ -32,10 +32,11 @@ IsRefusalFor failed cause e =
 
 -- Changes.
 
--- what a crash may find written of bytes: of those of no batch nothing
+-- what a crash may find written of bytes: of those of no batch nothing, and of one that changes a
+-- group's number neither
 abbrev pub pending_in : Contents → Option Batch → List Batch
 pending_in m None = []
-pending_in m (Some items) = pending_of m items
+pending_in m (Some items) = pending_of m (plain_part items)
 
 -- .. and of a change
 abbrev pub flight_of : Change → Contents → List Batch

@@ -77,6 +77,7 @@ impl<F: FileSystem> OpenLog<F> {
     ghost use Rattle.raft_log_engine.specs.Engine.{contents_of, has_failed, is_known_in};
     ghost use Rattle.raft_log_engine.specs.Reads.{compact_batch, entry_of};
     ghost use Rattle.raft_held.specs.Crash.{pending_of};
+    ghost use Rattle.raft_once.specs.Numbers.{shown};
     ghost use Rattle.raft_c_log.specs.Calls.{HasAnswered, HasChanged, HasPurgedStale, HasPurgedUpTo, HasRewrittenAppend, HasRewrittenRewrite, IsCompacted, IsFetchAnswer, IsGroupsAnswer, IsScanAnswer, IsSpanAnswer, IsSynced, IsWrittenBy, answered};
     ghost use Rattle.raft_c_log.specs.Outcomes.{HasEnded, IsReply};
     ghost use Rattle.raft_c_log.specs.Refusals.{IsChangeFault, IsQueryFault, IsPurgeRefused, IsRefusalFor, IsWriteFault, KeepsLog, flight_of, pending_in};
@@ -256,7 +257,7 @@ impl<F: FileSystem> OpenLog<F> {
     #[tactic(auto, using(crate::proofs::RefusalLemmas::for_memory))]
     fn get(&self, group: u64, key: &[u8], answer: &mut Answer) -> Result<bool, Fault>
         ensures value { IfOk result (λ found. answered found answer.new.bytes.items
-            ≡ (contents_of self.now.engine).value group key.now) }
+            ≡ (shown (contents_of self.now.engine)).value group key.now) }
         ensures cause { IfErr result (IsRefusalFor (has_failed self.now.engine)
             (λ e. e ≡ Memory)) }
     {
@@ -308,7 +309,7 @@ impl<F: FileSystem> OpenLog<F> {
     }
 
     fn scan(&self, scan: Scan<'_>, answer: &mut Answer) -> Result<bool, Fault>
-        ensures value { OnOk result (IsScanAnswer scan.entry (contents_of self.now.engine)
+        ensures value { OnOk result (IsScanAnswer scan.entry (shown (contents_of self.now.engine))
             answer.new.bytes.items) }
         ensures ok { IfOk result (λ found. found ≡ true) }
         ensures cause { IfErr result (IsRefusalFor (has_failed self.now.engine)
