@@ -11,7 +11,9 @@ use Rattle.raft_entry_blocks.specs.Reader.{blocks_of}
 use Rattle.raft_log_engine.proofs.engine.image.group_image.Goals as goal
 
 pub returns-in_default-clause-value : goal.returns-in_default-clause-value
-returns-in_default-clause-value g c = c.in_default.ensures.none (blocks_of c.args.reader.now)
+returns-in_default-clause-value g c =
+    let blocks = blocks_of c.args.reader.now in
+    shown_without (contents_in blocks (tables_of c.args.tables.now)) c.args.group (c.in_default.ensures.none blocks)
 
 pub group_entries-requires-clause-readable : goal.group_entries-requires-clause-readable
 group_entries-requires-clause-readable g c = λ lifetimes order blocks has.
