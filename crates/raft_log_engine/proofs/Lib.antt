@@ -24,6 +24,7 @@ pub mod IndexedLemmas
 pub mod FaultLemmas
 pub mod NumberedLemmas
 pub mod HiddenLemmas
+pub mod OnceLemmas
 pub mod ImageLemmas
 pub mod FetchLemmas
 pub mod ScanLemmas
