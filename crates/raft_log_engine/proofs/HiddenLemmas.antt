@@ -15,21 +15,21 @@ use Rattle.raft_tables.specs.Listing.{IsListing, is_between, value_between}
 use Rattle.raft_log_engine.specs.Hidden.{without_number}
 use Rattle.raft_log_engine.specs.Image.{IsWithout}
 
+map_either : {X Y : Type 0} (f : X → Y) (b : Bool) (x : X) (xs : List X) (ys : List Y) → map f xs ≡ ys → map f (cond b (x ∷ xs) xs) ≡ cond b (f x ∷ ys) ys
+map_either f true x xs ys same = ap (λ l. f x ∷ l) same
+map_either f false x xs ys same = same
+
 pub map-filter : {X Y : Type 0} (f : X → Y) (test : Y → Bool) (xs : List X) → map f (filter (λ x. test (f x)) xs) ≡ filter test (map f xs)
 map-filter f test [] = refl
-map-filter {X} {Y} f test (x ∷ xs) = one (test (f x))
-  where
-    one : (b : Bool) → map f (cond b (x ∷ filter (λ y. test (f y)) xs) (filter (λ y. test (f y)) xs)) ≡ cond b (f x ∷ filter test (map f xs)) (filter test (map f xs))
-    one true = ap (λ ys. f x ∷ ys) (map-filter f test xs)
-    one false = map-filter f test xs
+map-filter f test (x ∷ xs) = map_either f (test (f x)) x (filter (λ y. test (f y)) xs) (filter test (map f xs)) (map-filter f test xs)
+
+keys_either : (b : Bool) (p : List ℕ × List ℕ) (ps : List (List ℕ × List ℕ)) (ks : List (List ℕ)) → keys_of ps ≡ ks → keys_of (cond b (p ∷ ps) ps) ≡ cond b (p.0 ∷ ks) ks
+keys_either true p ps ks same = ap (λ l. p.0 ∷ l) same
+keys_either false p ps ks same = same
 
 keys_left : (test : List ℕ → Bool) (pairs : List (List ℕ × List ℕ)) → keys_of (filter (λ p. test p.0) pairs) ≡ filter test (keys_of pairs)
 keys_left test [] = refl
-keys_left test (p ∷ ps) = one (test p.0)
-  where
-    one : (b : Bool) → keys_of (cond b (p ∷ filter (λ q. test q.0) ps) (filter (λ q. test q.0) ps)) ≡ cond b (p.0 ∷ filter test (keys_of ps)) (filter test (keys_of ps))
-    one true = ap (λ ks. p.0 ∷ ks) (keys_left test ps)
-    one false = keys_left test ps
+keys_left test (p ∷ ps) = keys_either (test p.0) p (filter (λ q. test q.0) ps) (filter test (keys_of ps)) (keys_left test ps)
 
 not_hidden : (b : Bool) (value : Option (List ℕ)) → cond (not b) value None ≡ cond b None value
 not_hidden true value = refl
