@@ -29,12 +29,13 @@ written-append : (acts more : List Act) → are_written (acts ++ more) ≡ are_w
 written-append [] more = refl
 written-append (act ∷ acts) more = ap (λ (l : List Batch). written_of act ∷ l) (written-append acts more)
 
-written-take : (count : ℕ) (acts : List Act) → take count (are_written acts) ≡ are_written (take count acts)
+pub written-take : (count : ℕ) (acts : List Act) → take count (are_written acts) ≡ are_written (take count acts)
 written-take zero acts = refl
 written-take (suc count) [] = refl
 written-take (suc count) (act ∷ acts) = ap (λ (l : List Batch). written_of act ∷ l) (written-take count acts)
 
-all-append : (m : Contents) (acts more : List Act) → MayAllAct m acts → MayAllAct (after_batches m (are_written acts)) more → MayAllAct m (acts ++ more)
+-- acts may act behind others that may, where they may at what those leave
+pub all-append : (m : Contents) (acts more : List Act) → MayAllAct m acts → MayAllAct (after_batches m (are_written acts)) more → MayAllAct m (acts ++ more)
 all-append m [] more may later = later
 all-append m (act ∷ acts) more may later = (may.0, all-append (after_batch m (written_of act)) acts more may.1 later)
 
@@ -43,10 +44,6 @@ pub all-take : (m : Contents) (acts : List Act) (count : ℕ) → MayAllAct m ac
 all-take m acts zero may = tt
 all-take m [] (suc count) may = tt
 all-take m (act ∷ acts) (suc count) may = (may.0, all-take (after_batch m (written_of act)) acts count may.1)
-
--- .. and so may acts behind the first ones that may at what these left
-pub all-joined : (m : Contents) (acts later : List Act) (count : ℕ) → MayAllAct m acts → MayAllAct (after_batches m (take count (are_written acts))) later → MayAllAct m (take count acts ++ later)
-all-joined m acts later count may more = all-append m (take count acts) later (all-take m acts count may) (subst (λ (l : List Batch). MayAllAct (after_batches m l) later) (written-take count acts) more)
 
 -- Batches without numbers.
 
