@@ -11,6 +11,7 @@ use Rattle.raft_env.specs.declared.env.FileSystem.{Ghosts}
 use Rattle.raft_held.specs.Crash.{pending_of, written_batch}
 use Rattle.raft_once.specs.History.{are_numbers}
 use Rattle.raft_once.specs.Numbers.{Pair, are_new, are_old, are_unfit, has_numbers, meets_number, numbered}
+use Rattle.raft_once.proofs.BatchLemmas.{numbered_refusal}
 use Rattle.raft_pipes.specs.PipeState.{HasLastNumber}
 use Rattle.raft_pipes.specs.Queue.{NamesLog}
 use Rattle.raft_records.specs.Contents.{Contents, after_batches}
@@ -36,10 +37,6 @@ use Rattle.raft_script.proofs.DurabilityLemmas.{alone, progress_alone}
 use Rattle.raft_script.proofs.RefusalLemmas.{write_rose}
 use Rattle.raft_script.proofs.RunLemmas.{of_built, same_err}
 use Rattle.raft_script.proofs.StepsLemmas.{in_flight}
-
--- TEMPORARY
-numbered_refusal : (m : Contents) (items : Batch) (pairs : List Pair) → batch_refusal m (numbered items pairs) ≡ batch_refusal m items
-numbered_refusal m items pairs = ?
 
 -- A write.
 
