@@ -81,8 +81,8 @@ plain_meets_none m (item ∷ items) plain =
 
 -- the place is one further on, or this one
 later_place : (b : Bool) (o : Option ℕ) (place : ℕ) → b ≡ false → cond b (Some 0) (option_map (λ n. n + 1) o) ≡ Some place → (n : ℕ) × (o ≡ Some n) × (place ≡ suc n)
-later_place b None place no is = let none = rw no at is in absurd (cc)
-later_place b (Some n) place no is = let some : Some (n + 1) ≡ Some place = rw no at is in (n, refl, sym (same_place some) ∙ one_more n)
+later_place b None place off is = let none = rw off at is in absurd (cc)
+later_place b (Some n) place off is = let some : Some (n + 1) ≡ Some place = rw off at is in (n, refl, sym (same_place some) ∙ one_more n)
   where
     same_place : {x y : ℕ} → Some x ≡ Some y → x ≡ y
     same_place e = cc
@@ -91,7 +91,7 @@ later_place b (Some n) place no is = let some : Some (n + 1) ≡ Some place = rw
     one_more n = omega arith
 
 this_place : (b : Bool) (o : Option ℕ) (place : ℕ) → b ≡ true → cond b (Some 0) (option_map (λ n. n + 1) o) ≡ Some place → place ≡ 0
-this_place b o place yes is = let zero_is : Some 0 ≡ Some place = rw yes at is in cc
+this_place b o place on is = let zero_is : Some 0 ≡ Some place = rw on at is in cc
 
 meets_first : (m : Contents) (item : Item) (items : Batch) → changes_number item.content ≡ true → meets_number m (item ∷ items) ≡ true
 meets_first m item items number = rw number refl

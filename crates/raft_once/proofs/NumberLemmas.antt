@@ -35,19 +35,19 @@ other_key : (key : List ℕ) → is_number_key key ≡ false → bytes_eq number
 other_key key other = false_from_ne_true (bytes_eq number_key key) (λ same. at ((bytes_eq-Decides number_key key).0 same))
   where
     at : number_key ≡ key → ⊥
-    at e = let yes = (bytes_eq-Decides key number_key).1 (sym e) in cc
+    at e = let here = (bytes_eq-Decides key number_key).1 (sym e) in cc
 
 no_pick : {X : Type 0} (a b : Bool) (x y : X) → b ≡ false → cond (a && b) x y ≡ y
-no_pick true b x y no = rw no refl
-no_pick false b x y no = refl
+no_pick true b x y off = rw off refl
+no_pick false b x y off = refl
 
 content_keeps : (m : Contents) (group g : ℕ) (c : Content) → changes_number c ≡ false → (nat_eq g group && is_clean c) ≡ false → (after_content group c m).value g number_key ≡ m.value g number_key
 content_keeps m group g (Entries es) plain kept = refl
 content_keeps m group g Clean plain kept = at (nat_eq g group) kept
   where
     at : (b : Bool) → (b && true) ≡ false → cond b None (m.value g number_key) ≡ m.value g number_key
-    at true no = absurd cc
-    at false no = refl
+    at true off = absurd cc
+    at false off = refl
 content_keeps m group g (Compact index) plain kept = refl
 content_keeps m group g (Put key value) plain kept = at (bytes_eq key group_mark_key)
   where

@@ -21,7 +21,10 @@ fn add(alloc: Global, batch: &mut LogBatch, part: &Part) -> Result<(), Fault> {
     match part {
         Part::Entry(group, index) => add_entry(alloc, batch, *group, *index),
         Part::Clean(group) => batch.add_command(*group, Command::Clean),
-        Part::Compact(group, index) => batch.add_command(*group, Command::Compact { index: *index }),
+        Part::Compact(group, index) => batch.add_command(
+            *group,
+            Command::Compact { index: *index },
+        ),
         Part::Put(group, key, value) => {
             batch.put(*group, key.to_vec(alloc)?, value.to_vec(alloc)?)
         }
@@ -58,11 +61,40 @@ static PLACES: [Place; 9] = [
     Place(&[Part::Put(1, b"\xffonce", b"")], Some(0)),
     Place(&[Part::Delete(1, b"\xffonce")], Some(0)),
     Place(&[Part::Clean(1), Part::Delete(2, b"\xffonce")], Some(1)),
-    Place(&[Part::Entry(1, 5), Part::Put(1, b"k", b"\xffonce"), Part::Put(1, b"\xffonce", b"v")], Some(2)),
-    Place(&[Part::Put(1, b"\xffonce", b"v"), Part::Put(2, b"\xffonce", b"v")], Some(0)),
-    Place(&[Part::Put(1, b"\xffonce1", b"v"), Part::Delete(1, b"\xffonc")], None),
-    Place(&[Part::Clean(1), Part::Compact(2, 3), Part::Entry(3, 4)], None),
-    Place(&[Part::Compact(2, 3), Part::Put(2, b"once", b"v"), Part::Delete(2, b"")], None),
+    Place(
+        &[
+            Part::Entry(1, 5),
+            Part::Put(1, b"k", b"\xffonce"),
+            Part::Put(1, b"\xffonce", b"v"),
+        ],
+        Some(2),
+    ),
+    Place(
+        &[
+            Part::Put(1, b"\xffonce", b"v"),
+            Part::Put(2, b"\xffonce", b"v"),
+        ],
+        Some(0),
+    ),
+    Place(
+        &[
+            Part::Put(1, b"\xffonce1", b"v"),
+            Part::Delete(1, b"\xffonc"),
+        ],
+        None,
+    ),
+    Place(
+        &[Part::Clean(1), Part::Compact(2, 3), Part::Entry(3, 4)],
+        None,
+    ),
+    Place(
+        &[
+            Part::Compact(2, 3),
+            Part::Put(2, b"once", b"v"),
+            Part::Delete(2, b""),
+        ],
+        None,
+    ),
 ];
 
 impl Row for Place {
@@ -85,7 +117,11 @@ struct Numbered(&'static [Part], &'static [(u64, u64)], &'static [Part]);
 
 static NUMBERED: [Numbered; 4] = [
     Numbered(&[], &[], &[]),
-    Numbered(&[], &[(7, 5)], &[Part::Put(7, b"\xffonce", b"\0\0\0\0\0\0\0\x05")]),
+    Numbered(
+        &[],
+        &[(7, 5)],
+        &[Part::Put(7, b"\xffonce", b"\0\0\0\0\0\0\0\x05")],
+    ),
     Numbered(&[Part::Clean(1)], &[], &[Part::Clean(1)]),
     Numbered(
         &[Part::Put(1, b"k", b"v"), Part::Clean(2)],
