@@ -3,4 +3,5 @@ pub mod CallLemmas
 pub mod OnceLemmas
 pub mod SharedLemmas
 pub mod SettledLemmas
+pub mod PairLemmas
 pub mod Crossing

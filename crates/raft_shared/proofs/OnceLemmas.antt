@@ -93,14 +93,18 @@ module _ {F H R W : Type 0} {g : Ghosts F H R W} where
     where
       Legal : Bool → Bool → Bool → Type 0
       Legal unfit late fresh = IsOnceAnswer unfit late fresh (contents_of old) ended items pairs (Size (answer_by (λ n. n) result)) (has_failed new)
+
       at : (unfit late fresh : Bool) → are_unfit pairs ≡ unfit → are_old (contents_of old) pairs ≡ late → are_new (contents_of old) pairs ≡ fresh → Legal unfit late fresh → Legal (are_unfit pairs) (are_old (contents_of old) pairs) (are_new (contents_of old) pairs)
       at = answer_at (contents_of old) ended items pairs (Size (answer_by (λ n. n) result)) (has_failed new)
+
       stands : new ≡ old → has_failed new ≡ false
       stands same = ap has_failed same ∙ is
+
       refused_by : (r : Result ℕ Fault) → has_failed new ≡ false → IsErrAnd r (IsOnceRefusal (contents_of old) items)
           → IsCallersAnswer (meets_number (contents_of old) items) (contents_of old) ended (numbered items pairs) (Size (answer_by (λ n. n) r)) (has_failed new)
       refused_by (Ok size) fails cause = absurd cause
       refused_by (Err e) fails cause = (refused_as (contents_of old) ended items pairs (has_failed new) e fails cause).0
+
       by : IsUnfitOnce pairs old new result ⊎ IsOldOnce pairs sync old new result ⊎ IsStaleOnce pairs old new result ⊎ IsRefusedOnce items pairs old new result ⊎ IsActingOnce items pairs sync old new result
           → Legal (are_unfit pairs) (are_old (contents_of old) pairs) (are_new (contents_of old) pairs)
       by (inl u) = at true (are_old (contents_of old) pairs) (are_new (contents_of old) pairs) u.unfit refl refl (refused_invalid result u.refused, stands u.same)
@@ -130,6 +134,7 @@ module _ {F H R W : Type 0} {g : Ghosts F H R W} where
     where
       same_queue : new ≡ old → last_seq (queue_of old) ≤ last_seq (queue_of new)
       same_queue same = omega (arith, ap (λ (e : Engine F H R W g). last_seq (queue_of e)) same)
+
       by : IsUnfitOnce pairs old new result ⊎ IsOldOnce pairs sync old new result ⊎ IsStaleOnce pairs old new result ⊎ IsRefusedOnce items pairs old new result ⊎ IsActingOnce items pairs sync old new result
           → last_seq (queue_of old) ≤ last_seq (queue_of new)
       by (inl u) = same_queue u.same
@@ -150,6 +155,7 @@ module _ {F H R W : Type 0} {g : Ghosts F H R W} where
     where
       After : Bool → Contents
       After fresh = cond fresh (after_batch (contents_of old) (numbered items pairs)) (contents_of old)
+
       by : IsUnfitOnce pairs old new (Ok size) ⊎ IsOldOnce pairs sync old new (Ok size) ⊎ IsStaleOnce pairs old new (Ok size) ⊎ IsRefusedOnce items pairs old new (Ok size) ⊎ IsActingOnce items pairs sync old new (Ok size)
           → contents_of new ≡ After (are_new (contents_of old) pairs)
       by (inl u) = absurd u.refused
@@ -182,15 +188,18 @@ module _ {F H R W : Type 0} {g : Ghosts F H R W} where
     where
       Counts : Fault → Type 0
       Counts f = CountsRefusals (record { seat = seat; asked = WriteOnce items pairs sync; answer = Size (Err (without_path (reason_of f))) } ∷ []) (refusals_of old) (refusals_of new)
+
       -- storage isn't what is answered
       unless_storage : (b : Bool) → is_storage_refusal (Size (Err (without_path (reason_of e)))) ≡ b → b ≡ false → Counts e
       unless_storage b is other = omega (arith, w.advance.any_moment.no_fewer.0, ap (λ x. refused x 0) (is ∙ other))
+
       by : IsUnfitOnce pairs old new (Err e) ⊎ IsOldOnce pairs sync old new (Err e) ⊎ IsStaleOnce pairs old new (Err e) ⊎ IsRefusedOnce items pairs old new (Err e) ⊎ IsActingOnce items pairs sync old new (Err e) → Counts e
       by (inl u) = unless_storage _ refl (ap is_storage_refusal (refused_invalid (Err e) u.refused))
       by (inr (inl o)) = write_counts seat [] [] sync old new (Err e) o.write
       by (inr (inr (inl s))) = subst Counts (sym (err_is s.refused)) (counts_none w.advance.any_moment.no_fewer)
       by (inr (inr (inr (inl r)))) = unless_storage _ refl (refused_as (contents_of old) false items pairs false e refl r.cause).1
       by (inr (inr (inr (inr a)))) = write_counts seat (numbered items pairs) a.copied sync old new (Err e) a.write
+
       counted : (was : Bool) → has_failed old ≡ was → Counts e
       counted true is = subst Counts (sym (err_is (w.failed.1 is))) (counts_none w.advance.any_moment.no_fewer)
       counted false is = by (w.answer is)
