@@ -1,4 +1,5 @@
-use Rattle.std.proofs.Common.{◌≡◌, ◌∙◌, [], List, ℕ, true, false, Option, ap, arith, eqb-false, eqb-true, length, refl, sym, subst}
+use Rattle.std.proofs.Common.{◌≡◌, ◌∙◌, [], List, ℕ, true, false, Option, ap, arith, eqb-true, length, refl, sym, subst}
+use Rattle.std.proofs.lemmas.Bool.{eqb-false}
 use Rattle.std.proofs.lemmas.List.{nil_from_length}
 use Rattle.std.specs.Map.{lookup}
 use Rattle.std.specs.Str.{bytes_eq}
