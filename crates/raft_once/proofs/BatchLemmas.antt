@@ -1,5 +1,5 @@
 -- Batches with and without numbers, and why they are refused.
-use Rattle.std.proofs.Common.{◌≡◌, ℕ, zero, suc, ◌+◌, ◌<◌, ◌&&◌, ◌||◌, Bool, true, false, cond, List, [], ◌∷◌, ◌++◌, map, take, Option, Some, None, is_none, option_map, refl, sym, ◌∙◌, ap, subst, arith, inl, inr}
+use Rattle.std.proofs.Common.{◌≡◌, ℕ, zero, suc, ◌+◌, ◌&&◌, ◌||◌, Bool, true, false, cond, List, [], ◌∷◌, map, take, Option, Some, None, is_none, option_map, refl, sym, ◌∙◌, ap, subst, arith, inl, inr}
 use Rattle.std.proofs.lemmas.Bool.{or_parts, cases_Bool}
 use Rattle.std.proofs.lemmas.List.{take-map}
 use Rattle.raft_base.specs.declared.errors.Fault.{Fault}
@@ -34,9 +34,6 @@ none_in_plain (item ∷ items) plain =
 
 refused_first : (m : Contents) (item : Item) (items : Batch) (e : Fault) → content_refusal m item.group item.content ≡ Some e → batch_refusal m (item ∷ items) ≡ Some e
 refused_first m item items e first = rw first refl
-
-refused_later : (m : Contents) (item : Item) (items : Batch) (o : Option Fault) → content_refusal m item.group item.content ≡ None → batch_refusal (after_item m item) items ≡ o → batch_refusal m (item ∷ items) ≡ o
-refused_later m item items o first later = rw first later
 
 later_refusal : (m : Contents) (item : Item) (items : Batch) → content_refusal m item.group item.content ≡ None → batch_refusal m (item ∷ items) ≡ batch_refusal (after_item m item) items
 later_refusal m item items first = rw first refl

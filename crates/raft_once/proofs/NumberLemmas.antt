@@ -1,14 +1,14 @@
 -- The number that a group keeps, after batches with and without numbers.
-use Rattle.std.proofs.Common.{◌≡◌, ℕ, ◌+◌, ◌^◌, ◌<◌, ◌≤◌, ◌⊎◌, ◌&&◌, ◌||◌, Bool, true, false, cond, nat_eq, nat_lt, nat_le, List, [], ◌∷◌, ◌++◌, fold, Option, Some, None, refl, sym, ◌∙◌, ap, subst, arith, inl, inr, append-nil}
-use Rattle.std.specs.List.{list_all, list_any}
+use Rattle.std.proofs.Common.{◌≡◌, ℕ, ◌^◌, ◌<◌, ◌⊎◌, ◌&&◌, Bool, true, false, cond, nat_eq, nat_lt, List, [], ◌∷◌, Option, Some, None, refl, sym, ◌∙◌, ap, subst, arith, inl, inr, append-nil}
+use Rattle.std.specs.List.{list_any}
 use Rattle.std.specs.Str.{bytes_eq}
-use Rattle.std.proofs.lemmas.Bool.{and_parts, and_from, or_parts, cases_Bool, eqb-true, eqb-false, eq-eqb, ltb-true, le-leb, false_from_ne_true}
+use Rattle.std.proofs.lemmas.Bool.{and_parts, and_from, or_parts, cases_Bool, eqb-true, eq-eqb, ltb-true, le-leb, false_from_ne_true}
 use Rattle.std.proofs.lemmas.List.Sums.{fold-append}
 use Rattle.std.proofs.lemmas.Slice.Eq.{bytes_eq-Decides}
 use Rattle.raft_codec.specs.Number.{AreBytes, take_u64, u64_bytes}
 use Rattle.raft_codec.proofs.NumberLemmas.{take_u64-u64_bytes, u64_bytes_from_taken}
 use Rattle.raft_records.specs.Contents.{Contents, after_batch, after_content, after_item, with_value}
-use Rattle.raft_records.specs.Item.{Content, Entries, Clean, Compact, Put, Delete, Item, Batch, group_mark_key}
+use Rattle.raft_records.specs.Item.{Content, Entries, Clean, Compact, Put, Delete, Batch, group_mark_key}
 use Rattle.raft_once.specs.Numbers.{Pair, are_new, are_old, changes_number, has_group_twice, has_numbers, is_number_key, number_in, number_item, number_items, number_key, number_of, numbered, whole_number}
 use Rattle.raft_once.specs.History.{are_numbers, cleans, is_clean, numbers_for}
 pub use Rattle.raft_once.proofs.BatchLemmas.{front_in, front_refusal, met_after_front, none_in_plain, not_met_after_front, numbered_refusal, plain_meets_none, plain_without_place}

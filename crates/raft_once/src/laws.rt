@@ -5,8 +5,9 @@ ghost use Rattle.raft_records.specs.Item.{Batch};
 ghost use Rattle.raft_once.specs.History.{Act, ActedOnce, MayAct, MayAllAct, acted_after, are_numbers, cleans, written_of};
 ghost use Rattle.raft_once.specs.Numbers.{Pair, are_old, are_unfit, number_of, numbered};
 
-/// No number of a group acts twice, as long as the group isn't cleaned: each that acts is greater than all before it
-/// (`once`). A group's number falls only by a clean (`kept`), and numbers that acted are old (`old`).
+/// No number of a group acts twice, as long as the group isn't cleaned: each that acts is greater
+/// than all before it (`once`). A group's number falls only by a clean (`kept`), and numbers that
+/// acted are old (`old`).
 pub fn a_number_acts_once()
     ensures once { (m : Contents) (group : ℕ) (acts : List Act) → MayAllAct m acts
         → ActedOnce (acted_after group [] acts) }
