@@ -303,8 +303,8 @@ fn the_reserved_key_is_the_engine_s(rt: HostRuntime) -> Result<(), Fail> {
     each_holds(&rt, Rows::Stories(&RESERVED))
 }
 
-// The records below were made by Python's struct and zlib, for file 1 in version 2: a put at the reserved key of group
-// 1, of so many bytes, which are 5 as the last of eight.
+// The records below were made by Python's struct and zlib, for file 1 in version 2: a put at the
+// reserved key of group 1, of so many bytes, which are 5 as the last of eight.
 
 const PUT_7: &[u8] =
     b"\x00\x00\x00\x00\x00\x00\x26\x00\x00\x00\x00\x00\x00\x00\x00\x10\x01\x01\x03\x01\x05\xff\x6f\x6e\x63\x65\x07\x00\x00\x00\x00\x00\x00\x05\x76\xf7\x7e\x28";

@@ -35,7 +35,8 @@ pub(crate) fn is_refusal(fault: &Fault, kind: IoKind) -> bool {
     }
 }
 
-// A look-up, a compaction or a write that acts once that is answered tells what the operations done before it leave.
+// A look-up, a compaction or a write that acts once tells, where it is answered, what the operations
+// done before it leave.
 fn tells(state: State, op: &Op, outcome: &Outcome) -> bool {
     match (op, outcome) {
         (Op::Get(group, key), Outcome::Value(Ok(Some(value)))) => {

@@ -1,5 +1,6 @@
-//! A list with each purge, over files that are used again: stopped at each call that changes files and crashed, and then
-//! opened. That opening is stopped at each of its own changes too, and crashed once more.
+//! A list with each purge, over files that are used again: stopped at each call that changes files
+//! and crashed, and then opened. That opening is stopped at each of its own changes too, and crashed
+//! once more.
 
 use raft_env::FileSystem;
 use raft_log_engine::{Config, Engine};
@@ -14,8 +15,8 @@ use std::ops::Range;
 use std::process::Abort;
 use std::test::Fail;
 
-/// What was rewritten is overwritten, compacted, deleted and cleaned, and rewritten again; then the same write that acts
-/// once is made twice.
+/// What was rewritten is overwritten, compacted, deleted and cleaned, and rewritten again; then the
+/// same write that acts once is made twice.
 const MIXED: [Plan; 13] = [
     Plan::Write(&[Change::Put(1, b"a", &[1; 300])], true),
     Plan::Write(&[Change::LongEntries(3, 1, 7, b'x', 340)], false),
@@ -34,9 +35,9 @@ const MIXED: [Plan; 13] = [
 
 const MAX_CALLS: u64 = 400;
 
-/// So many calls at least change files: seven of the opening (the folder, and a file of each queue with its header and a sync),
-/// seven writes of records, five syncs of purges, and four for each of five next files that these begin (a sync of the last
-/// one, the file, its header and a sync).
+/// So many calls at least change files: seven of the opening (the folder, and a file of each queue
+/// with its header and a sync), seven writes of records, five syncs of purges, and four for each of
+/// five next files that these begin (a sync of the last one, the file, its header and a sync).
 const MIN_CHANGES: u64 = 39;
 
 /// A crash leaves up to so many of the touched bytes of each file.
@@ -165,8 +166,8 @@ fn finds_each<F: Crashing>(alloc: Global, files: &F, ops: &[Op], ran: &Ran) -> R
     Ok(are_allowed)
 }
 
-// Whether the opening after the crash is stopped, or nothing where the one after the next crash finds what it may not: what
-// the stopped one found, if it was answered.
+// Whether the opening after the crash is stopped, or nothing where the one after the next crash finds
+// what it may not: what the stopped one found, if it was answered.
 fn stops_again<F: Crashing>(
     alloc: Global,
     files: &F,
@@ -223,7 +224,8 @@ fn stops_at<F: Crashing>(alloc: Global, ops: &[Op], nth: u64) -> Result<Option<b
     })
 }
 
-// The first of these stops at which something is wrong, or that doesn't come, if it isn't to be the first.
+// The first of these stops at which something is wrong, or that doesn't come, if it isn't to be the
+// first.
 fn first_wrong<F: Crashing>(
     alloc: Global,
     stops: Range<u64>,

@@ -16,7 +16,7 @@ pub struct State {
     pub c: u8,
     pub d: u8,
     pub words: [u8; 8],
-    /// The number that each of the groups 0 to 3 keeps for writes that act once, which no image shows.
+    /// The number that each of the groups 0 to 3 keeps for writes that act once; no image shows it.
     pub numbers: [u64; 4],
     /// Something else is there.
     pub other: bool,
