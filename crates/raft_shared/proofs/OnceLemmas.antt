@@ -5,18 +5,22 @@ use Rattle.std.proofs.lemmas.Bool.{and_parts, false≢true, leb-true, ltb-true}
 use Rattle.raft_base.specs.Fault.{fault_code}
 use Rattle.raft_base.specs.declared.errors.Fault.{Fault}
 use Rattle.raft_base.specs.declared.errors.Fault.TheVariants as fault
+use Rattle.raft_env.specs.Refusal.{FailsCountedAt, Refusals}
 use Rattle.raft_env.specs.declared.env.FileSystem.{Ghosts}
+use Rattle.raft_config.specs.Folders.{Folders}
 use Rattle.raft_pipes.specs.PipeState.{last_seq}
+use Rattle.raft_pipes.specs.Queue.{NamesLog}
 use Rattle.raft_records.specs.Contents.{Contents, after_batch}
 use Rattle.raft_records.specs.Item.{Batch}
 use Rattle.raft_records.specs.Validity.{IsValidBatch, batch_refusal}
 use Rattle.raft_once.specs.Numbers.{Pair, are_new, are_old, are_unfit, has_numbers, meets_number, number_of, numbered}
 use Rattle.raft_once.proofs.BatchLemmas.{numbered_refusal, plain_meets_none}
-use Rattle.raft_log_engine.specs.Engine.{contents_of, has_failed, queue_of, refusals_of}
+use Rattle.raft_log_engine.specs.Calls.{IsWrite}
+use Rattle.raft_log_engine.specs.Engine.{contents_of, folders_of, has_failed, queue_of, refusals_of}
 use Rattle.raft_log_engine.specs.Once.{IsActingOnce, IsOldOnce, IsOnceRefusal, IsRefusedOnce, IsStaleOnce, IsUnfitOnce, IsWriteOnce}
 use Rattle.raft_log_engine.specs.declared.engine.Engine.{Engine}
 use Rattle.raft_shared.specs.Begun.{CountsRefusals, lacks_numbers, lacks_numbers_in}
-use Rattle.raft_shared.specs.History.{Answer, Event, IsCallersAnswer, IsLegalCall, IsOnceAnswer, Size, WriteOnce, after_event, is_storage_refusal, refused}
+use Rattle.raft_shared.specs.History.{Answer, Event, IsCallersAnswer, IsLegalCall, IsOldAnswer, IsOnceAnswer, Size, WriteOnce, after_event, is_storage_refusal, refused}
 use Rattle.raft_shared.specs.Words.{answer_by, reason_of, without_path}
 use Rattle.raft_shared.proofs.CallLemmas.{call_ends, counts_none, err_is, refused_invalid, write_answered, write_counts, write_goes_on}
 
@@ -42,17 +46,39 @@ old_not_new m pairs fit old = false_unless (are_new m pairs) (λ new. never_both
 new_not_old : (m : Contents) (pairs : List Pair) → are_unfit pairs ≡ false → are_new m pairs ≡ true → are_old m pairs ≡ false
 new_not_old m pairs fit new = false_unless (are_old m pairs) (λ old. never_both m pairs fit old new)
 
-module _ (m : Contents) (ended : Bool) (items : Batch) (pairs : List Pair) (answer : Answer) (fails : Bool) where
-  -- an answer, by what the numbers are
-  answer_at : (unfit old new : Bool) → are_unfit pairs ≡ unfit → are_old m pairs ≡ old → are_new m pairs ≡ new → IsOnceAnswer unfit old new m ended items pairs answer fails
-      → IsOnceAnswer (are_unfit pairs) (are_old m pairs) (are_new m pairs) m ended items pairs answer fails
-  answer_at unfit old new a b c legal =
-      subst (λ x. IsOnceAnswer x (are_old m pairs) (are_new m pairs) m ended items pairs answer fails) (sym a)
-      (subst (λ x. IsOnceAnswer unfit x (are_new m pairs) m ended items pairs answer fails) (sym b)
-      (subst (λ x. IsOnceAnswer unfit old x m ended items pairs answer fails) (sym c) legal))
+-- a sync is refused, where there is nothing to write
+old_refused : (folders : Folders) (old new : Refusals) (e : Fault) (fails : Bool) → FailsCountedAt (NamesLog folders) old new e → IsOldAnswer true (Size (Err (without_path (reason_of e)))) fails
+old_refused folders old new (fault.Io kind text) fails cause = (refl, refl)
+old_refused folders old new fault.Memory fails cause = refl
+old_refused folders old new (fault.InvalidArgument text) fails cause = absurd cause
+old_refused folders old new fault.Corruption fails cause = absurd cause
+old_refused folders old new fault.TryAgain fails cause = absurd cause
+old_refused folders old new fault.Gap fails cause = absurd cause
+old_refused folders old new fault.Range fails cause = absurd cause
+old_refused folders old new fault.EntryCompacted fails cause = absurd cause
+old_refused folders old new fault.EntryNotFound fails cause = absurd cause
+old_refused folders old new fault.WrongIndex fails cause = absurd cause
+old_refused folders old new fault.Parse fails cause = absurd cause
+old_refused folders old new fault.Failed fails cause = absurd cause
+old_refused folders old new fault.Lz4 fails cause = absurd cause
+old_refused folders old new fault.FileOutOfRange fails cause = absurd cause
+old_refused folders old new fault.NotRecovered fails cause = absurd cause
+old_refused folders old new fault.TrailFull fails cause = absurd cause
+old_refused folders old new fault.Layer fails cause = absurd cause
+old_refused folders old new fault.StaleNumber fails cause = absurd cause
 
-  callers_at : (met : Bool) → meets_number m items ≡ met → IsCallersAnswer met m ended (numbered items pairs) answer fails → IsCallersAnswer (meets_number m items) m ended (numbered items pairs) answer fails
-  callers_at met is legal = subst (λ x. IsCallersAnswer x m ended (numbered items pairs) answer fails) (sym is) legal
+module _ (m : Contents) (ended : Bool) (items : Batch) (pairs : List Pair) (sync : Bool) (answer : Answer) (fails : Bool) where
+  -- an answer, by what the numbers are
+  answer_at : (unfit old new : Bool) → are_unfit pairs ≡ unfit → are_old m pairs ≡ old → are_new m pairs ≡ new → IsOnceAnswer unfit old new m ended items pairs sync answer fails
+      → IsOnceAnswer (are_unfit pairs) (are_old m pairs) (are_new m pairs) m ended items pairs sync answer fails
+  answer_at unfit old new a b c legal =
+      subst (λ x. IsOnceAnswer x (are_old m pairs) (are_new m pairs) m ended items pairs sync answer fails) (sym a)
+      (subst (λ x. IsOnceAnswer unfit x (are_new m pairs) m ended items pairs sync answer fails) (sym b)
+      (subst (λ x. IsOnceAnswer unfit old x m ended items pairs sync answer fails) (sym c) legal))
+
+callers_at : (m : Contents) (ended : Bool) (items : Batch) (pairs : List Pair) (answer : Answer) (fails : Bool) (met : Bool) → meets_number m items ≡ met → IsCallersAnswer met m ended (numbered items pairs) answer fails
+    → IsCallersAnswer (meets_number m items) m ended (numbered items pairs) answer fails
+callers_at m ended items pairs answer fails met is legal = subst (λ x. IsCallersAnswer x m ended (numbered items pairs) answer fails) (sym is) legal
 
 -- a batch with new numbers that isn't written, and that storage has no part in it
 refused_as : (m : Contents) (ended : Bool) (items : Batch) (pairs : List Pair) (fails : Bool) (e : Fault) → fails ≡ false → IsOnceRefusal m items e
@@ -77,6 +103,11 @@ refused_as m ended items pairs fails fault.Layer stands cause = absurd cause
 refused_as m ended items pairs fails fault.StaleNumber stands cause = absurd cause
 
 module _ {F H R W : Type 0} {g : Ghosts F H R W} where
+  old_answered : (sync : Bool) (old new : Engine F H R W g) (result : Result ℕ Fault) → IsWrite [] [] sync old new result → has_failed old ≡ false → IsOldAnswer sync (Size (answer_by (λ n. n) result)) (has_failed new)
+  old_answered sync old new (Ok size) write is = (write.ok.len_is, write.ok.stands)
+  old_answered true old new (Err e) write is = old_refused (folders_of old) (refusals_of old) (refusals_of new) e (has_failed new) (write.memory is refl).1
+  old_answered false old new (Err e) write is = absurd (let clash = ((write.memory is refl).0 refl).0 in cc)
+
   -- an engine that stands after a numbered write stood before it
   once_stood : {items rest : Batch} {pairs : List Pair} {sync : Bool} {old new : Engine F H R W g} {result : Result ℕ Fault} → IsWriteOnce items rest pairs sync old new result → has_failed new ≡ false → has_failed old ≡ false
   once_stood {old = old} w stands = stood (has_failed old) refl
@@ -88,14 +119,14 @@ module _ {F H R W : Type 0} {g : Ghosts F H R W} where
   -- what an engine that stands answers
   once_answered : (items rest : Batch) (pairs : List Pair) (sync : Bool) (old new : Engine F H R W g) (result : Result ℕ Fault) → IsWriteOnce items rest pairs sync old new result
       → (ended : Bool) → (has_failed new ≡ false → ended ≡ lacks_numbers new) → has_failed old ≡ false
-      → IsOnceAnswer (are_unfit pairs) (are_old (contents_of old) pairs) (are_new (contents_of old) pairs) (contents_of old) ended items pairs (Size (answer_by (λ n. n) result)) (has_failed new)
+      → IsOnceAnswer (are_unfit pairs) (are_old (contents_of old) pairs) (are_new (contents_of old) pairs) (contents_of old) ended items pairs sync (Size (answer_by (λ n. n) result)) (has_failed new)
   once_answered items rest pairs sync old new result w ended numbers is = by (w.answer is)
     where
       Legal : Bool → Bool → Bool → Type 0
-      Legal unfit late fresh = IsOnceAnswer unfit late fresh (contents_of old) ended items pairs (Size (answer_by (λ n. n) result)) (has_failed new)
+      Legal unfit late fresh = IsOnceAnswer unfit late fresh (contents_of old) ended items pairs sync (Size (answer_by (λ n. n) result)) (has_failed new)
 
       at : (unfit late fresh : Bool) → are_unfit pairs ≡ unfit → are_old (contents_of old) pairs ≡ late → are_new (contents_of old) pairs ≡ fresh → Legal unfit late fresh → Legal (are_unfit pairs) (are_old (contents_of old) pairs) (are_new (contents_of old) pairs)
-      at = answer_at (contents_of old) ended items pairs (Size (answer_by (λ n. n) result)) (has_failed new)
+      at = answer_at (contents_of old) ended items pairs sync (Size (answer_by (λ n. n) result)) (has_failed new)
 
       stands : new ≡ old → has_failed new ≡ false
       stands same = ap has_failed same ∙ is
@@ -109,7 +140,7 @@ module _ {F H R W : Type 0} {g : Ghosts F H R W} where
           → Legal (are_unfit pairs) (are_old (contents_of old) pairs) (are_new (contents_of old) pairs)
       by (inl u) = at true (are_old (contents_of old) pairs) (are_new (contents_of old) pairs) u.unfit refl refl (refused_invalid result u.refused, stands u.same)
       by (inr (inl o)) = at false true (are_new (contents_of old) pairs) o.fit o.numbers refl
-          (write_answered [] [] sync old new result o.write (contents_of old) refl ended numbers is (λ e err code met. false≢true met))
+          (old_answered sync old new result o.write is)
       by (inr (inr (inl s))) = at false false false s.fit s.not_old s.not_new (ap (λ r. Size (answer_by (λ n. n) r)) s.refused, stands s.same)
       by (inr (inr (inr (inl r)))) = at false false true r.fit (new_not_old (contents_of old) pairs r.fit r.numbers) r.numbers (refused_by result (stands r.same) r.cause)
       by (inr (inr (inr (inr a)))) = at false false true a.fit (new_not_old (contents_of old) pairs a.fit a.numbers) a.numbers
@@ -125,7 +156,7 @@ module _ {F H R W : Type 0} {g : Ghosts F H R W} where
       once_at : (was : Bool) → has_failed old ≡ was → IsLegalCall m ended was (record { seat = seat; asked = WriteOnce items pairs sync; answer = Size (answer_by (λ n. n) result) }) (has_failed new)
       once_at true is = (ap (λ r. Size (answer_by (λ n. n) r)) (w.failed.1 is), (w.unchanged is).failed)
       once_at false is =
-          subst (λ x. IsOnceAnswer (are_unfit pairs) (are_old x pairs) (are_new x pairs) x ended items pairs (Size (answer_by (λ n. n) result)) (has_failed new)) (holds is)
+          subst (λ x. IsOnceAnswer (are_unfit pairs) (are_old x pairs) (are_new x pairs) x ended items pairs sync (Size (answer_by (λ n. n) result)) (has_failed new)) (holds is)
           (once_answered items rest pairs sync old new result w ended numbers is)
 
   -- it comes to no earlier file

@@ -97,15 +97,22 @@ abbrev pub IsCallersAnswer : Bool → Contents → Bool → Batch → Answer →
 IsCallersAnswer true m ended written answer fails = IsRefusedAs Invalid answer fails
 IsCallersAnswer false m ended written answer fails = IsWriteAnswer m ended written answer fails
 
+-- .. one with old numbers: nothing is written, and a sync that is asked for may be refused
+abbrev pub IsOldAnswer : Bool → Answer → Bool → Type 0
+IsOldAnswer sync (Size (Ok size)) fails = (size ≡ 0) × (fails ≡ false)
+IsOldAnswer sync (Size (Err (Io kind path))) fails = (sync ≡ true) × (path ≡ [])
+IsOldAnswer sync (Size (Err Memory)) fails = sync ≡ true
+IsOldAnswer sync answer fails = ⊥
+
 -- .. one with numbers, which are unfit, or old, or new, or some of them old and some new
-abbrev pub IsOnceAnswer : (unfit old new : Bool) → Contents → Bool → Batch → List Pair → Answer
-    → Bool → Type 0
-IsOnceAnswer true old new m ended batch pairs answer fails = IsRefusedAs Invalid answer fails
-IsOnceAnswer false true new m ended batch pairs answer fails =
-    IsWriteAnswer m ended [] answer fails
-IsOnceAnswer false false true m ended batch pairs answer fails =
+abbrev pub IsOnceAnswer : (unfit old new : Bool) → Contents → Bool → Batch → List Pair → Bool
+    → Answer → Bool → Type 0
+IsOnceAnswer true old new m ended batch pairs sync answer fails =
+    IsRefusedAs Invalid answer fails
+IsOnceAnswer false true new m ended batch pairs sync answer fails = IsOldAnswer sync answer fails
+IsOnceAnswer false false true m ended batch pairs sync answer fails =
     IsCallersAnswer (meets_number m batch) m ended (numbered batch pairs) answer fails
-IsOnceAnswer false false false m ended batch pairs answer fails =
+IsOnceAnswer false false false m ended batch pairs sync answer fails =
     IsRefusedAs StaleNumber answer fails
 
 -- .. a sync
@@ -130,8 +137,8 @@ abbrev pub IsAnswer : Contents → Bool → Asked → Answer → Bool → Type 0
 IsAnswer m ended (Write batch sync) answer fails =
     IsCallersAnswer (meets_number m batch) m ended batch answer fails
 IsAnswer m ended (WriteOnce batch pairs sync) answer fails =
-    IsOnceAnswer (are_unfit pairs) (are_old m pairs) (are_new m pairs) m ended batch pairs answer
-    fails
+    IsOnceAnswer (are_unfit pairs) (are_old m pairs) (are_new m pairs) m ended batch pairs sync
+    answer fails
 IsAnswer m ended Sync answer fails = IsSyncAnswer answer fails
 IsAnswer m ended (Get group key) answer fails =
     IsGetAnswer ((shown m).value group key) answer fails
