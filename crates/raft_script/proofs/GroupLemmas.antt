@@ -240,10 +240,10 @@ module _ {F H R W : Type 0} {g : Ghosts F H R W} (parts : Vec Part Global) (view
   group_refuses (Err _) ok cause counts = (counts, λ io. absurd (let clash = io in cc))
 
   -- what the operation is to write
-  abbrev Parts : List Batch
-  Parts = plain_parts (group_batches parts.items)
+  abbrev allowed : List Batch
+  allowed = plain_parts (group_batches parts.items)
 
-  parts_are : plain_parts batches ≡ Parts
+  parts_are : plain_parts batches ≡ allowed
   parts_are = ap plain_parts (sym group_is)
 
   -- a choice of it was written
@@ -265,19 +265,19 @@ module _ {F H R W : Type 0} {g : Ghosts F H R W} (parts : Vec Part Global) (view
         moments.added,
         moments.is,
         all_weaker _ _
-            (λ x leaves. ∥∥₁_map (subst (λ (l : List Batch). LeavesChoice (folders_of old) (durable_of old) (unsynced_of old) (contents_of old) l x) parts_are leaves) (λ (choice, allowed). (chosen_of (contents_of old) choice Parts, ∣ (choice, refl) ∣₁, allowed)))
+            (λ x leaves. ∥∥₁_map (subst (λ (l : List Batch). LeavesChoice (folders_of old) (durable_of old) (unsynced_of old) (contents_of old) l x) parts_are leaves) (λ (choice, left). (chosen_of (contents_of old) choice allowed, ∣ (choice, refl) ∣₁, left)))
             moments.added moments.each,
       )
 
       by_result : (result : Result (Vec (Result ℕ Fault) Global) Fault) → IsOk result
           → MatchResult result (λ answers. Progresses (accepted_in answers.items batches) (list_any (λ (flag : Bool). flag) flags) [] (durability_of old) (durability_of new)) (λ _. FailsWithChoice batches old new) → Does (WriteGroup parts) (Sizes result) old new
       by_result (Ok answers) ok progress =
-          let taken : accepted_in answers.items batches ≡ accepted_in answers.items Parts =
+          let taken : accepted_in answers.items batches ≡ accepted_in answers.items allowed =
           taken_plainly (target_size_of old) (folders_of old) (queue_of new) (contents_of old) batches answers.items (group_state_of old) ok.written ok.answered ∙ ap (accepted_in answers.items) parts_are in
           record {
             flight = [];
             may_be = ∣ ([], refl) ∣₁;
-            progress = subst (λ (covers : Bool). Progresses (accepted_in answers.items Parts) covers [] (durability_of old) (durability_of new)) asked
+            progress = subst (λ (covers : Bool). Progresses (accepted_in answers.items allowed) covers [] (durability_of old) (durability_of new)) asked
                 (subst (λ (l : List Batch). Progresses l (list_any (λ (flag : Bool). flag) flags) [] (durability_of old) (durability_of new)) taken progress);
             moments = λ alive. adds;
             rests = stays;
@@ -285,7 +285,7 @@ module _ {F H R W : Type 0} {g : Ghosts F H R W} (parts : Vec Part Global) (view
       by_result (Err e) ok progress =
           let stops = subst StopsIn parts_are progress in
           record {
-            flight = chosen_of (contents_of old) stops.0 Parts;
+            flight = chosen_of (contents_of old) stops.0 allowed;
             may_be = ∣ (stops.0, refl) ∣₁;
             progress = stops.1;
             moments = λ alive. adds;

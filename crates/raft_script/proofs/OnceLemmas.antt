@@ -21,22 +21,24 @@ use Rattle.raft_log_engine.specs.Advance.{Advances, state_of}
 use Rattle.raft_log_engine.specs.Calls.{IsWrite}
 use Rattle.raft_log_engine.specs.Cause as engine
 use Rattle.raft_log_engine.specs.Durability.{Durability, Progresses, StaysFailed, accepted_by, covered_by, durability_of}
-use Rattle.raft_log_engine.specs.Engine.{contents_of, directory_of, folders_of, has_failed, moments_of, queue_of, refusals_of}
+use Rattle.raft_log_engine.specs.Engine.{all_batches, begun_of, contents_of, directory_of, folders_of, found_of, has_failed, moments_of, queue_of, refusals_of}
 use Rattle.raft_log_engine.specs.Group.{accepted_in, chosen_of}
 use Rattle.raft_log_engine.specs.Once as once
 use Rattle.raft_log_engine.specs.Once.{IsActingOnce, IsOldOnce, IsRefusedOnce, IsStaleOnce, IsUnfitOnce, IsWriteOnce, acting_batch}
 use Rattle.raft_log_engine.specs.declared.engine.Engine.{Engine}
-use Rattle.raft_script.specs.Batches.{batch_of_acts, batches_of_op, is_covering, items_of_acts, once_batch}
+use Rattle.raft_script.specs.Batches.{accepted_of, batch_of_acts, batches_of_op, is_covering, items_of_acts, once_batch}
 use Rattle.raft_script.specs.Durability.{Does}
 use Rattle.raft_script.specs.Failure.{FailsBy, IsStorageOrMemory, is_io}
 use Rattle.raft_script.specs.Run.{IsNew, IsOnceRefusal, IsOutOfNumbers, IsRepeat, IsUnbuilt, IsWrittenOnce}
 use Rattle.raft_script.specs.declared.operation.Act.{Act}
+use Rattle.raft_script.specs.declared.operation.Op.{Op}
 use Rattle.raft_script.specs.declared.operation.Op.TheVariants.{Write, WriteOnce}
+use Rattle.raft_script.specs.declared.operation.Outcome.{Outcome}
 use Rattle.raft_script.specs.declared.operation.Outcome.TheVariants.{Size}
-use Rattle.raft_script.proofs.DurabilityLemmas.{alone, progress_alone}
+use Rattle.raft_script.proofs.DurabilityLemmas.{alone, batches_more, progress_alone}
 use Rattle.raft_script.proofs.RefusalLemmas.{write_rose}
 use Rattle.raft_script.proofs.RunLemmas.{of_built, same_err}
-use Rattle.raft_script.proofs.StepsLemmas.{in_flight}
+use Rattle.raft_script.proofs.StepsLemmas.{after-append, found_same, in_flight}
 
 -- A write.
 
@@ -80,6 +82,15 @@ module _ {F H R W : Type 0} {g : Ghosts F H R W} (old new : Engine F H R W g) wh
         moments = λ alive. in_flight old op flight (pending_of m batch) (moments_of new) (directory_of new) may_be (alone m batch batch refl) advance.any_moment.throughout;
         rests = stays;
       }
+
+  -- an engine that stands after an operation holds what it accepted
+  pub does_contents : (op : Op) (outcome : Outcome) → Does op outcome old new → folders_of new ≡ folders_of old → begun_of new ≡ begun_of old → has_failed new ≡ false
+      → contents_of new ≡ after_batches (contents_of old) (accepted_of (contents_of old) op outcome)
+  does_contents op outcome does folders begun stands =
+      let accepted = accepted_of (contents_of old) op outcome in
+      ap (λ (f : Contents). after_batches f (all_batches new)) (found_same new old folders begun)
+      ∙ ap (after_batches (found_of old)) (batches_more accepted (is_covering op outcome) does.flight (durability_of old) (durability_of new) does.progress stands)
+      ∙ after-append (found_of old) (all_batches old) accepted
 
 -- a write's answer covers where a sync was asked
 pub covered_write : (acts : Vec Act Global) (sync : Bool) (result : Result ℕ Fault) → is_covering (Write acts sync) (Size result) ≡ covered_by result sync
