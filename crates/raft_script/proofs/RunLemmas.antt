@@ -112,7 +112,7 @@ pub same_err : {T : Type 0} {x y : Fault} (r : Result T Fault) → r ≡ Err x �
 same_err r a b = cc
 
 -- what is known of the batch of acts
-of_built : (P : Batch → Type 0) (acts : List Act) (items : Batch) → batch_of_acts acts ≡ Some items → P items → IsSomeAnd (batch_of_acts acts) P
+pub of_built : (P : Batch → Type 0) (acts : List Act) (items : Batch) → batch_of_acts acts ≡ Some items → P items → IsSomeAnd (batch_of_acts acts) P
 of_built P acts items built h = subst (λ (o : Option Batch). IsSomeAnd o P) (sym built) h
 
 -- an engine's write of such a batch is answered as the operation

@@ -72,9 +72,9 @@ abbrev pub once_batch : Contents → Option Batch → List Pair → Batch
 once_batch m None pairs = []
 once_batch m (Some items) pairs = if are_numbers pairs then acting_batch m items pairs else []
 
--- the batches that an operation is to write, at these contents: nothing of a batch that would change
--- the number that a group keeps, but by a write with numbers; of a compaction the command, where the
--- group has entries
+-- the batches that an operation is to write, at these contents: nothing of a batch that would
+-- change the number that a group keeps, but by a write with numbers; of a compaction the command,
+-- where the group has entries
 abbrev pub batches_of_op : Contents → Op → List Batch
 batches_of_op m (Write acts sync) = plain_part (items_of_acts acts.items) ∷ []
 batches_of_op m (WriteGroup parts) = plain_parts (group_batches parts.items)

@@ -16,8 +16,8 @@ acts_in (WriteOnce acts pairs sync) batches =
     map (λ batch. record { items = items_of_acts acts.items; pairs = pairs.items }) batches
 acts_in op batches = map (λ batch. record { items = batch; pairs = [] }) batches
 
--- what operations wrote, in order, where these contents stood before them: of a purge, a sync, a read,
--- a refused write or one with old numbers nothing
+-- what operations wrote, in order, where these contents stood before them: of a purge, a sync, a
+-- read, a refused write or one with old numbers nothing
 abbrev pub acts_of : Contents → List Op → List Outcome → List Act
 acts_of m (op ∷ ops) (outcome ∷ outcomes) =
     acts_in op (accepted_of m op outcome)

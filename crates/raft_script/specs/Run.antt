@@ -67,8 +67,8 @@ abbrev pub IsOutOfNumbers : Type 0 → Contents → Batch → Type 0
 IsOutOfNumbers none_left m batch = IsOutOfRange m batch ⊎ (IsWritable m batch × none_left)
 
 -- a write fails for an act that can't be done, too many bytes of entries, or lack of memory; its
--- batch since it would change a group's number, since the contents don't take it, for its length, for
--- lack of a number, else by storage or for want of space, or by a failed engine
+-- batch since it would change a group's number, since the contents don't take it, for its length,
+-- for lack of a number, else by storage or for want of space, or by a failed engine
 abbrev pub IsWriteRefusal : Type 0 → Contents → List Act → Fault → Type 0
 IsWriteRefusal none_left m acts (fault.InvalidArgument _) = (batch_of_acts acts ≡ None)
     ⊎ IsSomeAnd (batch_of_acts acts) (λ batch. meets_number m batch ≡ true)
@@ -82,9 +82,9 @@ IsWriteRefusal none_left m acts fault.Range =
 IsWriteRefusal none_left m acts fault.Failed = IsSome (batch_of_acts acts)
 IsWriteRefusal none_left m acts _ = ⊥
 
--- a write with numbers that was answered: there are some, each of another group, and none is greater
--- than the one that its group keeps; or each is, and a batch was written, with the numbers behind its
--- items
+-- a write with numbers that was answered: there are some, each of another group, and none is
+-- greater than the one that its group keeps; or each is, and a batch was written, with the numbers
+-- behind its items
 abbrev pub IsWrittenOnce : Contents → List Act → List Pair → ℕ → Type 0
 IsWrittenOnce m acts pairs len = (batch : Batch) × (batch_of_acts acts ≡ Some batch)
     × (are_unfit pairs ≡ false) × (((are_old m pairs ≡ true) × (len ≡ 0))
@@ -106,9 +106,10 @@ abbrev pub IsStale : Contents → List Act → List Pair → Type 0
 IsStale m acts pairs = (are_unfit pairs ≡ false) × (are_old m pairs ≡ false)
     × (are_new m pairs ≡ false) × IsSome (batch_of_acts acts)
 
--- it fails as a write does, a batch that changes a group's number or doesn't fit only where the numbers
--- are new, and its record is longer by them; for numbers of which there are none, or two of a group;
--- for numbers of which some are new; and where none is, by storage in a sync that was asked for
+-- it fails as a write does, a batch that changes a group's number or doesn't fit only where the
+-- numbers are new, and its record is longer by them; for numbers of which there are none, or two
+-- of a group; for numbers of which some are new; and where none is, by storage in a sync that was
+-- asked for
 abbrev pub IsOnceRefusal : Type 0 → Contents → List Act → List Pair → Bool → Fault → Type 0
 IsOnceRefusal none_left m acts pairs sync (fault.InvalidArgument _) =
     (batch_of_acts acts ≡ None) ⊎ (are_unfit pairs ≡ true)
@@ -127,8 +128,8 @@ IsOnceRefusal none_left m acts pairs sync fault.Range = IsOversized acts
 IsOnceRefusal none_left m acts pairs sync fault.Failed = IsSome (batch_of_acts acts)
 IsOnceRefusal none_left m acts pairs sync _ = ⊥
 
--- a batch of a group isn't accepted: since it would change a group's number, since the contents don't
--- take it, for its length, for lack of a number, else by storage or for lack of memory
+-- a batch of a group isn't accepted: since it would change a group's number, since the contents
+-- don't take it, for its length, for lack of a number, else by storage or for lack of memory
 abbrev pub IsBatchRefusal : Type 0 → Contents → Batch → Fault → Type 0
 IsBatchRefusal none_left m batch (fault.InvalidArgument _) = meets_number m batch ≡ true
 IsBatchRefusal none_left m batch fault.Gap = batch_refusal m batch ≡ Some fault.Gap

@@ -54,8 +54,8 @@ pub(crate) struct RunReport {
 /// failed engine adds no moment. `ok` says all this, and what is answered, of one list of engines,
 /// each of which the operation's own call makes of the one before.
 ///
-/// What was accepted are acts (`numbers`), each with its numbers, of which each is greater than the one
-/// that its group kept: so none acts twice, as long as the group isn't cleaned.
+/// What was accepted are acts (`numbers`), each with its numbers, of which each is greater than
+/// the one that its group kept: so none acts twice, as long as the group isn't cleaned.
 /// `laws::numbers_act_once_over_crashes` joins the acts of runs with crashes between them.
 ///
 /// After the operations the accepted batches that are covered count as durable, and no more, and
