@@ -1,4 +1,4 @@
-use Rattle.std.proofs.Common.{◌∙◌, ℕ, not, Vec, ap, rules}
+use Rattle.std.proofs.Common.{◌≡◌, ◌∙◌, List, ℕ, not, Vec, ap, rules}
 use Rattle.std.specs.declared.alloc.Global.{Global}
 use Rattle.std.proofs.lemmas.Fn.{filter_same}
 use Rattle.raft_once.specs.Numbers.{is_number_key}

@@ -1,4 +1,4 @@
-use Rattle.std.proofs.Common.{◌∙◌, List, ℕ, not, Bor, ap, rules}
+use Rattle.std.proofs.Common.{◌≡◌, ◌∙◌, List, ℕ, not, Bor, ap, rules}
 use Rattle.std.proofs.lemmas.Fn.{filter_same}
 use Rattle.raft_once.specs.Numbers.{is_number_key}
 use Rattle.raft_tables.specs.Listing.{lent_pairs}
