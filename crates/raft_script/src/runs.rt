@@ -1,5 +1,5 @@
 //! Operations one after the other, each with its outcome.
-ghost use Rattle.std.specs.Prelude.{All, ◌≡◌, ◌⊎◌, ◌≤◌, ◌^◌, ◌++◌, ℕ, List, false, length, map, Some, None, IfOk, IfErr, OnOk, OnErr};
+ghost use Rattle.std.specs.Prelude.{All, ◌≡◌, ◌⊎◌, ◌≤◌, ◌^◌, ◌++◌, ℕ, List, true, false, length, map, nat_lt, Some, None, IfOk, IfErr, OnOk, OnErr};
 ghost use Rattle.raft_records.specs.Contents.{Contents, after_batches};
 ghost use Rattle.raft_base.specs.Fault.{fault_code};
 ghost use Rattle.raft_records.specs.Batch.{raw_entries, size_refusal, with_entries_item};
@@ -10,6 +10,7 @@ ghost use Rattle.raft_env.specs.Directory.{Directory};
 ghost use Rattle.raft_held.specs.Crash.{LeavesAllowedFrom};
 ghost use Rattle.raft_pipes.specs.PipeState.{HasLastNumber};
 ghost use Rattle.raft_log_engine.specs.Group.{items_of};
+ghost use Rattle.raft_once.specs.History.{are_numbers};
 ghost use Rattle.raft_log_engine.specs.Engine.{begun_of, contents_of, directory_of, durable_of, folders_of, has_failed, queue_of, refusals_of, unsynced_of};
 ghost use Rattle.raft_script.specs.Entry.{indexed_bytes};
 ghost use Rattle.raft_script.specs.Durability.{Does, HaveRun, IsAnswerOf, IsOutOfNumbersIn, PassesOver, Runs};
@@ -167,7 +168,10 @@ pub fn step<F: FileSystem>(alloc: Global, engine: &mut Engine<F>, op: &Op) -> Ou
             Err(fault) => Outcome::Size(Err(fault)),
         },
         Op::WriteOnce(acts, pairs, sync) => match build(alloc, acts) {
-            Ok(mut batch) => Outcome::Size(engine.write_once(&mut batch, pairs, *sync)),
+            Ok(mut batch) => {
+                numbers_fit(pairs);
+                Outcome::Size(engine.write_once(&mut batch, pairs, *sync))
+            }
             Err(fault) => Outcome::Size(Err(fault)),
         },
         Op::WriteGroup(parts) => match build_group(alloc, parts) {
@@ -189,6 +193,19 @@ pub fn step<F: FileSystem>(alloc: Global, engine: &mut Engine<F>, op: &Op) -> Ou
         Op::Purge => Outcome::ToCompact(engine.purge_expired_files(FileSeq::MAX)),
     }
 }
+
+// Each number has eight bytes, as its type says: they are read for that alone.
+fn numbers_fit(pairs: &[(u64, u64)])
+    ensures { are_numbers pairs.now ≡ true }
+{
+    for (_, number) in pairs {
+        number_fits(*number);
+    }
+}
+
+fn number_fits(number: u64)
+    ensures { nat_lt number (2 ^ 64) ≡ true }
+{}
 
 // The batches of a group, and which of them ask for a sync.
 fn build_group(

@@ -322,7 +322,7 @@ once_built g c = ap batch_of_acts (sym c.deref-in-WriteOnce.ensures.value) ∙ c
 -- what the engine says of it
 once_write : (g : Over) (c : After-write_once g) → IsWriteOnce c.in-Ok-build.batch.items c.write_once.new.batch.items c.in-WriteOnce.pairs.items c.in-WriteOnce.sync c.args.engine.now c.write_once.new.self c.write_once.result
 once_write g c =
-    subst (λ (l : List Pair). IsWriteOnce c.in-Ok-build.batch.items c.write_once.new.batch.items l c.in-WriteOnce.sync c.args.engine.now c.write_once.new.self c.write_once.result) c.deref-in-Ok-build.ensures.value c.write_once.ensures
+    subst (λ (l : List Pair). IsWriteOnce c.in-Ok-build.batch.items c.write_once.new.batch.items l c.in-WriteOnce.sync c.args.engine.now c.write_once.new.self c.write_once.result) c.deref-in-Ok-build-2.ensures.value c.write_once.ensures
 
 pub returns-in-Ok-build-clause-value : goal.returns-in-Ok-build-clause-value
 returns-in-Ok-build-clause-value g c =
@@ -342,7 +342,7 @@ returns-in-Ok-build-clause-cause g c =
 -- what it has done
 once_done : (g : Over) (c : After-write_once g) → Does (WriteOnce c.in-WriteOnce.acts c.in-WriteOnce.pairs c.in-WriteOnce.sync) (Size c.write_once.result) c.args.engine.now c.write_once.new.self
 once_done g c =
-    let numbers : are_numbers c.in-WriteOnce.pairs.items ≡ true = search rules in
+    let numbers : are_numbers c.in-WriteOnce.pairs.items ≡ true = ap are_numbers (sym c.deref-in-Ok-build.ensures.value) ∙ c.numbers_fit.ensures in
     once_does c.args.engine.now c.write_once.new.self c.in-WriteOnce.acts c.in-WriteOnce.pairs c.in-WriteOnce.sync c.in-Ok-build.batch.items c.write_once.new.batch.items (once_built g c) c.write_once.result (once_write g c) numbers
 
 pub returns-in-Ok-build-clause-progress : goal.returns-in-Ok-build-clause-progress
