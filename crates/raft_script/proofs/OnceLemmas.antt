@@ -1,6 +1,6 @@
 -- What an engine's write with numbers is as an operation.
-use Rattle.std.proofs.Common.{◌≡◌, ℕ, Bool, true, false, inl, inr, List, [], ◌∷◌, ◌++◌, Option, Some, None, refl, sym, ◌∙◌, ap, subst, arith}
-use Rattle.std.specs.Prelude.{◌⊎◌, if◌then◌else◌, IfErr, IfOk, IsErrAnd, IsSome, IsSomeAnd, MatchResult, Result, Ok, Err, Vec, unwrap_or}
+use Rattle.std.proofs.Common.{◌≡◌, ℕ, Bool, true, false, inl, inr, List, [], ◌∷◌, Option, Some, refl, sym, ◌∙◌, ap, subst, arith}
+use Rattle.std.specs.Prelude.{◌⊎◌, if◌then◌else◌, IsErrAnd, IsSome, MatchResult, Result, Ok, Err, Vec}
 use Rattle.std.specs.declared.alloc.Global.{Global}
 use Rattle.std.proofs.lemmas.Bool.{cases_Bool}
 use Rattle.raft_base.specs.Fault.{fault_code}
@@ -10,26 +10,26 @@ use Rattle.raft_env.specs.Refusal.{FailsCountedAt, RoseBy}
 use Rattle.raft_env.specs.declared.env.FileSystem.{Ghosts}
 use Rattle.raft_held.specs.Crash.{pending_of, written_batch}
 use Rattle.raft_once.specs.History.{are_numbers}
-use Rattle.raft_once.specs.Numbers.{Pair, are_new, are_old, are_unfit, has_numbers, meets_number, numbered}
+use Rattle.raft_once.specs.Numbers.{Pair, are_new, are_unfit, meets_number, numbered}
 use Rattle.raft_once.proofs.BatchLemmas.{numbered_refusal}
 use Rattle.raft_pipes.specs.PipeState.{HasLastNumber}
 use Rattle.raft_pipes.specs.Queue.{NamesLog}
 use Rattle.raft_records.specs.Contents.{Contents, after_batches}
 use Rattle.raft_records.specs.Item.{Batch}
-use Rattle.raft_records.specs.Validity.{IsValidBatch, batch_refusal}
+use Rattle.raft_records.specs.Validity.{batch_refusal}
 use Rattle.raft_log_engine.specs.Advance.{Advances, state_of}
 use Rattle.raft_log_engine.specs.Calls.{IsWrite}
 use Rattle.raft_log_engine.specs.Cause as engine
-use Rattle.raft_log_engine.specs.Durability.{Durability, Progresses, StaysFailed, accepted_by, covered_by, durability_of}
+use Rattle.raft_log_engine.specs.Durability.{Progresses, accepted_by, covered_by, durability_of}
 use Rattle.raft_log_engine.specs.Engine.{all_batches, begun_of, contents_of, directory_of, folders_of, found_of, has_failed, moments_of, queue_of, refusals_of}
 use Rattle.raft_log_engine.specs.Group.{accepted_in, chosen_of}
 use Rattle.raft_log_engine.specs.Once as once
-use Rattle.raft_log_engine.specs.Once.{IsActingOnce, IsOldOnce, IsRefusedOnce, IsStaleOnce, IsUnfitOnce, IsWriteOnce, acting_batch}
+use Rattle.raft_log_engine.specs.Once.{IsActingOnce, IsOldOnce, IsStaleOnce, IsWriteOnce, acting_batch}
 use Rattle.raft_log_engine.specs.declared.engine.Engine.{Engine}
-use Rattle.raft_script.specs.Batches.{accepted_of, batch_of_acts, batches_of_op, is_covering, items_of_acts, once_batch}
+use Rattle.raft_script.specs.Batches.{accepted_of, batch_of_acts, batches_of_op, is_covering, once_batch}
 use Rattle.raft_script.specs.Durability.{Does}
 use Rattle.raft_script.specs.Failure.{FailsBy, IsStorageOrMemory, is_io}
-use Rattle.raft_script.specs.Run.{IsNew, IsOnceRefusal, IsOutOfNumbers, IsRepeat, IsUnbuilt, IsWrittenOnce}
+use Rattle.raft_script.specs.Run.{IsNew, IsOnceRefusal, IsOutOfNumbers, IsUnbuilt, IsWrittenOnce}
 use Rattle.raft_script.specs.declared.operation.Act.{Act}
 use Rattle.raft_script.specs.declared.operation.Op.{Op}
 use Rattle.raft_script.specs.declared.operation.Op.TheVariants.{Write, WriteOnce}

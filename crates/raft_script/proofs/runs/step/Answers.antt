@@ -4,9 +4,9 @@ use Rattle.std.specs.Prelude.{unwrap_or}
 use Rattle.raft_records.specs.Contents.{Contents, first_index_of, last_index_of}
 use Rattle.raft_records.specs.Item.{Batch}
 use Rattle.raft_log_engine.specs.Durability.{Durability, durability_of}
-use Rattle.raft_log_engine.specs.Engine.{contents_of, directory_of, durable_of, folders_of, has_failed, is_known_in, moments_of, queue_of, refusals_of, rewrite_queue_of, unsynced_of}
+use Rattle.raft_log_engine.specs.Engine.{contents_of, directory_of, folders_of, has_failed, is_known_in, moments_of, queue_of, refusals_of, rewrite_queue_of}
 use Rattle.raft_script.proofs.PurgesLemmas.{purged_append, purged_expired, purged_rewrite, purged_stale}
-use Rattle.raft_script.specs.Batches.{Part, batch_of_acts, batches_of_op, batches_of_parts, items_of_acts}
+use Rattle.raft_script.specs.Batches.{Part, batch_of_acts, batches_of_parts, items_of_acts}
 use Rattle.raft_script.specs.Durability.{Does}
 use Rattle.raft_script.specs.Run.{IsUnbuilt, IsUnbuiltGroup}
 use Rattle.raft_held.specs.Crash.{pending_of}
@@ -17,7 +17,7 @@ use Rattle.raft_log_engine.specs.Reads.{compact_batch}
 use Rattle.raft_once.specs.History.{are_numbers}
 use Rattle.raft_once.specs.Numbers.{Pair}
 use Rattle.raft_script.specs.declared.operation.Op.TheVariants.{CompactTo, Purge, PurgeStale, RewriteAppend, RewriteRewrite, Sync, Write, WriteGroup, WriteOnce}
-use Rattle.raft_script.specs.declared.operation.Outcome.TheVariants.{Count, Done, Dropped, Size, Sizes, ToCompact}
+use Rattle.raft_script.specs.declared.operation.Outcome.TheVariants.{Dropped, Size, Sizes, ToCompact}
 use Rattle.raft_script.proofs.DurabilityLemmas.{alone, compaction_progress}
 use Rattle.raft_script.proofs.OnceLemmas.{covered_write, does_contents, does_write, once_answered, once_does, once_fails, once_rose, write_fails}
 use Rattle.raft_script.proofs.StepsLemmas.{does_purge, does_read, in_flight, read_same}
