@@ -101,9 +101,9 @@ module _ {F H R W : Type 0} {g : Ghosts F H R W} where
       (subst (λ (h : Fault). IsItemsRefusal (Some items) old mid h) one (for_cause (has_failed old) Cause f told by)))
 
   -- .. or that of some bytes, with numbers
-  pub keeps_numbered : {a : List Batch} {c : Bool} {old mid new : Engine F H R W g} {taken : Option Batch} {items : Batch} {pairs : List Pair} → new ≡ mid → taken ≡ Some items
+  pub keeps_numbered : {a : List Batch} {c : Bool} {old mid new : Engine F H R W g} {taken : Option Batch} {items : Batch} (pairs : List Pair) → new ≡ mid → taken ≡ Some items
       → Advances a c (pending_of (contents_of old) (acting_batch (contents_of old) items pairs)) (state_of old) (state_of mid) → KeepsLog (acting_in (contents_of old) taken pairs) old new
-  keeps_numbered {old} {mid} {new} {taken} {pairs = pairs} same is advance =
+  keeps_numbered {old} {mid} {new} {taken} pairs same is advance =
       subst (λ (e : Engine F H R W g). KeepsLog (acting_in (contents_of old) taken pairs) old e) (sym same)
       (subst (λ (t : Option Batch). KeepsLog (acting_in (contents_of old) t pairs) old mid) (sym is) (keeps_advance advance))
 

@@ -6,14 +6,14 @@ use Rattle.raft_c_log.proofs.open_log.OpenLog.write_numbered.Goals as goal
 
 pub returns-in-Ok-done-clause-keeps : goal.returns-in-Ok-done-clause-keeps
 returns-in-Ok-done-clause-keeps g c = elim c.match-add_items.branch [
-  | in-Ok w ↦ keeps_numbered (λ i. (w.self-is i).1.1.0) (taken_items c.args.self.now.emptied w.in-Ok.ensures.ok) w.write_once-done.ensures.advance
+  | in-Ok w ↦ keeps_numbered c.args.pairs.now (λ i. (w.self-is i).1.1.0) (taken_items c.args.self.now.emptied w.in-Ok.ensures.ok) w.write_once-done.ensures.advance
   | in-Err-Malformed w ↦ keeps_still (λ i. (w.self-is i).1.1.0)
   | in-Err-Refused w ↦ keeps_still (λ i. (w.self-is i).1.1.0)
 ]
 
 pub returns-in-Err-clause-keeps : goal.returns-in-Err-clause-keeps
 returns-in-Err-clause-keeps g c = elim c.match-add_items.branch [
-  | in-Ok w ↦ keeps_numbered (λ i. (w.self-is i).1.1.0) (taken_items c.args.self.now.emptied w.in-Ok.ensures.ok) w.write_once-done.ensures.advance
+  | in-Ok w ↦ keeps_numbered c.args.pairs.now (λ i. (w.self-is i).1.1.0) (taken_items c.args.self.now.emptied w.in-Ok.ensures.ok) w.write_once-done.ensures.advance
   | in-Err-Malformed w ↦ keeps_still (λ i. (w.self-is i).1.1.0)
   | in-Err-Refused w ↦ keeps_still (λ i. (w.self-is i).1.1.0)
 ]
