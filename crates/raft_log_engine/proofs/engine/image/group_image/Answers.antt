@@ -25,7 +25,7 @@ group_entries-requires-clause-readable g c = λ lifetimes order blocks has.
     subst (λ (o : Option TableView). are_readable_at blocks (or_empty o).entries ≡ true) c.in-Some.ensures.value (c.requires.readable blocks has c.args.group)
 
 pub returns-then-is_empty-2-clause-value : goal.returns-then-is_empty-2-clause-value
-returns-then-is_empty-2-clause-value g c = 
+returns-then-is_empty-2-clause-value g c =
     let blocks = blocks_of c.args.reader.now in
     let m = contents_in blocks (tables_of c.args.tables.now) in
     let is = c.in-Some.ensures.value in
@@ -38,14 +38,13 @@ returns-then-is_empty-2-clause-value g c =
     (sym entries ∙ ap entries_of no_entries, λ key. sym (left.value key) ∙ ap (λ ps. lookup (bytes_eq key) (listed ps)) no_pairs)
 
 pub returns-clause-value : goal.returns-clause-value
-returns-clause-value g c = 
+returns-clause-value g c =
     let blocks = blocks_of c.args.reader.now in
     let m = contents_in blocks (tables_of c.args.tables.now) in
     let is = c.in-Some.ensures.value in
     let entries = c.in_ok-entries.ensures.ok ∙ ap (λ (o : Option TableView). entries_in blocks (or_empty o).entries) (sym is) in
     let keys = subst (λ (o : Option TableView). IsListing (value_at (or_empty o)) (listed c.in_ok-pairs.pairs.items)) (sym is) c.in_ok-pairs.ensures.value in
-    let left = subst (IsListing ((shown m).value c.args.group)) (sym c.hide_copied_number.ensures.value) (shown_listing m c.args.group (listed c.in_ok-pairs.pairs.items) keys) in
-    (
+    let left = subst (IsListing ((shown m).value c.args.group)) (sym c.hide_copied_number.ensures.value) (shown_listing m c.args.group (listed c.in_ok-pairs.pairs.items) keys) in (
       refl,
       record {
         entries = entries;
