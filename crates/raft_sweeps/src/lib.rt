@@ -8,8 +8,6 @@ mod recycling;
 #[cfg(test)]
 mod refusals;
 #[cfg(test)]
-mod reopened;
-#[cfg(test)]
 mod sittings;
 #[cfg(test)]
 mod sweep;
