@@ -52,6 +52,12 @@ static void nothing(raftlog *log) {
     CHECK(raftlog_batch_is_empty(batch));
     CHECK(raftlog_write(log, NULL, true) == RAFTLOG_INVALID && raftlog_write(NULL, batch, true) == RAFTLOG_INVALID);
     CHECK(raftlog_write_bytes(log, NULL, 8, true) == RAFTLOG_INVALID && says(log, "invalid argument"));
+    uint64_t number = 1;
+    CHECK(raftlog_write_once(log, NULL, &number, &number, 1, true) == RAFTLOG_INVALID);
+    CHECK(raftlog_write_once(NULL, batch, &number, &number, 1, true) == RAFTLOG_INVALID);
+    CHECK(raftlog_write_once(log, batch, NULL, &number, 1, true) == RAFTLOG_INVALID);
+    CHECK(raftlog_write_once(log, batch, &number, NULL, 1, true) == RAFTLOG_INVALID);
+    CHECK(raftlog_write_once(log, batch, NULL, NULL, 0, true) == RAFTLOG_INVALID);
     CHECK(raftlog_sync(NULL) == RAFTLOG_INVALID && raftlog_compact_to(NULL, 1, 1, NULL) == RAFTLOG_INVALID);
     CHECK(raftlog_get(log, 1, "kept", 4, NULL) == RAFTLOG_INVALID && raftlog_get(NULL, 1, "kept", 4, &bytes) == RAFTLOG_INVALID);
     CHECK(raftlog_get(log, 1, NULL, 1, &bytes) == RAFTLOG_INVALID && raftlog_get_entry(log, 1, 5, NULL) == RAFTLOG_INVALID);

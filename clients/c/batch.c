@@ -147,12 +147,28 @@ int raftlog_batch_compact(raftlog_batch *batch, uint64_t group, uint64_t index) 
     return RAFTLOG_OK;
 }
 
-int raftlog_write(raftlog *log, raftlog_batch *batch, bool sync) {
+/* All its bytes, which begin with the number of its items. */
+static raftlog_slice whole(raftlog_batch *batch) {
     static const uint8_t empty[8];
-    if (!batch) return RAFTLOG_INVALID;
     uint64_t count = htobe64(batch->count);
     if (batch->len) memcpy(batch->data, &count, 8);
-    int code = raftlog_write_bytes(log, batch->len ? batch->data : empty, batch->len ? batch->len : 8, sync);
+    return batch->len ? (raftlog_slice){batch->data, batch->len} : (raftlog_slice){empty, sizeof empty};
+}
+
+static int written(raftlog_batch *batch, int code) {
     if (code == RAFTLOG_OK) raftlog_batch_clear(batch);
     return code;
+}
+
+int raftlog_write(raftlog *log, raftlog_batch *batch, bool sync) {
+    if (!batch) return RAFTLOG_INVALID;
+    raftlog_slice bytes = whole(batch);
+    return written(batch, raftlog_write_bytes(log, bytes.data, bytes.len, sync));
+}
+
+int raftlog_write_once(raftlog *log, raftlog_batch *batch, const uint64_t *groups, const uint64_t *numbers, size_t count,
+                       bool sync) {
+    if (!batch) return RAFTLOG_INVALID;
+    raftlog_slice bytes = whole(batch);
+    return written(batch, raftlog_write_once_bytes(log, bytes.data, bytes.len, groups, numbers, count, sync));
 }

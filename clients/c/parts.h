@@ -20,6 +20,7 @@ int32_t raft_c_add_folder(raft_c_handle *, const uint8_t *, size_t);
 void raft_c_open(raft_c_handle *, int32_t, const uint8_t *, size_t);
 void raft_c_close(raft_c_handle *);
 void raft_c_write(raft_c_handle *, const uint8_t *, size_t, bool);
+void raft_c_write_once(raft_c_handle *, const uint8_t *, size_t, const uint64_t *, size_t, const uint64_t *, size_t, bool);
 void raft_c_sync(raft_c_handle *);
 void raft_c_compact_to(raft_c_handle *, uint64_t, uint64_t);
 void raft_c_must_rewrite_append_queue(raft_c_handle *);

@@ -25,6 +25,7 @@ const char *raftlog_code_text(int code) {
     case RAFTLOG_FAILED: return "the log failed";
     case RAFTLOG_NO_MEMORY: return "out of memory";
     case RAFTLOG_LZ4: return "lz4 block";
+    case RAFTLOG_STALE_NUMBER: return "stale number";
     case RAFTLOG_ABSENT: return "absent";
     case RAFTLOG_IN_USE: return "the folder is open already";
     case RAFTLOG_NOT_PLAIN: return "neither a folder nor a file of one name";
@@ -200,6 +201,17 @@ int raftlog_write_bytes(raftlog *log, const void *bytes, size_t len, bool sync) 
     if (!log || is_lacking(bytes, len)) return refuse(log, RAFTLOG_INVALID);
     enter(log);
     raft_c_write(&log->handle, parts_some(bytes), len, sync);
+    return leave(log, settled(log));
+}
+
+int raftlog_write_once_bytes(raftlog *log, const void *bytes, size_t len, const uint64_t *groups, const uint64_t *numbers,
+                             size_t count, bool sync) {
+    static const uint64_t no_number[1];
+    bool lacks = is_lacking(bytes, len) || is_lacking(groups, count) || is_lacking(numbers, count);
+    if (!log || lacks) return refuse(log, RAFTLOG_INVALID);
+    enter(log);
+    raft_c_write_once(&log->handle, parts_some(bytes), len, groups ? groups : no_number, count,
+                      numbers ? numbers : no_number, count, sync);
     return leave(log, settled(log));
 }
 

@@ -9,7 +9,7 @@
  *
  * Units. Groups and indexes are 64-bit numbers; an index of 2^64 - 1 is none. Sizes and lengths are in bytes. A key, a
  * value and an entry may be empty; a pointer may be NULL where its length is 0. A key that begins with two underscores is
- * the engine's own.
+ * the engine's own, and so is the key "\xffonce", at which it keeps the number of a group; reads don't tell it.
  *
  * Who owns what. A log, a batch and a buffer are the caller's from the call that made them to the call that frees them.
  * What is handed in is copied before the call ends. What is answered stands in a buffer of the caller's, and lasts until
@@ -62,6 +62,8 @@ enum {
     RAFTLOG_NO_MEMORY = 12,
     /* The log holds a compressed record, which can't be read. */
     RAFTLOG_LZ4 = 13,
+    /* Of the numbers of a write some are greater than those that their groups keep, and others aren't. */
+    RAFTLOG_STALE_NUMBER = 18,
     /* What was asked for isn't there. */
     RAFTLOG_ABSENT = 20,
     /* The folder is open already, in this process or another one. */
@@ -152,8 +154,18 @@ int raftlog_batch_compact(raftlog_batch *batch, uint64_t group, uint64_t index);
 
 /* Writes a batch, and empties it where that was done; else it is as it was. After RAFTLOG_OK with `sync` it survives a
  * crash, with all that was written before it; without, it does after the next sync. It fails as RAFTLOG_INVALID (a key with
- * two underscores), RAFTLOG_GAP, RAFTLOG_RANGE or RAFTLOG_TRY_AGAIN, after which the log stands, or as RAFTLOG_IO. */
+ * two underscores, or that of a number), RAFTLOG_GAP, RAFTLOG_RANGE or RAFTLOG_TRY_AGAIN, after which the log stands, or as
+ * RAFTLOG_IO. */
 int raftlog_write(raftlog *log, raftlog_batch *batch, bool sync);
+
+/* Writes a batch that acts once, however often it is written: with it each of these groups takes the number beside it, and
+ * keeps it until it is cleaned. Each number has to be greater than the one that its group keeps; a group that keeps none
+ * counts as having 0. Where none of them is, the batch was written already: nothing is written, and RAFTLOG_OK is answered,
+ * after a sync where that was asked. It fails as RAFTLOG_INVALID too where there are no groups or one of them stands there
+ * twice, as RAFTLOG_STALE_NUMBER, and as `raftlog_write`; after RAFTLOG_IO or RAFTLOG_FAILED write it again once the log is
+ * open again. */
+int raftlog_write_once(raftlog *log, raftlog_batch *batch, const uint64_t *groups, const uint64_t *numbers, size_t count,
+                       bool sync);
 
 /* The same of the bytes of a batch, for other languages: how many items there are, and of each a byte that says what it
  * is, its group, and then
@@ -162,6 +174,8 @@ int raftlog_write(raftlog *log, raftlog_batch *batch, bool sync);
  * A key, a value and an entry have their length before them, and an entry begins with its index. Each number takes eight
  * bytes, the greatest first. Bytes that are no batch are refused as RAFTLOG_INVALID. */
 int raftlog_write_bytes(raftlog *log, const void *bytes, size_t len, bool sync);
+int raftlog_write_once_bytes(raftlog *log, const void *bytes, size_t len, const uint64_t *groups, const uint64_t *numbers,
+                             size_t count, bool sync);
 
 /* Syncs all that was written: after RAFTLOG_OK it survives a crash. RAFTLOG_IO fails the log. */
 int raftlog_sync(raftlog *log);

@@ -163,6 +163,39 @@ static void bad_arguments(raftlog *log) {
     raftlog_batch_free(batch);
 }
 
+static int put_once(raftlog *log, const char *value, const uint64_t *of, const uint64_t *numbers, size_t count) {
+    raftlog_batch *batch = raftlog_batch_new();
+    CHECK(raftlog_batch_put(batch, 40, "k", 1, value, 1) == 0);
+    int code = raftlog_write_once(log, batch, of, numbers, count, true);
+    CHECK(raftlog_batch_is_empty(batch) == (code == 0));
+    raftlog_batch_free(batch);
+    return code;
+}
+
+static bool has_once(raftlog *log, char value) {
+    raftlog_bytes bytes = {0};
+    bool has = !raftlog_get(log, 40, "k", 1, &bytes) && bytes.len == 1 && *bytes.data == (uint8_t)value;
+    raftlog_bytes_free(&bytes);
+    return has;
+}
+
+/* Writes that act once */
+static void once(raftlog *log) {
+    raftlog_batch *batch = raftlog_batch_new();
+    raftlog_bytes bytes = {0};
+    uint64_t of[] = {40, 41}, old[] = {5, 0}, mixed[] = {6, 0}, both[] = {6, 1}, twice[] = {40, 40};
+    CHECK(put_once(log, "a", of, old, 1) == 0 && put_once(log, "b", of, old, 1) == 0 && has_once(log, 'a'));
+    CHECK(put_once(log, "c", of, mixed, 2) == RAFTLOG_STALE_NUMBER);
+    CHECK(put_once(log, "c", twice, both, 2) == RAFTLOG_INVALID && put_once(log, "c", of, both, 0) == RAFTLOG_INVALID);
+    CHECK(has_once(log, 'a') && put_once(log, "c", of, both, 2) == 0 && has_once(log, 'c'));
+    CHECK(put_once(log, "d", of, both, 2) == 0 && has_once(log, 'c'));
+    CHECK(raftlog_batch_put(batch, 40, "\xffonce", 5, "v", 1) == 0 && raftlog_write(log, batch, true) == RAFTLOG_INVALID);
+    CHECK(raftlog_get(log, 40, "\xffonce", 5, &bytes) == RAFTLOG_ABSENT);
+    CHECK(raftlog_scan(log, 40, NULL, NULL, false, 0, &bytes) == 0 && bytes.len == 8 + 1 + 8 + 1);
+    raftlog_bytes_free(&bytes);
+    raftlog_batch_free(batch);
+}
+
 static void calls(raftlog *log) {
     keys(log);
     scans(log);
@@ -170,6 +203,7 @@ static void calls(raftlog *log) {
     refusals(log);
     groups(log);
     bad_arguments(log);
+    once(log);
 }
 
 static void *put_many(void *of) {
@@ -245,6 +279,8 @@ int main(int argc, char **argv) {
     uint64_t index;
     CHECK(raftlog_get(log, 1, "a", 1, &bytes) == 0 && bytes.len == 5 && !memcmp(bytes.data, "first", 5));
     CHECK(raftlog_last_index(log, 7, &index) == 0 && index == 14);
+    uint64_t of = 40, number = 6;
+    CHECK(put_once(log, "e", &of, &number, 1) == 0 && has_once(log, 'c'));
     CHECK(raftlog_close(log) == 0);
     raftlog_bytes_free(&bytes);
     broken(argv[1]);

@@ -7,6 +7,7 @@ from ctypes import POINTER, byref, c_bool, c_char_p, c_int, c_size_t, c_uint64, 
 _HERE = os.path.dirname(os.path.abspath(__file__))
 _C = ctypes.CDLL(os.environ.get("RAFTLOG_SO", os.path.join(_HERE, "../c/build/libraftlog.so")))
 INVALID, IO, TRY_AGAIN, GAP, COMPACTED, NO_ENTRY, FAILED, ABSENT, IN_USE, FOLDER = 1, 3, 4, 5, 7, 8, 11, 20, 30, 32
+STALE_NUMBER = 18
 
 
 class _Slice(ctypes.Structure):
@@ -31,6 +32,8 @@ for _name, _result, _arguments in [
     ("message", c_size_t, [c_void_p, c_char_p, c_size_t]),
     ("code_text", c_char_p, [c_int]),
     ("write_bytes", c_int, [c_void_p, c_char_p, c_size_t, c_bool]),
+    ("write_once_bytes", c_int,
+     [c_void_p, c_char_p, c_size_t, POINTER(c_uint64), POINTER(c_uint64), c_size_t, c_bool]),
     ("sync", c_int, [c_void_p]),
     ("get", c_int, [c_void_p, c_uint64, c_char_p, c_size_t, POINTER(_Bytes)]),
     ("get_entry", c_int, [c_void_p, c_uint64, c_uint64, POINTER(_Bytes)]),
@@ -147,6 +150,14 @@ class Engine:
     def write(self, batch, sync=False):
         data = batch._bytes()
         self._call("write_bytes", data, len(data), sync)
+        batch.clear()
+
+    def write_once(self, batch, pairs, sync=False):
+        """Acts once, however often it is written: with it each group of the pairs takes the number beside it. Each number
+        has to be greater than the one that its group keeps; where none is, nothing is written."""
+        pairs, data = list(pairs), batch._bytes()
+        groups, numbers = ((c_uint64 * len(pairs))(*(pair[i] for pair in pairs)) for i in (0, 1))
+        self._call("write_once_bytes", data, len(data), groups, numbers, len(pairs), sync)
         batch.clear()
 
     def sync(self):

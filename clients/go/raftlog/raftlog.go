@@ -31,6 +31,7 @@ const (
 	NotAnEntry Code = 10
 	Failed     Code = 11
 	NoMemory   Code = 12
+	Stale      Code = 18
 	absent     Code = 20
 	InUse      Code = 30
 	NotPlain   Code = 31
@@ -161,6 +162,31 @@ func (e *Engine) Write(batch *Batch, sync bool) error {
 	defer e.mutex.Unlock()
 	bytes := batch.whole()
 	code := C.raftlog_write_bytes(e.log, pointer(bytes), C.size_t(len(bytes)), C.bool(sync))
+	if code != 0 {
+		return e.failure(code)
+	}
+	batch.Clear()
+	return nil
+}
+
+// A Number is a group, and the number of a write that acts on it once.
+type Number struct{ Group, Number uint64 }
+
+// WriteOnce writes a batch that acts once, however often it is written: with it each of these groups takes its number. Each
+// number has to be greater than the one that its group keeps; where none is, nothing is written. It fails as Stale where
+// some are and others aren't.
+func (e *Engine) WriteOnce(batch *Batch, numbers []Number, sync bool) error {
+	if err := e.enter(); err != nil {
+		return err
+	}
+	defer e.mutex.Unlock()
+	groups, values := make([]C.uint64_t, len(numbers)+1), make([]C.uint64_t, len(numbers)+1)
+	for i, n := range numbers {
+		groups[i], values[i] = C.uint64_t(n.Group), C.uint64_t(n.Number)
+	}
+	bytes := batch.whole()
+	code := C.raftlog_write_once_bytes(e.log, pointer(bytes), C.size_t(len(bytes)), &groups[0], &values[0],
+		C.size_t(len(numbers)), C.bool(sync))
 	if code != 0 {
 		return e.failure(code)
 	}

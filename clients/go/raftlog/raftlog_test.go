@@ -93,6 +93,35 @@ func TestMemory(t *testing.T) {
 	}
 }
 
+func TestOnce(t *testing.T) {
+	log, err := OpenMemory("")
+	must(t, err)
+	put := func(value string, numbers ...Number) error {
+		var b Batch
+		b.Put(1, []byte("k"), []byte(value))
+		return log.WriteOnce(&b, numbers, true)
+	}
+	has := func(wanted string) {
+		t.Helper()
+		if value, _, err := log.Get(1, []byte("k")); err != nil || string(value) != wanted {
+			t.Fatal(value, err)
+		}
+	}
+	must(t, put("a", Number{1, 5}))
+	must(t, put("b", Number{1, 5}))
+	has("a")
+	if err := put("c", Number{1, 6}, Number{2, 0}); !HasCode(err, Stale) {
+		t.Fatal(err)
+	}
+	if err := put("c"); !HasCode(err, Invalid) {
+		t.Fatal(err)
+	}
+	has("a")
+	must(t, put("c", Number{1, 6}, Number{2, 1}))
+	has("c")
+	must(t, log.Close())
+}
+
 func TestFolder(t *testing.T) {
 	folder := filepath.Join(t.TempDir(), "log")
 	log, err := Open(folder, "")

@@ -36,6 +36,7 @@ pub enum Code {
     Failed,
     NoMemory,
     Lz4,
+    StaleNumber,
     InUse,
     NotPlain,
     Folder,
@@ -58,6 +59,7 @@ impl Code {
             11 => Code::Failed,
             12 => Code::NoMemory,
             13 => Code::Lz4,
+            18 => Code::StaleNumber,
             30 => Code::InUse,
             31 => Code::NotPlain,
             32 => Code::Folder,
@@ -314,6 +316,26 @@ impl Engine {
     /// was written before it.
     pub fn write(&self, batch: &mut LogBatch, sync: bool) -> Result<()> {
         self.done(unsafe { sys::raftlog_write_bytes(self.log, batch.bytes.as_ptr().cast(), batch.bytes.len(), sync) })?;
+        batch.clear();
+        Ok(())
+    }
+
+    /// Writes a batch that acts once, however often it is written: with it each of these groups takes the number beside
+    /// it. Each number has to be greater than the one that its group keeps; where none is, nothing is written.
+    pub fn write_once(&self, batch: &mut LogBatch, pairs: &[(u64, u64)], sync: bool) -> Result<()> {
+        let (groups, numbers): (Vec<u64>, Vec<u64>) = pairs.iter().copied().unzip();
+        let bytes = &batch.bytes;
+        self.done(unsafe {
+            sys::raftlog_write_once_bytes(
+                self.log,
+                bytes.as_ptr().cast(),
+                bytes.len(),
+                groups.as_ptr(),
+                numbers.as_ptr(),
+                pairs.len(),
+                sync,
+            )
+        })?;
         batch.clear();
         Ok(())
     }

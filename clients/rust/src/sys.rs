@@ -28,6 +28,7 @@ extern "C" {
     pub fn raftlog_message(log: *mut raftlog, text: *mut c_char, room: usize) -> usize;
     pub fn raftlog_code_text(code: c_int) -> *const c_char;
     pub fn raftlog_write_bytes(log: *mut raftlog, bytes: *const c_void, len: usize, sync: bool) -> c_int;
+    pub fn raftlog_write_once_bytes(log: *mut raftlog, bytes: *const c_void, len: usize, groups: *const u64, numbers: *const u64, count: usize, sync: bool) -> c_int;
     pub fn raftlog_sync(log: *mut raftlog) -> c_int;
     pub fn raftlog_get(log: *mut raftlog, group: u64, key: *const c_void, key_len: usize, value: *mut raftlog_bytes) -> c_int;
     pub fn raftlog_get_entry(log: *mut raftlog, group: u64, index: u64, value: *mut raftlog_bytes) -> c_int;

@@ -66,6 +66,24 @@ fn bad_arguments() {
 }
 
 #[test]
+fn writes_that_act_once() {
+    let log = Engine::open_memory("").unwrap();
+    let mut batch = LogBatch::new();
+    batch.put(1, b"k", b"a");
+    log.write_once(&mut batch, &[(1, 5)], true).unwrap();
+    assert!(batch.is_empty());
+    batch.put(1, b"k", b"b");
+    log.write_once(&mut batch, &[(1, 5)], true).unwrap();
+    assert_eq!(log.get(1, b"k").unwrap().unwrap(), b"a");
+    batch.put(1, b"k", b"c");
+    assert_eq!(log.write_once(&mut batch, &[(1, 6), (2, 0)], true).unwrap_err().code, Code::StaleNumber);
+    assert_eq!(log.write_once(&mut batch, &[], true).unwrap_err().code, Code::Invalid);
+    assert!(!batch.is_empty());
+    log.write_once(&mut batch, &[(1, 6), (2, 1)], true).unwrap();
+    assert_eq!(log.get(1, b"k").unwrap().unwrap(), b"c");
+}
+
+#[test]
 fn in_memory() {
     exercise(&Engine::open_memory("").unwrap());
 }

@@ -9,7 +9,7 @@ use std::test::Fail;
 /// The code of a fault, and its text.
 struct Text(u8, &'static str);
 
-static TEXTS: [Text; 17] = [
+static TEXTS: [Text; 18] = [
     Text(1, "invalid argument: a reason"),
     Text(2, "corruption"),
     Text(3, "io NotFound: a/b"),
@@ -27,6 +27,7 @@ static TEXTS: [Text; 17] = [
     Text(15, "not recovered"),
     Text(16, "trail full"),
     Text(17, "lists of different lengths"),
+    Text(18, "stale number"),
 ];
 
 fn fault_of(alloc: Global, code: u8) -> Result<Fault, Fault> {
@@ -47,7 +48,8 @@ fn fault_of(alloc: Global, code: u8) -> Result<Fault, Fault> {
         14 => Fault::FileOutOfRange,
         15 => Fault::NotRecovered,
         16 => Fault::TrailFull,
-        _ => Fault::Layer,
+        17 => Fault::Layer,
+        _ => Fault::StaleNumber,
     })
 }
 

@@ -124,6 +124,28 @@ pub extern "C" fn raft_c_write(alloc: Global, handle: &mut Handle, batch: &[u8],
     change(alloc, handle, Change::Write(batch, sync));
 }
 
+/// Writes a batch, given by its bytes, with groups and the numbers beside them, by which it acts once.
+#[unsafe(no_mangle)]
+pub extern "C" fn raft_c_write_once(
+    alloc: Global,
+    handle: &mut Handle,
+    batch: &[u8],
+    groups: &[u64],
+    numbers: &[u64],
+    sync: bool,
+)
+    requires { IsSome handle.old.value }
+    ensures some { IsSome handle.new.value }
+    ensures waits { WaitsAfter (Change.WriteOnce batch.entry groups.entry numbers.entry sync)
+        handle.old.value handle.new.value }
+{
+    change(
+        alloc,
+        handle,
+        Change::WriteOnce(batch, groups, numbers, sync),
+    );
+}
+
 /// Syncs what was written.
 #[unsafe(no_mangle)]
 pub extern "C" fn raft_c_sync(alloc: Global, handle: &mut Handle)

@@ -7,7 +7,7 @@ use Rattle.raft_base.specs.declared.errors.Fault.TheVariants as fault
 pub fault_code_some : (e : Fault) → 1 ≤ fault_code e
 fault_code_some e = grind arith
 
-pub fault_code_low : (e : Fault) → fault_code e ≤ 17
+pub fault_code_low : (e : Fault) → fault_code e ≤ 18
 fault_code_low e = grind arith
 
 pub ruleset fault_codes = (fault_code_some, fault_code_low)
@@ -31,6 +31,7 @@ stored_code fault.FileOutOfRange = refl
 stored_code fault.NotRecovered = refl
 stored_code fault.TrailFull = refl
 stored_code fault.Layer = refl
+stored_code fault.StaleNumber = refl
 
 pub kept_code : (e : Fault) {code : ℤ} → code ≡ pos (fault_code e) → to_z w32 (of_z w32 code) ≡ pos (fault_code e)
 kept_code e is = ap (λ (c : ℤ). to_z w32 (of_z w32 c)) is ∙ stored_code e

@@ -9,13 +9,15 @@ use Rattle.raft_env.specs.Refusal.{FailsCountedAt}
 use Rattle.raft_env.specs.declared.env.FileSystem.{Ghosts}
 use Rattle.raft_held.specs.Crash.{LeavesAllowed, RecoversContents, pending_of}
 use Rattle.raft_log_engine.specs.Advance.{Advances, ChangesOnlyItsLog, StaysWithin, state_of}
-use Rattle.raft_log_engine.specs.Cause.{IsWriteRefusal}
+use Rattle.raft_log_engine.specs.Cause.{IsWriteRefusal, plain_part}
 use Rattle.raft_log_engine.specs.Durability.{HasOnlyRead}
+use Rattle.raft_log_engine.specs.Once.{IsActingOnce, IsOldOnce, IsRefusedOnce, IsStaleOnce, IsUnfitOnce, IsWriteOnce, acting_batch}
 use Rattle.raft_log_engine.specs.Engine.{contents_of, directory_of, durable_of, folders_of, has_failed, queue_of, refusals_of, unsynced_of}
 use Rattle.raft_log_engine.specs.declared.engine.Engine.{Engine}
 use Rattle.raft_log_engine.proofs.AdvanceLemmas.{stays_more}
 use Rattle.raft_log_engine.proofs.EngineLemmas.{engine_still_more}
 use Rattle.raft_records.specs.Item.{Batch}
+use Rattle.raft_once.specs.Numbers.{Pair}
 use Rattle.raft_pipes.specs.Folder.{LeavesOtherFiles}
 use Rattle.raft_pipes.specs.Queue.{NamesLog}
 use Rattle.raft_base.specs.Fault.{fault_code}
@@ -24,7 +26,7 @@ use Rattle.raft_c_batch.specs.Batch.{IsBatchRefusal}
 use Rattle.raft_c_batch.specs.declared.batch.BatchFault.{BatchFault}
 use Rattle.raft_c_batch.specs.declared.batch.BatchFault.TheVariants.{Malformed, Refused as Unfit}
 use Rattle.raft_c_log.specs.Closing.{IsClosedAs}
-use Rattle.raft_c_log.specs.Refusals.{IsItemsRefusal, IsRefusalFor, KeepsLog, pending_in}
+use Rattle.raft_c_log.specs.Refusals.{IsItemsRefusal, IsNumberedRefusal, IsRefusalFor, KeepsLog, acting_in, pending_in}
 use Rattle.raft_c_log.proofs.CodeLemmas.{code_of, fault_code_some}
 
 -- an engine's refusal
@@ -82,7 +84,7 @@ module _ {F H R W : Type 0} {g : Ghosts F H R W} where
   keeps_advance advance = record { any_moment = advance.any_moment; others = advance.log.others }
 
   -- .. that writes the batch of some bytes
-  pub keeps_written : {a : List Batch} {c : Bool} {old mid new : Engine F H R W g} {taken : Option Batch} {items : Batch} → new ≡ mid → taken ≡ Some items → Advances a c (pending_of (contents_of old) items) (state_of old) (state_of mid) → KeepsLog (pending_in (contents_of old) taken) old new
+  pub keeps_written : {a : List Batch} {c : Bool} {old mid new : Engine F H R W g} {taken : Option Batch} {items : Batch} → new ≡ mid → taken ≡ Some items → Advances a c (pending_of (contents_of old) (plain_part items)) (state_of old) (state_of mid) → KeepsLog (pending_in (contents_of old) taken) old new
   keeps_written {old} {mid} {new} {taken} same is advance =
       subst (λ (e : Engine F H R W g). KeepsLog (pending_in (contents_of old) taken) old e) (sym same)
       (subst (λ (t : Option Batch). KeepsLog (pending_in (contents_of old) t) old mid) (sym is) (keeps_advance advance))
@@ -97,6 +99,37 @@ module _ {F H R W : Type 0} {g : Ghosts F H R W} where
       subst (λ (t : Option Batch). IsItemsRefusal t old new e) (sym took)
       (subst (λ (n : Engine F H R W g). IsItemsRefusal (Some items) old n e) (sym same)
       (subst (λ (h : Fault). IsItemsRefusal (Some items) old mid h) one (for_cause (has_failed old) Cause f told by)))
+
+  -- .. or that of some bytes, with numbers
+  pub keeps_numbered : {a : List Batch} {c : Bool} {old mid new : Engine F H R W g} {taken : Option Batch} {items : Batch} (pairs : List Pair) → new ≡ mid → taken ≡ Some items
+      → Advances a c (pending_of (contents_of old) (acting_batch (contents_of old) items pairs)) (state_of old) (state_of mid) → KeepsLog (acting_in (contents_of old) taken pairs) old new
+  keeps_numbered {old} {mid} {new} {taken} pairs same is advance =
+      subst (λ (e : Engine F H R W g). KeepsLog (acting_in (contents_of old) taken pairs) old e) (sym same)
+      (subst (λ (t : Option Batch). KeepsLog (acting_in (contents_of old) t pairs) old mid) (sym is) (keeps_advance advance))
+
+  -- .. which the engine refuses
+  pub numbered_refused : (old mid new : Engine F H R W g) (taken : Option Batch) (items rest : Batch) (pairs : List Pair) (sync : Bool) (result : Result ℕ Fault) (e : Fault) → result ≡ Err e → new ≡ mid → taken ≡ Some items
+      → IsWriteOnce items rest pairs sync old mid result → IsNumberedRefusal taken pairs sync old new e
+  numbered_refused old mid new taken items rest pairs sync result e is same took write =
+      let refused : IsWriteOnce items rest pairs sync old mid (Err e) = subst (IsWriteOnce items rest pairs sync old mid) is write in
+      subst (λ (t : Option Batch). IsNumberedRefusal t pairs sync old new e) (sym took)
+      (subst (λ (n : Engine F H R W g). IsWriteOnce items items pairs sync old n (Err e)) (sym same)
+      (subst (λ (left : Batch). IsWriteOnce items left pairs sync old mid (Err e)) refused.rest_is refused))
+
+  -- .. and it holds what it held
+  pub numbered_contents : {items rest : Batch} {pairs : List Pair} {sync : Bool} {old new : Engine F H R W g} {e : Fault} → IsWriteOnce items rest pairs sync old new (Err e) → has_failed new ≡ false → contents_of new ≡ contents_of old
+  numbered_contents {items} {rest} {pairs} {sync} {old} {new} {e} write stands = at (has_failed old) refl
+    where
+      by : IsUnfitOnce pairs old new (Err e) ⊎ IsOldOnce pairs sync old new (Err e) ⊎ IsStaleOnce pairs old new (Err e) ⊎ IsRefusedOnce items pairs old new (Err e) ⊎ IsActingOnce items pairs sync old new (Err e) → contents_of new ≡ contents_of old
+      by (inl u) = ap contents_of u.same
+      by (inr (inl o)) = (o.write.err stands).contents
+      by (inr (inr (inl s))) = ap contents_of s.same
+      by (inr (inr (inr (inl r)))) = ap contents_of r.same
+      by (inr (inr (inr (inr a)))) = (a.write.err stands).contents
+
+      at : (was : Bool) → has_failed old ≡ was → contents_of new ≡ contents_of old
+      at true failed = (write.unchanged failed).contents
+      at false stood = by (write.answer stood)
 
   -- a close that was refused
   pub close_refused : {code : ℤ} (e : Engine F H R W g) (r : Refused F) → code ≡ pos (fault_code r.fault) → RecoversContents (folders_of e) (durable_of e) (unsynced_of e) (g.directory r.file_system)

@@ -1,7 +1,7 @@
 -- What calls on an open log do and answer, by what its engine holds.
 use Rattle.std.specs.Borrow.{Bor}
 use Rattle.std.specs.Option.{option_copied}
-use Rattle.std.specs.Prelude.{◌≡◌, ◌+◌, ℕ, Bool, true, false, List, [], length, Option, Some, None, drop, option_map}
+use Rattle.std.specs.Prelude.{◌≡◌, ◌+◌, ℕ, Bool, true, false, List, [], length, Option, Some, None, Ok, drop, option_map, zip}
 use Rattle.raft_env.specs.declared.env.FileSystem.{Ghosts}
 use Rattle.raft_held.specs.Crash.{pending_of, written_batch}
 use Rattle.raft_pipes.specs.PipeState.{PipeState}
@@ -9,6 +9,7 @@ use Rattle.raft_purge.specs.Scope.{HasRewritten}
 use Rattle.raft_purge.specs.declared.append_queue.AppendScope.{AppendScope}
 use Rattle.raft_records.specs.Contents.{Contents, after_batch, first_index_of, last_index_of}
 use Rattle.raft_records.specs.Item.{Batch, Entry}
+use Rattle.raft_once.specs.Numbers.{Pair, has_numbers, shown}
 use Rattle.raft_c_batch.specs.Batch.{entries_bytes, read_batch}
 use Rattle.raft_c_batch.specs.Parts.{numbers_bytes, pairs_bytes}
 use Rattle.raft_log_engine.specs.Advance.{Advances, state_of}
@@ -16,6 +17,7 @@ use Rattle.raft_log_engine.specs.Durability.{HasWritten, after_call, durability_
 use Rattle.raft_log_engine.specs.Engine.{contents_of, has_groups_together, is_known_in, queue_of, rewrite_queue_of}
 use Rattle.raft_log_engine.specs.Expired.{HasPurgedExpired}
 use Rattle.raft_log_engine.specs.Image.{IsWithout}
+use Rattle.raft_log_engine.specs.Once.{IsWriteOnce}
 use Rattle.raft_log_engine.specs.Purge.{HasDroppedStale, HasRenewed, tables_in}
 use Rattle.raft_log_engine.specs.Reads.{IsFetchable, IsGroupList, compact_batch, compact_count, entries_to_fetch, entry_of}
 use Rattle.raft_log_engine.specs.Scan.{IsScan}
@@ -23,7 +25,7 @@ use Rattle.raft_log_engine.specs.declared.engine.Engine.{Engine}
 use Rattle.raft_c_log.specs.Limit.{limited, max_of}
 use Rattle.raft_c_log.specs.declared.answer.Answer.{Answer}
 use Rattle.raft_c_log.specs.declared.calls.Change.{Change}
-use Rattle.raft_c_log.specs.declared.calls.Change.TheVariants.{Write, Sync, CompactTo, RewriteAppendQueue, RewriteRewriteQueue, PurgeAllStale, PurgeExpired}
+use Rattle.raft_c_log.specs.declared.calls.Change.TheVariants.{Write, WriteOnce, Sync, CompactTo, RewriteAppendQueue, RewriteRewriteQueue, PurgeAllStale, PurgeExpired}
 use Rattle.raft_c_log.specs.declared.calls.Fetch.{Fetch}
 use Rattle.raft_c_log.specs.declared.calls.Query.{Query}
 use Rattle.raft_c_log.specs.declared.calls.Query.TheVariants as query
@@ -75,10 +77,19 @@ module _ {F H R W : Type 0} {g : Ghosts F H R W} where
   pub record IsWrittenBy (bytes : List ℕ) (sync : Bool) (old new : Engine F H R W g) : Type 0 where
     pub items : Batch
     pub read : read_batch bytes ≡ Some items
+    pub plain : has_numbers items ≡ false
     pub len : ℕ
     pub written : HasWritten items [] old new len
     pub advance : Advances (written_batch items) sync (pending_of (contents_of old) items)
         (state_of old) (state_of new)
+
+  -- .. with numbers, so that it acts once
+  pub record IsWrittenOnceBy (bytes : List ℕ) (pairs : List Pair) (sync : Bool)
+      (old new : Engine F H R W g) : Type 0 where
+    pub items : Batch
+    pub read : read_batch bytes ≡ Some items
+    pub len : ℕ
+    pub written : IsWriteOnce items [] pairs sync old new (Ok len)
 
   -- what was written is on the disk
   pub record IsSynced (old new : Engine F H R W g) : Type 0 where
@@ -128,6 +139,8 @@ module _ {F H R W : Type 0} {g : Ghosts F H R W} where
   -- what a change did
   abbrev pub HasChanged : Change → Engine F H R W g → Engine F H R W g → Answer → Type 0
   HasChanged (Write bytes sync) old new answer = IsWrittenBy bytes.now sync old new
+  HasChanged (WriteOnce bytes groups numbers sync) old new answer =
+      IsWrittenOnceBy bytes.now (zip groups.now numbers.now) sync old new
   HasChanged Sync old new answer = IsSynced old new
   HasChanged (CompactTo group index) old new answer = IsCompacted group index old new answer
   HasChanged RewriteAppendQueue old new answer = HasRewrittenAppend old new answer
@@ -143,13 +156,13 @@ module _ {F H R W : Type 0} {g : Ghosts F H R W} where
   -- what a query answers, and whether that is there
   abbrev pub HasAnswered : Query → Engine F H R W g → Answer → Bool → Type 0
   HasAnswered (query.Get group key) e answer found =
-      answered found answer.bytes.items ≡ (contents_of e).value group key.now
+      answered found answer.bytes.items ≡ (shown (contents_of e)).value group key.now
   HasAnswered (query.Entry group index) e answer found = answered found answer.bytes.items
       ≡ option_map (drop 8) (entry_of (contents_of e) group index)
   HasAnswered (query.Fetch fetch) e answer found =
       (found ≡ true) × IsFetchAnswer fetch (contents_of e) answer.bytes.items
   HasAnswered (query.Scan scan) e answer found =
-      (found ≡ true) × IsScanAnswer scan (contents_of e) answer.bytes.items
+      (found ≡ true) × IsScanAnswer scan (shown (contents_of e)) answer.bytes.items
   HasAnswered query.Groups e answer found =
       (found ≡ true) × IsGroupsAnswer e answer.bytes.items
   HasAnswered (query.Span group) e answer found =

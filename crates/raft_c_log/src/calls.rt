@@ -7,6 +7,9 @@ ghost use Rattle.raft_c_log.specs.Limit.{max_of};
 pub enum Change<'a> {
     /// The bytes of a batch, and whether it is synced.
     Write(&'a [u8], bool),
+    /// The bytes of a batch, groups and beside them the numbers by which it acts once, and whether it
+    /// is synced.
+    WriteOnce(&'a [u8], &'a [u64], &'a [u64], bool),
     Sync,
     /// Of a group, the entries below an index go.
     CompactTo(u64, u64),

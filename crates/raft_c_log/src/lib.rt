@@ -4,6 +4,7 @@
 
 mod answer;
 mod calls;
+mod numbers;
 mod open_log;
 mod opening;
 mod scan;

@@ -1,11 +1,12 @@
 //! An engine whose calls are asked for by values.
-ghost use Rattle.std.specs.Prelude.{◌≡◌, [], None, drop, false, true, option_map, IfErr, IfOk, IsErr, MatchResult, OnErr, OnOk, pos};
+ghost use Rattle.std.specs.Prelude.{◌≡◌, [], None, drop, false, true, option_map, IfErr, IfOk, IsErr, MatchResult, OnErr, OnOk, pos, zip};
 ghost use Rattle.std.proofs.Props.{props};
 ghost use Rattle.raft_base.specs.declared.errors.Fault.TheVariants.{Memory};
 ghost use Rattle.raft_c_batch.specs.Batch.{read_batch};
 
 use crate::answer::Answer;
 use crate::calls::{Change, Fetch, Query, Scan, size_bound};
+use crate::numbers::pairs_in;
 use crate::opening::{Unopened, engine_over};
 use crate::scan::pairs_of;
 use raft_c_batch::{BatchFault, Entry, add_items, push_entries, push_numbers};
@@ -77,9 +78,10 @@ impl<F: FileSystem> OpenLog<F> {
     ghost use Rattle.raft_log_engine.specs.Engine.{contents_of, has_failed, is_known_in};
     ghost use Rattle.raft_log_engine.specs.Reads.{compact_batch, entry_of};
     ghost use Rattle.raft_held.specs.Crash.{pending_of};
-    ghost use Rattle.raft_c_log.specs.Calls.{HasAnswered, HasChanged, HasPurgedStale, HasPurgedUpTo, HasRewrittenAppend, HasRewrittenRewrite, IsCompacted, IsFetchAnswer, IsGroupsAnswer, IsScanAnswer, IsSpanAnswer, IsSynced, IsWrittenBy, answered};
+    ghost use Rattle.raft_once.specs.Numbers.{shown};
+    ghost use Rattle.raft_c_log.specs.Calls.{HasAnswered, HasChanged, HasPurgedStale, HasPurgedUpTo, HasRewrittenAppend, HasRewrittenRewrite, IsCompacted, IsFetchAnswer, IsGroupsAnswer, IsScanAnswer, IsSpanAnswer, IsSynced, IsWrittenBy, IsWrittenOnceBy, answered};
     ghost use Rattle.raft_c_log.specs.Outcomes.{HasEnded, IsReply};
-    ghost use Rattle.raft_c_log.specs.Refusals.{IsChangeFault, IsQueryFault, IsPurgeRefused, IsRefusalFor, IsWriteFault, KeepsLog, flight_of, pending_in};
+    ghost use Rattle.raft_c_log.specs.Refusals.{IsChangeFault, IsQueryFault, IsPurgeRefused, IsRefusalFor, IsWriteFault, IsWriteOnceFault, KeepsLog, acting_in, flight_of, pending_in};
     ghost use Rattle.raft_c_log.specs.declared.calls.Change.TheVariants.{CompactTo, PurgeAllStale, PurgeExpired, RewriteAppendQueue, RewriteRewriteQueue, Sync, Write};
     ghost use Rattle.raft_c_log.specs.declared.calls.Query.TheVariants as query;
 
@@ -117,6 +119,9 @@ impl<F: FileSystem> OpenLog<F> {
     {
         match change {
             Change::Write(batch, sync) => self.write(batch, sync),
+            Change::WriteOnce(batch, groups, numbers, sync) => {
+                self.write_once(batch, groups, numbers, sync)
+            }
             Change::Sync => self.sync(),
             Change::CompactTo(group, index) => self.compact_to(group, index, answer),
             Change::RewriteAppendQueue => self.rewrite_append_queue(answer),
@@ -140,6 +145,57 @@ impl<F: FileSystem> OpenLog<F> {
     {
         let done = match add_items(self.alloc, &mut self.batch, bytes) {
             Ok(()) => self.engine.write(&mut self.batch, sync),
+            Err(BatchFault::Malformed) => Err(Fault::InvalidArgument("the bytes are no batch")),
+            Err(BatchFault::Refused(fault)) => Err(fault),
+        };
+        match done {
+            Ok(_) => Ok(()),
+            Err(fault) => {
+                self.batch = LogBatch::new(self.alloc);
+                Err(fault)
+            }
+        }
+    }
+
+    // .. with numbers, so that it acts once.
+    fn write_once(
+        &mut self,
+        bytes: &[u8],
+        groups: &[u64],
+        numbers: &[u64],
+        sync: bool,
+    ) -> Result<(), Fault>
+        ensures ok { OnOk result (IsWrittenOnceBy bytes.now (zip groups.now numbers.now) sync
+            self.old.engine self.new.engine) }
+        ensures err { OnErr result (has_failed self.new.engine ≡ false
+            → contents_of self.new.engine ≡ contents_of self.old.engine) }
+        ensures cause { IfErr result (IsWriteOnceFault (read_batch bytes.now)
+            (zip groups.now numbers.now) sync self.old.engine self.new.engine) }
+        ensures keeps { KeepsLog (acting_in (contents_of self.old.engine)
+            (read_batch bytes.now) (zip groups.now numbers.now)) self.old.engine
+            self.new.engine }
+    {
+        let pairs = pairs_in(self.alloc, groups, numbers)?;
+        self.write_numbered(bytes, &pairs, sync)
+    }
+
+    fn write_numbered(
+        &mut self,
+        bytes: &[u8],
+        pairs: &[(u64, u64)],
+        sync: bool,
+    ) -> Result<(), Fault>
+        ensures ok { OnOk result (IsWrittenOnceBy bytes.now pairs.now sync self.old.engine
+            self.new.engine) }
+        ensures err { OnErr result (has_failed self.new.engine ≡ false
+            → contents_of self.new.engine ≡ contents_of self.old.engine) }
+        ensures cause { IfErr result (IsWriteOnceFault (read_batch bytes.now) pairs.now sync
+            self.old.engine self.new.engine) }
+        ensures keeps { KeepsLog (acting_in (contents_of self.old.engine) (read_batch bytes.now)
+            pairs.now) self.old.engine self.new.engine }
+    {
+        let done = match add_items(self.alloc, &mut self.batch, bytes) {
+            Ok(()) => self.engine.write_once(&mut self.batch, pairs, sync),
             Err(BatchFault::Malformed) => Err(Fault::InvalidArgument("the bytes are no batch")),
             Err(BatchFault::Refused(fault)) => Err(fault),
         };
@@ -256,7 +312,7 @@ impl<F: FileSystem> OpenLog<F> {
     #[tactic(auto, using(crate::proofs::RefusalLemmas::for_memory))]
     fn get(&self, group: u64, key: &[u8], answer: &mut Answer) -> Result<bool, Fault>
         ensures value { IfOk result (λ found. answered found answer.new.bytes.items
-            ≡ (contents_of self.now.engine).value group key.now) }
+            ≡ (shown (contents_of self.now.engine)).value group key.now) }
         ensures cause { IfErr result (IsRefusalFor (has_failed self.now.engine)
             (λ e. e ≡ Memory)) }
     {
@@ -308,7 +364,7 @@ impl<F: FileSystem> OpenLog<F> {
     }
 
     fn scan(&self, scan: Scan<'_>, answer: &mut Answer) -> Result<bool, Fault>
-        ensures value { OnOk result (IsScanAnswer scan.entry (contents_of self.now.engine)
+        ensures value { OnOk result (IsScanAnswer scan.entry (shown (contents_of self.now.engine))
             answer.new.bytes.items) }
         ensures ok { IfOk result (λ found. found ≡ true) }
         ensures cause { IfErr result (IsRefusalFor (has_failed self.now.engine)

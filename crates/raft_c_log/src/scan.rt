@@ -1,6 +1,7 @@
 //! Scans of a log's keys and values.
 ghost use Rattle.std.specs.Prelude.{◌≡◌, ◌⊎◌, ◌++◌, [], IfErr, IfOk, Some, false, true};
 ghost use Rattle.raft_c_batch.specs.Batch.{part_bytes};
+ghost use Rattle.raft_once.specs.Numbers.{shown};
 ghost use Rattle.raft_base.specs.declared.errors.Fault.TheVariants.{Memory};
 ghost use Rattle.raft_log_engine.specs.Engine.{contents_of, has_failed};
 ghost use Rattle.raft_c_log.specs.Limit.{IsOneLess, max_of};
@@ -61,7 +62,7 @@ pub(crate) fn pairs_of<F: FileSystem>(
     scan: Scan<'_>,
 ) -> Result<Vec<u8>, Fault>
     ensures value { IfOk result (λ bytes.
-        IsScanAnswer scan.entry (contents_of engine.now) bytes.items) }
+        IsScanAnswer scan.entry (shown (contents_of engine.now)) bytes.items) }
     ensures cause { IfErr result (IsRefusalFor (has_failed engine.now) (λ e. e ≡ Memory)) }
 {
     let mut pairs = Pairs::new(alloc, scan.limit);

@@ -51,6 +51,8 @@ enum Step {
     /// A write of one key, or of none, with a sync.
     Put,
     Nothing,
+    /// A write of one key with number 1 of its group.
+    Once,
     /// A group of two writes of one key.
     Group,
     /// An entry, and the compaction of its group.
@@ -69,11 +71,13 @@ enum Step {
 /// what is heard of it.
 struct Heard(u64, &'static [u64], &'static [Step], u64);
 
-static CALLS: [Heard; 14] = [
+static CALLS: [Heard; 15] = [
     // An opening: the first file of each queue.
     Heard(1024, &[], &[], 11),
     Heard(1024, &[], &[Step::Put, Step::Put], 112_323),
     Heard(1024, &[], &[Step::Nothing], 11),
+    // The second time its number is old, and nothing is written.
+    Heard(1024, &[], &[Step::Once, Step::Once], 1_123),
     Heard(1024, &[], &[Step::Group], 112_323),
     Heard(1024, &[], &[Step::Compact], 11),
     Heard(1024, &[], &[Step::Entry, Step::Compact], 112_323),
@@ -118,6 +122,10 @@ fn done<F: FileSystem, L: EventSink>(
         }
         Step::Nothing => {
             let _ = engine.write_with_listeners(&mut batch, true, listeners);
+        }
+        Step::Once => {
+            batch.put(1, vec![in alloc; 7]?, vec![in alloc; 8]?)?;
+            let _ = engine.write_once_with_listeners(&mut batch, &[(1, 1)], true, listeners);
         }
         Step::Group => {
             let mut batches = Vec::new(alloc);

@@ -84,6 +84,43 @@ static CASES: [Script; 24] = [
     Script("crash none\n", "", Ended::BadLine(1)),
 ];
 
+/// A number acts once, whatever comes between, until a clean; one that a crash took may act again.
+static NUMBERS: [Script; 8] = [
+    Script(
+        "once 1 5 put k a sync\nonce 1 5 put k b\nonce 1 4 put k c\nget 1 k\nonce 1 6 put k d\nget 1 k\n",
+        "ok\nold\nold\nvalue a\nok\nvalue d\n",
+        Ended::Done,
+    ),
+    Script(
+        "once 1 1 put k a sync\nonce 1 2 put k b\ncrash synced\nget 1 k\nonce 1 1 put k a\nonce 1 2 put k b\nonce 1 2 put k c\nget 1 k\n",
+        "ok\nok\nok\nvalue a\nold\nok\nold\nvalue b\n",
+        Ended::Done,
+    ),
+    // What an old number finds unsynced a sync with it covers.
+    Script(
+        "once 1 1 put k a\nonce 1 1 put k b sync\ncrash synced\nonce 1 1 put k c\nget 1 k\n",
+        "ok\nold\nok\nold\nvalue a\n",
+        Ended::Done,
+    ),
+    Script(
+        "once 1 3 put k a\nrewrite append\nrewrite rewrite\nrewrite stale\nreopen\nonce 1 3 put k b\nclean 1\ngroups\nonce 1 3 put k b\nscan 1\ngroups\n",
+        "ok\nok\nok\nok\nok\nold\nok\ngroups\nok\npair k b\nend 1\ngroups 1\n",
+        Ended::Done,
+    ),
+    Script(
+        "once 1 18446744073709551615 put k a\nonce 2 0 put k a\nonce 1 18446744073709551615 put k b sync\nget 1 k\ngroups\n",
+        "ok\nold\nold\nvalue a\ngroups 1\n",
+        Ended::Done,
+    ),
+    Script(
+        "once 1 1 put __k v\nonce 1 1 put k v\nonce 1 1 put __k v\n",
+        "refused 1 invalid-argument\nok\nrefused 1 invalid-argument\n",
+        Ended::Done,
+    ),
+    Script("once 1 put k v\n", "", Ended::BadLine(1)),
+    Script("once 1 1 del k\n", "", Ended::BadLine(1)),
+];
+
 fn is_printed(alloc: Global, script: &Script) -> bool {
     let Script(lines, wanted, ended) = script;
     let mut printed = Vec::new(alloc);
@@ -113,4 +150,9 @@ pub(crate) fn each_holds<R: Abort + AllocGlobal>(
 #[test]
 fn puts_and_gets(rt: HostRuntime) -> Result<(), Fail> {
     each_holds(&rt, &CASES)
+}
+
+#[test]
+fn numbers_act_once(rt: HostRuntime) -> Result<(), Fail> {
+    each_holds(&rt, &NUMBERS)
 }

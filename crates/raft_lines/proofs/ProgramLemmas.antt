@@ -169,6 +169,7 @@ pub asks_something : (l : Line) → (l ≡ line.Nothing → ⊥) → is_asked (S
 asks_something line.Nothing some = absurd (some refl)
 asks_something (line.Call (call.Put group key value sync)) some = refl
 asks_something (line.Call (call.Delete group key sync)) some = refl
+asks_something (line.Call (call.Once group number key value sync)) some = refl
 asks_something (line.Call (call.Get group key)) some = refl
 asks_something (line.Call (call.Entries group first last word sync)) some = refl
 asks_something (line.Call (call.Clean group sync)) some = refl

@@ -28,6 +28,7 @@ pub data Asked : Type 0 where
   Nothing : Asked
   Put : (group : ℕ) (key : List ℕ) (value : List ℕ) (sync : Bool) → Asked
   Delete : (group : ℕ) (key : List ℕ) (sync : Bool) → Asked
+  Once : (pair : ℕ × ℕ) (group : ℕ) (key : List ℕ) (value : List ℕ) (sync : Bool) → Asked
   Get : (group : ℕ) (key : List ℕ) → Asked
   Entries : (group : ℕ) (entries : List (ℕ × List ℕ)) (sync : Bool) → Asked
   Clean : (group : ℕ) (sync : Bool) → Asked
@@ -91,6 +92,16 @@ abbrev pub delete_by : List (List ℕ) → Option Asked
 delete_by (group ∷ key ∷ words) =
     option_and_then (λ g. option_map (λ sync. Delete g key sync) (sync_by words)) (number_in group)
 delete_by _ = None
+
+-- put K V [sync]
+abbrev pub numbered_by : ℕ → ℕ → List (List ℕ) → Option Asked
+numbered_by group number (verb ∷ key ∷ value ∷ words) = if bytes_eq verb (codes "put")
+    then option_map (λ sync. Once (group, number) group key value sync) (sync_by words) else None
+numbered_by group number _ = None
+
+-- once G N put K V [sync]
+abbrev pub once_by : List (List ℕ) → Option Asked
+once_by words = with_number (λ group. with_number (numbered_by group)) words
 
 -- W [sync], where the first index isn't past the last
 abbrev pub words_by : ℕ → ℕ → ℕ → List (List ℕ) → Option Asked
@@ -157,6 +168,8 @@ left_by (word ∷ words) =
 abbrev pub asked_of_call : Call → Asked
 asked_of_call (call.Put group key value sync) = Put group key.now value.now sync
 asked_of_call (call.Delete group key sync) = Delete group key.now sync
+asked_of_call (call.Once group number key value sync) =
+    Once (group, number) group key.now value.now sync
 asked_of_call (call.Get group key) = Get group key.now
 asked_of_call (call.Entries group first last word sync) =
     Entries group (text_entries first last word.now) sync
@@ -185,6 +198,7 @@ parsed_words [] = None
 parsed_words (verb ∷ words) =
     if bytes_eq verb (codes "put") then put_by words
     else if bytes_eq verb (codes "del") then delete_by words
+    else if bytes_eq verb (codes "once") then once_by words
     else if bytes_eq verb (codes "get") then get_by words
     else if bytes_eq verb (codes "sync") then if_last Sync words
     else if bytes_eq verb (codes "ent") then entries_by words
@@ -226,9 +240,16 @@ asked_by_acts (act.Entries group entries ∷ []) sync =
 asked_by_acts (act.Clean group ∷ []) sync = Some (Clean group sync)
 asked_by_acts _ sync = None
 
+-- .. and that one does with numbers: of a single put and a single pair
+abbrev pub asked_by_numbered : List Act → List (ℕ × ℕ) → Bool → Option Asked
+asked_by_numbered (act.Put group key value ∷ []) (pair ∷ []) sync =
+    Some (Once pair group key.items value.items sync)
+asked_by_numbered _ _ sync = None
+
 -- .. and that an operation does, if any
 abbrev pub asked_by_op : Op → Option Asked
 asked_by_op (op.Write acts sync) = asked_by_acts acts.items sync
+asked_by_op (op.WriteOnce acts pairs sync) = asked_by_numbered acts.items pairs.items sync
 asked_by_op (op.WriteGroup parts) = None
 asked_by_op op.Sync = Some Sync
 asked_by_op (op.Get group key) = Some (Get group key.items)

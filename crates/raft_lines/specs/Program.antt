@@ -14,6 +14,7 @@ use Rattle.raft_config.specs.Sanitized.{IsContradiction}
 use Rattle.raft_config.specs.declared.config.Config.{Config}
 use Rattle.raft_memory.specs.Memory.{no_files}
 use Rattle.raft_pipes.specs.Queue.{NamesPlace}
+use Rattle.raft_once.specs.Numbers.{shown}
 use Rattle.raft_records.specs.Contents.{Contents, after_batches, no_contents}
 use Rattle.raft_tables.specs.Known.{known_in}
 use Rattle.raft_held.specs.Crash.{contents_after_crash, known_after_crash}
@@ -93,11 +94,12 @@ module _ {F H R W : Type 0} {g : Ghosts F H R W} where
       ⊎ ((image : CrashImage) × Leaves (directory_of old) image × (files : Directory)
       × IsRestarted (directory_of old) image files × IsOpeningFault config files e)
 
-  -- a group's keys with their values, each once and in order, or why they aren't listed
+  -- a group's keys with their values, but for its number, each once and in order, or why they
+  -- aren't listed
   abbrev pub IsScanAnswer : Engine F H R W g → ℕ → Result (Vec (Vec ℕ Global × Vec ℕ Global) Global)
       Fault → Type 0
   IsScanAnswer e group (Ok pairs) =
-      (has_failed e ≡ false) × IsListing ((contents_of e).value group) (listed pairs.items)
+      (has_failed e ≡ false) × IsListing ((shown (contents_of e)).value group) (listed pairs.items)
   IsScanAnswer e group (Err refusal) =
       (refusal ≡ fault.Memory) ⊎ ((refusal ≡ fault.Failed) × (has_failed e ≡ true))
 

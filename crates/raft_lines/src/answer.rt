@@ -51,6 +51,8 @@ pub(crate) fn print<W: Write>(output: &mut W, answer: &Answer) -> io::Result<()>
 
 fn print_outcome<W: Write>(output: &mut W, outcome: &Outcome) -> io::Result<()> {
     match outcome {
+        // Nothing was written, since the write's number was old.
+        Outcome::Size(Ok(0)) => output.write_all(b"old\n"),
         Outcome::Size(Ok(_))
         | Outcome::Sizes(Ok(_))
         | Outcome::Done(Ok(()))
@@ -132,5 +134,6 @@ fn fault_name(fault: &Fault) -> &'static str {
         Fault::NotRecovered => "not-recovered",
         Fault::TrailFull => "trail-full",
         Fault::Layer => "layer",
+        Fault::StaleNumber => "stale-number",
     }
 }

@@ -2,7 +2,7 @@
 ghost use Rattle.std.specs.Prelude.{◌≡◌, ◌==◌, ◌≤◌, List, ℕ, length, None, Some, [], ◌∷◌, IfOk, MatchOption, option_map, option_and_then};
 ghost use Rattle.std.specs.List.{position_or_len};
 ghost use Rattle.raft_script.specs.Number.{number_in};
-ghost use Rattle.raft_lines.specs.Line.{Crash, BeginsWith, HasNoWord, if_last, parsed_words, asked_in, asked_of, asked_of_call, asked_of_log, clean_by, compact_by, delete_by, entries_by, entry_by, get_by, is_word, left_by, number_by, numbers_by, put_by, queue_by, rewrite_by, sync_by, torn_by, words_by, words_in};
+ghost use Rattle.raft_lines.specs.Line.{Crash, BeginsWith, HasNoWord, if_last, parsed_words, asked_in, asked_of, asked_of_call, asked_of_log, clean_by, compact_by, delete_by, entries_by, entry_by, get_by, is_word, left_by, number_by, numbered_by, numbers_by, once_by, put_by, queue_by, rewrite_by, sync_by, torn_by, words_by, words_in};
 
 use raft_records::LogQueue;
 use raft_script::{Act, Op, entries_between, number_of};
@@ -42,6 +42,14 @@ pub(crate) enum Call<'a> {
     Delete {
         group: u64,
         key: &'a [u8],
+        sync: bool,
+    },
+    /// A put with a number of its group, which acts once.
+    Once {
+        group: u64,
+        number: u64,
+        key: &'a [u8],
+        value: &'a [u8],
         sync: bool,
     },
     Get {
@@ -100,6 +108,17 @@ impl Call<'_> {
                 let act = Act::Delete(*group, key.to_vec(alloc)?);
                 Ok(Op::Write(vec![in alloc; act]?, *sync))
             }
+            Call::Once {
+                group,
+                number,
+                key,
+                value,
+                sync,
+            } => {
+                let act = Act::Put(*group, key.to_vec(alloc)?, value.to_vec(alloc)?);
+                let pairs = vec![in alloc; (*group, *number)]?;
+                Ok(Op::WriteOnce(vec![in alloc; act]?, pairs, *sync))
+            }
             Call::Get { group, key } => Ok(Op::Get(*group, key.to_vec(alloc)?)),
             Call::Entries {
                 group,
@@ -155,6 +174,8 @@ fn parse_asked<'a>(verb: &[u8], rest: &'a [u8]) -> Option<Line<'a>>
         Some(Line::Call(parse_put(rest)?))
     } else if verb == b"del".as_slice() {
         Some(Line::Call(parse_delete(rest)?))
+    } else if verb == b"once".as_slice() {
+        Some(Line::Call(parse_once(rest)?))
     } else if verb == b"get".as_slice() {
         Some(Line::Call(parse_get(rest)?))
     } else if verb == b"sync".as_slice() {
@@ -293,6 +314,35 @@ fn parse_delete(rest: &[u8]) -> Option<Call<'_>>
     let (key, rest) = split_word(rest)?;
     let sync = parse_sync(rest)?;
     Some(Call::Delete { group, key, sync })
+}
+
+fn parse_once(rest: &[u8]) -> Option<Call<'_>>
+    ensures value { option_map asked_of_call result ≡ option_and_then once_by (words_in rest.now) }
+{
+    let (group, rest) = parse_number(rest)?;
+    let (number, rest) = parse_number(rest)?;
+    parse_numbered(group, number, rest)
+}
+
+// The put that has this number of its group.
+fn parse_numbered(group: u64, number: u64, rest: &[u8]) -> Option<Call<'_>>
+    ensures value { option_map asked_of_call result
+        ≡ option_and_then (numbered_by group number) (words_in rest.now) }
+{
+    let (verb, rest) = split_word(rest)?;
+    if verb != b"put".as_slice() {
+        return None;
+    }
+    let (key, rest) = split_word(rest)?;
+    let (value, rest) = split_word(rest)?;
+    let sync = parse_sync(rest)?;
+    Some(Call::Once {
+        group,
+        number,
+        key,
+        value,
+        sync,
+    })
 }
 
 fn parse_entries(rest: &[u8]) -> Option<Call<'_>>

@@ -29,7 +29,7 @@ impl Copies {
     }
 }
 
-/// A group's keys with their values, in the order of the keys' bytes.
+/// A group's keys with their values, in the order of the keys' bytes, but for its number.
 pub(crate) fn pairs_of<F: FileSystem>(
     alloc: Global,
     engine: &Engine<F>,

@@ -23,6 +23,8 @@ pub mod HeldLemmas
 pub mod IndexedLemmas
 pub mod FaultLemmas
 pub mod NumberedLemmas
+pub mod HiddenLemmas
+pub mod OnceLemmas
 pub mod ImageLemmas
 pub mod FetchLemmas
 pub mod ScanLemmas

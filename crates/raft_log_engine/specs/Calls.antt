@@ -11,7 +11,7 @@ use Rattle.raft_env.specs.Refusal.{FailsCountedAt}
 use Rattle.raft_pipes.specs.Queue.{NamesLog}
 use Rattle.raft_held.specs.Crash.{pending_of, written_batch}
 use Rattle.raft_log_engine.specs.Advance.{Advances, ChangesOnlyItsLog, LeavesRewrite, StaysWithin, state_of}
-use Rattle.raft_log_engine.specs.Cause.{HasNoneInFlight, IsAppendRefusal, IsUnwritable, IsWriteRefusal, StandsUnless}
+use Rattle.raft_log_engine.specs.Cause.{HasNoneInFlight, IsAppendRefusal, IsUnwritable, IsWriteRefusal, StandsUnless, plain_parts}
 use Rattle.raft_log_engine.specs.Durability.{ChangesNoFile, ChangesNothing, HasRefused, HasWritten, Progresses, StaysFailed, accepted_by, covered_by, durability_of}
 use Rattle.raft_log_engine.specs.Engine.{IsDurableToEnd, contents_of, directory_of, durable_of, folders_of, has_failed, queue_of, refusals_of, target_size_of, unsynced_of}
 use Rattle.raft_log_engine.specs.Group.{FailsWithChoice, HasWrittenGroup, IsGroupRefusal, LeavesChoice, accepted_in}
@@ -53,7 +53,7 @@ module _ {F H R W : Type 0} {g : Ghosts F H R W} where
         (durability_of new))
         (λ _. FailsWithChoice batches old new)
     pub any_moment : StaysWithin (LeavesChoice (folders_of old) (durable_of old) (unsynced_of old)
-        (contents_of old) batches) (state_of old) (state_of new)
+        (contents_of old) (plain_parts batches)) (state_of old) (state_of new)
     pub stands : IfErr result (λ e. has_failed old ≡ false → StandsUnless sync old new e)
     pub durable : OnOk result (sync ≡ true → IsDurableToEnd new)
     pub invalid : sync ≡ false → AllByRecursion (IsUnwritable (contents_of old)) batches

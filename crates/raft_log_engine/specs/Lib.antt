@@ -10,11 +10,13 @@ pub mod Group
 pub mod Durability
 pub mod Advance
 pub mod Need
+pub mod Once
 pub mod Opening
 pub mod Purge
 pub mod PurgeCalls
 pub mod Recovery
 pub mod Write
 pub mod Image
+pub mod Hidden
 pub mod Reads
 pub mod Scan

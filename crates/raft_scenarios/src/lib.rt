@@ -18,6 +18,8 @@ mod kept_purges;
 #[cfg(test)]
 mod noise;
 #[cfg(test)]
+mod once;
+#[cfg(test)]
 mod opening;
 #[cfg(test)]
 mod purge_steps;

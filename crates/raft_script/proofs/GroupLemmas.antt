@@ -17,7 +17,9 @@ use Rattle.raft_env.specs.declared.env.FileSystem.{Ghosts}
 use Rattle.raft_records.specs.Contents.{Contents, after_batch}
 use Rattle.raft_records.specs.Batch.{BatchView}
 use Rattle.raft_records.specs.Item.{Batch}
+use Rattle.raft_held.specs.Crash.{written_batch}
 use Rattle.raft_log_engine.specs.Cause as engine
+use Rattle.raft_log_engine.specs.Cause.{plain_part, plain_parts}
 use Rattle.raft_pipes.specs.PipeState.{HasLastNumber, PipeState}
 use Rattle.raft_log_engine.specs.Durability.{Progresses, durability_of}
 use Rattle.raft_log_engine.specs.Engine.{contents_of, directory_of, durable_of, folders_of, has_failed, moments_of, queue_of, refusals_of, target_size_of, unsynced_of}
@@ -30,6 +32,7 @@ use Rattle.raft_script.specs.Failure.{FailsBy, IsStorageOrMemory, Refuses, is_io
 use Rattle.raft_script.specs.Run.{AreBatchAnswers, IsBatchRefusal, IsGroupRefusal, IsUnbuiltGroup, IsWrittenGroup}
 use Rattle.raft_script.proofs.StepsLemmas.{all_weaker}
 use Rattle.raft_script.proofs.RunLemmas.{same_err}
+use Rattle.raft_script.proofs.ActLemmas.{part_whole}
 use Rattle.raft_script.specs.declared.operation.Op.TheVariants.{WriteGroup}
 use Rattle.raft_script.specs.declared.operation.Outcome.TheVariants.{Sizes}
 use Rattle.raft_config.specs.Folders.{Folders}
@@ -111,6 +114,7 @@ NoneLeft fails p = (fails ≡ false) × HasLastNumber p
 
 module _ (folders : Folders) (p : PipeState) (fails : Bool) (stands : fails ≡ false) where
   batch_refusal_of : (m : Contents) (batch : Batch) (old new : Refusals) (e : Fault) → engine.IsWriteRefusal folders p m batch false old new e → IsBatchRefusal (NoneLeft fails p) m batch e
+  batch_refusal_of m batch old new (fault.InvalidArgument text) h = h.0
   batch_refusal_of m batch old new fault.Gap h = h.0
   batch_refusal_of m batch old new fault.Range h = elim h.0 [
     | inl out ↦ inl out
@@ -125,8 +129,19 @@ module _ (folders : Folders) (p : PipeState) (fails : Bool) (stands : fails ≡ 
   batch_answers target_size m [] [] s s' are = tt
   batch_answers target_size m [] (a ∷ answers) s s' are = absurd are
   batch_answers target_size m (b ∷ batches) [] s s' are = absurd are
-  batch_answers target_size m (b ∷ batches) (Ok len ∷ answers) s s' are = (are.1.valid, are.1.len_is, batch_answers target_size (after_batch m b) batches answers are.0 s' are.2)
+  batch_answers target_size m (b ∷ batches) (Ok len ∷ answers) s s' are = (are.1.plain, are.1.valid, are.1.len_is, batch_answers target_size (after_batch m b) batches answers are.0 s' are.2)
   batch_answers target_size m (b ∷ batches) (Err e ∷ answers) s s' are = (batch_refusal_of m b s.refusals are.0.refusals e are.1.cause, batch_answers target_size m batches answers are.0 s' are.2)
+
+-- those that are taken change no group's number
+taken_plainly : (target_size : ℕ) (folders : Folders) (p : PipeState) (m : Contents) (batches : List Batch) (answers : List (Result ℕ Fault)) (s s' : GroupState) → AreGroupAnswers target_size folders p m batches answers s s'
+    → accepted_in answers batches ≡ accepted_in answers (plain_parts batches)
+taken_plainly target_size folders p m [] [] s s' are = refl
+taken_plainly target_size folders p m [] (a ∷ answers) s s' are = absurd are
+taken_plainly target_size folders p m (b ∷ batches) [] s s' are = absurd are
+taken_plainly target_size folders p m (b ∷ batches) (Ok len ∷ answers) s s' are =
+    ap (λ (x : Batch). written_batch x ++ accepted_in answers batches) (sym (part_whole b are.1.plain))
+    ∙ ap (λ (l : List Batch). written_batch (plain_part b) ++ l) (taken_plainly target_size folders p (after_batch m b) batches answers are.0 s' are.2)
+taken_plainly target_size folders p m (b ∷ batches) (Err e ∷ answers) s s' are = taken_plainly target_size folders p m batches answers are.0 s' are.2
 
 -- storage's count rose by as many as it refused
 refused_rose : (folders : Folders) (p : PipeState) (m : Contents) (batch : Batch) (old new : Refusals) (e : Fault) → engine.IsWriteRefusal folders p m batch false old new e → is_io {T = ℕ} (Err e) ≡ true → RoseBy 1 old new
@@ -224,15 +239,23 @@ module _ {F H R W : Type 0} {g : Ghosts F H R W} (parts : Vec Part Global) (view
   group_refuses (Err fault.TryAgain) ok cause counts = absurd cause.2
   group_refuses (Err _) ok cause counts = (counts, λ io. absurd (let clash = io in cc))
 
-  abbrev IsProgress : List Batch → Result (Vec (Result ℕ Fault) Global) Fault → Type 0
-  IsProgress l result = MatchResult result (λ answers. Progresses (accepted_in answers.items l) (list_any (λ (flag : Bool). flag) flags) [] (durability_of old) (durability_of new)) (λ _. FailsWithChoice l old new)
+  -- what the operation is to write
+  abbrev allowed : List Batch
+  allowed = plain_parts (group_batches parts.items)
+
+  parts_are : plain_parts batches ≡ allowed
+  parts_are = ap plain_parts (sym group_is)
+
+  -- a choice of it was written
+  abbrev StopsIn : List Batch → Type 0
+  StopsIn l = (choice : List Bool) × Progresses [] false (chosen_of (contents_of old) choice l) (durability_of old) (durability_of new)
 
   -- what it has done
-  pub does_group : (result : Result (Vec (Result ℕ Fault) Global) Fault)
+  pub does_group : (result : Result (Vec (Result ℕ Fault) Global) Fault) → IsOk result
       → MatchResult result (λ answers. Progresses (accepted_in answers.items batches) (list_any (λ (flag : Bool). flag) flags) [] (durability_of old) (durability_of new)) (λ _. FailsWithChoice batches old new)
-      → HoldsThroughout (moments_of old) (moments_of new) (directory_of new) (LeavesChoice (folders_of old) (durable_of old) (unsynced_of old) (contents_of old) batches)
+      → HoldsThroughout (moments_of old) (moments_of new) (directory_of new) (LeavesChoice (folders_of old) (durable_of old) (unsynced_of old) (contents_of old) (plain_parts batches))
       → (has_failed old ≡ true → moments_of new ≡ moments_of old) → Does (WriteGroup parts) (Sizes result) old new
-  does_group result progress moments stays = by_result result (subst (λ (l : List Batch). IsProgress l result) (sym group_is) progress)
+  does_group result ok progress moments stays = by_result result ok progress
     where
       asked : list_any (λ (flag : Bool). flag) flags ≡ list_any (λ (part : Part). part.1) parts.items
       asked = ap (list_any (λ (flag : Bool). flag)) flags_are ∙ flags_any parts.items
@@ -242,22 +265,29 @@ module _ {F H R W : Type 0} {g : Ghosts F H R W} (parts : Vec Part Global) (view
         moments.added,
         moments.is,
         all_weaker _ _
-            (λ x leaves. ∥∥₁_map (subst (λ (l : List Batch). LeavesChoice (folders_of old) (durable_of old) (unsynced_of old) (contents_of old) l x) (sym group_is) leaves) (λ (choice, allowed). (chosen_of (contents_of old) choice (group_batches parts.items), ∣ (choice, refl) ∣₁, allowed)))
+            (λ x leaves. ∥∥₁_map (subst (λ (l : List Batch). LeavesChoice (folders_of old) (durable_of old) (unsynced_of old) (contents_of old) l x) parts_are leaves) (λ (choice, left). (chosen_of (contents_of old) choice allowed, ∣ (choice, refl) ∣₁, left)))
             moments.added moments.each,
       )
 
-      by_result : (result : Result (Vec (Result ℕ Fault) Global) Fault) → IsProgress (group_batches parts.items) result → Does (WriteGroup parts) (Sizes result) old new
-      by_result (Ok answers) progress = record {
-        flight = [];
-        may_be = ∣ ([], refl) ∣₁;
-        progress = subst (λ (covers : Bool). Progresses (accepted_in answers.items (group_batches parts.items)) covers [] (durability_of old) (durability_of new)) asked progress;
-        moments = λ alive. adds;
-        rests = stays;
-      }
-      by_result (Err e) progress = record {
-        flight = chosen_of (contents_of old) progress.0 (group_batches parts.items);
-        may_be = ∣ (progress.0, refl) ∣₁;
-        progress = progress.1;
-        moments = λ alive. adds;
-        rests = stays;
-      }
+      by_result : (result : Result (Vec (Result ℕ Fault) Global) Fault) → IsOk result
+          → MatchResult result (λ answers. Progresses (accepted_in answers.items batches) (list_any (λ (flag : Bool). flag) flags) [] (durability_of old) (durability_of new)) (λ _. FailsWithChoice batches old new) → Does (WriteGroup parts) (Sizes result) old new
+      by_result (Ok answers) ok progress =
+          let taken : accepted_in answers.items batches ≡ accepted_in answers.items allowed =
+          taken_plainly (target_size_of old) (folders_of old) (queue_of new) (contents_of old) batches answers.items (group_state_of old) ok.written ok.answered ∙ ap (accepted_in answers.items) parts_are in
+          record {
+            flight = [];
+            may_be = ∣ ([], refl) ∣₁;
+            progress = subst (λ (covers : Bool). Progresses (accepted_in answers.items allowed) covers [] (durability_of old) (durability_of new)) asked
+                (subst (λ (l : List Batch). Progresses l (list_any (λ (flag : Bool). flag) flags) [] (durability_of old) (durability_of new)) taken progress);
+            moments = λ alive. adds;
+            rests = stays;
+          }
+      by_result (Err e) ok progress =
+          let stops = subst StopsIn parts_are progress in
+          record {
+            flight = chosen_of (contents_of old) stops.0 allowed;
+            may_be = ∣ (stops.0, refl) ∣₁;
+            progress = stops.1;
+            moments = λ alive. adds;
+            rests = stays;
+          }

@@ -1,7 +1,9 @@
+pub mod ActLemmas
 pub mod DurabilityLemmas
 pub mod EntryLemmas
 pub mod GroupLemmas
 pub mod NumberLemmas
+pub mod OnceLemmas
 pub mod ProgressLemmas
 pub mod StepsLemmas
 pub mod RunLemmas

@@ -25,17 +25,18 @@ use Rattle.raft_log_engine.specs.Engine.{contents_of, has_failed, queue_of, refu
 use Rattle.raft_log_engine.specs.declared.engine.Engine.{Engine}
 use Rattle.raft_held.specs.Contents.{known_from}
 use Rattle.raft_held.specs.Crash.{written_batch}
+use Rattle.raft_once.specs.Numbers.{Pair, has_numbers, meets_number, numbered}
 use Rattle.raft_purge.specs.Unfit.{IsUnfit}
 use Rattle.raft_script.specs.Batches.{accepted_of, batch_of_acts, batches_of_parts, is_answered, items_of_act, of_both}
 use Rattle.raft_script.specs.Failure.{FailsBy, FailsFor, FailsInPurge, IsFailing, IsPurgeFailure, IsRenewalFailure, IsSteadyBy, IsStorageOrMemory, Refuses, io_count, io_in, is_io}
-use Rattle.raft_script.specs.Run.{AreBatchAnswers, IsAnswer, IsBatchRefusal, IsCompactRefusal, IsEngineRefusal, IsGetRefusal, IsOutOfNumbers, IsPurgeAnswer, IsRefusedPurge, IsTextRefusal, IsUnbuilt, IsWriteRefusal, IsWritten}
+use Rattle.raft_script.specs.Run.{AreBatchAnswers, IsAnswer, IsBatchRefusal, IsCompactRefusal, IsEngineRefusal, IsGetRefusal, IsOutOfNumbers, IsPurgeAnswer, IsRefusedPurge, IsTextRefusal, IsNew, IsOnceRefusal, IsUnbuilt, IsWriteRefusal, IsWritten}
 use Rattle.raft_log_engine.specs.Reads.{IsEntryAnswer, IsEntryRefusalAt, IsGroupList, compact_count, entry_of}
 use Rattle.raft_script.specs.Entry.{IsTextOf, index_of}
 use Rattle.raft_script.specs.declared.text_entry.TextEntry.{TextEntry}
 use Rattle.raft_script.specs.declared.operation.Act.{Act}
 use Rattle.raft_script.specs.declared.operation.Op.{Op}
 use Rattle.raft_script.specs.declared.operation.Op.TheVariants as operation
-use Rattle.raft_script.specs.declared.operation.Op.TheVariants.{Write, WriteGroup, Sync, Get, CompactTo, First, Last, RewriteAppend, RewriteRewrite, PurgeStale, Purge}
+use Rattle.raft_script.specs.declared.operation.Op.TheVariants.{Write, WriteGroup, WriteOnce, Sync, Get, CompactTo, First, Last, RewriteAppend, RewriteRewrite, PurgeStale, Purge}
 use Rattle.raft_script.specs.declared.operation.Outcome.{Outcome}
 use Rattle.raft_script.specs.declared.operation.Outcome.TheVariants as reply
 use Rattle.raft_script.specs.declared.operation.Outcome.TheVariants.{Size, Sizes, Done, Value, Count, Index, Dropped, ToCompact}
@@ -111,7 +112,7 @@ pub same_err : {T : Type 0} {x y : Fault} (r : Result T Fault) → r ≡ Err x �
 same_err r a b = cc
 
 -- what is known of the batch of acts
-of_built : (P : Batch → Type 0) (acts : List Act) (items : Batch) → batch_of_acts acts ≡ Some items → P items → IsSomeAnd (batch_of_acts acts) P
+pub of_built : (P : Batch → Type 0) (acts : List Act) (items : Batch) → batch_of_acts acts ≡ Some items → P items → IsSomeAnd (batch_of_acts acts) P
 of_built P acts items built h = subst (λ (o : Option Batch). IsSomeAnd o P) (sym built) h
 
 -- an engine's write of such a batch is answered as the operation
@@ -120,18 +121,19 @@ module _ {F H R W : Type 0} {g : Ghosts F H R W} (acts : List Act) (items rest :
   abbrev NoneLeft : Type 0
   NoneLeft = (has_failed new ≡ false) × HasLastNumber (queue_of new)
 
-  pub write_answered : (result : Result ℕ Fault) → IfOk result (HasWritten items rest old new) → ((result ≡ Err fault.Failed) ↔ (has_failed old ≡ true)) → IfErr result (λ e. has_failed old ≡ false → engine.IsWriteRefusal folders (queue_of new) (contents_of old) items (has_failed new) (refusals_of old) (refusals_of new) e) →
+  pub write_answered : (result : Result ℕ Fault) → IfOk result (HasWritten items rest old new) → OnOk result (has_numbers items ≡ false) → ((result ≡ Err fault.Failed) ↔ (has_failed old ≡ true)) → IfErr result (λ e. has_failed old ≡ false → engine.IsWriteRefusal folders (queue_of new) (contents_of old) items (has_failed new) (refusals_of old) (refusals_of new) e) →
       MatchResult result (IsWritten m acts) (IsWriteRefusal NoneLeft m acts)
-  write_answered (Ok len) written failed cause = elim (cases_Bool (has_failed old)) [
+  write_answered (Ok len) written plain failed cause = elim (cases_Bool (has_failed old)) [
     | inl gone ↦ absurd (let clash = failed.1 gone in cc)
-    | inr stands ↦ (items, built, subst (λ (c : Contents). IsValidBatch c items) (sym (same stands)) written.valid, written.len_is)
+    | inr stands ↦ (items, built, plain, subst (λ (c : Contents). IsValidBatch c items) (sym (same stands)) written.valid, written.len_is)
   ]
-  write_answered (Err e) written failed cause = elim (cases_Bool (has_failed old)) [
+  write_answered (Err e) written plain failed cause = elim (cases_Bool (has_failed old)) [
     | inl gone ↦ let is : e ≡ fault.Failed = same_err (Err e) refl (failed.1 gone) in subst (IsWriteRefusal NoneLeft m acts) (sym is) (subst IsSome (sym built) refl)
     | inr stands ↦ by_fault e (subst (λ (c : Contents). engine.IsWriteRefusal folders (queue_of new) c items (has_failed new) (refusals_of old) (refusals_of new) e) (sym (same stands)) (cause stands))
   ]
     where
       by_fault : (e : Fault) → engine.IsWriteRefusal folders (queue_of new) m items (has_failed new) (refusals_of old) (refusals_of new) e → IsWriteRefusal NoneLeft m acts e
+      by_fault (fault.InvalidArgument text) h = inr (of_built (λ batch. meets_number m batch ≡ true) acts items built h.0)
       by_fault (fault.Io kind path) h = of_built (engine.IsWritable m) acts items built h.0
       by_fault fault.TryAgain h = of_built (engine.IsWritable m) acts items built h.0
       by_fault fault.Memory h = tt
@@ -373,6 +375,12 @@ module _ (m n : Contents) (op : Op) (failed : Bool) (same : failed ≡ false →
         | inr stands ↦ ap (λ (c : Contents). accepted_of c (CompactTo group index) (Count (Ok count))) (same stands)
       ]
       by_op (CompactTo group index) (Count (Err e)) f = refl
+      by_op (WriteOnce acts pairs sync) (Size (Ok len)) f = elim (cases_Bool failed) [
+        | inl gone ↦ absurd (⊎_elim (λ told. let clash = told in cc) (λ other. other) (f.refused gone))
+        | inr stands ↦ ap (λ (c : Contents). accepted_of c (WriteOnce acts pairs sync) (Size (Ok len))) (same stands)
+      ]
+      by_op (WriteOnce acts pairs sync) (Size (Err e)) f = refl
+      by_op (WriteOnce acts pairs sync) _ f = absurd f
       by_op (CompactTo group index) _ f = absurd f
       by_op _ _ f = refl
 
@@ -384,6 +392,7 @@ acts_ended items n acts past built = built_ended items n acts (nil_from_length (
 -- a failed engine stays failed
 still_by : (op : Op) (outcome : Outcome) (fails : Bool) → IsFailing true op outcome fails → fails ≡ true
 still_by (Write acts sync) (Size answer) fails is = is.still refl
+still_by (WriteOnce acts pairs sync) (Size answer) fails is = is.still refl
 still_by (WriteGroup parts) (Sizes answer) fails is = is.still refl
 still_by Sync (Done answer) fails is = is.0.still refl
 still_by (Get group key) (Value answer) fails is = is.0.still refl
@@ -410,6 +419,7 @@ done_stands P Q failed true (Err e) f ok = absurd cc
 
 pub stands_answered : (op : Op) (outcome : Outcome) (failed fails : Bool) → IsFailing failed op outcome fails → is_answered outcome ≡ true → fails ≡ false
 stands_answered (Write acts sync) (Size answer) failed fails f ok = done_stands _ _ failed fails answer f ok
+stands_answered (WriteOnce acts pairs sync) (Size answer) failed fails f ok = done_stands _ _ failed fails answer f ok
 stands_answered (WriteGroup parts) (Sizes answer) failed fails f ok = done_stands _ _ failed fails answer f ok
 stands_answered Sync (Done answer) failed fails f ok = done_stands _ _ failed fails answer f.0 ok
 stands_answered (CompactTo group index) (Count answer) failed fails f ok = done_stands _ _ failed fails answer f ok
@@ -446,6 +456,18 @@ module _ (P Q : Type 0) (weaker : P → Q) where
   write_weaker m acts fault.Range (inr some) = inr (some_weaker m (batch_of_acts acts) some)
   write_weaker m acts _ is = is
 
+  new_weaker : (m : Contents) (acts : List Act) (pairs : List Pair) → IsNew m acts pairs (λ batch. IsOutOfNumbers P m (numbered batch pairs)) → IsNew m acts pairs (λ batch. IsOutOfNumbers Q m (numbered batch pairs))
+  new_weaker m acts pairs is = (is.0, is.1, by_batch (batch_of_acts acts) is.2)
+    where
+      by_batch : (o : Option Batch) → IsSomeAnd o (λ batch. IsOutOfNumbers P m (numbered batch pairs)) → IsSomeAnd o (λ batch. IsOutOfNumbers Q m (numbered batch pairs))
+      by_batch None some = absurd some
+      by_batch (Some batch) some = numbers_weaker m (numbered batch pairs) some
+
+  once_weaker : (m : Contents) (acts : List Act) (pairs : List Pair) (sync : Bool) (e : Fault) → IsOnceRefusal P m acts pairs sync e → IsOnceRefusal Q m acts pairs sync e
+  once_weaker m acts pairs sync fault.Range (inl large) = inl large
+  once_weaker m acts pairs sync fault.Range (inr is) = inr (new_weaker m acts pairs is)
+  once_weaker m acts pairs sync _ is = is
+
   batch_weaker : (m : Contents) (batch : Batch) (e : Fault) → IsBatchRefusal P m batch e → IsBatchRefusal Q m batch e
   batch_weaker m batch fault.Range is = numbers_weaker m batch is
   batch_weaker m batch _ is = is
@@ -454,7 +476,7 @@ module _ (P Q : Type 0) (weaker : P → Q) where
   batches_weaker m [] [] are = tt
   batches_weaker m [] (a ∷ answers) are = absurd are
   batches_weaker m (b ∷ batches) [] are = absurd are
-  batches_weaker m (b ∷ batches) (Ok len ∷ answers) are = (are.0, are.1, batches_weaker (after_batch m b) batches answers are.2)
+  batches_weaker m (b ∷ batches) (Ok len ∷ answers) are = (are.0, are.1, are.2, batches_weaker (after_batch m b) batches answers are.3)
   batches_weaker m (b ∷ batches) (Err e ∷ answers) are = (batch_weaker m b e are.0, batches_weaker m batches answers are.1)
 
   group_weaker : (m : Contents) (o : Option (List Batch)) (answers : List (Result ℕ Fault)) → IsSomeAnd o (λ batches. AreBatchAnswers P m batches answers) → IsSomeAnd o (λ batches. AreBatchAnswers Q m batches answers)
@@ -468,6 +490,8 @@ module _ (P Q : Type 0) (weaker : P → Q) where
   pub answer_weaker : (failed : Bool) (m : Contents) (known : ℕ → Bool) (op : Op) (outcome : Outcome) → IsAnswer P failed m known op outcome → IsAnswer Q failed m known op outcome
   answer_weaker failed m known (Write acts sync) (Size (Ok len)) is = is
   answer_weaker failed m known (Write acts sync) (Size (Err e)) is = write_weaker m acts.items e is
+  answer_weaker failed m known (WriteOnce acts pairs sync) (Size (Ok len)) is = is
+  answer_weaker failed m known (WriteOnce acts pairs sync) (Size (Err e)) is = once_weaker m acts.items pairs.items sync e is
   answer_weaker failed m known (WriteGroup parts) (Sizes (Ok answers)) is = group_weaker m (batches_of_parts parts.items) answers.items is
   answer_weaker failed m known (WriteGroup parts) (Sizes (Err e)) is = is
   answer_weaker failed m known (CompactTo group index) (Count (Ok count)) is = is

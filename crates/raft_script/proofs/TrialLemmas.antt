@@ -20,6 +20,7 @@ use Rattle.raft_held.specs.Crash.{RecoversContents}
 use Rattle.raft_base.specs.declared.errors.Fault.{Fault}
 use Rattle.raft_base.specs.declared.errors.Fault.TheVariants as fault
 use Rattle.raft_log_engine.specs.Image.{IsImageOf}
+use Rattle.raft_once.specs.Numbers.{shown}
 use Rattle.raft_log_engine.specs.declared.engine.image.Image.{Image}
 use Rattle.raft_tables.specs.Known.{known_in}
 use Rattle.raft_held.specs.Contents.{contents_at, known_at, recovered_groups}
@@ -110,8 +111,8 @@ same_opened (Ok image) same is = subst (IsImageOf image.groups.items) same is
 same_opened (Err e) same is = is
 
 -- the image of files under a copy of the settings
-pub image_same : (dir folders : Folders) (n : Directory) (opened : Result Image Fault) → dir ≡ folders → IfOk opened (λ image. IsImageOf image.groups.items (contents_at dir n)) → IfOk opened (λ image. IsImageOf image.groups.items (contents_at folders n))
-image_same dir folders n opened same is = same_opened opened (ap (λ (p : Folders). contents_at p n) same) is
+pub image_same : (dir folders : Folders) (n : Directory) (opened : Result Image Fault) → dir ≡ folders → IfOk opened (λ image. IsImageOf image.groups.items (shown (contents_at dir n))) → IfOk opened (λ image. IsImageOf image.groups.items (shown (contents_at folders n)))
+image_same dir folders n opened same is = same_opened opened (ap (λ (p : Folders). shown (contents_at p n)) same) is
 
 -- copies of settings name the same folders
 pub same_folders : (c copy : Config) → IsCopy c copy → folders_in copy ≡ folders_in c
@@ -250,3 +251,4 @@ choices_refused n choices fault.FileOutOfRange may_leave refuses told = absurd r
 choices_refused n choices fault.NotRecovered may_leave refuses told = absurd refuses
 choices_refused n choices fault.TrailFull may_leave refuses told = absurd refuses
 choices_refused n choices fault.Layer may_leave refuses told = absurd refuses
+choices_refused n choices fault.StaleNumber may_leave refuses told = absurd refuses

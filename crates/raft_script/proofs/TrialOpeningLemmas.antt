@@ -14,6 +14,7 @@ use Rattle.raft_held.proofs.StepsLemmas.{take_nothing}
 use Rattle.raft_held.specs.Crash.{IsAllowedFrom}
 use Rattle.raft_held.specs.Queues.{AreOpenableIn, AreSingleIn}
 use Rattle.raft_log_engine.specs.Image.{IsImageOf}
+use Rattle.raft_once.specs.Numbers.{shown}
 use Rattle.raft_log_engine.specs.declared.engine.image.Image.{Image}
 use Rattle.raft_memory.specs.Choice.{left_by}
 use Rattle.raft_memory.specs.Memory.{memory_directory, memory_moments, memory_refusals}
@@ -49,7 +50,7 @@ pub opening_shown : (P Q : Type 0) (config copy : Config) (files last : MemoryFi
     (HaveNoLogPath (folders_in config) → Q → P → OpensTolerantly (folders_in config) n)
     → (HaveNoLogPath (folders_in config) → Q → AreClear (folders_in config) n × AreSingleIn (folders_in config) n)
     → Reopens memory_directory memory_moments memory_refusals (folders_in copy) files last opened
-    → IfOk opened (λ image. IsImageOf image.groups.items (contents_at (folders_in copy) n))
+    → IfOk opened (λ image. IsImageOf image.groups.items (shown (contents_at (folders_in copy) n)))
     → (contradiction copy ≡ None → IfErr opened (λ e. AreOpenableIn copy.recovery_mode (folders_in copy) n → AreClear (folders_in copy) n → AreSingleIn (folders_in copy) n → IsStorageOrMemory e))
     → IfErr opened (λ e. AreClear (folders_in copy) n → AreSingleIn (folders_in copy) n → IsContradiction copy e ⊎ IsLogRefusal copy.recovery_mode (folders_in copy) n e)
     → IsOpeningOf P Q config files last opened

@@ -7,13 +7,17 @@ use Rattle.raft_records.specs.Batch.{is_internal_key}
 use Rattle.raft_records.specs.Contents.{Contents}
 use Rattle.raft_records.specs.Item.{Batch, Clean, Compact, Delete, Entries, Entry, Put}
 use Rattle.raft_base.specs.declared.errors.Fault.{Fault}
+use Rattle.raft_log_engine.specs.Cause.{plain_part, plain_parts}
 use Rattle.raft_log_engine.specs.Group.{accepted_in, chosen_of}
+use Rattle.raft_log_engine.specs.Once.{acting_batch}
 use Rattle.raft_log_engine.specs.Reads.{compact_batch}
+use Rattle.raft_once.specs.History.{are_numbers}
+use Rattle.raft_once.specs.Numbers.{Pair}
 use Rattle.raft_script.specs.Entry.{indexed_bytes}
 use Rattle.raft_script.specs.declared.operation.Act.{Act}
 use Rattle.raft_script.specs.declared.operation.Act.TheVariants as act
 use Rattle.raft_script.specs.declared.operation.Op.{Op}
-use Rattle.raft_script.specs.declared.operation.Op.TheVariants.{Write, WriteGroup, Sync, CompactTo, RewriteAppend, RewriteRewrite, PurgeStale, Purge}
+use Rattle.raft_script.specs.declared.operation.Op.TheVariants.{Write, WriteGroup, WriteOnce, Sync, CompactTo, RewriteAppend, RewriteRewrite, PurgeStale, Purge}
 use Rattle.raft_script.specs.declared.operation.Outcome.{Outcome}
 use Rattle.raft_script.specs.declared.operation.Outcome.TheVariants.{Size, Sizes, Done, Count, Dropped, ToCompact}
 
@@ -62,11 +66,20 @@ batches_of_parts (part ∷ parts) =
 abbrev pub group_batches : List Part → List Batch
 group_batches parts = unwrap_or (batches_of_parts parts) []
 
--- the batches that an operation is to write, at these contents: of a compaction the command, where
--- the group has entries
+-- the batch of a write with numbers, at these contents: nothing where its acts make none, or it
+-- doesn't act; each number has eight bytes
+abbrev pub once_batch : Contents → Option Batch → List Pair → Batch
+once_batch m None pairs = []
+once_batch m (Some items) pairs = if are_numbers pairs then acting_batch m items pairs else []
+
+-- the batches that an operation is to write, at these contents: nothing of a batch that would
+-- change the number that a group keeps, but by a write with numbers; of a compaction the command,
+-- where the group has entries
 abbrev pub batches_of_op : Contents → Op → List Batch
-batches_of_op m (Write acts sync) = items_of_acts acts.items ∷ []
-batches_of_op m (WriteGroup parts) = group_batches parts.items
+batches_of_op m (Write acts sync) = plain_part (items_of_acts acts.items) ∷ []
+batches_of_op m (WriteGroup parts) = plain_parts (group_batches parts.items)
+batches_of_op m (WriteOnce acts pairs sync) =
+    once_batch m (batch_of_acts acts.items) pairs.items ∷ []
 batches_of_op m (CompactTo group index) = compact_batch group index (m.entries group) ∷ []
 batches_of_op m _ = []
 
@@ -85,6 +98,7 @@ accepted_of m op outcome = accepted_in (answers_in outcome) (batches_of_op m op)
 -- or a write or a group that asked for one
 abbrev pub is_covering : Op → Outcome → Bool
 is_covering (Write acts sync) (Size (Ok len)) = sync
+is_covering (WriteOnce acts pairs sync) (Size (Ok len)) = sync
 is_covering (WriteGroup parts) (Sizes (Ok answers)) = list_any (λ part. part.1) parts.items
 is_covering Sync (Done (Ok x)) = true
 is_covering (RewriteAppend watermark step) (Dropped (Ok count)) = true

@@ -7,7 +7,7 @@ use Rattle.raft_env.specs.Refusal.{NoFewer, Refusals, RoseBy}
 use Rattle.raft_script.specs.Run.{IsUnbuilt, IsUnbuiltGroup}
 use Rattle.raft_script.specs.declared.operation.Op.{Op}
 use Rattle.raft_script.specs.declared.operation.Op.TheVariants as operation
-use Rattle.raft_script.specs.declared.operation.Op.TheVariants.{Write, WriteGroup, Sync, Get, CompactTo, First, Last, RewriteAppend, RewriteRewrite, PurgeStale, Purge}
+use Rattle.raft_script.specs.declared.operation.Op.TheVariants.{Write, WriteGroup, WriteOnce, Sync, Get, CompactTo, First, Last, RewriteAppend, RewriteRewrite, PurgeStale, Purge}
 use Rattle.raft_script.specs.declared.operation.Outcome.{Outcome}
 use Rattle.raft_script.specs.declared.operation.Outcome.TheVariants as reply
 use Rattle.raft_script.specs.declared.operation.Outcome.TheVariants.{Size, Sizes, Done, Value, Count, Index, Dropped, ToCompact}
@@ -56,6 +56,8 @@ IsSteadyBy failed answer fails = FailsBy failed answer fails (λ _. ⊥) × (fai
 -- .. in an operation; a failed sync fails the engine, and a read doesn't
 abbrev pub IsFailing : Bool → Op → Outcome → Bool → Type 0
 IsFailing failed (Write acts sync) (Size answer) fails =
+    FailsBy failed answer fails (IsUnbuilt acts.items)
+IsFailing failed (WriteOnce acts pairs sync) (Size answer) fails =
     FailsBy failed answer fails (IsUnbuilt acts.items)
 IsFailing failed (WriteGroup parts) (Sizes answer) fails =
     FailsBy failed answer fails (IsUnbuiltGroup parts.items)

@@ -3,6 +3,7 @@ pub mod Run
 pub mod Failure
 pub mod Headline
 pub mod Durability
+pub mod Numbers
 pub mod Entry
 pub mod Trial
 pub mod Purges

@@ -1,5 +1,5 @@
 -- What operations are answered.
-use Rattle.std.specs.Prelude.{◌≡◌, ◌⊎◌, ℕ, ◌^◌, ◌≤◌, length, take, Bool, false, List, [], ◌∷◌, Option, Some, None, option_map, Result, Ok, Err, MatchResult, IsSome, IsSomeAnd}
+use Rattle.std.specs.Prelude.{◌≡◌, ◌⊎◌, ℕ, ◌^◌, ◌≤◌, length, take, Bool, true, false, List, [], ◌∷◌, Option, Some, None, option_map, Result, Ok, Err, MatchResult, IsSome, IsSomeAnd}
 use Rattle.std.specs.List.{Any}
 use Rattle.raft_records.specs.Contents.{Contents, after_batch, first_index_of, last_index_of}
 use Rattle.raft_records.specs.Item.{Batch, Entry}
@@ -10,6 +10,7 @@ use Rattle.raft_base.specs.declared.errors.Fault.{Fault}
 use Rattle.raft_base.specs.declared.errors.Fault.TheVariants as fault
 use Rattle.raft_log_engine.specs.Cause.{IsOutOfRange, IsWritable}
 use Rattle.raft_log_engine.specs.Engine.{record_len}
+use Rattle.raft_once.specs.Numbers.{Pair, are_new, are_old, are_unfit, has_numbers, meets_number, numbered, shown}
 use Rattle.raft_log_engine.specs.Reads.{IsEntryAnswer, IsEntryRefusalAt, IsGroupList, compact_count, entry_of}
 use Rattle.raft_script.specs.Batches.{Part, batch_of_acts, batches_of_parts}
 use Rattle.raft_script.specs.Entry.{IsTextOf, index_of}
@@ -17,15 +18,16 @@ use Rattle.raft_purge.specs.Unfit.{IsUnfit}
 use Rattle.raft_script.specs.declared.operation.Act.{Act}
 use Rattle.raft_script.specs.declared.operation.Op.{Op}
 use Rattle.raft_script.specs.declared.operation.Op.TheVariants as operation
-use Rattle.raft_script.specs.declared.operation.Op.TheVariants.{Write, WriteGroup, Sync, Get, CompactTo, First, Last, RewriteAppend, RewriteRewrite, PurgeStale, Purge}
+use Rattle.raft_script.specs.declared.operation.Op.TheVariants.{Write, WriteGroup, WriteOnce, Sync, Get, CompactTo, First, Last, RewriteAppend, RewriteRewrite, PurgeStale, Purge}
 use Rattle.raft_script.specs.declared.operation.Outcome.{Outcome}
 use Rattle.raft_script.specs.declared.operation.Outcome.TheVariants as reply
 use Rattle.raft_script.specs.declared.operation.Outcome.TheVariants.{Size, Sizes, Done, Value, Count, Index, Dropped, ToCompact}
 
--- the operation doesn't change the engine: a get, an index, the groups, or a write or a group of
--- acts without a batch
+-- the operation doesn't change the engine: a get, an index, the groups, or a write, with numbers or
+-- without, or a group of acts without a batch
 abbrev pub IsUnasked : Op → Type 0
 IsUnasked (Write acts sync) = batch_of_acts acts.items ≡ None
+IsUnasked (WriteOnce acts pairs sync) = batch_of_acts acts.items ≡ None
 IsUnasked (WriteGroup parts) = batches_of_parts parts.items ≡ None
 IsUnasked Sync = ⊥
 IsUnasked (Get group key) = Unit {0}
@@ -54,21 +56,22 @@ IsUnbuilt acts e = (e ≡ fault.Memory) ⊎ ((fault_code e ≡ 1) × (batch_of_a
 abbrev pub IsUnbuiltGroup : List Part → Fault → Type 0
 IsUnbuiltGroup parts e = (e ≡ fault.Memory) ⊎ Any (λ part. IsUnbuilt part.0.items e) parts
 
--- a write that was answered had a batch that the contents take, and is answered with its record's
--- length
+-- a write that was answered had a batch that changes no group's number and that the contents take,
+-- and is answered with its record's length
 abbrev pub IsWritten : Contents → List Act → ℕ → Type 0
-IsWritten m acts len = (batch : Batch) × (batch_of_acts acts ≡ Some batch) × IsValidBatch m batch
-    × (len ≡ record_len batch)
+IsWritten m acts len = (batch : Batch) × (batch_of_acts acts ≡ Some batch)
+    × (has_numbers batch ≡ false) × IsValidBatch m batch × (len ≡ record_len batch)
 
 -- the batch is out of range; or it could be written, and no number is left
 abbrev pub IsOutOfNumbers : Type 0 → Contents → Batch → Type 0
 IsOutOfNumbers none_left m batch = IsOutOfRange m batch ⊎ (IsWritable m batch × none_left)
 
 -- a write fails for an act that can't be done, too many bytes of entries, or lack of memory; its
--- batch since the contents don't take it, for its length, for lack of a number, else by storage or
--- for want of space, or by a failed engine
+-- batch since it would change a group's number, since the contents don't take it, for its length,
+-- for lack of a number, else by storage or for want of space, or by a failed engine
 abbrev pub IsWriteRefusal : Type 0 → Contents → List Act → Fault → Type 0
-IsWriteRefusal none_left m acts (fault.InvalidArgument _) = batch_of_acts acts ≡ None
+IsWriteRefusal none_left m acts (fault.InvalidArgument _) = (batch_of_acts acts ≡ None)
+    ⊎ IsSomeAnd (batch_of_acts acts) (λ batch. meets_number m batch ≡ true)
 IsWriteRefusal none_left m acts (fault.Io kind path) = IsSomeAnd (batch_of_acts acts) (IsWritable m)
 IsWriteRefusal none_left m acts fault.TryAgain = IsSomeAnd (batch_of_acts acts) (IsWritable m)
 IsWriteRefusal none_left m acts fault.Memory = Unit {0}
@@ -79,9 +82,56 @@ IsWriteRefusal none_left m acts fault.Range =
 IsWriteRefusal none_left m acts fault.Failed = IsSome (batch_of_acts acts)
 IsWriteRefusal none_left m acts _ = ⊥
 
--- a batch of a group isn't accepted: since the contents don't take it, for its length, for lack of
--- a number, else by storage or for lack of memory
+-- a write with numbers that was answered: there are some, each of another group, and none is
+-- greater than the one that its group keeps; or each is, and a batch was written, with the numbers
+-- behind its items
+abbrev pub IsWrittenOnce : Contents → List Act → List Pair → ℕ → Type 0
+IsWrittenOnce m acts pairs len = (batch : Batch) × (batch_of_acts acts ≡ Some batch)
+    × (are_unfit pairs ≡ false) × (((are_old m pairs ≡ true) × (len ≡ 0))
+    ⊎ ((are_new m pairs ≡ true) × (has_numbers batch ≡ false) × IsValidBatch m batch
+    × (len ≡ record_len (numbered batch pairs))))
+
+-- the numbers are greater than those that their groups keep, and P holds of the batch of these acts
+abbrev pub IsNew : Contents → List Act → List Pair → (Batch → Type 0) → Type 0
+IsNew m acts pairs P = (are_unfit pairs ≡ false) × (are_new m pairs ≡ true)
+    × IsSomeAnd (batch_of_acts acts) P
+
+-- none of them is, and there is a batch
+abbrev pub IsRepeat : Contents → List Act → List Pair → Type 0
+IsRepeat m acts pairs = (are_unfit pairs ≡ false) × (are_old m pairs ≡ true)
+    × IsSome (batch_of_acts acts)
+
+-- some of them are, and others aren't
+abbrev pub IsStale : Contents → List Act → List Pair → Type 0
+IsStale m acts pairs = (are_unfit pairs ≡ false) × (are_old m pairs ≡ false)
+    × (are_new m pairs ≡ false) × IsSome (batch_of_acts acts)
+
+-- it fails as a write does, a batch that changes a group's number or doesn't fit only where the
+-- numbers are new, and its record is longer by them; for numbers of which there are none, or two
+-- of a group; for numbers of which some are new; and where none is, by storage in a sync that was
+-- asked for
+abbrev pub IsOnceRefusal : Type 0 → Contents → List Act → List Pair → Bool → Fault → Type 0
+IsOnceRefusal none_left m acts pairs sync (fault.InvalidArgument _) =
+    (batch_of_acts acts ≡ None) ⊎ (are_unfit pairs ≡ true)
+    ⊎ IsNew m acts pairs (λ batch. meets_number m batch ≡ true)
+IsOnceRefusal none_left m acts pairs sync fault.StaleNumber = IsStale m acts pairs
+IsOnceRefusal none_left m acts pairs sync (fault.Io kind path) =
+    ((sync ≡ true) × IsRepeat m acts pairs)
+    ⊎ IsNew m acts pairs (λ batch. IsWritable m (numbered batch pairs))
+IsOnceRefusal none_left m acts pairs sync fault.TryAgain =
+    IsNew m acts pairs (λ batch. IsWritable m (numbered batch pairs))
+IsOnceRefusal none_left m acts pairs sync fault.Memory = Unit {0}
+IsOnceRefusal none_left m acts pairs sync fault.Gap =
+    IsNew m acts pairs (λ batch. batch_refusal m batch ≡ Some fault.Gap)
+IsOnceRefusal none_left m acts pairs sync fault.Range = IsOversized acts
+    ⊎ IsNew m acts pairs (λ batch. IsOutOfNumbers none_left m (numbered batch pairs))
+IsOnceRefusal none_left m acts pairs sync fault.Failed = IsSome (batch_of_acts acts)
+IsOnceRefusal none_left m acts pairs sync _ = ⊥
+
+-- a batch of a group isn't accepted: since it would change a group's number, since the contents
+-- don't take it, for its length, for lack of a number, else by storage or for lack of memory
 abbrev pub IsBatchRefusal : Type 0 → Contents → Batch → Fault → Type 0
+IsBatchRefusal none_left m batch (fault.InvalidArgument _) = meets_number m batch ≡ true
 IsBatchRefusal none_left m batch fault.Gap = batch_refusal m batch ≡ Some fault.Gap
 IsBatchRefusal none_left m batch fault.Range = IsOutOfNumbers none_left m batch
 IsBatchRefusal none_left m batch (fault.Io kind path) = IsWritable m batch
@@ -92,7 +142,8 @@ IsBatchRefusal none_left m batch _ = ⊥
 -- each batch is answered at the contents after those that were accepted before it
 abbrev pub AreBatchAnswers : Type 0 → Contents → List Batch → List (Result ℕ Fault) → Type 0
 AreBatchAnswers none_left m [] [] = Unit {0}
-AreBatchAnswers none_left m (batch ∷ batches) (Ok len ∷ answers) = IsValidBatch m batch
+AreBatchAnswers none_left m (batch ∷ batches) (Ok len ∷ answers) =
+    (has_numbers batch ≡ false) × IsValidBatch m batch
     × (len ≡ record_len batch) × AreBatchAnswers none_left (after_batch m batch) batches answers
 AreBatchAnswers none_left m (batch ∷ batches) (Err e ∷ answers) =
     IsBatchRefusal none_left m batch e × AreBatchAnswers none_left m batches answers
@@ -152,13 +203,16 @@ IsTextRefusal index bytes e = IsEntryRefusalAt IsTextOf index_of index bytes e �
 abbrev pub IsAnswer : Type 0 → Bool → Contents → (ℕ → Bool) → Op → Outcome → Type 0
 IsAnswer none_left failed m known (Write acts sync) (Size answer) =
     MatchResult answer (IsWritten m acts.items) (IsWriteRefusal none_left m acts.items)
+IsAnswer none_left failed m known (WriteOnce acts pairs sync) (Size answer) =
+    MatchResult answer (IsWrittenOnce m acts.items pairs.items)
+    (IsOnceRefusal none_left m acts.items pairs.items sync)
 IsAnswer none_left failed m known (WriteGroup parts) (Sizes answer) = MatchResult answer (λ answers.
     IsWrittenGroup none_left m parts.items answers.items) (IsGroupRefusal parts.items)
 IsAnswer none_left failed m known Sync (Done answer) =
     MatchResult answer (λ _. Unit {0}) IsEngineRefusal
 IsAnswer none_left failed m known (Get group key) (Value answer) =
     MatchResult answer (λ value. option_map (λ v. v.items) value
-    ≡ m.value group key.items) IsGetRefusal
+    ≡ (shown m).value group key.items) IsGetRefusal
 IsAnswer none_left failed m known (CompactTo group index) (Count answer) =
     MatchResult answer (λ count. count ≡ compact_count index (m.entries group))
     (IsCompactRefusal none_left)

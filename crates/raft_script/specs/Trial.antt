@@ -19,9 +19,11 @@ use Rattle.raft_memory.specs.declared.crash.Choice.{Choice}
 use Rattle.raft_held.specs.Contents.{contents_at}
 use Rattle.raft_held.specs.Crash.{RecoversContents, StillRecovers}
 use Rattle.raft_log_engine.specs.Image.{IsImageOf}
+use Rattle.raft_once.specs.Numbers.{shown}
 use Rattle.raft_log_engine.specs.declared.engine.image.Image.{Image}
 use Rattle.raft_script.specs.Durability.{IsStep, LeavesAllowedAfter, Steps}
 use Rattle.raft_script.specs.Headline.{RunState, progress_from}
+use Rattle.raft_script.specs.Numbers.{HaveActed}
 use Rattle.raft_held.specs.Queues.{AreDetectableIn, AreSingleIn, AreSoundIn, HaveDamageIn, HaveSimplePastIn, IsOpeningRefusal}
 use Rattle.raft_script.specs.Failure.{IsStorageOrMemory, io_count, is_io}
 use Rattle.raft_pipes.specs.Folder.{AreClear, IsLogPath, IsReservedPath}
@@ -64,6 +66,7 @@ pub record AreAnswered (folders : Folders) (m : Contents) (known : ℕ → Bool)
   pub moments : now.moments ≡ new.moments
   pub steps : Steps (λ (s : RunState). s.failed) (IsStep folders m known) m (progress_from [])
       before ops ran.outcomes ran.failed_at now
+  pub numbers : HaveActed m m [] ops ran.outcomes
   -- storage counted at least as many failed calls as answered `Io`
   pub counted : RoseBy (io_count ran.outcomes) no_refusals new.refusals
 
@@ -203,9 +206,9 @@ pub record IsOpeningOf (P Q : Type 0) (config : Config) (files last : MemoryFile
     (opened : Result Image Fault) : Type 0 where
   pub reopened : Reopens memory_directory memory_moments memory_refusals (folders_in config) files
       last opened
-  -- it found what they hold
+  -- it found what they hold, and shows it without the groups' numbers
   pub found : IfOk opened (λ image. IsImageOf image.groups.items
-      (contents_at (folders_in config) (memory_directory files)))
+      (shown (contents_at (folders_in config) (memory_directory files))))
   -- where no folder has the path of a log file, a tolerant one doesn't fail for detectable damage
   pub refused : HaveNoLogPath (folders_in config) → Q → P
       → (config.recovery_mode ≡ AbsoluteConsistency → ⊥) → contradiction config ≡ None

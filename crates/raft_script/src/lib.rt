@@ -1,6 +1,7 @@
 //! Operations on an engine as a list, and trials of them with a crash.
 #![tactic(auto)]
 
+pub mod laws;
 mod number;
 mod operation;
 mod runs;

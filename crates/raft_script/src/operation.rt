@@ -22,6 +22,9 @@ pub enum Act {
 pub enum Op {
     /// The acts as one batch, synced where that is asked.
     Write(Vec<Act>, bool),
+    /// The same once: with numbers, each of a group, which act where they are greater than those
+    /// that the groups keep.
+    WriteOnce(Vec<Act>, Vec<(u64, u64)>, bool),
     /// Several batches at once, then a sync where one of them asks for it.
     WriteGroup(Vec<(Vec<Act>, bool)>),
     Sync,
@@ -46,7 +49,8 @@ pub enum Op {
     Purge,
 }
 
-/// What an operation was answered: a write with the length of its record.
+/// What an operation was answered: a write with the length of its record, and one whose numbers
+/// have acted with 0.
 #[derive(Debug, PartialEq, Eq, Drop)]
 pub enum Outcome {
     Size(Result<usize, Fault>),

@@ -1,5 +1,5 @@
 //! Operations one after the other, each with its outcome.
-ghost use Rattle.std.specs.Prelude.{All, ◌≡◌, ◌⊎◌, ◌≤◌, ◌^◌, ◌++◌, ℕ, List, false, length, map, Some, None, IfOk, IfErr, OnOk, OnErr};
+ghost use Rattle.std.specs.Prelude.{All, ◌≡◌, ◌⊎◌, ◌≤◌, ◌^◌, ◌++◌, ℕ, List, true, false, length, map, nat_lt, Some, None, IfOk, IfErr, OnOk, OnErr};
 ghost use Rattle.raft_records.specs.Contents.{Contents, after_batches};
 ghost use Rattle.raft_base.specs.Fault.{fault_code};
 ghost use Rattle.raft_records.specs.Batch.{raw_entries, size_refusal, with_entries_item};
@@ -10,10 +10,12 @@ ghost use Rattle.raft_env.specs.Directory.{Directory};
 ghost use Rattle.raft_held.specs.Crash.{LeavesAllowedFrom};
 ghost use Rattle.raft_pipes.specs.PipeState.{HasLastNumber};
 ghost use Rattle.raft_log_engine.specs.Group.{items_of};
+ghost use Rattle.raft_once.specs.History.{are_numbers};
 ghost use Rattle.raft_log_engine.specs.Engine.{begun_of, contents_of, directory_of, durable_of, folders_of, has_failed, queue_of, refusals_of, unsynced_of};
 ghost use Rattle.raft_script.specs.Entry.{indexed_bytes};
 ghost use Rattle.raft_script.specs.Durability.{Does, HaveRun, IsAnswerOf, IsOutOfNumbersIn, PassesOver, Runs};
 ghost use Rattle.raft_script.specs.Headline.{AreAllowedInside, LeavesFrom, run_state_of};
+ghost use Rattle.raft_script.specs.Numbers.{HaveActed};
 ghost use Rattle.raft_script.specs.Purges.{HasPurgedAs};
 ghost use Rattle.raft_script.specs.Batches.{accepted_of, batch_of_acts, batches_of_parts, items_of_act};
 ghost use Rattle.raft_script.specs.Failure.{IsFailing, Refuses};
@@ -24,6 +26,7 @@ use crate::text_entry::TextEntry;
 use raft_env::FileSystem;
 use raft_log_engine::Engine;
 use raft_log_engine::laws::{an_engine_recovers_what_it_keeps, crash_leaves_contents};
+use raft_once::laws::a_number_acts_once;
 use raft_queue_laws::queue::crash_leaves_a_prefix;
 use raft_records::{Command, EntryIndex, Fault, FileSeq, LogBatch, LogQueue};
 use std::alloc::{AllocError, Global};
@@ -52,6 +55,10 @@ pub(crate) struct RunReport {
 /// failed engine adds no moment. `ok` says all this, and what is answered, of one list of engines,
 /// each of which the operation's own call makes of the one before.
 ///
+/// What was accepted are acts (`numbers`), each with its numbers, of which each is greater than
+/// the one that its group kept: so none acts twice, as long as the group isn't cleaned.
+/// `laws::numbers_act_once_over_crashes` joins the acts of runs with crashes between them.
+///
 /// After the operations the accepted batches that are covered count as durable, and no more, and
 /// the others stand unsynced. At least as many calls as answer `Io` were refused by storage. Where
 /// all operations are reads, but of entries, and writes of acts without a batch, the engine stays
@@ -65,6 +72,8 @@ pub fn run<F: FileSystem>(
     ensures any_moment { IfOk result (λ outcomes.
         AreAllowedInside ops.now outcomes.items engine.old engine.new) }
     ensures ok { IfOk result (λ outcomes. HaveRun ops.now outcomes.items engine.old engine.new) }
+    ensures numbers { IfOk result (λ outcomes. HaveActed (contents_of engine.old)
+        (durable_of engine.old) (unsynced_of engine.old) ops.now outcomes.items) }
     ensures left { LeavesFrom 0 (folders_of engine.new) (durable_of engine.new)
         (unsynced_of engine.new) (directory_of engine.new) }
     ensures unchanged { All IsUnasked ops.now → engine.new ≡ engine.old }
@@ -87,6 +96,8 @@ pub(crate) fn run_watched<F: FileSystem>(
         AreAllowedInside ops.now ran.outcomes.items engine.old engine.new) }
     ensures ok { IfOk result (λ ran.
         Runs ops.now ran.outcomes.items ran.failed_at engine.old engine.new) }
+    ensures numbers { IfOk result (λ ran. HaveActed (contents_of engine.old)
+        (durable_of engine.old) (unsynced_of engine.old) ops.now ran.outcomes.items) }
     ensures left { LeavesFrom 0 (folders_of engine.new) (durable_of engine.new)
         (unsynced_of engine.new) (directory_of engine.new) }
     ensures unchanged { All IsUnasked ops.now → engine.new ≡ engine.old }
@@ -97,6 +108,7 @@ pub(crate) fn run_watched<F: FileSystem>(
     ensures cause { IfErr result (λ e. e ≡ Fault.Memory) }
 {
     crash_is_said_of_files();
+    a_number_acts_once();
     an_engine_recovers_what_it_keeps(engine);
     let mut outcomes = Vec::with_capacity(alloc, ops.len())?;
     let mut failed_at = None;
@@ -155,6 +167,13 @@ pub fn step<F: FileSystem>(alloc: Global, engine: &mut Engine<F>, op: &Op) -> Ou
             // What is refused while the batch is built doesn't reach the engine.
             Err(fault) => Outcome::Size(Err(fault)),
         },
+        Op::WriteOnce(acts, pairs, sync) => match build(alloc, acts) {
+            Ok(mut batch) => {
+                numbers_fit(pairs);
+                Outcome::Size(engine.write_once(&mut batch, pairs, *sync))
+            }
+            Err(fault) => Outcome::Size(Err(fault)),
+        },
         Op::WriteGroup(parts) => match build_group(alloc, parts) {
             Ok((mut batches, syncs)) => Outcome::Sizes(engine.write_group(&mut batches, &syncs)),
             Err(fault) => Outcome::Sizes(Err(fault)),
@@ -174,6 +193,19 @@ pub fn step<F: FileSystem>(alloc: Global, engine: &mut Engine<F>, op: &Op) -> Ou
         Op::Purge => Outcome::ToCompact(engine.purge_expired_files(FileSeq::MAX)),
     }
 }
+
+// Each number has eight bytes, as its type says: they are read for that alone.
+fn numbers_fit(pairs: &[(u64, u64)])
+    ensures { are_numbers pairs.now ≡ true }
+{
+    for (_, number) in pairs {
+        number_fits(*number);
+    }
+}
+
+fn number_fits(number: u64)
+    ensures { nat_lt number (2 ^ 64) ≡ true }
+{}
 
 // The batches of a group, and which of them ask for a sync.
 fn build_group(

@@ -7,6 +7,7 @@ ghost use Rattle.raft_config.specs.Folders.{Folders, folders_in};
 ghost use Rattle.raft_config.specs.Sanitized.{IsContradiction, contradiction};
 ghost use Rattle.raft_memory.specs.Memory.{memory_directory, memory_moments, no_files};
 ghost use Rattle.raft_log_engine.specs.Image.{IsImageOf};
+ghost use Rattle.raft_once.specs.Numbers.{shown};
 ghost use Rattle.raft_held.specs.Contents.{contents_at, known_at};
 ghost use Rattle.raft_held.specs.Crash.{RecoversContents};
 ghost use Rattle.raft_pipes.specs.Folder.{AreClear};
@@ -211,14 +212,15 @@ fn run_over<F: FileSystem + Drop>(
     }
 }
 
-// What an opening finds, and the files as it left them.
+// What an opening finds, without the groups' numbers, and the files as it left them.
 fn open_and_give_up<F: FileSystem + Drop>(
     alloc: Global,
     config: Config,
     files: F,
 ) -> (Result<Image, Fault>, F)
     ensures value { IfOk result.0 (λ image.
-        IsImageOf image.groups.items (contents_at (folders_in config) (F.directory files))) }
+        IsImageOf image.groups.items
+        (shown (contents_at (folders_in config) (F.directory files)))) }
     ensures refused { contradiction config ≡ None → IfErr result.0 (λ e.
         AreOpenableIn config.recovery_mode (folders_in config) (F.directory files)
         → AreClear (folders_in config) (F.directory files)

@@ -1,5 +1,7 @@
 pub mod HistoryLemmas
 pub mod CallLemmas
+pub mod OnceLemmas
 pub mod SharedLemmas
 pub mod SettledLemmas
+pub mod PairLemmas
 pub mod Crossing

@@ -1,16 +1,19 @@
 -- A history of a shared engine, in the words of contents, and when it is legal: one thread could have
 -- made it.
-use Rattle.std.specs.Prelude.{◌≡◌, ◌⊎◌, ℕ, ◌^◌, ◌≤◌, Bool, true, false, List, [], ◌∷◌, Option, Some, Result, Ok, Err, fold, suc}
+use Rattle.std.specs.Prelude.{◌≡◌, ◌⊎◌, ℕ, ◌^◌, ◌≤◌, Bool, true, false, List, [], ◌∷◌, Option, Some, Result, Ok, Err, fold, suc, if◌then◌else◌}
 use Rattle.raft_base.specs.declared.errors.Fault.TheVariants as fault
 use Rattle.raft_base.specs.declared.errors.IoKind.{IoKind}
 use Rattle.raft_records.specs.Contents.{Contents, after_batch, first_index_of, last_index_of}
 use Rattle.raft_records.specs.Item.{Batch}
 use Rattle.raft_records.specs.Validity.{IsValidBatch, batch_refusal}
+use Rattle.raft_once.specs.Numbers.{Pair, are_new, are_old, are_unfit, meets_number, numbered, shown}
 use Rattle.raft_log_engine.specs.Engine.{record_len}
 
 -- what a call asks for
 pub data Asked : Type 0 where
   Write : (batch : Batch) (sync : Bool) → Asked
+  -- .. with numbers of groups, that it acts once
+  WriteOnce : (batch : Batch) (pairs : List Pair) (sync : Bool) → Asked
   Sync : Asked
   Get : (group : ℕ) (key : List ℕ) → Asked
   First : (group : ℕ) → Asked
@@ -24,6 +27,8 @@ pub data Reason : Type 0 where
   Range : Reason
   Failed : Reason
   Memory : Reason
+  Invalid : Reason
+  StaleNumber : Reason
   -- a fault of another number, which no legal history has
   Other : (code : ℕ) → Reason
 
@@ -39,21 +44,23 @@ pub record Event : Type 0 where
   pub asked : Asked
   pub answer : Answer
 
--- an answered write moves the contents, and nothing else does
+-- an answered write moves the contents, with numbers where these are new, and nothing else does
 abbrev pub after_event : Contents → Event → Contents
 after_event m event = after_answer m event.asked event.answer
   where
     after_answer : Contents → Asked → Answer → Contents
     after_answer m (Write batch sync) (Size (Ok size)) = after_batch m batch
+    after_answer m (WriteOnce batch pairs sync) (Size (Ok size)) =
+        if are_new m pairs then after_batch m (numbered batch pairs) else m
     after_answer m asked answer = m
 
 -- the contents after a history
 abbrev pub after_events : Contents → List Event → Contents
 after_events m events = fold after_event m events
 
--- a write is refused for its batch alone, or of a valid batch by storage, without a path, for want of
--- memory, or since its record is too long or numbers of log files have ended; the engine may fail by
--- storage or for want of memory
+-- the write of a batch is refused for that alone, or of a valid batch by storage, without a path, for
+-- want of memory, or since its record is too long or numbers of log files have ended; the engine may
+-- fail by storage or for want of memory
 abbrev pub IsRefusedWrite : Contents → Bool → Batch → Reason → Bool → Type 0
 IsRefusedWrite m ended batch Gap fails =
     (batch_refusal m batch ≡ Some fault.Gap) × (fails ≡ false)
@@ -64,6 +71,8 @@ IsRefusedWrite m ended batch TryAgain fails = IsValidBatch m batch × (fails ≡
 IsRefusedWrite m ended batch (Io kind path) fails = IsValidBatch m batch × (path ≡ [])
 IsRefusedWrite m ended batch Memory fails = IsValidBatch m batch
 IsRefusedWrite m ended batch Failed fails = ⊥
+IsRefusedWrite m ended batch Invalid fails = ⊥
+IsRefusedWrite m ended batch StaleNumber fails = ⊥
 IsRefusedWrite m ended batch (Other code) fails = ⊥
 
 -- a sync is refused by storage, without a path, or for want of memory, and that fails the engine
@@ -72,12 +81,39 @@ IsRefusedSync (Io kind path) fails = (path ≡ []) × (fails ≡ true)
 IsRefusedSync Memory fails = fails ≡ true
 IsRefusedSync reason fails = ⊥
 
--- what a write is answered at these contents, and whether the engine fails in it
+-- what the write of a batch is answered at these contents, and whether the engine fails in it
 abbrev pub IsWriteAnswer : Contents → Bool → Batch → Answer → Bool → Type 0
 IsWriteAnswer m ended batch (Size (Ok size)) fails =
     IsValidBatch m batch × (size ≡ record_len batch) × (fails ≡ false)
 IsWriteAnswer m ended batch (Size (Err reason)) fails = IsRefusedWrite m ended batch reason fails
 IsWriteAnswer m ended batch answer fails = ⊥
+
+-- .. a write that is refused for what it asks for, which fails no engine
+abbrev pub IsRefusedAs : Reason → Answer → Bool → Type 0
+IsRefusedAs reason answer fails = (answer ≡ Size (Err reason)) × (fails ≡ false)
+
+-- .. one of a caller, that meets a number or not, of a batch that is written so
+abbrev pub IsCallersAnswer : Bool → Contents → Bool → Batch → Answer → Bool → Type 0
+IsCallersAnswer true m ended written answer fails = IsRefusedAs Invalid answer fails
+IsCallersAnswer false m ended written answer fails = IsWriteAnswer m ended written answer fails
+
+-- .. one with old numbers: nothing is written, and a sync that is asked for may be refused
+abbrev pub IsOldAnswer : Bool → Answer → Bool → Type 0
+IsOldAnswer sync (Size (Ok size)) fails = (size ≡ 0) × (fails ≡ false)
+IsOldAnswer sync (Size (Err (Io kind path))) fails = (sync ≡ true) × (path ≡ [])
+IsOldAnswer sync (Size (Err Memory)) fails = sync ≡ true
+IsOldAnswer sync answer fails = ⊥
+
+-- .. one with numbers, which are unfit, or old, or new, or some of them old and some new
+abbrev pub IsOnceAnswer : (unfit old new : Bool) → Contents → Bool → Batch → List Pair → Bool
+    → Answer → Bool → Type 0
+IsOnceAnswer true old new m ended batch pairs sync answer fails =
+    IsRefusedAs Invalid answer fails
+IsOnceAnswer false true new m ended batch pairs sync answer fails = IsOldAnswer sync answer fails
+IsOnceAnswer false false true m ended batch pairs sync answer fails =
+    IsCallersAnswer (meets_number m batch) m ended (numbered batch pairs) answer fails
+IsOnceAnswer false false false m ended batch pairs sync answer fails =
+    IsRefusedAs StaleNumber answer fails
 
 -- .. a sync
 abbrev pub IsSyncAnswer : Answer → Bool → Type 0
@@ -98,9 +134,14 @@ IsIndexAnswer is answer fails = ⊥
 
 -- what an engine that stands answers at these contents, and whether it fails in the call
 abbrev pub IsAnswer : Contents → Bool → Asked → Answer → Bool → Type 0
-IsAnswer m ended (Write batch sync) answer fails = IsWriteAnswer m ended batch answer fails
+IsAnswer m ended (Write batch sync) answer fails =
+    IsCallersAnswer (meets_number m batch) m ended batch answer fails
+IsAnswer m ended (WriteOnce batch pairs sync) answer fails =
+    IsOnceAnswer (are_unfit pairs) (are_old m pairs) (are_new m pairs) m ended batch pairs sync
+    answer fails
 IsAnswer m ended Sync answer fails = IsSyncAnswer answer fails
-IsAnswer m ended (Get group key) answer fails = IsGetAnswer (m.value group key) answer fails
+IsAnswer m ended (Get group key) answer fails =
+    IsGetAnswer ((shown m).value group key) answer fails
 IsAnswer m ended (First group) answer fails =
     IsIndexAnswer (first_index_of (m.entries group)) answer fails
 IsAnswer m ended (Last group) answer fails =
@@ -109,6 +150,7 @@ IsAnswer m ended (Last group) answer fails =
 -- one that has failed answers so; the indexes that it tells are open
 abbrev pub IsAnswerOfFailed : Asked → Answer → Type 0
 IsAnswerOfFailed (Write batch sync) answer = answer ≡ Size (Err Failed)
+IsAnswerOfFailed (WriteOnce batch pairs sync) answer = answer ≡ Size (Err Failed)
 IsAnswerOfFailed Sync answer = answer ≡ Done (Err Failed)
 IsAnswerOfFailed (Get group key) answer = answer ≡ Value (Err Failed)
 IsAnswerOfFailed (First group) answer = (index : Option ℕ) × (answer ≡ Index index)

@@ -9,9 +9,11 @@ use Rattle.raft_records.specs.Item.{Batch}
 use Rattle.raft_log_engine.specs.Engine.{has_failed}
 use Rattle.raft_log_engine.specs.declared.engine.Engine.{Engine}
 use Rattle.raft_shared.specs.Begun.{contents_in, failed_in, lacks_numbers, lacks_numbers_in, refusals_in}
-use Rattle.raft_log_engine.specs.Calls.{IsSync, IsWrite}
-use Rattle.raft_shared.specs.Calls.{IsGet}
-use Rattle.raft_shared.specs.History.{Answer, Asked, Done, Event, Get, Index, Size, Sync, Value, Write}
+use Rattle.raft_log_engine.specs.Calls.{IsSync}
+use Rattle.raft_log_engine.specs.Once.{IsWriteOnce}
+use Rattle.raft_once.specs.Numbers.{Pair}
+use Rattle.raft_shared.specs.Calls.{IsCallersWrite, IsGet}
+use Rattle.raft_shared.specs.History.{Answer, Asked, Done, Event, Get, Index, Size, Sync, Value, Write, WriteOnce}
 use Rattle.raft_shared.specs.Words.{Told, answer_by, event_of, told_by}
 use Rattle.raft_shared.specs.declared.call.Receipt.{Receipt}
 use Rattle.raft_shared.specs.declared.seat.Seat.{Seat}
@@ -95,11 +97,21 @@ module _ {F H R W : Type 0} {g : Ghosts F H R W} where
   pub record RecordsWrite (items rest : Batch) (sync : Bool) (old new : Shared F H R W g)
       (seat seat' : Seat) (receipt : Receipt) : Type 0 where
     pub result : Result ℕ Fault
-    pub write : IsWrite items rest sync (engine_of old) (engine_of new) result
+    pub write : IsCallersWrite items rest sync (engine_of old) (engine_of new) result
     pub ended : had_ended new ≡ (if has_failed (engine_of new) then had_ended old
         else lacks_numbers (engine_of new))
     pub recorded : HasRecorded (Write items sync) (Size (answer_by (λ n. n) result)) old new seat
         seat' receipt
+
+  -- .. wrote with numbers
+  pub record RecordsWriteOnce (items rest : Batch) (pairs : List Pair) (sync : Bool)
+      (old new : Shared F H R W g) (seat seat' : Seat) (receipt : Receipt) : Type 0 where
+    pub result : Result ℕ Fault
+    pub write : IsWriteOnce items rest pairs sync (engine_of old) (engine_of new) result
+    pub ended : had_ended new ≡ (if has_failed (engine_of new) then had_ended old
+        else lacks_numbers (engine_of new))
+    pub recorded : HasRecorded (WriteOnce items pairs sync) (Size (answer_by (λ n. n) result)) old
+        new seat seat' receipt
 
   -- .. synced
   pub record RecordsSync (old new : Shared F H R W g) (seat seat' : Seat) (receipt : Receipt)

@@ -7,7 +7,7 @@ use Rattle.std.specs.Prelude.{ℕ, suc, List, [], ◌∷◌, ◌==◌, Result, O
 use Rattle.raft_base.specs.Fault.{fault_code}
 use Rattle.raft_base.specs.declared.errors.Fault.{Fault}
 use Rattle.raft_base.specs.declared.errors.Fault.TheVariants as fault
-use Rattle.raft_shared.specs.History.{Answer, Asked, Done, Event, Failed, First, Gap, Get, Index, Io, Last, Memory, Other, Range, Reason, Size, Sync, TryAgain, Value, Write}
+use Rattle.raft_shared.specs.History.{Answer, Asked, Done, Event, Failed, First, Gap, Get, Index, Invalid, Io, Last, Memory, Other, Range, Reason, Size, StaleNumber, Sync, TryAgain, Value, Write, WriteOnce}
 use Rattle.raft_shared.specs.declared.call.Call.{Call}
 use Rattle.raft_shared.specs.declared.call.Call.TheVariants as call
 use Rattle.raft_shared.specs.declared.call.Reply.{Reply}
@@ -23,6 +23,8 @@ reason_of fault.Gap = Gap
 reason_of fault.Range = Range
 reason_of fault.Failed = Failed
 reason_of fault.Memory = Memory
+reason_of (fault.InvalidArgument text) = Invalid
+reason_of fault.StaleNumber = StaleNumber
 reason_of e = Other (fault_code e)
 
 abbrev pub without_path : Reason → Reason
@@ -45,6 +47,7 @@ shared_bytes value = (arc_value value).items
 
 abbrev pub asked_of : Call → Asked
 asked_of (call.Write batch sync) = Write batch.items sync
+asked_of (call.WriteOnce batch pairs sync) = WriteOnce batch.items pairs.items sync
 asked_of call.Sync = Sync
 asked_of (call.Get group key) = Get group key.items
 asked_of (call.First group) = First group

@@ -11,6 +11,8 @@ use std::sync::Arc;
 pub enum Call {
     /// A batch, and whether it is synced.
     Write(LogBatch, bool),
+    /// .. with groups and their numbers.
+    WriteOnce(LogBatch, Vec<(u64, u64)>, bool),
     Sync,
     Get(u64, Vec<u8>),
     First(u64),
@@ -128,5 +130,6 @@ fn without_path(alloc: Global, fault: &Fault) -> Fault
         Fault::NotRecovered => Fault::NotRecovered,
         Fault::TrailFull => Fault::TrailFull,
         Fault::Layer => Fault::Layer,
+        Fault::StaleNumber => Fault::StaleNumber,
     }
 }

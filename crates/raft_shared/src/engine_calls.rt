@@ -1,6 +1,7 @@
 //! Calls of the engine, with all that it says of each in one relation.
-ghost use Rattle.raft_log_engine.specs.Calls.{IsSync, IsWrite};
-ghost use Rattle.raft_shared.specs.Calls.{IsGet};
+ghost use Rattle.raft_log_engine.specs.Calls.{IsSync};
+ghost use Rattle.raft_log_engine.specs.Once.{IsWriteOnce};
+ghost use Rattle.raft_shared.specs.Calls.{IsCallersWrite, IsGet};
 
 use raft_log_engine::{Engine, Fault, FileSystem, LogBatch};
 
@@ -10,9 +11,23 @@ pub(crate) fn write<F: FileSystem>(
     batch: &mut LogBatch,
     sync: bool,
 ) -> Result<usize, Fault>
-    ensures value { IsWrite batch.old.items batch.new.items sync engine.old engine.new result }
+    ensures value { IsCallersWrite batch.old.items batch.new.items sync engine.old engine.new
+        result }
 {
     engine.write(batch, sync)
+}
+
+/// `Engine::write_once`.
+pub(crate) fn write_once<F: FileSystem>(
+    engine: &mut Engine<F>,
+    batch: &mut LogBatch,
+    pairs: &[(u64, u64)],
+    sync: bool,
+) -> Result<usize, Fault>
+    ensures value { IsWriteOnce batch.old.items batch.new.items pairs.now sync engine.old engine.new
+        result }
+{
+    engine.write_once(batch, pairs, sync)
 }
 
 /// `Engine::sync`.

@@ -76,12 +76,21 @@ fn is_same_call(a: &Call, b: &Call) -> bool
         (Call::Write(batch, sync), Call::Write(other, other_sync)) => {
             sync == other_sync && batch.has_items_of(other)
         }
+        (Call::WriteOnce(batch, pairs, sync), Call::WriteOnce(other, other_pairs, other_sync)) => {
+            sync == other_sync && are_same_pairs(pairs, other_pairs) && batch.has_items_of(other)
+        }
         (Call::Sync, Call::Sync) => true,
         (Call::Get(group, key), Call::Get(other, other_key)) => group == other && key == other_key,
         (Call::First(group), Call::First(other)) => group == other,
         (Call::Last(group), Call::Last(other)) => group == other,
         _ => false,
     }
+}
+
+fn are_same_pairs(a: &[(u64, u64)], b: &[(u64, u64)]) -> bool
+    ensures value { IsTrue result ↔ (a.now ≡ b.now) }
+{
+    a == b
 }
 
 fn is_same_reply(a: &Reply, b: &Reply) -> bool

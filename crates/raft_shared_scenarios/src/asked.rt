@@ -7,6 +7,8 @@ use std::alloc::Global;
 
 pub(crate) enum Ask {
     Put(u64, &'static [u8], &'static [u8]),
+    /// A value at the key k of group 1, with numbers of groups, synced.
+    PutOnce(&'static [u8], &'static [(u64, u64)]),
     /// Entries of group 1 with these indexes, each without bytes.
     Entries(&'static [u64]),
     Get(u64, &'static [u8]),
@@ -64,7 +66,18 @@ fn write<F: FileSystem>(
     }
 }
 
-/// Writes aren't synced.
+fn write_once<F: FileSystem>(
+    alloc: Global,
+    shared: &mut Shared<F>,
+    seat: &mut Seat,
+    value: &[u8],
+    pairs: &[(u64, u64)],
+) -> Result<Receipt, Fault> {
+    let mut batch = put_of(alloc, 1, b"k", value)?;
+    shared.write_once(seat, &mut batch, pairs, true)
+}
+
+/// Writes without numbers aren't synced.
 pub(crate) fn ask_for<F: FileSystem>(
     alloc: Global,
     shared: &mut Shared<F>,
@@ -73,6 +86,7 @@ pub(crate) fn ask_for<F: FileSystem>(
 ) -> Result<Receipt, Fault> {
     match ask {
         Ask::Put(group, key, value) => write(shared, seat, put_of(alloc, *group, key, value)),
+        Ask::PutOnce(value, pairs) => write_once(alloc, shared, seat, value, pairs),
         Ask::Entries(indexes) => write(shared, seat, entries_of(alloc, indexes)),
         Ask::Get(group, key) => shared.get(seat, *group, key),
         Ask::First(group) => shared.first_index(seat, *group),

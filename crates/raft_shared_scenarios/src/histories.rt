@@ -19,7 +19,62 @@ const FOUND: Told = Told::Value(Some(b"v"));
 /// the key and the value, and 4 for the checksum.
 const PUT_LEN: Told = Told::Size(28);
 
-static STORIES: [Story; 9] = [
+/// .. and of one with a number: its item has the group, the two kinds, the lengths, a key of five bytes
+/// and a value of eight.
+const ONCE_LEN: Told = Told::Size(46);
+
+/// The key at which a group keeps its number.
+const NUMBER_KEY: &[u8] = &[0xff, b'o', b'n', b'c', b'e'];
+
+static STORIES: [Story; 11] = [
+    Story {
+        name: "puts that act once",
+        is_sync_refused: false,
+        limit: 20,
+        seats: 2,
+        steps: &[
+            Step::Answered(0, Ask::PutOnce(b"a", &[(1, 5)]), 0, ONCE_LEN),
+            Step::Answered(1, Ask::PutOnce(b"b", &[(1, 5)]), 1, Told::Size(0)),
+            Step::Answered(0, GET_K, 2, Told::Value(Some(b"a"))),
+            Step::Answered(
+                0,
+                Ask::PutOnce(b"c", &[(1, 6), (2, 0)]),
+                3,
+                Told::Refused(18),
+            ),
+            Step::Answered(0, Ask::PutOnce(b"c", &[]), 4, Told::Refused(1)),
+            Step::Answered(
+                0,
+                Ask::PutOnce(b"c", &[(1, 6), (1, 7)]),
+                5,
+                Told::Refused(1),
+            ),
+            Step::Answered(0, Ask::Put(1, NUMBER_KEY, b"v"), 6, Told::Refused(1)),
+            Step::Answered(1, Ask::Get(1, NUMBER_KEY), 7, Told::Value(None)),
+            Step::Answered(1, GET_K, 8, Told::Value(Some(b"a"))),
+        ],
+        handed: Handed::First(2),
+        end: End {
+            refusal: None,
+            calls: 9,
+            keys: Some(1),
+            synced: Some(b"a"),
+        },
+    },
+    Story {
+        name: "a seat of another engine with a receipt of another number",
+        is_sync_refused: false,
+        limit: 20,
+        seats: 1,
+        steps: &[Step::Answered(0, Ask::PutOnce(b"a", &[(1, 5)]), 0, ONCE_LEN)],
+        handed: Handed::OfOther(&[Step::Answered(0, Ask::PutOnce(b"a", &[(1, 6)]), 0, ONCE_LEN)]),
+        end: End {
+            refusal: Some(1),
+            calls: 1,
+            keys: Some(1),
+            synced: Some(b"a"),
+        },
+    },
     Story {
         name: "indexes",
         is_sync_refused: false,

@@ -53,6 +53,8 @@ pub enum Step {
     PutMessage(u64, &'static [u8]),
     /// Writes the batch, synced where that is asked: the length of its record, or the code of the refusal.
     Write(bool, Result<usize, u8>),
+    /// Writes the batch so that it acts once, by these groups with a number each: 0 where they are old.
+    WriteOnce(&'static [(u64, u64)], bool, Result<usize, u8>),
     /// Writes these entries.
     Apart(Apart),
     /// Operations and their answers; with no answers each is done.
@@ -94,18 +96,34 @@ fn put_message(alloc: Global, batch: &mut LogBatch, group: u64, key: &[u8]) -> R
     batch.put_message(group, key.to_vec(alloc)?, &TextEntry { index: 7, word })
 }
 
-// Whether the call is answered so. A batch that was written is empty.
+// Whether a write of the batch was answered so. A batch that was written is empty.
+fn is_written(batch: &LogBatch, answer: &Result<usize, Fault>, wanted: &Result<usize, u8>) -> bool {
+    match (answer, wanted) {
+        (Ok(size), Ok(wanted)) => *size == *wanted && batch.is_empty(),
+        (Err(fault), Err(code)) => fault.code() == *code && !batch.is_empty(),
+        _ => false,
+    }
+}
+
 fn writes<F: FileSystem>(
     engine: &mut Engine<F>,
     batch: &mut LogBatch,
     sync: bool,
     wanted: &Result<usize, u8>,
 ) -> bool {
-    match (engine.write(batch, sync), wanted) {
-        (Ok(size), Ok(wanted)) => size == *wanted && batch.is_empty(),
-        (Err(fault), Err(code)) => fault.code() == *code && !batch.is_empty(),
-        _ => false,
-    }
+    let answer = engine.write(batch, sync);
+    is_written(batch, &answer, wanted)
+}
+
+fn writes_once<F: FileSystem>(
+    engine: &mut Engine<F>,
+    batch: &mut LogBatch,
+    pairs: &[(u64, u64)],
+    sync: bool,
+    wanted: &Result<usize, u8>,
+) -> bool {
+    let answer = engine.write_once(batch, pairs, sync);
+    is_written(batch, &answer, wanted)
 }
 
 // Whether operations are answered so; with no answers, whether each is done.
@@ -141,6 +159,7 @@ fn is_answered<F: FileSystem>(
         Step::Put(group, key, value) => put(alloc, batch, *group, key, value).is_ok(),
         Step::PutMessage(group, key) => put_message(alloc, batch, *group, key).is_ok(),
         Step::Write(sync, wanted) => writes(engine, batch, *sync, wanted),
+        Step::WriteOnce(pairs, sync, wanted) => writes_once(engine, batch, pairs, *sync, wanted),
         Step::Run(plans, answers) => matches!(runs(alloc, engine, plans, answers), Ok(true)),
         Step::Apart(apart) => matches!(writes_apart(alloc, engine, apart), Ok(true)),
         Step::Failed(wanted) => engine.failed() == *wanted,

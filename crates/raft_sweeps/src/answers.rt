@@ -4,7 +4,7 @@ use raft_env::IoKind;
 use raft_memory::FsCall;
 use raft_records::Fault;
 use raft_script::{Op, Outcome};
-use raft_test_rows::{EMPTY, State, after, count_below, fault_of, is_done, value_of};
+use raft_test_rows::{EMPTY, State, after, are_new, count_below, fault_of, is_done, value_of};
 use std::process::Abort;
 
 pub(crate) const CALLS: [FsCall; 16] = [
@@ -35,13 +35,16 @@ pub(crate) fn is_refusal(fault: &Fault, kind: IoKind) -> bool {
     }
 }
 
-// A look-up or a compaction that is answered tells what the operations done before it leave.
+// A look-up, a compaction or a write that acts once tells, where it is answered, what the operations
+// done before it leave.
 fn tells(state: State, op: &Op, outcome: &Outcome) -> bool {
     match (op, outcome) {
         (Op::Get(group, key), Outcome::Value(Ok(Some(value)))) => {
             value.first() == Some(&value_of(state, *group, key))
         }
         (Op::Get(group, key), Outcome::Value(Ok(None))) => value_of(state, *group, key) == 0,
+        (Op::WriteOnce(_, pairs, _), Outcome::Size(Ok(size))) => (*size > 0)
+            == are_new(state, pairs),
         (Op::CompactTo(group, index), Outcome::Count(Ok(count))) => {
             *count == count_below(state, *group, *index)
         }

@@ -6,6 +6,6 @@ mod states;
 
 pub use plans::{Answer, Change, Left, Plan, are_answers, choice_of, choices_of, fault_of, ops_of};
 pub use states::{
-    EMPTY, EXPIRED, MAX_FILES, OPERATIONS, PURGES, REWRITTEN_IN_PARTS, State, after, count_below,
-    first_refused, is_allowed, is_done, settings, state_of, value_of,
+    EMPTY, EXPIRED, MAX_FILES, OPERATIONS, PURGES, REWRITTEN_IN_PARTS, State, after, are_new,
+    count_below, first_refused, is_allowed, is_done, settings, state_of, value_of,
 };

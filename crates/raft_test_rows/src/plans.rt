@@ -23,6 +23,8 @@ pub enum Plan {
     Write(&'static [Change], bool),
     /// Batches that are written at once, and which of them ask for a sync.
     WriteGroup(&'static [(&'static [Change], bool)]),
+    /// The changes as one batch that acts once, by these groups with a number each.
+    WriteOnce(&'static [Change], &'static [(u64, u64)], bool),
     Sync,
     Get(u64, &'static [u8]),
     CompactTo(u64, u64),
@@ -108,6 +110,10 @@ fn op_of(alloc: Global, plan: &Plan) -> Result<Op, AllocError> {
     match plan {
         Plan::Write(changes, sync) => Ok(Op::Write(acts_of(alloc, changes)?, *sync)),
         Plan::WriteGroup(parts) => Ok(Op::WriteGroup(parts_of(alloc, parts)?)),
+        Plan::WriteOnce(changes, pairs, sync) => {
+            let acts = acts_of(alloc, changes)?;
+            Ok(Op::WriteOnce(acts, pairs.to_vec(alloc)?, *sync))
+        }
         Plan::Sync => Ok(Op::Sync),
         Plan::Get(group, key) => Ok(Op::Get(*group, key.to_vec(alloc)?)),
         Plan::CompactTo(group, index) => Ok(Op::CompactTo(*group, *index)),

@@ -16,6 +16,8 @@ pub struct State {
     pub c: u8,
     pub d: u8,
     pub words: [u8; 8],
+    /// The number that each of the groups 0 to 3 keeps for writes that act once; no image shows it.
+    pub numbers: [u64; 4],
     /// Something else is there.
     pub other: bool,
 }
@@ -26,6 +28,7 @@ pub const EMPTY: State = State {
     c: 0,
     d: 0,
     words: [0; 8],
+    numbers: [0; 4],
     other: false,
 };
 
@@ -111,7 +114,28 @@ fn compacted(state: State, group: u64, index: u64) -> State {
     }
 }
 
+// The groups keep these numbers.
+fn with_numbers(state: State, pairs: &[(u64, u64)]) -> State {
+    let mut state = state;
+    for (group, number) in pairs {
+        match state.numbers.get_mut(*group as usize) {
+            Some(kept) => *kept = *number,
+            None => state.other = true,
+        }
+    }
+    state
+}
+
+fn without_number(state: State, group: u64) -> State {
+    let mut state = state;
+    if let Some(kept) = state.numbers.get_mut(group as usize) {
+        *kept = 0;
+    }
+    state
+}
+
 fn cleaned(state: State, group: u64) -> State {
+    let state = without_number(state, group);
     match group {
         1 => State {
             a: 0,
@@ -157,6 +181,19 @@ fn after_acts(state: State, acts: &[Act]) -> State {
     state
 }
 
+/// Whether a write with these numbers acts: each is greater than the one that its group keeps.
+pub fn are_new(state: State, pairs: &[(u64, u64)]) -> bool {
+    let mut are_new = true;
+    for (group, number) in pairs {
+        let is_new = match state.numbers.get(*group as usize) {
+            Some(kept) => *number > *kept,
+            None => false,
+        };
+        are_new = are_new && is_new;
+    }
+    are_new
+}
+
 /// The state after an operation that was done, of a group with each of its batches.
 pub fn after(state: State, op: &Op) -> State {
     let mut state = state;
@@ -165,6 +202,11 @@ pub fn after(state: State, op: &Op) -> State {
         Op::WriteGroup(parts) => {
             for part in parts {
                 state = after_acts(state, &part.0);
+            }
+        }
+        Op::WriteOnce(acts, pairs, _) => {
+            if are_new(state, pairs) {
+                state = with_numbers(after_acts(state, acts), pairs);
             }
         }
         Op::CompactTo(group, index) => state = compacted(state, *group, *index),
@@ -229,9 +271,18 @@ fn covers(op: &Op) -> bool {
     match op {
         Op::Write(_, sync) => *sync,
         Op::WriteGroup(parts) => parts.iter().any(|part| part.1),
+        Op::WriteOnce(_, _, sync) => *sync,
         Op::Sync | Op::RewriteAppend(_, _) | Op::RewriteRewrite | Op::PurgeStale | Op::Purge =>
             true,
         _ => false,
+    }
+}
+
+// The state as an image shows it.
+fn shown(state: State) -> State {
+    State {
+        numbers: [0; 4],
+        ..state
     }
 }
 
@@ -248,11 +299,11 @@ pub fn is_allowed(
     for (op, outcome) in ops.iter().zip(outcomes.iter()) {
         if is_done(outcome) {
             state = after(state, op);
-            allowed = found == state || (allowed && !covers(op));
+            allowed = found == shown(state) || (allowed && !covers(op));
         }
     }
     match failed_at.and_then(|place| ops.get(place)) {
-        Some(op) => allowed || found == after(state, op),
+        Some(op) => allowed || found == shown(after(state, op)),
         None => allowed,
     }
 }

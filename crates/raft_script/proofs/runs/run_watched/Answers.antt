@@ -22,6 +22,7 @@ use Rattle.raft_script.specs.declared.operation.Op.{Op}
 use Rattle.raft_script.specs.declared.operation.Outcome.{Outcome}
 use Rattle.raft_script.proofs.StepsLemmas.{after-append, begun_place, failure_place, found_same, groups_same, inside_call, known-append, last_state-more, leads_len, leads_more, place_more, steps_shown}
 use Rattle.raft_script.proofs.DurabilityLemmas.{IsUnderWay, batches_more, durable_after, inside_here, leaves_after, leaves_standing, progress_more, read_standing, under_way_begun, under_way_more}
+use Rattle.raft_script.proofs.ActLemmas.{have_acted}
 use Rattle.raft_script.proofs.PassedLemmas.{passes_more, passes_none}
 use Rattle.raft_script.proofs.RunLemmas.{IsNextPlace, accepted_same, answer_weaker, rose_more, stands_so_far, still_failing, taken_more}
 use Rattle.raft_script.proofs.runs.run_watched.Goals as goal
@@ -179,6 +180,11 @@ returns-clause-ok g c =
       now = leaves_after (found_of old) m (unsynced_of old) ops outcomes failed_at (durability_of e) way c.crash_is_said_of_files.ensures (folders_of old) (directory_of e) (subst (λ (f : Folders). LeavesAllowed f (after_batches (found_of old) (base_of e)) (unsynced_of e) (directory_of e)) kept.2 kept.10.leaves);
       progress = subst (λ (f : Contents). IsDurableAfter failed_at m (unsynced_of old) ops outcomes (after_batches f (base_of e)) (unsynced_of e)) (sym (found_same e old kept.2 kept.3)) (durable_after (found_of old) m (unsynced_of old) ops outcomes failed_at (durability_of e) way);
     }
+
+pub returns-clause-numbers : goal.returns-clause-numbers
+returns-clause-numbers g c =
+    let old = c.args.engine.now in
+    have_acted c.a_number_acts_once.ensures.once (contents_of old) (durable_of old) (unsynced_of old) c.args.ops.now c.loop-op.outcomes.items (after-append (found_of old) (base_of old) (unsynced_of old))
 
 pub returns-clause-any_moment : goal.returns-clause-any_moment
 returns-clause-any_moment g c =

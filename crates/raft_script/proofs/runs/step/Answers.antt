@@ -4,16 +4,22 @@ use Rattle.std.specs.Prelude.{unwrap_or}
 use Rattle.raft_records.specs.Contents.{Contents, first_index_of, last_index_of}
 use Rattle.raft_records.specs.Item.{Batch}
 use Rattle.raft_log_engine.specs.Durability.{Durability, durability_of}
-use Rattle.raft_log_engine.specs.Engine.{contents_of, directory_of, durable_of, folders_of, has_failed, is_known_in, moments_of, queue_of, refusals_of, rewrite_queue_of, unsynced_of}
+use Rattle.raft_log_engine.specs.Engine.{contents_of, directory_of, folders_of, has_failed, is_known_in, moments_of, queue_of, refusals_of, rewrite_queue_of}
 use Rattle.raft_script.proofs.PurgesLemmas.{purged_append, purged_expired, purged_rewrite, purged_stale}
-use Rattle.raft_script.specs.Batches.{Part, batch_of_acts, batches_of_op, batches_of_parts, items_of_acts}
-use Rattle.raft_script.specs.Run.{IsUnbuiltGroup}
+use Rattle.raft_script.specs.Batches.{Part, batch_of_acts, batches_of_parts, items_of_acts}
+use Rattle.raft_script.specs.Durability.{Does}
+use Rattle.raft_script.specs.Run.{IsUnbuilt, IsUnbuiltGroup}
 use Rattle.raft_held.specs.Crash.{pending_of}
+use Rattle.raft_log_engine.specs.Cause.{plain_part}
 use Rattle.raft_log_engine.specs.Group.{chosen_of, items_of}
+use Rattle.raft_log_engine.specs.Once.{IsWriteOnce}
 use Rattle.raft_log_engine.specs.Reads.{compact_batch}
-use Rattle.raft_script.specs.declared.operation.Op.TheVariants.{CompactTo, Purge, PurgeStale, RewriteAppend, RewriteRewrite, Sync, Write}
-use Rattle.raft_script.specs.declared.operation.Outcome.TheVariants.{Count, Done, Dropped, ToCompact}
-use Rattle.raft_script.proofs.DurabilityLemmas.{alone, compaction_progress, progress_alone, written_progress}
+use Rattle.raft_once.specs.History.{are_numbers}
+use Rattle.raft_once.specs.Numbers.{Pair}
+use Rattle.raft_script.specs.declared.operation.Op.TheVariants.{CompactTo, Purge, PurgeStale, RewriteAppend, RewriteRewrite, Sync, Write, WriteGroup, WriteOnce}
+use Rattle.raft_script.specs.declared.operation.Outcome.TheVariants.{Dropped, Size, Sizes, ToCompact}
+use Rattle.raft_script.proofs.DurabilityLemmas.{alone, compaction_progress}
+use Rattle.raft_script.proofs.OnceLemmas.{covered_write, does_contents, does_write, once_answered, once_does, once_fails, once_rose, write_fails}
 use Rattle.raft_script.proofs.StepsLemmas.{does_purge, does_read, in_flight, read_same}
 use Rattle.raft_script.proofs.PassedLemmas.{passes_none, passes_read}
 use Rattle.raft_script.proofs.ProgressLemmas.{purge_stands}
@@ -23,7 +29,7 @@ use Rattle.raft_log_engine.specs.Purge.{HasLastId, HasOpenGroup}
 use Rattle.raft_records.specs.Batch.{BatchView}
 use Rattle.raft_script.proofs.GroupLemmas.{does_group, group_answered, group_fails, group_refuses, unbuilt_answered, unbuilt_fails}
 use Rattle.raft_script.proofs.runs.step.Given.{Over}
-use Rattle.raft_script.proofs.runs.step.Goals.{After-write_group}
+use Rattle.raft_script.proofs.runs.step.Goals.{After-write_group, After-write_once}
 use Rattle.raft_script.proofs.runs.step.Goals as goal
 
 pub returns-in-Ok-clause-value : goal.returns-in-Ok-clause-value
@@ -31,7 +37,7 @@ returns-in-Ok-clause-value g c =
     let write = c.write.ensures in
     let acts = c.in-Write.acts in
     let built : batch_of_acts acts.items ≡ Some c.in-Ok.batch.items = ap batch_of_acts (sym c.deref.ensures.value) ∙ c.in-Ok.ensures.value in
-    rw c.in-Write.is (λ m known is same_known. write_answered acts.items c.in-Ok.batch.items c.write.new.batch.items (folders_of c.args.engine.now) m c.args.engine.now c.write.new.self built is c.write.result write.ok write.failed write.cause)
+    rw c.in-Write.is (λ m known is same_known. write_answered acts.items c.in-Ok.batch.items c.write.new.batch.items (folders_of c.args.engine.now) m c.args.engine.now c.write.new.self built is c.write.result write.call.ok write.taken write.call.failed write.call.cause)
 
 pub returns-in-Ok-clause-progress : goal.returns-in-Ok-clause-progress
 returns-in-Ok-clause-progress g c =
@@ -41,16 +47,8 @@ returns-in-Ok-clause-progress g c =
     let e = c.args.engine.now in
     let n = c.write.new.self in
     let built : batch_of_acts acts.items ≡ Some items = ap batch_of_acts (sym c.deref.ensures.value) ∙ c.in-Ok.ensures.value in
-    let batch = items_of_acts acts.items in
-    let is : batch ≡ items = ap (λ (o : Option Batch). unwrap_or o []) built in
-    let flight = chosen_of (contents_of e) (true ∷ []) (batch ∷ []) in
-    rw c.in-Write.is (record {
-      flight = flight;
-      may_be = ∣ (true ∷ [], refl) ∣₁;
-      progress = written_progress acts c.in-Write.sync _ flight c.write.result (durability_of e) (durability_of n) (progress_alone (contents_of e) batch items is c.write.result c.in-Write.sync (durability_of e) (durability_of n) write.advance.progress);
-      moments = λ alive. in_flight e (Write acts c.in-Write.sync) flight (pending_of (contents_of e) items) (moments_of n) (directory_of n) ∣ (true ∷ [], refl) ∣₁ (alone (contents_of e) batch items is) write.advance.any_moment.throughout;
-      rests = λ failed. (write.unchanged failed).0.moments;
-    })
+    let is : plain_part (items_of_acts acts.items) ∷ [] ≡ plain_part items ∷ [] = ap (λ (o : Option Batch). plain_part (unwrap_or o []) ∷ []) built in
+    rw c.in-Write.is (does_write e n (Write acts c.in-Write.sync) (plain_part items) c.in-Write.sync c.write.result is (covered_write acts c.in-Write.sync c.write.result) write.plain (λ failed. (write.call.unchanged failed).0.moments))
 
 pub returns-in-Err-clause-progress : goal.returns-in-Err-clause-progress
 returns-in-Err-clause-progress g c = let e = c.args.engine.now in rw c.in-Write.is (does_read e e _ _ (read_same e) refl refl)
@@ -82,7 +80,7 @@ returns-in-Ok-clause-cause g c =
     let write = c.write.ensures in
     let e = c.args.engine.now in
     let n = c.write.new.self in
-    (write.advance.any_moment.no_fewer, write_rose (folders_of e) (queue_of n) (contents_of e) c.in-Ok.batch.items (has_failed e) (has_failed n) (refusals_of e) (refusals_of n) c.write.result write.failed write.cause)
+    (write.call.advance.any_moment.no_fewer, write_rose (folders_of e) (queue_of n) (contents_of e) c.in-Ok.batch.items (has_failed e) (has_failed n) (refusals_of e) (refusals_of n) c.write.result write.call.failed write.call.cause)
 
 pub returns-in-Sync-clause-cause : goal.returns-in-Sync-clause-cause
 returns-in-Sync-clause-cause g c =
@@ -99,12 +97,8 @@ returns-in-CompactTo-clause-cause g c =
     (compaction.advance.any_moment.no_fewer, compaction_rose (folders_of e) (queue_of n) (has_failed e) (has_failed n) (refusals_of e) (refusals_of n) c.compact_to.result compaction.failed compaction.cause)
 
 pub returns-in-Ok-clause-failed : goal.returns-in-Ok-clause-failed
-returns-in-Ok-clause-failed g c = rw c.in-Write.is (record {
-  still = λ failed. search rules;
-  only_failed = λ told. search rules;
-  refused = λ failed. search rules;
-  cause = λ alive fails. search rules;
-})
+returns-in-Ok-clause-failed g c =
+    rw c.in-Write.is (write_fails c.args.engine.now c.write.new.self c.in-Ok.batch.items c.write.new.batch.items c.in-Write.sync c.write.result (IsUnbuilt c.in-Write.acts.items) c.write.ensures.call)
 
 pub returns-in-CompactTo-clause-value : goal.returns-in-CompactTo-clause-value
 returns-in-CompactTo-clause-value g c =
@@ -319,6 +313,57 @@ returns-in-Purge-clause-purged g c =
     let purged = c.purge_expired_files.ensures in
     rw c.in-Purge.is (purged_expired c.purge_expired_files.result c.args.engine.now c.purge_expired_files.new.self purged.expired.value)
 
+-- A write with numbers.
+
+-- its acts make the batch
+once_built : (g : Over) (c : After-write_once g) → batch_of_acts c.in-WriteOnce.acts.items ≡ Some c.in-Ok-build.batch.items
+once_built g c = ap batch_of_acts (sym c.deref-in-WriteOnce.ensures.value) ∙ c.in-Ok-build.ensures.value
+
+-- what the engine says of it
+once_write : (g : Over) (c : After-write_once g) → IsWriteOnce c.in-Ok-build.batch.items c.write_once.new.batch.items c.in-WriteOnce.pairs.items c.in-WriteOnce.sync c.args.engine.now c.write_once.new.self c.write_once.result
+once_write g c =
+    subst (λ (l : List Pair). IsWriteOnce c.in-Ok-build.batch.items c.write_once.new.batch.items l c.in-WriteOnce.sync c.args.engine.now c.write_once.new.self c.write_once.result) c.deref-in-Ok-build-2.ensures.value c.write_once.ensures
+
+pub returns-in-Ok-build-clause-value : goal.returns-in-Ok-build-clause-value
+returns-in-Ok-build-clause-value g c =
+    let at = (goal.at.returns-in-Ok-build-clause-value g c).After-write_once in
+    rw c.in-WriteOnce.is (λ m known same same_known. once_answered c.args.engine.now c.write_once.new.self c.in-WriteOnce.acts c.in-WriteOnce.pairs c.in-WriteOnce.sync c.in-Ok-build.batch.items c.write_once.new.batch.items (once_built g at) c.write_once.result (once_write g at) m same)
+
+pub returns-in-Ok-build-clause-failed : goal.returns-in-Ok-build-clause-failed
+returns-in-Ok-build-clause-failed g c =
+    let at = (goal.at.returns-in-Ok-build-clause-failed g c).After-write_once in
+    rw c.in-WriteOnce.is (once_fails c.args.engine.now c.write_once.new.self c.in-WriteOnce.acts c.in-WriteOnce.pairs c.in-WriteOnce.sync c.in-Ok-build.batch.items c.write_once.new.batch.items (once_built g at) c.write_once.result (once_write g at))
+
+pub returns-in-Ok-build-clause-cause : goal.returns-in-Ok-build-clause-cause
+returns-in-Ok-build-clause-cause g c =
+    let at = (goal.at.returns-in-Ok-build-clause-cause g c).After-write_once in
+    (c.write_once.ensures.advance.any_moment.no_fewer, once_rose c.args.engine.now c.write_once.new.self c.in-WriteOnce.acts c.in-WriteOnce.pairs c.in-WriteOnce.sync c.in-Ok-build.batch.items c.write_once.new.batch.items (once_built g at) c.write_once.result (once_write g at))
+
+-- what it has done
+once_done : (g : Over) (c : After-write_once g) → Does (WriteOnce c.in-WriteOnce.acts c.in-WriteOnce.pairs c.in-WriteOnce.sync) (Size c.write_once.result) c.args.engine.now c.write_once.new.self
+once_done g c =
+    let numbers : are_numbers c.in-WriteOnce.pairs.items ≡ true = ap are_numbers (sym c.deref-in-Ok-build.ensures.value) ∙ c.numbers_fit.ensures in
+    once_does c.args.engine.now c.write_once.new.self c.in-WriteOnce.acts c.in-WriteOnce.pairs c.in-WriteOnce.sync c.in-Ok-build.batch.items c.write_once.new.batch.items (once_built g c) c.write_once.result (once_write g c) numbers
+
+pub returns-in-Ok-build-clause-progress : goal.returns-in-Ok-build-clause-progress
+returns-in-Ok-build-clause-progress g c =
+    let at = (goal.at.returns-in-Ok-build-clause-progress g c).After-write_once in
+    rw c.in-WriteOnce.is (once_done g at)
+
+pub returns-in-Ok-build-clause-contents : goal.returns-in-Ok-build-clause-contents
+returns-in-Ok-build-clause-contents g c =
+    let at = (goal.at.returns-in-Ok-build-clause-contents g c).After-write_once in
+    rw c.in-WriteOnce.is (does_contents c.args.engine.now c.write_once.new.self (WriteOnce c.in-WriteOnce.acts c.in-WriteOnce.pairs c.in-WriteOnce.sync) (Size c.write_once.result) (once_done g at) c.write_once.ensures.advance.log.folders c.write_once.ensures.advance.log.begun)
+
+pub returns-in-Ok-build-clause-passed : goal.returns-in-Ok-build-clause-passed
+returns-in-Ok-build-clause-passed g c = record { files = c.write_once.ensures.advance.log.passed; still = c.write_once.ensures.advance.log.still }
+
+pub returns-in-Err-build-clause-progress : goal.returns-in-Err-build-clause-progress
+returns-in-Err-build-clause-progress g c = let e = c.args.engine.now in rw c.in-WriteOnce.is (does_read e e _ _ (read_same e) refl refl)
+
+pub returns-in-Err-build-clause-passed : goal.returns-in-Err-build-clause-passed
+returns-in-Err-build-clause-passed g c = passes_none c.args.engine.now
+
 -- The batches of a group.
 
 -- they are those of its parts
@@ -349,11 +394,22 @@ returns-in-Ok-build_group-clause-cause g c =
     let write = c.write_group.ensures in
     group_refuses c.in-WriteGroup.parts c.deref_mut.result.now c.write_group.new.batches c.deref-in-Ok-build_group.result.now c.args.engine.now c.write_group.new.self (group_built g at) (group_flags g at) c.write_group.result write.ok write.cause write.any_moment.no_fewer
 
+-- what it has done
+group_done : (g : Over) (c : After-write_group g) → Does (WriteGroup c.in-WriteGroup.parts) (Sizes c.write_group.result) c.args.engine.now c.write_group.new.self
+group_done g c =
+    let write = c.write_group.ensures in
+    does_group c.in-WriteGroup.parts c.deref_mut.result.now c.write_group.new.batches c.deref-in-Ok-build_group.result.now c.args.engine.now c.write_group.new.self (group_built g c) (group_flags g c) c.write_group.result write.ok write.progress write.any_moment.throughout (λ failed. (write.unchanged failed).0.moments)
+
 pub returns-in-Ok-build_group-clause-progress : goal.returns-in-Ok-build_group-clause-progress
 returns-in-Ok-build_group-clause-progress g c =
     let at = (goal.at.returns-in-Ok-build_group-clause-progress g c).After-write_group in
+    rw c.in-WriteGroup.is (group_done g at)
+
+pub returns-in-Ok-build_group-clause-contents : goal.returns-in-Ok-build_group-clause-contents
+returns-in-Ok-build_group-clause-contents g c =
+    let at = (goal.at.returns-in-Ok-build_group-clause-contents g c).After-write_group in
     let write = c.write_group.ensures in
-    rw c.in-WriteGroup.is (does_group c.in-WriteGroup.parts c.deref_mut.result.now c.write_group.new.batches c.deref-in-Ok-build_group.result.now c.args.engine.now c.write_group.new.self (group_built g at) (group_flags g at) c.write_group.result write.progress write.any_moment.throughout (λ failed. (write.unchanged failed).0.moments))
+    rw c.in-WriteGroup.is (does_contents c.args.engine.now c.write_group.new.self (WriteGroup c.in-WriteGroup.parts) (Sizes c.write_group.result) (group_done g at) write.others.folders write.others.begun)
 
 pub returns-in-Err-build_group-clause-value : goal.returns-in-Err-build_group-clause-value
 returns-in-Err-build_group-clause-value g c =
@@ -371,7 +427,7 @@ returns-in-Err-build_group-clause-progress g c = let e = c.args.engine.now in rw
 -- Log files that an opening passed over.
 
 pub returns-in-Ok-clause-passed : goal.returns-in-Ok-clause-passed
-returns-in-Ok-clause-passed g c = record { files = c.write.ensures.advance.log.passed; still = c.write.ensures.advance.log.still }
+returns-in-Ok-clause-passed g c = record { files = c.write.ensures.call.advance.log.passed; still = c.write.ensures.call.advance.log.still }
 
 pub returns-in-Ok-build_group-clause-passed : goal.returns-in-Ok-build_group-clause-passed
 returns-in-Ok-build_group-clause-passed g c = record { files = c.write_group.ensures.others.passed; still = c.write_group.ensures.others.still }

@@ -4,13 +4,15 @@ use Rattle.raft_env.proofs.MomentsLemmas.{moves_then_reads}
 use Rattle.raft_env.specs.Refusal.{Refusals, RoseBy}
 use Rattle.raft_log_engine.specs.Engine.{folders_of, refusals_of}
 use Rattle.raft_log_engine.specs.Image.{IsImageOf}
+use Rattle.raft_once.specs.Numbers.{shown}
+use Rattle.raft_records.specs.Contents.{Contents}
 use Rattle.raft_config.proofs.ConfigLemmas.{no_contradiction}
 use Rattle.raft_config.specs.Folders.{folders_in}
 use Rattle.raft_script.proofs.TrialLemmas.{opening_rose, read_fails, read_rose, refused_inside, refused_outside}
 use Rattle.raft_script.proofs.trials.open_and_give_up.Goals as goal
 
 pub returns-in-Ok-clause-value : goal.returns-in-Ok-clause-value
-returns-in-Ok-clause-value g c = IfOk-weaker c.image-found.result _ _ (λ image is. subst (IsImageOf image.groups.items) c.in-Ok.ensures.opened.contents is) c.image-found.ensures.value
+returns-in-Ok-clause-value g c = IfOk-weaker c.image-found.result _ _ (λ image is. subst (λ (x : Contents). IsImageOf image.groups.items (shown x)) c.in-Ok.ensures.opened.contents is) c.image-found.ensures.value
 
 pub returns-in-Ok-clause-refused : goal.returns-in-Ok-clause-refused
 returns-in-Ok-clause-refused g c = λ fine. IfErr-weaker c.image-found.result _ _

@@ -5,7 +5,7 @@ use Rattle.raft_records.specs.Item.{Batch}
 use Rattle.raft_env.specs.Directory.{Directory}
 use Rattle.raft_env.specs.Refusal.{Refusals}
 use Rattle.raft_config.specs.Folders.{Folders, folders_in}
-use Rattle.raft_log_engine.specs.Engine.{base_of, begun_of, directory_of, durable_of, folders_of, found_groups_of, found_of, has_failed, unsynced_of}
+use Rattle.raft_log_engine.specs.Engine.{base_of, begun_of, contents_of, directory_of, durable_of, folders_of, found_groups_of, found_of, has_failed, unsynced_of}
 use Rattle.raft_held.specs.Contents.{contents_at, found_contents, found_groups, known_at}
 use Rattle.std.specs.List.{AllByRecursion}
 use Rattle.raft_base.specs.declared.pipe_log.LogQueue.{LogQueue}
@@ -14,6 +14,7 @@ use Rattle.raft_pipes.specs.Folder.{AreClear}
 use Rattle.raft_held.specs.Queues.{AreSingleIn}
 use Rattle.raft_script.specs.Trial.{LeavesDetectable, LeavesSound}
 use Rattle.raft_script.specs.Durability.{IsCall, IsStep, LeavesAllowedAfter, Steps, durable_groups_of}
+use Rattle.raft_script.specs.Numbers.{HaveActed}
 use Rattle.raft_script.specs.Headline.{RunState, progress_from, run_state_of}
 use Rattle.raft_script.proofs.StepsLemmas.{failure_place, leads_moments, never_failed, nothing_known, steps_shown}
 use Rattle.raft_script.proofs.TrialLemmas.{opened_after, refused_after}
@@ -53,6 +54,8 @@ returns-in_ok-ran-in-Ok-clause-ok g c =
         now = run_state_of after;
         moments = sym c.give_up.ensures.unchanged.1;
         steps = steps;
+        numbers = subst (λ (x : Contents). HaveActed x m [] ops outcomes) opened.contents
+            (subst (λ (x : Contents). HaveActed (contents_of e) x [] ops outcomes) durable (subst (λ (l : List Batch). HaveActed (contents_of e) (durable_of e) l ops outcomes) opened.ok.synced.1 run.numbers));
         counted = (let rose = run.ok.counted in let same = c.give_up.ensures.unchanged.2 in omega (arith, rose, ap (λ (r : Refusals). r.storage) same));
       });
       after = subst (λ (n : Directory). LeavesAllowedAfter ran.failed_at dir m [] ops outcomes n) (sym c.give_up.ensures.unchanged.0) left;

@@ -1,4 +1,5 @@
 use Rattle.std.proofs.Common.{◌∙◌, ap, subst}
+use Rattle.raft_once.specs.Numbers.{shown}
 use Rattle.raft_records.specs.Contents.{Contents}
 use Rattle.raft_records.specs.Places.{Blocks}
 use Rattle.raft_tables.specs.Tables.{contents_in, tables_of}
@@ -38,7 +39,7 @@ pub returns-in-Ok-clause-value : goal.returns-in-Ok-clause-value
 returns-in-Ok-clause-value g c =
     let old = c.args.self.now in
     let same = ap (λ (b : Blocks). contents_in b (tables_of old.tables)) (blocks_over old c.new-reader.result c.new-reader.ensures.pipes (ap (λ r. r.now) c.new-reader.ensures.file_system)) in
-    subst (λ (m : Contents). IsImageOf c.in-Ok.image.groups.items m) (same ∙ (stands_for old c.if-self.false).contents) c.in-Ok.ensures.value
+    subst (λ (m : Contents). IsImageOf c.in-Ok.image.groups.items (shown m)) (same ∙ (stands_for old c.if-self.false).contents) c.in-Ok.ensures.value
 
 pub returns-in-Err-clause-failed : goal.returns-in-Err-clause-failed
 returns-in-Err-clause-failed g c =

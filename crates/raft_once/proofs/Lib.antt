@@ -1,0 +1,4 @@
+pub mod BatchLemmas
+pub mod NumberLemmas
+pub mod HistoryLemmas
+pub mod LoopLemmas

@@ -1,0 +1,153 @@
+//! Batches: where they first change a number, and with numbers behind them.
+
+use raft_base::Fault;
+use raft_once::{add_numbers, number_item_at};
+use raft_records::{Command, EntryIndex, LogBatch};
+use raft_rows::{Row, first_wrong};
+use std::alloc::Global;
+use std::test::Fail;
+
+/// An item of a batch.
+enum Part {
+    /// One entry, by its index, of no bytes.
+    Entry(u64, u64),
+    Clean(u64),
+    Compact(u64, u64),
+    Put(u64, &'static [u8], &'static [u8]),
+    Delete(u64, &'static [u8]),
+}
+
+fn add(alloc: Global, batch: &mut LogBatch, part: &Part) -> Result<(), Fault> {
+    match part {
+        Part::Entry(group, index) => add_entry(alloc, batch, *group, *index),
+        Part::Clean(group) => batch.add_command(*group, Command::Clean),
+        Part::Compact(group, index) => batch.add_command(
+            *group,
+            Command::Compact { index: *index },
+        ),
+        Part::Put(group, key, value) => {
+            batch.put(*group, key.to_vec(alloc)?, value.to_vec(alloc)?)
+        }
+        Part::Delete(group, key) => batch.delete(*group, key.to_vec(alloc)?),
+    }
+}
+
+fn add_entry(alloc: Global, batch: &mut LogBatch, group: u64, index: u64) -> Result<(), Fault> {
+    let place = EntryIndex {
+        index,
+        entries: None,
+        entry_offset: 0,
+        entry_len: 0,
+        lz4: false,
+    };
+    let indexes = vec![in alloc; place]?;
+    let bytes = vec![in alloc; Vec::new(alloc)]?;
+    batch.add_raw_entries(group, indexes, bytes)
+}
+
+fn batch_of(alloc: Global, parts: &[Part]) -> Result<LogBatch, Fault> {
+    let mut batch = LogBatch::new(alloc);
+    for part in parts {
+        add(alloc, &mut batch, part)?;
+    }
+    Ok(batch)
+}
+
+/// A batch, and the place of the first item that changes a number.
+struct Place(&'static [Part], Option<usize>);
+
+static PLACES: [Place; 9] = [
+    Place(&[], None),
+    Place(&[Part::Put(1, b"\xffonce", b"")], Some(0)),
+    Place(&[Part::Delete(1, b"\xffonce")], Some(0)),
+    Place(&[Part::Clean(1), Part::Delete(2, b"\xffonce")], Some(1)),
+    Place(
+        &[
+            Part::Entry(1, 5),
+            Part::Put(1, b"k", b"\xffonce"),
+            Part::Put(1, b"\xffonce", b"v"),
+        ],
+        Some(2),
+    ),
+    Place(
+        &[
+            Part::Put(1, b"\xffonce", b"v"),
+            Part::Put(2, b"\xffonce", b"v"),
+        ],
+        Some(0),
+    ),
+    Place(
+        &[
+            Part::Put(1, b"\xffonce1", b"v"),
+            Part::Delete(1, b"\xffonc"),
+        ],
+        None,
+    ),
+    Place(
+        &[Part::Clean(1), Part::Compact(2, 3), Part::Entry(3, 4)],
+        None,
+    ),
+    Place(
+        &[
+            Part::Compact(2, 3),
+            Part::Put(2, b"once", b"v"),
+            Part::Delete(2, b""),
+        ],
+        None,
+    ),
+];
+
+impl Row for Place {
+    type State = ();
+
+    fn holds(&self, alloc: Global, _: &mut ()) -> Result<bool, Fault> {
+        let batch = batch_of(alloc, self.0)?;
+        Ok(number_item_at(batch.items()) == self.1)
+    }
+}
+
+#[test]
+fn the_first_item_that_changes_a_number_is_found(rt: HostRuntime) -> Result<(), Fail> {
+    assert_eq!(rt; first_wrong(rt.alloc(), &mut (), &PLACES)?, None);
+    Ok(())
+}
+
+/// A batch, numbers of groups, and the batch with them.
+struct Numbered(&'static [Part], &'static [(u64, u64)], &'static [Part]);
+
+static NUMBERED: [Numbered; 4] = [
+    Numbered(&[], &[], &[]),
+    Numbered(
+        &[],
+        &[(7, 5)],
+        &[Part::Put(7, b"\xffonce", b"\0\0\0\0\0\0\0\x05")],
+    ),
+    Numbered(&[Part::Clean(1)], &[], &[Part::Clean(1)]),
+    Numbered(
+        &[Part::Put(1, b"k", b"v"), Part::Clean(2)],
+        &[(2, 258), (1, u64::MAX)],
+        &[
+            Part::Put(1, b"k", b"v"),
+            Part::Clean(2),
+            Part::Put(2, b"\xffonce", b"\0\0\0\0\0\0\x01\x02"),
+            Part::Put(1, b"\xffonce", b"\xff\xff\xff\xff\xff\xff\xff\xff"),
+        ],
+    ),
+];
+
+impl Row for Numbered {
+    type State = ();
+
+    fn holds(&self, alloc: Global, _: &mut ()) -> Result<bool, Fault> {
+        let mut batch = batch_of(alloc, self.0)?;
+        add_numbers(&mut batch, alloc, self.1)?;
+        let wanted = batch_of(alloc, self.2)?;
+        Ok(batch.has_items_of(&wanted))
+    }
+}
+
+#[test]
+fn numbers_stand_behind_the_items(rt: HostRuntime) -> Result<(), Fail> {
+    assert_eq!(rt; first_wrong(rt.alloc(), &mut (), &NUMBERED)?, None);
+    Ok(())
+}

@@ -1,0 +1,41 @@
+use Rattle.std.specs.Prelude.{vec_len}
+use Rattle.std.proofs.Common.{◌∙◌, arith, refl, sym, ap}
+use Rattle.raft_log_engine.specs.Engine.{refusals_of}
+use Rattle.raft_shared.specs.Begun.{contents_in, failed_in, lacks_numbers_in, refusals_in}
+use Rattle.raft_shared.specs.Words.{asked_of, told_by}
+use Rattle.raft_shared.proofs.CallLemmas.{write_ended, write_numbers}
+use Rattle.raft_shared.proofs.OnceLemmas.{once_asked, once_counts, once_ends, once_is_legal, once_leaves}
+use Rattle.raft_shared.proofs.SharedLemmas.{event_is, has_recorded, left_after, stays_counted, stays_legal, told_is}
+use Rattle.raft_shared.proofs.shared.Shared.write_once.Goals as goal
+
+pub invariant_of-self : goal.invariant_of-self
+invariant_of-self g c =
+    let self = c.args.self.now in
+    let write = c.write_once-size.ensures.value in
+    let pairs = c.in_ok-numbers.ensures.items_if_clones_equal (λ x y e i. (e.0 i, e.1 i)) in
+    let asked = ap asked_of c.in_ok-calls.ensures.ok.0 ∙ once_asked c.args.sync (ap (λ b. b.items) c.in_ok-clone.ensures.ok) pairs in
+    let seat = c.make_room.new.seat.number in
+    let is = event_is seat _ _ (record { seat = seat; call = c.in_ok-calls.calls.recorded; reply = c.of_size.result }) refl asked c.of_size.ensures.value in
+    let base = contents_in self.begun.items in
+    record {
+      room = omega (arith, c.record.ensures.room, c.in_ok-make_room.ensures.ok, self.room);
+      legal = stays_legal _ _ _ _ c.record.ensures.trail is base (lacks_numbers_in self.written.items) (lacks_numbers_in c.note_write.new.written.items) (once_ends _ _ _ _ _ _ _ write _ _ c.note_write.ensures.value self.ended) (failed_in self.begun.items) _ _ self.legal (once_is_legal seat _ _ _ _ _ _ _ write _ self.contents _ (write_numbers _ _ _ c.note_write.ensures.value));
+      contents = λ stands. once_leaves seat _ _ _ _ _ _ _ write _ self.contents stands ∙ sym (left_after _ _ _ _ c.record.ensures.trail is base);
+      ended = write_numbers _ _ _ c.note_write.ensures.value;
+      counted = stays_counted _ _ _ _ c.record.ensures.trail is (refusals_in self.begun.items) (refusals_of self.engine) (refusals_of c.write_once-size.new.engine) self.counted (once_counts seat _ _ _ _ _ _ _ write);
+    }
+
+pub returns-clause-ok : goal.returns-clause-ok
+returns-clause-ok g c =
+    let write = c.write_once-size.ensures.value in
+    let calls = c.in_ok-calls.ensures.ok in
+    let pairs = c.in_ok-numbers.ensures.items_if_clones_equal (λ x y e i. (e.0 i, e.1 i)) in
+    let batch = once_asked c.args.sync (ap (λ b. b.items) c.in_ok-clone.ensures.ok) pairs in
+    record {
+      result = c.write_once-size.result;
+      write = write;
+      ended = write_ended c.write_once-size.new.engine c.args.self.now.written.items c.note_write.new.written.items c.note_write.ensures.value;
+      recorded = has_recorded _ _ _ _ _ _ _ _ _ (record { base = refl; failed = refl; refusals = refl; limit = refl; seats = refl }) c.record.ensures.trail (event_is _ _ _ (record { seat = c.make_room.new.seat.number; call = c.in_ok-calls.calls.recorded; reply = c.of_size.result }) (c.in_ok-make_room.ensures.unchanged.0) (ap asked_of calls.0 ∙ batch) c.of_size.ensures.value)
+          (c.record.ensures.number ∙ c.in_ok-make_room.ensures.unchanged.0) _ c.record.ensures.receipts c.in_ok-make_room.ensures.unchanged.1
+          (told_is _ _ _ (record { number = vec_len c.args.self.now.trail; call = c.in_ok-calls.calls.kept; reply = c.of_size-2.result }) refl (ap asked_of calls.1 ∙ batch) c.of_size-2.ensures.value) (ap told_by c.record.ensures.value ∙ told_is _ _ _ (record { number = vec_len c.args.self.now.trail; call = c.in_ok-calls.calls.told; reply = c.of_size-3.result }) refl (ap asked_of calls.2 ∙ batch) c.of_size-3.ensures.value);
+    }
