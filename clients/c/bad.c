@@ -168,6 +168,38 @@ static void sizes(raftlog *log) {
 }
 
 /* Folders and settings that are refused */
+/* What stands in a log's folder: a file, a link or a pipe at a name, and what an opening says of it. */
+static const struct {
+    const char *name;
+    int kind, code;
+    const char *said;
+} standing[] = {
+    {"\xff", S_IFREG, RAFTLOG_OK, ""},
+    {"link", S_IFLNK, RAFTLOG_OK, ""},
+    {"pipe.raftlog", S_IFIFO, RAFTLOG_OK, ""},
+    {"123456789012345.raftlog", S_IFLNK, RAFTLOG_OK, ""},
+    {"0000000000000099.raftlog.bak", S_IFLNK, RAFTLOG_OK, ""},
+    {"0000000000000099.raftlog", S_IFLNK, RAFTLOG_NOT_PLAIN, "99.raftlog"},
+    {"0000000000000099.rewrite", S_IFIFO, RAFTLOG_NOT_PLAIN, "99.rewrite"},
+    {"0000000000000099.raftlog.reserved", S_IFLNK, RAFTLOG_NOT_PLAIN, "99.raftlog.reserved"},
+    {"FORKING", S_IFREG, RAFTLOG_FOLDER, "a fork into it has not ended"},
+    {"LOCK", S_IFIFO, RAFTLOG_NOT_PLAIN, "LOCK"},
+};
+
+static void foreign(const char *folder) {
+    char path[400], text[300];
+    raftlog *log;
+    for (size_t i = 0; i < sizeof standing / sizeof *standing; i++) {
+        int kind = standing[i].kind;
+        snprintf(path, sizeof path, "%s/%s", folder, standing[i].name);
+        unlink(path);
+        CHECK(kind == S_IFLNK ? !symlink("/etc/passwd", path) : !mknod(path, (mode_t)kind | 0600, 0));
+        int code = raftlog_open(folder, NULL, &log, text, sizeof text);
+        CHECK(code == standing[i].code && strstr(text, standing[i].said) && !unlink(path));
+        if (!code) CHECK(!raftlog_close(log));
+    }
+}
+
 static void openings(const char *folder) {
     char text[300], path[5000], small[6];
     raftlog *log;
@@ -188,13 +220,7 @@ static void openings(const char *folder) {
     FILE *file = fopen(path, "w");
     CHECK(file && !fclose(file));
     CHECK(raftlog_open(path, NULL, &log, text, sizeof text) == RAFTLOG_FOLDER && !unlink(path));
-    snprintf(path, sizeof path, "%s/\xff", folder);
-    file = fopen(path, "w");
-    CHECK(file && !fclose(file));
-    CHECK(raftlog_open(folder, NULL, &log, text, sizeof text) == RAFTLOG_NOT_PLAIN && !unlink(path));
-    snprintf(path, sizeof path, "%s/link", folder);
-    CHECK(!symlink("/etc/passwd", path));
-    CHECK(raftlog_open(folder, NULL, &log, text, sizeof text) == RAFTLOG_NOT_PLAIN && strstr(text, "link") && !unlink(path));
+    foreign(folder);
 }
 
 static void refused(raftlog *log) {

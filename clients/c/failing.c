@@ -1,43 +1,23 @@
-/* Each file call of the library fails in turn: `failing FOLDER`. The call that meets it answers so, each later one that the
- * log failed, and the next opening finds all that was answered before. The linker hands the calls over (`--wrap`). */
+/* Each file call of the library fails in turn: `failing FOLDER`. The call that meets it answers
+ * so, each later one that the log failed, and the next opening finds all that was answered before.
+ */
+#include "faults.h"
 #include "raftlog.h"
 
 #include <errno.h>
 #include <stdio.h>
 #include <stdlib.h>
-#include <sys/stat.h>
-#include <sys/types.h>
+#include <string.h>
 
-#define CHECK(what) do { if (!(what)) { printf("%s:%d: %s, at file call %d\n", __FILE__, __LINE__, #what, turn); exit(1); } } while (0)
+#define CHECK(what)                                                                  \
+    do {                                                                             \
+        if (!(what)) {                                                               \
+            printf("%s:%d: %s, at file call %d\n", __FILE__, __LINE__, #what, turn); \
+            exit(1);                                                                 \
+        }                                                                            \
+    } while (0)
 
-static int turn, left, error;
-
-static int fails(void) {
-    if (left == 0 || --left) return 0;
-    errno = error;
-    return 1;
-}
-
-ssize_t __real_pwrite(int fd, const void *bytes, size_t len, off_t at);
-/* Half of the bytes are written. */
-ssize_t __wrap_pwrite(int fd, const void *bytes, size_t len, off_t at) {
-    if (!fails()) return __real_pwrite(fd, bytes, len, at);
-    if (__real_pwrite(fd, bytes, len / 2, at) < 0) return -1;
-    errno = error;
-    return -1;
-}
-int __real_ftruncate(int fd, off_t len);
-int __wrap_ftruncate(int fd, off_t len) { return fails() ? -1 : __real_ftruncate(fd, len); }
-int __real_fdatasync(int fd);
-int __wrap_fdatasync(int fd) { return fails() ? -1 : __real_fdatasync(fd); }
-int __real_fsync(int fd);
-int __wrap_fsync(int fd) { return fails() ? -1 : __real_fsync(fd); }
-int __real_unlink(const char *path);
-int __wrap_unlink(const char *path) { return fails() ? -1 : __real_unlink(path); }
-int __real_rename(const char *from, const char *to);
-int __wrap_rename(const char *from, const char *to) { return fails() ? -1 : __real_rename(from, to); }
-int __real_mkdir(const char *path, mode_t mode);
-int __wrap_mkdir(const char *path, mode_t mode) { return fails() ? -1 : __real_mkdir(path, mode); }
+static int turn;
 
 /* Calls on a log until one fails: how many writes were answered. */
 static uint64_t calls(raftlog *log, int *code) {
@@ -46,7 +26,8 @@ static uint64_t calls(raftlog *log, int *code) {
     uint64_t i = 0;
     for (*code = 0; !*code && i < 40; i++) {
         raftlog_entry entry = {i + 1, (const uint8_t *)&i, sizeof i};
-        CHECK(!raftlog_batch_entries(batch, 1, &entry, 1) && !raftlog_batch_put(batch, 2, "last", 4, &i, sizeof i));
+        CHECK(!raftlog_batch_entries(batch, 1, &entry, 1)
+              && !raftlog_batch_put(batch, 2, "last", 4, &i, sizeof i));
         CHECK(!raftlog_batch_put(batch, 3, &i, sizeof i, value, sizeof value));
         if ((*code = raftlog_write(log, batch, i % 3 == 0))) break;
         if (i == 20) *code = raftlog_compact_to(log, 1, 10, NULL);
@@ -66,11 +47,16 @@ static void finds(const char *folder, uint64_t answered) {
     int code = raftlog_open(folder, "target-file-size = \"4KB\"", &log, text, sizeof text);
     if (code) printf("%d %s\n", code, text);
     CHECK(code == 0);
-    if (!raftlog_last_index(log, 1, &last)) CHECK(!raftlog_first_index(log, 1, &first) && (first == 1 || first == 10));
+    if (!raftlog_last_index(log, 1, &last))
+        CHECK(!raftlog_first_index(log, 1, &first) && (first == 1 || first == 10));
     CHECK(last == answered || last == answered + 1);
-    for (i = first; i <= last; i++) CHECK(!raftlog_get_entry(log, 1, i, &bytes) && bytes.len == 8 && *(uint64_t *)bytes.data == i - 1);
-    for (i = 0; i < last; i++) CHECK(!raftlog_get(log, 3, &i, sizeof i, &bytes) && bytes.len == 300);
-    if (last) CHECK(!raftlog_get(log, 2, "last", 4, &bytes) && *(uint64_t *)bytes.data == last - 1);
+    for (i = first; i <= last; i++)
+        CHECK(!raftlog_get_entry(log, 1, i, &bytes) && bytes.len == 8
+              && *(uint64_t *)bytes.data == i - 1);
+    for (i = 0; i < last; i++)
+        CHECK(!raftlog_get(log, 3, &i, sizeof i, &bytes) && bytes.len == 300);
+    if (last)
+        CHECK(!raftlog_get(log, 2, "last", 4, &bytes) && *(uint64_t *)bytes.data == last - 1);
     CHECK(raftlog_close(log) == 0);
     raftlog_bytes_free(&bytes);
 }
@@ -80,21 +66,24 @@ static int fail_at(const char *folder) {
     char text[200], command[400];
     raftlog *log;
     uint64_t answered = 0;
-    left = turn;
-    int code = raftlog_open(folder, "target-file-size = \"4KB\"", &log, text, sizeof text), closed = 0;
+    atomic_store(&faults_left, turn);
+    int code = raftlog_open(folder, "target-file-size = \"4KB\"", &log, text, sizeof text),
+        closed = 0;
     if (code) CHECK((code == RAFTLOG_FOLDER || code == RAFTLOG_IO) && *text);
     else {
         answered = calls(log, &code);
         if (code) {
             CHECK(code == RAFTLOG_IO && raftlog_message(log, text, sizeof text) > 0);
+            CHECK(strstr(text, "the log has failed: close it")
+                  && strstr(text, strerror(faults_error)));
             CHECK(raftlog_sync(log) == RAFTLOG_FAILED);
         }
         closed = raftlog_close(log);
         CHECK(code ? closed == RAFTLOG_FAILED : closed == 0 || closed == RAFTLOG_IO);
     }
-    int reached = left == 0;
+    int reached = atomic_load(&faults_left) == 0;
     CHECK(reached == (code || closed));
-    left = 0;
+    atomic_store(&faults_left, 0);
     finds(folder, answered);
     snprintf(command, sizeof command, "rm -rf '%s'", folder);
     CHECK(system(command) == 0);
@@ -105,7 +94,7 @@ int main(int argc, char **argv) {
     if (argc != 2) return 1;
     int errors[] = {EIO, ENOSPC};
     for (int e = 0; e < 2; e++) {
-        error = errors[e];
+        faults_error = errors[e];
         for (turn = 1; fail_at(argv[1]);) turn++;
     }
     printf("ok, %d file calls failed in turn\n", turn - 1);

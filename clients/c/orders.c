@@ -9,8 +9,9 @@
 #include <sys/stat.h>
 #include <unistd.h>
 
-/* Orders that were carried out are written over from this many bytes on, and a file of them that is longer is cut. */
-enum { ORDERS_ROOM = 1 << 18, ORDERS_MAPPED = 1 << 20 };
+/* Orders that were carried out are written over from this many bytes on, and a file of them that is
+ * longer than those of a round (RAFTLOG_ROUND_BYTES) is cut. */
+enum { ORDERS_ROOM = 1 << 18, ORDERS_MAPPED = 1 << 22 };
 
 /* What is ordered, as crates/raft_orders numbers it. */
 enum { CREATE = 1, DELETE, RENAME, MAKE_FOLDER, WRITE, TRUNCATE, ALLOCATE, SYNC };
@@ -68,6 +69,7 @@ int parts_make_folders(const char *path) {
 }
 
 void parts_let_file_go(raftlog *log) {
+    heap_let_go(&log->behind);
     if (log->file >= 0) close(log->file);
     free(log->path);
     log->file = -1;
@@ -83,6 +85,7 @@ static int open_file(raftlog *log, const char *path) {
     log->file = open(place, O_RDWR | O_CLOEXEC);
     int error = log->file < 0 ? errno : 0;
     free(place);
+    if (!error) heap_take_up(&log->behind, &log->heap, log->file);
     if (!error && !(log->path = strdup(path))) error = ENOMEM;
     return error;
 }
@@ -97,11 +100,33 @@ static int write_at(int fd, const uint8_t *bytes, size_t len, uint64_t at) {
     return 0;
 }
 
-static int resize(int fd, uint64_t size, bool cut) {
+static int resize(raftlog *log, uint64_t size, bool cut) {
     struct stat found;
-    if (fstat(fd, &found)) return errno;
+    if (fstat(log->file, &found)) return errno;
     if (cut ? (uint64_t)found.st_size <= size : (uint64_t)found.st_size >= size) return 0;
-    return ftruncate(fd, (off_t)size) ? errno : 0;
+    int error = cut ? heap_before_cut(&log->behind, size) : 0;
+    if (error) return error;
+    return ftruncate(log->file, (off_t)size) ? errno : 0;
+}
+
+static int write_file(raftlog *log, const uint8_t *bytes, size_t len, uint64_t at) {
+    parts_add(&log->counts.bytes, len);
+    heap_before_write(&log->behind, at, len);
+    return write_at(log->file, bytes, len, at);
+}
+
+static int sync_file(raftlog *log) {
+    parts_add(&log->counts.syncs, 1);
+    if (fdatasync(log->file)) return errno;
+    heap_synced(&log->behind);
+    return 0;
+}
+
+/* Whether a file can come to a place: nothing stands there, or a plain file, which was read. */
+static int look_at(const char *place) {
+    struct stat found;
+    if (lstat(place, &found)) return errno == ENOENT ? 0 : errno;
+    return S_ISREG(found.st_mode) && found.st_nlink == 1 ? 0 : EEXIST;
 }
 
 /* Carries out what is done to names: their folders are synced, so that a crash leaves the new names. */
@@ -109,6 +134,7 @@ static int order_names(raftlog *log, int kind, const char *path, const char *to)
     parts_let_file_go(log);
     char *place = parts_joined(log->folder, path), *other = parts_joined(log->folder, to);
     int error = !place || !other ? ENOMEM : 0, fd;
+    if (!error && (kind == CREATE || kind == RENAME)) error = look_at(kind == CREATE ? place : other);
     if (!error && kind == CREATE) {
         fd = open(place, O_RDWR | O_CREAT | O_CLOEXEC, 0666);
         if (fd < 0) error = errno;
@@ -140,10 +166,10 @@ static int carry_out(raftlog *log, int kind, uint64_t number, const char *first,
     int error = open_file(log, first);
     if (error) return error;
     switch (kind) {
-    case WRITE: return write_at(log->file, second, len, number);
-    case TRUNCATE: return resize(log->file, number, true);
-    case ALLOCATE: return resize(log->file, number, false);
-    case SYNC: return fdatasync(log->file) ? errno : 0;
+    case WRITE: return write_file(log, second, len, number);
+    case TRUNCATE: return resize(log, number, true);
+    case ALLOCATE: return resize(log, number, false);
+    case SYNC: return sync_file(log);
     default: return EINVAL;
     }
 }
@@ -174,6 +200,26 @@ static int begin_anew(raftlog *log) {
     return 0;
 }
 
+static const char *kind_text(int kind) {
+    static const char *texts[] = {
+        [CREATE] = "making", [DELETE] = "deleting", [RENAME] = "renaming",
+        [MAKE_FOLDER] = "making the folder", [WRITE] = "writing", [TRUNCATE] = "cutting",
+        [ALLOCATE] = "lengthening", [SYNC] = "syncing"};
+    return kind >= CREATE && kind <= SYNC ? texts[kind] : "changing";
+}
+
+void parts_break(raftlog *log, const char *why) {
+    if (*log->broken) return;
+    snprintf(log->broken, sizeof log->broken,
+             "%.300s; the log has failed: close it, and open its folder again", why);
+}
+
+static void break_at(raftlog *log, const char *doing, const char *path, int error) {
+    char why[300];
+    snprintf(why, sizeof why, "%s %.200s: %s", doing, path, strerror(error));
+    parts_break(log, why);
+}
+
 /* Carries out the order at a place of those up to the end, and tells how long it is. */
 static int obey_one(raftlog *log, const uint8_t *at, size_t left, size_t *len) {
     char path[4096];
@@ -183,21 +229,24 @@ static int obey_one(raftlog *log, const uint8_t *at, size_t left, size_t *len) {
     memcpy(path, at + HEAD, first);
     path[first] = 0;
     *len = HEAD + first + second;
-    return carry_out(log, *at, number, path, at + HEAD + first, second);
+    int error = carry_out(log, *at, number, path, at + HEAD + first, second);
+    if (error) break_at(log, kind_text(*at), path, error);
+    return error;
 }
 
 /* Carries out the orders that were given since the last time, up to the first that fails. */
 int parts_obey(raftlog *log) {
     if (log->orders < 0) return 0;
     off_t end = lseek(log->orders, 0, SEEK_CUR);
-    if (end < 0) return errno;
-    int error = map_orders(log, (size_t)end);
+    int error = heap_opening_lost(&log->heap) ? EIO : 0;
+    if (error) break_at(log, "reading", "a log file again", error);
+    else error = end < 0 ? errno : map_orders(log, (size_t)end);
     while (!error && log->obeyed < (size_t)end) {
         size_t len = 0;
         error = obey_one(log, log->order + log->obeyed, (size_t)end - log->obeyed, &len);
         log->obeyed += len;
     }
     if (!error && log->obeyed >= ORDERS_ROOM) error = begin_anew(log);
+    if (error) break_at(log, "reading", "the orders of a round", error);
     return error;
 }
-

@@ -2,10 +2,12 @@
 #ifndef RAFTLOG_PARTS_H
 #define RAFTLOG_PARTS_H
 
+#include "heap.h"
 #include "raftlog.h"
 
 #include <endian.h>
 #include <pthread.h>
+#include <stdatomic.h>
 #include <string.h>
 
 /* crates/raft_c. A slice is a pointer, which is never null, and a length. */
@@ -20,7 +22,8 @@ int32_t raft_c_add_folder(raft_c_handle *, const uint8_t *, size_t);
 void raft_c_open(raft_c_handle *, int32_t, const uint8_t *, size_t);
 void raft_c_close(raft_c_handle *);
 void raft_c_write(raft_c_handle *, const uint8_t *, size_t, bool);
-void raft_c_write_once(raft_c_handle *, const uint8_t *, size_t, const uint64_t *, size_t, const uint64_t *, size_t, bool);
+void raft_c_write_once(raft_c_handle *, const uint8_t *, size_t, const uint64_t *, size_t,
+                       const uint64_t *, size_t, bool);
 void raft_c_sync(raft_c_handle *);
 void raft_c_compact_to(raft_c_handle *, uint64_t, uint64_t);
 void raft_c_must_rewrite_append_queue(raft_c_handle *);
@@ -29,29 +32,85 @@ void raft_c_must_purge_all_stale(raft_c_handle *);
 void raft_c_purge_expired_files(raft_c_handle *, uint64_t);
 int32_t raft_c_settle(raft_c_handle *, bool);
 int32_t raft_c_span(raft_c_handle *, uint64_t);
-int32_t raft_c_get(raft_c_handle *, uint64_t, const uint8_t *, size_t, uint8_t *, size_t, uint64_t *);
+int32_t raft_c_get(raft_c_handle *, uint64_t, const uint8_t *, size_t, uint8_t *, size_t,
+                   uint64_t *);
 int32_t raft_c_get_entry(raft_c_handle *, uint64_t, uint64_t, uint8_t *, size_t, uint64_t *);
-int32_t raft_c_fetch(raft_c_handle *, uint64_t, uint64_t, uint64_t, uint64_t, uint8_t *, size_t, uint64_t *);
-int32_t raft_c_scan(raft_c_handle *, uint64_t, const uint8_t *, size_t, const uint8_t *, size_t, bool, bool, uint64_t,
-                    uint8_t *, size_t, uint64_t *);
+int32_t raft_c_fetch(raft_c_handle *, uint64_t, uint64_t, uint64_t, uint64_t, uint8_t *, size_t,
+                     uint64_t *);
+int32_t raft_c_scan(raft_c_handle *, uint64_t, const uint8_t *, size_t, const uint8_t *, size_t,
+                    bool, bool, uint64_t, uint8_t *, size_t, uint64_t *);
 int32_t raft_c_groups(raft_c_handle *, uint8_t *, size_t, uint64_t *);
 uint64_t raft_c_answer(raft_c_handle *, uint8_t *, size_t);
 void raft_c_numbers(raft_c_handle *, uint64_t *, uint64_t *);
 
-struct raftlog {
-    raft_c_handle handle; /* of a log, from its opening to its close */
-    pthread_mutex_t lock;
-    bool failed; /* the last call failed below, so that its text is the answer */
+/* What changes a log; from the first rewrite on each is a round of its own. */
+enum parts_kind {
+    PARTS_WRITE,
+    PARTS_WRITE_ONCE,
+    PARTS_SYNC,
+    PARTS_COMPACT_TO,
+    PARTS_REWRITE_APPEND,
+    PARTS_REWRITE_REWRITE,
+    PARTS_PURGE_STALE,
+    PARTS_PURGE_EXPIRED,
+    PARTS_CLOSE
+};
+
+/* A change, with its place in the queue. It is its caller's, and stands still until it is
+ * answered. */
+struct parts_change {
+    enum parts_kind kind;
+    bool sync;
+    const uint8_t *bytes; /* of a batch */
+    size_t len;
+    const uint64_t *groups, *numbers; /* of a batch that acts once */
+    size_t count;
+    uint64_t group, index;
+    /* its answer */
     int code;
-    char *folder;   /* NULL: in memory */
-    int held;       /* the file of the folder's lock */
-    int orders;     /* the file that the calls' orders are written to; -1: in memory */
-    uint8_t *order; /* its bytes, mapped */
+    char *text; /* of a failure, where there was memory for it; the caller frees it */
+    uint64_t found;
+    raftlog_bytes *answer; /* NULL where a number or nothing is answered */
+    /* its place */
+    struct parts_change *older, *newer;
+    atomic_int state;
+};
+
+/* Groups have places in a table of this many: those of one place wait for one another. */
+enum { PARTS_PLACES = 4096 };
+
+/* A bit of `reading`: no read begins any more. */
+enum { PARTS_CLOSING = 1 << 30 };
+
+/* Who may look at what: what stands first is atomic; `lock` guards the handle and what follows on
+ * it; what stands from the orders on is the leader's, who is one thread at a time. */
+struct raftlog {
+    _Atomic(struct parts_change *) newest; /* that waits or is carried out; NULL: none is */
+    _Atomic uint64_t done;                 /* rounds that are over */
+    atomic_uint over;                      /* changes whenever one is */
+    atomic_int waiting;                    /* reads that wait for that */
+    atomic_int reading;                    /* reads that have begun, and PARTS_CLOSING */
+    _Atomic uint64_t lost;                 /* the round whose orders failed; none: UINT64_MAX */
+    struct parts_counts {
+        _Atomic uint64_t rounds, changes, synced_changes, largest_round, syncs, bytes, sync_ns;
+    } counts;
+    pthread_mutex_t lock;
+    raft_c_handle handle; /* of a log, from its opening to its close */
+    uint64_t handed;      /* the round that is handed over, or was last */
+    int orders;           /* the file that the calls' orders are written to; -1: in memory */
+    uint8_t *order;       /* its bytes, mapped */
     size_t mapped;
     size_t obeyed; /* those before this place were carried out */
     char *path;    /* of the file that is open to be changed, from the folder */
     int file;
-    int broken; /* the error by which an order failed: nothing is changed any more */
+    struct heap heap;        /* the blocks that the proved part keeps the files in */
+    struct heap_file behind; /* the open file, for its block */
+    raftlog_progress *watch; /* of the opening; NULL: nobody is told */
+    void *watch_with;
+    char *folder;     /* NULL: in memory */
+    int held;         /* the file of the folder's lock */
+    char broken[400]; /* the order that failed, and why: nothing is changed any more */
+    uint64_t touched[PARTS_PLACES]; /* by `lock`: the last round that changed a group of a place */
 };
 
 static inline const uint8_t *parts_some(const void *bytes) {
@@ -76,11 +135,54 @@ int parts_sync(const char *path);
 int parts_sync_name(const char *path);
 int parts_make_folders(const char *path);
 
-/* Carries out the orders that were given since the last time, up to the first that fails: 0, or an error. */
+/* Carries out the orders that were given since the last time, up to the first that fails, which
+ * `broken` then tells: 0, or an error. */
 int parts_obey(raftlog *log);
 void parts_let_file_go(raftlog *log);
 
-/* Makes and locks the folder, and hands what stands in it over: a code, and for a failure a text. */
+/* Keeps why nothing is changed any more, if nothing was kept before. */
+void parts_break(raftlog *log, const char *why);
+
+/* Lets a change wait for its turn, alone or in a round with others, and answers its code. */
+int parts_take_turn(raftlog *log, struct parts_change *mine);
+
+/* Closes the log as its last round, once each call that waits has its answer. False where another
+ * close was first: then the log isn't looked at any more. */
+bool parts_close(raftlog *log, int *code);
+
+/* Begins a read: false where the log is being closed. */
+bool parts_begin_read(raftlog *log);
+/* Waits until a round is over: whether what was read of it stands. */
+bool parts_wait_for(raftlog *log, uint64_t round);
+/* Ends a read, after which it doesn't look at the log. */
+void parts_end_read(raftlog *log);
+
+/* For counts that one thread at a time adds to. */
+static inline void parts_add(_Atomic uint64_t *count, uint64_t more) {
+    uint64_t sum = atomic_load_explicit(count, memory_order_relaxed) + more;
+    atomic_store_explicit(count, sum, memory_order_release);
+}
+
+/* The last round that changed a group, and may not be over. Under `lock`. */
+static inline uint64_t *parts_touched(raftlog *log, uint64_t group) {
+    return &log->touched[group * 0x9E3779B97F4A7C15ull >> 52];
+}
+
+/* The text of what the proved part answered last; NULL where memory is wanting. Under `lock`. */
+char *parts_answered_text(raftlog *log);
+
+/* Room for as many bytes; false where memory is wanting. */
+bool parts_make_room(raftlog_bytes *bytes, size_t room);
+
+/* Puts the answer of the proved part's last call there: false where memory is wanting. Under
+ * `lock`. */
+bool parts_take_answer(raftlog *log, raftlog_bytes *bytes, uint64_t len);
+
+/* Keeps a failure of a log as this thread's last one, and answers its code. It doesn't look at the
+ * log, which may be closed meanwhile. The text is freed; NULL stands for that of the code. */
+int parts_fail(const raftlog *log, int code, char *text);
+
+/* Makes and locks the folder, and hands what stands in it over: a code, for a failure a text. */
 int parts_find(raftlog *log, char *text, size_t room);
 
 #endif

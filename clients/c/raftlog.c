@@ -1,7 +1,6 @@
-/* The calls of the library, one at a time for a log. What they call is crates/raft_c. */
+/* The calls of the library. What they call is crates/raft_c: reads here, changes by rounds.c. */
 #include "parts.h"
 
-#include <errno.h>
 #include <stdio.h>
 #include <stdlib.h>
 #include <sys/mman.h>
@@ -9,46 +8,13 @@
 
 static uint8_t none[1];
 
-const char *raftlog_code_text(int code) {
-    switch (code) {
-    case RAFTLOG_OK: return "done";
-    case RAFTLOG_INVALID: return "invalid argument";
-    case RAFTLOG_CORRUPTION: return "corruption";
-    case RAFTLOG_IO: return "a file call failed";
-    case RAFTLOG_TRY_AGAIN: return "no space, try again";
-    case RAFTLOG_GAP: return "gap between entries";
-    case RAFTLOG_RANGE: return "number out of range";
-    case RAFTLOG_COMPACTED: return "entry compacted";
-    case RAFTLOG_NO_ENTRY: return "entry not found";
-    case RAFTLOG_WRONG_INDEX: return "wrong entry index";
-    case RAFTLOG_NOT_AN_ENTRY: return "no entry";
-    case RAFTLOG_FAILED: return "the log failed";
-    case RAFTLOG_NO_MEMORY: return "out of memory";
-    case RAFTLOG_LZ4: return "lz4 block";
-    case RAFTLOG_STALE_NUMBER: return "stale number";
-    case RAFTLOG_ABSENT: return "absent";
-    case RAFTLOG_IN_USE: return "the folder is open already";
-    case RAFTLOG_NOT_PLAIN: return "neither a folder nor a file of one name";
-    case RAFTLOG_FOLDER: return "the folder can't be opened";
-    default: return "failure";
-    }
-}
-
-void parts_put_text(const char *from, char *text, size_t room) {
-    if (room == 0) return;
-    size_t len = strlen(from);
-    if (len >= room) len = room - 1;
-    memcpy(text, from, len);
-    text[len] = 0;
-}
-
 void raftlog_bytes_free(raftlog_bytes *bytes) {
     if (!bytes) return;
     free(bytes->data);
     memset(bytes, 0, sizeof *bytes);
 }
 
-static bool make_room(raftlog_bytes *bytes, size_t room) {
+bool parts_make_room(raftlog_bytes *bytes, size_t room) {
     if (bytes->room >= room && bytes->data) return true;
     if (room < 256) room = 256;
     uint8_t *data = realloc(bytes->data, room);
@@ -58,15 +24,28 @@ static bool make_room(raftlog_bytes *bytes, size_t room) {
     return true;
 }
 
-/* ---- opening and closing */
-
-/* The code of a call that changes something, once its orders are carried out. */
-static int settle(raftlog *log) {
-    if (!log->broken) log->broken = parts_obey(log);
-    return raft_c_settle(&log->handle, log->broken == 0);
+bool parts_take_answer(raftlog *log, raftlog_bytes *bytes, uint64_t len) {
+    if (len > bytes->room) {
+        if (len > SIZE_MAX / 2 || !parts_make_room(bytes, len + len / 4)) return false;
+        raft_c_answer(&log->handle, bytes->data, bytes->room);
+    }
+    bytes->len = len;
+    return true;
 }
 
+char *parts_answered_text(raftlog *log) {
+    size_t len = raft_c_answer(&log->handle, none, 0);
+    char *text = malloc(len + 1);
+    if (!text) return NULL;
+    raft_c_answer(&log->handle, (uint8_t *)text, len);
+    text[len] = 0;
+    return text;
+}
+
+/* ---- opening and closing */
+
 static void let_go(raftlog *log) {
+    heap_end(&log->heap);
     parts_let_file_go(log);
     if (log->handle.at) raft_c_free(&log->handle);
     if (log->order) munmap(log->order, log->mapped);
@@ -77,182 +56,259 @@ static void let_go(raftlog *log) {
     free(log);
 }
 
-/* Why a call failed: what the system said of an order, or else the log's text. */
-static size_t put_reason(raftlog *log, char *text, size_t room) {
-    if (log->broken) return parts_put_text(strerror(log->broken), text, room), strlen(strerror(log->broken));
-    size_t len = raft_c_answer(&log->handle, room ? (uint8_t *)text : none, room ? room - 1 : 0);
-    if (room) text[len < room ? len : room - 1] = 0;
-    return len;
+static raftlog *new_log(void) {
+    raftlog *log = calloc(1, sizeof *log);
+    if (!log) return NULL;
+    log->held = log->orders = log->file = -1;
+    atomic_init(&log->lost, UINT64_MAX);
+    if (!pthread_mutex_init(&log->lock, NULL)) return log;
+    free(log);
+    return NULL;
 }
 
-static int open_log(const char *folder, const char *settings, raftlog **out, char *text, size_t room) {
+/* Opens the log over what was found: a code, and for a failure its text. */
+static int open_found(raftlog *log, const char *settings, char *text, size_t room) {
+    if (!settings) settings = "";
+    heap_enter(&log->heap);
+    raft_c_open(&log->handle, log->orders, parts_some(settings), strlen(settings));
+    int code = raft_c_settle(&log->handle, !parts_obey(log));
+    heap_leave();
+    if (!code) return RAFTLOG_OK;
+    char *said = *log->broken ? NULL : parts_answered_text(log);
+    parts_put_text(said ? said : *log->broken ? log->broken : raftlog_code_text(code), text, room);
+    free(said);
+    return code;
+}
+
+static int open_log(const char *folder, const char *settings, raftlog_progress *watch, void *with,
+                    raftlog **out, char *text, size_t room) {
     *out = NULL;
     if (!text) room = 0;
     if (room) text[0] = 0;
-    raftlog *log = calloc(1, sizeof *log);
+    raftlog *log = new_log();
     if (!log) return RAFTLOG_NO_MEMORY;
-    log->held = log->orders = log->file = -1;
-    if (pthread_mutex_init(&log->lock, NULL)) return free(log), RAFTLOG_NO_MEMORY;
-    int code = folder && !(log->folder = strdup(folder)) ? RAFTLOG_NO_MEMORY : raft_c_begin(&log->handle);
+    log->watch = watch;
+    log->watch_with = with;
+    int code =
+        folder && !(log->folder = strdup(folder)) ? RAFTLOG_NO_MEMORY : raft_c_begin(&log->handle);
     if (code) return let_go(log), code;
     if (folder) code = parts_find(log, text, room);
-    if (!code) {
-        if (!settings) settings = "";
-        raft_c_open(&log->handle, log->orders, parts_some(settings), strlen(settings));
-        code = settle(log);
-        if (code) put_reason(log, text, room);
-    }
+    if (!code) code = open_found(log, settings, text, room);
     if (code) return let_go(log), code;
+    atomic_store(&log->counts.syncs, 0);
+    atomic_store(&log->counts.bytes, 0);
+    /* A failure of a log that was closed, and had this address. */
+    parts_fail(log, RAFTLOG_OK, NULL);
     *out = log;
     return RAFTLOG_OK;
 }
 
-int raftlog_open(const char *folder, const char *settings, raftlog **out, char *text, size_t room) {
+int raftlog_open(const char *folder, const char *settings, raftlog **out, char *text,
+                 size_t room) {
+    return raftlog_open_watched(folder, settings, NULL, NULL, out, text, room);
+}
+
+int raftlog_open_watched(const char *folder, const char *settings, raftlog_progress *watch,
+                         void *with, raftlog **out, char *text, size_t room) {
     if (!out) return RAFTLOG_INVALID;
     *out = NULL;
     if (!folder || !*folder) {
         if (text) parts_put_text("the folder has no name", text, room);
         return RAFTLOG_INVALID;
     }
-    return open_log(folder, settings, out, text, room);
+    return open_log(folder, settings, watch, with, out, text, room);
 }
 
 int raftlog_open_memory(const char *settings, raftlog **out, char *text, size_t room) {
     if (!out) return RAFTLOG_INVALID;
-    return open_log(NULL, settings, out, text, room);
+    return open_log(NULL, settings, NULL, NULL, out, text, room);
 }
 
 int raftlog_close(raftlog *log) {
-    if (!log) return RAFTLOG_OK;
-    pthread_mutex_lock(&log->lock);
-    raft_c_close(&log->handle);
-    int was_broken = log->broken, code = settle(log);
-    if (was_broken) code = RAFTLOG_FAILED;
-    pthread_mutex_unlock(&log->lock);
-    let_go(log);
+    int code = RAFTLOG_OK;
+    if (log && parts_close(log, &code)) let_go(log);
     return code;
 }
 
-/* ---- calls */
-
-static bool is_lacking(const void *bytes, size_t len) { return !bytes && len; }
-
-static void enter(raftlog *log) { pthread_mutex_lock(&log->lock); }
-
-static int leave_as(raftlog *log, int code, bool has_text) {
-    log->failed = has_text;
-    log->code = code;
-    pthread_mutex_unlock(&log->lock);
-    return code;
-}
-
-/* Ends a call with a code of the proved part. */
-static int leave(raftlog *log, int code) { return leave_as(log, code, code != RAFTLOG_OK && code != RAFTLOG_ABSENT); }
-
-/* Refuses a call by its arguments, or for want of memory here. */
-static int refuse(raftlog *log, int code) {
-    if (!log) return code;
-    enter(log);
-    return leave_as(log, code, false);
-}
-
-/* What a broken log answers: `raft_c_settle` gives no code of a call that it didn't carry out. */
-static int settled(raftlog *log) {
-    int was_broken = log->broken, code = settle(log);
-    return was_broken ? RAFTLOG_FAILED : code;
-}
-
-size_t raftlog_message(raftlog *log, char *text, size_t room) {
-    if (!text) room = 0;
-    if (!log) return parts_put_text("", text, room), 0;
-    enter(log);
-    size_t len;
-    if (log->failed) {
-        len = put_reason(log, text, room);
-    } else {
-        len = strlen(raftlog_code_text(log->code));
-        parts_put_text(raftlog_code_text(log->code), text, room);
-    }
-    pthread_mutex_unlock(&log->lock);
-    return len;
-}
-
-/* Begins a call that answers bytes: a code where it can't. */
-static int begin(raftlog *log, raftlog_bytes *bytes) {
-    if (!log || !bytes) return refuse(log, RAFTLOG_INVALID);
-    if (!make_room(bytes, 1)) return refuse(log, RAFTLOG_NO_MEMORY);
-    enter(log);
+int raftlog_stats(raftlog *log, raftlog_counts *counts) {
+    if (!log) return RAFTLOG_INVALID;
+    if (!counts) return parts_fail(log, RAFTLOG_INVALID, NULL);
+    if (!parts_begin_read(log)) return parts_fail(log, RAFTLOG_FAILED, NULL);
+    /* In this turn, so that no part is greater than its whole. */
+    counts->sync_ns = log->counts.sync_ns;
+    counts->synced_changes = log->counts.synced_changes;
+    counts->largest_round = log->counts.largest_round;
+    counts->changes = log->counts.changes;
+    counts->rounds = log->counts.rounds;
+    counts->syncs = log->counts.syncs;
+    counts->bytes = log->counts.bytes;
+    parts_end_read(log);
     return RAFTLOG_OK;
 }
 
-/* After a call that put as much of its answer in `bytes` as fits: the rest of it, where it is longer. */
-static int whole(raftlog *log, int code, raftlog_bytes *bytes, uint64_t len) {
-    bytes->len = 0;
-    if (code != RAFTLOG_OK) return leave(log, code);
-    if (len > bytes->room) {
-        if (len > SIZE_MAX / 2 || !make_room(bytes, len + len / 4)) return leave_as(log, RAFTLOG_NO_MEMORY, false);
-        raft_c_answer(&log->handle, bytes->data, bytes->room);
-    }
-    bytes->len = len;
-    return leave(log, RAFTLOG_OK);
+/* ---- changes */
+
+static bool is_lacking(const void *bytes, size_t len) { return !bytes && len; }
+
+/* Refuses a call by its arguments, or for want of memory here. */
+static int refuse(const raftlog *log, int code) {
+    return log ? parts_fail(log, code, NULL) : code;
+}
+
+static int change(raftlog *log, struct parts_change *change) {
+    parts_take_turn(log, change);
+    return change->code ? parts_fail(log, change->code, change->text) : RAFTLOG_OK;
 }
 
 int raftlog_write_bytes(raftlog *log, const void *bytes, size_t len, bool sync) {
     if (!log || is_lacking(bytes, len)) return refuse(log, RAFTLOG_INVALID);
-    enter(log);
-    raft_c_write(&log->handle, parts_some(bytes), len, sync);
-    return leave(log, settled(log));
+    struct parts_change write = {
+        .kind = PARTS_WRITE, .bytes = parts_some(bytes), .len = len, .sync = sync};
+    return change(log, &write);
 }
 
-int raftlog_write_once_bytes(raftlog *log, const void *bytes, size_t len, const uint64_t *groups, const uint64_t *numbers,
-                             size_t count, bool sync) {
-    static const uint64_t no_number[1];
+int raftlog_write_once_bytes(raftlog *log, const void *bytes, size_t len, const uint64_t *groups,
+                             const uint64_t *numbers, size_t count, bool sync) {
     bool lacks = is_lacking(bytes, len) || is_lacking(groups, count) || is_lacking(numbers, count);
     if (!log || lacks) return refuse(log, RAFTLOG_INVALID);
-    enter(log);
-    raft_c_write_once(&log->handle, parts_some(bytes), len, groups ? groups : no_number, count,
-                      numbers ? numbers : no_number, count, sync);
-    return leave(log, settled(log));
+    struct parts_change write = {.kind = PARTS_WRITE_ONCE,
+                                 .bytes = parts_some(bytes),
+                                 .len = len,
+                                 .sync = sync,
+                                 .groups = groups,
+                                 .numbers = numbers,
+                                 .count = count};
+    return change(log, &write);
 }
 
 int raftlog_sync(raftlog *log) {
     if (!log) return RAFTLOG_INVALID;
-    enter(log);
-    raft_c_sync(&log->handle);
-    return leave(log, settled(log));
+    struct parts_change sync = {.kind = PARTS_SYNC, .sync = true};
+    return change(log, &sync);
 }
 
-int raftlog_get(raftlog *log, uint64_t group, const void *key, size_t key_len, raftlog_bytes *value) {
+/* A change that tells how many there were. */
+static int counted(raftlog *log, struct parts_change counts, uint64_t *count) {
+    if (!log) return RAFTLOG_INVALID;
+    int code = change(log, &counts);
+    if (count) *count = code ? 0 : counts.found;
+    return code;
+}
+
+int raftlog_compact_to(raftlog *log, uint64_t group, uint64_t index, uint64_t *count) {
+    struct parts_change compact = {.kind = PARTS_COMPACT_TO, .group = group, .index = index};
+    return counted(log, compact, count);
+}
+
+int raftlog_must_rewrite_append_queue(raftlog *log, uint64_t *count) {
+    return counted(log, (struct parts_change){.kind = PARTS_REWRITE_APPEND}, count);
+}
+
+int raftlog_must_rewrite_rewrite_queue(raftlog *log, uint64_t *count) {
+    return counted(log, (struct parts_change){.kind = PARTS_REWRITE_REWRITE}, count);
+}
+
+int raftlog_must_purge_all_stale(raftlog *log, uint64_t *count) {
+    return counted(log, (struct parts_change){.kind = PARTS_PURGE_STALE}, count);
+}
+
+int raftlog_purge_expired_files(raftlog *log, raftlog_bytes *groups) {
+    raftlog_bytes own = {0};
+    if (!log) return RAFTLOG_INVALID;
+    struct parts_change purge = {.kind = PARTS_PURGE_EXPIRED, .answer = groups ? groups : &own};
+    if (!parts_make_room(purge.answer, 1)) return refuse(log, RAFTLOG_NO_MEMORY);
+    int code = change(log, &purge);
+    if (code) purge.answer->len = 0;
+    raftlog_bytes_free(&own);
+    return code;
+}
+
+/* ---- reads */
+
+/* Begins a read, with the lock held where it answers 0. */
+static int begin(raftlog *log) {
+    if (!parts_begin_read(log)) return parts_fail(log, RAFTLOG_FAILED, NULL);
+    pthread_mutex_lock(&log->lock);
+    return RAFTLOG_OK;
+}
+
+/* Begins a read that answers bytes. */
+static int begin_bytes(raftlog *log, raftlog_bytes *bytes) {
+    if (!log || !bytes) return refuse(log, RAFTLOG_INVALID);
+    if (!parts_make_room(bytes, 1)) return refuse(log, RAFTLOG_NO_MEMORY);
+    bytes->len = 0;
+    return begin(log);
+}
+
+/* Ends a read that saw nothing of a later round than this one. The log isn't looked at after. */
+static int end(raftlog *log, int code, uint64_t round) {
+    bool fails = code != RAFTLOG_OK && code != RAFTLOG_ABSENT;
+    char *text = fails && code != RAFTLOG_NO_MEMORY ? parts_answered_text(log) : NULL;
+    pthread_mutex_unlock(&log->lock);
+    if (!parts_wait_for(log, round) || code == RAFTLOG_FAILED) {
+        free(text);
+        text = strdup(log->broken);
+        code = RAFTLOG_FAILED;
+    }
+    if (code != RAFTLOG_OK && code != RAFTLOG_ABSENT) parts_fail(log, code, text);
+    parts_end_read(log);
+    return code;
+}
+
+/* Ends a read of a group. */
+static int end_of(raftlog *log, int code, uint64_t group) {
+    return end(log, code, *parts_touched(log, group));
+}
+
+/* Ends a read that put as much of its answer in `bytes` as fits: the rest of it, where it is
+ * longer. */
+static int end_bytes(raftlog *log, int code, raftlog_bytes *bytes, uint64_t len, uint64_t round) {
+    if (code == RAFTLOG_OK && !parts_take_answer(log, bytes, len)) code = RAFTLOG_NO_MEMORY;
+    code = end(log, code, round);
+    if (code) bytes->len = 0;
+    return code;
+}
+
+static int end_bytes_of(raftlog *log, int code, raftlog_bytes *bytes, uint64_t len,
+                        uint64_t group) {
+    return end_bytes(log, code, bytes, len, *parts_touched(log, group));
+}
+
+int raftlog_get(raftlog *log, uint64_t group, const void *key, size_t key_len,
+                raftlog_bytes *value) {
     uint64_t len = 0;
-    int code = is_lacking(key, key_len) ? refuse(log, RAFTLOG_INVALID) : begin(log, value);
+    int code = is_lacking(key, key_len) ? refuse(log, RAFTLOG_INVALID) : begin_bytes(log, value);
     if (code) return code;
-    code = raft_c_get(&log->handle, group, parts_some(key), key_len, value->data, value->room, &len);
-    return whole(log, code, value, len);
+    code =
+        raft_c_get(&log->handle, group, parts_some(key), key_len, value->data, value->room, &len);
+    return end_bytes_of(log, code, value, len, group);
 }
 
 int raftlog_get_entry(raftlog *log, uint64_t group, uint64_t index, raftlog_bytes *value) {
     uint64_t len = 0;
-    int code = begin(log, value);
+    int code = begin_bytes(log, value);
     if (code) return code;
     code = raft_c_get_entry(&log->handle, group, index, value->data, value->room, &len);
-    return whole(log, code, value, len);
+    return end_bytes_of(log, code, value, len, group);
 }
 
-int raftlog_fetch_entries(raftlog *log, uint64_t group, uint64_t begin_at, uint64_t end, uint64_t max_size,
-                          raftlog_bytes *entries) {
+int raftlog_fetch_entries(raftlog *log, uint64_t group, uint64_t begin_at, uint64_t end_at,
+                          uint64_t max_size, raftlog_bytes *entries) {
     uint64_t len = 0;
-    int code = begin(log, entries);
+    int code = begin_bytes(log, entries);
     if (code) return code;
-    code = raft_c_fetch(&log->handle, group, begin_at, end, max_size, entries->data, entries->room, &len);
-    return whole(log, code, entries, len);
+    code = raft_c_fetch(&log->handle, group, begin_at, end_at, max_size, entries->data,
+                        entries->room, &len);
+    return end_bytes_of(log, code, entries, len, group);
 }
 
 static int span(raftlog *log, uint64_t group, uint64_t *first, uint64_t *last) {
     if (!log || !first || !last) return refuse(log, RAFTLOG_INVALID);
-    enter(log);
-    int code = raft_c_span(&log->handle, group);
+    int code = begin(log);
+    if (code) return code;
+    code = raft_c_span(&log->handle, group);
     if (code == RAFTLOG_OK) raft_c_numbers(&log->handle, first, last);
-    return leave(log, code);
+    return end_of(log, code, group);
 }
 
 int raftlog_first_index(raftlog *log, uint64_t group, uint64_t *index) {
@@ -265,75 +321,24 @@ int raftlog_last_index(raftlog *log, uint64_t group, uint64_t *index) {
     return span(log, group, &first, index);
 }
 
-/* Ends a call that answers how many there were. */
-static int counted(raftlog *log, uint64_t *count) {
-    uint64_t found = 0, other;
-    int code = settled(log);
-    if (code == RAFTLOG_OK) raft_c_numbers(&log->handle, &found, &other);
-    if (count) *count = found;
-    return leave(log, code);
-}
-
-int raftlog_compact_to(raftlog *log, uint64_t group, uint64_t index, uint64_t *count) {
-    if (!log) return RAFTLOG_INVALID;
-    enter(log);
-    raft_c_compact_to(&log->handle, group, index);
-    return counted(log, count);
-}
-
-int raftlog_must_rewrite_append_queue(raftlog *log, uint64_t *count) {
-    if (!log) return RAFTLOG_INVALID;
-    enter(log);
-    raft_c_must_rewrite_append_queue(&log->handle);
-    return counted(log, count);
-}
-
-int raftlog_must_rewrite_rewrite_queue(raftlog *log, uint64_t *count) {
-    if (!log) return RAFTLOG_INVALID;
-    enter(log);
-    raft_c_must_rewrite_rewrite_queue(&log->handle);
-    return counted(log, count);
-}
-
-int raftlog_must_purge_all_stale(raftlog *log, uint64_t *count) {
-    if (!log) return RAFTLOG_INVALID;
-    enter(log);
-    raft_c_must_purge_all_stale(&log->handle);
-    return counted(log, count);
-}
-
-int raftlog_purge_expired_files(raftlog *log, raftlog_bytes *groups) {
-    raftlog_bytes none_asked = {0};
-    raftlog_bytes *asked = groups ? groups : &none_asked;
-    int code = begin(log, asked);
-    if (!code) {
-        /* No file is kept for anybody. */
-        raft_c_purge_expired_files(&log->handle, UINT64_MAX);
-        code = settled(log);
-        uint64_t len = code == RAFTLOG_OK ? raft_c_answer(&log->handle, asked->data, asked->room) : 0;
-        code = whole(log, code, asked, len);
-    }
-    raftlog_bytes_free(&none_asked);
-    return code;
-}
-
-int raftlog_scan(raftlog *log, uint64_t group, const raftlog_slice *start, const raftlog_slice *end, bool reverse,
-                 uint64_t limit, raftlog_bytes *pairs) {
+int raftlog_scan(raftlog *log, uint64_t group, const raftlog_slice *start,
+                 const raftlog_slice *end, bool reverse, uint64_t limit, raftlog_bytes *pairs) {
     raftlog_slice empty = {none, 0};
     const raftlog_slice *from = start ? start : &empty, *to = end ? end : &empty;
     uint64_t len = 0;
     bool lacks = is_lacking(from->data, from->len) || is_lacking(to->data, to->len);
-    int code = lacks ? refuse(log, RAFTLOG_INVALID) : begin(log, pairs);
+    int code = lacks ? refuse(log, RAFTLOG_INVALID) : begin_bytes(log, pairs);
     if (code) return code;
-    code = raft_c_scan(&log->handle, group, parts_some(from->data), from->len, parts_some(to->data), to->len, end != NULL,
-                       reverse, limit, pairs->data, pairs->room, &len);
-    return whole(log, code, pairs, len);
+    code =
+        raft_c_scan(&log->handle, group, parts_some(from->data), from->len, parts_some(to->data),
+                    to->len, end != NULL, reverse, limit, pairs->data, pairs->room, &len);
+    return end_bytes_of(log, code, pairs, len, group);
 }
 
 int raftlog_groups(raftlog *log, raftlog_bytes *groups) {
     uint64_t len = 0;
-    int code = begin(log, groups);
+    int code = begin_bytes(log, groups);
     if (code) return code;
     code = raft_c_groups(&log->handle, groups->data, groups->room, &len);
-    return whole(log, code, groups, len);
+    return end_bytes(log, code, groups, len, log->handed);
 }

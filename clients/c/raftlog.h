@@ -15,14 +15,35 @@
  * What is handed in is copied before the call ends. What is answered stands in a buffer of the caller's, and lasts until
  * the next call that is given that buffer; entries, keys and values that are taken from it point into it.
  *
- * Threads. A log may be used by many threads: a mutex in it lets one call in at a time. A batch, a buffer and what points
- * into it belong to one thread at a time. No log may be used in a child that was forked, or in a signal's handler.
+ * Threads. A log may be used by many threads. A batch, a buffer and what points into it belong to one
+ * thread at a time. No log may be used in a child that was forked, or in a signal's handler.
  *
- * What is proved, of the functions behind these (crates/raft_c): of each code, what the log has done and what it holds
- * then; of a failure, why it comes; and that at each moment inside a call a crash leaves what was synced before. Trusted
- * are the files beside this one: that one call at a time is let in, with pointers that are valid and a log that is open;
- * that their prototypes of the proved functions are these functions'; and that each change of a file that a call ordered
- * was carried out, in turn, before the call is answered. README.md, "What is trusted", has the whole list. */
+ * Rounds. Changes (all calls from `raftlog_write` to the purges) that come while others are carried out
+ * wait, and are taken in the order in which they came. The thread of the first that waits carries them
+ * out, as a round: each is done or refused by itself, after those before it; then all their changes of
+ * files are made, with one sync at the end where one of them that is done asked for a sync; then each is
+ * answered. So writers that come at once share a sync, and one that comes alone has a round of its own.
+ *   A round has at most RAFTLOG_ROUND_CHANGES changes, and RAFTLOG_ROUND_BYTES bytes of batches or one
+ * batch that is longer; a purge is a round of its own.
+ *   A write without a sync that comes while a sync runs waits for its end, since the changes of files
+ * are made in turn: a crash leaves no write without those before it.
+ *   Where a change of a file or the sync fails, each change of the round is answered RAFTLOG_IO, also
+ * one that asked for no sync and one that was refused: the next opening finds all that was answered
+ * before, and of this round none, the first ones or all. Later calls are answered RAFTLOG_FAILED.
+ *
+ * Reads don't wait for the disk. A read sees each change that was answered before it began. It may see
+ * one that isn't answered yet, whole; then it is answered once that change's round is over, and as
+ * RAFTLOG_FAILED where that failed: so what a read tells of a synced write survives a crash as the
+ * write's own answer does. It waits only where the round changes its group, or one of the few that share
+ * its place in a table of 4096 (`raftlog_groups`: any group), and for one round at most.
+ *
+ * What is proved, of the functions behind these (crates/raft_c): of each code, what the log has done and
+ * what it holds then; of a failure, why it comes; and that at each moment inside a call a crash leaves
+ * what was synced before. Trusted are the files beside this one: that one call of the proved part at a
+ * time is let in, with pointers that are valid and a log that is open; that their prototypes of the
+ * proved functions are these functions'; and that each change of a file that a call ordered is carried
+ * out, in turn, before that call or a read that saw it is answered, or else the failure is told to the
+ * proved part and to each caller of the round. README.md, "What is trusted", has the whole list. */
 #ifndef RAFTLOG_H
 #define RAFTLOG_H
 
@@ -33,6 +54,8 @@
 #ifdef __cplusplus
 extern "C" {
 #endif
+
+#define RAFTLOG_VERSION "0.1.0"
 
 enum {
     RAFTLOG_OK = 0,
@@ -74,6 +97,9 @@ enum {
     RAFTLOG_FOLDER = 32
 };
 
+/* The most that a round takes. */
+enum { RAFTLOG_ROUND_CHANGES = 256, RAFTLOG_ROUND_BYTES = 1 << 20 };
+
 typedef struct raftlog raftlog;
 typedef struct raftlog_batch raftlog_batch;
 
@@ -111,20 +137,63 @@ void raftlog_bytes_free(raftlog_bytes *bytes);
  * RAFTLOG_CORRUPTION, RAFTLOG_LZ4, RAFTLOG_RANGE or RAFTLOG_IO. */
 int raftlog_open(const char *folder, const char *settings, raftlog **out, char *text, size_t room);
 
+/* Is told how far an opening is: of so many bytes of files, so many are read. Once all are, they are
+ * replayed, which takes as long again. It makes no call on a log. */
+typedef void raftlog_progress(void *with, uint64_t done, uint64_t all);
+
+/* As `raftlog_open`, and `watch` is told how far it is, with each file; it is handed `with`. */
+int raftlog_open_watched(const char *folder, const char *settings, raftlog_progress *watch, void *with,
+                         raftlog **out, char *text, size_t room);
+
 /* The same in memory, for tests: it fails as RAFTLOG_INVALID for settings that are refused. */
 int raftlog_open_memory(const char *settings, raftlog **out, char *text, size_t room);
 
-/* Syncs and closes, and frees the log whatever it answers; after RAFTLOG_OK all that was written survives a crash. Else
- * RAFTLOG_IO or RAFTLOG_FAILED: the next opening finds what was answered before; where the machine crashes first, what was synced, and perhaps more. No other call may be
- * running. NULL is no log, and answers RAFTLOG_OK. */
+/* Syncs and closes, and frees the log whatever it answers; after RAFTLOG_OK all that was written survives
+ * a crash. Else RAFTLOG_IO or RAFTLOG_FAILED: the next opening finds what was answered before; where the
+ * machine crashes first, what was synced, and perhaps more. Calls that wait when it begins get their
+ * answers first; those that begin while it waits for them are answered RAFTLOG_FAILED, and do nothing.
+ * None may begin once it may have ended. NULL is no log, and answers RAFTLOG_OK. */
 int raftlog_close(raftlog *log);
 
-/* The text of the last failure of a call on this log, as much of it as fits in `room` bytes, ended by a NUL; answers the
- * whole length in bytes, without the NUL. `text` may be NULL for the length alone. */
+/* The text of the last failure of this thread's calls on this log, as much of it as fits in `room` bytes,
+ * ended by a NUL; answers the whole length in bytes, without the NUL. `text` may be NULL for the length
+ * alone. Of a file call that failed it names the file and the cause. */
 size_t raftlog_message(raftlog *log, char *text, size_t room);
+
+/* What a log did since it was opened, in rounds that are over. The mean number of changes that share a
+ * round is changes / rounds, and that of synced ones that share a sync synced_changes / syncs. */
+typedef struct {
+    uint64_t rounds;
+    uint64_t changes;        /* in them: writes, syncs, compactions, purges */
+    uint64_t synced_changes; /* of these, those that asked for a sync and were done */
+    uint64_t largest_round;  /* the most changes of a round */
+    uint64_t syncs;          /* of log files */
+    uint64_t bytes;          /* that were written to log files */
+    uint64_t sync_ns;        /* that rounds with a sync were at the disk, in nanoseconds */
+} raftlog_counts;
+
+/* Each number by itself is that of a moment of the call. */
+int raftlog_stats(raftlog *log, raftlog_counts *counts);
 
 /* What a code says. It lasts as long as the program. */
 const char *raftlog_code_text(int code);
+
+/* ---- memory
+ *
+ * The index is in memory: 56 bytes an entry, and keys with their values. So is what was written since
+ * the last sync. The rest of the log files is mapped: the system takes its memory back where it
+ * needs it, and reads it again from the files when it is asked for. */
+
+/* By default the program ends, by SIGBUS, where a part of a file can't be read again: the disk fails,
+ * or another program cut the file. After this call, once for the process, a read that needs this
+ * part answers RAFTLOG_CORRUPTION in its place, and so does each later one; an opening that needs it
+ * fails as RAFTLOG_IO and cuts nothing. Other SIGBUS go to the handler that was set before. It fails
+ * as RAFTLOG_INVALID where no handler can be set. */
+int raftlog_survive_bus_errors(void);
+
+/* How entries will be read that are no longer in memory. In order, which is the default: with each
+ * read the system reads ahead, some 128 KB. At random: no more than is asked for, by pages. */
+int raftlog_expect_reads(raftlog *log, bool at_random);
 
 /* ---- batches */
 

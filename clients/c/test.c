@@ -284,9 +284,9 @@ int main(int argc, char **argv) {
     CHECK(raftlog_close(log) == 0);
     raftlog_bytes_free(&bytes);
     broken(argv[1]);
-    snprintf(path, sizeof path, "%s/link", argv[1]);
+    snprintf(path, sizeof path, "%s/0000000000000099.raftlog", argv[1]);
     CHECK(symlink("/etc/passwd", path) == 0);
-    CHECK(raftlog_open(argv[1], NULL, &log, text, sizeof text) == RAFTLOG_NOT_PLAIN && strstr(text, "link"));
+    CHECK(raftlog_open(argv[1], NULL, &log, text, sizeof text) == RAFTLOG_NOT_PLAIN && strstr(text, "99.raftlog"));
     unlink(path);
     const char *wrong[] = {"recovery-mode = \"hopeful\"", "target-file-size = \"3 stones\"", "target-file-size = 3 MB"};
     for (int i = 0; i < 3; i++) CHECK(raftlog_open(argv[1], wrong[i], &log, text, sizeof text) == RAFTLOG_INVALID && *text);

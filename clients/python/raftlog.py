@@ -14,6 +14,17 @@ class _Slice(ctypes.Structure):
     _fields_ = [("data", c_char_p), ("len", c_size_t)]
 
 
+class Stats(ctypes.Structure):
+    """What a log did since it was opened, in rounds that are over: how many rounds and changes (writes, syncs, compactions,
+    purges) there were, how many of these asked for a sync and were done, the most changes of a round, the syncs of log
+    files and the bytes written to them, and the nanoseconds that rounds with a sync were at the disk."""
+    _fields_ = [(name, c_uint64) for name in
+                ("rounds", "changes", "synced_changes", "largest_round", "syncs", "bytes", "sync_ns")]
+
+    def __repr__(self):
+        return "Stats(%s)" % ", ".join("%s=%d" % (name, getattr(self, name)) for name, _ in self._fields_)
+
+
 class _Bytes(ctypes.Structure):
     _fields_ = [("data", POINTER(c_uint8)), ("len", c_size_t), ("room", c_size_t)]
 
@@ -29,6 +40,7 @@ for _name, _result, _arguments in [
     ("open", c_int, [c_char_p, c_char_p, POINTER(c_void_p), c_char_p, c_size_t]),
     ("open_memory", c_int, [c_char_p, POINTER(c_void_p), c_char_p, c_size_t]),
     ("close", c_int, [c_void_p]),
+    ("stats", c_int, [c_void_p, POINTER(Stats)]),
     ("message", c_size_t, [c_void_p, c_char_p, c_size_t]),
     ("code_text", c_char_p, [c_int]),
     ("write_bytes", c_int, [c_void_p, c_char_p, c_size_t, c_bool]),
@@ -119,7 +131,10 @@ def _parts(data):
 
 
 class Engine:
-    """`folder` None: a log in memory. The settings are TOML. A context manager; it is closed with a sync."""
+    """`folder` None: a log in memory. The settings are TOML. A context manager; it is closed with a sync.
+
+    Threads may share it, but for `close`: writers that come at once share a sync, and reads don't wait for the disk
+    (raftlog.h, "Rounds")."""
 
     def __init__(self, folder=None, settings=""):
         text, self._log = ctypes.create_string_buffer(512), c_void_p()
@@ -162,6 +177,11 @@ class Engine:
 
     def sync(self):
         self._call("sync")
+
+    def stats(self):
+        stats = Stats()
+        self._call("stats", byref(stats))
+        return stats
 
     def get(self, group, key):
         return self._read("get", group, key, len(key))

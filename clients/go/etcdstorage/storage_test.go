@@ -46,8 +46,15 @@ func (n *node) open(t *testing.T, peers []raft.Peer) {
 	if len(snapshot.Data) > 0 {
 		n.applied = lines(snapshot.Data)
 	}
-	config := &raft.Config{ID: n.id, ElectionTick: 10, HeartbeatTick: 1, Storage: n.storage, MaxSizePerMsg: 1 << 12,
-		MaxInflightMsgs: 64, Applied: n.index}
+	config := &raft.Config{
+		ID:              n.id,
+		ElectionTick:    10,
+		HeartbeatTick:   1,
+		Storage:         n.storage,
+		MaxSizePerMsg:   1 << 12,
+		MaxInflightMsgs: 64,
+		Applied:         n.index,
+	}
 	if n.raw, err = raft.NewRawNode(config); err != nil {
 		t.Fatal(err)
 	}
@@ -81,7 +88,8 @@ func (n *node) state() []byte {
 func (n *node) turn(t *testing.T) (messages []pb.Message) {
 	for n.raw.HasReady() {
 		ready := n.raw.Ready()
-		if err := n.storage.Save(ready.HardState, ready.Entries, ready.Snapshot, ready.MustSync); err != nil {
+		err := n.storage.Save(ready.HardState, ready.Entries, ready.Snapshot, ready.MustSync)
+		if err != nil {
 			t.Fatal(err)
 		}
 		if !raft.IsEmptySnap(ready.Snapshot) {
@@ -170,7 +178,8 @@ func (c *cluster) propose(count int) {
 	for i := 0; i < count; i += 20 {
 		leader := c.leader()
 		for k := i; k < i+20 && k < count; k++ {
-			text := fmt.Sprintf("command %d of some length, so that several log files are begun", len(c.proposed))
+			text := fmt.Sprintf("command %d of some length, so that several log files are begun",
+				len(c.proposed))
 			if err := leader.raw.Propose([]byte(text)); err != nil {
 				c.t.Fatal(err)
 			}
@@ -219,7 +228,8 @@ func (c *cluster) check() {
 	}
 }
 
-// Takes a node down with a close, or as a kill does: what is found again is what stands in the files at this moment.
+// Takes a node down with a close, or as a kill does: what is found again is what stands in the files
+// at this moment.
 func (c *cluster) stop(id uint64, kill bool) {
 	n := c.nodes[id]
 	c.down = id
@@ -258,7 +268,23 @@ func copyFolder(t *testing.T, from, to string) {
 	}
 }
 
-// Ten thousand commands, while each node is stopped once, one of them needs a snapshot, and one is killed twelve times.
+// compactAround drops the entries of all nodes but one, so that it needs a snapshot.
+func (c *cluster) compactAround(id uint64) {
+	for other, n := range c.nodes {
+		if other == id {
+			continue
+		}
+		if err := n.storage.Compact(n.index, n.conf, n.state()); err != nil {
+			c.t.Fatal(err)
+		}
+		if _, err := n.log.MustPurgeAllStale(); err != nil {
+			c.t.Fatal(err)
+		}
+	}
+}
+
+// Ten thousand commands, while each node is stopped once, one of them needs a snapshot, and one is
+// killed twelve times.
 func TestThreeNodes(t *testing.T) {
 	c := newCluster(t)
 	c.propose(2000)
@@ -267,18 +293,7 @@ func TestThreeNodes(t *testing.T) {
 		c.stop(id, false)
 		c.propose(1000)
 		if id == 1 {
-			// The others drop their entries, so that it needs a snapshot.
-			for other, n := range c.nodes {
-				if other == id {
-					continue
-				}
-				if err := n.storage.Compact(n.index, n.conf, n.state()); err != nil {
-					t.Fatal(err)
-				}
-				if _, err := n.log.MustPurgeAllStale(); err != nil {
-					t.Fatal(err)
-				}
-			}
+			c.compactAround(id)
 		}
 		c.start(id)
 		c.propose(500)
@@ -302,12 +317,9 @@ func TestThreeNodes(t *testing.T) {
 	}
 }
 
-func TestStorage(t *testing.T) {
-	log, err := raftlog.OpenMemory("")
-	if err != nil {
-		t.Fatal(err)
-	}
-	defer log.Close()
+// filled is a storage with the entries 1 to 10, of terms 1 to 3.
+func filled(t *testing.T, log *raftlog.Engine) (*Storage, []pb.Entry) {
+	t.Helper()
 	s, err := New(log, 1)
 	if err != nil {
 		t.Fatal(err)
@@ -322,9 +334,25 @@ func TestStorage(t *testing.T) {
 	for i := uint64(1); i <= 10; i++ {
 		entries = append(entries, pb.Entry{Index: i, Term: 1 + i/5, Data: []byte("data")})
 	}
-	if err = s.Save(pb.HardState{Term: 3, Vote: 2, Commit: 7}, entries, pb.Snapshot{}, true); err != nil {
+	state := pb.HardState{Term: 3, Vote: 2, Commit: 7}
+	if err = s.Save(state, entries, pb.Snapshot{}, true); err != nil {
 		t.Fatal(err)
 	}
+	return s, entries
+}
+
+func inMemory(t *testing.T) *raftlog.Engine {
+	t.Helper()
+	log, err := raftlog.OpenMemory("")
+	if err != nil {
+		t.Fatal(err)
+	}
+	t.Cleanup(func() { log.Close() })
+	return log
+}
+
+func TestEntries(t *testing.T) {
+	s, entries := filled(t, inMemory(t))
 	found, err := s.Entries(2, 11, math.MaxUint64)
 	if err != nil || len(found) != 9 || found[0].Index != 2 || string(found[8].Data) != "data" {
 		t.Fatal(found, err)
@@ -339,23 +367,28 @@ func TestStorage(t *testing.T) {
 	if _, err = s.Entries(5, 12, 100); err != raft.ErrUnavailable {
 		t.Fatal(err)
 	}
-	if err = s.Compact(4, pb.ConfState{}, []byte("state\n")); err != nil {
+}
+
+func TestCompaction(t *testing.T) {
+	log := inMemory(t)
+	s, _ := filled(t, log)
+	if err := s.Compact(4, pb.ConfState{}, []byte("state\n")); err != nil {
 		t.Fatal(err)
 	}
-	if _, err = s.Entries(4, 6, 100); err != raft.ErrCompacted {
+	if _, err := s.Entries(4, 6, 100); err != raft.ErrCompacted {
 		t.Fatal(err)
 	}
-	if term, err = s.Term(4); term != 1 || err != nil {
+	if term, err := s.Term(4); term != 1 || err != nil {
 		t.Fatal(term, err)
 	}
-	if _, err = s.Term(3); err != raft.ErrCompacted {
+	if _, err := s.Term(3); err != raft.ErrCompacted {
 		t.Fatal(err)
 	}
-	s, err = New(log, 1)
+	s, err := New(log, 1)
 	if err != nil {
 		t.Fatal(err)
 	}
-	first, _ = s.FirstIndex()
+	first, _ := s.FirstIndex()
 	state, _, err := s.InitialState()
 	if first != 5 || state.Vote != 2 || err != nil {
 		t.Fatal(first, state, err)

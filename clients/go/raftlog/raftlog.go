@@ -6,12 +6,68 @@ package raftlog
 // #cgo LDFLAGS: ${SRCDIR}/../../c/build/libraftlog.a -lpthread -lm
 // #include <stdlib.h>
 // #include "raftlog.h"
+//
+// // A failure's text is that of a thread, which a goroutine may leave after a call: so each call brings
+// // the text along, which is freed by free.
+// static int told(raftlog *log, int code, char **text) {
+//     if (code == RAFTLOG_OK || code == RAFTLOG_ABSENT) return code;
+//     size_t room = raftlog_message(log, NULL, 0) + 1;
+//     if ((*text = malloc(room))) raftlog_message(log, *text, room);
+//     return code;
+// }
+// static int write_bytes(raftlog *log, const void *bytes, size_t len, bool sync, char **text) {
+//     return told(log, raftlog_write_bytes(log, bytes, len, sync), text);
+// }
+// static int write_once(raftlog *log, const void *bytes, size_t len, const uint64_t *groups,
+//                       const uint64_t *numbers, size_t count, bool sync, char **text) {
+//     return told(log, raftlog_write_once_bytes(log, bytes, len, groups, numbers, count, sync), text);
+// }
+// static int sync_all(raftlog *log, char **text) { return told(log, raftlog_sync(log), text); }
+// static int get(raftlog *log, uint64_t group, const void *key, size_t len, raftlog_bytes *out, char **text) {
+//     return told(log, raftlog_get(log, group, key, len, out), text);
+// }
+// static int get_entry(raftlog *log, uint64_t group, uint64_t index, raftlog_bytes *out, char **text) {
+//     return told(log, raftlog_get_entry(log, group, index, out), text);
+// }
+// static int fetch(raftlog *log, uint64_t group, uint64_t begin, uint64_t end, uint64_t max_size,
+//                  raftlog_bytes *out, char **text) {
+//     return told(log, raftlog_fetch_entries(log, group, begin, end, max_size, out), text);
+// }
+// static int span(raftlog *log, uint64_t group, uint64_t *first, uint64_t *last, char **text) {
+//     int code = raftlog_first_index(log, group, first);
+//     if (code == RAFTLOG_OK) code = raftlog_last_index(log, group, last);
+//     return told(log, code, text);
+// }
+// static int compact_to(raftlog *log, uint64_t group, uint64_t index, uint64_t *count, char **text) {
+//     return told(log, raftlog_compact_to(log, group, index, count), text);
+// }
+// static int purge_expired_files(raftlog *log, raftlog_bytes *out, char **text) {
+//     return told(log, raftlog_purge_expired_files(log, out), text);
+// }
+// static int must_rewrite_append_queue(raftlog *log, uint64_t *count, char **text) {
+//     return told(log, raftlog_must_rewrite_append_queue(log, count), text);
+// }
+// static int must_rewrite_rewrite_queue(raftlog *log, uint64_t *count, char **text) {
+//     return told(log, raftlog_must_rewrite_rewrite_queue(log, count), text);
+// }
+// static int must_purge_all_stale(raftlog *log, uint64_t *count, char **text) {
+//     return told(log, raftlog_must_purge_all_stale(log, count), text);
+// }
+// static int scan(raftlog *log, uint64_t group, const raftlog_slice *start, const raftlog_slice *end,
+//                 bool reverse, uint64_t limit, raftlog_bytes *out, char **text) {
+//     return told(log, raftlog_scan(log, group, start, end, reverse, limit, out), text);
+// }
+// static int groups(raftlog *log, raftlog_bytes *out, char **text) {
+//     return told(log, raftlog_groups(log, out), text);
+// }
 import "C"
 
 import (
 	"encoding/binary"
 	"fmt"
+	"runtime"
 	"sync"
+	"time"
 	"unsafe"
 )
 
@@ -61,11 +117,11 @@ type Entry struct {
 // A Pair is a key and its value.
 type Pair struct{ Key, Value []byte }
 
-// An Engine is an open log. It may be used by many goroutines.
+// An Engine is an open log. It may be used by many goroutines: writers that come at once share a sync,
+// and reads don't wait for the disk (raftlog.h, "Rounds").
 type Engine struct {
-	mutex sync.Mutex
+	mutex sync.RWMutex // held by each call to read, and by Close to write
 	log   *C.raftlog
-	bytes C.raftlog_bytes
 }
 
 // Open opens the log in a folder, which is made where it is missing. The settings are TOML, as
@@ -100,32 +156,50 @@ func open(settings string, call func(*C.char, **C.raftlog, *C.char, C.size_t) C.
 	return &Engine{log: log}, nil
 }
 
-// Done under the mutex, so that the text is this call's.
-func (e *Engine) failure(code C.int) error {
-	var text [512]C.char
-	C.raftlog_message(e.log, &text[0], 512)
-	return &Error{Code(code), C.GoString(&text[0])}
+// A call is what C writes its answers to. It is kept for a next one, with the room that C made.
+type call struct {
+	bytes C.raftlog_bytes
+	text  *C.char
+	first C.uint64_t
+	last  C.uint64_t
 }
 
-// found says whether what was asked for is there.
-func (e *Engine) found(code C.int) (bool, error) {
-	switch code {
-	case 0:
-		return true, nil
-	case C.int(absent):
-		return false, nil
-	}
-	return false, e.failure(code)
-}
+var calls = sync.Pool{New: func() any {
+	c := new(call)
+	runtime.SetFinalizer(c, func(c *call) { C.raftlog_bytes_free(&c.bytes) })
+	return c
+}}
 
-func (e *Engine) enter() error {
-	e.mutex.Lock()
+// do makes a call on the log: whether what was asked for is there. The call is let go by end.
+func (e *Engine) do(code func(log *C.raftlog, c *call) C.int) (*call, bool, error) {
+	c := calls.Get().(*call)
+	e.mutex.RLock()
+	defer e.mutex.RUnlock()
 	if e.log == nil {
-		e.mutex.Unlock()
-		return &Error{Failed, "the log is closed"}
+		return c, false, &Error{Failed, "the log is closed"}
 	}
-	return nil
+	switch code := code(e.log, c); code {
+	case 0:
+		return c, true, nil
+	case C.int(absent):
+		return c, false, nil
+	default:
+		return c, false, c.failure(code)
+	}
 }
+
+func (c *call) end() { calls.Put(c) }
+
+func (c *call) failure(code C.int) error {
+	if c.text == nil {
+		return &Error{Code(code), Code(code).String()}
+	}
+	defer func() { C.free(unsafe.Pointer(c.text)); c.text = nil }()
+	return &Error{Code(code), C.GoString(c.text)}
+}
+
+// answer copies the bytes that were answered.
+func (c *call) answer() []byte { return C.GoBytes(unsafe.Pointer(c.bytes.data), C.int(c.bytes.len)) }
 
 var empty = [1]byte{}
 
@@ -136,9 +210,7 @@ func pointer(bytes []byte) unsafe.Pointer {
 	return unsafe.Pointer(&bytes[0])
 }
 
-func (e *Engine) answer() []byte { return C.GoBytes(unsafe.Pointer(e.bytes.data), C.int(e.bytes.len)) }
-
-// Close syncs and closes. It may be called again.
+// Close syncs and closes, once the calls that run are answered. It may be called again.
 func (e *Engine) Close() error {
 	e.mutex.Lock()
 	defer e.mutex.Unlock()
@@ -147,26 +219,23 @@ func (e *Engine) Close() error {
 	}
 	log := e.log
 	e.log = nil
-	C.raftlog_bytes_free(&e.bytes)
 	if code := C.raftlog_close(log); code != 0 {
-		return &Error{Code(code), C.GoString(C.raftlog_code_text(code))}
+		return &Error{Code(code), Code(code).String()}
 	}
 	return nil
 }
 
-// Write writes a batch, and empties it where that was done.
+// Write writes a batch, and empties it where that was done. With sync it survives a crash then.
 func (e *Engine) Write(batch *Batch, sync bool) error {
-	if err := e.enter(); err != nil {
-		return err
-	}
-	defer e.mutex.Unlock()
 	bytes := batch.whole()
-	code := C.raftlog_write_bytes(e.log, pointer(bytes), C.size_t(len(bytes)), C.bool(sync))
-	if code != 0 {
-		return e.failure(code)
+	c, _, err := e.do(func(log *C.raftlog, c *call) C.int {
+		return C.write_bytes(log, pointer(bytes), C.size_t(len(bytes)), C.bool(sync), &c.text)
+	})
+	defer c.end()
+	if err == nil {
+		batch.Clear()
 	}
-	batch.Clear()
-	return nil
+	return err
 }
 
 // A Number is a group, and the number of a write that acts on it once.
@@ -176,73 +245,95 @@ type Number struct{ Group, Number uint64 }
 // number has to be greater than the one that its group keeps; where none is, nothing is written. It fails as Stale where
 // some are and others aren't.
 func (e *Engine) WriteOnce(batch *Batch, numbers []Number, sync bool) error {
-	if err := e.enter(); err != nil {
-		return err
-	}
-	defer e.mutex.Unlock()
 	groups, values := make([]C.uint64_t, len(numbers)+1), make([]C.uint64_t, len(numbers)+1)
 	for i, n := range numbers {
 		groups[i], values[i] = C.uint64_t(n.Group), C.uint64_t(n.Number)
 	}
 	bytes := batch.whole()
-	code := C.raftlog_write_once_bytes(e.log, pointer(bytes), C.size_t(len(bytes)), &groups[0], &values[0],
-		C.size_t(len(numbers)), C.bool(sync))
-	if code != 0 {
-		return e.failure(code)
+	c, _, err := e.do(func(log *C.raftlog, c *call) C.int {
+		return C.write_once(log, pointer(bytes), C.size_t(len(bytes)), &groups[0], &values[0],
+			C.size_t(len(numbers)), C.bool(sync), &c.text)
+	})
+	defer c.end()
+	if err == nil {
+		batch.Clear()
 	}
-	batch.Clear()
-	return nil
+	return err
 }
 
 // Sync makes all that was written survive a crash.
 func (e *Engine) Sync() error {
-	if err := e.enter(); err != nil {
-		return err
-	}
-	defer e.mutex.Unlock()
-	_, err := e.found(C.raftlog_sync(e.log))
+	c, _, err := e.do(func(log *C.raftlog, c *call) C.int { return C.sync_all(log, &c.text) })
+	defer c.end()
 	return err
+}
+
+// Stats is what a log did since it was opened, in rounds that are over. The mean number of changes that share a round is
+// Changes / Rounds, and that of synced ones that share a sync SyncedChanges / Syncs.
+type Stats struct {
+	Rounds        uint64
+	Changes       uint64        // in them: writes, syncs, compactions, purges
+	SyncedChanges uint64        // of these, those that asked for a sync and were done
+	LargestRound  uint64        // the most changes of a round
+	Syncs         uint64        // of log files
+	Bytes         uint64        // that were written to log files
+	SyncTime      time.Duration // that rounds with a sync were at the disk
+}
+
+// Stats tells what the log did.
+func (e *Engine) Stats() (Stats, error) {
+	e.mutex.RLock()
+	defer e.mutex.RUnlock()
+	var counts C.raftlog_counts
+	if e.log == nil {
+		return Stats{}, &Error{Failed, "the log is closed"}
+	}
+	if code := C.raftlog_stats(e.log, &counts); code != 0 {
+		return Stats{}, &Error{Code(code), Code(code).String()}
+	}
+	return Stats{
+		Rounds: uint64(counts.rounds), Changes: uint64(counts.changes), SyncedChanges: uint64(counts.synced_changes),
+		LargestRound: uint64(counts.largest_round), Syncs: uint64(counts.syncs), Bytes: uint64(counts.bytes),
+		SyncTime: time.Duration(counts.sync_ns),
+	}, nil
 }
 
 // Get finds the value at a key.
 func (e *Engine) Get(group uint64, key []byte) (value []byte, found bool, err error) {
-	if err = e.enter(); err != nil {
-		return
-	}
-	defer e.mutex.Unlock()
-	found, err = e.found(C.raftlog_get(e.log, C.uint64_t(group), pointer(key), C.size_t(len(key)), &e.bytes))
+	c, found, err := e.do(func(log *C.raftlog, c *call) C.int {
+		return C.get(log, C.uint64_t(group), pointer(key), C.size_t(len(key)), &c.bytes, &c.text)
+	})
+	defer c.end()
 	if found {
-		value = e.answer()
+		value = c.answer()
 	}
-	return
+	return value, found, err
 }
 
 // GetEntry finds an entry.
 func (e *Engine) GetEntry(group, index uint64) (data []byte, found bool, err error) {
-	if err = e.enter(); err != nil {
-		return
-	}
-	defer e.mutex.Unlock()
-	found, err = e.found(C.raftlog_get_entry(e.log, C.uint64_t(group), C.uint64_t(index), &e.bytes))
+	c, found, err := e.do(func(log *C.raftlog, c *call) C.int {
+		return C.get_entry(log, C.uint64_t(group), C.uint64_t(index), &c.bytes, &c.text)
+	})
+	defer c.end()
 	if found {
-		data = e.answer()
+		data = c.answer()
 	}
-	return
+	return data, found, err
 }
 
 // FetchEntries answers the entries from begin up to the one before end: as many as take at most maxSize bytes together,
 // each with 8 more, but one at least; 0 is no bound.
 func (e *Engine) FetchEntries(group, begin, end, maxSize uint64) ([]Entry, error) {
-	if err := e.enter(); err != nil {
+	c, _, err := e.do(func(log *C.raftlog, c *call) C.int {
+		return C.fetch(log, C.uint64_t(group), C.uint64_t(begin), C.uint64_t(end), C.uint64_t(maxSize), &c.bytes, &c.text)
+	})
+	defer c.end()
+	if err != nil {
 		return nil, err
 	}
-	defer e.mutex.Unlock()
-	code := C.raftlog_fetch_entries(e.log, C.uint64_t(group), C.uint64_t(begin), C.uint64_t(end), C.uint64_t(maxSize), &e.bytes)
-	if code != 0 {
-		return nil, e.failure(code)
-	}
 	var entries []Entry
-	for rest := e.answer(); len(rest) > 0; {
+	for rest := c.answer(); len(rest) > 0; {
 		entry, after := part(rest)
 		entries = append(entries, Entry{binary.BigEndian.Uint64(entry), entry[8:]})
 		rest = after
@@ -257,94 +348,80 @@ func part(bytes []byte) (part, rest []byte) {
 
 // Span answers the first and the last index of a group's entries.
 func (e *Engine) Span(group uint64) (first, last uint64, found bool, err error) {
-	if err = e.enter(); err != nil {
-		return
+	c, found, err := e.do(func(log *C.raftlog, c *call) C.int {
+		return C.span(log, C.uint64_t(group), &c.first, &c.last, &c.text)
+	})
+	defer c.end()
+	if found {
+		first, last = uint64(c.first), uint64(c.last)
 	}
-	defer e.mutex.Unlock()
-	var index C.uint64_t
-	if found, err = e.found(C.raftlog_first_index(e.log, C.uint64_t(group), &index)); !found {
-		return
+	return first, last, found, err
+}
+
+// counted makes a call that answers how many there were.
+func (e *Engine) counted(code func(log *C.raftlog, c *call) C.int) (uint64, error) {
+	c, _, err := e.do(code)
+	defer c.end()
+	if err != nil {
+		return 0, err
 	}
-	first = uint64(index)
-	found, err = e.found(C.raftlog_last_index(e.log, C.uint64_t(group), &index))
-	return first, uint64(index), found, err
+	return uint64(c.first), nil
 }
 
 // CompactTo drops the entries below an index, without a sync, and answers how many.
 func (e *Engine) CompactTo(group, index uint64) (uint64, error) {
-	if err := e.enter(); err != nil {
-		return 0, err
-	}
-	defer e.mutex.Unlock()
-	var count C.uint64_t
-	_, err := e.found(C.raftlog_compact_to(e.log, C.uint64_t(group), C.uint64_t(index), &count))
-	return uint64(count), err
+	return e.counted(func(log *C.raftlog, c *call) C.int {
+		return C.compact_to(log, C.uint64_t(group), C.uint64_t(index), &c.first, &c.text)
+	})
 }
 
 // PurgeExpiredFiles purges by the settings' thresholds, to be called now and then: it rewrites what old files still hold,
 // and drops them. It changes nothing that the log holds, and does nothing while the log is small. It answers the groups
 // that hold old entries and should be compacted.
 func (e *Engine) PurgeExpiredFiles() ([]uint64, error) {
-	if err := e.enter(); err != nil {
-		return nil, err
-	}
-	defer e.mutex.Unlock()
-	if code := C.raftlog_purge_expired_files(e.log, &e.bytes); code != 0 {
-		return nil, e.failure(code)
-	}
-	return e.numbers(), nil
+	return e.numbers(func(log *C.raftlog, c *call) C.int {
+		return C.purge_expired_files(log, &c.bytes, &c.text)
+	})
 }
 
 // MustRewriteAppendQueue writes what stands in the log files of the Append queue to the Rewrite queue, and drops them; it
 // answers how many they were.
 func (e *Engine) MustRewriteAppendQueue() (uint64, error) {
-	if err := e.enter(); err != nil {
-		return 0, err
-	}
-	defer e.mutex.Unlock()
-	var count C.uint64_t
-	_, err := e.found(C.raftlog_must_rewrite_append_queue(e.log, &count))
-	return uint64(count), err
+	return e.counted(func(log *C.raftlog, c *call) C.int {
+		return C.must_rewrite_append_queue(log, &c.first, &c.text)
+	})
 }
 
 // MustRewriteRewriteQueue writes what stands in the log files of the Rewrite queue to a new one, and drops them; it
 // answers how many they were.
 func (e *Engine) MustRewriteRewriteQueue() (uint64, error) {
-	if err := e.enter(); err != nil {
-		return 0, err
-	}
-	defer e.mutex.Unlock()
-	var count C.uint64_t
-	_, err := e.found(C.raftlog_must_rewrite_rewrite_queue(e.log, &count))
-	return uint64(count), err
+	return e.counted(func(log *C.raftlog, c *call) C.int {
+		return C.must_rewrite_rewrite_queue(log, &c.first, &c.text)
+	})
 }
 
 // MustPurgeAllStale drops the log files of both queues in front in which nothing stands any more; it answers how many they
 // were of the Append queue.
 func (e *Engine) MustPurgeAllStale() (uint64, error) {
-	if err := e.enter(); err != nil {
-		return 0, err
-	}
-	defer e.mutex.Unlock()
-	var count C.uint64_t
-	_, err := e.found(C.raftlog_must_purge_all_stale(e.log, &count))
-	return uint64(count), err
+	return e.counted(func(log *C.raftlog, c *call) C.int {
+		return C.must_purge_all_stale(log, &c.first, &c.text)
+	})
 }
 
 // Scan answers the keys from start up to those before end (nil: no bound) with their values, at most limit (0: all).
 func (e *Engine) Scan(group uint64, start, end []byte, reverse bool, limit uint64) ([]Pair, error) {
-	if err := e.enter(); err != nil {
-		return nil, err
-	}
-	defer e.mutex.Unlock()
 	from, to := bound(start), bound(end)
 	defer C.free(unsafe.Pointer(from))
 	defer C.free(unsafe.Pointer(to))
-	if code := C.raftlog_scan(e.log, C.uint64_t(group), from, to, C.bool(reverse), C.uint64_t(limit), &e.bytes); code != 0 {
-		return nil, e.failure(code)
+	c, _, err := e.do(func(log *C.raftlog, c *call) C.int {
+		return C.scan(log, C.uint64_t(group), from, to, C.bool(reverse), C.uint64_t(limit), &c.bytes, &c.text)
+	})
+	defer c.end()
+	if err != nil {
+		return nil, err
 	}
 	var pairs []Pair
-	for rest := e.answer(); len(rest) > 0; {
+	for rest := c.answer(); len(rest) > 0; {
 		key, after := part(rest)
 		value, after := part(after)
 		pairs = append(pairs, Pair{key, value})
@@ -368,22 +445,20 @@ func bound(key []byte) *C.raftlog_slice {
 
 // Groups answers the groups into which something was put since they were last cleaned.
 func (e *Engine) Groups() ([]uint64, error) {
-	if err := e.enter(); err != nil {
-		return nil, err
-	}
-	defer e.mutex.Unlock()
-	if code := C.raftlog_groups(e.log, &e.bytes); code != 0 {
-		return nil, e.failure(code)
-	}
-	return e.numbers(), nil
+	return e.numbers(func(log *C.raftlog, c *call) C.int { return C.groups(log, &c.bytes, &c.text) })
 }
 
-// The numbers of the last answer.
-func (e *Engine) numbers() (numbers []uint64) {
-	for rest := e.answer(); len(rest) >= 8; rest = rest[8:] {
+// numbers makes a call that answers numbers.
+func (e *Engine) numbers(code func(log *C.raftlog, c *call) C.int) (numbers []uint64, err error) {
+	c, _, err := e.do(code)
+	defer c.end()
+	if err != nil {
+		return nil, err
+	}
+	for rest := c.answer(); len(rest) >= 8; rest = rest[8:] {
 		numbers = append(numbers, binary.BigEndian.Uint64(rest))
 	}
-	return
+	return numbers, nil
 }
 
 // A Batch is written whole or not at all. Its bytes begin with the number of its items.

@@ -4,8 +4,10 @@ import (
 	"bytes"
 	"encoding/binary"
 	"path/filepath"
+	"strings"
 	"sync"
 	"testing"
+	"time"
 )
 
 func must(t *testing.T, err error) {
@@ -163,6 +165,88 @@ func TestGoroutines(t *testing.T) {
 		}(g)
 	}
 	wait.Wait()
+	must(t, log.Close())
+}
+
+// Goroutines that write at once share syncs, and each gets the text of its own failure.
+func TestRounds(t *testing.T) {
+	log, err := Open(filepath.Join(t.TempDir(), "log"), "")
+	must(t, err)
+	const writers = 16
+	var wait sync.WaitGroup
+	puts := uint64(0)
+	for turn := 0; turn < 50; turn++ {
+		for g := uint64(1); g <= writers; g++ {
+			wait.Add(1)
+			go func(g uint64) {
+				defer wait.Done()
+				var b Batch
+				for i := 0; i < 10; i++ {
+					b.Put(g, []byte("key"), []byte("value"))
+					if err := log.Write(&b, true); err != nil {
+						t.Error(err)
+					}
+				}
+				b.AddEntries(g, []Entry{{5, nil}, {7, nil}})
+				if err := log.Write(&b, true); !HasCode(err, Gap) || !strings.Contains(err.Error(), "gap") {
+					t.Error(err)
+				}
+				if _, err := log.FetchEntries(g, 2, 1, 0); !HasCode(err, Invalid) || strings.Contains(err.Error(), "gap") {
+					t.Error(err)
+				}
+			}(g)
+		}
+		wait.Wait()
+		puts += 10 * writers
+		stats, err := log.Stats()
+		must(t, err)
+		if stats.SyncedChanges != puts || stats.Syncs == 0 || stats.Bytes == 0 || stats.SyncTime == 0 {
+			t.Fatal(stats)
+		}
+		if stats.LargestRound > 1 && stats.Rounds < stats.Changes {
+			must(t, log.Close())
+			if _, err := log.Stats(); !HasCode(err, Failed) {
+				t.Fatal(err)
+			}
+			return
+		}
+	}
+	t.Fatal("no sync was shared")
+}
+
+// A close lets the calls that run end, and those that come later fail.
+func TestCloseBeside(t *testing.T) {
+	folder := filepath.Join(t.TempDir(), "log")
+	log, err := Open(folder, "")
+	must(t, err)
+	var wait sync.WaitGroup
+	var answered [8]uint64
+	for g := range answered {
+		wait.Add(1)
+		go func(g int) {
+			defer wait.Done()
+			var b Batch
+			for i := uint64(1); ; i++ {
+				b.AddEntries(uint64(g+1), []Entry{{i, []byte("entry")}})
+				if err := log.Write(&b, i%2 == 0); HasCode(err, Failed) {
+					return
+				} else if err != nil {
+					t.Error(err)
+				}
+				answered[g] = i
+			}
+		}(g)
+	}
+	time.Sleep(50 * time.Millisecond)
+	must(t, log.Close())
+	wait.Wait()
+	log, err = Open(folder, "")
+	must(t, err)
+	for g, wanted := range answered {
+		if _, last, _, err := log.Span(uint64(g + 1)); last != wanted || err != nil {
+			t.Fatal(g, last, wanted, err)
+		}
+	}
 	must(t, log.Close())
 }
 

@@ -18,6 +18,7 @@ use std::fmt;
 use std::os::unix::ffi::OsStrExt;
 use std::path::Path;
 use std::ptr;
+use std::time::Duration;
 
 /// Why a call failed.
 #[derive(Clone, Copy, Debug, PartialEq, Eq)]
@@ -242,12 +243,34 @@ impl<'a> Parts<'a> {
     }
 }
 
-/// An open log. It is closed, with a sync, when it is dropped; `close` tells whether that was done.
+/// What a log did since it was opened, in rounds that are over. The mean number of changes that share a
+/// round is `changes / rounds`, and that of synced ones that share a sync `synced_changes / syncs`.
+#[derive(Clone, Copy, Debug, PartialEq, Eq)]
+#[non_exhaustive]
+pub struct Stats {
+    pub rounds: u64,
+    /// In them: writes, syncs, compactions, purges.
+    pub changes: u64,
+    /// Of these, those that asked for a sync and were done.
+    pub synced_changes: u64,
+    /// The most changes of a round.
+    pub largest_round: u64,
+    /// Syncs of log files.
+    pub syncs: u64,
+    /// Bytes that were written to log files.
+    pub bytes: u64,
+    /// How long rounds with a sync were at the disk.
+    pub sync_time: Duration,
+}
+
+/// An open log. It may be used by many threads: writers that come at once share a sync, and reads don't
+/// wait for the disk (`raftlog.h`, "Rounds"). It is closed, with a sync, when it is dropped; `close` tells
+/// whether that was done.
 pub struct Engine {
     log: *mut sys::raftlog,
 }
 
-// One call at a time is let in by the C library's mutex.
+// Any thread may make any call but `raftlog_close`, which takes the log itself.
 unsafe impl Send for Engine {}
 unsafe impl Sync for Engine {}
 
@@ -291,7 +314,7 @@ impl Engine {
         }
     }
 
-    // Another thread's call may have failed in between: then the text is that one's.
+    // The text is that of this thread's last failure.
     fn failure(&self, code: c_int) -> Error {
         let mut text = [0u8; 512];
         unsafe { sys::raftlog_message(self.log, text.as_mut_ptr().cast(), text.len()) };
@@ -343,6 +366,21 @@ impl Engine {
     /// Syncs all that was written.
     pub fn sync(&self) -> Result<()> {
         self.done(unsafe { sys::raftlog_sync(self.log) })
+    }
+
+    /// What the log did so far.
+    pub fn stats(&self) -> Result<Stats> {
+        let mut counts = sys::raftlog_counts::default();
+        self.done(unsafe { sys::raftlog_stats(self.log, &mut counts) })?;
+        Ok(Stats {
+            rounds: counts.rounds,
+            changes: counts.changes,
+            synced_changes: counts.synced_changes,
+            largest_round: counts.largest_round,
+            syncs: counts.syncs,
+            bytes: counts.bytes,
+            sync_time: Duration::from_nanos(counts.sync_ns),
+        })
     }
 
     /// The value that a group has at a key.

@@ -20,11 +20,24 @@ pub struct raftlog_bytes {
     pub room: usize,
 }
 
+#[repr(C)]
+#[derive(Default)]
+pub struct raftlog_counts {
+    pub rounds: u64,
+    pub changes: u64,
+    pub synced_changes: u64,
+    pub largest_round: u64,
+    pub syncs: u64,
+    pub bytes: u64,
+    pub sync_ns: u64,
+}
+
 extern "C" {
     pub fn raftlog_bytes_free(bytes: *mut raftlog_bytes);
     pub fn raftlog_open(folder: *const c_char, settings: *const c_char, out: *mut *mut raftlog, text: *mut c_char, room: usize) -> c_int;
     pub fn raftlog_open_memory(settings: *const c_char, out: *mut *mut raftlog, text: *mut c_char, room: usize) -> c_int;
     pub fn raftlog_close(log: *mut raftlog) -> c_int;
+    pub fn raftlog_stats(log: *mut raftlog, counts: *mut raftlog_counts) -> c_int;
     pub fn raftlog_message(log: *mut raftlog, text: *mut c_char, room: usize) -> usize;
     pub fn raftlog_code_text(code: c_int) -> *const c_char;
     pub fn raftlog_write_bytes(log: *mut raftlog, bytes: *const c_void, len: usize, sync: bool) -> c_int;

@@ -122,3 +122,39 @@ fn by_threads() {
     threads.into_iter().for_each(|thread| thread.join().unwrap());
     assert_eq!((1..5).map(|group| log.scan(group, None, None, false, None).unwrap().len()).sum::<usize>(), 4000);
 }
+
+/// Threads that write at once share syncs, and each gets the text of its own failure.
+#[test]
+fn by_rounds() {
+    const WRITERS: u64 = 16;
+    let folder = std::env::temp_dir().join(format!("raftlog-rounds-{}", std::process::id()));
+    let log = Arc::new(Engine::open(&folder, "").unwrap());
+    let write = |group: u64| {
+        let log = Arc::clone(&log);
+        std::thread::spawn(move || {
+            let mut batch = LogBatch::new();
+            for _ in 0..10 {
+                batch.put(group, b"key", b"value");
+                log.write(&mut batch, true).unwrap();
+            }
+            batch.add_entries(group, [(5, b"".as_slice()), (7, b"")]);
+            let error = log.write(&mut batch, true).unwrap_err();
+            assert!(error.code == Code::Gap && error.message.contains("gap"), "{error}");
+            let error = log.fetch_entries(group, 2, 1, None).unwrap_err();
+            assert!(error.code == Code::Invalid && !error.message.contains("gap"), "{error}");
+        })
+    };
+    for turn in 1.. {
+        let threads: Vec<_> = (1..=WRITERS).map(write).collect();
+        threads.into_iter().for_each(|thread| thread.join().unwrap());
+        let stats = log.stats().unwrap();
+        assert_eq!(stats.synced_changes, turn * 10 * WRITERS);
+        assert!(stats.syncs > 0 && stats.bytes > 0 && !stats.sync_time.is_zero(), "{stats:?}");
+        if stats.largest_round > 1 && stats.rounds < stats.changes {
+            break;
+        }
+        assert!(turn < 50, "no sync was shared: {stats:?}");
+    }
+    drop(log);
+    std::fs::remove_dir_all(folder).unwrap();
+}

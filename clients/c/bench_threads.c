@@ -1,0 +1,262 @@
+/* Synced puts by many threads, and a get beside them: `bench_threads FOLDER [WORD=NUMBER]..`. Of
+ * each number of threads each store has its turn, again and again; the best turn counts, with its
+ * spread. seconds=1   of a turn        turns=3      of each store       threads=0    1, 4, 16 and
+ * 64 sync-us=0   a disk of our own: a sync takes so long, and nothing goes to the disk below
+ *   pause-us=0  the most that a writer waits between its puts
+ *   reads=0     1: the time of a get alone and beside the writers
+ *   peers=1     0: this library alone */
+#include "raftlog.h"
+#include "stores.h"
+
+#include <pthread.h>
+#include <stdatomic.h>
+#include <stdbool.h>
+#include <stdio.h>
+#include <stdlib.h>
+#include <string.h>
+#include <sys/prctl.h>
+#include <sys/syscall.h>
+#include <time.h>
+#include <unistd.h>
+
+enum { MOST = 64, STORES = 5, KEYS = 1000, TIMES = 1 << 16 };
+
+static struct {
+    long seconds, turns, threads, sync_us, pause_us, reads, peers;
+} set = {1, 3, 0, 0, 0, 0, 1};
+
+/* ---- the calls of all stores on the disk: what stands here goes before libc's */
+
+static _Atomic uint64_t syncs;
+
+static int sync_by(long call, int fd) {
+    atomic_fetch_add(&syncs, 1);
+    if (!set.sync_us) return (int)syscall(call, fd);
+    static _Thread_local bool is_exact;
+    if (!is_exact) is_exact = !prctl(PR_SET_TIMERSLACK, 1);
+    struct timespec time = {0, set.sync_us * 1000};
+    return nanosleep(&time, NULL);
+}
+
+int fdatasync(int fd) { return sync_by(SYS_fdatasync, fd); }
+int fsync(int fd) { return sync_by(SYS_fsync, fd); }
+
+/* ---- this library */
+
+struct log {
+    raftlog *log;
+    raftlog_batch *batches[MOST];
+};
+
+static void *raftlog_open_at(const char *folder) {
+    char text[400];
+    struct log *log = calloc(1, sizeof *log);
+    if (log && raftlog_open(folder, NULL, &log->log, text, sizeof text))
+        puts(text), free(log), log = NULL;
+    for (int i = 0; log && i < MOST; i++) log->batches[i] = raftlog_batch_new();
+    return log;
+}
+
+static int raftlog_put_one(void *with, uint64_t thread, const uint8_t *key, const uint8_t *value) {
+    struct log *log = with;
+    raftlog_batch *batch = log->batches[thread];
+    return raftlog_batch_put(batch, thread, key, KEY, value, VALUE)
+           || raftlog_write(log->log, batch, true);
+}
+
+static int raftlog_get_one(void *with, const uint8_t *key) {
+    static _Thread_local raftlog_bytes bytes;
+    return raftlog_get(((struct log *)with)->log, 0, key, KEY, &bytes) || bytes.len != VALUE;
+}
+
+static void raftlog_close_it(void *with) {
+    struct log *log = with;
+    if (raftlog_close(log->log)) puts("the close failed");
+    for (int i = 0; i < MOST; i++) raftlog_batch_free(log->batches[i]);
+    free(log);
+}
+
+static const struct store own = {"raftlog", raftlog_open_at, raftlog_put_one, raftlog_get_one,
+                                 raftlog_close_it};
+
+/* ---- a turn of a store */
+
+static double now(void) {
+    struct timespec t;
+    clock_gettime(CLOCK_MONOTONIC, &t);
+    return (double)t.tv_sec + (double)t.tv_nsec * 1e-9;
+}
+
+struct writer {
+    const struct store *store;
+    void *log;
+    uint64_t thread, puts;
+    atomic_bool *stops;
+    float *took; /* of TIMES puts the seconds, again and again */
+    bool failed;
+    pthread_t id;
+};
+
+/* No key begins with two underscores. */
+static void key_of(uint64_t i, uint8_t *key) {
+    uint64_t h = i * 0x9E3779B97F4A7C15ull | 0x80;
+    memcpy(key, &h, 8);
+    memcpy(key + 8, &i, 8);
+}
+
+static void *write_on(void *with) {
+    struct writer *w = with;
+    uint8_t key[KEY], value[VALUE] = {7};
+    unsigned seed = (unsigned)w->thread;
+    while (!atomic_load(w->stops) && !w->failed) {
+        key_of(w->puts, key);
+        double began = now();
+        w->failed = w->store->put(w->log, w->thread, key, value);
+        w->took[w->puts++ % TIMES] = (float)(now() - began);
+        if (set.pause_us) usleep((unsigned)(rand_r(&seed) % (set.pause_us + 1)));
+    }
+    return NULL;
+}
+
+struct result {
+    double puts, syncs, middle,
+        worst; /* a second; microseconds: the middle, and the slowest hundredth */
+};
+
+static int by_size(const void *a, const void *b) {
+    float x = *(const float *)a, y = *(const float *)b;
+    return x < y ? -1 : x > y;
+}
+
+static void take_times(struct result *result, float *took, size_t count) {
+    qsort(took, count, sizeof *took, by_size);
+    if (!count) return;
+    result->middle = took[count / 2] * 1e6;
+    result->worst = took[count * 99 / 100] * 1e6;
+}
+
+/* Gets keys of thread 0 until the time is over. */
+static struct result read_on(const struct store *store, void *log, double until) {
+    static float took[TIMES];
+    struct result result = {0};
+    size_t count = 0;
+    uint8_t key[KEY];
+    for (; count < TIMES && now() < until; count++) {
+        key_of(count * 7919 % KEYS, key);
+        double began = now();
+        if (store->get(log, key)) puts("a get failed"), exit(1);
+        took[count] = (float)(now() - began);
+        usleep(20);
+    }
+    take_times(&result, took, count);
+    return result;
+}
+
+static struct result turn(const struct store *store, const char *folder, long threads) {
+    static struct writer writers[MOST];
+    static float all[MOST * 1024];
+    char command[400];
+    atomic_bool stops = false;
+    void *log = store->open(folder);
+    uint8_t key[KEY], value[VALUE] = {7};
+    if (!log) printf("%s doesn't open\n", store->name), exit(1);
+    long sync_us = set.sync_us;
+    for (uint64_t i = 0; set.reads && i < KEYS; i++)
+        key_of(i, key), store->put(log, 0, key, value);
+    uint64_t before = syncs;
+    double began = now();
+    for (long t = 0; t < threads; t++) {
+        float *took = writers[t].took ? writers[t].took : malloc(TIMES * sizeof *took);
+        writers[t] =
+            (struct writer){store, log, (uint64_t)t + (set.reads != 0), 0, &stops, took, false, 0};
+        if (!took || pthread_create(&writers[t].id, NULL, write_on, &writers[t])) exit(1);
+    }
+    struct result result = {0};
+    if (set.reads) result = read_on(store, log, began + (double)set.seconds);
+    else usleep((unsigned)set.seconds * 1000000);
+    atomic_store(&stops, true);
+    size_t times = 0;
+    for (long t = 0; t < threads; t++) {
+        pthread_join(writers[t].id, NULL);
+        if (writers[t].failed) printf("a put of %s failed\n", store->name), exit(1);
+        result.puts += (double)writers[t].puts;
+        for (uint64_t i = 0; i < 1024 && i < writers[t].puts; i++)
+            all[times++] = writers[t].took[i];
+    }
+    double seconds = now() - began;
+    result.puts /= seconds;
+    result.syncs = (double)(syncs - before) / seconds;
+    if (!set.reads) take_times(&result, all, times);
+    set.sync_us = sync_us;
+    store->close(log);
+    snprintf(command, sizeof command, "rm -rf '%s'", folder);
+    if (system(command)) exit(1);
+    return result;
+}
+
+/* ---- all of them */
+
+static void compare(const struct store **stores, const char *folder, long threads) {
+    struct result best[STORES] = {0};
+    double least[STORES];
+    for (long t = 0; t < set.turns; t++)
+        for (int s = 0; stores[s]; s++) {
+            struct result one = turn(stores[s], folder, threads);
+            bool is_best =
+                set.reads && threads ? !t || one.middle < best[s].middle : one.puts > best[s].puts;
+            if (!t || one.puts < least[s]) least[s] = one.puts;
+            if (!t || is_best) best[s] = one;
+        }
+    for (int s = 0; stores[s]; s++)
+        printf("%7ld %-8s %9.0f %9.0f %9.0f %9.2f %9.1f %9.1f\n", threads, stores[s]->name,
+               best[s].puts, least[s], best[s].syncs,
+               best[s].syncs > 0 ? best[s].puts / best[s].syncs : 0, best[s].middle,
+               best[s].worst);
+}
+
+static bool parse(int argc, char **argv) {
+    struct {
+        const char *word;
+        long *value;
+    } words[] = {{"seconds=", &set.seconds},   {"turns=", &set.turns},
+                 {"threads=", &set.threads},   {"sync-us=", &set.sync_us},
+                 {"pause-us=", &set.pause_us}, {"reads=", &set.reads},
+                 {"peers=", &set.peers}};
+    for (int i = 2; i < argc; i++) {
+        bool is_known = false;
+        for (size_t w = 0; w < sizeof words / sizeof *words; w++) {
+            size_t len = strlen(words[w].word);
+            if (strncmp(argv[i], words[w].word, len)) continue;
+            *words[w].value = atol(argv[i] + len);
+            is_known = true;
+        }
+        if (!is_known) return fprintf(stderr, "no such word: %s\n", argv[i]), false;
+    }
+    return argc > 1 && set.seconds > 0 && set.threads <= MOST;
+}
+
+int main(int argc, char **argv) {
+    if (!parse(argc, argv))
+        return fputs("bench_threads FOLDER "
+                     "[seconds=|turns=|threads=|sync-us=|pause-us=|reads=|peers=NUMBER]..\n",
+                     stderr),
+               2;
+    const struct store *stores[STORES] = {&own};
+    setvbuf(stdout, NULL, _IOLBF, 0);
+    for (int s = 0; set.peers && peers[s].name; s++) {
+        /* It syncs by a flag of a file too, which a disk of our own doesn't slow. */
+        if (set.sync_us && !strcmp(peers[s].name, "LMDB")) continue;
+        for (int at = 1; at < STORES; at++)
+            if (!stores[at]) {
+                stores[at] = &peers[s];
+                break;
+            }
+    }
+    printf("threads store       puts/s     least   syncs/s puts/sync  %s\n",
+           set.reads ? "get: middle, slowest 1% us" : "put: middle, slowest 1% us");
+    if (set.reads) compare(stores, argv[1], 0);
+    long counts[] = {1, 4, 16, 64};
+    for (int i = 0; i < 4; i++)
+        if (!set.threads || set.threads == counts[i]) compare(stores, argv[1], counts[i]);
+    return 0;
+}

@@ -1,0 +1,77 @@
+/* faults.h */
+#include "faults.h"
+
+#include <errno.h>
+#include <pthread.h>
+#include <sys/stat.h>
+#include <sys/types.h>
+
+atomic_int faults_left, faults_orders_left, faults_syncs;
+int faults_error = EIO;
+
+static pthread_mutex_t gate = PTHREAD_MUTEX_INITIALIZER;
+static pthread_cond_t moved = PTHREAD_COND_INITIALIZER;
+static bool is_shut;
+static int at_gate;
+
+static int fails_at(atomic_int *turn) {
+    int left = atomic_load(turn);
+    while (left && !atomic_compare_exchange_weak(turn, &left, left - 1)) {}
+    if (left != 1) return 0;
+    errno = faults_error;
+    return 1;
+}
+
+static int fails(void) { return fails_at(&faults_left); }
+
+void faults_hold_syncs(bool holds) {
+    pthread_mutex_lock(&gate);
+    is_shut = holds;
+    pthread_cond_broadcast(&moved);
+    pthread_mutex_unlock(&gate);
+}
+
+void faults_await_sync(void) {
+    pthread_mutex_lock(&gate);
+    while (!at_gate) pthread_cond_wait(&moved, &gate);
+    pthread_mutex_unlock(&gate);
+}
+
+ssize_t __real_pwrite(int fd, const void *bytes, size_t len, off_t at);
+ssize_t __wrap_pwrite(int fd, const void *bytes, size_t len, off_t at) {
+    if (!fails()) return __real_pwrite(fd, bytes, len, at);
+    if (__real_pwrite(fd, bytes, len / 2, at) < 0) return -1;
+    errno = faults_error;
+    return -1;
+}
+
+ssize_t __real_write(int fd, const void *bytes, size_t len);
+ssize_t __wrap_write(int fd, const void *bytes, size_t len) {
+    return fails_at(&faults_orders_left) ? -1 : __real_write(fd, bytes, len);
+}
+
+int __real_fdatasync(int fd);
+int __wrap_fdatasync(int fd) {
+    pthread_mutex_lock(&gate);
+    at_gate++;
+    pthread_cond_broadcast(&moved);
+    while (is_shut) pthread_cond_wait(&moved, &gate);
+    at_gate--;
+    pthread_mutex_unlock(&gate);
+    if (fails() || __real_fdatasync(fd)) return -1;
+    atomic_fetch_add(&faults_syncs, 1);
+    return 0;
+}
+
+int __real_ftruncate(int fd, off_t len);
+int __wrap_ftruncate(int fd, off_t len) { return fails() ? -1 : __real_ftruncate(fd, len); }
+int __real_fsync(int fd);
+int __wrap_fsync(int fd) { return fails() ? -1 : __real_fsync(fd); }
+int __real_unlink(const char *path);
+int __wrap_unlink(const char *path) { return fails() ? -1 : __real_unlink(path); }
+int __real_rename(const char *from, const char *to);
+int __wrap_rename(const char *from, const char *to) {
+    return fails() ? -1 : __real_rename(from, to);
+}
+int __real_mkdir(const char *path, mode_t mode);
+int __wrap_mkdir(const char *path, mode_t mode) { return fails() ? -1 : __real_mkdir(path, mode); }

@@ -1,0 +1,27 @@
+/* File calls of the library that fail, and syncs that wait, for tests. The linker hands the calls
+ * over
+ * (`--wrap`). */
+#ifndef FAULTS_H
+#define FAULTS_H
+
+#include <stdatomic.h>
+#include <stdbool.h>
+
+/* The file call that fails, counted from now, and its error; 0: none. Of a write that fails half
+ * of the bytes are written. */
+extern atomic_int faults_left;
+extern int faults_error;
+
+/* The order of the proved part that can't be given, counted likewise. */
+extern atomic_int faults_orders_left;
+
+/* Syncs of files that didn't fail. */
+extern atomic_int faults_syncs;
+
+/* Lets each `fdatasync` wait, or go on. */
+void faults_hold_syncs(bool holds);
+
+/* Waits until one waits. */
+void faults_await_sync(void);
+
+#endif

@@ -1,0 +1,556 @@
+/* Large blocks stand in an arena of reserved addresses, each at the beginning of a slot, so that a
+ * block grows in place and begins a page. heap.h says what they are for. */
+#include "heap.h"
+
+#include <errno.h>
+#include <fcntl.h>
+#include <stdatomic.h>
+#include <stdlib.h>
+#include <string.h>
+#include <sys/mman.h>
+#include <sys/stat.h>
+#include <unistd.h>
+
+#ifndef MADV_PAGEOUT
+#define MADV_PAGEOUT 21
+#endif
+
+/* A log's blocks from HEAP_LARGE bytes on are large, and begin a slot of HEAP_SLOT. HEAP_STEP
+ * bytes are compared and mapped at a time. Tests make these smaller. */
+#ifndef HEAP_SLOT
+#define HEAP_SLOT ((size_t)1 << 30)
+#define HEAP_LARGE ((size_t)1 << 20)
+#define HEAP_STEP ((size_t)1 << 18)
+#endif
+
+/* Slots that are reserved, or fewer where these aren't to be had. */
+enum { MOST_SLOTS = 4096, FEWEST_SLOTS = 64 };
+
+/* Steps after which a file that isn't a block's bytes is looked at again; bytes of a file that are
+ * read at a time; how many times as much as a new mapping may stand behind a block already. */
+enum { STEPS_BETWEEN_TRIES = 32, PART = 1 << 16, PART_OF_OTHERS = 16 };
+
+/* Steps that one call makes, so that none takes long. What is left then is made up for by later
+ * writes: a step each time when so much of one was written. */
+enum { MOST_STEPS = 8, ALL_STEPS = 1 << 30, STEPS_FOR_ONE = 4 };
+
+/* Memory that is asked of the system for bytes of no file. */
+enum { OWN = MAP_PRIVATE | MAP_ANONYMOUS | MAP_NORESERVE, BOTH = PROT_READ | PROT_WRITE };
+
+/* In the place of a block's slots: a later slot of it. */
+static const size_t LATER = SIZE_MAX;
+
+struct block {
+    size_t slots;   /* that it takes; 0: the slot is free */
+    size_t size;    /* in bytes, whole pages */
+    uint64_t owner; /* the log's whose call allocated it; 0: no log's */
+    dev_t dev;      /* the file behind it */
+    ino_t ino;      /* 0: none */
+    size_t backed;  /* so many bytes have the file behind them, .. */
+    size_t settled; /* .. but from here on only pages that weren't written since */
+    bool is_lost;   /* a page of it couldn't be read again */
+};
+
+/* `slots_lock` is held for moments, and `slots`, `size`, `owner` and `backed` change under it.
+ * The rest of a log's block belongs to who is let in by that log. */
+static pthread_mutex_t slots_lock = PTHREAD_MUTEX_INITIALIZER;
+static struct block blocks[MOST_SLOTS];
+static size_t slot_count; /* those that are reserved */
+static size_t used;       /* those that were ever used */
+static bool is_refused;   /* the addresses can't be reserved */
+static _Atomic(uint8_t *) arena;
+static size_t page;
+
+static _Atomic uint64_t last_id;
+static _Atomic uint64_t owner_of_all;
+static _Thread_local uint64_t owner_here;
+
+static size_t pages_to(size_t end) { return (end + page - 1) & ~(page - 1); }
+static size_t whole_pages(size_t end) { return end & ~(page - 1); }
+static size_t least(size_t one, size_t other) { return one < other ? one : other; }
+
+/* ---- slots */
+
+/* With `slots_lock` held. */
+static bool is_reserved(void) {
+    if (arena || is_refused) return !is_refused;
+    page = (size_t)sysconf(_SC_PAGESIZE);
+    void *at = MAP_FAILED;
+    slot_count = sizeof at < 8 ? 0 : 2 * MOST_SLOTS;
+    while (at == MAP_FAILED && slot_count / 2 >= FEWEST_SLOTS) {
+        slot_count /= 2;
+        at = mmap(NULL, HEAP_SLOT * slot_count, PROT_NONE, OWN, -1, 0);
+    }
+    is_refused = at == MAP_FAILED;
+    if (!is_refused) arena = at;
+    return !is_refused;
+}
+
+/* Addresses below the arena make a distance that is greater than it. */
+static bool is_large(const void *at) {
+    return arena && (uintptr_t)at - (uintptr_t)arena < HEAP_SLOT * slot_count;
+}
+
+static uint8_t *start_of(const struct block *block) {
+    return arena + (size_t)(block - blocks) * HEAP_SLOT;
+}
+
+static struct block *block_at(const void *at) {
+    return &blocks[(size_t)((const uint8_t *)at - arena) / HEAP_SLOT];
+}
+
+static bool is_block(const struct block *block) { return block->slots && block->slots != LATER; }
+
+/* The first of so many free slots side by side, or `slot_count`. With `slots_lock` held. */
+static size_t free_run(size_t count) {
+    size_t run = 0;
+    for (size_t i = 0; i < slot_count; i++) {
+        run = blocks[i].slots ? 0 : run + 1;
+        if (run == count) return i + 1 - count;
+    }
+    return slot_count;
+}
+
+/* The log whose call this is; 0: none. */
+static uint64_t owner(void) { return owner_here ? owner_here : owner_of_all; }
+
+static void mark(struct block *block, size_t count, size_t size) {
+    for (size_t i = 0; i < count; i++) block[i] = (struct block){.slots = i ? LATER : count};
+    block->size = size;
+    block->owner = owner();
+}
+
+static void unmark(struct block *block) {
+    pthread_mutex_lock(&slots_lock);
+    for (size_t i = block->slots; i--;) block[i] = (struct block){0};
+    pthread_mutex_unlock(&slots_lock);
+}
+
+static struct block *take(size_t size) {
+    struct block *block = NULL;
+    pthread_mutex_lock(&slots_lock);
+    if (is_reserved() && size <= HEAP_SLOT * (slot_count / 2)) {
+        size_t count = (size + HEAP_SLOT - 1) / HEAP_SLOT, first = free_run(count);
+        if (first < slot_count) {
+            block = &blocks[first];
+            mark(block, count, pages_to(size));
+            if (used < first + count) used = first + count;
+        }
+    }
+    pthread_mutex_unlock(&slots_lock);
+    if (block && mprotect(start_of(block), block->size, BOTH)) return unmark(block), NULL;
+    return block;
+}
+
+/* Takes memory and whatever file stands behind it away from these addresses. */
+static bool empty(uint8_t *at, size_t len) {
+    return mmap(at, len, PROT_NONE, MAP_FIXED | OWN, -1, 0) != MAP_FAILED;
+}
+
+static void say(struct block *block, size_t size, size_t backed) {
+    pthread_mutex_lock(&slots_lock);
+    block->size = size;
+    block->backed = backed;
+    pthread_mutex_unlock(&slots_lock);
+    block->settled = least(block->settled, backed);
+}
+
+/* Whether a block has this size now. */
+static bool resize(struct block *block, size_t size) {
+    if (size > block->slots * HEAP_SLOT) return false;
+    size_t len = pages_to(size), old = block->size;
+    uint8_t *at = start_of(block);
+    if (len > old && mprotect(at + old, len - old, BOTH)) return false;
+    if (len < old && !empty(at + len, old - len)) return true;
+    say(block, len, least(block->backed, len));
+    return true;
+}
+
+/* ---- blocks */
+
+void *heap_alloc(size_t size) {
+    if (size < HEAP_LARGE || !owner()) return malloc(size);
+    struct block *block = take(size);
+    return block ? start_of(block) : malloc(size);
+}
+
+void heap_free(void *at) {
+    if (!is_large(at)) {
+        free(at);
+        return;
+    }
+    struct block *block = block_at(at);
+    if (empty(at, block->size)) {
+        unmark(block);
+        return;
+    }
+    /* A file may stand behind it still, so its slots aren't used again. */
+    pthread_mutex_lock(&slots_lock);
+    block->owner = 0;
+    pthread_mutex_unlock(&slots_lock);
+}
+
+size_t heap_size(const void *at) { return is_large(at) ? block_at(at)->size : 0; }
+
+void *heap_realloc(void *at, size_t old, size_t size) {
+    if (!at) return heap_alloc(size);
+    bool was_large = is_large(at);
+    if (!was_large && (size < HEAP_LARGE || old >= HEAP_LARGE || !owner()))
+        return realloc(at, size);
+    if (was_large && size >= HEAP_LARGE && resize(block_at(at), size)) return at;
+    void *to = heap_alloc(size);
+    if (!to) return size < old ? at : NULL;
+    memcpy(to, at, least(old, size));
+    heap_free(at);
+    return to;
+}
+
+/* ---- logs */
+
+void heap_begin(struct heap *heap, pthread_mutex_t *lock) {
+    *heap = (struct heap){.id = atomic_fetch_add(&last_id, 1) + 1, .lock = lock};
+}
+
+void heap_enter(const struct heap *heap) { owner_here = heap->id; }
+
+void heap_leave(void) { owner_here = 0; }
+
+void heap_own_all(const struct heap *heap) { owner_of_all = heap->id; }
+
+/* Nobody else reads or writes the log's blocks until `let_in`. */
+static void keep_out(struct heap *heap) {
+    if (heap->lock) pthread_mutex_lock(heap->lock);
+}
+
+static void let_in(struct heap *heap) {
+    if (heap->lock) pthread_mutex_unlock(heap->lock);
+}
+
+/* The next of the log's blocks from a slot on, or NULL. */
+static struct block *next_block(const struct heap *heap, const struct block *from) {
+    struct block *found = NULL;
+    pthread_mutex_lock(&slots_lock);
+    for (size_t i = (size_t)(from - blocks); i < used && !found; i++)
+        if (is_block(&blocks[i]) && blocks[i].owner == heap->id) found = &blocks[i];
+    pthread_mutex_unlock(&slots_lock);
+    return found;
+}
+
+/* ---- what stands behind a block */
+
+static struct block *block_of(const struct heap_file *file) {
+    struct block *block = next_block(file->heap, blocks);
+    while (block && (block->ino != file->ino || block->dev != file->dev))
+        block = next_block(file->heap, block + 1);
+    return block;
+}
+
+/* Whether the file's bytes between two places are these. */
+static bool are_same(struct heap_file *file, const uint8_t *at, size_t from, size_t end) {
+    if (!file->part && !(file->part = malloc(PART))) return false;
+    while (from < end) {
+        ssize_t got = pread(file->fd, file->part, least(end - from, PART), (off_t)from);
+        if (got < 0 && errno == EINTR) continue;
+        if (got <= 0 || memcmp(file->part, at + from, (size_t)got)) return false;
+        from += (size_t)got;
+    }
+    return true;
+}
+
+/* Puts what is mapped elsewhere in the place of these addresses, at once for who reads them. */
+static bool move_over(void *mapped, size_t len, uint8_t *at) {
+    if (mremap(mapped, len, len, MREMAP_MAYMOVE | MREMAP_FIXED, at) != MAP_FAILED) return true;
+    munmap(mapped, len);
+    return false;
+}
+
+/* Maps the file over a part of the block. It is mapped elsewhere first, since a mapping at these
+ * addresses that fails may leave a hole. */
+static bool map_over(struct heap_file *file, struct block *block, size_t from, size_t end) {
+    int flags = MAP_PRIVATE | MAP_NORESERVE;
+    void *mapped = mmap(NULL, end - from, BOTH, flags, file->fd, (off_t)from);
+    if (mapped == MAP_FAILED) return false;
+    if (file->heap->at_random) madvise(mapped, end - from, MADV_RANDOM);
+    return move_over(mapped, end - from, start_of(block) + from);
+}
+
+static bool can_be_of(struct heap_file *file, const struct block *block, size_t end) {
+    if (block->ino || block->size < end) return false;
+    return are_same(file, start_of(block), 0, least(end, HEAP_STEP));
+}
+
+/* A block without a file that begins as this one, and has room for so many of its bytes. */
+static struct block *find_block(struct heap_file *file, size_t end) {
+    struct block *block = next_block(file->heap, blocks);
+    while (block && !can_be_of(file, block, end)) block = next_block(file->heap, block + 1);
+    if (!block) return NULL;
+    block->ino = file->ino;
+    block->dev = file->dev;
+    return block;
+}
+
+/* How many bytes a step takes, at least. A new descriptor makes a mapping of its own, of which a
+ * process has a bounded number: so it brings a part of what the file's others have. */
+static size_t least_step(const struct heap_file *file, const struct block *block, bool all) {
+    size_t step = all ? page : HEAP_STEP, part = block->settled / PART_OF_OTHERS;
+    return file->is_mapped || part < step ? step : part;
+}
+
+/* Puts one step of the file behind its block: whether that was done. */
+static bool back_step(struct heap_file *file, size_t end, bool all) {
+    struct block *block = block_of(file);
+    if (!block && end >= (all ? page : HEAP_STEP)) block = find_block(file, end);
+    file->next = end + STEPS_BETWEEN_TRIES * HEAP_STEP;
+    if (!block) return false;
+    size_t from = whole_pages(block->settled), step = least_step(file, block, all);
+    size_t to = least(least(end, block->size), from + HEAP_STEP);
+    if (to < from + page || end < from + step) return file->next = from + step, false;
+    if (!are_same(file, start_of(block), from, to)) return false;
+    if (!map_over(file, block, from, to)) return false;
+    if (block->backed < to) say(block, block->size, to);
+    block->settled = to;
+    file->backed = block->backed;
+    file->next = to + (all ? page : HEAP_STEP);
+    file->is_mapped = true;
+    return true;
+}
+
+/* Puts the file behind its block as far as it is safe, in whole steps, or to its last page:
+ * whether nothing is left to be done after so many steps. */
+static bool back(struct heap_file *file, bool all, int steps) {
+    struct stat found;
+    if (!arena || fstat(file->fd, &found)) return true;
+    size_t end = whole_pages(least(file->safe, (size_t)found.st_size));
+    bool is_done = true;
+    for (; is_done && steps; steps--) {
+        keep_out(file->heap);
+        is_done = back_step(file, end, all);
+        let_in(file->heap);
+    }
+    return !is_done;
+}
+
+/* Makes the block's bytes from a page on its own again. */
+static int own_from(struct block *block, size_t from) {
+    if (from >= block->backed) return 0;
+    size_t len = block->backed - from;
+    uint8_t *at = start_of(block) + from;
+    void *copy = mmap(NULL, len, BOTH, OWN, -1, 0);
+    if (copy == MAP_FAILED) return ENOMEM;
+    memcpy(copy, at, len);
+    if (!move_over(copy, len, at)) return ENOMEM;
+    say(block, block->size, from);
+    if (!from) block->ino = 0;
+    return 0;
+}
+
+/* ---- what is left of a file that was let go */
+
+static void drop_rest(struct heap *heap) {
+    if (heap->rest.heap) close(heap->rest.fd);
+    free(heap->rest.part);
+    heap->rest = (struct heap_file){0};
+}
+
+static void keep_rest(struct heap_file *file) {
+    struct heap *heap = file->heap;
+    if (heap->rest.heap) back(&heap->rest, true, ALL_STEPS);
+    drop_rest(heap);
+    int fd = fcntl(file->fd, F_DUPFD_CLOEXEC, 0);
+    if (fd < 0) {
+        free(file->part);
+        return;
+    }
+    heap->rest = *file;
+    heap->rest.fd = fd;
+}
+
+/* After so many bytes were written: goes on with the rest, or with this file. */
+static void make_up(struct heap_file *file, size_t len) {
+    struct heap *heap = file->heap;
+    heap->due += len;
+    while (heap->due >= HEAP_STEP / STEPS_FOR_ONE) {
+        heap->due -= HEAP_STEP / STEPS_FOR_ONE;
+        bool is_rest = heap->rest.heap;
+        if (is_rest && back(&heap->rest, true, 1)) drop_rest(heap);
+        if (!is_rest && (file->safe < file->next || back(file, false, 1))) heap->due = 0;
+    }
+}
+
+void heap_end(struct heap *heap) {
+    drop_rest(heap);
+    heap->id = 0;
+}
+
+/* ---- a file */
+
+void heap_take_up(struct heap_file *file, struct heap *heap, int fd) {
+    struct stat found;
+    *file = (struct heap_file){0};
+    if (!heap->id || fstat(fd, &found) || !S_ISREG(found.st_mode)) return;
+    *file = (struct heap_file){.heap = heap, .fd = fd, .dev = found.st_dev, .ino = found.st_ino};
+    if (heap->rest.heap && heap->rest.ino == file->ino && heap->rest.dev == file->dev) {
+        file->written = heap->rest.written;
+        file->safe = heap->rest.safe;
+        drop_rest(heap);
+    }
+    keep_out(heap);
+    struct block *block = block_of(file);
+    if (block) file->backed = block->backed;
+    let_in(heap);
+}
+
+/* Before these bytes of the file are written: makes the block's own what it stands behind. */
+static void own_written(struct heap_file *file, uint64_t at, size_t len) {
+    keep_out(file->heap);
+    struct block *block = block_of(file);
+    if (block) {
+        volatile uint8_t *bytes = start_of(block);
+        size_t end = least(pages_to(at + len), block->backed);
+        /* A page that is written is the block's own, whatever it is written with. */
+        for (size_t i = whole_pages(at); i < end; i += page) bytes[i] = bytes[i];
+        block->settled = least(block->settled, at);
+        file->next = 0;
+    }
+    let_in(file->heap);
+}
+
+void heap_before_write(struct heap_file *file, uint64_t at, size_t len) {
+    if (!file->heap || !len) return;
+    if (file->written < at + len) file->written = at + len;
+    if (file->safe > at) file->safe = at;
+    if (at < file->backed) own_written(file, at, len);
+    make_up(file, len);
+}
+
+int heap_before_cut(struct heap_file *file, uint64_t size) {
+    if (!file->heap) return 0;
+    if (file->written > size) file->written = size;
+    if (file->safe > size) file->safe = size;
+    if (size >= file->backed) return 0;
+    keep_out(file->heap);
+    struct block *block = block_of(file);
+    int error = block ? own_from(block, whole_pages(size)) : 0;
+    let_in(file->heap);
+    return error;
+}
+
+void heap_synced(struct heap_file *file) {
+    if (!file->heap) return;
+    file->safe = file->written;
+    if (file->safe >= file->next) back(file, false, MOST_STEPS);
+}
+
+void heap_let_go(struct heap_file *file) {
+    if (file->heap && file->heap->id && !back(file, true, MOST_STEPS)) keep_rest(file);
+    else free(file->part);
+    *file = (struct heap_file){0};
+}
+
+/* A block without a file that has these bytes. */
+static struct block *find_copy(struct heap *heap, const uint8_t *bytes, size_t len) {
+    struct block *block = next_block(heap, blocks);
+    while (block && (block->ino || block->size < len || memcmp(start_of(block), bytes, len)))
+        block = next_block(heap, block + 1);
+    return block;
+}
+
+/* Whether the mapping was taken, also where it then couldn't be put over the block. */
+static bool put_over(const struct heap_file *file, uint8_t *mapped, size_t end) {
+    struct block *block = find_copy(file->heap, mapped, end);
+    if (!block || mprotect(mapped, end, BOTH)) return false;
+    madvise(mapped, end, file->heap->at_random ? MADV_RANDOM : MADV_NORMAL);
+    if (!move_over(mapped, end, start_of(block))) return true;
+    say(block, block->size, end);
+    block->settled = end;
+    block->ino = file->ino;
+    block->dev = file->dev;
+    return true;
+}
+
+void heap_loaded(struct heap *heap, int fd, uint8_t *mapped, size_t len) {
+    struct heap_file file;
+    heap_take_up(&file, heap, fd);
+    size_t end = file.heap && arena ? whole_pages(len) : 0, taken = 0;
+    keep_out(heap);
+    if (end && put_over(&file, mapped, end)) taken = end;
+    let_in(heap);
+    if (taken < len) munmap(mapped + taken, len - taken);
+}
+
+/* ---- pages that can't be read again */
+
+bool heap_lose_page(void *at) {
+    if (!is_large(at)) return false;
+    struct block *block = block_at(at);
+    while (block > blocks && block->slots == LATER) block--;
+    uint8_t *lost = (uint8_t *)((uintptr_t)at & ~(uintptr_t)(page - 1));
+    if (!block->slots || (size_t)(lost - start_of(block)) >= block->backed) return false;
+    block->is_lost = true;
+    return mmap(lost, page, BOTH, MAP_FIXED | OWN, -1, 0) != MAP_FAILED;
+}
+
+bool heap_opening_lost(struct heap *heap) {
+    if (!heap->id || heap->was_opened) return false;
+    heap->was_opened = true;
+    struct block *block = next_block(heap, blocks);
+    while (block && !block->is_lost) block = next_block(heap, block + 1);
+    return block;
+}
+
+/* ---- settings, figures, tests */
+
+void heap_expect_reads(struct heap *heap, bool at_random) {
+    if (!heap->id) return;
+    int advice = at_random ? MADV_RANDOM : MADV_NORMAL;
+    keep_out(heap);
+    heap->at_random = at_random;
+    struct block *block = next_block(heap, blocks);
+    for (; block; block = next_block(heap, block + 1))
+        if (block->backed) madvise(start_of(block), block->backed, advice);
+    let_in(heap);
+}
+
+void heap_stat(size_t *count, size_t *bytes, size_t *backed) {
+    *count = *bytes = *backed = 0;
+    pthread_mutex_lock(&slots_lock);
+    for (size_t i = 0; i < used; i++) {
+        if (!is_block(&blocks[i])) continue;
+        ++*count;
+        *bytes += blocks[i].size;
+        *backed += blocks[i].backed;
+    }
+    pthread_mutex_unlock(&slots_lock);
+}
+
+/* A block may be freed meanwhile, and another one stand there, of which no byte is lost either. */
+void heap_page_out(void) {
+    for (size_t i = 0; i < MOST_SLOTS; i++) {
+        pthread_mutex_lock(&slots_lock);
+        size_t len = i < used && is_block(&blocks[i]) ? blocks[i].backed : 0;
+        pthread_mutex_unlock(&slots_lock);
+        if (len) madvise(start_of(&blocks[i]), len, MADV_PAGEOUT);
+    }
+}
+
+/* ---- what the proved part allocates by, in place of the kit's libc/c/heap.c */
+
+struct got {
+    uint64_t is_got;
+    void *at;
+};
+
+static struct got got_of(void *at) {
+    static uint8_t nothing[16];
+    return (struct got){at != NULL, at ? at : nothing};
+}
+
+struct got rattle_alloc(size_t size, size_t align) {
+    return got_of(heap_alloc(size ? size : align));
+}
+
+struct got rattle_realloc(void *at, size_t old, size_t size, size_t align) {
+    return got_of(heap_realloc(at, old, size ? size : align));
+}
+
+void rattle_dealloc(void *at) { heap_free(at); }

@@ -1,0 +1,208 @@
+/* A log larger than memory: `large FOLDER WORDS`. Pages that have a file behind them are taken
+ * back TAKE_BACK times a second, if that is set. The words are
+ * - write COUNT SYNC_EACH: batches of four entries of 1,000 bytes, in turn to 100 groups;
+ * - read COUNT [random]: entries in no order, cold, beside bare preads; then all in order;
+ * - purge KEEP: all but so many entries of each group go. */
+#include "heap.h"
+#include "raftlog.h"
+
+#include <dirent.h>
+#include <fcntl.h>
+#include <stdio.h>
+#include <stdlib.h>
+#include <string.h>
+#include <time.h>
+#include <unistd.h>
+
+enum { GROUPS = 100, PER_BATCH = 4, SIZE = 1000, BLOCK = PER_BATCH * (SIZE + 8), FILES = 1024 };
+
+static double begun;
+
+static double now(void) {
+    struct timespec time;
+    clock_gettime(CLOCK_MONOTONIC, &time);
+    return (double)time.tv_sec + (double)time.tv_nsec * 1e-9;
+}
+
+/* The number behind a word at the beginning of a line of the system's. */
+static long number_of(const char *path, const char *word) {
+    char line[200];
+    long number = 0;
+    FILE *file = fopen(path, "r");
+    while (file && fgets(line, sizeof line, file)) {
+        char *value = strpbrk(line, "0123456789");
+        if (value && !strncmp(line, word, strlen(word))) number = atol(value);
+    }
+    if (file) fclose(file);
+    return number;
+}
+
+/* How long it took since the last one, in all and each, and the memory that is held now. */
+static void tell(const char *what, double count) {
+    double took = now() - begun;
+    const char *status = "/proc/self/status";
+    printf("%s: %.1f s, %.1f us each; most %ld MB, own %ld MB, files' %ld MB\n", what, took,
+           took * 1e6 / count, number_of(status, "VmHWM") / 1024,
+           number_of(status, "RssAnon") / 1024, number_of(status, "RssFile") / 1024);
+    fflush(stdout);
+    begun = now();
+}
+
+static void need(int code, const char *what) {
+    if (!code) return;
+    printf("%s: %s\n", what, raftlog_code_text(code));
+    exit(1);
+}
+
+static void *take_back(void *with) {
+    struct timespec pause = {.tv_nsec = 1000000000 / *(long *)with};
+    for (;;) {
+        nanosleep(&pause, NULL);
+        heap_page_out();
+    }
+    return NULL;
+}
+
+static uint64_t random_below(uint64_t bound) {
+    static uint64_t state = 1;
+    state = state * 6364136223846793005ull + 1442695040888963407ull;
+    return (state >> 20) % bound;
+}
+
+/* ---- the log files themselves */
+
+static int log_files[FILES], log_file_count;
+static off_t log_file_sizes[FILES];
+
+static void open_files(const char *folder) {
+    DIR *dir = opendir(folder);
+    for (struct dirent *entry; dir && (entry = readdir(dir)) && log_file_count < FILES;) {
+        char path[1000];
+        snprintf(path, sizeof path, "%s/%s", folder, entry->d_name);
+        int fd = strstr(entry->d_name, ".raftlog") ? open(path, O_RDONLY) : -1;
+        off_t size = fd < 0 ? 0 : lseek(fd, 0, SEEK_END);
+        if (size < 2 * BLOCK) continue;
+        log_files[log_file_count] = fd;
+        log_file_sizes[log_file_count++] = size;
+    }
+    if (dir) closedir(dir);
+}
+
+/* Nothing of the log files is in memory then. */
+static void make_cold(void) {
+    heap_page_out();
+    for (int i = 0; i < log_file_count; i++)
+        posix_fadvise(log_files[i], 0, 0, POSIX_FADV_DONTNEED);
+}
+
+/* ---- what is measured */
+
+static void write_batches(raftlog *log, uint64_t count, uint64_t sync_each) {
+    uint8_t value[SIZE];
+    double longest = 0;
+    raftlog_batch *batch = raftlog_batch_new();
+    for (uint64_t i = 0; i < SIZE; i++) value[i] = (uint8_t)random_below(256);
+    for (uint64_t i = 0; i < count; i++) {
+        uint64_t group = 1 + i % GROUPS, last = 0;
+        raftlog_entry entries[PER_BATCH];
+        if (raftlog_last_index(log, group, &last)) last = 0;
+        for (uint64_t k = 0; k < PER_BATCH; k++)
+            entries[k] = (raftlog_entry){last + 1 + k, value, SIZE};
+        need(raftlog_batch_entries(batch, group, entries, PER_BATCH), "batch");
+        double from = now();
+        need(raftlog_write(log, batch, sync_each && i % sync_each == 0), "write");
+        if (longest < now() - from) longest = now() - from;
+    }
+    raftlog_batch_free(batch);
+    printf("the longest write: %.1f ms\n", longest * 1e3);
+    tell("written, each entry", (double)count * PER_BATCH);
+}
+
+static double read_one(raftlog *log, raftlog_bytes *bytes) {
+    uint64_t group = 1 + random_below(GROUPS), first, last;
+    need(raftlog_first_index(log, group, &first), "first_index");
+    need(raftlog_last_index(log, group, &last), "last_index");
+    double from = now();
+    need(raftlog_get_entry(log, group, first + random_below(last - first + 1), bytes),
+         "get_entry");
+    return now() - from;
+}
+
+static double read_bare(void) {
+    static uint8_t bytes[BLOCK];
+    int i = (int)random_below((uint64_t)log_file_count);
+    off_t at = (off_t)random_below((uint64_t)(log_file_sizes[i] - BLOCK));
+    double from = now();
+    if (pread(log_files[i], bytes, BLOCK, at) != BLOCK) need(RAFTLOG_IO, "pread");
+    return now() - from;
+}
+
+static void read_at_random(raftlog *log, uint64_t count) {
+    raftlog_bytes bytes = {0};
+    double took = 0, bare = 0;
+    for (uint64_t i = 0; i < count; i++) {
+        if (i % 32 == 0) make_cold();
+        took += read_one(log, &bytes);
+        bare += read_bare();
+    }
+    printf("a cold entry: %.1f us; a bare pread of a block: %.1f us; %.2f times\n",
+           took * 1e6 / (double)count, bare * 1e6 / (double)count, took / bare);
+    raftlog_bytes_free(&bytes);
+    tell("read at random", (double)count);
+}
+
+static void read_in_order(raftlog *log) {
+    raftlog_bytes bytes = {0};
+    uint64_t first, last, count = 0;
+    for (uint64_t group = 1; group <= GROUPS; group++) {
+        need(raftlog_first_index(log, group, &first), "first_index");
+        need(raftlog_last_index(log, group, &last), "last_index");
+        for (uint64_t at = first; at <= last; at += 100) {
+            uint64_t end = at + 100 < last + 1 ? at + 100 : last + 1;
+            need(raftlog_fetch_entries(log, group, at, end, 0, &bytes), "fetch");
+            count += end - at;
+        }
+    }
+    raftlog_bytes_free(&bytes);
+    tell("fetched in order, each entry", (double)count);
+}
+
+static void purge(raftlog *log, uint64_t keep) {
+    uint64_t last, count;
+    for (uint64_t group = 1; group <= GROUPS; group++) {
+        need(raftlog_last_index(log, group, &last), "last_index");
+        need(raftlog_compact_to(log, group, last > keep ? last - keep : 1, NULL), "compact_to");
+    }
+    tell("compacted, each group", GROUPS);
+    need(raftlog_must_rewrite_append_queue(log, &count), "rewrite");
+    printf("files dropped: %lu\n", (unsigned long)count);
+    tell("rewritten", 1);
+}
+
+int main(int argc, char **argv) {
+    if (argc < 4) return 2;
+    char text[300];
+    raftlog *log;
+    pthread_t thread;
+    const char *times = getenv("TAKE_BACK"), *what = argv[2];
+    long each = times ? atol(times) : 0;
+    uint64_t count = strtoull(argv[3], NULL, 10);
+    if (each > 0 && pthread_create(&thread, NULL, take_back, &each)) return 1;
+    begun = now();
+    int code = raftlog_open(argv[1], NULL, &log, text, sizeof text);
+    if (code) return printf("%s\n", text), 1;
+    tell("opened", 1);
+    uint64_t sync_each = argc > 4 ? strtoull(argv[4], NULL, 10) : 0;
+    if (!strcmp(what, "write")) write_batches(log, count, sync_each);
+    if (!strcmp(what, "purge")) purge(log, count);
+    if (!strcmp(what, "read")) {
+        open_files(argv[1]);
+        raftlog_expect_reads(log, argc > 4);
+        read_at_random(log, count);
+        read_in_order(log);
+    }
+    need(raftlog_close(log), "close");
+    tell("closed", 1);
+    printf("written to the disk: %ld MB\n", number_of("/proc/self/io", "write_bytes") >> 20);
+    return 0;
+}

@@ -1,0 +1,340 @@
+/* Rounds: changes that wait are carried out together, by the first of the threads that wait, which
+ * leads. A change is put in the queue by one exchange, and links to the one before it; a leader
+ * links them the other way round, as far as they have come. */
+#include "parts.h"
+
+#include <errno.h>
+#include <limits.h>
+#include <linux/futex.h>
+#include <stdlib.h>
+#include <sys/syscall.h>
+#include <time.h>
+#include <unistd.h>
+
+enum { WAITS, LEADS, IS_ANSWERED };
+
+/* Whoever comes behind this finds a closed log. */
+static struct parts_change closed;
+
+/* The caller of a change that was answered may be gone, and a log that no read is in any more
+ * freed. So a wake-up may go to an address that is another's by then, who looks again, as each one
+ * who waits at an address has to; it reads nothing there. */
+static void wake(void *at, int count) { syscall(SYS_futex, at, FUTEX_WAKE_PRIVATE, count, NULL); }
+
+static void sleep_while(void *at, int value) {
+    syscall(SYS_futex, at, FUTEX_WAIT_PRIVATE, value, NULL);
+}
+
+static void tell(struct parts_change *change, int state) {
+    atomic_store_explicit(&change->state, state, memory_order_release);
+    wake(&change->state, 1);
+}
+
+static int await(struct parts_change *change) {
+    int state;
+    while ((state = atomic_load_explicit(&change->state, memory_order_acquire)) == WAITS)
+        sleep_while(&change->state, WAITS);
+    return state;
+}
+
+static uint64_t now_ns(void) {
+    struct timespec t;
+    clock_gettime(CLOCK_MONOTONIC, &t);
+    return (uint64_t)t.tv_sec * 1000000000u + (uint64_t)t.tv_nsec;
+}
+
+/* ---- the groups that a change changes */
+
+static void touch(raftlog *log, uint64_t group) { *parts_touched(log, group) = log->handed; }
+
+/* Passes over as many parts with their lengths before them. */
+static bool pass_parts(const uint8_t **at, size_t *left, uint64_t count) {
+    for (; count; count--) {
+        if (*left < 8) return false;
+        uint64_t len = parts_number(*at);
+        if (*left - 8 < len) return false;
+        *at += 8 + len;
+        *left -= 8 + len;
+    }
+    return true;
+}
+
+/* The groups of a batch, whose bytes may be anything: what is no batch is refused. */
+static void touch_batch(raftlog *log, const uint8_t *at, size_t left) {
+    if (left < 8) return;
+    uint64_t count = parts_number(at);
+    for (at += 8, left -= 8; count && left >= 9; count--) {
+        uint8_t kind = *at;
+        touch(log, parts_number(at + 1));
+        at += 9, left -= 9;
+        uint64_t parts = kind == 1 ? 2 : kind == 2 ? 1 : 0;
+        if (kind == 3 || kind == 5) {
+            if (left < 8) return;
+            if (kind == 3) parts = parts_number(at);
+            at += 8, left -= 8;
+        }
+        if (!pass_parts(&at, &left, parts)) return;
+    }
+}
+
+static void touch_all(raftlog *log, const struct parts_change *change) {
+    if (change->bytes) touch_batch(log, change->bytes, change->len);
+    for (size_t i = 0; i < change->count; i++) touch(log, change->groups[i]);
+    if (change->kind == PARTS_COMPACT_TO) touch(log, change->group);
+}
+
+/* ---- a round */
+
+struct round {
+    struct parts_change *first, *last;
+};
+
+static struct parts_change *after(const struct round *round, const struct parts_change *change) {
+    return change == round->last ? NULL : change->newer;
+}
+
+static void call(raft_c_handle *handle, const struct parts_change *change, bool sync) {
+    static const uint64_t no_number[1];
+    const uint64_t *groups = change->count ? change->groups : no_number;
+    const uint64_t *numbers = change->count ? change->numbers : no_number;
+    switch (change->kind) {
+    case PARTS_WRITE: raft_c_write(handle, change->bytes, change->len, sync); break;
+    case PARTS_WRITE_ONCE:
+        raft_c_write_once(handle, change->bytes, change->len, groups, change->count, numbers,
+                          change->count, sync);
+        break;
+    case PARTS_SYNC: raft_c_sync(handle); break;
+    case PARTS_COMPACT_TO: raft_c_compact_to(handle, change->group, change->index); break;
+    case PARTS_REWRITE_APPEND: raft_c_must_rewrite_append_queue(handle); break;
+    case PARTS_REWRITE_REWRITE: raft_c_must_rewrite_rewrite_queue(handle); break;
+    case PARTS_PURGE_STALE: raft_c_must_purge_all_stale(handle); break;
+    /* No file is kept for anybody. */
+    case PARTS_PURGE_EXPIRED: raft_c_purge_expired_files(handle, UINT64_MAX); break;
+    case PARTS_CLOSE: raft_c_close(handle); break;
+    }
+}
+
+/* Hands a change to the proved part, and takes its answer, which the next call writes over: what
+ * the log has done, if the round's orders are carried out. */
+static void hand_over(raftlog *log, struct parts_change *change, bool sync) {
+    pthread_mutex_lock(&log->lock);
+    log->handed = atomic_load_explicit(&log->done, memory_order_relaxed) + 1;
+    touch_all(log, change);
+    heap_enter(&log->heap);
+    call(&log->handle, change, sync);
+    change->code = raft_c_settle(&log->handle, true);
+    heap_leave();
+    if (change->code) {
+        change->text = parts_answered_text(log);
+    } else if (change->answer) {
+        uint64_t len = raft_c_answer(&log->handle, change->answer->data, change->answer->room);
+        if (!parts_take_answer(log, change->answer, len)) change->code = RAFTLOG_NO_MEMORY;
+    } else if (change->kind >= PARTS_COMPACT_TO) {
+        uint64_t other;
+        raft_c_numbers(&log->handle, &change->found, &other);
+    }
+    pthread_mutex_unlock(&log->lock);
+}
+
+static void fail(struct parts_change *change, int code, const char *text) {
+    free(change->text);
+    change->code = code;
+    change->text = text ? strdup(text) : NULL;
+}
+
+/* What the round changed in memory is given up with the log, and so are its refusals, which spoke
+ * of it: nobody was answered. */
+static void give_up(raftlog *log, const struct round *round) {
+    pthread_mutex_lock(&log->lock);
+    raft_c_settle(&log->handle, false);
+    pthread_mutex_unlock(&log->lock);
+    atomic_store(&log->lost, log->handed);
+    for (struct parts_change *at = round->first; at; at = after(round, at))
+        fail(at, RAFTLOG_IO, log->broken);
+}
+
+/* Carries the orders of a round out: whether they all were. */
+static bool obey(raftlog *log, bool syncs) {
+    if (!syncs) return !parts_obey(log);
+    uint64_t began = now_ns();
+    bool is_done = !parts_obey(log);
+    parts_add(&log->counts.sync_ns, now_ns() - began);
+    return is_done;
+}
+
+/* One sync for all of the round: false where it is refused, which fails the log. */
+static bool sync_round(raftlog *log) {
+    struct parts_change sync = {.kind = PARTS_SYNC, .sync = true};
+    hand_over(log, &sync, true);
+    if (sync.code) parts_break(log, sync.text ? sync.text : raftlog_code_text(sync.code));
+    free(sync.text);
+    return !sync.code;
+}
+
+/* A round of many: all of them have their answers then. */
+static void carry_out_many(raftlog *log, const struct round *round) {
+    bool syncs = false;
+    for (struct parts_change *at = round->first; at; at = after(round, at)) {
+        /* A sync is the round's own. */
+        if (at->kind != PARTS_SYNC) hand_over(log, at, false);
+        syncs |= at->sync && !at->code;
+    }
+    if ((syncs && !sync_round(log)) || !obey(log, syncs)) give_up(log, round);
+}
+
+static void carry_out(raftlog *log, const struct round *round) {
+    if (*log->broken) {
+        for (struct parts_change *at = round->first; at; at = after(round, at))
+            fail(at, RAFTLOG_FAILED, log->broken);
+    } else if (round->first != round->last) {
+        carry_out_many(log, round);
+    } else {
+        struct parts_change *single = round->first;
+        hand_over(log, single, single->sync);
+        if (!obey(log, single->sync && !single->code)) give_up(log, round);
+    }
+}
+
+static void count(raftlog *log, const struct round *round) {
+    struct parts_counts *counts = &log->counts;
+    uint64_t changes = 0, synced = 0;
+    for (const struct parts_change *at = round->first; at; at = after(round, at)) {
+        changes++;
+        synced += at->sync && !at->code;
+    }
+    parts_add(&counts->rounds, 1);
+    parts_add(&counts->changes, changes);
+    if (synced) parts_add(&counts->synced_changes, synced);
+    uint64_t largest = atomic_load_explicit(&counts->largest_round, memory_order_relaxed);
+    if (largest < changes) parts_add(&counts->largest_round, changes - largest);
+}
+
+/* ---- the queue */
+
+/* The change before this one, NULL where nobody leads, or that of a closed log. */
+static struct parts_change *put_in_queue(raftlog *log, struct parts_change *mine) {
+    struct parts_change *newest = atomic_load_explicit(&log->newest, memory_order_relaxed);
+    do {
+        if (newest == &closed) return &closed;
+        mine->older = newest;
+    } while (!atomic_compare_exchange_weak(&log->newest, &newest, mine));
+    return mine->older;
+}
+
+/* Links those from the newest one back to one that stands. */
+static void link_newer(struct parts_change *newest, const struct parts_change *back_to) {
+    for (; newest != back_to && newest->older->newer != newest; newest = newest->older)
+        newest->older->newer = newest;
+}
+
+static bool is_alone(const struct parts_change *change) {
+    return change->kind >= PARTS_REWRITE_APPEND;
+}
+
+static struct round take(raftlog *log, struct parts_change *first) {
+    struct parts_change *newest = atomic_load(&log->newest);
+    struct round round = {first, first};
+    size_t changes = 1, bytes = first->len;
+    link_newer(newest, first);
+    while (round.last != newest && !is_alone(first) && !is_alone(round.last->newer)
+           && changes < RAFTLOG_ROUND_CHANGES
+           && bytes + round.last->newer->len <= RAFTLOG_ROUND_BYTES) {
+        round.last = round.last->newer;
+        bytes += round.last->len;
+        changes++;
+    }
+    return round;
+}
+
+/* Says that a round is over. */
+static void end_round(raftlog *log) {
+    parts_add(&log->done, 1);
+    atomic_fetch_add(&log->over, 1);
+    if (atomic_load(&log->waiting)) wake(&log->over, INT_MAX);
+}
+
+/* The change that leads next, or NULL where none waits. The leader looks at the log no more. */
+static struct parts_change *next_leader(raftlog *log, struct parts_change *last) {
+    struct parts_change *newest = last;
+    if (atomic_compare_exchange_strong(&log->newest, &newest, NULL)) return NULL;
+    link_newer(newest, last);
+    return last->newer;
+}
+
+static void answer(const struct round *round) {
+    struct parts_change *next;
+    for (struct parts_change *at = after(round, round->first); at; at = next) {
+        next = after(round, at);
+        tell(at, IS_ANSWERED);
+    }
+}
+
+/* Leads a round, whose first change is this thread's own. Who is answered may come back before the
+ * next leader wakes, and be of its round: so that one is told last. */
+static void lead(raftlog *log, struct parts_change *mine) {
+    struct round round = take(log, mine);
+    carry_out(log, &round);
+    count(log, &round);
+    end_round(log);
+    struct parts_change *next = next_leader(log, round.last);
+    answer(&round);
+    if (next) tell(next, LEADS);
+}
+
+/* Waits for the lead: false where another leader answered. */
+static bool comes_to_lead(raftlog *log, struct parts_change *mine) {
+    struct parts_change *older = put_in_queue(log, mine);
+    if (older == &closed) return fail(mine, RAFTLOG_FAILED, "the log is closed"), false;
+    return !older || await(mine) == LEADS;
+}
+
+int parts_take_turn(raftlog *log, struct parts_change *mine) {
+    if (comes_to_lead(log, mine)) lead(log, mine);
+    return mine->code;
+}
+
+/* ---- reads, and the close */
+
+void parts_end_read(raftlog *log) {
+    if (atomic_fetch_sub(&log->reading, 1) == PARTS_CLOSING + 1) wake(&log->reading, 1);
+}
+
+bool parts_begin_read(raftlog *log) {
+    if (!(atomic_fetch_add(&log->reading, 1) & PARTS_CLOSING)) return true;
+    parts_end_read(log);
+    return false;
+}
+
+bool parts_wait_for(raftlog *log, uint64_t round) {
+    if (atomic_load(&log->done) < round) {
+        atomic_fetch_add(&log->waiting, 1);
+        for (;;) {
+            unsigned seen = atomic_load(&log->over);
+            if (atomic_load(&log->done) >= round) break;
+            sleep_while(&log->over, (int)seen);
+        }
+        atomic_fetch_sub(&log->waiting, 1);
+    }
+    return round < atomic_load(&log->lost);
+}
+
+bool parts_close(raftlog *log, int *code) {
+    struct parts_change mine = {.kind = PARTS_CLOSE};
+    atomic_fetch_or(&log->reading, PARTS_CLOSING);
+    bool leads = comes_to_lead(log, &mine);
+    if (leads) {
+        int reading;
+        while ((reading = atomic_load(&log->reading)) != PARTS_CLOSING)
+            sleep_while(&log->reading, reading);
+        carry_out(log, &(struct round){&mine, &mine});
+        struct parts_change *late = atomic_exchange(&log->newest, &closed), *older;
+        for (; late != &mine; late = older) {
+            older = late->older;
+            fail(late, RAFTLOG_FAILED, "the log is closed");
+            tell(late, IS_ANSWERED);
+        }
+    }
+    free(mine.text);
+    *code = mine.code;
+    return leads;
+}
