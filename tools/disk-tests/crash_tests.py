@@ -1,7 +1,7 @@
 #!/usr/bin/env python3
 """Crash tests of raftctl over a real folder.
 
-    tools/disk-tests/crash_tests.py crates/raftctl/out/raftctl [--seeds N] [--step N]
+    tools/disk-tests/crash_tests.py crates/raftctl/out/raftctl [--seeds N] [--step N] [--threads N]
 
 Records the file calls of each of the runs below, and builds for each call what a crash then may leave:
 all bytes, the synced ones, torn sectors, garbage where nothing was synced. In each of these folders the
@@ -9,6 +9,9 @@ program must find every key that it had answered as synced, without a gap and wi
 The same with the syncs not counted has to find bad outcomes. Then each kind of call fails in turn,
 the program is killed, and a folder is opened twice. A program of these tests renames and deletes files,
 and what a crash leaves of their names is judged in the same way. Status 1 where any of it is wrong.
+
+With --threads, for a program whose `load` and `verify` take it (clients/c/build/load), runs by so many
+threads are tried too: each has keys of its own, and what it was answered is judged by itself.
 """
 
 import argparse
@@ -35,8 +38,9 @@ class Run:
     """Commands on a folder under these settings, how many keys they load at most, and what their calls must have.
     The words `move` stand for a user who moves half of the log files to the second folder."""
 
-    def __init__(self, name, commands, settings="", count=60, wanted=()):
+    def __init__(self, name, commands, settings="", count=60, wanted=(), threads=1):
         self.name = name
+        self.threads = threads
         self.commands = commands
         self.settings = settings
         self.count = count
@@ -82,12 +86,28 @@ RUNS = [
         wanted=[SPILL + r"/\d+.raftlog \d+.raftlog.reserved$", SPILL + r"/\d+.raftlog " + SPILL + r"/\d+.raftlog$"],
     ),
 ]
+
+
+def threaded(threads):
+    """Loads by many threads, beside purges and renamings of files."""
+    commands = [load(12, 3), load(20, 4, "--purge-each", 5), ["rewrite", "append"], load(20, 7)]
+    return Run(f"{threads} threads", commands, SMALL % "3KB", count=20, threads=threads)
+
+
 HERE = os.path.dirname(os.path.abspath(__file__))
 # Before a call that is no program's: no crash comes there.
 USER = "user "
 FAILURES = [("fdatasync", errno.EIO), ("fsync", errno.EIO), ("pwrite", errno.EIO), ("pwrite", errno.ENOSPC)]
 FAILURES += [("short", errno.ENOSPC), ("ftruncate", errno.ENOSPC), ("open", errno.EACCES), ("mkdir", errno.EROFS)]
 NAME_FAILURES = [("rename", errno.EIO), ("rename", errno.EACCES), ("unlink", errno.EACCES)]
+
+
+def answers(text):
+    """Of each thread the last key that was answered as synced."""
+    last = {}
+    for number, thread in re.findall(r"synced (\d+)(?: by (\d+))?\n", text):
+        last[int(thread or 0)] = max(last.get(int(thread or 0), -1), int(number))
+    return last
 
 
 class File:
@@ -164,7 +184,7 @@ class Disk:
         self.folders = {}
         self.settled = {}
         self.changes = []
-        self.answered = -1
+        self.answered = {}
 
     def carry_out(self, line):
         kind, path, at, given = line.removeprefix(USER).rstrip("\n").split(" ")
@@ -183,8 +203,8 @@ class Disk:
         elif kind == "sync":
             self.sync(path)
         elif kind == "say":
-            for number in re.findall(rb"synced (\d+)", bytes.fromhex(given)):
-                self.answered = max(self.answered, int(number))
+            for thread, number in answers(bytes.fromhex(given).decode()).items():
+                self.answered[thread] = max(self.answered.get(thread, -1), number)
 
     def rename(self, path, to):
         """Between two folders the new name may stay without the old one being gone, but not the other way."""
@@ -257,24 +277,25 @@ class Tests:
         return subprocess.run(words, capture_output=True, text=True, env={**os.environ, **env}, timeout=120)
 
     def standing(self, folder, run):
-        """How many keys stand from 0 on, or what is wrong. A look makes no folder."""
+        """How many keys of each thread stand from 0 on, or what is wrong. A look makes no folder."""
         if not os.path.isdir(folder):
-            return 0
+            return [0] * run.threads
         ran = self.run(folder, "verify", run.count, SIZE, *run.words)
-        found = re.search(r"standing (\d+)", ran.stdout)
-        if ran.returncode != 0 or not found:
+        found = [int(it) for it in re.findall(r"standing (\d+)", ran.stdout)]
+        if ran.returncode != 0 or len(found) != run.threads:
             return f"status {ran.returncode}: {ran.stdout.split()} {ran.stderr.strip()}"
-        return int(found[1])
+        return found
 
     def wrong_with(self, folder, answered, run):
-        """What is wrong with a folder in which so many keys were answered as synced, or None."""
+        """What is wrong with a folder in which these keys were answered as synced, or None."""
         first = self.standing(folder, run)
-        if not isinstance(first, int):
+        if isinstance(first, str):
             return first
-        if first <= answered:
-            return f"{first} keys stand, and {answered} was synced"
-        # A look left the folder as it was: an opening that writes goes on from the same.
-        ran = self.run(folder, "put", 2, "key", "value", *run.words)
+        if any(first[thread] <= last for thread, last in answered.items()):
+            return f"{first} keys stand, and {answered} were synced"
+        # A look left the folder as it was: an opening that writes goes on from the same. Torn sectors of
+        # unsynced records may leave whole ones behind, and a killed purge files: it is told to cut.
+        ran = self.run(folder, "put", 2, "key", "value", "--cut", *run.words)
         if ran.returncode != 0:
             return f"status {ran.returncode}: {ran.stderr.strip()}"
         second = self.standing(folder, run)
@@ -285,7 +306,7 @@ class Tests:
         path = os.path.join(self.work, run.name.replace(" ", "-") + ".toml")
         with open(path, "w", encoding="ascii") as out:
             out.write(run.settings)
-        run.words = ["--settings", path]
+        run.words = ["--settings", path] + (["--threads", run.threads] if run.threads > 1 else [])
 
     def record(self, run):
         """The calls of a run, and whether there are those that it is to make."""
@@ -369,10 +390,9 @@ class Tests:
             for number in (1, 2, 3, 4, 7, 12):
                 folder = os.path.join(self.work, "failed")
                 ran = self.run(folder, *words, *run.words, FAIL=f"{kind}:{number}:{code}")
-                answered = [int(it) for it in re.findall(r"synced (\d+)", ran.stdout)]
                 is_told = ran.returncode == 0 or (ran.returncode == 1 and "raftctl: " in ran.stderr)
                 wrong = None if is_told else f"status {ran.returncode}: {ran.stderr}"
-                wrong = wrong or self.wrong_with(folder, max(answered, default=-1), run)
+                wrong = wrong or self.wrong_with(folder, answers(ran.stdout), run)
                 tried += 1
                 if wrong:
                     bad += 1
@@ -393,8 +413,8 @@ class Tests:
             loading.send_signal(signal.SIGKILL)
             loading.wait()
             with open(said, encoding="ascii") as lines:
-                answered = [int(it) for it in re.findall(r"synced (\d+)\n", lines.read())]
-            wrong = self.wrong_with(folder, max(answered, default=-1), run)
+                answered = answers(lines.read())
+            wrong = self.wrong_with(folder, answered, run)
             if wrong:
                 bad += 1
                 print(f"{run.name}: killed in turn {turn}: {wrong}")
@@ -469,9 +489,10 @@ def files_in(folder):
     return found
 
 
-def wrong_names(folder, answered):
-    """What is wrong with a folder in which `change_names` has answered this change, or None."""
+def wrong_names(folder, answers_of):
+    """What is wrong with a folder in which `change_names` has answered these changes, or None."""
     files = files_in(folder)
+    answered = answers_of.get(0, -1)
     current = files.get("current", b"")[:9]
     if answered >= 0 and current not in [b"number %d\n" % (answered + it) for it in (0, 1)]:
         return f"{answered} is answered, and current is {current}"
@@ -487,17 +508,20 @@ def main():
     parser.add_argument("program")
     parser.add_argument("--seeds", type=int, default=5, help="torn folders, and as many with garbage, for each call")
     parser.add_argument("--step", type=int, default=1, help="tries each Nth call alone")
+    parser.add_argument("--threads", type=int, default=1, help="runs by so many threads too")
     given = parser.parse_args()
+    many = [threaded(given.threads)] if given.threads > 1 else []
+    runs = RUNS + many
     with tempfile.TemporaryDirectory(prefix="disk-tests-") as work:
         tests = Tests(given.program, work)
-        for run in RUNS:
+        for run in runs:
             tests.prepare(run)
             tests.record(run)
         names, good = tests.record_names()
         if not good:
             print("renamed and deleted files: the calls that were recorded don't lead to what was left")
         good = tests.told("renamed and deleted files, crashes", tests.replay(names, True, given.seeds, wrong_names)) and good
-        for run in RUNS:
+        for run in runs:
             crashes = f"{run.name}, crashes at {len(run.calls)} calls"
             good = tests.told(crashes, tests.crash(run, True, given.seeds, given.step)) and good
         plain, recycled = RUNS[0], RUNS[2]
@@ -509,11 +533,16 @@ def main():
             good = tests.told(name, tests.fail_each(run, words, kinds)) and good
         good = tests.told("kills", tests.kill_each(plain, load(60, 2), 12)) and good
         good = tests.told("kills, recycled files", tests.kill_each(recycled, recycling, 40)) and good
+        for run in many:
+            killed = Run(f"killed {run.name}", [], run.settings, count=300, threads=run.threads)
+            tests.prepare(killed)
+            good = tests.told(f"calls that fail, {run.name}", tests.fail_each(run, load(20, 3), FAILURES + NAME_FAILURES)) and good
+            good = tests.told(f"kills, {run.name}", tests.kill_each(killed, load(300, 3), 40)) and good
         good = tests.told("openings to be refused", tests.refuse_each()) and good
         # What has to find bad outcomes.
         uncounted = ", with the syncs not counted"
         good = tests.told("renamed and deleted files" + uncounted, tests.replay(names, False, 1, wrong_names), True) and good
-        for run in RUNS:
+        for run in runs:
             good = tests.told(run.name + uncounted, tests.crash(run, False, 1, max(given.step, 2)), True) and good
     return 0 if good else 1
 

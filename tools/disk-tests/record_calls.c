@@ -17,7 +17,7 @@ enum { MAX_FILES = 1024 };
 
 static char *paths[MAX_FILES];
 static int out = -1;
-static int is_noting;
+static _Thread_local int is_noting;
 
 #define REAL(name, type) ((type)dlsym(RTLD_NEXT, name))
 

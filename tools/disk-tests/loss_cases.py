@@ -1,0 +1,142 @@
+"""What commands that change a log do where its opening loses something."""
+import os
+
+from folders import add, bytes_of, flip, logs_in, state_of
+
+
+class Losses:
+    """Cases of `look_tests.py`."""
+
+    def flipped(self, name, at=None):
+        """A folder with one log file, one of whose bytes is another, and that file's path."""
+        folder = os.path.join(self.work, name)
+        self.run(folder, "load", 60, 40)
+        path = os.path.join(folder, f"{1:016}.raftlog")
+        if at is None:
+            at = os.path.getsize(path) // 6
+        flip(path, at)
+        return folder, path
+
+    def guarded(self):
+        """Whole records behind a break are cut by no command that isn't told to, and what is cut is kept."""
+        folder, path = self.flipped("flipped")
+        before = state_of(folder)
+        for words in ("put 1 a b", "del 1 5", "append 7 x", "clean 1", "purge", "rewrite append", "load 3 3"):
+            ran = self.run(folder, *words.split())
+            self.expect(f"{words} is refused: {ran.returncode} {ran.stderr}", ran.returncode == 7)
+            for word in (b"`check`", b"`repair`", b"`--cut`", b"whole records"):
+                self.expect(f"{words} says {word}", word in ran.stderr)
+        self.expect("a refused change changes nothing", state_of(folder) == before)
+        whole = bytes_of(path)
+        ran = self.run(folder, "put", 1, "a", "b", "--cut")
+        kept = [name for name in os.listdir(folder) if ".cut-" in name]
+        self.expect("a change that may cut", ran.returncode == 0 and len(kept) == 1)
+        self.expect(f"a cut is told: {ran.stderr}", kept and kept[0].encode() in ran.stderr)
+        at = int(kept[0].rsplit("-", 1)[1])
+        self.expect("a cut is kept", whole == whole[:at] + bytes_of(os.path.join(folder, kept[0])))
+        self.expect("the key stands", self.run(folder, "get", 1, "a").stdout == b"b\n")
+
+    def torn(self):
+        """An unsynced tail is cut off by any change, which says so and keeps it."""
+        folder = os.path.join(self.work, "torn")
+        self.run(folder, "load", 6, 40)
+        path = os.path.join(folder, f"{1:016}.raftlog")
+        size = os.path.getsize(path)
+        add(path, b"torn")
+        ran = self.run(folder, "put", 1, "a", "b")
+        kept = os.path.join(folder, f"{1:016}.raftlog.cut-{size}")
+        self.expect("a torn tail hinders no change", ran.returncode == 0 and b"broken at" in ran.stderr)
+        self.expect("a torn tail is kept", os.path.exists(kept) and bytes_of(kept) == b"torn")
+        add(path, b"torn")
+        ran = self.run(folder, "put", 1, "a", "b", "--no-keep")
+        self.expect("no file is kept", ran.returncode == 0 and len([it for it in os.listdir(folder) if "cut-" in it]) == 1)
+
+    def repairs_again(self):
+        """A repair at the place of an earlier one leaves what that kept."""
+        folder = os.path.join(self.work, "again")
+        self.run(folder, "load", 6, 40)
+        path = os.path.join(folder, f"{1:016}.raftlog")
+        kept = f"{path}.cut-{os.path.getsize(path)}"
+        for turn, data in enumerate((b"first", b"and second", b"3")):
+            add(path, data)
+            self.expect("a repair", self.run(folder, "repair").returncode == 0)
+            name = kept if turn == 0 else f"{kept}.{turn + 1}"
+            self.expect(f"repair {turn} keeps its own", os.path.exists(name) and bytes_of(name) == data)
+        self.expect("the first one stays", bytes_of(kept) == b"first")
+
+    def refused_repairs(self):
+        """A repair that is refused tells no cut and leaves no file; one needs no second folder."""
+        folder = self.make("refused")
+        flip(os.path.join(folder, f"{2:016}.raftlog"), 9000)
+        self.run(folder, "rewrite", "rewrite")
+        add(os.path.join(folder, f"{1:016}.rewrite"), b"torn")
+        before = state_of(folder)
+        ran = self.run(folder, "repair")
+        self.expect(f"a refused repair: {ran.stdout}", ran.returncode == 1 and b"cut" not in ran.stdout)
+        self.expect("it leaves all as it was", state_of(folder) == before)
+        settings = os.path.join(self.work, "second.toml")
+        with open(settings, "w", encoding="ascii") as file:
+            file.write('spill-dir = "second"\n')
+        folder = os.path.join(self.work, "no-second")
+        self.run(folder, "load", 6, 40)
+        ran = self.run(folder, "repair", "--settings", settings)
+        self.expect(f"a repair without the second folder: {ran.stderr}", ran.returncode == 0)
+
+    def passed(self):
+        """Files behind a missing number are a loss, which check, looks and changes tell."""
+        folder = self.make("gap")
+        gone = os.path.join(folder, f"{3:016}.raftlog")
+        files = [f"{number:016}.raftlog" for number in (1, 2)]
+        size = sum(os.path.getsize(os.path.join(folder, name)) for name in files)
+        os.rename(gone, os.path.join(self.work, "gone"))
+        self.passes(folder, f"files 2 bytes {size} first 1 last 2 missing 3")
+        os.rename(os.path.join(self.work, "gone"), gone)
+        self.expect("with the file all is there", self.run(folder, "check").returncode == 0)
+        os.mkdir(os.path.join(folder, "second"))
+        os.rename(gone, os.path.join(folder, "second", os.path.basename(gone)))
+        self.expect("with the second folder too", self.run(folder, "check", "--spill", "second").returncode == 0)
+        self.passes(folder, f"files 2 bytes {size} first 1 last 2 missing 3")
+        foreign = os.path.join(self.work, "foreign")
+        self.run(foreign, "load", 60, 40)
+        size = os.path.getsize(os.path.join(foreign, f"{1:016}.raftlog"))
+        with open(os.path.join(foreign, f"{9:016}.raftlog"), "wb") as file:
+            file.write(b"notes")
+        self.passes(foreign, f"files 1 bytes {size} first 1 last 1 missing 2")
+        ran = self.run(foreign, "repair", "--cut")
+        aside = os.path.join(foreign, f"{1:016}.raftlog.passed")
+        self.expect(f"a repair moves them aside: {ran.stderr}", ran.returncode == 0 and os.path.getsize(aside) == size)
+        self.expect("then nothing is passed over", self.run(foreign, "check").returncode == 0)
+
+    def passes(self, folder, told):
+        for mode in ("absolute", "tail", "any"):
+            ran = self.run(folder, "check", "--mode", mode)
+            wanted = 6 if b"rest broken" not in ran.stdout or mode != "absolute" else 5
+            self.expect(f"{folder}: check in {mode}: {ran.returncode}", ran.returncode == wanted)
+            self.expect(f"{folder}: {told}: {ran.stdout}", told.encode() in ran.stdout)
+        for words in ("get 1 none", "list", "stat", "dump", "groups", "consistency", "entries 7"):
+            ran = self.run(folder, *words.split())
+            self.expect(f"{folder}: {words} tells it: {ran.stderr}", b"passed over" in ran.stderr)
+        before = state_of(folder)
+        for words in ("put 1 a b", "purge", "repair"):
+            ran = self.run(folder, *words.split())
+            self.expect(f"{folder}: {words} is refused", ran.returncode == 7 and b"can't be told" in ran.stderr)
+        self.expect(f"{folder}: nothing is done", state_of(folder) == before)
+
+    def foreseen(self):
+        """Links and pipes under a log's own names are refused by an opening, and told by check."""
+        folder = os.path.join(self.work, "links")
+        self.run(folder, "load", 6, 40)
+        first, second = (os.path.join(folder, f"{number:016}.raftlog") for number in (1, 2))
+        self.foresees(folder, "a link", lambda: os.symlink(first, second), second)
+        self.foresees(folder, "a pipe", lambda: os.mkfifo(second), second)
+        self.foresees(folder, "a second name", lambda: os.link(first, second), second)
+        self.expect("without them it opens", self.run(folder, "check").returncode == 0)
+
+    def foresees(self, folder, what, make, name):
+        make()
+        ran = self.run(folder, "put", 1, "a", "b")
+        self.expect(f"an opening refuses {what}: {ran.returncode} {ran.stderr}", ran.returncode == 1)
+        if what != "a pipe":
+            ran = self.run(folder, "check")
+            self.expect(f"check foresees {what}: {ran.stdout}", ran.returncode == 5 and b"refused " in ran.stdout)
+        os.unlink(name)
