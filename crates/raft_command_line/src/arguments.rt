@@ -1,15 +1,21 @@
 //! The command line.
 
-use crate::forms::{FORMS, Form, Kind, OPTIONS, STATUSES, Word};
+use crate::change_forms::CHANGE_FORMS;
+use crate::forms::{CHANGE_OPTIONS, Form, Kind, OPTIONS, STATUSES, Word};
+use crate::look_forms::LOOK_FORMS;
 use crate::modes::mode_named;
-use crate::request::{Indexes, Load, Look, Options, Purge, Range, Request, Verb};
+use crate::request::{Changing, Dump, Indexes, Load, Look, Options, Purge, Range, Request, Verb};
 use clap::error::ErrorKind;
 use clap::{Arg, ArgAction, ArgMatches, Command, Error, value_parser};
 use raft_base::ReadableSize;
 use raft_config::RecoveryMode;
 use std::alloc::{AllocError, Global};
 
-const VERSION: &str = "0.4.2";
+/// The project's, and that of the crate whose files it reads and writes.
+const VERSION: &str = "0.1.0 (the files of raft-engine 0.4.2)";
+
+/// What a line's kind may be, as `dump` prints it.
+const KINDS: [&str; 5] = ["put", "delete", "entry", "clean", "compact"];
 
 /// Reads the words of a command line, the program's name first.
 pub fn parse<'a>(alloc: Global, words: &'a [String]) -> Result<Request<'a>, Error> {
@@ -28,7 +34,10 @@ pub fn parse<'a>(alloc: Global, words: &'a [String]) -> Result<Request<'a>, Erro
 
 // Whether a word behind the folder is a command, or none was wanted there.
 fn is_known(word: &str) -> bool {
-    word.starts_with('-') || word == "help" || FORMS.iter().any(|form| form.name == word)
+    word.starts_with('-')
+        || word == "help"
+        || LOOK_FORMS.iter().any(|form| form.name == word)
+        || CHANGE_FORMS.iter().any(|form| form.name == word)
 }
 
 // `None` only for a command line that `command` refuses.
@@ -41,6 +50,7 @@ fn read_request<'a>(alloc: Global, matches: &ArgMatches<'a>) -> Result<Option<Re
     let verb = match name {
         "append" => read_append(alloc, rest)?,
         "rewrite" => Some(Verb::Purge(read_purge(alloc, rest)?)),
+        "dump" => Some(Verb::Look(Look::Dump(read_dump(alloc, rest)?))),
         _ => read_verb(name, rest),
     };
     match verb {
@@ -58,14 +68,14 @@ fn read_options<'a>(alloc: Global, matches: &ArgMatches<'a>) -> Result<Options<'
         None => RecoveryMode::TolerateTailCorruption,
         Some(word) => match mode_named(word) {
             Some(mode) => mode,
-            None => return Err(invalid(alloc, "--mode is one of: absolute, tail, any")?),
+            None => return Err(wrong(alloc, "--mode", word, "absolute, tail or any")?),
         },
     };
     let target = match matches.get_str("target") {
         None => None,
         Some(word) => match ReadableSize::parse(word) {
             Ok(size) => Some(size),
-            Err(_) => return Err(invalid(alloc, "--target is a size, as 128MB")?),
+            Err(_) => return Err(wrong(alloc, "--target", word, "a size, as 128MB")?),
         },
     };
     Ok(Options {
@@ -79,6 +89,34 @@ fn read_options<'a>(alloc: Global, matches: &ArgMatches<'a>) -> Result<Options<'
         json: matches.get_flag("json"),
         hex: matches.get_flag("hex"),
         quiet: matches.get_flag("quiet"),
+        raw: matches.get_flag("raw"),
+        changing: read_changing(matches),
+    })
+}
+
+fn read_changing(matches: &ArgMatches<'_>) -> Changing {
+    Changing {
+        cut: matches.get_flag("cut"),
+        no_keep: matches.get_flag("no-keep"),
+        wait: matches.get_one("wait").unwrap_or(0),
+        dry_run: matches.get_flag("dry-run"),
+    }
+}
+
+fn read_dump<'a>(alloc: Global, matches: &ArgMatches<'a>) -> Result<Dump<'a>, Error> {
+    let kind = matches.get_str("kind");
+    if let Some(word) = kind {
+        if !KINDS.contains(&word) {
+            let wanted = "put, delete, entry, clean or compact";
+            return Err(wrong(alloc, "--kind", word, wanted)?);
+        }
+    }
+    Ok(Dump {
+        file: matches.get_str("FILE"),
+        group: matches.get_one("group"),
+        kind,
+        from: matches.get_one("from"),
+        to: matches.get_one("to"),
     })
 }
 
@@ -87,23 +125,32 @@ fn read_purge(alloc: Global, matches: &ArgMatches<'_>) -> Result<Purge, Error> {
         Some("append") => Ok(Purge::Append),
         Some("rewrite") => Ok(Purge::Rewrite),
         Some("stale") => Ok(Purge::Stale),
-        _ => Err(invalid(alloc, "FILES is one of: append, rewrite, stale")?),
+        word => Err(wrong(
+            alloc,
+            "FILES",
+            word.unwrap_or(""),
+            "append, rewrite or stale",
+        )?),
     }
 }
 
-fn invalid(alloc: Global, text: &str) -> Result<Error, AllocError> {
-    command(alloc)?.error(ErrorKind::InvalidValue, text)
+// A word that isn't what is wanted at its place.
+fn wrong(alloc: Global, name: &str, word: &str, wanted: &str) -> Result<Error, AllocError> {
+    let text = format!(in alloc; "{name} is {wanted}, and not `{word}`")?;
+    command(alloc)?.error(ErrorKind::InvalidValue, text.as_str())
 }
 
-fn read_append<'a>(
-    alloc: Global,
-    matches: &ArgMatches<'a>,
-) -> Result<Option<Verb<'a>>, AllocError> {
-    let (Some(group), Some(values)) = (matches.get_one("GROUP"), matches.get_strs("VALUE")) else {
+fn read_append<'a>(alloc: Global, matches: &ArgMatches<'a>) -> Result<Option<Verb<'a>>, Error> {
+    let Some(group) = matches.get_one("GROUP") else {
         return Ok(None);
     };
-    let values = values.to_vec(alloc)?;
-    Ok(Some(Verb::Append(group, values, matches.get_one("at"))))
+    let lines = matches.get_str("lines");
+    let values = match matches.get_strs("VALUE") {
+        Some(values) => values.to_vec(alloc)?,
+        None if lines.is_some() => Vec::new(alloc),
+        None => return Err(wrong(alloc, "VALUE", "", "wanted, or --lines FILE")?),
+    };
+    Ok(Some(Verb::Append(group, values, lines, matches.get_one("at"))))
 }
 
 fn read_verb<'a>(name: &str, matches: &ArgMatches<'a>) -> Option<Verb<'a>> {
@@ -121,6 +168,9 @@ fn read_verb<'a>(name: &str, matches: &ArgMatches<'a>) -> Option<Verb<'a>> {
     let group = matches.get_one("GROUP")?;
     match name {
         "put" => Some(Verb::Put(group, matches.get_str("KEY")?, matches.get_str("VALUE")?)),
+        "lines" if matches.get_flag("entries") => {
+            Some(Verb::EntryLines(group, matches.get_str("FILE")?))
+        }
         "lines" => Some(Verb::Lines(group, matches.get_str("FILE")?)),
         "del" => Some(Verb::Delete(group, matches.get_str("KEY")?)),
         "compact" => Some(Verb::Compact(group, matches.get_one("INDEX")?)),
@@ -139,7 +189,6 @@ fn read_look<'a>(name: &str, matches: &ArgMatches<'a>) -> Option<Look<'a>> {
         "groups" => Some(Look::Groups),
         "stat" => Some(Look::Stat),
         "verify" => Some(Look::Verify(read_load(matches)?)),
-        "dump" => Some(Look::Dump(matches.get_str("FILE"))),
         "check" => Some(Look::Check),
         "consistency" => Some(Look::Consistency),
         "picture" => Some(Look::Picture),
@@ -177,8 +226,11 @@ fn read_load(matches: &ArgMatches<'_>) -> Option<Load> {
 
 fn command<'a>(alloc: Global) -> Result<Command<'a>, AllocError> {
     let mut subcommands = Vec::new(alloc);
-    for form in &FORMS {
-        subcommands.push(subcommand(alloc, form)?)?;
+    for form in &LOOK_FORMS {
+        subcommands.push(subcommand(alloc, form, &[])?)?;
+    }
+    for form in &CHANGE_FORMS {
+        subcommands.push(subcommand(alloc, form, &CHANGE_OPTIONS)?)?;
     }
     let folder = Word(
         "FOLDER",
@@ -194,9 +246,9 @@ fn command<'a>(alloc: Global) -> Result<Command<'a>, AllocError> {
         .subcommands(subcommands)
 }
 
-fn subcommand<'a>(alloc: Global, form: &Form) -> Result<Command<'a>, AllocError> {
+fn subcommand<'a>(alloc: Global, form: &Form, options: &[Word]) -> Result<Command<'a>, AllocError> {
     let mut arguments = Vec::new(alloc);
-    for word in form.words.iter().chain(&OPTIONS) {
+    for word in form.words.iter().chain(options).chain(&OPTIONS) {
         arguments.push(argument(alloc, *word))?;
     }
     Command::new(alloc, form.name)
@@ -210,7 +262,7 @@ fn argument<'a>(alloc: Global, word: Word) -> Arg<'a> {
     let argument = Arg::new(alloc, name).help(help);
     match kind {
         Kind::Text => argument.required(true),
-        Kind::Texts => argument.required(true).num_args(1..),
+        Kind::OptionalTexts => argument.num_args(1..),
         Kind::OptionalText => argument,
         Kind::Number => argument.required(true).value_parser(value_parser!(u64)),
         Kind::Optional => argument.value_parser(value_parser!(u64)),

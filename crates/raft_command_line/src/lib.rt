@@ -2,10 +2,14 @@
 #![tactic(auto)]
 
 mod arguments;
+mod change_forms;
+mod completion;
 mod forms;
+mod look_forms;
 mod modes;
 mod request;
 
 pub use arguments::parse;
+pub use completion::completion_script;
 pub use modes::{mode_name, mode_named};
-pub use request::{Indexes, Load, Look, Options, Purge, Range, Request, Verb};
+pub use request::{Changing, Dump, Indexes, Load, Look, Options, Purge, Range, Request, Verb};

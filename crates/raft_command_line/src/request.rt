@@ -35,6 +35,32 @@ pub struct Options<'a> {
     pub hex: bool,
     /// No progress and no notes are printed.
     pub quiet: bool,
+    /// A value is printed as its bytes alone.
+    pub raw: bool,
+    pub changing: Changing,
+}
+
+/// How a log is opened to be changed.
+#[derive(Clone, Copy)]
+pub struct Changing {
+    /// Whether it is opened where that loses more than an unsynced tail explains.
+    pub cut: bool,
+    /// Whether no file is kept of what the opening cuts off.
+    pub no_keep: bool,
+    /// How many seconds are waited for a log that is open already.
+    pub wait: u64,
+    /// Whether all is done in memory alone.
+    pub dry_run: bool,
+}
+
+impl Changing {
+    /// Where no word names another.
+    pub const USUAL: Changing = Changing {
+        cut: false,
+        no_keep: false,
+        wait: 0,
+        dry_run: false,
+    };
 }
 
 /// What to do, with its group first, and then a key, a value or indexes.
@@ -43,9 +69,11 @@ pub enum Verb<'a> {
     Put(u64, &'a str, &'a str),
     /// A file of lines, each a key, a tab and a value.
     Lines(u64, &'a str),
+    /// A file of lines, each an index, a tab and a value.
+    EntryLines(u64, &'a str),
     Delete(u64, &'a str),
-    /// Values of entries, and the index of the first.
-    Append(u64, Vec<&'a str>, Option<u64>),
+    /// Values of entries, a file whose lines are such, and the index of the first.
+    Append(u64, Vec<&'a str>, Option<&'a str>, Option<u64>),
     Compact(u64, u64),
     Clean(u64),
     Load(Load),
@@ -83,12 +111,21 @@ pub enum Look<'a> {
     Groups,
     Stat,
     Verify(Load),
-    /// Of one file, or of all.
-    Dump(Option<&'a str>),
+    Dump(Dump<'a>),
     Check,
     /// The holes that entries leave.
     Consistency,
     Picture,
+}
+
+/// Which items of the log files to print: those of one file, of a group, of a kind, and of indexes.
+#[derive(Clone, Copy)]
+pub struct Dump<'a> {
+    pub file: Option<&'a str>,
+    pub group: Option<u64>,
+    pub kind: Option<&'a str>,
+    pub from: Option<u64>,
+    pub to: Option<u64>,
 }
 
 /// The first and the last index of entries, and how many at most.

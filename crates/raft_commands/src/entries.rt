@@ -1,6 +1,6 @@
 //! Commands on the entries of a group, and on groups.
 use crate::changes::{Change, write};
-use anyhow::Result;
+use anyhow::{Result, anyhow};
 use raft_c_batch::Entry;
 use raft_command_line::Indexes;
 use raft_console::{Output, failure};
@@ -13,6 +13,9 @@ use std::alloc::Global;
 /// The bytes of entries that are held at once.
 const PAGE_BYTES: usize = 1024 * 1024;
 
+/// A batch takes so many bytes of values, or one value that has more.
+const BATCH_BYTES: usize = 1024 * 1024;
+
 /// Adds entries with these values from an index on, or after the last, and prints their first and
 /// last index.
 pub(crate) fn append<F: FileSystem>(
@@ -24,6 +27,9 @@ pub(crate) fn append<F: FileSystem>(
     sync: bool,
     out: &mut Output,
 ) -> Result<()> {
+    if values.is_empty() {
+        return Err(anyhow!("there is no value to append"));
+    }
     let next = engine
         .last_index(group)
         .map_or(1, |last| last.saturating_add(1));
@@ -35,6 +41,7 @@ pub(crate) fn append<F: FileSystem>(
     out.line(&[("first", Word::Number(first)), ("last", Word::Number(last))])
 }
 
+// Writes batches of entries, and syncs with the last.
 fn append_from<F: FileSystem>(
     alloc: Global,
     engine: &mut Engine<F>,
@@ -44,9 +51,16 @@ fn append_from<F: FileSystem>(
     sync: bool,
 ) -> Result<(), Fault> {
     let mut entries = Vec::new(alloc);
+    let mut room = BATCH_BYTES;
     for (place, value) in values.iter().enumerate() {
+        if value.len() > room && !entries.is_empty() {
+            write(alloc, engine, group, Change::Append(&entries), false)?;
+            entries.clear();
+            room = BATCH_BYTES;
+        }
         let index = first.saturating_add(place as u64);
         entries.push(Entry::new(alloc, index, value)?)?;
+        room = room.saturating_sub(value.len());
     }
     write(alloc, engine, group, Change::Append(&entries), sync)
 }
@@ -60,7 +74,7 @@ pub(crate) fn get<F: FileSystem>(
 ) -> Result<bool> {
     match engine.get_entry::<Entry>(group, index) {
         Ok(Some(entry)) => {
-            out.line(&[("value", Word::Bytes(entry.value()))])?;
+            out.value(entry.value())?;
             Ok(true)
         }
         Ok(None) => Ok(false),

@@ -1,38 +1,43 @@
 //! The holes that the entries of a log leave.
 
 use anyhow::Result;
+use raft_command_line::Request;
 use raft_consistency::consistency_check_with_file_system;
-use raft_console::{Output, Progress, Status, failure};
+use raft_console::{Output, Progress, Status, failure, note};
 use raft_inspect::Word;
 use raft_looks::Folder;
-use std::alloc::Global;
 
 /// Prints a line for each group whose entries have a hole: it, and the last index before the first
-/// one. An opening that tolerates all damage reads the files so.
+/// one; none where a file is there no more. An opening that tolerates all damage reads the files so.
 pub(crate) fn print_holes(
-    alloc: Global,
+    rt: &HostRuntime,
     folder: &Folder,
+    request: &Request<'_>,
     progress: &mut Progress,
     out: &mut Output,
-) -> Result<Status> {
-    let image = folder.image_in_one_folder(progress)?;
+) -> Result<Option<Status>> {
+    let Some(image) = folder.image_in_one_folder(progress)? else {
+        return Ok(None);
+    };
     progress.begin("the entries are being looked through")?;
-    match consistency_check_with_file_system(alloc, "", image) {
-        Ok((holes, _)) => add_holes(&holes, out),
-        Err((fault, _)) => Err(failure("the log cannot be looked through", &fault)),
+    let holes = match consistency_check_with_file_system(rt.alloc(), "", image) {
+        Ok((holes, _)) => holes,
+        Err((fault, _)) => return Err(failure("the log cannot be looked through", &fault)),
+    };
+    add_holes(&holes, out)?;
+    if holes.is_empty() {
+        return Ok(Some(Status::Done));
     }
+    note(rt, &request.options, "the entries of a group have a hole")?;
+    Ok(Some(Status::Absent))
 }
 
-fn add_holes(holes: &[(u64, u64)], out: &mut Output) -> Result<Status> {
+fn add_holes(holes: &[(u64, u64)], out: &mut Output) -> Result<()> {
     for (group, last) in holes {
         out.named(&[
             ("group", Word::Number(*group)),
             ("hole-after", Word::Number(*last)),
         ])?;
     }
-    Ok(if holes.is_empty() {
-        Status::Done
-    } else {
-        Status::Absent
-    })
+    Ok(())
 }

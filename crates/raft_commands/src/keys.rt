@@ -60,7 +60,7 @@ pub(crate) fn get<F: FileSystem>(
 ) -> Result<bool> {
     match engine.get(group, key) {
         Ok(Some(value)) => {
-            out.line(&[("value", Word::Bytes(&value))])?;
+            out.value(&value)?;
             Ok(true)
         }
         Ok(None) => Ok(false),

@@ -1,9 +1,13 @@
 //! The commands of raftctl: looks at a folder, which change nothing, and changes by an engine.
 #![tactic(auto)]
 
+mod absent;
 mod changes;
+mod dumps;
 mod entries;
+mod guard;
 mod holes;
+mod kept;
 mod keys;
 mod lines;
 mod looks;
@@ -12,8 +16,10 @@ mod opening;
 mod pictures;
 mod purging;
 mod repair;
+mod spares;
 mod stat;
 mod stored;
+mod waiting;
 mod writing;
 
 pub use looks::look;

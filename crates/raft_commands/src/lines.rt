@@ -1,8 +1,11 @@
-//! Keys and values of a file of lines.
+//! Keys and values, or entries, of a file of lines.
 
-use anyhow::Result;
-use raft_command_line::{Options, Request};
-use raft_console::{Pair, Progress, Spelling, failure, file_or_input, read_lines};
+use anyhow::{Result, anyhow};
+use raft_command_line::Request;
+use raft_console::{
+    EntryLine, Pair, Progress, Spelling, failure, file_or_input, read_entry_lines, read_lines,
+    read_values,
+};
 use raft_env::FileSystem;
 use raft_log_engine::{Engine, LogBatch};
 use raft_records::Fault;
@@ -20,7 +23,7 @@ pub(crate) fn put_lines<F: FileSystem>(
     request: &Request<'_>,
 ) -> Result<()> {
     let text = file_or_input(rt, path)?;
-    let pairs = read_lines(rt.alloc(), &text, spelling_of(&request.options))?;
+    let pairs = read_lines(rt.alloc(), &text, Spelling::of(&request.options))?;
     let batches = match batches_of(rt.alloc(), group, pairs) {
         Ok(batches) => batches,
         Err(fault) => return Err(failure("the lines cannot be put", &fault)),
@@ -35,14 +38,46 @@ pub(crate) fn put_lines<F: FileSystem>(
     Ok(())
 }
 
-fn spelling_of(options: &Options<'_>) -> Spelling {
-    if options.json {
-        Spelling::Json
-    } else if options.hex {
-        Spelling::Digits
-    } else {
-        Spelling::Text
+/// The values of a file of lines.
+pub(crate) fn read_value_file(
+    rt: &HostRuntime,
+    path: &str,
+    request: &Request<'_>,
+) -> Result<Vec<Vec<u8>>> {
+    let text = file_or_input(rt, path)?;
+    match read_values(rt.alloc(), &text, Spelling::of(&request.options)) {
+        Ok(values) => Ok(values),
+        Err(error) => Err(anyhow!("{path}: {error}")),
     }
+}
+
+/// The first index and the values of a file of lines of entries, whose indexes rise by one.
+pub(crate) fn read_entry_file(
+    rt: &HostRuntime,
+    path: &str,
+    request: &Request<'_>,
+) -> Result<(Option<u64>, Vec<Vec<u8>>)> {
+    let text = file_or_input(rt, path)?;
+    let read = read_entry_lines(rt.alloc(), &text, Spelling::of(&request.options));
+    match read.and_then(|lines| values_in(rt.alloc(), lines)) {
+        Ok(entries) => Ok(entries),
+        Err(error) => Err(anyhow!("{path}: {error}")),
+    }
+}
+
+fn values_in(alloc: Global, lines: Vec<EntryLine>) -> Result<(Option<u64>, Vec<Vec<u8>>)> {
+    let mut values = Vec::new(alloc);
+    let mut first = None;
+    let mut next = None;
+    for (index, value) in lines {
+        if next.is_some_and(|next| next != index) {
+            return Err(anyhow!("index {index} doesn't follow the one before it"));
+        }
+        first = first.or(Some(index));
+        next = Some(index.saturating_add(1));
+        values.push(value)?;
+    }
+    Ok((first, values))
 }
 
 fn write_all<F: FileSystem>(

@@ -1,92 +1,140 @@
 //! Looks at a folder: its log files are read into memory, and nothing of it is changed.
 
+use crate::absent::told_absent;
+use crate::dumps::print_items;
+use crate::guard::note_passed;
 use crate::holes::print_holes;
 use crate::opening::open_image;
 use crate::pictures::print_picture;
 use crate::stat::stat;
 use crate::stored::Total;
 use crate::{entries, keys, numbered};
-use anyhow::Result;
-use raft_command_line::{Look, Options, Request};
-use raft_console::{Output, Progress, Status, bytes_of};
+use anyhow::{Result, anyhow};
+use raft_command_line::{Look, Request};
+use raft_console::{Output, Progress, Status, bytes_of, note};
 use raft_env::FileSystem;
+use raft_inspect::{Cut, Passed};
 use raft_log_engine::Engine;
-use raft_looks::{Folder, check, dump};
+use raft_looks::{Folder, check};
+use raft_memory::MemoryFileSystem;
 use raft_records::LogQueue;
+use std::alloc::{AllocError, Global};
 use std::thread::Threads;
+
+/// How often a look begins again where files are dropped under it.
+const TRIES: u64 = 20;
+
+/// What was read of a folder, which then is let go.
+#[derive(Drop)]
+struct Reading {
+    image: MemoryFileSystem,
+    reserved: Total,
+}
 
 /// Prints what is looked for in the folder of the request, and changes nothing of it: its log files
 /// are read into memory, and opened there by threads of the handle. It fails where there is no
-/// folder, where a file can't be read, and where the log can't be opened.
+/// folder, where a file can't be read, and where the log can't be opened. Where a writer drops a
+/// file under it, it begins again.
 pub fn look<R: Threads + Sync>(
     rt: HostRuntime,
     threads: &R,
     request: &Request<'_>,
     look: Look<'_>,
 ) -> Result<Status> {
-    let options = &request.options;
-    let mut progress = Progress::new(rt, options.quiet)?;
-    let folder = Folder::open(rt, request.folder, options)?;
-    let mut out = Output::new(rt, options);
-    let status = match look {
-        Look::Check => check(rt.alloc(), &folder, options, &mut progress, &mut out)?,
-        Look::Dump(name) => dump(rt.alloc(), &folder, name, &mut progress, &mut out)?,
-        Look::Consistency => print_holes(rt.alloc(), &folder, &mut progress, &mut out)?,
-        _ => look_in_memory(
-            &rt,
-            threads,
-            &folder,
-            request,
-            look,
-            &mut progress,
-            &mut out,
-        )?,
-    };
-    out.print()?;
-    Ok(status)
+    let mut progress = Progress::new(rt, request.options.quiet)?;
+    let mut out = Output::new(rt, &request.options);
+    for _ in 0..TRIES {
+        let looked = look_once(rt, threads, request, look, &mut progress, &mut out)?;
+        if let Some(status) = looked {
+            out.print()?;
+            return Ok(status);
+        }
+    }
+    Err(anyhow!(
+        "{}: a writer drops files while they are read, again and again",
+        request.folder
+    ))
 }
 
-fn look_in_memory<R: Threads + Sync>(
-    rt: &HostRuntime,
+fn look_once<R: Threads + Sync>(
+    rt: HostRuntime,
     threads: &R,
-    folder: &Folder,
     request: &Request<'_>,
     look: Look<'_>,
     progress: &mut Progress,
     out: &mut Output,
-) -> Result<Status> {
-    let image = folder.image(progress)?;
-    progress.begin("the log is being opened in memory")?;
-    show(rt, threads, folder, image, request, look, out)
-}
-
-// What is found in files that are all in memory.
-fn show<R: Threads + Sync, F: FileSystem + Drop>(
-    rt: &HostRuntime,
-    threads: &R,
-    folder: &Folder,
-    mut image: F,
-    request: &Request<'_>,
-    look: Look<'_>,
-    out: &mut Output,
-) -> Result<Status> {
-    note_cuts(rt, folder, &mut image, &request.options)?;
-    match look {
-        Look::Stat => {
-            let reserved = reserved_in(folder);
-            stat(threads, rt.alloc(), image, reserved, &request.options, out)
+) -> Result<Option<Status>> {
+    if let Look::Dump(dump) = look {
+        return Ok(Some(print_items(rt, request, dump, progress, out)?));
+    }
+    let folder = Folder::open(rt, request.folder, &request.options)?;
+    note_use(&rt, &folder, request)?;
+    if let Look::Check = look {
+        return check(rt.alloc(), &folder, &request.options, progress, out);
+    }
+    note_passed(&rt, &passed_in(rt.alloc(), &folder, progress)?, request)?;
+    if let Look::Consistency = look {
+        return print_holes(&rt, &folder, request, progress, out);
+    }
+    match read_all(&rt, folder, request, progress)? {
+        Some(reading) => {
+            progress.begin("the log is being opened in memory")?;
+            let status = show(
+                &rt,
+                threads,
+                reading.image,
+                reading.reserved,
+                request,
+                look,
+                out,
+            )?;
+            Ok(Some(status))
         }
-        Look::Picture => print_picture(rt, &mut image, request),
-        _ => read(rt, threads, image, &request.options, look, out),
+        None => Ok(None),
     }
 }
 
-fn reserved_in(folder: &Folder) -> Total {
-    let mut total = Total::new();
-    for file in &folder.reserved {
-        total.add(file.len);
+/// Says that a writer has the folder open.
+pub(crate) fn note_use(rt: &HostRuntime, folder: &Folder, request: &Request<'_>) -> Result<()> {
+    if !folder.is_in_use() {
+        return Ok(());
     }
-    total
+    let path = request.folder;
+    let text = format!(in rt.alloc(); "{path} is open already, and what is read of it may change")?;
+    Ok(note(rt, &request.options, text.as_str())?)
+}
+
+/// The files that an opening passes over.
+pub(crate) fn passed_in(
+    alloc: Global,
+    folder: &Folder,
+    progress: &mut Progress,
+) -> Result<Vec<Passed>> {
+    let mut passed = Vec::new(alloc);
+    for queue in [LogQueue::Rewrite, LogQueue::Append] {
+        if let Some(found) = folder.passed(queue, progress)? {
+            passed.push(found)?;
+        }
+    }
+    Ok(passed)
+}
+
+// All log files in memory; none where one is there no more. A writer is kept out no longer.
+fn read_all(
+    rt: &HostRuntime,
+    folder: Folder,
+    request: &Request<'_>,
+    progress: &mut Progress,
+) -> Result<Option<Reading>> {
+    let Some(mut image) = folder.image(progress)? else {
+        return Ok(None);
+    };
+    note_cuts(rt, &folder, &mut image, request)?;
+    let mut reserved = Total::new();
+    for file in &folder.reserved {
+        reserved.add(file.len);
+    }
+    Ok(Some(Reading { image, reserved }))
 }
 
 // Says what of the files an opening leaves out, where it doesn't fail; what an earlier file left is
@@ -95,50 +143,60 @@ fn note_cuts<F: FileSystem>(
     rt: &HostRuntime,
     folder: &Folder,
     image: &mut F,
-    options: &Options<'_>,
+    request: &Request<'_>,
 ) -> Result<()> {
-    if options.quiet {
-        return Ok(());
-    }
     for queue in [LogQueue::Rewrite, LogQueue::Append] {
-        for cut in folder.cuts(image, queue, options.mode)? {
-            if cut.stale {
-                continue;
+        for cut in folder.cuts(image, queue, request.options.mode)? {
+            if !cut.stale {
+                note(rt, &request.options, told_of(rt.alloc(), &cut)?.as_str())?;
             }
-            eprintln!(rt;
-                "raftctl: {} is broken at {}: the {} bytes from there on are left out",
-                cut.path, cut.offset, cut.len
-            )?;
         }
     }
     Ok(())
 }
 
-fn read<R: Threads + Sync, F: FileSystem + Drop>(
+fn told_of(alloc: Global, cut: &Cut) -> Result<String, AllocError> {
+    format!(in alloc;
+        "{} is broken at {}: the {} bytes from there on are left out",
+        cut.path, cut.offset, cut.len
+    )
+}
+
+// What is found in files that are all in memory.
+fn show<R: Threads + Sync, F: FileSystem + Drop>(
     rt: &HostRuntime,
     threads: &R,
-    image: F,
-    options: &Options<'_>,
+    mut image: F,
+    reserved: Total,
+    request: &Request<'_>,
     look: Look<'_>,
     out: &mut Output,
 ) -> Result<Status> {
-    let mut engine = open_image(threads, rt.alloc(), image, options)?;
-    let is_found = find(rt, &mut engine, options, look, out)?;
-    Ok(if is_found {
-        Status::Done
-    } else {
-        Status::Absent
-    })
+    let options = &request.options;
+    match look {
+        Look::Stat => stat(threads, rt.alloc(), image, reserved, options, out),
+        Look::Picture => print_picture(rt, &mut image, request),
+        _ => {
+            let mut engine = open_image(threads, rt.alloc(), image, options)?;
+            if find(rt, &mut engine, request, look, out)? {
+                return Ok(Status::Done);
+            }
+            let text = told_absent(rt.alloc(), look)?;
+            note(rt, options, text.as_str())?;
+            Ok(Status::Absent)
+        }
+    }
 }
 
 // Prints what an engine finds, and says whether it is there.
 fn find<F: FileSystem>(
     rt: &HostRuntime,
     engine: &mut Engine<F>,
-    options: &Options<'_>,
+    request: &Request<'_>,
     look: Look<'_>,
     out: &mut Output,
 ) -> Result<bool> {
+    let options = &request.options;
     match look {
         Look::Get(group, key) => {
             let key = bytes_of(rt, key, options.hex)?;

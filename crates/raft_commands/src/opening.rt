@@ -11,13 +11,17 @@ use raft_records::{Fault, Fresh, LogQueue};
 use std::alloc::{AllocError, Global};
 use std::thread::Threads;
 
-/// Opens the log, whose files are read by as many workers as the settings in force have threads.
+/// Opens the log, whose files are read by as many workers as the settings in force have threads; in
+/// a dry run as one in memory.
 pub(crate) fn open<R: Threads + Sync, F: FileSystem + Drop>(
     threads: &R,
     alloc: Global,
     files: F,
     options: &Options<'_>,
 ) -> Result<Engine<F>> {
+    if options.changing.dry_run {
+        return open_image(threads, alloc, files, options);
+    }
     open_over(threads, alloc, config(alloc, options)?, files, options)
 }
 
@@ -52,6 +56,21 @@ pub(crate) fn close<F: FileSystem + Drop>(engine: Engine<F>) -> Result<()> {
         Ok(_) => Ok(()),
         Err(refused) => Err(failure("the log cannot be closed", &refused.fault)),
     }
+}
+
+/// The folders of the options that stand; an opening makes the second one where it is missing.
+pub(crate) fn standing_folders<'a, F: FileSystem>(
+    alloc: Global,
+    files: &F,
+    options: &Options<'a>,
+) -> Result<Vec<&'a str>, AllocError> {
+    let mut folders = Vec::new(alloc);
+    for folder in options.folders(alloc)? {
+        if files.is_dir(folder) {
+            folders.push(folder)?;
+        }
+    }
+    Ok(folders)
 }
 
 /// The settings in force: what the options name, over those of the file.
@@ -104,7 +123,7 @@ pub(crate) fn broken<F: FileSystem>(
     files: &mut F,
     options: &Options<'_>,
 ) -> Result<Option<String>, Fault> {
-    let folders = options.folders(alloc)?;
+    let folders = standing_folders(alloc, files, options)?;
     for queue in [LogQueue::Append, LogQueue::Rewrite] {
         let found = inspect(alloc, files, &folders, queue)?;
         if let Some(said) = broken_place(alloc, &found, options.mode)? {

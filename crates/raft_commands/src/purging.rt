@@ -1,15 +1,15 @@
 //! Purges a log, and tells what became of its files.
 
-use crate::opening::open;
+use crate::opening::{config, open};
 use crate::stored::{Stored, Total};
 use anyhow::Result;
 use raft_command_line::{Options, Purge};
-use raft_console::{Output, Progress, Status, failure};
+use raft_console::{Output, Progress, Status, failure, note};
 use raft_env::FileSystem;
 use raft_inspect::Word;
 use raft_log_engine::Engine;
 use raft_records::{Fault, FileSeq};
-use std::alloc::Global;
+use std::alloc::{AllocError, Global};
 use std::thread::Threads;
 
 /// Purges the log, and prints a line for each group that is to be compacted, how many log files were
@@ -29,10 +29,49 @@ pub(crate) fn purge<R: Threads + Sync, F: FileSystem + Drop>(
     let engine = open(threads, alloc, files, options)?;
     let mut left = purge_and_close(alloc, engine, purge, &mut progress, out)?;
     let after = find(alloc, &mut left, options)?;
-    add_total("dropped", before.gone(&left), out)?;
+    let gone = before.gone(&left);
+    add_total("dropped", gone, out)?;
     add_total("reserved", after.reserved, out)?;
     out.print()?;
+    if gone.files == 0 {
+        note(
+            rt,
+            options,
+            cause_of(alloc, purge, &before, options)?.as_str(),
+        )?;
+    }
     Ok(Status::Done)
+}
+
+// Why no file was dropped.
+fn cause_of(
+    alloc: Global,
+    purge: Purge,
+    before: &Stored,
+    options: &Options<'_>,
+) -> Result<String, AllocError> {
+    let (append, rewrite) = before.by_queue();
+    match purge {
+        Purge::Expired => {
+            let config = config(alloc, options)?;
+            let (most, most_rewrite) = (config.purge_threshold.0, config.rewrite_threshold().0);
+            format!(in alloc;
+                "nothing was dropped: the Append queue has {} bytes in {} files, and \
+                purge-threshold is {most}; the Rewrite queue has {} bytes in {} files, and \
+                purge-rewrite-threshold is {most_rewrite}; the last file of a queue stays",
+                append.bytes, append.files, rewrite.bytes, rewrite.files
+            )
+        }
+        Purge::Stale => format!(in alloc;
+            "nothing was dropped: something counts in the first of {} files of the Append queue",
+            append.files
+        ),
+        Purge::Append | Purge::Rewrite => format!(in alloc;
+            "nothing was dropped: the Append queue has {} files and the Rewrite queue {}, \
+            and the last one of a queue stays",
+            append.files, rewrite.files
+        ),
+    }
 }
 
 fn find<F: FileSystem>(alloc: Global, files: &mut F, options: &Options<'_>) -> Result<Stored> {

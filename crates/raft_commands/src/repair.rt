@@ -1,56 +1,54 @@
-//! Cuts off what an opening would cut, and keeps it in files beside.
+//! Cuts off what an opening cuts, and keeps it in files beside.
 
+use crate::guard::{Taken, give_back, guard};
 use crate::opening::{close, open};
 use anyhow::Result;
-use raft_command_line::Options;
-use raft_console::{Output, Status, failure};
+use raft_command_line::Request;
+use raft_console::{Output, Status};
 use raft_env::FileSystem;
-use raft_inspect::{Cut, cuts_of, inspect, keep_cut};
-use raft_records::{Fault, LogQueue};
-use std::alloc::Global;
+use raft_inspect::Word;
 use std::thread::Threads;
 
-/// Prints what an opening in the mode of the options cuts off, keeps these bytes, and opens the
-/// log.
+/// Opens the log in the mode of the options, and prints what that took out of its files and where it
+/// is kept. Where the log can't be opened nothing is cut, told or kept.
 pub(crate) fn repair<R: Threads + Sync, F: FileSystem + Drop>(
+    rt: &HostRuntime,
     threads: &R,
-    alloc: Global,
     mut files: F,
-    options: &Options<'_>,
+    request: &Request<'_>,
     out: &mut Output,
 ) -> Result<Status> {
-    let cuts = match all_cuts(alloc, &mut files, options) {
-        Ok(cuts) => cuts,
-        Err(fault) => return Err(failure("the files cannot be checked", &fault)),
+    let Some(taken) = guard(rt, &mut files, request)? else {
+        return Ok(Status::Refused);
     };
-    for cut in &cuts {
-        if let Err(fault) = cut.add_line(&mut out.lines) {
-            return Err(failure("what is cut off cannot be told", &fault));
+    match open(threads, rt.alloc(), files, &request.options) {
+        Ok(engine) => {
+            add_taken(&taken, false, out)?;
+            close(engine)?;
+            Ok(Status::Done)
+        }
+        Err(error) => {
+            give_back(rt, request, &taken)?;
+            add_taken(&taken, true, out)?;
+            Err(error)
         }
     }
-    out.print()?;
-    for cut in &cuts {
-        if let Err(fault) = keep_cut(alloc, &mut files, cut) {
-            return Err(failure("what is cut off cannot be kept", &fault));
-        }
-    }
-    close(open(threads, alloc, files, options)?)?;
-    Ok(Status::Done)
 }
 
-// What an opening in the mode of the options cuts off of all files; nothing where it fails.
-fn all_cuts<F: FileSystem>(
-    alloc: Global,
-    files: &mut F,
-    options: &Options<'_>,
-) -> Result<Vec<Cut>, Fault> {
-    let folders = options.folders(alloc)?;
-    let mut all = Vec::new(alloc);
-    for queue in [LogQueue::Rewrite, LogQueue::Append] {
-        let found = inspect(alloc, files, &folders, queue)?;
-        for cut in cuts_of(alloc, &found, options.mode)? {
-            all.push(cut)?;
+// Prints what was taken, or what was moved aside alone.
+fn add_taken(taken: &[Taken], moved: bool, out: &mut Output) -> Result<()> {
+    for each in taken {
+        if moved && each.offset.is_some() {
+            continue;
+        }
+        let file = ("file", Word::Bytes(each.path.as_bytes()));
+        let bytes = ("bytes", Word::Number(each.len));
+        let kept = each.kept.as_ref().map_or("", |kept| kept.as_str());
+        let kept = ("kept", Word::Bytes(kept.as_bytes()));
+        match each.offset {
+            Some(offset) => out.named(&[file, ("cut", Word::Number(offset)), bytes, kept])?,
+            None => out.named(&[file, ("passed", Word::Number(each.len)), kept])?,
         }
     }
-    Ok(all)
+    out.print()
 }

@@ -77,6 +77,28 @@ impl Stored {
         Ok(())
     }
 
+    /// How many log files the Append queue has.
+    pub fn append_files(&self) -> usize {
+        self.log
+            .iter()
+            .filter(|(path, _)| is_append(path.as_str()))
+            .count()
+    }
+
+    /// The files of the Append queue, and those of the Rewrite queue.
+    pub fn by_queue(&self) -> (Total, Total) {
+        let mut append = Total::new();
+        let mut rewrite = Total::new();
+        for (path, len) in &self.log {
+            if is_append(path.as_str()) {
+                append.add(*len);
+            } else {
+                rewrite.add(*len);
+            }
+        }
+        (append, rewrite)
+    }
+
     /// Those of the log files that stand no more.
     pub fn gone<F: FileSystem>(&self, files: &F) -> Total {
         let mut gone = Total::new();
@@ -87,6 +109,11 @@ impl Stored {
         }
         gone
     }
+}
+
+// Whether a log file's path is of the Append queue.
+fn is_append(path: &str) -> bool {
+    path.ends_with(".raftlog")
 }
 
 fn path_in(alloc: Global, folder: &str, name: &str) -> Result<String, Fault> {

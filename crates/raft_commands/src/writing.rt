@@ -2,49 +2,107 @@
 
 use crate::changes::{Change, write};
 use crate::entries::{append, compact};
-use crate::lines::put_lines;
+use crate::guard::{give_back, guard, note_taken};
+use crate::lines::{put_lines, read_entry_file, read_value_file};
 use crate::numbered::load;
 use crate::opening::{close, open};
 use crate::purging::purge;
 use crate::repair::repair;
-use anyhow::{Result, bail};
+use crate::spares::note_prefill;
+use crate::waiting::open_folder;
+use anyhow::{Result, anyhow};
 use raft_command_line::{Request, Verb};
-use raft_console::{Output, Status, bytes_of, failure};
-use raft_disk::DiskFileSystem;
+use raft_console::{Output, Progress, Status, bytes_of, failure};
 use raft_env::FileSystem;
 use raft_log_engine::Engine;
+use raft_looks::Folder;
 use std::thread::Threads;
 
 /// Does what changes the log in the folder of the request. The folder is made where it is missing,
-/// and its lock is held meanwhile; the opening cuts what its mode lets it cut, and reads the files by
-/// threads of the handle.
+/// and its lock is held meanwhile. Nothing is done where the opening would lose more than an
+/// unsynced tail explains and no word allows that; what it cuts off is told, and kept in files
+/// beside. It reads the files by threads of the handle. A dry run does it all in memory.
 pub fn change<R: Threads + Sync>(
     rt: HostRuntime,
     threads: &R,
     request: &Request<'_>,
 ) -> Result<Status> {
-    match DiskFileSystem::open(rt, request.folder) {
-        Ok(files) => change_files(&rt, threads, files, request),
-        Err(fault) => bail!("{fault}"),
+    if request.options.changing.dry_run {
+        return change_image(rt, threads, request);
+    }
+    let files = open_folder(rt, request)?;
+    let changed = change_files(&rt, threads, files, request);
+    if changed.is_err() {
+        tell_hindrances(rt, request)?;
+    }
+    changed
+}
+
+// What the system refuses of the log's own files, where a change failed.
+fn tell_hindrances(rt: HostRuntime, request: &Request<'_>) -> Result<()> {
+    let folder = Folder::open(rt, request.folder, &request.options)?;
+    for hindrance in &folder.hindrances()? {
+        eprintln!(rt; "raftctl: {}: {}", hindrance.path, hindrance.cause)?;
+    }
+    Ok(())
+}
+
+fn change_image<R: Threads + Sync>(
+    rt: HostRuntime,
+    threads: &R,
+    request: &Request<'_>,
+) -> Result<Status> {
+    let folder = Folder::open(rt, request.folder, &request.options)?;
+    let mut progress = Progress::new(rt, request.options.quiet)?;
+    match folder.image(&mut progress)? {
+        Some(image) => change_files(&rt, threads, image, request),
+        None => Err(anyhow!(
+            "{}: files were dropped while they were read",
+            request.folder
+        )),
     }
 }
 
 fn change_files<R: Threads + Sync, F: FileSystem + Drop>(
     rt: &HostRuntime,
     threads: &R,
-    files: F,
+    mut files: F,
     request: &Request<'_>,
 ) -> Result<Status> {
-    let options = &request.options;
-    let mut out = Output::new(*rt, options);
-    match &request.verb {
-        Verb::Repair => return repair(threads, rt.alloc(), files, options, &mut out),
-        Verb::Purge(which) => return purge(rt, threads, files, *which, options, &mut out),
-        _ => {}
+    let mut out = Output::new(*rt, &request.options);
+    if let Verb::Repair = &request.verb {
+        return repair(rt, threads, files, request, &mut out);
     }
-    let mut engine = open(threads, rt.alloc(), files, options)?;
-    carry_out(rt, &mut engine, request, &mut out)?;
-    out.print()?;
+    let Some(taken) = guard(rt, &mut files, request)? else {
+        return Ok(Status::Refused);
+    };
+    note_prefill(rt, &mut files, &request.options)?;
+    let changed = match &request.verb {
+        Verb::Purge(which) => purge(rt, threads, files, *which, &request.options, &mut out),
+        _ => change_log(rt, threads, files, request, &mut out),
+    };
+    match changed {
+        Ok(status) => {
+            note_taken(rt, request, &taken)?;
+            out.print()?;
+            Ok(status)
+        }
+        Err(error) => {
+            give_back(rt, request, &taken)?;
+            Err(error)
+        }
+    }
+}
+
+fn change_log<R: Threads + Sync, F: FileSystem + Drop>(
+    rt: &HostRuntime,
+    threads: &R,
+    files: F,
+    request: &Request<'_>,
+    out: &mut Output,
+) -> Result<Status> {
+    let mut engine = open(threads, rt.alloc(), files, &request.options)?;
+    carry_out(rt, &mut engine, request, out)?;
     if request.sync {
         close(engine)?;
     }
@@ -60,9 +118,21 @@ fn carry_out<F: FileSystem>(
     match &request.verb {
         Verb::Put(group, key, value) => put(rt, engine, *group, (*key, *value), request),
         Verb::Lines(group, path) => put_lines(rt, engine, *group, path, request),
+        Verb::EntryLines(group, path) => {
+            let (first, values) = read_entry_file(rt, path, request)?;
+            append(
+                rt.alloc(),
+                engine,
+                *group,
+                &values,
+                first,
+                request.sync,
+                out,
+            )
+        }
         Verb::Delete(group, key) => delete(rt, engine, *group, key, request),
-        Verb::Append(group, values, at) => {
-            let values = values_of(rt, values, request.options.hex)?;
+        Verb::Append(group, words, lines, at) => {
+            let values = values_of(rt, words, *lines, request)?;
             append(rt.alloc(), engine, *group, &values, *at, request.sync, out)
         }
         Verb::Compact(group, index) => compact(engine, *group, *index, request.sync, out),
@@ -109,10 +179,21 @@ fn delete<F: FileSystem>(
     }
 }
 
-fn values_of(rt: &HostRuntime, words: &[&str], hex: bool) -> Result<Vec<Vec<u8>>> {
+// The values of the words, and behind them those of the lines of a file.
+fn values_of(
+    rt: &HostRuntime,
+    words: &[&str],
+    lines: Option<&str>,
+    request: &Request<'_>,
+) -> Result<Vec<Vec<u8>>> {
     let mut values = Vec::new(rt.alloc());
     for word in words {
-        values.push(bytes_of(rt, word, hex)?)?;
+        values.push(bytes_of(rt, word, request.options.hex)?)?;
+    }
+    if let Some(path) = lines {
+        for value in read_value_file(rt, path, request)? {
+            values.push(value)?;
+        }
     }
     Ok(values)
 }

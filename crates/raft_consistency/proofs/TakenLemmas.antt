@@ -16,7 +16,7 @@ use Rattle.raft_records.specs.PlacedItem.{item_in}
 use Rattle.raft_records.specs.Places.{Blocks}
 use Rattle.raft_records.specs.declared.log_item.LogItem.{LogItem}
 use Rattle.raft_files.specs.Blocks.{items_under}
-use Rattle.raft_recovery.specs.Recovered.{items_of}
+use Rattle.raft_recovery_laws.specs.Recovered.{items_of}
 use Rattle.raft_consistency.specs.Holes.{AreHoles, HasTaken, IndexRange, first_hole, hole_in, holes_in, kept_of, kept_then, ranges_by, ranges_of}
 use Rattle.raft_consistency.specs.declared.checker.ConsistencyChecker.{ConsistencyChecker}
 use Rattle.raft_consistency.specs.declared.checker.GroupEntries.{GroupEntries}

@@ -8,7 +8,7 @@ use Rattle.std.specs.Option.{option_and_then, option_or}
 use Rattle.std.specs.Ordering.{nat_cmp}
 use Rattle.raft_records.specs.Contents.{first_index_of, last_index_of}
 use Rattle.raft_records.specs.Item.{Content, Entries, Clean, Compact, Put, Delete, Item, Batch}
-use Rattle.raft_recovery.specs.Recovered.{items_of}
+use Rattle.raft_recovery_laws.specs.Recovered.{items_of}
 use Rattle.raft_consistency.specs.declared.checker.ConsistencyChecker.{ConsistencyChecker}
 use Rattle.raft_consistency.specs.declared.checker.GroupEntries.{GroupEntries}
 

@@ -2,9 +2,9 @@
 ghost use Rattle.std.specs.Prelude.{◌≡◌};
 
 use crate::checker::ConsistencyChecker;
+use raft_builder::MergingMachine;
 use raft_opening::ReplayMachine;
 use raft_records::{Fault, FileId, Fresh, LogItem, LogQueue};
-use raft_workers::MergingMachine;
 use std::alloc::Global;
 
 impl ReplayMachine for ConsistencyChecker {

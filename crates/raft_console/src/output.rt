@@ -2,7 +2,7 @@
 
 use anyhow::Result;
 use raft_command_line::Options;
-use raft_inspect::{Field, Lines};
+use raft_inspect::{Field, Lines, Word};
 use std::io::{self, Write};
 
 /// How many bytes are kept before they are printed.
@@ -13,6 +13,8 @@ const FULL: usize = 64 * 1024;
 pub struct Output {
     rt: HostRuntime,
     pub lines: Lines,
+    /// A value is printed as its bytes alone.
+    raw: bool,
 }
 
 impl Output {
@@ -20,6 +22,7 @@ impl Output {
         Output {
             rt,
             lines: Lines::new(rt.alloc(), options.json, options.hex),
+            raw: options.raw,
         }
     }
 
@@ -27,6 +30,14 @@ impl Output {
     pub fn line(&mut self, fields: &[Field<'_>]) -> Result<()> {
         self.lines.line(fields)?;
         self.print_if_full()
+    }
+
+    /// Prints a value: as its bytes alone, where that is asked for, else on a line.
+    pub fn value(&mut self, value: &[u8]) -> Result<()> {
+        if self.raw {
+            return Ok(print_bytes(&self.rt, value)?);
+        }
+        self.line(&[("value", Word::Bytes(value))])
     }
 
     /// Adds a line of these words, each after its name.

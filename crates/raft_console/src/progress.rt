@@ -34,6 +34,21 @@ impl Progress {
         Ok(())
     }
 
+    /// Tells how many of a file's bytes are read, where a second went by.
+    pub fn within(&mut self, path: &str, done: u64, whole: u64) -> Result<()> {
+        let Some(next) = self.next else {
+            return Ok(());
+        };
+        let seconds = self.start.elapsed(&self.rt)?.as_secs();
+        if seconds < next {
+            return Ok(());
+        }
+        self.next = Some(seconds.saturating_add(1));
+        let rt = self.rt;
+        eprintln!(rt; "raftctl: {path}: {done} of {whole} bytes read")?;
+        Ok(())
+    }
+
     /// Tells what is begun, where a second went by.
     pub fn begin(&mut self, what: &str) -> Result<()> {
         let Some(next) = self.next else {

@@ -9,6 +9,11 @@ pub enum Status {
     WouldCut,
     /// An opening would fail.
     WouldFail,
+    /// An opening would pass log files over, since a number is missing behind them.
+    WouldPass,
+    /// A change was refused before anything was done, since its opening would lose more than an
+    /// unsynced tail explains.
+    Refused,
 }
 
 impl Status {
@@ -18,6 +23,8 @@ impl Status {
             Status::Absent => 3,
             Status::WouldCut => 4,
             Status::WouldFail => 5,
+            Status::WouldPass => 6,
+            Status::Refused => 7,
         }
     }
 }

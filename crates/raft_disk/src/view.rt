@@ -4,8 +4,9 @@ ghost use Rattle.raft_env.specs.Refusal.{no_refusals};
 ghost use Rattle.raft_memory.specs.Memory.{memory_directory, memory_moments, memory_refusals};
 ghost use Rattle.raft_memory.specs.Settled.{settled_files};
 
-use crate::opening::{OpenFault, check_place};
-use crate::places::{LOCK, join};
+use crate::names::{LOCK, is_log_name};
+use crate::opening::{OpenFault, check_lock, check_mark, check_place};
+use crate::places::join;
 use raft_memory::MemoryFileSystem;
 use std::alloc::Global;
 use std::fs::{self, DirEntry, File, TryLockError};
@@ -23,13 +24,15 @@ pub struct FolderView {
 }
 
 impl FolderView {
-    /// A look at a folder. It fails where there is none.
+    /// A look at a folder. It fails where there is none, and where a fork into it hasn't ended.
     pub fn open(rt: HostRuntime, path: &str) -> Result<FolderView, OpenFault> {
         let alloc = rt.alloc();
         check_place(&rt, path)?;
         if let Err(e) = fs::metadata(&rt, path) {
             return Err(OpenFault::at(alloc, path, e));
         }
+        check_mark(&rt, path)?;
+        check_lock(&rt, path)?;
         let place = String::from_str(alloc, path)?;
         let lock = match open_lock(&rt, path) {
             Ok(lock) => lock,
@@ -52,8 +55,8 @@ impl FolderView {
         self.in_use
     }
 
-    /// The names of the files in a folder, by its path from here, in the order of their bytes, but for the lock's. Links
-    /// count as what they lead to.
+    /// The names of the files in a folder, by its path from here, in the order of their bytes, but for the lock's and
+    /// those that are no UTF-8. Links count as what they lead to.
     pub fn names(&self, folder: &str) -> Result<Vec<String>, OpenFault> {
         let alloc = self.rt.alloc();
         let place = self.place(folder)?;
@@ -65,6 +68,8 @@ impl FolderView {
         for entry in entries {
             match entry {
                 Ok(entry) => self.add_name(&entry, &mut names)?,
+                // A name that is no UTF-8 is no log file's.
+                Err(e) if e.kind() == ErrorKind::InvalidFilename => {}
                 Err(e) => return Err(OpenFault::at(alloc, place.as_str(), e)),
             }
         }
@@ -85,6 +90,7 @@ impl FolderView {
             Ok(_) => Ok(()),
             // A writer deleted it, or a link leads nowhere.
             Err(e) if e.kind() == ErrorKind::NotFound => Ok(()),
+            Err(_) if !is_log_name(entry.file_name()) => Ok(()),
             Err(e) => Err(OpenFault::at(alloc, place.as_str(), e)),
         }
     }

@@ -13,6 +13,24 @@ const LONG: &str = "\
 0123456789abcdef0123456789abcdef0123456789abcdef0123456789abcdef\
 0123456789abcdef0123456789abcdef0123456789abcdef0123456789abcdef";
 
+const A: &str = "0000000000000001.raftlog";
+
+const B: &str = "0000000000000002.raftlog";
+
+const C: &str = "0000000000000003.rewrite";
+
+const E: &str = "0000000000000004.raftlog.reserved";
+
+const Z: &str = "0000000000000005.raftlog";
+
+const LATER: &str = "0000000000000006.raftlog";
+
+/// In a folder that is made.
+const INNER: &str = "d/0000000000000002.raftlog";
+
+/// In one that isn't.
+const AWAY: &str = "f/0000000000000002.raftlog";
+
 enum Step {
     MakeDir(&'static str),
     Create(&'static str),
@@ -38,146 +56,136 @@ struct Case {
 }
 
 const NAMES: &[Row] = &[
-    (Step::Create("a"), None, "a", Some(b"")),
-    (Step::Writer("a"), None, "a", Some(b"")),
-    (Step::Write(0, b"first"), None, "a", Some(b"first")),
-    (Step::Sync, None, "a", Some(b"first")),
-    (Step::Rename("a", "b"), None, "b", Some(b"first")),
+    (Step::Create(A), None, A, Some(b"")),
+    (Step::Writer(A), None, A, Some(b"")),
+    (Step::Write(0, b"first"), None, A, Some(b"first")),
+    (Step::Sync, None, A, Some(b"first")),
+    (Step::Rename(A, B), None, B, Some(b"first")),
     (
         Step::Write(0, b"lost"),
         Some(IoKind::NotFound),
-        "b",
+        B,
         Some(b"first"),
     ),
-    (Step::Create("a"), None, "a", Some(b"")),
-    (Step::Write(0, b"second"), None, "a", Some(b"second")),
-    (Step::Truncate(3), None, "b", Some(b"first")),
-    (Step::Sync, None, "a", Some(b"sec")),
-    (Step::Rename("a", "b"), None, "b", Some(b"sec")),
-    (Step::Delete("a"), Some(IoKind::NotFound), "a", None),
-    (Step::Rename("a", "c"), Some(IoKind::NotFound), "c", None),
-    (Step::MakeDir("d"), None, "d/b", None),
-    (
-        Step::Rename("b", "d"),
-        Some(IoKind::Other),
-        "b",
-        Some(b"sec"),
-    ),
-    (Step::Rename("b", "d/b"), None, "d/b", Some(b"sec")),
-    (Step::Writer("d/b"), None, "b", None),
-    (Step::Delete("d/b"), None, "d/b", None),
-    (Step::Write(0, b"lost"), Some(IoKind::NotFound), "d/b", None),
-    (Step::Create("d/b"), None, "d/b", Some(b"")),
-    (Step::Write(1, b"x"), None, "d/b", Some(b"\0x")),
-    (Step::Delete("d/b"), None, "d/b", None),
-    (Step::Create("e"), None, "e", Some(b"")),
+    (Step::Create(A), None, A, Some(b"")),
+    (Step::Write(0, b"second"), None, A, Some(b"second")),
+    (Step::Truncate(3), None, B, Some(b"first")),
+    (Step::Sync, None, A, Some(b"sec")),
+    (Step::Rename(A, B), None, B, Some(b"sec")),
+    (Step::Delete(A), Some(IoKind::NotFound), A, None),
+    (Step::Rename(A, C), Some(IoKind::NotFound), C, None),
+    (Step::MakeDir("d"), None, INNER, None),
+    (Step::Rename(B, "d"), Some(IoKind::Other), B, Some(b"sec")),
+    (Step::Rename(B, INNER), None, INNER, Some(b"sec")),
+    (Step::Writer(INNER), None, B, None),
+    (Step::Delete(INNER), None, INNER, None),
+    (Step::Write(0, b"lost"), Some(IoKind::NotFound), INNER, None),
+    (Step::Create(INNER), None, INNER, Some(b"")),
+    (Step::Write(1, b"x"), None, INNER, Some(b"\0x")),
+    (Step::Delete(INNER), None, INNER, None),
+    (Step::Create(E), None, E, Some(b"")),
 ];
 
 const NAMES_AGAIN: &[Row] = &[
     (Step::Create("LOCK"), Some(IoKind::Other), "LOCK", Some(b"")),
     (Step::Create("d/../f"), Some(IoKind::Other), "f", None),
     (Step::MakeDir("d//f"), Some(IoKind::Other), "d/f", None),
-    (Step::Create("f/g"), Some(IoKind::NotFound), "f/g", None),
-    (Step::Writer("a"), Some(IoKind::NotFound), "a", None),
-    (Step::Writer("b"), Some(IoKind::NotFound), "b", None),
-    (Step::Writer("c"), Some(IoKind::NotFound), "c", None),
-    (Step::Writer("d/b"), Some(IoKind::NotFound), "d/b", None),
-    (Step::Writer("e"), None, "e", Some(b"")),
-    (Step::Write(0, b"kept"), None, "e", Some(b"kept")),
-    (Step::MakeDir("d"), None, "e", Some(b"kept")),
+    (Step::Create(AWAY), Some(IoKind::NotFound), AWAY, None),
+    (Step::Writer(A), Some(IoKind::NotFound), A, None),
+    (Step::Writer(B), Some(IoKind::NotFound), B, None),
+    (Step::Writer(C), Some(IoKind::NotFound), C, None),
+    (Step::Writer(INNER), Some(IoKind::NotFound), INNER, None),
+    (Step::Writer(E), None, E, Some(b"")),
+    (Step::Write(0, b"kept"), None, E, Some(b"kept")),
+    (Step::MakeDir("d"), None, E, Some(b"kept")),
 ];
 
 const NAMES_WRITTEN: &[Row] = &[
-    (Step::Writer("e"), None, "e", Some(b"kept")),
-    (Step::Allocate(2, 4), None, "e", Some(b"kept\0\0")),
+    (Step::Writer(E), None, E, Some(b"kept")),
+    (Step::Allocate(2, 4), None, E, Some(b"kept\0\0")),
 ];
 
 /// What stands before a call that the system refuses.
 const BEFORE: &[Row] = &[
-    (Step::Create("a"), None, "a", Some(b"")),
-    (Step::Writer("a"), None, "a", Some(b"")),
-    (Step::Write(0, b"kept"), None, "a", Some(b"kept")),
-    (Step::Create("z"), None, "z", Some(b"")),
+    (Step::Create(A), None, A, Some(b"")),
+    (Step::Writer(A), None, A, Some(b"")),
+    (Step::Write(0, b"kept"), None, A, Some(b"kept")),
+    (Step::Create(Z), None, Z, Some(b"")),
 ];
 
 /// Where the file is left, an opening goes on from it.
 const KEPT: &[Row] = &[
-    (Step::Writer("a"), None, "a", Some(b"kept")),
-    (Step::Create("later"), None, "later", Some(b"")),
+    (Step::Writer(A), None, A, Some(b"kept")),
+    (Step::Create(LATER), None, LATER, Some(b"")),
 ];
 
 /// Where another program deleted the file, an opening goes on without it.
 const LOST: &[Row] = &[
-    (Step::Writer("a"), Some(IoKind::NotFound), "a", None),
-    (Step::Create("later"), None, "later", Some(b"")),
+    (Step::Writer(A), Some(IoKind::NotFound), A, None),
+    (Step::Create(LATER), None, LATER, Some(b"")),
 ];
 
 const CREATE: &[Row] = &[
-    (Step::Create(LONG), Some(IoKind::Other), "a", Some(b"kept")),
-    (Step::Create("later"), Some(IoKind::Other), "later", None),
+    (Step::Create(LONG), Some(IoKind::Other), A, Some(b"kept")),
+    (Step::Create(LATER), Some(IoKind::Other), LATER, None),
 ];
 
 const MAKE_DIR: &[Row] = &[
-    (Step::MakeDir(LONG), Some(IoKind::Other), "a", Some(b"kept")),
-    (Step::Create("later"), Some(IoKind::Other), "later", None),
+    (Step::MakeDir(LONG), Some(IoKind::Other), A, Some(b"kept")),
+    (Step::Create(LATER), Some(IoKind::Other), LATER, None),
 ];
 
 const RENAME: &[Row] = &[
-    (
-        Step::Rename("a", LONG),
-        Some(IoKind::Other),
-        "a",
-        Some(b"kept"),
-    ),
-    (Step::Create("later"), Some(IoKind::Other), "later", None),
+    (Step::Rename(A, LONG), Some(IoKind::Other), A, Some(b"kept")),
+    (Step::Create(LATER), Some(IoKind::Other), LATER, None),
 ];
 
 const DELETE: &[Row] = &[
-    (Step::Writer("a"), None, "a", Some(b"kept")),
-    (Step::Delete("z"), None, "z", None),
-    (Step::Lose("a"), None, "a", None),
-    (Step::Delete("a"), Some(IoKind::NotFound), "a", None),
-    (Step::Create("later"), Some(IoKind::Other), "later", None),
+    (Step::Writer(A), None, A, Some(b"kept")),
+    (Step::Delete(Z), None, Z, None),
+    (Step::Lose(A), None, A, None),
+    (Step::Delete(A), Some(IoKind::NotFound), A, None),
+    (Step::Create(LATER), Some(IoKind::Other), LATER, None),
 ];
 
 const WRITE: &[Row] = &[
-    (Step::Writer("a"), None, "a", Some(b"kept")),
-    (Step::Delete("z"), None, "z", None),
-    (Step::Lose("a"), None, "a", None),
-    (Step::Write(0, b"x"), Some(IoKind::NotFound), "a", None),
-    (Step::Create("later"), Some(IoKind::Other), "later", None),
+    (Step::Writer(A), None, A, Some(b"kept")),
+    (Step::Delete(Z), None, Z, None),
+    (Step::Lose(A), None, A, None),
+    (Step::Write(0, b"x"), Some(IoKind::NotFound), A, None),
+    (Step::Create(LATER), Some(IoKind::Other), LATER, None),
 ];
 
 const TRUNCATE: &[Row] = &[
-    (Step::Writer("a"), None, "a", Some(b"kept")),
-    (Step::Delete("z"), None, "z", None),
-    (Step::Lose("a"), None, "a", None),
-    (Step::Truncate(1), Some(IoKind::NotFound), "a", None),
-    (Step::Create("later"), Some(IoKind::Other), "later", None),
+    (Step::Writer(A), None, A, Some(b"kept")),
+    (Step::Delete(Z), None, Z, None),
+    (Step::Lose(A), None, A, None),
+    (Step::Truncate(1), Some(IoKind::NotFound), A, None),
+    (Step::Create(LATER), Some(IoKind::Other), LATER, None),
 ];
 
 /// Room ahead is a wish: where it is refused, all goes on.
 const ALLOCATE: &[Row] = &[
-    (Step::Writer("a"), None, "a", Some(b"kept")),
-    (Step::Delete("z"), None, "z", None),
-    (Step::Lose("a"), None, "a", None),
-    (Step::Allocate(0, 9), Some(IoKind::NotFound), "a", None),
-    (Step::Create("later"), None, "later", Some(b"")),
+    (Step::Writer(A), None, A, Some(b"kept")),
+    (Step::Delete(Z), None, Z, None),
+    (Step::Lose(A), None, A, None),
+    (Step::Allocate(0, 9), Some(IoKind::NotFound), A, None),
+    (Step::Create(LATER), None, LATER, Some(b"")),
 ];
 
 const SYNC: &[Row] = &[
-    (Step::Writer("a"), None, "a", Some(b"kept")),
-    (Step::Delete("z"), None, "z", None),
-    (Step::Lose("a"), None, "a", None),
-    (Step::Sync, Some(IoKind::NotFound), "a", None),
-    (Step::Create("later"), Some(IoKind::Other), "later", None),
+    (Step::Writer(A), None, A, Some(b"kept")),
+    (Step::Delete(Z), None, Z, None),
+    (Step::Lose(A), None, A, None),
+    (Step::Sync, Some(IoKind::NotFound), A, None),
+    (Step::Create(LATER), Some(IoKind::Other), LATER, None),
 ];
 
 /// A file that can't be opened leaves what stands as it is.
 const OPEN: &[Row] = &[
-    (Step::Lose("a"), None, "a", None),
-    (Step::Writer("a"), Some(IoKind::NotFound), "a", None),
-    (Step::Create("b"), None, "b", Some(b"")),
+    (Step::Lose(A), None, A, None),
+    (Step::Writer(A), Some(IoKind::NotFound), A, None),
+    (Step::Create(B), None, B, Some(b"")),
 ];
 
 const CASES: [Case; 10] = [

@@ -7,6 +7,8 @@ mod calls;
 #[cfg(test)]
 mod crashes;
 #[cfg(test)]
+mod foreign;
+#[cfg(test)]
 mod openings;
 #[cfg(test)]
 mod temp;

@@ -31,9 +31,13 @@ const LONG: &str = "\
 0123456789abcdef0123456789abcdef0123456789abcdef0123456789abcdef\
 0123456789abcdef0123456789abcdef0123456789abcdef0123456789abcdef";
 
+const LOG: &str = "0000000000000001.raftlog";
+
+const LOG_IN_G: &str = "g/0000000000000001.raftlog";
+
 const NOT_PLAIN: &str = "neither a folder nor a file of one name";
 
-const CASES: [Case; 6] = [
+const CASES: [Case; 7] = [
     Case {
         made: &[Made::File("f")],
         opened: "/f",
@@ -59,16 +63,27 @@ const CASES: [Case; 6] = [
         text: "its lock cannot be opened: Is a directory",
     },
     Case {
-        made: &[Made::File("f"), Made::Link("f", "g")],
+        made: &[Made::File("f"), Made::Link("f", LOG)],
         opened: "",
-        named: "/g",
+        named: "/0000000000000001.raftlog",
         text: NOT_PLAIN,
     },
     Case {
-        made: &[Made::Folder("g"), Made::File("f"), Made::Name("f", "g/f")],
+        made: &[
+            Made::Folder("g"),
+            Made::File("f"),
+            Made::Name("f", LOG_IN_G),
+        ],
         opened: "/g",
-        named: "/g/f",
+        named: "/g/0000000000000001.raftlog",
         text: NOT_PLAIN,
+    },
+    // The mark of a fork that hasn't ended.
+    Case {
+        made: &[Made::File(LOG), Made::File("FORKING")],
+        opened: "",
+        named: "",
+        text: "a fork into it has not ended: empty it and fork again",
     },
 ];
 

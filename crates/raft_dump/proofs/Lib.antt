@@ -1,3 +1,4 @@
 pub mod CheckLemmas
 pub mod ItemLemmas
 pub mod ItemStepLemmas
+pub mod StaleLemmas

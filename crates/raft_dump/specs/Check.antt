@@ -14,7 +14,7 @@ use Rattle.raft_files.specs.RecordReader.{RecordCursor, cursor_after_header, nex
 use Rattle.raft_files.specs.Scan.{PlacedRecord, end_of_records, end_of_scan, readable_records}
 use Rattle.raft_dump.specs.declared.check.FileCheck.{FileCheck}
 use Rattle.raft_dump.specs.declared.plan.Planned.{Planned}
-use Rattle.raft_dump.specs.Stale.{HasStaleRecord, stale_len}
+use Rattle.raft_dump.specs.Stale.{HasStaleRecord, headed_lens, stale_len, stale_sum}
 use Rattle.raft_dump.specs.declared.plan.Planned.TheVariants.{Keep, Cut, Fail}
 
 -- a reading that begins behind the header
@@ -54,12 +54,13 @@ pub record IsReadingOf (id : FileId) (bytes : List ℕ) (c : FileCheck) : Type 0
   pub end : c.stop ≢ Some fault.Range → c.end ≡ end_of_scan id bytes
   pub records : c.stop ≢ Some fault.Range → c.records ≡ length (readable_records id bytes)
 
--- .. whether the rest of it is zeros, and that a record of an earlier file stands there where it is
--- called stale
+-- .. whether the rest of it is zeros, that a record of an earlier file stands there where it is
+-- called stale, and that more would have been summed than is where it is called unsearched
 pub record IsCheckOf (id : FileId) (bytes : List ℕ) (c : FileCheck) : Type 0 where
   pub reading : IsReadingOf id bytes c
   pub zeros : c.zeros ≡ list_all (λ b. b == 0) (drop c.end bytes)
   pub stale : c.stale ≡ true → HasStaleRecord id (take stale_len (drop c.end bytes))
+  pub unsearched : c.unsearched ≡ true → stale_sum < headed_lens (take stale_len (drop c.end bytes))
 
 -- a broken end is cut off where that is tolerated; a record that is compressed or too long never is
 abbrev pub planned_stop : Bool → ℕ → Option Fault → Planned

@@ -1,13 +1,20 @@
 -- Records of an earlier file behind those of a file that is used again.
-use Rattle.std.specs.Prelude.{◌≡◌, ℕ, ◌<◌, List, drop, None}
+use Rattle.std.specs.Prelude.{◌≡◌, ℕ, ◌+◌, ◌<◌, nat_le, Bool, true, false, List, [], ◌∷◌, length, drop, Option, Some, None, if◌then◌else◌}
 use Rattle.raft_base.specs.FileId.{signature_in}
 use Rattle.raft_base.specs.declared.pipe_log.FileId.{FileId}
 use Rattle.raft_base.specs.declared.pipe_log.Version.TheVariants.{V2}
 use Rattle.raft_records.specs.ItemBatch.{record_refusal}
+use Rattle.raft_records.specs.Record.{Header, record_header}
+use Rattle.raft_dump.specs.declared.stale.StaleSearch.{StaleSearch}
+use Rattle.raft_dump.specs.declared.stale.StaleSearch.TheVariants.{Stale, NotStale, Ended}
 
 -- how many bytes behind the last record are searched
 abbrev pub stale_len : ℕ
 stale_len = 1048576
+
+-- how many bytes of records are summed until a search ends
+abbrev pub stale_sum : ℕ
+stale_sum = 67108864
 
 -- a record that can be read in an earlier file stands in these bytes
 pub record HasStaleRecord (id : FileId) (bytes : List ℕ) : Type 0 where
@@ -17,3 +24,31 @@ pub record HasStaleRecord (id : FileId) (bytes : List ℕ) : Type 0 where
   pub some : 0 < seq
   pub earlier : seq < id.seq
   pub reads : record_refusal (signature_in V2 seq) (drop at bytes) ≡ None
+
+-- the length of a record with this header, where it ends in so many bytes
+abbrev pub held_len : ℕ → Option Header → ℕ
+held_len size None = 0
+held_len size (Some header) = if nat_le header.len size then header.len else 0
+
+-- .. of the record that the bytes may begin with
+abbrev pub headed_len : List ℕ → ℕ
+headed_len bytes = held_len (length bytes) (record_header bytes)
+
+-- .. of those that may begin at each place, together
+abbrev pub headed_lens : List ℕ → ℕ
+headed_lens [] = 0
+headed_lens (b ∷ bytes) = headed_len (b ∷ bytes) + headed_lens bytes
+
+-- what a search of the bytes may answer: that it found none is no promise that there is none
+abbrev pub IsSearched : FileId → List ℕ → StaleSearch → Type 0
+IsSearched id bytes Stale = HasStaleRecord id bytes
+IsSearched id bytes NotStale = Unit {0}
+IsSearched id bytes Ended = stale_sum < headed_lens bytes
+
+abbrev pub says_stale : StaleSearch → Bool
+says_stale Stale = true
+says_stale _ = false
+
+abbrev pub says_ended : StaleSearch → Bool
+says_ended Ended = true
+says_ended _ = false

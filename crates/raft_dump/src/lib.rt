@@ -15,4 +15,4 @@ pub use dumping::dump_with_file_system;
 pub use files::{LogFile, log_file, log_files};
 pub use item_reader::{LogItemReader, RecordPlace};
 pub use plan::{Planned, passed_over, plan_opening};
-pub use stale::{STALE_LEN, begins_stale};
+pub use stale::{STALE_LEN, StaleSearch, search_stale};

@@ -1,4 +1,4 @@
-//! Tests of dumps and checks of log files. Each is one loop over a table of cases.
+//! Tests of dumps and checks of log files, and of how bytes are spelled. Each is one loop over a table of cases.
 #![tactic(auto)]
 
 #[cfg(test)]
@@ -11,3 +11,9 @@ mod dumps;
 mod parts;
 #[cfg(test)]
 mod refused;
+#[cfg(test)]
+mod searches;
+#[cfg(test)]
+mod spellings;
+#[cfg(test)]
+mod stale;

@@ -84,7 +84,7 @@ module _ (target : Path) (n : Directory) (front : List Source) (f : Source) (res
           ∙ others q (λ among. out (subst (λ paths. Contains paths q) (sym all) (Contains-append_left (copies_in target front) (copy_in target f ∷ []) q among)))
 
       -- while its copy is made
-      pub moment_next : AreCopied target front n mid → AreBeingCopied target (front ++ f ∷ rest) n after
+      pub moment_next : AreCopied target front n mid → AreBeingCopied [] target (front ++ f ∷ rest) n after
       moment_next copied = record { done = front; rest = f ∷ rest; is = refl; copied = earlier front (λ q among. among) copied; others = others_next }
 
 -- what has been copied, or is on its way, is some of the files
@@ -94,11 +94,11 @@ among_started target done (f ∷ rest) q among =
     let all : copies_in target (done ++ f ∷ []) ++ copies_in target rest ≡ copies_in target (done ++ f ∷ rest) = sym (map-append (copy_in target) (done ++ f ∷ []) rest) ∙ ap (copies_in target) (append_assoc done (f ∷ []) rest) in
     subst (λ paths. Contains paths q) all (Contains-append_left (copies_in target (done ++ f ∷ [])) (copies_in target rest) q among)
 
-pub others_of : (target : Path) (files : List Source) (old n : Directory) → AreBeingCopied target files old n → LeavesAllBut (copies_in target files) old n
+pub others_of : (target : Path) (files : List Source) (old n : Directory) → AreBeingCopied [] target files old n → LeavesAllBut (copies_in target files) old n
 others_of target files old n being = λ q out. being.others q (λ among. out (subst (λ fs. Contains (copies_in target fs) q) (sym being.is) (among_started target being.done being.rest q among)))
 
 -- before all copies
-pub none_being_copied : (target : Path) (files : List Source) (n : Directory) → AreBeingCopied target files n n
+pub none_being_copied : (target : Path) (files : List Source) (n : Directory) → AreBeingCopied [] target files n n
 none_being_copied target files n = record { done = []; rest = files; is = refl; copied = tt; others = λ q out. refl }
 
 -- the file at a place of a list
@@ -163,13 +163,13 @@ module _ (target : Path) (files : List SourceFile) (i : ℕ) (item : SourceFile)
       subst (λ fs. LeavesAllBut (copies_in target fs) n after) (sym (next_part files i item next.within next.place))
       (others_next target n (map source_of (take i files)) (source_of item) (map source_of (drop (i + 1) files)) next.can mid next.others after only)
 
-  next_moment : (m : Directory) → LeavesOthers (copy_in target (source_of item)) mid m → AreBeingCopied target (map source_of files) n m
+  next_moment : (m : Directory) → LeavesOthers (copy_in target (source_of item)) mid m → AreBeingCopied [] target (map source_of files) n m
   next_moment m only =
-      subst (λ fs. AreBeingCopied target fs n m) (sym (parts files i item next.within next.place))
+      subst (λ fs. AreBeingCopied [] target fs n m) (sym (parts files i item next.within next.place))
       (moment_next target n (map source_of (take i files)) (source_of item) (map source_of (drop (i + 1) files)) next.can mid next.others m only next.copied)
 
 -- .. by calls on a file system
 pub copy_moves : {F : Type 0} {directory : F → Directory} {moments : F → List Directory} {refusals_of : F → Refusals} (target : Path) (files : List SourceFile) (i : ℕ) (item : SourceFile) (path : Path) {old mid new : F} → IsNextCopy target files i item (directory old) (directory mid) → path ≡ copy_in target (source_of item)
-    → MovesBy directory moments refusals_of (AreBeingCopied target (map source_of files)) old mid → MovesBy directory moments refusals_of (LeavesOthers path) mid new → MovesBy directory moments refusals_of (AreBeingCopied target (map source_of files)) old new
+    → MovesBy directory moments refusals_of (AreBeingCopied [] target (map source_of files)) old mid → MovesBy directory moments refusals_of (LeavesOthers path) mid new → MovesBy directory moments refusals_of (AreBeingCopied [] target (map source_of files)) old new
 copy_moves {directory = directory} target files i item path {old} {mid} next path_is earlier later =
     moves_then earlier (λ m only. next_moment target files i item (directory old) (directory mid) next m (subst (λ p. LeavesOthers p (directory mid) m) path_is only)) later

@@ -10,8 +10,8 @@ use Rattle.raft_env.specs.Directory.{Directory, Path, file_at}
 use Rattle.raft_files.specs.Scan.{readable_batches}
 use Rattle.raft_files.specs.Writer.{bytes_at, bytes_of}
 use Rattle.raft_config.specs.Folders.{Folders, all_of}
-use Rattle.raft_recovery.specs.Recovered.{recovered}
-use Rattle.raft_held.specs.Contents.{contents_at, known_at, recovered_groups}
+use Rattle.raft_recovery_laws.specs.Recovered.{recovered}
+use Rattle.raft_crash_laws.specs.Contents.{contents_at, known_at, recovered_groups}
 use Rattle.raft_pipes.specs.Files.{IsDurable}
 use Rattle.raft_pipes.specs.Folder.{AreClear, readable_of, readable_queue}
 use Rattle.raft_pipes.specs.Numbered.{AreNumbered, AreSingle, IsRun, StandAlone, end_of_numbers, found_or, has_file, in_queue, joined, kept_files, last_run, path_of, paths_of, run_below}

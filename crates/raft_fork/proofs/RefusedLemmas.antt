@@ -20,9 +20,9 @@ use Rattle.raft_pipes.proofs.NamesInLemmas.{has_cases, has_later}
 use Rattle.raft_pipes.proofs.PlacesLemmas.{here_first, none_stands, one_of}
 use Rattle.raft_pipes.proofs.QueueFilesLemmas.{no_file}
 use Rattle.raft_opening.proofs.SingleLemmas.{single_numbered}
-use Rattle.raft_fork.specs.Fork.{IsFree, Source, all_sources_in, copies_in, copy_in, sources_in, standing}
+use Rattle.raft_fork.specs.Fork.{IsFree, Source, all_sources_in, copies_in, copy_in, mark_in, sources_in, standing}
 use Rattle.raft_pipes.specs.Queue.{IsMakeRefusal}
-use Rattle.raft_fork.specs.Refused.{HasLogIn, IsCopyRefusal, IsForkRefusal, IsInFolder, IsInOneOf, IsInvalid, IsSettingsRefusal, IsSourceRefusal, IsTargetRefusal, fork_contradiction}
+use Rattle.raft_fork.specs.Refused.{HasLogIn, IsCopyRefusal, IsForkRefusal, IsInFolder, IsInOneOf, IsInvalid, IsMarkRefusal, IsMarkedRefusal, IsSettingsRefusal, IsSourceRefusal, IsTargetRefusal, fork_contradiction}
 use Rattle.raft_fork.proofs.PlacesLemmas.{numbered, single_same}
 
 -- no log file stands where none is kept
@@ -46,8 +46,8 @@ pub single_both : (there : List Path) (n : Directory) → AreSingle there Append
 single_both there n append rewrite Append = append
 single_both there n append rewrite Rewrite = rewrite
 
-pub is_free : (target : Path) (n m : Directory) → LeavesAll n m → (HasFile n target → ⊥) → kept_files (target ∷ []) Append m ≡ [] → kept_files (target ∷ []) Rewrite m ≡ [] → IsFree target n
-is_free target n m same folder append rewrite = record { folder = folder; logs = λ path log. sym (same path) ∙ ap (file_at m) log.2 ∙ by_queue log.0.queue log.0.seq log.1 }
+pub is_free : (target : Path) (n m : Directory) → LeavesAll n m → (HasFile n target → ⊥) → file_at m (mark_in target) ≡ None → kept_files (target ∷ []) Append m ≡ [] → kept_files (target ∷ []) Rewrite m ≡ [] → IsFree target n
+is_free target n m same folder unmarked append rewrite = record { folder = folder; unmarked = sym (same (mark_in target)) ∙ unmarked; logs = λ path log. sym (same path) ∙ ap (file_at m) log.2 ∙ by_queue log.0.queue log.0.seq log.1 }
   where
     by_queue : (queue : LogQueue) (seq : ℕ) → seq < end_of_numbers → file_at m (path_of target (in_queue queue seq)) ≡ None
     by_queue Append seq short = none_kept target Append m append seq short
@@ -78,9 +78,16 @@ folder_refused target n old new _ refused = refused
 
 pub later_target : (target : Path) (n m : Directory) (old mid new : Refusals) (e : Fault) → LeavesAll n m → NoFewer old mid → IsTargetRefusal target m mid new e → IsTargetRefusal target n old new e
 later_target target n m old mid new (fault.InvalidArgument text) same fewer (inl file) = inl (subst (λ o. IsSome o) (same target) file)
-later_target target n m old mid new (fault.InvalidArgument text) same fewer (inr log) = inr (log.0, log.1, subst (λ o. IsSome o) (same log.0) log.2)
+later_target target n m old mid new (fault.InvalidArgument text) same fewer (inr (inl log)) = inr (inl (log.0, log.1, subst (λ o. IsSome o) (same log.0) log.2))
+later_target target n m old mid new (fault.InvalidArgument text) same fewer (inr (inr mark)) = inr (inr (subst (λ o. IsSome o) (same (mark_in target)) mark))
 later_target target n m old mid new (fault.Io kind text) same fewer refused = (omega (arith, fewer.0, refused.0), refused.1)
 later_target target n m old mid new _ same fewer refused = refused
+
+-- .. for a mark
+pub marked_target : (target : Path) (n m : Directory) (old new : Refusals) (e : Fault) → LeavesAll n m → IsMarkRefusal target m e → IsTargetRefusal target n old new e
+marked_target target n m old new (fault.InvalidArgument text) same mark = inr (inr (subst (λ o. IsSome o) (same (mark_in target)) mark))
+marked_target target n m old new fault.Memory same mark = tt
+marked_target target n m old new _ same mark = absurd mark
 
 -- refusals of the source
 pub listed_source : (there : List Path) (n : Directory) (old new : Refusals) (e : Fault) → IsListRefusal there old new e → IsSourceRefusal there n old new e
@@ -149,8 +156,8 @@ module _ (c : Config) (target : Path) (n : Directory) (old new : Refusals) where
 
   pub fork_target : (e : Fault) → fork_contradiction c ≡ None → IsTargetRefusal target n old new e → IsForkRefusal c target n old new e
   fork_target (fault.InvalidArgument text) none (inl file) = as_valid none text.now (inl file)
-  fork_target (fault.InvalidArgument text) none (inr log) = as_valid none text.now (inr (inl log))
-  fork_target (fault.Io kind text) none refused = (refused.0, (target, (target, here_first target (standing (folders_in c) n), inl refl), refused.1))
+  fork_target (fault.InvalidArgument text) none (inr fork) = as_valid none text.now (inr (inl fork))
+  fork_target (fault.Io kind text) none refused = (refused.0, inl (target, (target, here_first target (standing (folders_in c) n), inl refl), refused.1))
   fork_target fault.Memory none refused = tt
   fork_target _ none refused = absurd refused
 
@@ -158,7 +165,7 @@ module _ (c : Config) (target : Path) (n : Directory) (old new : Refusals) where
   fork_source m mid (fault.InvalidArgument text) none free same fewer refused =
       as_valid none text.now (inr (inr (free, (refused.0, (λ single. refused.1 (single_same (standing (folders_in c) n) refused.0 m n (λ path. sym (same path)) single))))))
   fork_source m mid (fault.Io kind text) none free same fewer refused =
-      (omega (arith, fewer.0, refused.0), (refused.1.0, (refused.1.1.0, has_later target refused.1.1.0 (standing (folders_in c) n) refused.1.1.1, refused.1.1.2), refused.1.2))
+      (omega (arith, fewer.0, refused.0), inl (refused.1.0, (refused.1.1.0, has_later target refused.1.1.0 (standing (folders_in c) n) refused.1.1.1, refused.1.1.2), refused.1.2))
   fork_source m mid fault.Memory none free same fewer refused = tt
   fork_source m mid _ none free same fewer refused = absurd refused
 
@@ -168,6 +175,17 @@ module _ (c : Config) (target : Path) (n : Directory) (old new : Refusals) where
   fork_copy m mid e same fewer (inr refused) = by_fault e (place_of_copy target (standing (folders_in c) n) m refused.0 refused.1) refused.2
     where
       by_fault : (e : Fault) → IsInOneOf (target ∷ standing (folders_in c) n) refused.0 → FailsAt (NamesFile refused.0) mid new e → IsForkRefusal c target n old new e
-      by_fault (fault.Io kind text) place at = (omega (arith, fewer.0, at.0), (refused.0, place, at.1))
+      by_fault (fault.Io kind text) place at = (omega (arith, fewer.0, at.0), inl (refused.0, place, at.1))
       by_fault fault.Memory place at = tt
       by_fault _ place at = absurd at
+
+  -- .. or a refused call on the mark
+  pub fork_marked : (m : Directory) (mid : Refusals) (e : Fault) → LeavesAll n m → NoFewer old mid → IsMarkedRefusal target (all_sources_in (standing (folders_in c) n) m) mid new e → IsForkRefusal c target n old new e
+  fork_marked m mid e same fewer (inl mark) = by_mark e mark
+    where
+      by_mark : (e : Fault) → FailsAt (NamesFile (mark_in target)) mid new e → IsForkRefusal c target n old new e
+      by_mark (fault.InvalidArgument text) at = absurd at
+      by_mark (fault.Io kind text) at = (omega (arith, fewer.0, at.0), inr at.1)
+      by_mark fault.Memory at = tt
+      by_mark _ at = absurd at
+  fork_marked m mid e same fewer (inr copy) = fork_copy m mid e same fewer copy

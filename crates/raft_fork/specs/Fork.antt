@@ -1,11 +1,11 @@
 -- What a fork of log files is.
-use Rattle.std.specs.Prelude.{◌≡◌, ◌⊎◌, ◌++◌, true, Contains, List, [], None, map, take}
+use Rattle.std.specs.Prelude.{◌≡◌, ◌⊎◌, ◌++◌, ◌∷◌, true, Contains, List, [], None, map, take}
 use Rattle.std.specs.List.{AllByRecursion, filter}
 use Rattle.std.specs.String.{string_bytes}
 use Rattle.raft_base.specs.declared.pipe_log.FileId.{FileId}
 use Rattle.raft_base.specs.declared.pipe_log.LogQueue.{LogQueue}
 use Rattle.raft_base.specs.declared.pipe_log.LogQueue.TheVariants.{Append, Rewrite}
-use Rattle.raft_env.specs.Directory.{Directory, HasFile, Path, file_at}
+use Rattle.raft_env.specs.Directory.{Directory, HasFile, Path, file_at, path_in}
 use Rattle.raft_files.specs.Writer.{bytes_at}
 use Rattle.raft_config.specs.Folders.{Folders, all_of}
 use Rattle.raft_pipes.specs.Files.{IsDurable}
@@ -14,6 +14,7 @@ use Rattle.raft_pipes.specs.Folder.{HasMadeFolder, IsLogPathIn}
 use Rattle.raft_pipes.specs.Numbered.{AreDistinct, AreSingle, in_queue, kept_files, path_of}
 use Rattle.raft_pipes.specs.Queue.{LeavesAll}
 use Rattle.raft_fork.specs.declared.forking.CopyDetails.{CopyDetails}
+use Rattle.raft_fork.specs.declared.marking.TheConstants.{FORK_MARK}
 use Rattle.raft_fork.specs.declared.source.SourceFile.{SourceFile}
 
 -- a source file: what it is called by, and where it stands
@@ -63,10 +64,15 @@ abbrev pub AreThereOrEmpty : Folders → Directory → Type 0
 AreThereOrEmpty folders n =
     (folder : Path) → Contains (all_of folders) folder → IsThereOrEmpty folder n
 
--- no file stands in the target's place, and no log file in it
+-- the path of the mark of a fork that hasn't ended
+abbrev pub mark_in : Path → Path
+mark_in target = path_in target FORK_MARK.now
+
+-- no file stands in the target's place, no log file in it, and no mark
 pub record IsFree (target : Path) (n : Directory) : Type 0 where
   pub folder : HasFile n target → ⊥
   pub logs : HasNoLogIn target n
+  pub unmarked : file_at n (mark_in target) ≡ None
 
 -- the target has copies of the folders' log files and no others, and all else is as before
 pub record IsForkOf (folders : Folders) (target : Path) (old new : Directory) : Type 0 where
@@ -76,23 +82,42 @@ pub record IsForkOf (folders : Folders) (target : Path) (old new : Directory) : 
   pub others : LeavesAllBut (copies_in target (sources_of folders old)) old new
   pub folder : HasMadeFolder target old new
 
--- a moment of copying: these files are copied, and of the rest the first may be on its way
-pub record AreBeingCopied (target : Path) (files : List Source) (old n : Directory) : Type 0 where
+-- a moment of copying: these files are copied, and of the rest the first may be on its way; other
+-- files than the copies and those at the paths aside are as before
+pub record AreBeingCopied (aside : List Path) (target : Path) (files : List Source)
+    (old n : Directory) : Type 0 where
   pub done : List Source
   pub rest : List Source
   pub is : files ≡ done ++ rest
   pub copied : AreCopied target done old n
-  pub others : LeavesAllBut (copies_in target (done ++ take 1 rest)) old n
+  pub others : LeavesAllBut (aside ++ copies_in target (done ++ take 1 rest)) old n
 
--- .. of the folders' log files, to a target that was free
+-- a moment of copying under the mark, which stands
+pub record AreBeingMarked (target : Path) (files : List Source) (old n : Directory) : Type 0 where
+  pub marked : HasFile n (mark_in target)
+  pub copies : AreBeingCopied (mark_in target ∷ []) target files old n
+
+-- all files are copied, and no other file and no folder is new
+pub record AreAllCopied (target : Path) (files : List Source) (old n : Directory) : Type 0 where
+  pub copied : AreCopied target files old n
+  pub others : LeavesAllBut (copies_in target files) old n
+  pub folders : n.is_folder ≡ old.is_folder
+
+-- a moment of copying with a mark: no file has changed, or the mark stands, or all are copied
+abbrev pub IsMarkedCopying : Path → List Source → Directory → Directory → Type 0
+IsMarkedCopying target files old n =
+    LeavesAll old n ⊎ AreBeingMarked target files old n ⊎ AreAllCopied target files old n
+
+-- the mark stands in a target that was free, and the folders' log files are being copied to it
 pub record IsPartOfFork (folders : Folders) (target : Path) (old n : Directory) : Type 0 where
   pub free : IsFree target old
   pub single : (queue : LogQueue) → AreSingle (standing folders old) queue old
-  pub files : AreBeingCopied target (sources_of folders old) old n
+  pub files : AreBeingMarked target (sources_of folders old) old n
 
--- a moment of a fork: no file has changed, or some are copied
+-- a moment of a fork: no file has changed, or its mark stands, or it is whole
 abbrev pub IsForking : Folders → Path → Directory → Directory → Type 0
-IsForking folders target old n = LeavesAll old n ⊎ IsPartOfFork folders target old n
+IsForking folders target old n =
+    LeavesAll old n ⊎ IsPartOfFork folders target old n ⊎ IsForkOf folders target old n
 
 -- the files can be copied one by one: each stands, no copy does, and no two have one place
 pub record CanBeCopied (target : Path) (files : List Source) (n : Directory) : Type 0 where

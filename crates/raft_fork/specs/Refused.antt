@@ -13,7 +13,7 @@ use Rattle.raft_config.specs.declared.config.RecoveryMode.{RecoveryMode}
 use Rattle.raft_config.specs.declared.config.RecoveryMode.TheVariants.{TolerateAnyCorruption}
 use Rattle.raft_pipes.specs.Folder.{IsLogPathIn}
 use Rattle.raft_pipes.specs.Numbered.{AreSingle}
-use Rattle.raft_fork.specs.Fork.{IsFree, Source, copies_in, standing}
+use Rattle.raft_fork.specs.Fork.{IsFree, Source, copies_in, mark_in, standing}
 
 abbrev pub tolerates_all : RecoveryMode → Bool
 tolerates_all TolerateAnyCorruption = true
@@ -37,10 +37,20 @@ IsSettingsRefusal c _ = ⊥
 abbrev pub HasLogIn : Path → Directory → Type 0
 HasLogIn target n = (path : Path) × IsLogPathIn target path × HasFile n path
 
--- .. as a target also where a log file stands in it
+-- .. or the mark of a fork that hasn't ended
+abbrev pub HasForkIn : Path → Directory → Type 0
+HasForkIn target n = HasLogIn target n ⊎ HasFile n (mark_in target)
+
+-- the mark stands, or memory is wanting
+abbrev pub IsMarkRefusal : Path → Directory → Fault → Type 0
+IsMarkRefusal target n (fault.InvalidArgument text) = HasFile n (mark_in target)
+IsMarkRefusal target n fault.Memory = Unit {0}
+IsMarkRefusal target n _ = ⊥
+
+-- a file stands in the target's place, or a fork in it
 abbrev pub IsTargetRefusal : Path → Directory → Refusals → Refusals → Fault → Type 0
 IsTargetRefusal target n old new (fault.InvalidArgument text) =
-    HasFile n target ⊎ HasLogIn target n
+    HasFile n target ⊎ HasForkIn target n
 IsTargetRefusal target n old new e = FailsAt (NamesFile target) old new e
 
 -- a folder, or a log file in it
@@ -68,11 +78,20 @@ IsCopyRefusal target files old new e = (e ≡ fault.Memory) ⊎ ((path : Path)
     × (Contains (copies_in target files) path ⊎ Contains (map (λ f. f.1) files) path)
     × FailsAt (NamesFile path) old new e)
 
+-- .. or one on the mark
+abbrev pub IsMarkedRefusal : Path → List Source → Refusals → Refusals → Fault → Type 0
+IsMarkedRefusal target files old new e =
+    FailsAt (NamesFile (mark_in target)) old new e ⊎ IsCopyRefusal target files old new e
+
+-- the text of a fault by storage names a folder of these or a log file in one, or the target's mark
+abbrev pub NamesPlace : Path → List Path → String Global → Type 0
+NamesPlace target folders text = NamesOneOf folders text ⊎ NamesFile (mark_in target) text
+
 -- which argument is refused: settings for the first thing that is wrong with them; else a target
 -- that isn't free; else a source in both of whose folders a number that would be kept stands
 abbrev pub IsInvalid : Option (List ℕ) → List Path → Path → Directory → List ℕ → Type 0
 IsInvalid (Some reason) there target n text = text ≡ reason
-IsInvalid None there target n text = HasFile n target ⊎ HasLogIn target n
+IsInvalid None there target n text = HasFile n target ⊎ HasForkIn target n
     ⊎ (IsFree target n × ((queue : LogQueue) × (AreSingle there queue n → ⊥)))
 
 -- a fork is refused for an argument, by a call on a file or a folder, which the fault names, or for
@@ -81,4 +100,4 @@ abbrev pub IsForkRefusal : Config → Path → Directory → Refusals → Refusa
 IsForkRefusal c target n old new (fault.InvalidArgument text) =
     IsInvalid (fork_contradiction c) (standing (folders_in c) n) target n text.now
 IsForkRefusal c target n old new e =
-    FailsAt (NamesOneOf (target ∷ standing (folders_in c) n)) old new e
+    FailsAt (NamesPlace target (target ∷ standing (folders_in c) n)) old new e

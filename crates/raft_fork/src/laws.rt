@@ -1,12 +1,12 @@
 //! What a fork opens as.
-ghost use Rattle.std.specs.Prelude.{◌≡◌, [], ◌∷◌, None, ℕ};
+ghost use Rattle.std.specs.Prelude.{◌≡◌, ◌⊎◌, [], ◌∷◌, None, ℕ};
 ghost use Rattle.raft_base.specs.declared.pipe_log.LogQueue.{LogQueue};
-ghost use Rattle.raft_env.specs.Directory.{Directory, Path};
+ghost use Rattle.raft_env.specs.Directory.{Directory, HasFile, Path};
 ghost use Rattle.raft_config.specs.Folders.{Folders};
-ghost use Rattle.raft_held.specs.Contents.{contents_at, known_at};
+ghost use Rattle.raft_crash_laws.specs.Contents.{contents_at, known_at};
 ghost use Rattle.raft_pipes.specs.Folder.{AreClear, readable_queue};
 ghost use Rattle.raft_pipes.specs.Numbered.{AreSingle};
-ghost use Rattle.raft_fork.specs.Fork.{AreThereOrEmpty, IsForkOf};
+ghost use Rattle.raft_fork.specs.Fork.{AreThereOrEmpty, HasNoLogIn, IsForkOf, IsForking, IsFree, mark_in};
 
 /// A fork has, with the target as its one folder, what its source had: no folder's place is taken (`clear`), no number
 /// stands in two (`single`), and of each queue the same batches can be read (`reads`). So both stand for the same contents
@@ -32,4 +32,12 @@ pub fn a_fork_reads_as_its_source()
         → AreThereOrEmpty source n
         → (group : ℕ) → known_at (record { main = target; spill = None }) m group
         ≡ known_at source n group }
+{}
+
+/// At each moment of a fork into a free target, as `fork` tells them: no log file stands in the target, or the mark does,
+/// or the fork is whole.
+pub fn a_fork_under_way_is_marked()
+    ensures { (source : Folders) (target : Path) (n m : Directory) → IsFree target n
+        → IsForking source target n m
+        → HasNoLogIn target m ⊎ HasFile m (mark_in target) ⊎ IsForkOf source target n m }
 {}

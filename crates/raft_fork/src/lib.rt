@@ -4,6 +4,8 @@
 mod copying;
 mod forking;
 pub mod laws;
+mod marking;
 mod source;
 
 pub use forking::{CopyDetails, fork};
+pub use marking::FORK_MARK;

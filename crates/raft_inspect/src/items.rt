@@ -1,6 +1,7 @@
 //! Lines of what the records of log files hold, item by item.
 ghost use Rattle.raft_env.specs.Moments.{OnlyReads};
 
+use crate::filter::{Filter, ItemKind};
 use crate::lines::{Field, Lines, Word};
 use crate::report::queue_name;
 use raft_dump::RecordPlace;
@@ -11,31 +12,36 @@ use raft_records::{
 };
 use std::alloc::Global;
 
-/// Adds a line for an item, and for each of its entries; their bytes are read from the file.
+/// Adds a line for an item, and for each of its entries, where the filter takes them; the entries' bytes are read from
+/// the file.
 pub fn add_item<F: FileSystem>(
     alloc: Global,
     file_system: &mut F,
     reader: &mut LogFileReader<F>,
     place: Option<RecordPlace>,
     item: &LogItem,
+    filter: Filter,
     lines: &mut Lines,
 ) -> Result<(), Fault> {
     let [queue, file, offset] = place_fields(place);
-    let front = [
-        queue,
-        file,
-        offset,
-        ("group", Word::Number(item.raft_group_id)),
-    ];
+    let group = item.raft_group_id;
+    let front = [queue, file, offset, ("group", Word::Number(group))];
     match &item.content {
         LogItemContent::EntryIndexes(entries) => {
             for entry in entries {
-                add_entry(alloc, file_system, reader, front, entry, lines)?;
+                if filter.takes(group, ItemKind::Entry, Some(entry.index)) {
+                    add_entry(alloc, file_system, reader, front, entry, lines)?;
+                }
             }
             Ok(())
         }
-        LogItemContent::Command(command) => add_command(front, *command, lines),
-        LogItemContent::Kv(pair) => add_pair(front, pair, lines),
+        LogItemContent::Command(command) if filter.takes_command(group, *command) => {
+            add_command(front, *command, lines)
+        }
+        LogItemContent::Kv(pair) if filter.takes(group, ItemKind::of_pair(pair), None) => {
+            add_pair(front, pair, lines)
+        }
+        _ => Ok(()),
     }
 }
 
@@ -80,10 +86,10 @@ fn add_command(
 ) -> Result<(), Fault> {
     let [queue, file, offset, group] = front;
     match command {
-        Command::Clean => lines.line(&[queue, file, offset, group, kind("clean")])?,
+        Command::Clean => lines.line(&[queue, file, offset, group, kind(ItemKind::Clean)])?,
         Command::Compact { index } => {
             let index = ("index", Word::Number(index));
-            lines.line(&[queue, file, offset, group, kind("compact"), index])?;
+            lines.line(&[queue, file, offset, group, kind(ItemKind::Compact), index])?;
         }
     }
     Ok(())
@@ -97,14 +103,14 @@ fn add_pair(front: [Field<'static>; 4], pair: &KeyValue, lines: &mut Lines) -> R
             file,
             offset,
             group,
-            kind("put"),
+            kind(ItemKind::Put),
             ("key", Word::Bytes(key)),
             ("length", Word::Number(value.len() as u64)),
             ("value", Word::Bytes(value)),
         ])?,
         KeyValue::Delete { key } => {
             let key = ("key", Word::Bytes(key));
-            lines.line(&[queue, file, offset, group, kind("delete"), key])?;
+            lines.line(&[queue, file, offset, group, kind(ItemKind::Delete), key])?;
         }
     }
     Ok(())
@@ -134,7 +140,7 @@ fn add_value(
         file,
         offset,
         group,
-        kind("entry"),
+        kind(ItemKind::Entry),
         ("index", Word::Number(index)),
         ("length", Word::Number(value.len() as u64)),
         ("value", Word::Bytes(value)),
@@ -163,6 +169,6 @@ fn entry_bytes<F: FileSystem>(
     }
 }
 
-fn kind(name: &'static str) -> Field<'static> {
-    ("kind", Word::Text(name))
+fn kind(kind: ItemKind) -> Field<'static> {
+    ("kind", Word::Text(kind.name()))
 }

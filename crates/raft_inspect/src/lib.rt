@@ -2,9 +2,12 @@
 //! values and file systems, without the engine.
 #![tactic(auto)]
 
+mod behind;
 mod cuts;
+mod filter;
 mod items;
 mod lines;
+mod losses;
 mod outlook;
 mod picture;
 mod queue_files;
@@ -13,9 +16,12 @@ mod spelling;
 mod svg;
 mod usage;
 
-pub use cuts::{Cut, cuts_of, keep_cut};
+pub use behind::{Behind, search_behind};
+pub use cuts::{Cut, Unexplained, cuts_of};
+pub use filter::{Filter, ItemKind};
 pub use items::{add_fault, add_item};
 pub use lines::{Field, Lines, Word};
+pub use losses::{Losses, Passed, losses_of};
 pub use outlook::Outlook;
 pub use picture::draw;
 pub use queue_files::{QueueFiles, inspect};

@@ -141,8 +141,40 @@ impl Lines {
         }
     }
 
+    /// Adds one object of these words, and of a list for each of these names: the lines of another, which are objects.
+    pub fn document(
+        &mut self,
+        fields: &[Field<'_>],
+        lists: &[(&'static str, &Lines)],
+    ) -> Result<(), AllocError> {
+        self.byte(b'{')?;
+        self.members(fields)?;
+        for (name, list) in lists {
+            self.byte(b',')?;
+            self.quoted(name)?;
+            self.text(":[")?;
+            self.joined(list.as_bytes())?;
+            self.byte(b']')?;
+        }
+        self.text("}\n")
+    }
+
+    // Lines with a comma between two of them.
+    fn joined(&mut self, lines: &[u8]) -> Result<(), AllocError> {
+        let lines = lines.strip_suffix(b"\n").unwrap_or(lines);
+        for byte in lines {
+            self.byte(if *byte == b'\n' { b',' } else { *byte })?;
+        }
+        Ok(())
+    }
+
     fn object(&mut self, fields: &[Field<'_>]) -> Result<(), AllocError> {
         self.byte(b'{')?;
+        self.members(fields)?;
+        self.text("}\n")
+    }
+
+    fn members(&mut self, fields: &[Field<'_>]) -> Result<(), AllocError> {
         for (place, (name, word)) in fields.iter().enumerate() {
             if place > 0 {
                 self.byte(b',')?;
@@ -151,7 +183,7 @@ impl Lines {
             self.byte(b':')?;
             self.value(*word)?;
         }
-        self.text("}\n")
+        Ok(())
     }
 
     // Bytes that are no text stand in an object of their digits.

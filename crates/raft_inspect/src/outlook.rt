@@ -18,6 +18,9 @@ pub struct Outlook {
     pub zeros: u64,
     /// How many bytes it cuts that an earlier file left where this one stands.
     pub stale: u64,
+    /// How many files that hold something it passes over, and how many bytes they have.
+    pub passed: u64,
+    pub passed_bytes: u64,
 }
 
 impl Outlook {
@@ -29,6 +32,8 @@ impl Outlook {
             bytes: 0,
             zeros: 0,
             stale: 0,
+            passed: 0,
+            passed_bytes: 0,
         }
     }
 
@@ -44,6 +49,10 @@ impl Outlook {
         }
         for (planned, check) in found.plan(alloc, mode)?.iter().zip(found.kept_checks()) {
             self.add_file(*planned, check);
+        }
+        if let Some(passed) = found.passed() {
+            self.passed = self.passed.saturating_add(passed.files);
+            self.passed_bytes = self.passed_bytes.saturating_add(passed.bytes);
         }
         Ok(())
     }

@@ -90,6 +90,20 @@ impl QueueFiles {
         files.sort_by_key(|file| file.id.seq)
     }
 
+    /// How many of files by number an opening passes over: those before the last ones whose numbers
+    /// rise by one.
+    pub fn passed_by_number(files: &[LogFile]) -> usize {
+        let mut passed = 0;
+        let mut before: Option<u64> = None;
+        for (place, file) in files.iter().enumerate() {
+            if before.is_some_and(|before| before.checked_add(1) != Some(file.id.seq)) {
+                passed = place;
+            }
+            before = Some(file.id.seq);
+        }
+        passed
+    }
+
     /// Of files by number, and what can be read of each.
     pub fn new(queue: LogQueue, files: Vec<LogFile>, checks: Vec<FileCheck>) -> QueueFiles
         ensures found { (result.queue ≡ queue) × (result.files ≡ files) }

@@ -1,6 +1,7 @@
 //! Lines of what can be read of each log file, and of what an opening would do with it.
 
 use crate::lines::{Lines, Word};
+use crate::losses::Passed;
 use crate::queue_files::QueueFiles;
 use raft_config::RecoveryMode;
 use raft_dump::{FileCheck, LogFile, Planned};
@@ -15,7 +16,7 @@ pub fn queue_name(queue: LogQueue) -> &'static str {
     }
 }
 
-/// Adds a line for each file of a queue, and one for each number that is missing or doubled.
+/// Adds a line for each file of a queue, one for each number that is missing or doubled, and one for those passed over.
 pub fn add_queue(alloc: Global, found: &QueueFiles, lines: &mut Lines) -> Result<(), Fault> {
     let absolute = found.plan(alloc, RecoveryMode::AbsoluteConsistency)?;
     let tail = found.plan(alloc, RecoveryMode::TolerateTailCorruption)?;
@@ -32,6 +33,22 @@ pub fn add_queue(alloc: Global, found: &QueueFiles, lines: &mut Lines) -> Result
         };
         add_file(file, check, plans, lines)?;
     }
+    match found.passed() {
+        Some(passed) => add_passed(passed, lines),
+        None => Ok(()),
+    }
+}
+
+// Adds a line of the files that an opening in each mode passes over.
+fn add_passed(passed: Passed, lines: &mut Lines) -> Result<(), Fault> {
+    lines.named(&[
+        ("passed-over", Word::Text(queue_name(passed.queue))),
+        ("files", Word::Number(passed.files)),
+        ("bytes", Word::Number(passed.bytes)),
+        ("first", Word::Number(passed.first)),
+        ("last", Word::Number(passed.last)),
+        ("missing", Word::Number(passed.missing)),
+    ])?;
     Ok(())
 }
 
@@ -109,6 +126,7 @@ fn rest_name(check: &FileCheck) -> &'static str {
         None => "none",
         Some(Fault::Corruption) if check.zeros && check.len > 0 => "zeros",
         Some(Fault::Corruption) if check.stale => "stale",
+        Some(Fault::Corruption) if check.unsearched => "unsearched",
         Some(Fault::Corruption) => "broken",
         Some(Fault::Lz4) => "compressed",
         Some(_) => "too-long",

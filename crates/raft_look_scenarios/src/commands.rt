@@ -2,9 +2,9 @@
 
 use crate::files::{FileParts, OF_RAFTCTL, TORN_FRONT, make};
 use crate::standing::{set_writable, standing};
+use crate::words::words_of;
 use raft_command_line::{Request, Verb, parse};
 use raft_commands::look;
-use std::alloc::{AllocError, Global};
 use std::fs;
 use std::test::Fail;
 use std::thread::Threads;
@@ -30,22 +30,6 @@ static COMMANDS: [Command; 15] = [
     Command(&["consistency"], Some(0), Some(0)),
     Command(&["picture"], Some(0), None),
 ];
-
-fn words_of(
-    alloc: Global,
-    folder: &str,
-    command: &'static [&'static str],
-) -> Result<Vec<String>, AllocError> {
-    let mut words = Vec::new(alloc);
-    for word in ["raftctl", folder] {
-        words.push(String::from_str(alloc, word)?)?;
-    }
-    for word in command {
-        words.push(String::from_str(alloc, word)?)?;
-    }
-    words.push(String::from_str(alloc, "--quiet")?)?;
-    Ok(words)
-}
 
 // The status of a look that is asked for, or nothing where it fails.
 fn status_of<R: Threads + Sync>(rt: HostRuntime, threads: &R, request: &Request<'_>) -> Option<u8> {

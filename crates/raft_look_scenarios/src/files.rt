@@ -7,7 +7,7 @@ const HEADER: &[u8] =
     b"RAFT-LOG-FILE-HEADER-9986AB3E47F320B394C8E84916EB0ED5\x00\x00\x00\x00\x00\x00\x00\x01";
 
 /// A record of 28 bytes: a put of a in group 1.
-const PUT: &[u8] = b"\x00\x00\x00\x00\x00\x00\x1c\x00\x00\x00\x00\x00\x00\x00\x00\x10\
+pub(crate) const PUT: &[u8] = b"\x00\x00\x00\x00\x00\x00\x1c\x00\x00\x00\x00\x00\x00\x00\x00\x10\
     \x01\x01\x03\x01\x01\x61\x01\x78\x60\x81\x67\x02";
 
 /// A record of 31 bytes: the entry 1 of group 7, which is e.
@@ -18,7 +18,10 @@ const ENTRY: &[u8] = b"\x00\x00\x00\x00\x00\x00\x1f\x00\x00\x00\x00\x00\x00\x00\
 const INDEXED: &[u8] = b"\x00\x00\x00\x00\x00\x00\x27\x00\x00\x00\x00\x00\x00\x00\x00\x1d\
     \x00\x00\x00\x00\x00\x00\x00\x01\x65\x38\xb0\xca\xc2\x01\x07\x01\x01\x01\x09\xa1\x2a\x07\x11";
 
-const TORN: &[u8] = b"torn";
+pub(crate) const TORN: &[u8] = b"torn";
+
+/// The name of a first file.
+const FIRST: &str = "0000000000000001.raftlog";
 
 /// A name, and the parts of the file.
 pub(crate) type FileParts = (&'static str, &'static [&'static [u8]]);
@@ -49,6 +52,21 @@ pub(crate) const TORN_END: &[FileParts] = &[
 pub(crate) const TORN_FRONT: &[FileParts] = &[
     ("0000000000000001.raftlog", &[HEADER, PUT, TORN]),
     ("0000000000000002.raftlog", &[HEADER, PUT]),
+];
+
+/// A whole record behind torn bytes.
+pub(crate) const TORN_MIDDLE: &[FileParts] = &[(FIRST, &[HEADER, PUT, TORN, PUT])];
+
+/// The file of number 2 is missing.
+pub(crate) const GAP: &[FileParts] = &[
+    (FIRST, &[HEADER, PUT, ENTRY]),
+    ("0000000000000003.raftlog", &[HEADER, PUT]),
+];
+
+/// Torn bytes, and a file beside that keeps what was cut off at this place before.
+pub(crate) const CUT_BEFORE: &[FileParts] = &[
+    (FIRST, &[HEADER, PUT, TORN]),
+    ("0000000000000001.raftlog.cut-89", &[PUT]),
 ];
 
 /// Makes a folder of this name below that for temporary files, which no other process has, with these

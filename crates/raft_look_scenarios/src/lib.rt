@@ -2,6 +2,8 @@
 #![tactic(auto)]
 
 #[cfg(test)]
+mod changes;
+#[cfg(test)]
 mod commands;
 #[cfg(test)]
 mod files;
@@ -9,3 +11,5 @@ mod files;
 mod looks;
 #[cfg(test)]
 mod standing;
+#[cfg(test)]
+mod words;

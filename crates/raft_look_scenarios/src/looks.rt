@@ -1,10 +1,12 @@
 //! Each look at a folder, with what it prints and its status, also at one that may not be written.
 
-use crate::files::{FileParts, TORN_END, TORN_FRONT, WHOLE, make};
+use crate::files::{FileParts, GAP, TORN_END, TORN_FRONT, WHOLE, make};
 use crate::standing::{set_writable, standing};
-use raft_command_line::Options;
+use anyhow::anyhow;
+use raft_command_line::{Changing, Options};
 use raft_config::RecoveryMode;
-use raft_console::{Output, Progress};
+use raft_console::{Output, Progress, Status};
+use raft_inspect::{Filter, ItemKind};
 use raft_looks::{Folder, check, dump};
 use std::fs;
 use std::test::Fail;
@@ -12,7 +14,7 @@ use std::test::Fail;
 #[derive(Clone, Copy)]
 enum Look {
     Check,
-    Dump(Option<&'static str>),
+    Dump(Option<&'static str>, Filter),
     /// All log files are read into memory.
     Image,
 }
@@ -30,23 +32,32 @@ const CHECK: &str = "\
     file 0000000000000002.raftlog version 1 records 1 read 89 size 89 rest none absolute keep tail keep any keep\n\
     file 0000000000000004.rewrite version 1 records 2 read 117 size 117 rest none absolute keep tail keep any keep\n\
     other notes\n\
-    mode absolute opening opens files-cut 0 bytes-lost 0 zeros 0 stale 0\n\
-    mode tail opening opens files-cut 0 bytes-lost 0 zeros 0 stale 0\n\
-    mode any opening opens files-cut 0 bytes-lost 0 zeros 0 stale 0\n";
+    mode absolute opening opens files-cut 0 bytes-lost 0 zeros 0 stale 0 files-passed 0 bytes-passed 0\n\
+    mode tail opening opens files-cut 0 bytes-lost 0 zeros 0 stale 0 files-passed 0 bytes-passed 0\n\
+    mode any opening opens files-cut 0 bytes-lost 0 zeros 0 stale 0 files-passed 0 bytes-passed 0\n";
 
 const CHECK_TORN_END: &str = "\
     file 0000000000000001.raftlog version 1 records 2 read 120 size 120 rest none absolute keep tail keep any keep\n\
     file 0000000000000002.raftlog version 1 records 1 read 89 size 93 rest broken absolute fail tail cut any cut\n\
-    mode absolute opening fails files-cut 0 bytes-lost 0 zeros 0 stale 0\n\
-    mode tail opening opens files-cut 1 bytes-lost 4 zeros 0 stale 0\n\
-    mode any opening opens files-cut 1 bytes-lost 4 zeros 0 stale 0\n";
+    mode absolute opening fails files-cut 0 bytes-lost 0 zeros 0 stale 0 files-passed 0 bytes-passed 0\n\
+    mode tail opening opens files-cut 1 bytes-lost 4 zeros 0 stale 0 files-passed 0 bytes-passed 0\n\
+    mode any opening opens files-cut 1 bytes-lost 4 zeros 0 stale 0 files-passed 0 bytes-passed 0\n";
 
 const CHECK_TORN_FRONT: &str = "\
     file 0000000000000001.raftlog version 1 records 1 read 89 size 93 rest broken absolute fail tail fail any cut\n\
     file 0000000000000002.raftlog version 1 records 1 read 89 size 89 rest none absolute keep tail keep any keep\n\
-    mode absolute opening fails files-cut 0 bytes-lost 0 zeros 0 stale 0\n\
-    mode tail opening fails files-cut 0 bytes-lost 0 zeros 0 stale 0\n\
-    mode any opening opens files-cut 1 bytes-lost 4 zeros 0 stale 0\n";
+    mode absolute opening fails files-cut 0 bytes-lost 0 zeros 0 stale 0 files-passed 0 bytes-passed 0\n\
+    mode tail opening fails files-cut 0 bytes-lost 0 zeros 0 stale 0 files-passed 0 bytes-passed 0\n\
+    mode any opening opens files-cut 1 bytes-lost 4 zeros 0 stale 0 files-passed 0 bytes-passed 0\n";
+
+const CHECK_GAP: &str = "\
+    file 0000000000000001.raftlog version 1 records 2 read 120 size 120 rest none absolute pass tail pass any pass\n\
+    queue append missing 2 before 3\n\
+    file 0000000000000003.raftlog version 1 records 1 read 89 size 89 rest none absolute keep tail keep any keep\n\
+    passed-over append files 1 bytes 120 first 1 last 1 missing 2\n\
+    mode absolute opening opens files-cut 0 bytes-lost 0 zeros 0 stale 0 files-passed 1 bytes-passed 120\n\
+    mode tail opening opens files-cut 0 bytes-lost 0 zeros 0 stale 0 files-passed 1 bytes-passed 120\n\
+    mode any opening opens files-cut 0 bytes-lost 0 zeros 0 stale 0 files-passed 1 bytes-passed 120\n";
 
 const DUMP: &str = "\
     rewrite\t4\t61\t1\tput\ta\t1\tx\n\
@@ -69,7 +80,24 @@ const DUMP_TORN_FRONT: &str = "\
 const DUMP_ONE: &str = "\
     append\t2\t61\t1\tput\ta\t1\tx\n";
 
-static CASES: [Case; 9] = [
+const DUMP_ENTRY: &str = "\
+    append\t1\t89\t7\tentry\t1\t1\te\n";
+
+const ENTRIES_OF_7: Filter = Filter {
+    group: Some(7),
+    kind: Some(ItemKind::Entry),
+    from: Some(1),
+    to: Some(1),
+};
+
+const BEHIND_1: Filter = Filter {
+    group: None,
+    kind: None,
+    from: Some(2),
+    to: None,
+};
+
+static CASES: [Case; 12] = [
     Case {
         name: "check",
         files: WHOLE,
@@ -91,31 +119,49 @@ static CASES: [Case; 9] = [
     Case {
         name: "dump",
         files: WHOLE,
-        look: Look::Dump(None),
+        look: Look::Dump(None, Filter::ALL),
         told: Some((0, DUMP)),
     },
     Case {
         name: "dump-torn-end",
         files: TORN_END,
-        look: Look::Dump(None),
+        look: Look::Dump(None, Filter::ALL),
         told: Some((4, DUMP_TORN_END)),
     },
     Case {
         name: "dump-torn-front",
         files: TORN_FRONT,
-        look: Look::Dump(None),
+        look: Look::Dump(None, Filter::ALL),
         told: Some((4, DUMP_TORN_FRONT)),
     },
     Case {
         name: "dump-one",
         files: WHOLE,
-        look: Look::Dump(Some("0000000000000002.raftlog")),
+        look: Look::Dump(Some("0000000000000002.raftlog"), Filter::ALL),
         told: Some((0, DUMP_ONE)),
+    },
+    Case {
+        name: "check-gap",
+        files: GAP,
+        look: Look::Check,
+        told: Some((6, CHECK_GAP)),
+    },
+    Case {
+        name: "dump-group",
+        files: WHOLE,
+        look: Look::Dump(None, ENTRIES_OF_7),
+        told: Some((0, DUMP_ENTRY)),
+    },
+    Case {
+        name: "dump-behind",
+        files: WHOLE,
+        look: Look::Dump(None, BEHIND_1),
+        told: Some((0, "")),
     },
     Case {
         name: "dump-none",
         files: WHOLE,
-        look: Look::Dump(Some("notes")),
+        look: Look::Dump(Some("notes"), Filter::ALL),
         told: None,
     },
     Case {
@@ -137,6 +183,8 @@ const OPTIONS: Options<'static> = Options {
     json: false,
     hex: false,
     quiet: true,
+    raw: false,
+    changing: Changing::USUAL,
 };
 
 // The status of a look.
@@ -145,13 +193,16 @@ fn looked(rt: HostRuntime, folder: &str, look: Look, out: &mut Output) -> anyhow
     let folder = Folder::open(rt, folder, &OPTIONS)?;
     let status = match look {
         Look::Check => check(rt.alloc(), &folder, &OPTIONS, &mut progress, out)?,
-        Look::Dump(name) => dump(rt.alloc(), &folder, name, &mut progress, out)?,
-        Look::Image => {
-            folder.image(&mut progress)?;
-            return Ok(0);
+        Look::Dump(name, filter) => {
+            let status = dump(rt.alloc(), &folder, name, filter, &mut progress, out)?;
+            Some(status)
         }
+        Look::Image => folder.image(&mut progress)?.map(|_| Status::Done),
     };
-    Ok(status.code())
+    match status {
+        Some(status) => Ok(status.code()),
+        None => Err(anyhow!("a file is gone")),
+    }
 }
 
 // Whether the look tells what the case says.

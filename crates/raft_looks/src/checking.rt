@@ -1,6 +1,7 @@
 //! What can be read of each log file, and what an opening would do with it. One file at a time is in memory.
 
 use crate::folder::Folder;
+use crate::hindrances::Hindrance;
 use anyhow::Result;
 use raft_command_line::{Options, mode_name};
 use raft_config::RecoveryMode;
@@ -9,18 +10,36 @@ use raft_inspect::{Outlook, QueueFiles, Word, add_queue};
 use raft_records::{Fault, LogQueue};
 use std::alloc::Global;
 
-/// Prints a line for each file, and says what an opening in each mode would do.
+/// What can be read of the log files of both queues, and what else an opening would be refused for.
+#[derive(Drop)]
+struct Found {
+    append: QueueFiles,
+    rewrite: QueueFiles,
+    hindrances: Vec<Hindrance>,
+}
+
+/// Prints a line for each file, and says what an opening in each mode would do; none where a file is
+/// there no more.
 pub fn check(
     alloc: Global,
     folder: &Folder,
     options: &Options<'_>,
     progress: &mut Progress,
     out: &mut Output,
-) -> Result<Status> {
-    let append = folder.inspect(LogQueue::Append, progress)?;
-    let rewrite = folder.inspect(LogQueue::Rewrite, progress)?;
-    match add_check(alloc, folder, &append, &rewrite, options.mode, out) {
-        Ok(status) => Ok(status),
+) -> Result<Option<Status>> {
+    let Some(append) = folder.inspect(LogQueue::Append, progress)? else {
+        return Ok(None);
+    };
+    let Some(rewrite) = folder.inspect(LogQueue::Rewrite, progress)? else {
+        return Ok(None);
+    };
+    let found = Found {
+        append,
+        rewrite,
+        hindrances: folder.hindrances()?,
+    };
+    match add_check(alloc, folder, &found, options.mode, out) {
+        Ok(status) => Ok(Some(status)),
         Err(fault) => Err(failure("the files cannot be checked", &fault)),
     }
 }
@@ -28,13 +47,33 @@ pub fn check(
 fn add_check(
     alloc: Global,
     folder: &Folder,
-    append: &QueueFiles,
-    rewrite: &QueueFiles,
+    found: &Found,
     mode: RecoveryMode,
     out: &mut Output,
 ) -> Result<Status, Fault> {
-    add_queue(alloc, append, &mut out.lines)?;
-    add_queue(alloc, rewrite, &mut out.lines)?;
+    add_queue(alloc, &found.append, &mut out.lines)?;
+    add_queue(alloc, &found.rewrite, &mut out.lines)?;
+    add_names(folder, out)?;
+    for hindrance in &found.hindrances {
+        hindrance.add_line(&mut out.lines)?;
+    }
+    let mut status = Status::Done;
+    for each in [
+        RecoveryMode::AbsoluteConsistency,
+        RecoveryMode::TolerateTailCorruption,
+        RecoveryMode::TolerateAnyCorruption,
+    ] {
+        let outlook = outlook_of(alloc, found, each)?;
+        add_outlook(each, outlook, out)?;
+        if each == mode {
+            status = status_of(outlook);
+        }
+    }
+    Ok(status)
+}
+
+// The files that are no log files.
+fn add_names(folder: &Folder, out: &mut Output) -> Result<(), Fault> {
     for file in &folder.reserved {
         out.lines.named(&[
             ("reserved", Word::Bytes(file.path.as_bytes())),
@@ -44,21 +83,17 @@ fn add_check(
     for name in &folder.others {
         out.lines.named(&[("other", Word::Bytes(name.as_bytes()))])?;
     }
-    let mut status = Status::Done;
-    for each in [
-        RecoveryMode::AbsoluteConsistency,
-        RecoveryMode::TolerateTailCorruption,
-        RecoveryMode::TolerateAnyCorruption,
-    ] {
-        let mut outlook = Outlook::new();
-        outlook.add_queue(alloc, append, each)?;
-        outlook.add_queue(alloc, rewrite, each)?;
-        add_outlook(each, outlook, out)?;
-        if each == mode {
-            status = status_of(outlook);
-        }
+    Ok(())
+}
+
+fn outlook_of(alloc: Global, found: &Found, mode: RecoveryMode) -> Result<Outlook, Fault> {
+    let mut outlook = Outlook::new();
+    outlook.add_queue(alloc, &found.append, mode)?;
+    outlook.add_queue(alloc, &found.rewrite, mode)?;
+    if !found.hindrances.is_empty() {
+        outlook.fails = true;
     }
-    Ok(status)
+    Ok(outlook)
 }
 
 fn add_outlook(mode: RecoveryMode, outlook: Outlook, out: &mut Output) -> Result<(), Fault> {
@@ -70,6 +105,8 @@ fn add_outlook(mode: RecoveryMode, outlook: Outlook, out: &mut Output) -> Result
         ("bytes-lost", Word::Number(outlook.bytes)),
         ("zeros", Word::Number(outlook.zeros)),
         ("stale", Word::Number(outlook.stale)),
+        ("files-passed", Word::Number(outlook.passed)),
+        ("bytes-passed", Word::Number(outlook.passed_bytes)),
     ])?;
     Ok(())
 }
@@ -78,6 +115,8 @@ fn add_outlook(mode: RecoveryMode, outlook: Outlook, out: &mut Output) -> Result
 fn status_of(outlook: Outlook) -> Status {
     if outlook.fails {
         Status::WouldFail
+    } else if outlook.passed > 0 {
+        Status::WouldPass
     } else if outlook.files > 0 {
         Status::WouldCut
     } else {

@@ -1,20 +1,23 @@
 //! What each log file holds, item by item. One part of a file at a time is in memory.
 
 use crate::folder::Folder;
+use crate::source::FileSource;
 use anyhow::{Result, bail};
 use raft_console::{Output, Progress, Status, failure};
 use raft_dump::{LogFile, LogItemReader, RecordPlace, build_file_reader};
-use raft_inspect::{add_fault, add_item};
+use raft_inspect::{Filter, add_fault, add_item};
 use raft_memory::MemoryFileSystem;
 use raft_parts::LogFileParts;
 use raft_records::{Fault, LogQueue};
 use std::alloc::Global;
 
-/// Prints a line for each item of one file, or of all: the Rewrite queue's first.
+/// Prints a line for each item of one file, or of all, that the filter takes: the Rewrite queue's
+/// first. Files that are dropped meanwhile are left out.
 pub fn dump(
     alloc: Global,
     folder: &Folder,
     name: Option<&str>,
+    filter: Filter,
     progress: &mut Progress,
     out: &mut Output,
 ) -> Result<Status> {
@@ -25,7 +28,7 @@ pub fn dump(
     let mut status = Status::Done;
     for (place, file) in files.iter().enumerate() {
         progress.at("files dumped", place as u64, files.len() as u64)?;
-        if !dump_file(alloc, folder, file, out)? {
+        if !dump_file(alloc, folder, file, filter, progress, out)? {
             status = Status::WouldCut;
         }
     }
@@ -35,6 +38,9 @@ pub fn dump(
 // The file of this name, or all files.
 fn chosen(alloc: Global, folder: &Folder, name: Option<&str>) -> Result<Vec<LogFile>> {
     let mut chosen = Vec::new(alloc);
+    if let Some(copy) = folder.copy_named(name.unwrap_or(""))? {
+        chosen.push(copy)?;
+    }
     for queue in [LogQueue::Rewrite, LogQueue::Append] {
         for file in folder.files_of(queue)? {
             if name.is_none_or(|name| file.path.as_str() == name) {
@@ -46,41 +52,65 @@ fn chosen(alloc: Global, folder: &Folder, name: Option<&str>) -> Result<Vec<LogF
 }
 
 // Prints the items of a file, and says whether it can be read to its end.
-fn dump_file(alloc: Global, folder: &Folder, file: &LogFile, out: &mut Output) -> Result<bool> {
-    let path = file.path.as_str();
-    let mut source = folder.source_of(file);
+fn dump_file(
+    alloc: Global,
+    folder: &Folder,
+    file: &LogFile,
+    filter: Filter,
+    progress: &mut Progress,
+    out: &mut Output,
+) -> Result<bool> {
+    let Some(mut source) = folder.source_of(file, progress)? else {
+        return Ok(true);
+    };
     let size = source.size()?;
     let mut parts = match LogFileParts::open(alloc, size, &mut source) {
         Ok(parts) => parts,
         Err(fault) => return Err(source.failure(&fault)),
     };
+    let stop = match dump_parts(alloc, file, &mut source, &mut parts, filter, out)? {
+        Some(stop) => stop,
+        None => return Ok(true),
+    };
+    let (place, fault) = stop;
+    if let Err(fault) = add_fault(Some(place), &fault, &mut out.lines) {
+        return Err(failure(file.path.as_str(), &fault));
+    }
+    Ok(false)
+}
+
+// Prints the items of all parts, and says where and why the reading stops before the file's end.
+fn dump_parts(
+    alloc: Global,
+    file: &LogFile,
+    source: &mut FileSource<'_>,
+    parts: &mut LogFileParts,
+    filter: Filter,
+    out: &mut Output,
+) -> Result<Option<(RecordPlace, Fault)>> {
     for _ in 0..u64::MAX {
-        let mut image = match parts.next_image(alloc, path, &mut source) {
+        let mut image = match parts.next_image(alloc, file.path.as_str(), source) {
             Ok(image) => image,
             Err(fault) => return Err(source.failure(&fault)),
         };
-        let stop = dump_part(alloc, &mut image, file, &parts, out)?;
+        let stop = dump_part(alloc, &mut image, file, parts, filter, out)?;
         let end = match &stop {
             Some((place, _)) => place.offset,
             None => usize::MAX,
         };
-        let before = parts.place_of(end);
+        let offset = parts.place_of(end);
         if parts.go_on(end) {
             continue;
         }
-        let Some((place, fault)) = stop else {
-            return Ok(true);
-        };
-        let place = RecordPlace {
-            id: place.id,
-            offset: before,
-        };
-        if let Err(fault) = add_fault(Some(place), &fault, &mut out.lines) {
-            return Err(failure(path, &fault));
-        }
-        return Ok(false);
+        return Ok(stop.map(|(place, fault)| (
+            RecordPlace {
+                id: place.id,
+                offset,
+            },
+            fault,
+        )));
     }
-    Ok(true)
+    Ok(None)
 }
 
 // Prints the items of a part, and says where and why the reading stops before its end.
@@ -89,6 +119,7 @@ fn dump_part(
     image: &mut MemoryFileSystem,
     file: &LogFile,
     parts: &LogFileParts,
+    filter: Filter,
     out: &mut Output,
 ) -> Result<Option<(RecordPlace, Fault)>> {
     let path = file.path.as_str();
@@ -108,6 +139,8 @@ fn dump_part(
         };
         let item = match next {
             Ok(item) => item,
+            // No damage of the file.
+            Err(Fault::Memory) => return Err(failure(path, &Fault::Memory)),
             Err(fault) => {
                 stop = Some((place, fault));
                 break;
@@ -123,6 +156,7 @@ fn dump_part(
             &mut reader,
             Some(there),
             &item,
+            filter,
             &mut out.lines,
         ) {
             return Err(failure(path, &fault));

@@ -1,26 +1,34 @@
 //! A folder that is looked at: its log files, one by one or all in memory.
 
+use crate::hindrances::{Hindrance, add_hindrances};
 use crate::reserved::is_reserved;
-use crate::source::FileSource;
+use crate::source::{FileSource, is_missing};
 use anyhow::{Result, bail};
 use raft_command_line::Options;
 use raft_config::RecoveryMode;
 use raft_console::Progress;
-use raft_disk::{FolderView, OpenFault, image_of};
-use raft_dump::{FileCheck, LogFile, check_file, log_files};
+use raft_disk::{FolderView, image_of};
+use raft_dump::{FileCheck, LogFile, check_file, log_file, log_files};
 use raft_env::FileSystem;
 use raft_files::FileNameExt;
-use raft_inspect::{Cut, QueueFiles, cuts_of};
+use raft_inspect::{Cut, Passed, QueueFiles, cuts_of};
 use raft_memory::MemoryFileSystem;
 use raft_parts::check_parts;
 use raft_records::{Fault, LogQueue};
 use std::alloc::{AllocError, Global};
-use std::io::ErrorKind;
+
+/// How many bytes of a long file are read at a time.
+const PART_LEN: usize = 64 * 1024 * 1024;
+
+/// How many bytes the name of a log file has.
+const NAME_LEN: usize = 24;
 
 /// A look at a folder, which can't change it, and the names of its files.
 #[derive(Drop)]
 pub struct Folder {
+    rt: HostRuntime,
     alloc: Global,
+    path: String,
     view: FolderView,
     /// The second folder, where the options name one.
     spill: Option<String>,
@@ -46,11 +54,10 @@ impl Folder {
             Ok(view) => view,
             Err(fault) => bail!("{fault}"),
         };
-        if view.is_in_use() && !options.quiet {
-            eprintln!(rt; "raftctl: {path} is open already, and what is read of it may change")?;
-        }
         let mut folder = Folder {
+            rt,
             alloc,
+            path: String::from_str(alloc, path)?,
             view,
             spill: None,
             files: Vec::new(alloc),
@@ -76,9 +83,25 @@ impl Folder {
     fn add_second(&mut self, folder: &str) -> Result<()> {
         match self.view.names(folder) {
             Ok(names) => self.add_names(folder, names),
-            Err(OpenFault::Io(_, e)) if e.kind() == ErrorKind::NotFound => Ok(()),
+            Err(fault) if is_missing(&fault) => Ok(()),
             Err(fault) => bail!("{fault}"),
         }
+    }
+
+    /// Whether a writer has the folder open, so that what is read may change meanwhile.
+    pub fn is_in_use(&self) -> bool {
+        self.view.is_in_use()
+    }
+
+    /// What an opening would be refused for, whatever its files hold.
+    pub fn hindrances(&self) -> Result<Vec<Hindrance>> {
+        let mut found = Vec::new(self.alloc);
+        add_hindrances(&self.rt, self.path.as_str(), &mut found)?;
+        if let Some(spill) = &self.spill {
+            let place = format!(in self.alloc; "{}/{spill}", self.path)?;
+            add_hindrances(&self.rt, place.as_str(), &mut found)?;
+        }
+        Ok(found)
     }
 
     fn add_names(&mut self, folder: &str, names: Vec<String>) -> Result<()> {
@@ -120,16 +143,40 @@ impl Folder {
         };
         match self.view.size(path.as_str()) {
             Ok(len) => Ok(self.reserved.push(ReservedFile { path, len })?),
-            Err(OpenFault::Io(_, e)) if e.kind() == ErrorKind::NotFound => Ok(()),
+            Err(fault) if is_missing(&fault) => Ok(()),
             Err(fault) => bail!("{fault}"),
         }
     }
 
-    fn read(&self, path: &str) -> Result<Vec<u8>> {
-        match self.view.read(path) {
-            Ok(bytes) => Ok(bytes),
+    // The bytes of a file; none where it is there no more. A long one is read part by part.
+    fn read(&self, path: &str, progress: &mut Progress) -> Result<Option<Vec<u8>>> {
+        let read = match self.view.size(path) {
+            Ok(size) if size > PART_LEN as u64 => return self.read_long(path, size, progress),
+            Ok(_) => self.view.read(path),
+            Err(fault) => Err(fault),
+        };
+        match read {
+            Ok(bytes) => Ok(Some(bytes)),
+            Err(fault) if is_missing(&fault) => Ok(None),
             Err(fault) => bail!("{fault}"),
         }
+    }
+
+    fn read_long(&self, path: &str, size: u64, progress: &mut Progress) -> Result<Option<Vec<u8>>> {
+        let mut bytes = Vec::with_capacity(self.alloc, usize::try_from(size)?)?;
+        for _ in 0..u64::MAX {
+            progress.within(path, bytes.len() as u64, size)?;
+            let part = match self.view.read_part(path, bytes.len() as u64, PART_LEN) {
+                Ok(part) => part,
+                Err(fault) if is_missing(&fault) => return Ok(None),
+                Err(fault) => bail!("{fault}"),
+            };
+            if part.is_empty() {
+                break;
+            }
+            bytes.extend_from_slice(&part)?;
+        }
+        Ok(Some(bytes))
     }
 
     fn folders(&self) -> Result<Vec<String>, AllocError> {
@@ -147,21 +194,22 @@ impl Folder {
         }
     }
 
-    /// All log files in memory.
-    pub fn image(&self, progress: &mut Progress) -> Result<MemoryFileSystem> {
+    /// All log files in memory; none where one is there no more.
+    pub fn image(&self, progress: &mut Progress) -> Result<Option<MemoryFileSystem>> {
         let mut files = Vec::new(self.alloc);
         for (place, file) in self.files.iter().enumerate() {
             progress.at("files read", place as u64, self.files.len() as u64)?;
-            let path = file.path.clone()?;
-            let bytes = self.read(path.as_str())?;
-            files.push((path, bytes))?;
+            match self.read(file.path.as_str(), progress)? {
+                Some(bytes) => files.push((file.path.clone()?, bytes))?,
+                None => return Ok(None),
+            }
         }
-        self.files_in_memory(files)
+        Ok(Some(self.files_in_memory(files)?))
     }
 
-    /// All log files in memory, whichever folder they stand in. It fails where both folders have one
-    /// of a number.
-    pub fn image_in_one_folder(&self, progress: &mut Progress) -> Result<MemoryFileSystem> {
+    /// All log files in memory, whichever folder they stand in; none where one is there no more. It
+    /// fails where both folders have one of a number.
+    pub fn image_in_one_folder(&self, progress: &mut Progress) -> Result<Option<MemoryFileSystem>> {
         let mut files = Vec::new(self.alloc);
         for queue in [LogQueue::Rewrite, LogQueue::Append] {
             let mut before = None;
@@ -172,13 +220,33 @@ impl Folder {
                 before = Some(file.id.seq);
                 progress.at("files read", files.len() as u64, self.files.len() as u64)?;
                 let name = file.id.build_file_name(self.alloc)?;
-                files.push((name, self.read(file.path.as_str())?))?;
+                match self.read(file.path.as_str(), progress)? {
+                    Some(bytes) => files.push((name, bytes))?,
+                    None => return Ok(None),
+                }
             }
         }
         match image_of(self.alloc, files, Vec::new(self.alloc)) {
-            Ok(image) => Ok(image),
+            Ok(image) => Ok(Some(image)),
             Err(fault) => bail!("{fault}"),
         }
+    }
+
+    /// A file that is no log's whose name is a log file's and more, as of a copy of one.
+    pub fn copy_named(&self, name: &str) -> Result<Option<LogFile>, Fault> {
+        let Some((own, _)) = name.split_at_checked(NAME_LEN) else {
+            return Ok(None);
+        };
+        if !self.others.iter().any(|other| other.as_str() == name) {
+            return Ok(None);
+        }
+        let path = String::from_str(self.alloc, name)?;
+        for queue in [LogQueue::Rewrite, LogQueue::Append] {
+            if let Some(file) = log_file(self.alloc, "", own, queue)? {
+                return Ok(Some(LogFile { id: file.id, path }));
+            }
+        }
+        Ok(None)
     }
 
     /// The log files of a queue, by number.
@@ -194,29 +262,61 @@ impl Folder {
         Ok(files)
     }
 
-    /// The log files of a queue, and what can be read of each; one part of one is in memory at a time.
-    pub fn inspect(&self, queue: LogQueue, progress: &mut Progress) -> Result<QueueFiles> {
+    /// The log files of a queue, and what can be read of each; none where one is there no more. One
+    /// part of one is in memory at a time.
+    pub fn inspect(&self, queue: LogQueue, progress: &mut Progress) -> Result<Option<QueueFiles>> {
         let files = self.files_of(queue)?;
-        let mut checks = Vec::new(self.alloc);
-        for (place, file) in files.iter().enumerate() {
-            progress.at("files checked", place as u64, files.len() as u64)?;
-            checks.push(self.check(file)?)?;
+        match self.checks_of(&files, progress)? {
+            Some(checks) => Ok(Some(QueueFiles::new(queue, files, checks))),
+            None => Ok(None),
         }
-        Ok(QueueFiles::new(queue, files, checks))
     }
 
-    fn check(&self, file: &LogFile) -> Result<FileCheck> {
-        let mut source = self.source_of(file);
+    /// The files of a queue that hold something and that an opening passes over, since a number is
+    /// missing behind them. It reads those alone.
+    pub fn passed(&self, queue: LogQueue, progress: &mut Progress) -> Result<Option<Passed>> {
+        let files = self.files_of(queue)?;
+        let count = QueueFiles::passed_by_number(&files);
+        match self.checks_of(files.get(..count).unwrap_or(&[]), progress)? {
+            Some(checks) => Ok(Passed::of(queue, &checks)),
+            None => Ok(None),
+        }
+    }
+
+    fn checks_of(
+        &self,
+        files: &[LogFile],
+        progress: &mut Progress,
+    ) -> Result<Option<Vec<FileCheck>>> {
+        let mut checks = Vec::new(self.alloc);
+        for file in files {
+            match self.check(file, progress)? {
+                Some(check) => checks.push(check)?,
+                None => return Ok(None),
+            }
+        }
+        Ok(Some(checks))
+    }
+
+    fn check(&self, file: &LogFile, progress: &mut Progress) -> Result<Option<FileCheck>> {
+        let Some(mut source) = self.source_of(file, progress)? else {
+            return Ok(None);
+        };
         let size = source.size()?;
         match check_parts(self.alloc, file, size, &mut source) {
-            Ok(check) => Ok(check),
+            Ok(check) => Ok(Some(check)),
+            Err(_) if source.is_gone() => Ok(None),
             Err(fault) => Err(source.failure(&fault)),
         }
     }
 
-    /// A file whose bytes are read part by part.
-    pub fn source_of<'a>(&'a self, file: &'a LogFile) -> FileSource<'a> {
-        FileSource::new(self.alloc, &self.view, file.path.as_str())
+    /// A file whose bytes are read part by part; none where it is there no more.
+    pub fn source_of<'a>(
+        &'a self,
+        file: &'a LogFile,
+        progress: &'a mut Progress,
+    ) -> Result<Option<FileSource<'a>>> {
+        FileSource::open(self.alloc, &self.view, file.path.as_str(), progress)
     }
 
     /// What an opening in a mode cuts off of the files of a queue; it reads those alone that it may cut.

@@ -5,11 +5,13 @@
 mod checking;
 mod dumping;
 mod folder;
+mod hindrances;
 mod reserved;
 mod source;
 
 pub use checking::check;
 pub use dumping::dump;
 pub use folder::{Folder, ReservedFile};
+pub use hindrances::Hindrance;
 pub use reserved::is_reserved;
 pub use source::FileSource;

@@ -3,11 +3,13 @@ ghost use Rattle.std.specs.Prelude.{◌≡◌, ◌∷◌, IfErr, IfOk, OnErr};
 
 use anyhow::{Error, Result, anyhow, bail};
 use raft_base::History;
+use raft_console::Progress;
 use raft_disk::{FolderView, OpenFault};
 use raft_env::{FsFault, IoKind};
 use raft_parts::{FilePart, PartSource};
 use raft_records::Fault;
 use std::alloc::Global;
+use std::io::ErrorKind;
 
 /// A file of a folder that is looked at, and what was told of it, for clauses alone.
 #[derive(Drop)]
@@ -15,29 +17,46 @@ pub struct FileSource<'a> {
     alloc: Global,
     view: &'a FolderView,
     path: &'a str,
+    size: u64,
+    progress: &'a mut Progress,
     given: History<FilePart>,
     /// What the system said where it refused a read.
     refused: Option<OpenFault>,
 }
 
 impl<'a> FileSource<'a> {
-    /// Of the file at a path from the folder on.
-    pub fn new(alloc: Global, view: &'a FolderView, path: &'a str) -> FileSource<'a> {
-        FileSource {
+    /// Of the file at a path from the folder on, which tells how far it is read; none where it is
+    /// there no more.
+    pub fn open(
+        alloc: Global,
+        view: &'a FolderView,
+        path: &'a str,
+        progress: &'a mut Progress,
+    ) -> Result<Option<FileSource<'a>>> {
+        let size = match view.size(path) {
+            Ok(size) => size,
+            Err(fault) if is_missing(&fault) => return Ok(None),
+            Err(fault) => bail!("{fault}"),
+        };
+        Ok(Some(FileSource {
             alloc,
             view,
             path,
+            size,
+            progress,
             given: History::new(),
             refused: None,
-        }
+        }))
     }
 
     /// How many bytes the file has.
     pub fn size(&self) -> Result<usize> {
-        match self.view.size(self.path) {
-            Ok(size) => Ok(usize::try_from(size)?),
-            Err(fault) => bail!("{fault}"),
-        }
+        Ok(usize::try_from(self.size)?)
+    }
+
+    /// Whether a read was refused since the file is there no more.
+    pub fn is_gone(&self) -> bool {
+        self.refused.as_ref().is_some_and(is_missing)
     }
 
     /// Why a reading of parts failed: what the system said, if it refused a read.
@@ -53,6 +72,8 @@ impl PartSource for FileSource<'_> {
     ghost given = { λ s. s.given.items };
 
     fn read_part(&mut self, at: usize, len: usize) -> Result<FilePart, Fault> {
+        // What can't be told hinders no reading.
+        let _ = self.progress.within(self.path, at as u64, self.size);
         match self.view.read_part(self.path, at as u64, len) {
             Ok(bytes) => {
                 let part = FilePart { at, len, bytes };
@@ -64,5 +85,13 @@ impl PartSource for FileSource<'_> {
                 Err(FsFault::Io(IoKind::Other).with_path(self.alloc, self.path))
             }
         }
+    }
+}
+
+/// Whether there is no such file.
+pub(crate) fn is_missing(fault: &OpenFault) -> bool {
+    match fault {
+        OpenFault::Io(_, e) => e.kind() == ErrorKind::NotFound,
+        _ => false,
     }
 }

@@ -1,6 +1,7 @@
 //! Copies a log into a folder of its own, from which it can be opened.
 
 use crate::copies::{Copy, planned};
+use crate::passed::tell_passed;
 use anyhow::{Result, anyhow, bail};
 use raft_command_line::Request;
 use raft_commands::config;
@@ -8,6 +9,7 @@ use raft_config::Config;
 use raft_console::{Output, Progress, Status, failure};
 use raft_disk::{DiskFileSystem, FolderView, OpenFault, image_of};
 use raft_env::{FileSystem, FsFault};
+use raft_fork::FORK_MARK;
 use raft_inspect::Word;
 use std::alloc::Global;
 use std::io::ErrorKind;
@@ -20,9 +22,11 @@ pub(crate) const TARGET: &str = "target";
 pub(crate) const BEFORE_NAME: &str = "target/";
 
 /// Copies the log files that an opening of the request's folder keeps into another, which is made
-/// where it is missing, syncs each and prints its name. It fails where the source is open, and as
-/// `raft_fork::fork` does; the copies made so far then stay. Recycling is no hindrance, since no
-/// engine runs.
+/// where it is missing, syncs each and prints its name. The mark of a fork stands there from before
+/// the first copy until all are synced: wherever this ends, the target holds no log file, or a mark
+/// for which each opening and each look refuses it, or all copies. It fails where the source is
+/// open, and as `raft_fork::fork` does; the copies made so far then stay, with the mark. Recycling
+/// is no hindrance, since no engine runs.
 pub fn fork_folder(rt: HostRuntime, request: &Request<'_>, target: &str) -> Result<Status> {
     let source = match FolderView::open(rt, request.folder) {
         Ok(source) => source,
@@ -33,7 +37,8 @@ pub fn fork_folder(rt: HostRuntime, request: &Request<'_>, target: &str) -> Resu
     }
     let settings = config(rt.alloc(), &request.options)?;
     let copies = plan(rt, &source, target, &settings)?;
-    let files = match DiskFileSystem::open(rt, target) {
+    tell_passed(&rt, &source, &settings, &copies)?;
+    let files = match DiskFileSystem::open_with(rt, target, None) {
         Ok(files) => files,
         Err(fault) => bail!("{fault}"),
     };
@@ -101,11 +106,14 @@ fn copy_all<F: FileSystem + Drop>(
 ) -> Result<Status> {
     let mut progress = Progress::new(rt, request.options.quiet)?;
     let mut out = Output::new(rt, &request.options);
+    told(rt.alloc(), FORK_MARK, put_file(&mut files, FORK_MARK, &[]))?;
     for (place, copy) in copies.iter().enumerate() {
         progress.at("files copied", place as u64, copies.len() as u64)?;
         copy_file(rt.alloc(), source, copy, &mut files)?;
         out.line(&[("copied", Word::Text(copy.name.as_str()))])?;
     }
+    let removed = files.delete(FORK_MARK);
+    told(rt.alloc(), FORK_MARK, removed)?;
     out.print()?;
     Ok(Status::Done)
 }
@@ -120,10 +128,15 @@ fn copy_file<F: FileSystem>(
         Ok(bytes) => bytes,
         Err(fault) => bail!("{fault}"),
     };
-    match put_file(files, copy.name.as_str(), &bytes) {
+    let name = copy.name.as_str();
+    told(alloc, name, put_file(files, name, &bytes))
+}
+
+fn told(alloc: Global, path: &str, done: Result<(), FsFault>) -> Result<()> {
+    match done {
         Ok(()) => Ok(()),
         Err(fault) => {
-            let fault = fault.with_path(alloc, copy.name.as_str());
+            let fault = fault.with_path(alloc, path);
             Err(failure("the log cannot be copied", &fault))
         }
     }

@@ -3,6 +3,7 @@
 
 mod copies;
 mod forks;
+mod passed;
 mod settings;
 
 pub use forks::fork_folder;

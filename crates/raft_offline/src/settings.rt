@@ -1,46 +1,68 @@
 //! The settings with which a log is opened.
 
 use anyhow::{Result, anyhow, bail};
-use raft_command_line::Options;
+use raft_command_line::{Options, Request};
 use raft_commands::config;
 use raft_config::Config;
-use raft_console::{Status, print_bytes};
+use raft_console::{Status, note, print_bytes};
 use raft_records::{Fault, Fresh};
 use raft_settings::{read, write};
-use std::alloc::Global;
+use std::alloc::{AllocError, Global};
 use std::fs;
 use std::io::ErrorKind;
 
 /// The file in a log's folder whose settings are used where no other is named.
 const NAME: &str = "raftlog.toml";
 
+/// A size, as a text with a unit or a number of bytes.
+const SIZE: &str = "a size, as \"128MB\" or a number of bytes";
+
+const NUMBER: &str = "a number from 0 on";
+
+const SWITCH: &str = "true or false";
+
+/// The keys of all settings, and what each may be.
+const KEYS: [(&str, &str); 15] = [
+    (
+        "dir",
+        "a text; the folder of the command line is used in its place",
+    ),
+    ("spill-dir", "a text, a path from the log's folder"),
+    (
+        "recovery-mode",
+        "\"absolute-consistency\", \"tolerate-tail-corruption\" or \"tolerate-any-corruption\"",
+    ),
+    ("recovery-read-block-size", SIZE),
+    ("recovery-threads", NUMBER),
+    ("bytes-per-sync", SIZE),
+    ("format-version", "1 or 2"),
+    ("target-file-size", SIZE),
+    ("purge-threshold", SIZE),
+    ("purge-rewrite-threshold", SIZE),
+    ("purge-rewrite-garbage-ratio", "a number from 0 to 1"),
+    ("memory-limit", SIZE),
+    ("enable-log-recycle", SWITCH),
+    ("prefill-for-recycle", SWITCH),
+    ("prefill-limit", SIZE),
+];
+
 /// Those of the file that is named, else of `raftlog.toml` in the log's folder where that stands,
 /// else the default ones. The log's folder is that of the command line, whatever `dir` says, and
-/// `spill-dir` is a path from there.
-pub fn settings_of(rt: &HostRuntime, folder: &str, named: Option<&str>) -> Result<Config> {
-    let mut config = match named {
-        Some(path) => read_file(rt, path)?,
-        None => read_beside(rt, folder)?,
+/// `spill-dir` is a path from there. Standard error tells of keys that are no setting's.
+pub fn settings_of(rt: &HostRuntime, request: &Request<'_>) -> Result<Config> {
+    let mut config = match request.options.settings {
+        Some(path) => settings_in(rt, path, request)?,
+        None => {
+            let path = format!(in rt.alloc(); "{}/{NAME}", request.folder)?;
+            match fs::metadata(rt, path.as_str()) {
+                Ok(_) => settings_in(rt, path.as_str(), request)?,
+                Err(e) if is_missing(e.kind()) => Config::fresh(rt.alloc()),
+                Err(e) => bail!("{path}: {e}"),
+            }
+        }
     };
     config.dir = String::new(rt.alloc());
     Ok(config)
-}
-
-fn read_file(rt: &HostRuntime, path: &str) -> Result<Config> {
-    match fs::read_to_string(rt, path) {
-        Ok(text) => settings_in(rt.alloc(), path, text.as_str()),
-        Err(e) => bail!("{path}: {e}"),
-    }
-}
-
-fn read_beside(rt: &HostRuntime, folder: &str) -> Result<Config> {
-    let alloc = rt.alloc();
-    let path = format!(in alloc; "{folder}/{NAME}")?;
-    match fs::read_to_string(rt, path.as_str()) {
-        Ok(text) => settings_in(alloc, path.as_str(), text.as_str()),
-        Err(e) if is_missing(e.kind()) => Ok(Config::fresh(alloc)),
-        Err(e) => Err(anyhow!("{path}: {e}")),
-    }
 }
 
 // Whether there is no such file. An opening tells of a file in a folder's place.
@@ -48,12 +70,92 @@ fn is_missing(kind: ErrorKind) -> bool {
     matches!(kind, ErrorKind::NotFound | ErrorKind::NotADirectory)
 }
 
-fn settings_in(alloc: Global, path: &str, text: &str) -> Result<Config> {
-    match read(alloc, text) {
+fn settings_in(rt: &HostRuntime, path: &str, request: &Request<'_>) -> Result<Config> {
+    let text = text_in(rt, path)?;
+    for key in &unknown_keys(rt.alloc(), text.as_str())? {
+        let told = format!(in rt.alloc(); "{path}: `{key}` is no setting, and passed over")?;
+        note(rt, &request.options, told.as_str())?;
+    }
+    match read(rt.alloc(), text.as_str()) {
         Ok(config) => Ok(config),
-        Err(Fault::InvalidArgument(reason)) => Err(anyhow!("{path}: no such settings: {reason}")),
+        Err(Fault::InvalidArgument(reason)) => {
+            Err(misread(rt.alloc(), path, text.as_str(), reason))
+        }
         Err(fault) => Err(anyhow!("{path}: {fault}")),
     }
+}
+
+// A pipe would be waited for, and a device has no end.
+fn text_in(rt: &HostRuntime, path: &str) -> Result<String> {
+    match fs::metadata(rt, path) {
+        Ok(metadata) if metadata.is_file() => {}
+        Ok(_) => bail!("{path}: no file, and settings are read of files alone"),
+        Err(e) => bail!("{path}: {e}"),
+    }
+    match fs::read_to_string(rt, path) {
+        Ok(text) => Ok(text),
+        Err(e) => bail!("{path}: {e}"),
+    }
+}
+
+// The keys of a text that are no setting's; none of a text that can't be read.
+fn unknown_keys(alloc: Global, text: &str) -> Result<Vec<String>, AllocError> {
+    let mut unknown = Vec::new(alloc);
+    let Ok(table) = toml::table_from_str(alloc, text) else {
+        return Ok(unknown);
+    };
+    for key in table.keys() {
+        if !KEYS.iter().any(|(known, _)| key.as_str() == *known) {
+            unknown.push(key.clone()?)?;
+        }
+    }
+    Ok(unknown)
+}
+
+// What can't be read of a text: the line, and what may stand there.
+fn misread(alloc: Global, path: &str, text: &str, reason: &str) -> anyhow::Error {
+    if let Some((key, wanted)) = KEYS.iter().find(|(key, _)| *key == reason) {
+        return match line_of_key(text, key) {
+            Some((number, line)) => {
+                anyhow!(
+                    "{path}: line {number}: `{}`: {key} is {wanted}",
+                    line.trim()
+                )
+            }
+            None => anyhow!("{path}: {key} is {wanted}"),
+        };
+    }
+    match toml::table_from_str(alloc, text) {
+        Err(e) => {
+            let at = e.span().map_or(0, |span| span.start);
+            anyhow!(
+                "{path}: line {}: no TOML: {}",
+                line_at(text, at),
+                e.message()
+            )
+        }
+        Ok(_) => anyhow!("{path}: {reason}"),
+    }
+}
+
+// The first line that begins with a key, and its number.
+fn line_of_key<'a>(text: &'a str, key: &str) -> Option<(usize, &'a str)> {
+    for (place, line) in text.lines().enumerate() {
+        let start = line.trim_start().trim_start_matches('"');
+        if let Some(rest) = start.strip_prefix(key) {
+            if rest.trim_start_matches('"').trim_start().starts_with('=') {
+                return Some((place.saturating_add(1), line));
+            }
+        }
+    }
+    None
+}
+
+// The number of the line of a place in bytes.
+fn line_at(text: &str, at: usize) -> usize {
+    let front = text.as_bytes().get(..at).unwrap_or(&[]);
+    let ends = front.iter().filter(|byte| **byte == b'\n').count();
+    ends.saturating_add(1)
 }
 
 /// Prints the settings in force. It fails where they contradict one another.

@@ -1,15 +1,15 @@
 //! What can be read of a log file of which one part at a time is in memory.
-ghost use Rattle.std.specs.Prelude.{◌≡◌, ◌++◌, ◌≤◌, ◌==◌, ◌-◌, ◌+◌, ◌^◌, ℕ, List, None, IfErr, IfOk, OnOk, drop, length, min, take, true};
+ghost use Rattle.std.specs.Prelude.{◌≡◌, ◌++◌, ◌≤◌, ◌==◌, ◌-◌, ◌+◌, ◌^◌, ℕ, List, None, IfErr, IfOk, OnOk, drop, length, min, take};
 ghost use Rattle.std.specs.List.{list_all};
 ghost use Rattle.raft_dump.specs.Check.{IsCheckOf, IsReadingOf};
-ghost use Rattle.raft_dump.specs.Stale.{HasStaleRecord, stale_len};
+ghost use Rattle.raft_dump.specs.Stale.{IsSearched, stale_len};
 ghost use Rattle.raft_parts.specs.Parts.{AreOf, BeginsWith, IsReadRefusal, IsWanted};
 
 use crate::image::image_of_part;
 use crate::source::{PartSource, read_whole_part};
 use crate::wanted::{PART_LEN, wanted_behind};
 use raft_dump::{
-    FileCheck, LogFile, STALE_LEN, are_zeros, begins_stale, check_file, without_header,
+    FileCheck, LogFile, STALE_LEN, StaleSearch, are_zeros, check_file, search_stale, without_header,
 };
 use raft_files::LogFileFormat;
 use raft_records::Fault;
@@ -32,7 +32,9 @@ pub fn check_parts<S: PartSource>(
 {
     let mut check = read_parts(alloc, file, size, source)?;
     check.zeros = has_zeros(alloc, file.path.as_str(), check.end, size, source)?;
-    check.stale = is_stale(alloc, &check, source)?;
+    let search = search_rest(alloc, &check, source)?;
+    check.stale = search.is_stale();
+    check.unsearched = search.is_ended();
     Ok(check)
 }
 
@@ -112,6 +114,7 @@ fn read_records<S: PartSource>(
         len: size,
         zeros: false,
         stale: false,
+        unsearched: false,
         stop: None,
     };
     let mut wanted = Some(PART_LEN.min(size - header.len()));
@@ -172,17 +175,20 @@ fn has_zeros<S: PartSource>(
 }
 
 // Whether the first record behind those that can be read is signed for an earlier file.
-fn is_stale<S: PartSource>(alloc: Global, check: &FileCheck, source: &mut S) -> Result<bool, Fault>
-    ensures value { IfOk result (λ stale. (bytes : List ℕ) → AreOf bytes (S.given source.new)
-        → stale ≡ true
-        → HasStaleRecord check.now.id (take stale_len (drop check.now.end bytes))) }
+fn search_rest<S: PartSource>(
+    alloc: Global,
+    check: &FileCheck,
+    source: &mut S,
+) -> Result<StaleSearch, Fault>
+    ensures value { IfOk result (λ search. (bytes : List ℕ) → AreOf bytes (S.given source.new)
+        → IsSearched check.now.id (take stale_len (drop check.now.end bytes)) search) }
     ensures given { IfOk result (λ _. (bytes : List ℕ) → AreOf bytes (S.given source.new)
         → AreOf bytes (S.given source.old)) }
     ensures cause { IfErr result IsReadRefusal }
 {
     if !check.may_be_stale() {
-        return Ok(false);
+        return Ok(StaleSearch::NotStale);
     }
     let part = source.read_part(check.end, STALE_LEN)?;
-    begins_stale(alloc, check.id, &part.bytes)
+    search_stale(alloc, check.id, &part.bytes)
 }

@@ -1,11 +1,11 @@
 //! Does one command on a log in a folder. `raftctl --help` lists the commands.
 #![tactic(auto)]
 
-use anyhow::Result;
+use anyhow::{Result, bail};
 use clap::Error;
-use raft_command_line::{Request, Verb, parse};
+use raft_command_line::{Request, Verb, completion_script, parse};
 use raft_commands::{change, look};
-use raft_console::Status;
+use raft_console::{Status, print_bytes};
 use raft_offline::{fork_folder, print_settings, settings_of};
 use std::env;
 use std::process::ExitCode;
@@ -16,6 +16,11 @@ fn main(rt: HostRuntime) -> ExitCode {
         Ok(words) => words,
         Err(error) => return failed(&rt, &error),
     };
+    if let [_, option] = words.as_slice() {
+        if option.as_str() == "--completion" {
+            return completed(&rt);
+        }
+    }
     match parse(rt.alloc(), words.as_slice()) {
         Ok(request) => match run(rt, &rt, request) {
             Ok(status) => ExitCode::from(status.code()),
@@ -27,10 +32,26 @@ fn main(rt: HostRuntime) -> ExitCode {
 
 fn words(rt: &HostRuntime) -> Result<Vec<String>> {
     let mut words = Vec::new(rt.alloc());
-    for word in env::args(rt)? {
+    let args = match env::args(rt) {
+        Ok(args) => args,
+        Err(e) => bail!("a word isn't UTF-8 ({e}); bytes are said by --hex, or by @FILE"),
+    };
+    for word in args {
         words.push(word)?;
     }
     Ok(words)
+}
+
+fn completed(rt: &HostRuntime) -> ExitCode {
+    match print_completion(rt) {
+        Ok(()) => ExitCode::SUCCESS,
+        Err(error) => failed(rt, &error),
+    }
+}
+
+fn print_completion(rt: &HostRuntime) -> Result<()> {
+    let script = completion_script(rt.alloc())?;
+    Ok(print_bytes(rt, script.as_bytes())?)
 }
 
 fn failed(rt: &HostRuntime, error: &anyhow::Error) -> ExitCode {
@@ -47,7 +68,7 @@ fn misused(rt: &HostRuntime, error: &Error) -> ExitCode {
 }
 
 fn run<R: Threads + Sync>(rt: HostRuntime, threads: &R, request: Request<'_>) -> Result<Status> {
-    let settings = settings_of(&rt, request.folder, request.options.settings)?;
+    let settings = settings_of(&rt, &request)?;
     let request = request.over(&settings);
     match &request.verb {
         Verb::Look(what) => look(rt, threads, &request, *what),

@@ -4,7 +4,7 @@ use Rattle.raft_env.proofs.MomentsLemmas.{moves_then_reads}
 use Rattle.raft_config.specs.Folders.{Folders}
 use Rattle.raft_consistency.specs.Check.{log_holes}
 use Rattle.raft_consistency.specs.Holes.{AreHoles}
-use Rattle.raft_queues.specs.Builder.{IsOrderRefusal}
+use Rattle.raft_builder.specs.Builder.{IsOrderRefusal}
 use Rattle.raft_consistency.proofs.ReadLemmas.{holes_before, read_fails, scan_fails}
 use Rattle.raft_consistency.proofs.check.holes_of.Goals as goal
 

@@ -1,4 +1,4 @@
-use Rattle.std.proofs.Common.{◌≡◌, ◌<◌, length, map, take}
+use Rattle.std.proofs.Common.{◌≡◌, ◌<◌, [], length, map, take}
 use Rattle.std.specs.String.{string_bytes}
 use Rattle.raft_env.specs.Moments.{MovesBy}
 use Rattle.raft_opening.specs.Files.{LeavesAllBut}
@@ -18,5 +18,5 @@ invariant-loop-file g l =
       copied : AreCopied l.fn.target done old mid;
       others : LeavesAllBut (copies_in l.fn.target done) old mid;
       folders : mid.is_folder ≡ old.is_folder;
-      moments : MovesBy f.directory f.moments f.refusals_of (AreBeingCopied l.fn.target (map source_of l.fn.files)) l.fn.file_system l.file_system;
+      moments : MovesBy f.directory f.moments f.refusals_of (AreBeingCopied [] l.fn.target (map source_of l.fn.files)) l.fn.file_system l.file_system;
     }

@@ -1,14 +1,13 @@
-use Rattle.std.proofs.Common.{◌≡◌, ◌∙◌, map, ap, inl, sym, subst}
+use Rattle.std.proofs.Common.{◌≡◌, ◌∙◌, None, map, ap, inl, sym, subst}
 use Rattle.std.specs.String.{string_bytes}
 use Rattle.std.proofs.lemmas.Result.{err_from_is_err_and}
-use Rattle.raft_env.specs.Directory.{Directory}
+use Rattle.raft_env.specs.Directory.{Directory, file_at}
 use Rattle.raft_env.proofs.MomentsLemmas.{moves_then_reads, moves_weaker}
 use Rattle.raft_config.specs.Folders.{folders_in}
-use Rattle.raft_fork.specs.Fork.{CanBeCopied, all_sources_in, copies_in, source_of, standing}
-use Rattle.raft_fork.specs.Refused.{IsCopyRefusal, IsSourceRefusal}
-use Rattle.raft_fork.proofs.CopiesLemmas.{others_of}
-use Rattle.raft_fork.proofs.ForkLemmas.{HasFound, copies_before, forking_moves, is_fork, ready}
-use Rattle.raft_fork.proofs.RefusedLemmas.{fork_copy, fork_source, fork_target}
+use Rattle.raft_fork.specs.Fork.{CanBeCopied, all_sources_in, copies_in, mark_in, source_of, standing}
+use Rattle.raft_fork.specs.Refused.{IsMarkedRefusal, IsSourceRefusal}
+use Rattle.raft_fork.proofs.ForkLemmas.{HasFound, copies_before, forking_moves, is_fork, ready, still_unmarked}
+use Rattle.raft_fork.proofs.RefusedLemmas.{fork_marked, fork_source, fork_target}
 use Rattle.raft_pipes.proofs.PipeDoubtLemmas.{fewer_then}
 use Rattle.raft_fork.proofs.forking.fork.Goals as goal
 
@@ -37,8 +36,8 @@ returns-in_err-files-clause-cause g c =
     rw (p.1, p.2)
     (fork_source c.args.source.now c.args.target.now (f.directory c.args.file_system.now) (f.refusals_of c.args.file_system.now) new mid made e c.in_ok-check_settings.ensures.ok c.in_ok-make_target.ensures.ok c.make_target.ensures.others c.make_target.ensures.any_moment.no_fewer refused)
 
-pub copy_files-requires-after_bounds : goal.copy_files-requires-after_bounds
-copy_files-requires-after_bounds g c κs within =
+pub copy_marked-requires-clause-can : goal.copy_marked-requires-clause-can
+copy_marked-requires-clause-can g c κs within =
     let f = g.F.FileSystem in
     let target = c.args.target.now in
     let mid = f.directory c.make_target.new.file_system in
@@ -46,6 +45,15 @@ copy_files-requires-after_bounds g c κs within =
     subst (λ m. CanBeCopied target (map source_of c.deref-2.result.now) m) (sym c.find_sources.ensures.unchanged.same_files)
     (subst (λ given. CanBeCopied target (map source_of given) mid) (sym c.deref-2.ensures.value)
     (ready (folders_in c.args.source.now) target (f.directory c.args.file_system.now) mid c.make_target.ensures.others (map string_bytes c.deref.result.now) stand (map source_of c.in_ok-files.files.items) c.in_ok-files.ensures.value c.in_ok-make_target.ensures.ok c.in_ok-files.ensures.single))
+
+pub copy_marked-requires-clause-unmarked : goal.copy_marked-requires-clause-unmarked
+copy_marked-requires-clause-unmarked g c κs within =
+    let f = g.F.FileSystem in
+    let target = c.args.target.now in
+    let mid = f.directory c.make_target.new.file_system in
+    let stand = ap (map string_bytes) c.deref.ensures.value ∙ c.in_ok-folders.ensures.value in
+    subst (λ m. file_at m (mark_in target) ≡ None) (sym c.find_sources.ensures.unchanged.same_files)
+    (still_unmarked (folders_in c.args.source.now) target (f.directory c.args.file_system.now) mid c.make_target.ensures.others (map string_bytes c.deref.result.now) stand (map source_of c.in_ok-files.files.items) c.in_ok-files.ensures.value c.in_ok-make_target.ensures.ok)
 
 pub returns-in_err-copied-clause-any_moment : goal.returns-in_err-copied-clause-any_moment
 returns-in_err-copied-clause-any_moment g c =
@@ -55,11 +63,12 @@ returns-in_err-copied-clause-any_moment g c =
     let has : HasFound (folders_in c.args.source.now) c.args.target.now there files (f.directory c.args.file_system.now) (f.directory c.make_target.new.file_system) = record {
       others = c.make_target.ensures.others;
       free = c.in_ok-make_target.ensures.ok;
+      made = c.in_ok-make_target.ensures.folder;
       stand = ap (map string_bytes) c.deref.ensures.value ∙ c.in_ok-folders.ensures.value;
       are = c.in_ok-files.ensures.value;
       single = c.in_ok-files.ensures.single;
     } in
-    forking_moves (folders_in c.args.source.now) c.args.target.now there files (map source_of c.deref-2.result.now) has (ap (map source_of) c.deref-2.ensures.value) c.make_target.ensures.any_moment c.find_sources.ensures.unchanged c.copy_files.ensures.any_moment
+    forking_moves (folders_in c.args.source.now) c.args.target.now there files (map source_of c.deref-2.result.now) has (ap (map source_of) c.deref-2.ensures.value) c.make_target.ensures.any_moment c.find_sources.ensures.unchanged c.copy_marked.ensures.any_moment
 
 pub returns-in_err-copied-clause-cause : goal.returns-in_err-copied-clause-cause
 returns-in_err-copied-clause-cause g c =
@@ -71,11 +80,11 @@ returns-in_err-copied-clause-cause g c =
     let p = err_from_is_err_and c.from_residual-in_err-copied.result c.from_residual-in_err-copied.ensures.1 in
     let e = c.in_err-copied.field-0.0 in
     let found = f.refusals_of c.find_sources.new.file_system in
-    let new = f.refusals_of c.copy_files.new.file_system in
+    let new = f.refusals_of c.copy_marked.new.file_system in
     let copies : map source_of c.deref-2.result.now ≡ all_sources_in (standing (folders_in source) n) mid = ap (map source_of) c.deref-2.ensures.value ∙ c.in_ok-files.ensures.value ∙ ap (λ there. all_sources_in there mid) (ap (map string_bytes) c.deref.ensures.value ∙ c.in_ok-folders.ensures.value) in
-    let refused = subst (λ files. IsCopyRefusal target files found new e) copies c.in_err-copied.ensures.cause in
+    let refused = subst (λ files. IsMarkedRefusal target files found new e) copies c.in_err-copied.ensures.cause in
     rw (p.1, p.2)
-    (fork_copy source target n (f.refusals_of c.args.file_system.now) new mid found e c.make_target.ensures.others (fewer_then _ _ _ c.make_target.ensures.any_moment.no_fewer c.find_sources.ensures.unchanged.no_fewer) refused)
+    (fork_marked source target n (f.refusals_of c.args.file_system.now) new mid found e c.make_target.ensures.others (fewer_then _ _ _ c.make_target.ensures.any_moment.no_fewer c.find_sources.ensures.unchanged.no_fewer) refused)
 
 pub returns-clause-ok : goal.returns-clause-ok
 returns-clause-ok g c =
@@ -83,13 +92,11 @@ returns-clause-ok g c =
     let target = c.args.target.now in
     let mid = f.directory c.make_target.new.file_system in
     let files = map source_of c.in_ok-files.files.items in
-    let after = f.directory c.copy_files.new.file_system in
+    let after = f.directory c.copy_marked.new.file_system in
     let stand = ap (map string_bytes) c.deref.ensures.value ∙ c.in_ok-folders.ensures.value in
     let same = c.find_sources.ensures.unchanged.same_files in
-    let copied = rw (same, c.deref-2.ensures.value) at c.in_ok-copied.ensures.ok in
-    let being = rw (same, c.deref-2.ensures.value) at c.copy_files.ensures.any_moment.throughout.here in
-    let kept = c.in_ok-copied.ensures.folders ∙ ap (λ (m : Directory). m.is_folder) same in
-    is_fork (folders_in c.args.source.now) target (f.directory c.args.file_system.now) mid c.make_target.ensures.others (map string_bytes c.deref.result.now) stand files c.in_ok-files.ensures.value after c.in_ok-make_target.ensures.ok c.in_ok-make_target.ensures.folder kept c.in_ok-files.ensures.single copied (others_of target files mid after being)
+    let all = rw (same, c.deref-2.ensures.value) at c.in_ok-copied.ensures.ok in
+    is_fork (folders_in c.args.source.now) target (f.directory c.args.file_system.now) mid c.make_target.ensures.others (map string_bytes c.deref.result.now) stand files c.in_ok-files.ensures.value after c.in_ok-make_target.ensures.ok c.in_ok-make_target.ensures.folder all.folders c.in_ok-files.ensures.single all.copied all.others
 
 pub returns-clause-copies : goal.returns-clause-copies
 returns-clause-copies g c =
@@ -107,8 +114,9 @@ returns-clause-any_moment g c =
     let has : HasFound (folders_in c.args.source.now) c.args.target.now there files (f.directory c.args.file_system.now) (f.directory c.make_target.new.file_system) = record {
       others = c.make_target.ensures.others;
       free = c.in_ok-make_target.ensures.ok;
+      made = c.in_ok-make_target.ensures.folder;
       stand = ap (map string_bytes) c.deref.ensures.value ∙ c.in_ok-folders.ensures.value;
       are = c.in_ok-files.ensures.value;
       single = c.in_ok-files.ensures.single;
     } in
-    forking_moves (folders_in c.args.source.now) c.args.target.now there files (map source_of c.deref-2.result.now) has (ap (map source_of) c.deref-2.ensures.value) c.make_target.ensures.any_moment c.find_sources.ensures.unchanged c.copy_files.ensures.any_moment
+    forking_moves (folders_in c.args.source.now) c.args.target.now there files (map source_of c.deref-2.result.now) has (ap (map source_of) c.deref-2.ensures.value) c.make_target.ensures.any_moment c.find_sources.ensures.unchanged c.copy_marked.ensures.any_moment

@@ -1,4 +1,4 @@
-use Rattle.std.proofs.Common.{◌≡◌, ◌∙◌, ◌<◌, [], ◌∷◌, length, map, ap, inr, arith, rules}
+use Rattle.std.proofs.Common.{◌≡◌, ◌∙◌, ◌<◌, [], ◌∷◌, length, map, ap, inl, inr, arith, rules}
 use Rattle.std.specs.String.{string_bytes}
 use Rattle.std.proofs.lemmas.List.{length-map}
 use Rattle.raft_pipes.specs.FileList.{place_of}
@@ -14,4 +14,4 @@ returns-then-not-is_empty-clause-cause g c =
     let folders : map string_bytes c.deref.result.now ≡ folder ∷ [] = search rules in
     let are : found ≡ kept_files (folder ∷ []) c.args.queue n = c.in_ok-found.ensures.value ∙ ap (λ folders. kept_files folders c.args.queue n) folders in
     let some : 0 < length c.in_ok-found.found.items = search rules in
-    inr (has_log folder c.args.queue n found are (omega (arith, some, length-map c.in_ok-found.found.items place_of)))
+    inr (inl (has_log folder c.args.queue n found are (omega (arith, some, length-map c.in_ok-found.found.items place_of))))

@@ -1,0 +1,126 @@
+//! The commands that change a log, as rows of a table.
+
+use crate::forms::{COUNT, DRY_RUN, Form, GROUP, KEY, Kind, NO_SYNC, SIZE, Word};
+
+pub(crate) const CHANGE_FORMS: [Form; 10] = [
+    Form {
+        name: "put",
+        about: "Puts a value at a key of a group, and syncs it",
+        words: &[
+            GROUP,
+            KEY,
+            Word(
+                "VALUE",
+                Kind::Text,
+                "The value; @FILE for the bytes of a file, - for standard input",
+            ),
+            NO_SYNC,
+        ],
+        example: "Example: raftctl log put 1 name value",
+    },
+    Form {
+        name: "lines",
+        about: "Puts the keys and values of a file of lines, each a key, a tab and a value; with --entries adds its entries",
+        words: &[
+            GROUP,
+            Word("FILE", Kind::Text, "The file; - for standard input"),
+            Word(
+                "entries",
+                Kind::Flag,
+                "Each line is an index, a tab and a value, as `entries` prints them",
+            ),
+            NO_SYNC,
+        ],
+        example: "Example: raftctl log lines 1 pairs.tsv",
+    },
+    Form {
+        name: "del",
+        about: "Deletes a key of a group, and syncs that",
+        words: &[GROUP, KEY, NO_SYNC],
+        example: "Example: raftctl log del 1 name",
+    },
+    Form {
+        name: "append",
+        about: "Adds entries to a group, syncs them, and prints the first and the last index of them",
+        words: &[
+            GROUP,
+            Word(
+                "VALUE",
+                Kind::OptionalTexts,
+                "The values of the entries; @FILE for the bytes of a file",
+            ),
+            Word(
+                "lines",
+                Kind::NamedText,
+                "A file whose lines are values, behind those named; - for standard input",
+            ),
+            Word(
+                "at",
+                Kind::Named,
+                "The first index; entries from it on are replaced. Else the one after the last, or 1",
+            ),
+            NO_SYNC,
+        ],
+        example: "Example: raftctl log append 1 first second",
+    },
+    Form {
+        name: "compact",
+        about: "Drops the entries of a group below an index, syncs that, and prints how many",
+        words: &[
+            GROUP,
+            Word("INDEX", Kind::Number, "The first index that stays"),
+            NO_SYNC,
+        ],
+        example: "Example: raftctl log compact 1 5",
+    },
+    Form {
+        name: "clean",
+        about: "Drops all entries and keys of a group, and syncs that",
+        words: &[GROUP, NO_SYNC],
+        example: "Example: raftctl log clean 1",
+    },
+    Form {
+        name: "load",
+        about: "Puts keys numbered from 0 into group 1, and prints `synced I` after each sync",
+        words: &[
+            COUNT,
+            SIZE,
+            Word(
+                "sync-each",
+                Kind::Named,
+                "Syncs after so many keys; 0: never; else after each",
+            ),
+            Word(
+                "purge-each",
+                Kind::Named,
+                "Purges after so many keys, as `purge` does; 0, else: never",
+            ),
+        ],
+        example: "Example: raftctl log load 1000000 100 --sync-each 1000",
+    },
+    Form {
+        name: "rewrite",
+        about: "Writes what still counts in log files anew, drops these, and prints how many, and which files are kept to be used again",
+        words: &[
+            Word(
+                "FILES",
+                Kind::Text,
+                "append or rewrite, the files of this queue; stale, those of which nothing counts",
+            ),
+            DRY_RUN,
+        ],
+        example: "Example: raftctl log rewrite append",
+    },
+    Form {
+        name: "purge",
+        about: "Drops log files as `rewrite` does, as far as the settings' thresholds ask for it; prints the groups to compact before",
+        words: &[DRY_RUN],
+        example: "Example: raftctl log purge",
+    },
+    Form {
+        name: "repair",
+        about: "Opens the log in --mode, and keeps what that cuts off in files beside; with --cut moves files aside that it passes over",
+        words: &[DRY_RUN],
+        example: "Example: raftctl log repair --mode any",
+    },
+];

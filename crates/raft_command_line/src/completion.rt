@@ -1,0 +1,75 @@
+//! A script by which a shell completes the words of a line.
+
+use crate::change_forms::CHANGE_FORMS;
+use crate::forms::{CHANGE_OPTIONS, Form, Kind, OPTIONS, Word};
+use crate::look_forms::LOOK_FORMS;
+use std::alloc::{AllocError, Global};
+
+/// What stands before the words of the commands, and behind them.
+const FRONT: &str = "\
+# Completion of raftctl for bash: eval \"$(raftctl --completion)\"
+_raftctl() {
+    local word=${COMP_WORDS[COMP_CWORD]} words=
+    if [ \"$COMP_CWORD\" -eq 1 ]; then
+        COMPREPLY=($(compgen -d -- \"$word\"))
+        return
+    fi
+    if [ \"$COMP_CWORD\" -eq 2 ]; then
+        COMPREPLY=($(compgen -W \"";
+
+const MIDDLE: &str = "\" -- \"$word\"))
+        return
+    fi
+    case ${COMP_WORDS[2]} in
+";
+
+const END: &str = "\
+    esac
+    case $word in
+    -*) COMPREPLY=($(compgen -W \"$words\" -- \"$word\")) ;;
+    *) COMPREPLY=($(compgen -f -- \"$word\")) ;;
+    esac
+}
+complete -F _raftctl raftctl
+";
+
+/// A script for bash, of all commands and their words.
+pub fn completion_script(alloc: Global) -> Result<String, AllocError> {
+    let mut script = String::from_str(alloc, FRONT)?;
+    for form in LOOK_FORMS.iter().chain(&CHANGE_FORMS) {
+        script.push_str(form.name)?;
+        script.push(' ')?;
+    }
+    script.push_str(MIDDLE)?;
+    for form in &LOOK_FORMS {
+        add_form(form, &[], &mut script)?;
+    }
+    for form in &CHANGE_FORMS {
+        add_form(form, &CHANGE_OPTIONS, &mut script)?;
+    }
+    script.push_str(END)?;
+    Ok(script)
+}
+
+// A line of the words that begin with `--` of a command.
+fn add_form(form: &Form, options: &[Word], script: &mut String) -> Result<(), AllocError> {
+    script.push_str("    ")?;
+    script.push_str(form.name)?;
+    script.push_str(") words=\"")?;
+    for word in form.words.iter().chain(options).chain(&OPTIONS) {
+        add_word(*word, script)?;
+    }
+    script.push_str("\" ;;\n")
+}
+
+fn add_word(word: Word, script: &mut String) -> Result<(), AllocError> {
+    let Word(name, kind, _) = word;
+    match kind {
+        Kind::Named | Kind::NamedText | Kind::Flag => {
+            script.push_str("--")?;
+            script.push_str(name)?;
+            script.push_str(" ")
+        }
+        _ => Ok(()),
+    }
+}

@@ -1,0 +1,146 @@
+//! The commands that leave a log as it is, as rows of a table.
+
+use crate::forms::{COUNT, Form, GROUP, KEY, Kind, LIMIT, RAW, SIZE, Word};
+
+pub(crate) const LOOK_FORMS: [Form; 14] = [
+    Form {
+        name: "get",
+        about: "Prints the value at a key; with status 3 where there is none",
+        words: &[GROUP, KEY, RAW],
+        example: "Example: raftctl log get 1 name --raw > value",
+    },
+    Form {
+        name: "list",
+        about: "Prints a line for each key: its group, itself and the bytes of its value",
+        words: &[
+            Word("GROUP", Kind::Optional, "The keys of this group alone"),
+            LIMIT,
+        ],
+        example: "Example: raftctl log list 1 --limit 20",
+    },
+    Form {
+        name: "scan",
+        about: "Prints a line for each key of a group in a range: itself and its value",
+        words: &[
+            GROUP,
+            Word(
+                "from",
+                Kind::NamedText,
+                "The first key; else that of the group",
+            ),
+            Word("to", Kind::NamedText, "The key before which the range ends"),
+            Word("reverse", Kind::Flag, "Begins with the last key"),
+            LIMIT,
+        ],
+        example: "Example: raftctl log scan 1 --from a --to b --limit 20",
+    },
+    Form {
+        name: "entry",
+        about: "Prints the value of an entry; with status 3 where there is none",
+        words: &[
+            GROUP,
+            Word("INDEX", Kind::Number, "The index of the entry"),
+            RAW,
+        ],
+        example: "Example: raftctl log entry 1 2",
+    },
+    Form {
+        name: "entries",
+        about: "Prints a line for each entry of a group: its index and its value",
+        words: &[
+            GROUP,
+            Word(
+                "FROM",
+                Kind::Optional,
+                "The first index; else that of the group",
+            ),
+            Word(
+                "TO",
+                Kind::Optional,
+                "The last index; else that of the group",
+            ),
+            LIMIT,
+        ],
+        example: "Example: raftctl log entries 1 2 9",
+    },
+    Form {
+        name: "groups",
+        about: "Prints a line for each group: its number",
+        words: &[],
+        example: "Example: raftctl log groups",
+    },
+    Form {
+        name: "stat",
+        about: "Prints what the log holds, what an opening would lose, and a line for each group and file: how many bytes are live; with --json one object",
+        words: &[],
+        example: "Example: raftctl log stat --json",
+    },
+    Form {
+        name: "dump",
+        about: "Prints a line for each item of the log files; status 4 where one can't be read on",
+        words: &[
+            Word(
+                "FILE",
+                Kind::OptionalText,
+                "The items of this file alone; with a `/` the path of a log file anywhere",
+            ),
+            Word("group", Kind::Named, "The items of this group alone"),
+            Word(
+                "kind",
+                Kind::NamedText,
+                "The items of this kind alone: put, delete, entry, clean or compact",
+            ),
+            Word(
+                "from",
+                Kind::Named,
+                "Entries and compactions from this index on alone",
+            ),
+            Word(
+                "to",
+                Kind::Named,
+                "Entries and compactions up to this index alone",
+            ),
+        ],
+        example: "Example: raftctl log dump --group 1 --kind entry --from 5 --to 9",
+    },
+    Form {
+        name: "check",
+        about: "Prints a line for each file: what can be read, and what an opening in each mode would do; status 4 where one in --mode would cut something off, 5 where it would fail, 6 where it would pass files over",
+        words: &[],
+        example: "Example: raftctl log check --mode absolute",
+    },
+    Form {
+        name: "consistency",
+        about: "Prints a line for each group whose entries have a hole, with the last index before the first one; status 3 where there is one",
+        words: &[],
+        example: "Example: raftctl log consistency --json",
+    },
+    Form {
+        name: "picture",
+        about: "Prints a picture in SVG: the files to scale, and what the index refers to of each",
+        words: &[],
+        example: "Example: raftctl log picture > log.svg",
+    },
+    Form {
+        name: "verify",
+        about: "Counts the keys of `load` from 0 on; status 3 where one stands after a gap",
+        words: &[COUNT, SIZE],
+        example: "Example: raftctl log verify 1000000 100",
+    },
+    Form {
+        name: "settings",
+        about: "Prints the settings in force, in TOML",
+        words: &[],
+        example: "Example: raftctl log settings --target 64MB > log.toml",
+    },
+    Form {
+        name: "fork",
+        about: "Copies the log files that an opening keeps into a folder, and syncs them",
+        words: &[Word(
+            "TARGET",
+            Kind::Text,
+            "The folder of the copy, which is made where it is missing; it may hold no log file",
+        )],
+        example: "Example: raftctl log fork copy",
+    },
+];

@@ -1,0 +1,45 @@
+//! Items of log files, of a folder or of one file anywhere.
+
+use crate::guard::note_passed;
+use crate::looks::{note_use, passed_in};
+use anyhow::Result;
+use raft_command_line::{Dump, Options, Request};
+use raft_console::{Output, Progress, Status};
+use raft_inspect::{Filter, ItemKind};
+use raft_looks::{Folder, dump};
+
+/// Prints a line for each item that is asked for. A file whose name has a `/` is one of the system's.
+pub(crate) fn print_items(
+    rt: HostRuntime,
+    request: &Request<'_>,
+    asked: Dump<'_>,
+    progress: &mut Progress,
+    out: &mut Output,
+) -> Result<Status> {
+    let filter = Filter {
+        group: asked.group,
+        kind: asked.kind.and_then(ItemKind::named),
+        from: asked.from,
+        to: asked.to,
+    };
+    if let Some((place, name)) = asked.file.and_then(at_last_slash) {
+        let options = Options {
+            spill: None,
+            ..request.options
+        };
+        let folder = Folder::open(rt, place, &options)?;
+        return dump(rt.alloc(), &folder, Some(name), filter, progress, out);
+    }
+    let folder = Folder::open(rt, request.folder, &request.options)?;
+    note_use(&rt, &folder, request)?;
+    if asked.file.is_none() {
+        note_passed(&rt, &passed_in(rt.alloc(), &folder, progress)?, request)?;
+    }
+    dump(rt.alloc(), &folder, asked.file, filter, progress, out)
+}
+
+// The folder of a path with a `/`, and the name in it.
+fn at_last_slash(path: &str) -> Option<(&str, &str)> {
+    let (folder, name) = path.rsplit_once('/')?;
+    Some((if folder.is_empty() { "/" } else { folder }, name))
+}

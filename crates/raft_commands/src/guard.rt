@@ -1,0 +1,320 @@
+//! What the opening before a change would lose: the change is refused, or what is lost is kept.
+
+use crate::kept::{free_name, keep};
+use crate::opening::standing_folders;
+use anyhow::{Result, anyhow};
+use raft_command_line::{Request, Verb};
+use raft_console::{failure, note};
+use raft_dump::log_files;
+use raft_env::FileSystem;
+use raft_inspect::{Cut, Losses, Passed, Unexplained, losses_of, queue_name};
+use raft_records::Fault;
+use std::alloc::{AllocError, Global};
+use std::{fs, io};
+
+/// Why files may be passed over.
+const UNTOLD: &str = "a purge that was killed may have left them, or a file or a second folder \
+    is missing: which of these can't be told";
+
+/// What is told where a change is refused.
+const REFUSED: &str = "nothing was done: `check` tells more, `repair` cuts and keeps what it cuts, \
+    `--cut` goes on";
+
+/// What an opening takes out of a log file.
+#[derive(Drop)]
+pub(crate) struct Taken {
+    pub path: String,
+    /// From where on bytes are cut off; none where the file is moved aside whole.
+    pub offset: Option<u64>,
+    pub len: u64,
+    /// Whether an earlier file left the bytes where this one stands.
+    pub stale: bool,
+    /// The path of the file that keeps it, from the folder on; none where none is kept.
+    pub kept: Option<String>,
+}
+
+/// Finds what an opening of the request's folder loses, and keeps it in files beside; none where more
+/// is lost than an unsynced tail explains and no word allows that. Standard error tells why.
+pub(crate) fn guard<F: FileSystem>(
+    rt: &HostRuntime,
+    files: &mut F,
+    request: &Request<'_>,
+) -> Result<Option<Vec<Taken>>> {
+    let alloc = rt.alloc();
+    let losses = match found(alloc, files, request) {
+        Ok(losses) => losses,
+        Err(fault) => return Err(failure("the files cannot be checked", &fault)),
+    };
+    let causes = match causes(alloc, files, &losses, request) {
+        Ok(causes) => causes,
+        Err(fault) => return Err(failure("the files cannot be checked", &fault)),
+    };
+    if causes.is_empty() {
+        note_passed(rt, &losses.passed, request)?;
+        return Ok(Some(take(rt, files, &losses, request)?));
+    }
+    let folder = request.folder;
+    for cause in &causes {
+        eprintln!(rt; "raftctl: {folder}: {cause}")?;
+    }
+    eprintln!(rt; "raftctl: {folder}: {REFUSED}")?;
+    Ok(None)
+}
+
+// Nothing where the opening fails, which then says why.
+fn found<F: FileSystem>(
+    alloc: Global,
+    files: &mut F,
+    request: &Request<'_>,
+) -> Result<Losses, Fault> {
+    let folders = standing_folders(alloc, files, &request.options)?;
+    let mut losses = losses_of(alloc, files, &folders, request.options.mode)?;
+    if losses.fails {
+        losses.passed.clear();
+    }
+    Ok(losses)
+}
+
+// Why the change is refused.
+fn causes<F: FileSystem>(
+    alloc: Global,
+    files: &mut F,
+    losses: &Losses,
+    request: &Request<'_>,
+) -> Result<Vec<String>, Fault> {
+    let mut causes = Vec::new(alloc);
+    if request.options.changing.cut {
+        return Ok(causes);
+    }
+    if !matches!(&request.verb, Verb::Repair) {
+        for cut in &losses.cuts {
+            let bytes = cut.bytes(alloc, files)?;
+            if let Some(unexplained) = cut.unexplained(alloc, &bytes)? {
+                causes.push(cause_of(alloc, cut, unexplained)?)?;
+            }
+        }
+    }
+    for passed in &losses.passed {
+        causes.push(told_of(alloc, *passed)?)?;
+    }
+    Ok(causes)
+}
+
+fn cause_of(alloc: Global, cut: &Cut, cause: Unexplained) -> Result<String, AllocError> {
+    let (path, offset, len) = (cut.path.as_str(), cut.offset, cut.len);
+    let why = match cause {
+        Unexplained::Records => "whole records stand in what would be cut off",
+        Unexplained::Unsearched => "what would be cut off is too much to be searched for records",
+        Unexplained::Earlier => "it isn't the last file of its queue",
+    };
+    format!(in alloc; "{path} is broken at {offset}, {len} bytes before its end: {why}")
+}
+
+/// Tells of files that an opening passes over.
+pub(crate) fn note_passed(
+    rt: &HostRuntime,
+    passed: &[Passed],
+    request: &Request<'_>,
+) -> Result<()> {
+    for each in passed {
+        let text = told_of(rt.alloc(), *each)?;
+        note(rt, &request.options, text.as_str())?;
+    }
+    Ok(())
+}
+
+// What is told of files that an opening passes over.
+fn told_of(alloc: Global, passed: Passed) -> Result<String, AllocError> {
+    let Passed {
+        files,
+        bytes,
+        first,
+        last,
+        missing,
+        ..
+    } = passed;
+    let queue = queue_name(passed.queue);
+    format!(in alloc;
+        "files passed over: {files} of queue {queue}, numbers {first} to {last}, \
+        {bytes} bytes, since number {missing} is missing behind them; {UNTOLD}"
+    )
+}
+
+// Keeps what is cut off, and moves aside what is passed over, where that is asked for.
+fn take<F: FileSystem>(
+    rt: &HostRuntime,
+    files: &mut F,
+    losses: &Losses,
+    request: &Request<'_>,
+) -> Result<Vec<Taken>> {
+    let mut taken = Vec::new(rt.alloc());
+    if let (Verb::Repair, false) = (&request.verb, losses.passed.is_empty()) {
+        move_aside(rt, files, losses, request, &mut taken)?;
+    }
+    for cut in &losses.cuts {
+        match take_cut(rt, files, cut, request) {
+            Ok(cut) => taken.push(cut)?,
+            Err(error) => {
+                give_back(rt, request, &taken)?;
+                return Err(error);
+            }
+        }
+    }
+    Ok(taken)
+}
+
+// What an earlier file left is kept by a repair alone.
+fn take_cut<F: FileSystem>(
+    rt: &HostRuntime,
+    files: &mut F,
+    cut: &Cut,
+    request: &Request<'_>,
+) -> Result<Taken> {
+    let is_repair = matches!(&request.verb, Verb::Repair);
+    let changing = request.options.changing;
+    let kept = if changing.no_keep || (cut.stale && !is_repair) {
+        None
+    } else {
+        Some(keep_cut(rt, files, cut, request)?)
+    };
+    Ok(Taken {
+        path: cut.path.clone()?,
+        offset: Some(cut.offset as u64),
+        len: cut.len as u64,
+        stale: cut.stale,
+        kept,
+    })
+}
+
+fn keep_cut<F: FileSystem>(
+    rt: &HostRuntime,
+    files: &mut F,
+    cut: &Cut,
+    request: &Request<'_>,
+) -> Result<String> {
+    let name = format!(in rt.alloc(); "{}.cut-{}", cut.path, cut.offset)?;
+    if request.options.changing.dry_run {
+        return free_name(rt, request.folder, name.as_str());
+    }
+    match cut.bytes(rt.alloc(), files) {
+        Ok(bytes) => keep(rt, request.folder, name.as_str(), &bytes),
+        Err(fault) => Err(failure("what is cut off cannot be read", &fault)),
+    }
+}
+
+fn move_aside<F: FileSystem>(
+    rt: &HostRuntime,
+    files: &mut F,
+    losses: &Losses,
+    request: &Request<'_>,
+    taken: &mut Vec<Taken>,
+) -> Result<()> {
+    let alloc = rt.alloc();
+    for path in paths_passed(alloc, files, losses, request)? {
+        let name = format!(in alloc; "{path}.passed")?;
+        let kept = free_name(rt, request.folder, name.as_str())?;
+        let len = fs::metadata(rt, format!(in alloc; "{}/{path}", request.folder)?.as_str())?.len();
+        if let Err(fault) = files.rename(path.as_str(), kept.as_str()) {
+            let fault = fault.with_path(alloc, path.as_str());
+            return Err(failure("what is passed over cannot be moved aside", &fault));
+        }
+        taken.push(Taken {
+            path,
+            offset: None,
+            len,
+            stale: false,
+            kept: Some(kept),
+        })?;
+    }
+    Ok(())
+}
+
+// The paths of all log files that are passed over.
+fn paths_passed<F: FileSystem>(
+    alloc: Global,
+    files: &mut F,
+    losses: &Losses,
+    request: &Request<'_>,
+) -> Result<Vec<String>> {
+    let mut paths = Vec::new(alloc);
+    for folder in standing_folders(alloc, files, &request.options)? {
+        let names = match files.list(folder) {
+            Ok(names) => names,
+            Err(fault) => return Err(anyhow!("{}", fault.with_path(alloc, folder))),
+        };
+        for file in log_files(alloc, folder, &names)? {
+            let is_passed = losses.passed.iter().any(|passed| passed.queue == file.id.queue
+                && file.id.seq <= passed.last);
+            if is_passed {
+                paths.push(file.path)?;
+            }
+        }
+    }
+    Ok(paths)
+}
+
+/// Tells on standard error what an opening took out of log files.
+pub(crate) fn note_taken(rt: &HostRuntime, request: &Request<'_>, taken: &[Taken]) -> Result<()> {
+    for each in taken {
+        let text = note_of(rt.alloc(), each)?;
+        note(rt, &request.options, text.as_str())?;
+    }
+    Ok(())
+}
+
+/// Where a change failed: deletes the files that keep what the log still has, and tells the others.
+pub(crate) fn give_back(rt: &HostRuntime, request: &Request<'_>, taken: &[Taken]) -> Result<()> {
+    if request.options.changing.dry_run {
+        return Ok(());
+    }
+    for each in taken {
+        if let (Some(offset), Some(kept)) = (each.offset, &each.kept) {
+            give_back_one(rt, request, each, offset, kept.as_str())?;
+        }
+    }
+    Ok(())
+}
+
+fn give_back_one(
+    rt: &HostRuntime,
+    request: &Request<'_>,
+    taken: &Taken,
+    offset: u64,
+    kept: &str,
+) -> Result<()> {
+    let alloc = rt.alloc();
+    let log = format!(in alloc; "{}/{}", request.folder, taken.path)?;
+    let copy = format!(in alloc; "{}/{kept}", request.folder)?;
+    if has_copied(rt, log.as_str(), offset, copy.as_str())? {
+        return Ok(fs::remove_file(rt, copy.as_str())?);
+    }
+    let text = note_of(alloc, taken)?;
+    Ok(note(rt, &request.options, text.as_str())?)
+}
+
+// Whether a file has the bytes of its copy at a place.
+fn has_copied(rt: &HostRuntime, log: &str, offset: u64, copy: &str) -> io::Result<bool> {
+    let bytes = fs::read(rt, log)?;
+    let copied = fs::read(rt, copy)?;
+    match bytes.get(usize::try_from(offset).unwrap_or(usize::MAX)..) {
+        Some(rest) => Ok(rest.starts_with(&copied)),
+        None => Ok(false),
+    }
+}
+
+fn note_of(alloc: Global, taken: &Taken) -> Result<String, AllocError> {
+    let (path, len) = (taken.path.as_str(), taken.len);
+    let offset = taken.offset.unwrap_or(0);
+    match &taken.kept {
+        Some(kept) => format!(in alloc;
+            "{path} was broken at {offset}: the {len} bytes from there on were cut off, \
+            and are kept in {kept}"
+        ),
+        None if taken.stale => format!(in alloc;
+            "{path}: {len} bytes from {offset} on, which an earlier file left, were cut off"
+        ),
+        None => format!(in alloc;
+            "{path} was broken at {offset}: the {len} bytes from there on were cut off"
+        ),
+    }
+}

@@ -1,0 +1,58 @@
+//! Files beside a log's, which keep what an opening takes out of it. None that stands is written over.
+
+use anyhow::{Result, anyhow};
+use std::fs::{self, File};
+use std::io::{self, ErrorKind, Write};
+
+/// Makes a file of these bytes in a folder, under a name that nothing has, and syncs it. It answers
+/// the name.
+pub(crate) fn keep(rt: &HostRuntime, folder: &str, name: &str, bytes: &[u8]) -> Result<String> {
+    for turn in 1..=u64::MAX {
+        let free = turned(rt, name, turn)?;
+        let place = format!(in rt.alloc(); "{folder}/{free}")?;
+        match File::create_new(rt, place.as_str()) {
+            Ok(file) => match fill(rt, file, place.as_str(), bytes) {
+                Ok(()) => return Ok(free),
+                Err(e) => {
+                    let _ = fs::remove_file(rt, place.as_str());
+                    return Err(anyhow!("what is cut off cannot be kept: {place}: {e}"));
+                }
+            },
+            Err(e) if e.kind() == ErrorKind::AlreadyExists => {}
+            Err(e) => return Err(anyhow!("what is cut off cannot be kept: {place}: {e}")),
+        }
+    }
+    Err(anyhow!("what is cut off cannot be kept: {folder}/{name}: no name is free"))
+}
+
+/// A name like this one in a folder, that nothing has.
+pub(crate) fn free_name(rt: &HostRuntime, folder: &str, name: &str) -> Result<String> {
+    for turn in 1..=u64::MAX {
+        let free = turned(rt, name, turn)?;
+        let place = format!(in rt.alloc(); "{folder}/{free}")?;
+        match fs::symlink_metadata(rt, place.as_str()) {
+            Ok(_) => {}
+            Err(e) if e.kind() == ErrorKind::NotFound => return Ok(free),
+            Err(e) => return Err(anyhow!("{place}: {e}")),
+        }
+    }
+    Err(anyhow!("{folder}/{name}: no name is free"))
+}
+
+// The name itself, and then with a number behind it.
+fn turned(rt: &HostRuntime, name: &str, turn: u64) -> Result<String> {
+    if turn == 1 {
+        return Ok(String::from_str(rt.alloc(), name)?);
+    }
+    Ok(format!(in rt.alloc(); "{name}.{turn}")?)
+}
+
+// The name stays through a crash too.
+fn fill(rt: &HostRuntime, mut file: File, place: &str, bytes: &[u8]) -> io::Result<()> {
+    file.write_all(bytes)?;
+    file.sync_all()?;
+    match place.rsplit_once('/') {
+        Some((folder, _)) => File::open(rt, folder)?.sync_all(),
+        None => Ok(()),
+    }
+}

@@ -1,0 +1,36 @@
+//! Searches for stale records among bytes that are no log's.
+
+use raft_dump::{StaleSearch, search_stale};
+use raft_records::{Fault, FileId, LogQueue};
+use std::alloc::Global;
+use std::test::Fail;
+
+/// The header of a record of 8,192 bytes, of which the last sixteen are its footer.
+const HEAD: [u8; 16] = [0, 0, 0, 0, 0, 0x20, 0, 0, 0, 0, 0, 0, 0, 0, 0x1f, 0xf0];
+
+/// So many of these headers one after the other, and as many zeros as a record is long. 8,192 of these records are 64 MiB
+/// together: that much is summed, and no more.
+static SEARCHES: [(usize, StaleSearch); 4] = [
+    (0, StaleSearch::NotStale),
+    (1, StaleSearch::NotStale),
+    (8192, StaleSearch::NotStale),
+    (8193, StaleSearch::Ended),
+];
+
+fn searched(alloc: Global, heads: usize) -> Result<StaleSearch, Fault> {
+    let mut bytes = Vec::new(alloc);
+    for _ in 0..heads {
+        bytes.extend_from_slice(&HEAD)?;
+    }
+    bytes.resize(bytes.len().saturating_add(8192), 0)?;
+    search_stale(alloc, FileId::new(LogQueue::Append, 5), &bytes)
+}
+
+#[test]
+fn a_search_ends(rt: HostRuntime) -> Result<(), Fail> {
+    for (heads, wanted) in &SEARCHES {
+        let found = searched(rt.alloc(), *heads)?;
+        assert!(rt; found == *wanted, "{heads} heads");
+    }
+    Ok(())
+}

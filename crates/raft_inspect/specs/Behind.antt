@@ -1,0 +1,27 @@
+-- Whole records behind the place at which a log file is broken.
+use Rattle.std.specs.Prelude.{◌≡◌, ℕ, ◌<◌, List, drop, length, Option, Some, None}
+use Rattle.raft_base.specs.FileId.{signature_in}
+use Rattle.raft_base.specs.declared.errors.Fault.TheVariants.{Corruption}
+use Rattle.raft_base.specs.declared.pipe_log.Version.{Version}
+use Rattle.raft_base.specs.declared.pipe_log.Version.TheVariants.{V1, V2}
+use Rattle.raft_records.specs.ItemBatch.{record_refusal}
+
+-- no record that is signed so begins here
+abbrev pub IsBroken : Option ℕ → List ℕ → Type 0
+IsBroken signature bytes = record_refusal signature bytes ≡ Some Corruption
+
+-- no record of a file of this number and version begins here, or of any version
+abbrev pub IsNoRecord : ℕ → Option Version → List ℕ → Type 0
+IsNoRecord seq (Some version) bytes = IsBroken (signature_in version seq) bytes
+IsNoRecord seq None bytes =
+    IsBroken (signature_in V2 seq) bytes × IsBroken (signature_in V1 seq) bytes
+
+-- none begins at the first places
+abbrev pub IsNoneIn : ℕ → Option Version → List ℕ → ℕ → Type 0
+IsNoneIn seq version bytes end = (at : ℕ) → at < end → IsNoRecord seq version (drop at bytes)
+
+-- one begins in the bytes
+pub record HoldsRecord (seq : ℕ) (version : Option Version) (bytes : List ℕ) : Type 0 where
+  pub at : ℕ
+  pub within : at < length bytes
+  pub stands : ¬ IsNoRecord seq version (drop at bytes)

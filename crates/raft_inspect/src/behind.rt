@@ -1,0 +1,99 @@
+//! Whole records behind the place at which a log file is broken.
+ghost use Rattle.std.specs.Prelude.{◌≡◌, true, false, None, length, IfErr, IfOk};
+ghost use Rattle.raft_base.specs.declared.errors.Fault.TheVariants.{Memory};
+ghost use Rattle.raft_base.specs.FileId.{file_signature};
+ghost use Rattle.raft_records.specs.Record.{record_header};
+ghost use Rattle.raft_inspect.specs.Behind.{HoldsRecord, IsBroken, IsNoRecord, IsNoneIn};
+ghost use Rattle.raft_inspect.specs.declared.behind.Behind.TheVariants.{Nothing, Record};
+
+use raft_records::{Fault, FileId, LogFileContext, Version, decode_header, decode_record};
+use std::alloc::Global;
+
+/// How many bytes of what may be records are read at most in a search.
+const MOST_BYTES: usize = 256 * 1024 * 1024;
+
+/// What a search behind a break found.
+#[derive(Clone, Copy, Debug, PartialEq, Eq)]
+pub enum Behind {
+    Nothing,
+    /// A whole record of the file.
+    Record,
+    /// None so far; not all was searched.
+    Unsearched,
+}
+
+/// Searches bytes of a file at every place for a whole record that was written to it: of this
+/// version, or of any where its header can't be read.
+pub fn search_behind(
+    alloc: Global,
+    id: FileId,
+    version: Option<Version>,
+    bytes: &[u8],
+) -> Result<Behind, Fault>
+    ensures found { IfOk result (λ found. found ≡ Record → HoldsRecord id.seq version bytes.now) }
+    ensures none { IfOk result (λ found. found ≡ Nothing
+        → IsNoneIn id.seq version bytes.now (length bytes.now)) }
+    ensures memory { IfErr result (λ e. e ≡ Memory) }
+{
+    let mut left = MOST_BYTES;
+    for at in 0..bytes.len() {
+        if is_written(alloc, id, version, &bytes[at..])? {
+            return Ok(Behind::Record);
+        }
+        left = left.saturating_sub(candidate_len(&bytes[at..]));
+        if left == 0 {
+            return Ok(Behind::Unsearched);
+        }
+    }
+    Ok(Behind::Nothing)
+}
+
+// How many bytes are read where these may begin with a record.
+fn candidate_len(bytes: &[u8]) -> usize {
+    match decode_header(bytes) {
+        Ok(header) if header.len <= bytes.len() => header.len,
+        _ => 0,
+    }
+}
+
+fn is_written(
+    alloc: Global,
+    id: FileId,
+    version: Option<Version>,
+    bytes: &[u8],
+) -> Result<bool, Fault>
+    ensures no { IfOk result (λ is. is ≡ false → IsNoRecord id.seq version bytes.now) }
+    ensures yes { IfOk result (λ is. is ≡ true → ¬ IsNoRecord id.seq version bytes.now) }
+    ensures memory { IfErr result (λ e. e ≡ Memory) }
+{
+    if !has_header(bytes) {
+        return Ok(false);
+    }
+    match version {
+        Some(version) => is_record(alloc, LogFileContext::new(id, version), bytes),
+        None => Ok(
+            is_record(alloc, LogFileContext::new(id, Version::V2), bytes)?
+                || is_record(alloc, LogFileContext::new(id, Version::V1), bytes)?,
+        ),
+    }
+}
+
+fn has_header(bytes: &[u8]) -> bool
+    ensures no { result ≡ false → record_header bytes.now ≡ None }
+{
+    decode_header(bytes).is_ok()
+}
+
+// Whether a record begins here that the file's reading would take, compressed or not.
+fn is_record(alloc: Global, context: LogFileContext, bytes: &[u8]) -> Result<bool, Fault>
+    ensures no { IfOk result (λ is. is ≡ false → IsBroken (file_signature context) bytes.now) }
+    ensures yes { IfOk result (λ is. is ≡ true → ¬ IsBroken (file_signature context) bytes.now) }
+    ensures memory { IfErr result (λ e. e ≡ Memory) }
+{
+    match decode_record(alloc, bytes, 0, &context, Vec::new(alloc), true) {
+        Ok(_) => Ok(true),
+        Err(Fault::Memory) => Err(Fault::Memory),
+        Err(Fault::Corruption) => Ok(false),
+        Err(_) => Ok(true),
+    }
+}

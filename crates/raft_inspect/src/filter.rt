@@ -1,0 +1,87 @@
+//! Which items of log files are told.
+
+use raft_records::{Command, KeyValue};
+
+/// What an item of a record does.
+#[derive(Clone, Copy, Debug, PartialEq, Eq)]
+pub enum ItemKind {
+    Put,
+    Delete,
+    Entry,
+    Clean,
+    Compact,
+}
+
+impl ItemKind {
+    /// The kind of this name.
+    pub fn named(word: &str) -> Option<ItemKind> {
+        match word {
+            "put" => Some(ItemKind::Put),
+            "delete" => Some(ItemKind::Delete),
+            "entry" => Some(ItemKind::Entry),
+            "clean" => Some(ItemKind::Clean),
+            "compact" => Some(ItemKind::Compact),
+            _ => None,
+        }
+    }
+
+    pub fn name(self) -> &'static str {
+        match self {
+            ItemKind::Put => "put",
+            ItemKind::Delete => "delete",
+            ItemKind::Entry => "entry",
+            ItemKind::Clean => "clean",
+            ItemKind::Compact => "compact",
+        }
+    }
+
+    pub(crate) fn of_pair(pair: &KeyValue) -> ItemKind {
+        match pair {
+            KeyValue::Put { .. } => ItemKind::Put,
+            KeyValue::Delete { .. } => ItemKind::Delete,
+        }
+    }
+}
+
+/// A group, a kind, and the first and the last index of entries and compactions. What isn't named is
+/// any, but that items without an index are none where an index is named.
+#[derive(Clone, Copy)]
+pub struct Filter {
+    pub group: Option<u64>,
+    pub kind: Option<ItemKind>,
+    pub from: Option<u64>,
+    pub to: Option<u64>,
+}
+
+impl Filter {
+    /// Takes every item.
+    pub const ALL: Filter = Filter {
+        group: None,
+        kind: None,
+        from: None,
+        to: None,
+    };
+
+    /// Whether an item of a group is told.
+    pub fn takes(self, group: u64, kind: ItemKind, index: Option<u64>) -> bool {
+        self.group.is_none_or(|wanted| wanted == group)
+            && self.kind.is_none_or(|wanted| wanted == kind)
+            && self.takes_index(index)
+    }
+
+    fn takes_index(self, index: Option<u64>) -> bool {
+        match index {
+            Some(index) => {
+                self.from.is_none_or(|from| from <= index) && self.to.is_none_or(|to| index <= to)
+            }
+            None => self.from.is_none() && self.to.is_none(),
+        }
+    }
+
+    pub(crate) fn takes_command(self, group: u64, command: Command) -> bool {
+        match command {
+            Command::Clean => self.takes(group, ItemKind::Clean, None),
+            Command::Compact { index } => self.takes(group, ItemKind::Compact, Some(index)),
+        }
+    }
+}

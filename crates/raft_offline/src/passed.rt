@@ -1,0 +1,73 @@
+//! What a fork leaves out: log files that an opening passes over.
+
+use crate::copies::Copy;
+use anyhow::{Result, bail};
+use raft_config::Config;
+use raft_disk::{FolderView, is_log_name};
+use std::alloc::Global;
+
+/// The log files of a source that aren't copied.
+#[derive(Drop)]
+struct Passed {
+    files: u64,
+    bytes: u64,
+}
+
+/// Tells on standard error how many log files of the source aren't copied, since the numbers behind
+/// them don't go on without a gap.
+pub(crate) fn tell_passed(
+    rt: &HostRuntime,
+    source: &FolderView,
+    config: &Config,
+    copies: &[Copy],
+) -> Result<()> {
+    let mut passed = Passed { files: 0, bytes: 0 };
+    add_folder(rt.alloc(), source, "", copies, &mut passed)?;
+    if let Some(spill) = &config.spill_dir {
+        add_folder(rt.alloc(), source, spill.as_str(), copies, &mut passed)?;
+    }
+    if passed.files > 0 {
+        eprintln!(rt;
+            "raftctl: files passed over and not copied: {}, {} bytes, since a number is missing behind them",
+            passed.files, passed.bytes
+        )?;
+    }
+    Ok(())
+}
+
+fn add_folder(
+    alloc: Global,
+    source: &FolderView,
+    folder: &str,
+    copies: &[Copy],
+    passed: &mut Passed,
+) -> Result<()> {
+    let names = match source.names(folder) {
+        Ok(names) => names,
+        Err(fault) => bail!("{fault}"),
+    };
+    for name in &names {
+        let path = match folder {
+            "" => name.clone()?,
+            _ => format!(in alloc; "{folder}/{name}")?,
+        };
+        if is_log_name(name.as_str()) && !name.ends_with(".reserved") && !is_copied(&path, copies) {
+            add_file(source, path.as_str(), passed)?;
+        }
+    }
+    Ok(())
+}
+
+fn is_copied(path: &String, copies: &[Copy]) -> bool {
+    copies.iter().any(|copy| copy.from == *path)
+}
+
+fn add_file(source: &FolderView, path: &str, passed: &mut Passed) -> Result<()> {
+    let size = match source.size(path) {
+        Ok(size) => size,
+        Err(fault) => bail!("{fault}"),
+    };
+    passed.files = passed.files.saturating_add(1);
+    passed.bytes = passed.bytes.saturating_add(size);
+    Ok(())
+}
