@@ -17,9 +17,9 @@ use Rattle.raft_config.specs.Sanitized.{IsContradiction}
 use Rattle.raft_config.specs.declared.config.Config.{Config}
 use Rattle.raft_config.specs.declared.config.RecoveryMode.{RecoveryMode}
 use Rattle.raft_env.specs.declared.env.FileSystem.{Ghosts}
-use Rattle.raft_held.specs.Contents.{contents_at, found_contents, found_groups, known_at, known_from}
-use Rattle.raft_held.specs.Crash.{contents_after_crash, known_after_crash}
-use Rattle.raft_held.specs.Queues.{IsOpeningRefusal}
+use Rattle.raft_crash_laws.specs.Contents.{contents_at, found_contents, found_groups, known_at, known_from}
+use Rattle.raft_crash_laws.specs.Crash.{contents_after_crash, known_after_crash}
+use Rattle.raft_crash_laws.specs.Queues.{IsOpeningRefusal}
 use Rattle.raft_memory.proofs.ChoiceTornLemmas.{choices_may_leave}
 use Rattle.raft_memory.specs.Choice.{NameNoBytes, RefusesUnless, left_by}
 use Rattle.raft_memory.specs.declared.crash.Choice.{Choice}

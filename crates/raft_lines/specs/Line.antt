@@ -5,7 +5,8 @@ use Rattle.std.specs.Char.{is_ascii_graphic}
 use Rattle.std.specs.Str.{bytes_eq}
 use Rattle.raft_base.specs.declared.pipe_log.LogQueue.{LogQueue}
 use Rattle.raft_base.specs.declared.pipe_log.LogQueue.TheVariants.{Append, Rewrite}
-use Rattle.raft_script.specs.Entry.{indexed_bytes, text_entries}
+use Rattle.raft_script.specs.Batches.{indexed_bytes}
+use Rattle.raft_script.specs.Entry.{text_entries}
 use Rattle.raft_script.specs.Number.{number_in}
 use Rattle.raft_lines.specs.Settings.{text_set}
 use Rattle.raft_lines.specs.declared.program.Ended.{Ended}

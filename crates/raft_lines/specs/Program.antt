@@ -17,8 +17,8 @@ use Rattle.raft_pipes.specs.Queue.{NamesPlace}
 use Rattle.raft_once.specs.Numbers.{shown}
 use Rattle.raft_records.specs.Contents.{Contents, after_batches, no_contents}
 use Rattle.raft_tables.specs.Known.{known_in}
-use Rattle.raft_held.specs.Crash.{contents_after_crash, known_after_crash}
-use Rattle.raft_held.specs.Queues.{IsOpeningRefusal}
+use Rattle.raft_crash_laws.specs.Crash.{contents_after_crash, known_after_crash}
+use Rattle.raft_crash_laws.specs.Queues.{IsOpeningRefusal}
 use Rattle.raft_tables.specs.Listing.{IsListing, listed}
 use Rattle.raft_script.specs.Entry.{range_of}
 use Rattle.raft_lines.specs.Line.{Asked, Nothing, Range, Reopen, Scan, Span, Crash, asked_by_op}

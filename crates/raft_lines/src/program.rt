@@ -4,7 +4,7 @@ ghost use Rattle.raft_env.specs.Directory.{CrashImage, IsRestarted, Leaves};
 ghost use Rattle.raft_log_engine.specs.Engine.{contents_of, has_failed};
 ghost use Rattle.raft_memory.specs.Choice.{NameNoBytes, NamesNoBytes};
 ghost use Rattle.raft_memory.specs.Memory.{memory_directory, no_files};
-ghost use Rattle.raft_held.specs.Contents.{contents_at, known_at};
+ghost use Rattle.raft_crash_laws.specs.Contents.{contents_at, known_at};
 ghost use Rattle.raft_config.specs.Config.{IsCopy};
 ghost use Rattle.raft_config.specs.Folders.{folders_in};
 ghost use Rattle.raft_script.specs.Entry.{range_of};

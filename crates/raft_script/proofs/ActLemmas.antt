@@ -8,7 +8,7 @@ use Rattle.raft_base.specs.declared.errors.Fault.{Fault}
 use Rattle.raft_records.specs.Contents.{Contents, after_batch, after_batches}
 use Rattle.raft_records.specs.Item.{Batch, Entry}
 use Rattle.raft_records.specs.Validity.{batch_refusal}
-use Rattle.raft_held.specs.Crash.{pending_of, written_batch}
+use Rattle.raft_crash_laws.specs.Crash.{pending_of, written_batch}
 use Rattle.raft_once.specs.History.{Act, ActedOnce, MayAllAct, acted_after, are_numbers, are_written, written_of}
 use Rattle.raft_once.specs.Numbers.{Pair, are_new, are_unfit, has_numbers, numbered}
 use Rattle.raft_log_engine.specs.Cause.{plain_part, plain_parts}
@@ -25,7 +25,7 @@ use Rattle.raft_script.proofs.StepsLemmas.{after-append}
 
 -- Acts one after the other.
 
-written-append : (acts more : List Act) → are_written (acts ++ more) ≡ are_written acts ++ are_written more
+pub written-append : (acts more : List Act) → are_written (acts ++ more) ≡ are_written acts ++ are_written more
 written-append [] more = refl
 written-append (act ∷ acts) more = ap (λ (l : List Batch). written_of act ∷ l) (written-append acts more)
 
@@ -138,20 +138,20 @@ once_acts m (Some items) pairs = by_case (are_numbers pairs) (are_unfit pairs) (
 -- Operations.
 
 -- these are some of an operation's batches, of those that may act
-abbrev ArePartOf : Contents → Op → List Batch → Type 0
+abbrev pub ArePartOf : Contents → Op → List Batch → Type 0
 ArePartOf m (WriteOnce acts pairs sync) batches = (batches ≡ [])
     ⊎ (batches ≡ written_batch (once_batch m (batch_of_acts acts.items) pairs.items))
 ArePartOf m op batches = ArePlain batches
 
-abbrev Act-in : Contents → Op → List Batch → Type 0
+abbrev pub Act-in : Contents → Op → List Batch → Type 0
 Act-in m op batches = MayAllAct m (acts_in op batches) × (are_written (acts_in op batches) ≡ batches)
 
-part_acts : (m : Contents) (op : Op) (batches : List Batch) → ArePartOf m op batches → Act-in m op batches
+pub part_acts : (m : Contents) (op : Op) (batches : List Batch) → ArePartOf m op batches → Act-in m op batches
 part_acts m (WriteOnce acts pairs sync) batches (inl none) = subst (λ (l : List Batch). Act-in m (WriteOnce acts pairs sync) l) (sym none) (tt, refl)
 part_acts m (WriteOnce acts pairs sync) batches (inr is) = subst (λ (l : List Batch). Act-in m (WriteOnce acts pairs sync) l) (sym is) (once_acts m (batch_of_acts acts.items) pairs.items)
 part_acts m _ batches plain = (plain_may m batches plain, plain_written batches)
 
-accepted_part : (m : Contents) (op : Op) (outcome : Outcome) → ArePartOf m op (accepted_of m op outcome)
+pub accepted_part : (m : Contents) (op : Op) (outcome : Outcome) → ArePartOf m op (accepted_of m op outcome)
 accepted_part m (WriteOnce acts pairs sync) outcome = alone (answers_in outcome) (once_batch m (batch_of_acts acts.items) pairs.items)
   where
     ended : (answers : List (Result ℕ Fault)) → accepted_in answers [] ≡ []

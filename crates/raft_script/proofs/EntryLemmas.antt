@@ -20,7 +20,8 @@ use Rattle.raft_records.specs.Item.{Entry}
 use Rattle.raft_records.specs.declared.entry_index.EntryIndex.{EntryIndex}
 use Rattle.raft_script.proofs.RunLemmas.{taken_more}
 use Rattle.raft_script.specs.Number.{number_in}
-use Rattle.raft_script.specs.Entry.{indexed_bytes, text_bytes, text_entry}
+use Rattle.raft_script.specs.Entry.{text_bytes, text_entry}
+use Rattle.raft_script.specs.Batches.{indexed_bytes}
 
 digits_model : IsNumeralModel (λ ds. all_ascii_digits ds ≡ true) (digits_value 10)
 digits_model = numerals_by_value _ tells_all_ascii_digits

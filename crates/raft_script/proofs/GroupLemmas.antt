@@ -17,7 +17,7 @@ use Rattle.raft_env.specs.declared.env.FileSystem.{Ghosts}
 use Rattle.raft_records.specs.Contents.{Contents, after_batch}
 use Rattle.raft_records.specs.Batch.{BatchView}
 use Rattle.raft_records.specs.Item.{Batch}
-use Rattle.raft_held.specs.Crash.{written_batch}
+use Rattle.raft_crash_laws.specs.Crash.{written_batch}
 use Rattle.raft_log_engine.specs.Cause as engine
 use Rattle.raft_log_engine.specs.Cause.{plain_part, plain_parts}
 use Rattle.raft_pipes.specs.PipeState.{HasLastNumber, PipeState}

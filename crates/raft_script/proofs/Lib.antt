@@ -1,4 +1,6 @@
 pub mod ActLemmas
+pub mod ActOnceLemmas
+pub mod CrashLemmas
 pub mod DurabilityLemmas
 pub mod EntryLemmas
 pub mod GroupLemmas
@@ -10,5 +12,6 @@ pub mod RunLemmas
 pub mod RefusalLemmas
 pub mod TrialLemmas
 pub mod TrialOpeningLemmas
+pub mod SafeLemmas
 pub mod PassedLemmas
 pub mod PurgesLemmas

@@ -1,5 +1,5 @@
 -- Log files that an opening passed over, through operations.
-use Rattle.std.proofs.Common.{◌≡◌, ◌∙◌, Bool, true, false, ap, inl, inr, refl, subst, sym}
+use Rattle.std.proofs.Common.{◌≡◌, ◌∙◌, true, ap, inl, inr, refl, subst, sym}
 use Rattle.std.proofs.lemmas.Bool.{cases_Bool}
 use Rattle.raft_env.specs.Directory.{Directory, file_at}
 use Rattle.raft_env.specs.declared.env.FileSystem.{Ghosts}

@@ -1,11 +1,11 @@
 -- Operations under way: the batch of acts, and what the operations so far leave.
-use Rattle.std.proofs.Common.{◌≡◌, ℕ, zero, suc, ◌+◌, ◌<◌, ◌≤◌, Bool, true, false, cond, inl, inr, ⊎_elim, List, [], ◌∷◌, ◌++◌, length, length-append, length-drop, take, drop, drop-cons, get_or, Option, Some, None, refl, sym, ◌∙◌, ap, subst, append_assoc, arith}
-use Rattle.std.specs.Prelude.{◌^◌, ◌⊎◌, ◌||◌, ◌↔◌, if◌then◌else◌, IfErr, IfOk, OnErr, OnOk, IsErrAnd, IsSome, IsSomeAnd, MatchResult, Result, Ok, Err, String, Vec, is_ok, is_some, option_map}
+use Rattle.std.proofs.Common.{◌≡◌, ℕ, suc, ◌+◌, ◌<◌, ◌≤◌, Bool, true, false, cond, inl, inr, ⊎_elim, List, [], ◌∷◌, ◌++◌, length, length-drop, take, drop, drop-cons, get_or, Option, Some, None, refl, sym, ◌∙◌, ap, subst, append_assoc, arith}
+use Rattle.std.specs.Prelude.{◌^◌, ◌⊎◌, ◌||◌, ◌↔◌, IfErr, IfOk, OnErr, OnOk, IsErrAnd, IsSome, IsSomeAnd, MatchResult, Result, Ok, Err, String, Vec, is_ok, option_map}
 use Rattle.std.proofs.lemmas.Bool.{cases_Bool}
 use Rattle.std.proofs.lemmas.List.{append-nil, nil_from_length}
 use Rattle.std.proofs.lemmas.List.Sums.{sum_by-append}
 use Rattle.std.proofs.Math.Seq.{take-suc}
-use Rattle.raft_records.specs.Contents.{Contents, after_batch, after_batches}
+use Rattle.raft_records.specs.Contents.{Contents, after_batch}
 use Rattle.raft_env.specs.declared.env.FileSystem.{Ghosts}
 use Rattle.raft_records.specs.Item.{Batch}
 use Rattle.raft_records.specs.Layout.{entry_bytes}
@@ -23,10 +23,8 @@ use Rattle.raft_env.specs.Refusal.{FailsAt, FailsCountedAt, Refusals, RoseBy}
 use Rattle.raft_log_engine.specs.Durability.{HasWritten}
 use Rattle.raft_log_engine.specs.Engine.{contents_of, has_failed, queue_of, refusals_of}
 use Rattle.raft_log_engine.specs.declared.engine.Engine.{Engine}
-use Rattle.raft_held.specs.Contents.{known_from}
-use Rattle.raft_held.specs.Crash.{written_batch}
 use Rattle.raft_once.specs.Numbers.{Pair, has_numbers, meets_number, numbered}
-use Rattle.raft_purge.specs.Unfit.{IsUnfit}
+use Rattle.raft_purge_steps.specs.Unfit.{IsUnfit}
 use Rattle.raft_script.specs.Batches.{accepted_of, batch_of_acts, batches_of_parts, is_answered, items_of_act, of_both}
 use Rattle.raft_script.specs.Failure.{FailsBy, FailsFor, FailsInPurge, IsFailing, IsPurgeFailure, IsRenewalFailure, IsSteadyBy, IsStorageOrMemory, Refuses, io_count, io_in, is_io}
 use Rattle.raft_script.specs.Run.{AreBatchAnswers, IsAnswer, IsBatchRefusal, IsCompactRefusal, IsEngineRefusal, IsGetRefusal, IsOutOfNumbers, IsPurgeAnswer, IsRefusedPurge, IsTextRefusal, IsNew, IsOnceRefusal, IsUnbuilt, IsWriteRefusal, IsWritten}

@@ -1,31 +1,29 @@
 -- Operations on an engine, from one state to the next.
-use Rattle.std.proofs.Common.{◌≡◌, ◌⊎◌, ◌∙◌, ℕ, suc, Bool, true, false, List, [], ◌∷◌, ◌++◌, length, length-append, append-nil, append_assoc, refl, sym, subst, ap, arith, inl, inr}
-use Rattle.std.specs.Prelude.{◌||◌, IfOk, Result, Ok, Err, Option, Some, None, is_ok, is_some, map, option_map, if◌then◌else◌}
+use Rattle.std.proofs.Common.{◌≡◌, ◌∙◌, ℕ, suc, Bool, true, false, List, [], ◌∷◌, ◌++◌, length, append-nil, append_assoc, refl, sym, subst, ap, arith, inl, inr}
+use Rattle.std.specs.Prelude.{◌||◌, Option, Some, None, is_some, map, option_map, if◌then◌else◌}
 use Rattle.std.specs.List.{AllByRecursion}
 use Rattle.std.proofs.lemmas.Bool.{cases_Bool}
 use Rattle.std.proofs.lemmas.List.Sums.{fold-append}
 use Rattle.std.proofs.Math.Path.{fun_ext}
-use Rattle.raft_base.specs.declared.errors.Fault.{Fault}
 use Rattle.raft_env.specs.Directory.{Directory}
 use Rattle.raft_config.specs.Folders.{Folders}
 use Rattle.raft_env.specs.Moments.{HoldsThroughout}
 use Rattle.raft_env.specs.declared.env.FileSystem.{Ghosts}
-use Rattle.raft_held.specs.Contents.{found_contents, found_groups, known_from}
-use Rattle.raft_held.specs.Crash.{LeavesAllowed}
+use Rattle.raft_crash_laws.specs.Contents.{found_contents, found_groups, known_from}
+use Rattle.raft_crash_laws.specs.Crash.{LeavesAllowed}
 use Rattle.raft_tables.specs.Known.{known_after}
 use Rattle.raft_log_engine.specs.Durability.{Durability, HasOnlyRead, Progresses, StaysFailed, durability_of}
 use Rattle.raft_log_engine.specs.Engine.{begun_of, contents_of, directory_of, durable_of, folders_of, found_groups_of, found_of, has_failed, moments_of, unsynced_of}
 use Rattle.raft_log_engine.specs.declared.engine.Engine.{Engine}
 use Rattle.raft_records.specs.Contents.{Contents, after_batch, after_batches}
 use Rattle.raft_records.specs.Item.{Batch}
-use Rattle.raft_script.specs.Batches.{MayBeInFlight, accepted_of, is_answered, is_covering}
-use Rattle.raft_script.specs.Durability.{Does, LeavesInFlight, Steps, first_true, progress_after_all}
-use Rattle.raft_script.specs.Headline.{IsAllowedInside, Leads, LeavesBetween, LeavesInside, Progress, RunState, last_state, progress_after}
-use Rattle.raft_script.specs.Failure.{IsFailing}
+use Rattle.raft_script.specs.Batches.{MayBeInFlight, accepted_of, is_covering}
+use Rattle.raft_script.specs.Durability.{Does, IsCall, LeavesInFlight, first_true, progress_after_all}
+use Rattle.raft_script.specs.Headline.{Leads, Progress, last_state, progress_after}
 use Rattle.raft_script.specs.declared.operation.Op.{Op}
 use Rattle.raft_script.specs.declared.operation.Outcome.{Outcome}
 use Rattle.raft_log_engine.proofs.ProgressLemmas.{rests}
-use Rattle.raft_script.proofs.RunLemmas.{IsNextPlace, stands_answered}
+use Rattle.raft_script.proofs.RunLemmas.{IsNextPlace}
 
 -- Where an engine failed.
 
@@ -145,60 +143,31 @@ module _ {S : Type 0} (D : Progress → Op → Outcome → S → S → Type 0) (
   leads_len p before (x ∷ ops) [] states led = absurd led
   leads_len p before (x ∷ ops) (o ∷ outcomes) [] led = absurd led
 
--- what is so of the states is so of what they show
-module _ {S T : Type 0} (show : S → T) (D : Progress → Op → Outcome → S → S → Type 0) (E : Progress → Op → Outcome → T → T → Type 0)
-    (shown : (p : Progress) (op : Op) (outcome : Outcome) (before after : S)
-    → D p op outcome before after
-    → E p op outcome (show before) (show after)) (m : Contents) where
-  pub leads_shown : (p : Progress) (before : S) (ops : List Op) (outcomes : List Outcome) (states : List S)
-      → Leads D m p before ops outcomes states
-      → Leads E m p (show before) ops outcomes (map show states)
-  leads_shown p before [] [] [] led = tt
-  leads_shown p before (x ∷ ops) (o ∷ outcomes) (s ∷ states) led = (shown p x o before s led.0, leads_shown (progress_after m p x o) s ops outcomes states led.1)
-  leads_shown p before [] [] (s ∷ states) led = absurd led
-  leads_shown p before [] (o ∷ outcomes) states led = absurd led
-  leads_shown p before (x ∷ ops) [] states led = absurd led
-  leads_shown p before (x ∷ ops) (o ∷ outcomes) [] led = absurd led
-
-  pub last_shown : (before : S) (states : List S)
-      → last_state (show before) (map show states) ≡ show (last_state before states)
-  last_shown before [] = refl
-  last_shown before (s ∷ states) = last_shown s states
-
-  -- .. and so are operations
-  pub steps_shown : (failed : S → Bool) (fails : T → Bool) → ((s : S) → fails (show s) ≡ failed s)
-      → (p : Progress) (before : S) (ops : List Op) (outcomes : List Outcome) (failed_at : Option ℕ) (now : S)
-      → Steps failed D m p before ops outcomes failed_at now
-      → Steps fails E m p (show before) ops outcomes failed_at (show now)
-  steps_shown failed fails same p before ops outcomes failed_at now steps = record {
-    states = map show steps.states;
-    each = leads_shown p before ops outcomes steps.states steps.each;
-    ends = last_shown before steps.states ∙ ap show steps.ends;
-    place = steps.place ∙ sym (ap (λ (b : Bool). failure_place b (map failed steps.states)) (same before))
-        ∙ sym (ap (failure_place (fails (show before))) (fails_shown steps.states));
-  }
-    where
-      fails_shown : (states : List S) → map fails (map show states) ≡ map failed states
-      fails_shown [] = refl
-      fails_shown (s ∷ states) = ap (λ (b : Bool). b ∷ map fails (map show states)) (same s) ∙ ap (λ (l : List Bool). failed s ∷ l) (fails_shown states)
-
 pub last_state-more : {S : Type 0} (before : S) (states : List S) (after : S)
     → last_state before (states ++ after ∷ []) ≡ after
 last_state-more before [] after = refl
 last_state-more before (s ∷ states) after = last_state-more s states after
 
--- the moments there are then follow those that there were
-pub leads_moments : (folders : Folders) (m : Contents) (p : Progress) (before : RunState) (ops : List Op) (outcomes : List Outcome) (states : List RunState)
-    → Leads (IsAllowedInside folders m) m p before ops outcomes states
-    → (added : List Directory) × ((last_state before states).moments ≡ added ++ before.moments)
-leads_moments folders m p before [] [] [] led = ([], refl)
-leads_moments folders m p before (x ∷ ops) (o ∷ outcomes) (s ∷ states) led =
-    let rest = leads_moments folders m (progress_after m p x o) s ops outcomes states led.1 in
-    (rest.0 ++ led.0.added, rest.1 ∙ ap (λ (l : List Directory). rest.0 ++ l) led.0.is ∙ sym (append_assoc rest.0 led.0.added before.moments))
-leads_moments folders m p before [] [] (s ∷ states) led = absurd led
-leads_moments folders m p before [] (o ∷ outcomes) states led = absurd led
-leads_moments folders m p before (x ∷ ops) [] states led = absurd led
-leads_moments folders m p before (x ∷ ops) (o ∷ outcomes) [] led = absurd led
+-- calls add moments to those that there were
+module _ {F H R W : Type 0} {g : Ghosts F H R W} where
+  more_moments : (folders : Folders) (m : Contents) (known : ℕ → Bool) (p : Progress) (op : Op) (outcome : Outcome) (old new : Engine F H R W g) → IsCall folders m known p op outcome old new → (added : List Directory) × (moments_of new ≡ added ++ moments_of old)
+  more_moments folders m known p op outcome old new call = elim (cases_Bool (has_failed old)) [
+    | inl gone ↦ ([], call.does.rests gone)
+    | inr alive ↦ ((call.does.moments alive).0, (call.does.moments alive).1)
+  ]
+
+  pub leads_moments : (folders : Folders) (m : Contents) (known : ℕ → Bool) (p : Progress) (before : Engine F H R W g) (ops : List Op) (outcomes : List Outcome) (states : List (Engine F H R W g))
+      → Leads (IsCall folders m known) m p before ops outcomes states
+      → (added : List Directory) × (moments_of (last_state before states) ≡ added ++ moments_of before)
+  leads_moments folders m known p before [] [] [] led = ([], refl)
+  leads_moments folders m known p before (x ∷ ops) (o ∷ outcomes) (s ∷ states) led =
+      let rest = leads_moments folders m known (progress_after m p x o) s ops outcomes states led.1 in
+      let here = more_moments folders m known p x o before s led.0 in
+      (rest.0 ++ here.0, rest.1 ∙ ap (λ (l : List Directory). rest.0 ++ l) here.1 ∙ sym (append_assoc rest.0 here.0 (moments_of before)))
+  leads_moments folders m known p before [] [] (s ∷ states) led = absurd led
+  leads_moments folders m known p before [] (o ∷ outcomes) states led = absurd led
+  leads_moments folders m known p before (x ∷ ops) [] states led = absurd led
+  leads_moments folders m known p before (x ∷ ops) (o ∷ outcomes) [] led = absurd led
 
 -- What an engine holds.
 
@@ -224,12 +193,6 @@ pub known-append : (known : ℕ → Bool) (batches more : List Batch)
     → known_from known (batches ++ more) ≡ known_from (known_from known batches) more
 known-append known batches more = fun_ext (λ group. fold-append (known_after group) (known group) batches more)
 
--- where all batches are none, the groups that the opening found
-pub nothing_known : (known : ℕ → Bool) (base since : List Batch) → base ++ since ≡ []
-    → known_from known base ≡ known
-nothing_known known [] since none = refl
-nothing_known known (b ∷ base) since none = absurd cc
-
 -- Moments.
 
 -- the moments that a call adds, each of which has this
@@ -240,23 +203,6 @@ pub all_weaker : (P Q : Directory → Type 0) → ((n : Directory) → P n → Q
     → AllByRecursion P l → AllByRecursion Q l
 all_weaker P Q f [] all = tt
 all_weaker P Q f (n ∷ l) all = (f n all.0, all_weaker P Q f l all.1)
-
--- one operation, from the state before it to its own
-module _ (folders : Folders) (m : Contents) (p : Progress) (op : Op) (outcome : Outcome) (before after : RunState) (P : Directory → Type 0) where
-  pub inside_call : (before.failed ≡ false → Adds before.moments after.moments P)
-      → (before.failed ≡ true → after.moments ≡ before.moments)
-      → (before.failed ≡ true → after.failed ≡ true)
-      → ((n : Directory) → before.failed ≡ false → P n → LeavesInside folders m p op n)
-      → (after.failed ≡ false → (n : Directory) (earlier : List Directory) → after.moments ≡ n ∷ earlier → LeavesBetween folders m (progress_after m p op outcome) n) → IsFailing before.failed op outcome after.failed → IsAllowedInside folders m p op outcome before after
-  inside_call adds rests still inside answered failing = elim (cases_Bool before.failed) [
-    | inl gone ↦ record { added = []; is = rests gone; inside = tt; rests = same; stands = stands_answered op outcome before.failed after.failed failing; answered = answered }
-    | inr alive ↦ record { added = (adds alive).0; is = (adds alive).1; inside = all_weaker P (LeavesInside folders m p op) (λ n. inside n alive) (adds alive).0 (adds alive).2; rests = same; stands = stands_answered op outcome before.failed after.failed failing; answered = answered }
-  ]
-    where
-      same : before.failed ≡ true → after ≡ before
-      same gone =
-          ap (λ (l : List Directory). let s : RunState = record { moments = l; failed = after.failed } in s) (rests gone)
-          ∙ ap (λ (b : Bool). let s : RunState = record { moments = before.moments; failed = b } in s) (still gone ∙ sym gone)
 
 -- the moments of a call that has these batches in flight
 pub in_flight : {F H R W : Type 0} {g : Ghosts F H R W} (e : Engine F H R W g) (op : Op) (flight written : List Batch) (after : List Directory) (n : Directory)

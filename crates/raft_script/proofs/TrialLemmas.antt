@@ -1,5 +1,5 @@
 -- What a trial's crash leaves, and what its opening finds.
-use Rattle.std.proofs.Common.{◌≡◌, ◌⊎◌, ⊎_elim, inl, inr, ℕ, false, true, List, [], ◌∷◌, ◌++◌, Option, Some, None, arith, refl, sym, ap, subst, ◌∙◌}
+use Rattle.std.proofs.Common.{◌≡◌, ◌⊎◌, ⊎_elim, inl, inr, ℕ, true, List, [], Option, Some, None, arith, refl, sym, ap, subst, ◌∙◌}
 use Rattle.std.specs.Prelude.{Bool, IsSome, IfOk, IfErr, Result, Ok, Err, filter, is_some, map, option_map}
 use Rattle.std.specs.FinMap.{get-empty}
 use Rattle.std.specs.String.{string_bytes}
@@ -9,61 +9,37 @@ use Rattle.std.proofs.Math.Path.{fun_ext}
 use Rattle.raft_records.specs.Contents.{Contents, no_contents}
 use Rattle.raft_records.specs.Item.{Batch}
 use Rattle.raft_base.specs.Fault.{fault_code}
-use Rattle.raft_base.specs.declared.pipe_log.FileId.{FileId}
 use Rattle.raft_memory.specs.Choice.{RefusesUnless, left_by, NameNoBytes}
 use Rattle.raft_env.specs.Directory.{Directory, IsRestarted, Leaves, CrashImage, Path, file_at}
 use Rattle.raft_env.specs.Outcomes.{File, synced_file}
+use Rattle.raft_env.specs.declared.env.FileSystem.{Ghosts}
 use Rattle.raft_memory.specs.Memory.{no_files}
 use Rattle.raft_memory.specs.declared.crash.Choice.{Choice}
-use Rattle.raft_files.specs.Writer.{bytes_at}
-use Rattle.raft_held.specs.Crash.{RecoversContents}
+use Rattle.raft_crash_laws.specs.Crash.{RecoversContents}
 use Rattle.raft_base.specs.declared.errors.Fault.{Fault}
 use Rattle.raft_base.specs.declared.errors.Fault.TheVariants as fault
 use Rattle.raft_log_engine.specs.Image.{IsImageOf}
 use Rattle.raft_once.specs.Numbers.{shown}
 use Rattle.raft_log_engine.specs.declared.engine.image.Image.{Image}
 use Rattle.raft_tables.specs.Known.{known_in}
-use Rattle.raft_held.specs.Contents.{contents_at, known_at, recovered_groups}
+use Rattle.raft_crash_laws.specs.Contents.{contents_at, known_at, recovered_groups}
 use Rattle.raft_base.specs.declared.pipe_log.LogQueue.{LogQueue}
 use Rattle.raft_base.specs.declared.pipe_log.LogQueue.TheVariants.{Append, Rewrite}
 use Rattle.raft_env.specs.Refusal.{FailsAt, NoFewer, Refusals, RoseBy}
 use Rattle.raft_config.specs.Config.{IsCopy}
 use Rattle.raft_config.specs.Folders.{Folders, all_of, beside_main, folders_in}
 use Rattle.raft_config.specs.Sanitized.{IsContradiction}
-use Rattle.raft_config.specs.Recovery.{tolerates_corruption}
-use Rattle.raft_pipes.specs.Files.{EachFile, IsOpenableFile, is_last}
-use Rattle.raft_opening.specs.Files.{HasDamageAmong}
-use Rattle.raft_pipes.specs.Folder.{AreClear, HasFileFor, HasNoLog, log_files_of, readable_queue}
-use Rattle.raft_opening.specs.LogFile.{IsDamage}
-use Rattle.raft_pipes.specs.LogFile.{IsOpenableLog}
+use Rattle.raft_pipes.specs.Folder.{AreClear, HasFileFor, HasNoLog, readable_queue}
 use Rattle.raft_pipes.specs.Numbered.{StandAlone, end_of_numbers, has_file, in_queue, last_run, path_of, paths_of}
-use Rattle.raft_opening.specs.Queue.{HasDamageOf, IsOpenRefusalOf}
-use Rattle.raft_pipes.specs.Queue.{IsOpenableOf, NamesLog}
-use Rattle.raft_script.specs.Durability.{LeavesAllowedAfter, progress_after_all}
-use Rattle.raft_script.specs.Headline.{LeavesFrom, Progress, progress_from}
+use Rattle.raft_opening.specs.Queue.{IsOpenRefusalOf}
+use Rattle.raft_pipes.specs.Queue.{NamesLog}
 use Rattle.raft_pipes.proofs.TakenLemmas.{one_free}
-use Rattle.raft_held.specs.Queues.{AreOpenableIn, AreSingleIn, IsOpeningRefusal, ReadCompletedRecordsIn}
+use Rattle.raft_crash_laws.specs.Queues.{AreOpenableIn, AreSingleIn, IsOpeningRefusal, ReadCompletedRecordsIn}
 use Rattle.raft_script.specs.Failure.{IsStorageOrMemory, is_io}
-use Rattle.raft_script.specs.Trial.{HaveNoLogPath, IsLogRefusal, Ran, Reopens, RunsOver, Shown}
+use Rattle.raft_script.specs.Trial.{HaveNoLogPath, IsLogRefusal, Ran, Reopens, RunsOver}
 use Rattle.raft_config.specs.declared.config.Config.{Config}
 use Rattle.raft_config.specs.declared.config.RecoveryMode.{RecoveryMode}
 use Rattle.raft_script.specs.declared.operation.Op.{Op}
-use Rattle.raft_script.specs.declared.operation.Outcome.{Outcome}
-
--- the run of an engine that was opened with all synced
-pub opened_after : (folders dir : Folders) (m durable : Contents) (unsynced : List Batch) (ops : List Op) (outcomes : List Outcome) (failed_at : Option ℕ) (n : Directory) → folders ≡ dir → durable ≡ m → unsynced ≡ [] → LeavesAllowedAfter failed_at folders durable unsynced ops outcomes n → LeavesAllowedAfter failed_at dir m [] ops outcomes n
-opened_after folders dir m durable unsynced ops outcomes failed_at n folders_are durable_is unsynced_is leaves =
-    subst (λ (p : Folders). LeavesAllowedAfter failed_at p m [] ops outcomes n) folders_are
-    (subst (λ (x : Contents). LeavesAllowedAfter failed_at folders x [] ops outcomes n) durable_is (subst (λ (b : List Batch). LeavesAllowedAfter failed_at folders durable b ops outcomes n) unsynced_is leaves))
-
-no_progress : (m : Contents) (p : Progress) (ops : List Op) → progress_after_all m p ops [] ≡ p
-no_progress m p [] = refl
-no_progress m p (op ∷ ops) = refl
-
--- where the opening failed, no operation was done
-pub refused_after : (folders : Folders) (m : Contents) (ops : List Op) (n : Directory) → LeavesFrom 0 folders m [] n → LeavesAllowedAfter None folders m [] ops [] n
-refused_after folders m ops n leaves =
-    ([], refl, subst (λ (p : Progress). LeavesFrom p.covered folders m (p.batches ++ []) n) (sym (no_progress m (progress_from []) ops)) leaves)
 
 none_there : (n : Directory) → n ≡ no_files → (path : Path) → file_at n path ≡ None
 none_there n is path = ap (λ (x : Directory). file_at x path) is ∙ get-empty _ path
@@ -99,12 +75,16 @@ none_known folders n none =
     ap (λ (r : List Batch). recovered_groups r (readable_queue Append folders n)) (none Rewrite) ∙ ap (recovered_groups []) (none Append)
 
 -- what a run shows that began with no files
-pub run_shown : (config : Config) (ops : List Op) (ran : Ran) (old new : Shown) → let dir = folders_in config in known_at dir old.files ≡ known_in [] → (contents_at dir old.files ≡ no_contents) × RecoversContents dir no_contents [] old.files
-    → (RecoversContents dir (contents_at dir old.files) [] old.files → RunsOver config (contents_at dir old.files) (known_at dir old.files) ops ran old new) → RunsOver config no_contents (known_in []) ops ran old new
-run_shown config ops ran old new groups none runs =
+pub run_shown : {F H R W : Type 0} (g : Ghosts F H R W) (config : Config) (ops : List Op) (ran : Ran) (old new : F)
+    → (RecoversContents (folders_in config) (contents_at (folders_in config) (g.directory old)) [] (g.directory old) → RunsOver g config (contents_at (folders_in config) (g.directory old)) (known_at (folders_in config) (g.directory old)) ops ran old new)
+    → known_at (folders_in config) (g.directory old) ≡ known_in []
+    → (contents_at (folders_in config) (g.directory old) ≡ no_contents) × RecoversContents (folders_in config) no_contents [] (g.directory old)
+    → RunsOver g config no_contents (known_in []) ops ran old new
+run_shown g config ops ran old new runs groups none =
     let dir = folders_in config in
-    subst (λ (k : ℕ → Bool). RunsOver config no_contents k ops ran old new) groups
-    (subst (λ (m : Contents). RunsOver config m (known_at dir old.files) ops ran old new) none.0 (runs (subst (λ (m : Contents). RecoversContents dir m [] old.files) (sym none.0) none.1)))
+    let n = g.directory old in
+    subst (λ (k : ℕ → Bool). RunsOver g config no_contents k ops ran old new) groups
+    (subst (λ (m : Contents). RunsOver g config m (known_at dir n) ops ran old new) none.0 (runs (subst (λ (m : Contents). RecoversContents dir m [] n) (sym none.0) none.1)))
 
 same_opened : {m m' : Contents} (opened : Result Image Fault) → m ≡ m' → IfOk opened (λ image. IsImageOf image.groups.items m) → IfOk opened (λ image. IsImageOf image.groups.items m')
 same_opened (Ok image) same is = subst (IsImageOf image.groups.items) same is
@@ -124,35 +104,6 @@ same_folders c copy is =
 if_err : {T G : Type 0} (P Q : G → Type 0) (result : Result T G) → ((e : G) → P e → Q e) → IfErr result P → IfErr result Q
 if_err P Q (Ok x) f holds = tt
 if_err P Q (Err e) f holds = f e holds
-
--- bytes that can be opened aren't damaged
-not_damaged : (id : FileId) (is_tolerant : Bool) (bytes : List ℕ) (e : Fault) → IsOpenableLog id is_tolerant bytes → IsDamage id is_tolerant bytes e → ⊥
-not_damaged id is_tolerant bytes fault.Corruption openable damage = damage.1 openable
-not_damaged id is_tolerant bytes fault.Range openable damage = let clash : false ≡ true = sym damage ∙ openable.places in absurd cc
-not_damaged id is_tolerant bytes fault.Lz4 openable damage = openable.unmarked damage.read damage.is_read damage.marked
-not_damaged id is_tolerant bytes _ openable damage = damage
-
-none_damaged : (mode : RecoveryMode) (queue : LogQueue) (bytes : Path → List ℕ) (files : List (ℕ × Path)) (e : Fault) → EachFile (IsOpenableFile mode queue bytes) files → HasDamageAmong mode queue bytes files e → ⊥
-none_damaged mode queue bytes [] e openable damage = damage
-none_damaged mode queue bytes (f ∷ files) e openable (inl damage) = not_damaged (in_queue queue f.0) (tolerates_corruption mode (is_last files)) (bytes f.1) e openable.0 damage
-none_damaged mode queue bytes (f ∷ files) e openable (inr damage) = none_damaged mode queue bytes files e openable.1 damage.1
-
-undamaged : (queue : LogQueue) (mode : RecoveryMode) (folders : Folders) (n : Directory) (e : Fault) → IsOpenableOf queue mode folders n → HasDamageOf queue mode folders n e → ⊥
-undamaged queue mode folders n e = none_damaged mode queue (λ path. bytes_at path n) (log_files_of queue folders n) e
-
--- where the log can be opened, no folder's place is taken and no number stands in both, an opening fails by storage or for lack of memory
-pub refused_outside : (mode : RecoveryMode) (folders : Folders) (n : Directory) (old new : Refusals) (e : Fault) → IsOpeningRefusal mode folders n old new e → AreOpenableIn mode folders n → AreClear folders n → AreSingleIn folders n → IsStorageOrMemory e
-refused_outside mode folders n old new e (queue, refused) openable clear single = by_fault e refused
-  where
-    by_fault : (e : Fault) → IsOpenRefusalOf queue mode folders n old new e → IsStorageOrMemory e
-    by_fault (fault.InvalidArgument text) (inl taken) = absurd (clear taken)
-    by_fault (fault.InvalidArgument text) (inr twice) = absurd (∥∥₁_elim (single queue) (hlevel props) twice)
-    by_fault fault.Corruption refused = absurd (undamaged queue mode folders n fault.Corruption (openable queue) refused)
-    by_fault fault.Range refused = absurd (undamaged queue mode folders n fault.Range (openable queue) refused)
-    by_fault fault.Lz4 refused = absurd (undamaged queue mode folders n fault.Lz4 (openable queue) refused)
-    by_fault (fault.Io kind text) refused = tt
-    by_fault fault.Memory refused = tt
-    by_fault _ refused = absurd refused
 
 -- .. else by these or for the damage of the log
 pub refused_inside : (mode : RecoveryMode) (folders : Folders) (n : Directory) (old new : Refusals) (e : Fault) → IsOpeningRefusal mode folders n old new e → AreClear folders n → AreSingleIn folders n → IsLogRefusal mode folders n e

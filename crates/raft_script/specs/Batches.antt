@@ -13,13 +13,16 @@ use Rattle.raft_log_engine.specs.Once.{acting_batch}
 use Rattle.raft_log_engine.specs.Reads.{compact_batch}
 use Rattle.raft_once.specs.History.{are_numbers}
 use Rattle.raft_once.specs.Numbers.{Pair}
-use Rattle.raft_script.specs.Entry.{indexed_bytes}
 use Rattle.raft_script.specs.declared.operation.Act.{Act}
 use Rattle.raft_script.specs.declared.operation.Act.TheVariants as act
 use Rattle.raft_script.specs.declared.operation.Op.{Op}
 use Rattle.raft_script.specs.declared.operation.Op.TheVariants.{Write, WriteGroup, WriteOnce, Sync, CompactTo, RewriteAppend, RewriteRewrite, PurgeStale, Purge}
 use Rattle.raft_script.specs.declared.operation.Outcome.{Outcome}
 use Rattle.raft_script.specs.declared.operation.Outcome.TheVariants.{Size, Sizes, Done, Count, Dropped, ToCompact}
+
+-- an index and bytes as a log holds them
+abbrev pub indexed_bytes : ℕ × Vec ℕ Global → Entry
+indexed_bytes e = (e.0, e.1.items)
 
 -- entries as one item, and nothing for none
 abbrev pub entries_items : ℕ → List Entry → Batch

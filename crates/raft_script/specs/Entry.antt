@@ -1,6 +1,5 @@
 -- Entries of text.
-use Rattle.std.specs.Prelude.{◌≡◌, ◌<◌, ◌^◌, ◌+◌, ◌-◌, ℕ, List, ◌∷◌, ◌++◌, map, Option, option_and_then, option_map, Vec}
-use Rattle.std.specs.declared.alloc.Global.{Global}
+use Rattle.std.specs.Prelude.{◌≡◌, ◌<◌, ◌^◌, ◌+◌, ◌-◌, ℕ, List, ◌∷◌, ◌++◌, map, Option, option_and_then, option_map}
 use Rattle.std.specs.List.{range_with_len}
 use Rattle.std.specs.Fmt.{decimal}
 use Rattle.raft_records.specs.Contents.{first_index_of, last_index_of}
@@ -18,10 +17,6 @@ bytes_of_entry e = text_bytes e.index e.word.items
 -- the bytes are those of the entry, whose index is a u64
 abbrev pub IsTextOf : List ℕ → TextEntry → Type 0
 IsTextOf bytes e = (e.index < 2 ^ 64) × (bytes ≡ bytes_of_entry e)
-
--- an index and bytes as a log holds them
-abbrev pub indexed_bytes : ℕ × Vec ℕ Global → Entry
-indexed_bytes e = (e.0, e.1.items)
 
 -- its index
 abbrev pub index_of : TextEntry → ℕ

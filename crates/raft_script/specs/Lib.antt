@@ -4,6 +4,7 @@ pub mod Failure
 pub mod Headline
 pub mod Durability
 pub mod Numbers
+pub mod Once
 pub mod Entry
 pub mod Trial
 pub mod Purges

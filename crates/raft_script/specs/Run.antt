@@ -2,7 +2,7 @@
 use Rattle.std.specs.Prelude.{◌≡◌, ◌⊎◌, ℕ, ◌^◌, ◌≤◌, length, take, Bool, true, false, List, [], ◌∷◌, Option, Some, None, option_map, Result, Ok, Err, MatchResult, IsSome, IsSomeAnd}
 use Rattle.std.specs.List.{Any}
 use Rattle.raft_records.specs.Contents.{Contents, after_batch, first_index_of, last_index_of}
-use Rattle.raft_records.specs.Item.{Batch, Entry}
+use Rattle.raft_records.specs.Item.{Batch}
 use Rattle.raft_records.specs.Layout.{entry_bytes}
 use Rattle.raft_records.specs.Validity.{IsValidBatch, batch_refusal}
 use Rattle.raft_base.specs.Fault.{fault_code}
@@ -14,7 +14,7 @@ use Rattle.raft_once.specs.Numbers.{Pair, are_new, are_old, are_unfit, has_numbe
 use Rattle.raft_log_engine.specs.Reads.{IsEntryAnswer, IsEntryRefusalAt, IsGroupList, compact_count, entry_of}
 use Rattle.raft_script.specs.Batches.{Part, batch_of_acts, batches_of_parts}
 use Rattle.raft_script.specs.Entry.{IsTextOf, index_of}
-use Rattle.raft_purge.specs.Unfit.{IsUnfit}
+use Rattle.raft_purge_steps.specs.Unfit.{IsUnfit}
 use Rattle.raft_script.specs.declared.operation.Act.{Act}
 use Rattle.raft_script.specs.declared.operation.Op.{Op}
 use Rattle.raft_script.specs.declared.operation.Op.TheVariants as operation

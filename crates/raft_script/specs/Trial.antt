@@ -1,5 +1,5 @@
 -- What a trial shows.
-use Rattle.std.specs.Prelude.{◌≡◌, ◌⊎◌, ℕ, Bool, Contains, false, true, List, [], ◌++◌, Option, Some, None, Result, IfOk, IfErr}
+use Rattle.std.specs.Prelude.{◌≡◌, ◌⊎◌, ℕ, Bool, Contains, true, List, [], ◌++◌, Option, Some, None, Result, Ok, Err, IfOk, IfErr}
 use Rattle.raft_records.specs.Contents.{Contents, no_contents}
 use Rattle.raft_tables.specs.Known.{known_in}
 use Rattle.raft_base.specs.declared.errors.Fault.{Fault}
@@ -16,17 +16,24 @@ use Rattle.raft_pipes.specs.Numbered.{in_queue}
 use Rattle.raft_pipes.specs.QueueFiles.{last_kept}
 use Rattle.raft_env.specs.Refusal.{Refusals, RoseBy, no_refusals}
 use Rattle.raft_memory.specs.declared.crash.Choice.{Choice}
-use Rattle.raft_held.specs.Contents.{contents_at}
-use Rattle.raft_held.specs.Crash.{RecoversContents, StillRecovers}
+use Rattle.raft_crash_laws.specs.Contents.{contents_at}
+use Rattle.raft_crash_laws.specs.Crash.{IsAllowedFrom, RecoversContents, StillRecovers}
+use Rattle.raft_env.specs.declared.env.FileSystem.{Ghosts}
+use Rattle.raft_log_engine.specs.Engine.{contents_of, directory_of, is_known_in, moments_of}
 use Rattle.raft_log_engine.specs.Image.{IsImageOf}
+use Rattle.raft_log_engine.specs.Opening.{Opens}
+use Rattle.raft_log_engine.specs.declared.engine.Engine.{Engine}
+use Rattle.raft_log_engine.specs.declared.engine.Refused.{Refused}
 use Rattle.raft_once.specs.Numbers.{shown}
 use Rattle.raft_log_engine.specs.declared.engine.image.Image.{Image}
-use Rattle.raft_script.specs.Durability.{IsStep, LeavesAllowedAfter, Steps}
-use Rattle.raft_script.specs.Headline.{RunState, progress_from}
+use Rattle.raft_script.specs.Durability.{Runs}
+use Rattle.raft_script.specs.Headline.{ComesBack}
 use Rattle.raft_script.specs.Numbers.{HaveActed}
-use Rattle.raft_held.specs.Queues.{AreDetectableIn, AreSingleIn, AreSoundIn, HaveDamageIn, HaveSimplePastIn, IsOpeningRefusal}
+use Rattle.raft_script.specs.Once.{AreOnce}
+use Rattle.raft_crash_laws.specs.Queues.{AreDetectableIn, AreOpenableIn, AreSingleIn, AreSoundIn, HaveDamageIn, HaveSimplePastIn, IsOpeningRefusal}
 use Rattle.raft_script.specs.Failure.{IsStorageOrMemory, io_count, is_io}
 use Rattle.raft_pipes.specs.Folder.{AreClear, IsLogPath, IsReservedPath}
+use Rattle.raft_config.specs.Config.{IsCopy}
 use Rattle.raft_config.specs.Folders.{Folders, all_of, folders_in}
 use Rattle.raft_config.specs.Sanitized.{IsContradiction, contradiction}
 use Rattle.raft_config.specs.declared.config.Config.{Config}
@@ -36,62 +43,49 @@ use Rattle.raft_script.specs.declared.operation.Op.{Op}
 use Rattle.raft_script.specs.declared.operation.Outcome.{Outcome}
 use Rattle.raft_script.specs.declared.operation.Trial.{Trial}
 
--- files, each directory that there was, and how many calls failed
-pub record Shown : Type 0 where
-  pub files : Directory
-  pub moments : List Directory
-  pub refusals : Refusals
-
--- what files in memory show
-abbrev pub shown_of : MemoryFileSystem → Shown
-shown_of memory = record {
-  files = memory_directory memory;
-  moments = memory_moments memory;
-  refusals = memory_refusals memory;
-}
-
 -- what was answered in a run, where the engine failed, and why it wasn't opened
 pub record Ran : Type 0 where
   pub outcomes : List Outcome
   pub failed_at : Option ℕ
   pub refused : Option Fault
 
--- the operations were answered by an engine that was opened with these contents and groups
-pub record AreAnswered (folders : Folders) (m : Contents) (known : ℕ → Bool) (ops : List Op)
-    (ran : Ran) (new : Shown) : Type 0 where
-  pub opened : ran.refused ≡ None
-  pub before : RunState
-  pub stands : before.failed ≡ false
-  pub now : RunState
-  pub moments : now.moments ≡ new.moments
-  pub steps : Steps (λ (s : RunState). s.failed) (IsStep folders m known) m (progress_from [])
-      before ops ran.outcomes ran.failed_at now
-  pub numbers : HaveActed m m [] ops ran.outcomes
-  -- storage counted at least as many failed calls as answered `Io`
-  pub counted : RoseBy (io_count ran.outcomes) no_refusals new.refusals
+module _ {F H R W : Type 0} (g : Ghosts F H R W) where
+  -- an engine that was opened with these contents and groups was asked, and handed its files back
+  pub record AreAnswered (config : Config) (m : Contents) (known : ℕ → Bool) (ops : List Op)
+      (ran : Ran) (old new : F) : Type 0 where
+    pub opened : ran.refused ≡ None
+    pub begun : Engine F H R W g
+    pub opens : Opens config old (Ok begun)
+    pub holds : contents_of begun ≡ m
+    pub knows : is_known_in begun ≡ known
+    -- it is a run, and each operation of it is safe
+    pub ended : Engine F H R W g
+    pub runs : Runs ops ran.outcomes ran.failed_at begun ended
+    pub once : AreOnce ops ran.outcomes begun ended
+    pub numbers : HaveActed m m [] ops ran.outcomes
+    pub files : g.directory new ≡ directory_of ended
+    pub moments : g.moments new ≡ moments_of ended
+    -- storage counted at least as many failed calls as answered `Io`
+    pub counted : RoseBy (io_count ran.outcomes) no_refusals (g.refusals_of new)
 
--- the opening failed for such a cause, and no operation was done; the files keep what they kept
-pub record AreNotAsked (config : Config) (m : Contents) (ran : Ran) (old new : Shown)
-    : Type 0 where
-  pub fault : Fault
-  pub refused : ran.refused ≡ Some fault
-  pub cause : IsContradiction config fault ⊎ IsOpeningRefusal config.recovery_mode
-      (folders_in config) old.files old.refusals new.refusals fault
-  pub none : ran.outcomes ≡ []
-  pub stands : ran.failed_at ≡ None
-  pub files_keep : RecoversContents (folders_in config) m [] new.files
+  -- the opening failed for such a cause, and no operation was done; the files keep what they kept
+  pub record AreNotAsked (config : Config) (m : Contents) (ran : Ran) (old new : F) : Type 0 where
+    pub fault : Fault
+    pub refused : ran.refused ≡ Some fault
+    pub cause : IsContradiction config fault ⊎ IsOpeningRefusal config.recovery_mode
+        (folders_in config) (g.directory old) (g.refusals_of old) (g.refusals_of new) fault
+    pub none : ran.outcomes ≡ []
+    pub stands : ran.failed_at ≡ None
+    pub files_keep : RecoversContents (folders_in config) m [] (g.directory new)
+    pub back : ComesBack g (IsAllowedFrom 0 m []) (folders_in config) (g.directory new)
 
--- operations over folders that hold these contents and groups, from an opening on
-pub record RunsOver (config : Config) (m : Contents) (known : ℕ → Bool) (ops : List Op) (ran : Ran)
-    (old new : Shown) : Type 0 where
-  pub answered : AreAnswered (folders_in config) m known ops ran new
-      ⊎ AreNotAsked config m ran old new
-  -- a crash leaves of them a prefix of what was accepted, and of what the operation had in flight
-  -- in which the engine failed
-  pub after : LeavesAllowedAfter ran.failed_at (folders_in config) m [] ops ran.outcomes new.files
-  -- no folder's place is taken, and no number of a kept log file stands in both
-  pub clear : AreClear (folders_in config) new.files
-  pub single : AreSingleIn (folders_in config) new.files
+  -- operations over folders that hold these contents and groups, from an opening on
+  pub record RunsOver (config : Config) (m : Contents) (known : ℕ → Bool) (ops : List Op)
+      (ran : Ran) (old new : F) : Type 0 where
+    pub answered : AreAnswered config m known ops ran old new ⊎ AreNotAsked config m ran old new
+    -- no folder's place is taken, and no number of a kept log file stands in both
+    pub clear : AreClear (folders_in config) (g.directory new)
+    pub single : AreSingleIn (folders_in config) (g.directory new)
 
 -- no folder has the path of a log file or of a reserved one, as one can have that stands in the
 -- other
@@ -107,8 +101,8 @@ FailsAtStop stop files = (stop_of files ≡ stop) × (armed_of files ≡ [])
 
 -- operations over files in memory that were empty, with this stop for the calls from the first
 -- opening on: the files once they are done
-pub record RunsFromEmpty (config : Config) (ops : List Op) (stop : Option ℕ) (ran : Ran)
-    (last : MemoryFileSystem) : Type 0 where
+pub record RunsFromEmpty {H R W : Type 0} (g : Ghosts MemoryFileSystem H R W) (config : Config)
+    (ops : List Op) (stop : Option ℕ) (ran : Ran) (last : MemoryFileSystem) : Type 0 where
   pub first : MemoryFileSystem
   pub none : memory_directory first ≡ no_files
   pub fails : FailsAtStop stop first
@@ -119,14 +113,14 @@ pub record RunsFromEmpty (config : Config) (ops : List Op) (stop : Option ℕ) (
   pub free : ran.refused ≡ None → HaveNoLogPath (folders_in config)
   -- said of folders of which none has such a path
   pub runs : HaveNoLogPath (folders_in config)
-      → RunsOver config no_contents (known_in []) ops ran (shown_of first) (shown_of last)
+      → RunsOver g config no_contents (known_in []) ops ran first last
 
 -- they may leave files of which storage may not leave what the choices say
-pub record AreNotAllowed (config : Config) (ops : List Op) (stop : Option ℕ)
-    (choices : List Choice) : Type 0 where
+pub record AreNotAllowed {H R W : Type 0} (g : Ghosts MemoryFileSystem H R W) (config : Config)
+    (ops : List Op) (stop : Option ℕ) (choices : List Choice) : Type 0 where
   pub ran : Ran
   pub last : MemoryFileSystem
-  pub runs : RunsFromEmpty config ops stop ran last
+  pub runs : RunsFromEmpty g config ops stop ran last
   pub refused : let files = memory_directory last in Leaves files (left_by choices files) → ⊥
 
 -- an opening fails by storage, for lack of memory, or for the damage of the log in the folders
@@ -164,6 +158,13 @@ pub record Reopens {F : Type 0} (directory : F → Directory) (moments : F → L
   pub any_moment : MovesBy directory moments refusals_of (StillRecovers folders) found left
   pub counted : is_io opened ≡ true → RoseBy 1 (refusals_of found) (refusals_of left)
 
+-- an opening of these files was answered, and refused for the same cause
+pub record IsOpenedAs {F H R W : Type 0} (g : Ghosts F H R W) (config : Config) (files : F)
+    (opened : Result Image Fault) : Type 0 where
+  pub answer : Result (Engine F H R W g) (Refused F)
+  pub opens : Opens config files answer
+  pub shows : IfErr answer (λ r. opened ≡ Err r.fault)
+
 -- what a trial showed of the run
 abbrev pub ran_in : Trial → Ran
 ran_in t =
@@ -175,10 +176,11 @@ AreDetectablyLeft folders last choices = let files = memory_directory last in
     AreDetectableIn folders files (left_by choices files)
 
 -- operations over files that were empty, then a crash by these choices, which left these files
-pub record IsCrashOf (config : Config) (ops : List Op) (stop : Option ℕ) (choices : List Choice)
-    (ran : Ran) (left : MemoryFileSystem) : Type 0 where
+pub record IsCrashOf {H R W : Type 0} (g : Ghosts MemoryFileSystem H R W) (config : Config)
+    (ops : List Op) (stop : Option ℕ) (choices : List Choice) (ran : Ran) (left : MemoryFileSystem)
+    : Type 0 where
   pub last : MemoryFileSystem
-  pub runs : RunsFromEmpty config ops stop ran last
+  pub runs : RunsFromEmpty g config ops stop ran last
   -- storage may leave of the files what the choices say, and so they stand after the crash, with no
   -- stop
   pub leaves : let files = memory_directory last in Leaves files (left_by choices files)
@@ -195,15 +197,22 @@ pub record IsCrashOf (config : Config) (ops : List Op) (stop : Option ℕ) (choi
   pub torn : NameNoBytes choices
       → AreReadAsBefore (folders_in config) (memory_directory last) choices
       → AreDetectablyLeft (folders_in config) last choices
-  -- where it is detectable, a further crash leaves what is found
+  -- where it is detectable, a tolerant opening takes them
+  pub opens : HaveNoLogPath (folders_in config) → AreDetectablyLeft (folders_in config) last choices
+      → (mode : RecoveryMode) → (mode ≡ AbsoluteConsistency → ⊥)
+      → AreOpenableIn mode (folders_in config) (memory_directory left)
+  -- .. and a further crash leaves what is found
   pub kept : HaveNoLogPath (folders_in config) → AreDetectablyLeft (folders_in config) last choices
       → let found = memory_directory left in
       RecoversContents (folders_in config) (contents_at (folders_in config) found) [] found
 
--- an opening of these files, which was given up with those; P: the damage of the last crash is
--- detectable, Q: of those before it
-pub record IsOpeningOf (P Q : Type 0) (config : Config) (files last : MemoryFileSystem)
-    (opened : Result Image Fault) : Type 0 where
+-- an opening of these files with a copy of the settings, which was given up with those; P: the
+-- damage of the last crash is detectable, Q: of those before it
+pub record IsOpeningOf {H R W : Type 0} (g : Ghosts MemoryFileSystem H R W) (P Q : Type 0)
+    (config : Config) (files last : MemoryFileSystem) (opened : Result Image Fault) : Type 0 where
+  pub copy : Config
+  pub is : IsCopy config copy
+  pub opens : IsOpenedAs g copy files opened
   pub reopened : Reopens memory_directory memory_moments memory_refusals (folders_in config) files
       last opened
   -- it found what they hold, and shows it without the groups' numbers
@@ -220,26 +229,27 @@ pub record IsOpeningOf (P Q : Type 0) (config : Config) (files last : MemoryFile
 
 -- operations over files that were empty, then a crash by these choices, then an opening with the
 -- same settings
-pub record IsTrialOf (config : Config) (ops : List Op) (stop : Option ℕ) (choices : List Choice)
-    (t : Trial) : Type 0 where
+pub record IsTrialOf {H R W : Type 0} (g : Ghosts MemoryFileSystem H R W) (config : Config)
+    (ops : List Op) (stop : Option ℕ) (choices : List Choice) (t : Trial) : Type 0 where
   pub again : MemoryFileSystem
-  pub crash : IsCrashOf config ops stop choices (ran_in t) again
+  pub crash : IsCrashOf g config ops stop choices (ran_in t) again
   pub none : t.second ≡ None
   pub last : MemoryFileSystem
-  pub opening : IsOpeningOf (AreDetectablyLeft (folders_in config) crash.last choices) (Unit {0})
+  pub opening : IsOpeningOf g (AreDetectablyLeft (folders_in config) crash.last choices) (Unit {0})
       config again last t.opened
 
 -- files after a second crash, which came in an opening of those that a first one left; of that
 -- opening the calls that may change files fail from a stop on
-pub record IsSecondCrash (config : Config) (again : Option ℕ) (more : List Choice) (Q : Type 0)
-    (second : Option (Result Image Fault)) (first left : MemoryFileSystem) : Type 0 where
+pub record IsSecondCrash {H R W : Type 0} (g : Ghosts MemoryFileSystem H R W) (config : Config)
+    (again : Option ℕ) (more : List Choice) (Q : Type 0) (second : Option (Result Image Fault))
+    (first left : MemoryFileSystem) : Type 0 where
   pub begun : MemoryFileSystem
   pub begins : memory_directory begun ≡ memory_directory first
   pub fails : FailsAtStop again begun
   pub image : Result Image Fault
   pub is : second ≡ Some image
   pub last : MemoryFileSystem
-  pub opening : IsOpeningOf Q (Unit {0}) config begun last image
+  pub opening : IsOpeningOf g Q (Unit {0}) config begun last image
   pub leaves : let files = memory_directory last in Leaves files (left_by more files)
   pub restarted : let files = memory_directory last in
       IsRestarted files (left_by more files) (memory_directory left)
@@ -252,24 +262,26 @@ pub record IsSecondCrash (config : Config) (again : Option ℕ) (more : List Cho
       ≡ contents_at (folders_in config) (memory_directory first)
 
 -- .. then a second crash by more choices in an opening with a stop, and an opening after it
-pub record IsTrialTwiceOf (config : Config) (ops : List Op) (stop : Option ℕ)
-    (choices : List Choice) (again : Option ℕ) (more : List Choice) (t : Trial) : Type 0 where
+pub record IsTrialTwiceOf {H R W : Type 0} (g : Ghosts MemoryFileSystem H R W) (config : Config)
+    (ops : List Op) (stop : Option ℕ) (choices : List Choice) (again : Option ℕ)
+    (more : List Choice) (t : Trial) : Type 0 where
   pub first : MemoryFileSystem
-  pub crash : IsCrashOf config ops stop choices (ran_in t) first
+  pub crash : IsCrashOf g config ops stop choices (ran_in t) first
   pub left : MemoryFileSystem
-  pub second : IsSecondCrash config again more
+  pub second : IsSecondCrash g config again more
       (AreDetectablyLeft (folders_in config) crash.last choices) t.second first left
   pub last : MemoryFileSystem
-  pub opening : IsOpeningOf (AreDetectablyLeft (folders_in config) second.last more)
+  pub opening : IsOpeningOf g (AreDetectablyLeft (folders_in config) second.last more)
       (AreDetectablyLeft (folders_in config) crash.last choices) config left last t.opened
 
 -- files that a second crash came over may be such that storage may not leave of them what the
 -- choices say
-pub record AreNotAllowedAgain (config : Config) (ops : List Op) (stop : Option ℕ)
-    (choices : List Choice) (again : Option ℕ) (more : List Choice) : Type 0 where
+pub record AreNotAllowedAgain {H R W : Type 0} (g : Ghosts MemoryFileSystem H R W) (config : Config)
+    (ops : List Op) (stop : Option ℕ) (choices : List Choice) (again : Option ℕ)
+    (more : List Choice) : Type 0 where
   pub ran : Ran
   pub first : MemoryFileSystem
-  pub crash : IsCrashOf config ops stop choices ran first
+  pub crash : IsCrashOf g config ops stop choices ran first
   pub begun : MemoryFileSystem
   pub begins : memory_directory begun ≡ memory_directory first
   pub fails : FailsAtStop again begun

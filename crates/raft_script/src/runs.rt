@@ -7,14 +7,15 @@ ghost use Rattle.raft_records.specs.Item.{Batch};
 ghost use Rattle.raft_records.specs.Layout.{entry_bytes};
 ghost use Rattle.raft_config.specs.Folders.{Folders};
 ghost use Rattle.raft_env.specs.Directory.{Directory};
-ghost use Rattle.raft_held.specs.Crash.{LeavesAllowedFrom};
+ghost use Rattle.raft_crash_laws.specs.Crash.{LeavesAllowedFrom};
 ghost use Rattle.raft_pipes.specs.PipeState.{HasLastNumber};
 ghost use Rattle.raft_log_engine.specs.Group.{items_of};
 ghost use Rattle.raft_once.specs.History.{are_numbers};
 ghost use Rattle.raft_log_engine.specs.Engine.{begun_of, contents_of, directory_of, durable_of, folders_of, has_failed, queue_of, refusals_of, unsynced_of};
-ghost use Rattle.raft_script.specs.Entry.{indexed_bytes};
-ghost use Rattle.raft_script.specs.Durability.{Does, HaveRun, IsAnswerOf, IsOutOfNumbersIn, PassesOver, Runs};
-ghost use Rattle.raft_script.specs.Headline.{AreAllowedInside, LeavesFrom, run_state_of};
+ghost use Rattle.raft_script.specs.Batches.{indexed_bytes};
+ghost use Rattle.raft_script.specs.Durability.{CrashesComeBack, Does, HaveRun, IsAnswerOf, IsOutOfNumbersIn, PassesOver, Runs};
+ghost use Rattle.raft_script.specs.Headline.{AreSafe};
+ghost use Rattle.raft_script.specs.Once.{AreOnce};
 ghost use Rattle.raft_script.specs.Numbers.{HaveActed};
 ghost use Rattle.raft_script.specs.Purges.{HasPurgedAs};
 ghost use Rattle.raft_script.specs.Batches.{accepted_of, batch_of_acts, batches_of_parts, items_of_act};
@@ -41,19 +42,19 @@ pub(crate) struct RunReport {
 /// Does the operations in order, each with its outcome. Where there is no memory for the list of
 /// outcomes, the engine is not asked.
 ///
-/// The headline is five clauses. `any_moment`: a crash inside the run. `left`: one after it, up to
-/// the first change of the next call. `Engine::open_in_order`, `contents` and `refused`: what an
-/// opening makes of the files then; its `any_moment`: a crash inside it.
-/// `laws::the_damage_of_an_engine_is_detectable`: that the premise can be met.
+/// The headline is `crash` (docs/READING.md). At each moment of an operation the machine may crash,
+/// and again inside each opening of what is left. A tolerant opening that isn't cut off so finds a
+/// prefix of what was accepted before the operation, and perhaps of what it was writing, with all
+/// that an answered sync had covered; or it fails as `Io`, which storage counted, or for lack of
+/// memory. The damage of each crash has to be detectable; whatever it is, such contents are what is
+/// read first. Once the operation is answered and the engine stands, it and its files hold all that
+/// was accepted. A failed engine changes no file. That the premise can be met says
+/// `laws::the_damage_of_an_engine_is_detectable` of the engine.
 ///
-/// A crash inside an operation, if its damage is detectable, leaves files that an opening takes in
-/// each mode but the absolute one. It finds a prefix of the batches accepted before the operation,
-/// or all of them and a prefix of its own (of a group any choice of them, in order), with every
-/// one that an answered sync covered before. Whatever the damage, such contents are what is read
-/// first of both queues. Once the operation is answered and the engine stands, the files hold all
-/// that was accepted by then, and a crash leaves a prefix of it, with every covered batch. A
-/// failed engine adds no moment. `ok` says all this, and what is answered, of one list of engines,
-/// each of which the operation's own call makes of the one before.
+/// `once`: over runs, crashes and openings no number of a group acts twice until the group is
+/// cleaned, and each act that an answered sync covered is among those that are found. `ok` says of
+/// one list of engines, each of which the operation's own call makes of the one before, what is
+/// answered, when the engine fails and what is safe.
 ///
 /// What was accepted are acts (`numbers`), each with its numbers, of which each is greater than
 /// the one that its group kept: so none acts twice, as long as the group isn't cleaned.
@@ -69,13 +70,11 @@ pub fn run<F: FileSystem>(
     engine: &mut Engine<F>,
     ops: &[Op],
 ) -> Result<Vec<Outcome>, Fault>
-    ensures any_moment { IfOk result (λ outcomes.
-        AreAllowedInside ops.now outcomes.items engine.old engine.new) }
+    ensures crash { IfOk result (λ outcomes. AreSafe ops.now outcomes.items engine.old engine.new) }
+    ensures once { IfOk result (λ outcomes. AreOnce ops.now outcomes.items engine.old engine.new) }
     ensures ok { IfOk result (λ outcomes. HaveRun ops.now outcomes.items engine.old engine.new) }
     ensures numbers { IfOk result (λ outcomes. HaveActed (contents_of engine.old)
         (durable_of engine.old) (unsynced_of engine.old) ops.now outcomes.items) }
-    ensures left { LeavesFrom 0 (folders_of engine.new) (durable_of engine.new)
-        (unsynced_of engine.new) (directory_of engine.new) }
     ensures unchanged { All IsUnasked ops.now → engine.new ≡ engine.old }
     ensures folder { folders_of engine.new ≡ folders_of engine.old }
     ensures others { begun_of engine.new ≡ begun_of engine.old }
@@ -92,14 +91,14 @@ pub(crate) fn run_watched<F: FileSystem>(
     engine: &mut Engine<F>,
     ops: &[Op],
 ) -> Result<RunReport, Fault>
-    ensures any_moment { IfOk result (λ ran.
-        AreAllowedInside ops.now ran.outcomes.items engine.old engine.new) }
+    ensures crash { IfOk result (λ ran.
+        AreSafe ops.now ran.outcomes.items engine.old engine.new) }
+    ensures once { IfOk result (λ ran.
+        AreOnce ops.now ran.outcomes.items engine.old engine.new) }
     ensures ok { IfOk result (λ ran.
         Runs ops.now ran.outcomes.items ran.failed_at engine.old engine.new) }
     ensures numbers { IfOk result (λ ran. HaveActed (contents_of engine.old)
         (durable_of engine.old) (unsynced_of engine.old) ops.now ran.outcomes.items) }
-    ensures left { LeavesFrom 0 (folders_of engine.new) (durable_of engine.new)
-        (unsynced_of engine.new) (directory_of engine.new) }
     ensures unchanged { All IsUnasked ops.now → engine.new ≡ engine.old }
     ensures folder { folders_of engine.new ≡ folders_of engine.old }
     ensures others { begun_of engine.new ≡ begun_of engine.old }
@@ -107,7 +106,7 @@ pub(crate) fn run_watched<F: FileSystem>(
     ensures err { OnErr result (engine.new ≡ engine.old) }
     ensures cause { IfErr result (λ e. e ≡ Fault.Memory) }
 {
-    crash_is_said_of_files();
+    crashes_come_back::<F>();
     a_number_acts_once();
     an_engine_recovers_what_it_keeps(engine);
     let mut outcomes = Vec::with_capacity(alloc, ops.len())?;
@@ -128,10 +127,9 @@ pub(crate) fn run_watched<F: FileSystem>(
     })
 }
 
-// What a crash leaves of detectable damage an opening takes as it is left.
-pub(crate) fn crash_is_said_of_files()
-    ensures { (least : ℕ) (folders : Folders) (m : Contents) (batches : List Batch) (n : Directory)
-        → LeavesAllowedFrom least folders m batches n → LeavesFrom least folders m batches n }
+// What a crash leaves that is allowed comes back, however often it crashes in openings.
+pub(crate) fn crashes_come_back<F: FileSystem>()
+    ensures { CrashesComeBack F.FileSystem }
 {
     crash_leaves_contents();
     crash_leaves_a_prefix();
@@ -140,7 +138,7 @@ pub(crate) fn crash_is_said_of_files()
 // A queue of an engine that stands has the last number only where a log file has.
 fn last_number_stands<F: FileSystem>(engine: &Engine<F>)
     ensures { has_failed engine.now ≡ false → HasLastNumber (queue_of engine.now)
-        → IsOutOfNumbersIn (folders_of engine.now) (run_state_of engine.now) }
+        → IsOutOfNumbersIn (folders_of engine.now) (directory_of engine.now) }
 {
     engine.file_span(LogQueue::Append);
 }

@@ -2,7 +2,8 @@
 ghost use Rattle.std.specs.Prelude.{◌≡◌, ◌==◌, ◌<◌, ◌≤◌, ◌^◌, ℕ, IfOk, List, length, map, MatchOption};
 ghost use Rattle.std.specs.Fmt.{decimal};
 ghost use Rattle.std.specs.List.{position_or_len};
-ghost use Rattle.raft_script.specs.Entry.{IsTextOf, bytes_of_entry, index_of, indexed_bytes, text_bytes, text_entries};
+ghost use Rattle.raft_script.specs.Entry.{IsTextOf, bytes_of_entry, index_of, text_bytes, text_entries};
+ghost use Rattle.raft_script.specs.Batches.{indexed_bytes};
 
 use crate::number::number_of;
 use itoa::Buffer;

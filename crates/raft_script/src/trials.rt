@@ -8,15 +8,15 @@ ghost use Rattle.raft_config.specs.Sanitized.{IsContradiction, contradiction};
 ghost use Rattle.raft_memory.specs.Memory.{memory_directory, memory_moments, no_files};
 ghost use Rattle.raft_log_engine.specs.Image.{IsImageOf};
 ghost use Rattle.raft_once.specs.Numbers.{shown};
-ghost use Rattle.raft_held.specs.Contents.{contents_at, known_at};
-ghost use Rattle.raft_held.specs.Crash.{RecoversContents};
+ghost use Rattle.raft_crash_laws.specs.Contents.{contents_at, known_at};
+ghost use Rattle.raft_crash_laws.specs.Crash.{RecoversContents};
 ghost use Rattle.raft_pipes.specs.Folder.{AreClear};
-ghost use Rattle.raft_held.specs.Queues.{AreOpenableIn, AreSingleIn, ReadCompletedRecordsIn};
+ghost use Rattle.raft_crash_laws.specs.Queues.{AreOpenableIn, AreSingleIn, ReadCompletedRecordsIn};
 ghost use Rattle.raft_script.specs.Failure.{IsStorageOrMemory};
-ghost use Rattle.raft_script.specs.Trial.{AreNotAllowed, AreNotAllowedAgain, FailsAtStop, HaveNoLogPath, IsCrashOf, IsLogRefusal, IsTrialOf, IsTrialTwiceOf, LeavesDetectable, LeavesSound, Ran, Reopens, RunsOver, Shown};
+ghost use Rattle.raft_script.specs.Trial.{AreNotAllowed, AreNotAllowedAgain, FailsAtStop, HaveNoLogPath, IsCrashOf, IsLogRefusal, IsOpenedAs, IsTrialOf, IsTrialTwiceOf, LeavesDetectable, LeavesSound, Ran, Reopens, RunsOver};
 
 use crate::operation::{Op, Trial};
-use crate::runs::{RunReport, crash_is_said_of_files, run_watched};
+use crate::runs::{RunReport, crashes_come_back, run_watched};
 use raft_env::FileSystem;
 use raft_log_engine::laws::{crash_leaves_contents, the_damage_of_an_engine_is_detectable};
 use raft_log_engine::{Config, Engine, Image};
@@ -48,10 +48,11 @@ pub fn trial(
     stop: Option<u64>,
     choices: &[Choice],
 ) -> Result<Trial, Fault>
-    ensures value { IfOk result (IsTrialOf config ops.now stop choices.now) }
+    ensures value { IfOk result
+        (IsTrialOf ⟦<MemoryFileSystem as FileSystem>⟧ config ops.now stop choices.now) }
     ensures cause { IfErr result (λ e. (e ≡ Fault.Memory)
         ⊎ ((fault_code e ≡ 1) × (NameNoBytes choices.now → ⊥)
-        × AreNotAllowed config ops.now stop choices.now)) }
+        × AreNotAllowed ⟦<MemoryFileSystem as FileSystem>⟧ config ops.now stop choices.now)) }
 {
     let again = config.clone()?;
     let (ran, refused, left) = crashed(alloc, config, ops, stop, choices)?;
@@ -80,12 +81,14 @@ pub fn trial_twice(
     more: &[Choice],
 ) -> Result<Trial, Fault>
     ensures value { IfOk result
-        (IsTrialTwiceOf config ops.now stop choices.now again more.now) }
+        (IsTrialTwiceOf ⟦<MemoryFileSystem as FileSystem>⟧ config ops.now stop choices.now again
+        more.now) }
     ensures cause { IfErr result (λ e. (e ≡ Fault.Memory)
         ⊎ ((fault_code e ≡ 1) × (NameNoBytes choices.now → ⊥)
-        × AreNotAllowed config ops.now stop choices.now)
+        × AreNotAllowed ⟦<MemoryFileSystem as FileSystem>⟧ config ops.now stop choices.now)
         ⊎ ((fault_code e ≡ 1) × (NameNoBytes more.now → ⊥)
-        × AreNotAllowedAgain config ops.now stop choices.now again more.now)) }
+        × AreNotAllowedAgain ⟦<MemoryFileSystem as FileSystem>⟧ config ops.now stop choices.now
+        again more.now)) }
 {
     crash_leaves_contents();
     premise_can_be_met();
@@ -116,10 +119,10 @@ fn crashed(
       outcomes = r.0.outcomes.items;
       failed_at = r.0.failed_at;
       refused = r.1;
-    } in IsCrashOf config ops.now stop choices.now ran r.2) }
+    } in IsCrashOf ⟦<MemoryFileSystem as FileSystem>⟧ config ops.now stop choices.now ran r.2) }
     ensures cause { IfErr result (λ e. (e ≡ Fault.Memory)
         ⊎ ((fault_code e ≡ 1) × (NameNoBytes choices.now → ⊥)
-        × AreNotAllowed config ops.now stop choices.now)) }
+        × AreNotAllowed ⟦<MemoryFileSystem as FileSystem>⟧ config ops.now stop choices.now)) }
 {
     a_queue_recovers_its_batches();
     crash_leaves_a_prefix();
@@ -164,24 +167,15 @@ fn run_over<F: FileSystem + Drop>(
     ops: &[Op],
 ) -> Result<(RunReport, Option<Fault>, F), Fault>
     ensures ok { IfOk result (λ r. let dir = folders_in config in
-        let before : Shown = record {
-          files = F.directory files;
-          moments = F.moments files;
-          refusals = F.refusals_of files;
-        } in
-        let left : Shown = record {
-          files = F.directory r.2;
-          moments = F.moments r.2;
-          refusals = F.refusals_of r.2;
-        } in
+        let n = F.directory files in
         let ran : Ran = record {
           outcomes = r.0.outcomes.items;
           failed_at = r.0.failed_at;
           refused = r.1;
         } in
-        let found = contents_at dir before.files in
-        RecoversContents dir found [] before.files
-        → RunsOver config found (known_at dir before.files) ops.now ran before left) }
+        let found = contents_at dir n in
+        RecoversContents dir found [] n
+        → RunsOver F.FileSystem config found (known_at dir n) ops.now ran files r.2) }
     ensures clear { IfOk result (λ r. r.1 ≡ None
         → AreClear (folders_in config) (F.directory files)) }
     ensures crash { IfOk result (λ r.
@@ -195,7 +189,7 @@ fn run_over<F: FileSystem + Drop>(
     ensures cause { IfErr result (λ e. e ≡ Fault.Memory) }
 {
     crash_leaves_contents();
-    crash_is_said_of_files();
+    crashes_come_back::<F>();
     match Engine::open_in_order(alloc, config, files) {
         Ok(mut engine) => {
             let ran = run_watched(alloc, &mut engine, ops)?;
@@ -230,6 +224,7 @@ fn open_and_give_up<F: FileSystem + Drop>(
         ⊎ IsLogRefusal config.recovery_mode (folders_in config) (F.directory files) e) }
     ensures any_moment { Reopens F.directory F.moments F.refusals_of (folders_in config) files
         result.1 result.0 }
+    ensures opens { IsOpenedAs F.FileSystem config files result.0 }
 {
     match Engine::open_in_order(alloc, config, files) {
         Ok(mut engine) => {

@@ -2,7 +2,7 @@ use denote.Param.Send.{sendable}
 use Rattle.raft_memory.proofs.Sent.{memory_send, memory_sync}
 use Rattle.raft_memory.specs.Memory.{memory_directory}
 use Rattle.raft_config.specs.Folders.{folders_in}
-use Rattle.raft_held.specs.Contents.{contents_at, known_at}
+use Rattle.raft_crash_laws.specs.Contents.{contents_at, known_at}
 use Rattle.raft_lines.proofs.ProgramLemmas.{opens_after_crash, opens_weaker, refused_after_crash}
 use Rattle.raft_script.proofs.TrialLemmas.{same_folders}
 use Rattle.raft_lines.specs.Program.{HoldsAfterCrash, IsCrashFault, IsNewWith, IsOpeningFault}

@@ -10,7 +10,7 @@ use Rattle.raft_env.specs.Directory.{Directory}
 use Rattle.raft_pipes.specs.Folder.{readable_of, readable_queue}
 use Rattle.raft_pipes.proofs.FolderQueueLemmas.{log_files-no_log}
 use Rattle.raft_config.specs.Folders.{Folders, folders_in}
-use Rattle.raft_recovery.proofs.ContentsLemmas.{recovered-nothing_rewritten}
+use Rattle.raft_recovery_laws.proofs.ContentsLemmas.{recovered-nothing_rewritten}
 use Rattle.raft_log_engine.proofs.CrashLemmas.{same_groups, same_queues}
 use Rattle.raft_lines.proofs.ProgramLemmas.{opened_in, opened_or_copy, opened_or_refused, opened_with}
 use Rattle.raft_script.proofs.TrialLemmas.{no_log, same_folders}

@@ -1,4 +1,4 @@
-use Rattle.raft_held.specs.Contents.{contents_at, known_at}
+use Rattle.raft_crash_laws.specs.Contents.{contents_at, known_at}
 use Rattle.raft_lines.proofs.ProgramLemmas.{opened_or_refused, opened_with, opens_to}
 use Rattle.raft_lines.specs.Program.{IsNewWith, IsOpeningFault}
 use Rattle.raft_config.specs.Folders.{folders_in}

@@ -4,24 +4,25 @@ use Rattle.std.proofs.lemmas.Grind.{common_steps}
 use Rattle.std.proofs.lemmas.List.{length-map, map-append, take_all}
 use Rattle.std.proofs.lemmas.List.Elements.{All-get_or}
 use Rattle.std.proofs.lemmas.Option.{slice_get_read}
-use Rattle.std.proofs.Math.Logic.{∥∥₁_elim, ∥∥₁_prop}
 use Rattle.raft_env.specs.Directory.{Directory}
 use Rattle.raft_config.specs.Folders.{Folders}
 use Rattle.raft_records.specs.Contents.{Contents, after_batches}
 use Rattle.raft_records.specs.Item.{Batch}
-use Rattle.raft_held.specs.Contents.{known_from}
-use Rattle.raft_held.specs.Begins.{LogStandsFor}
-use Rattle.raft_held.specs.Crash.{LeavesAllowed}
+use Rattle.raft_crash_laws.specs.Contents.{known_from}
+use Rattle.raft_crash_laws.specs.Begins.{LogStandsFor}
+use Rattle.raft_crash_laws.specs.Crash.{LeavesAllowed, LeavesAllowedFrom}
 use Rattle.raft_log_engine.specs.Durability.{Progresses, durability_of}
-use Rattle.raft_log_engine.specs.Engine.{all_batches, base_of, contents_of, directory_of, durable_of, folders_of, found_groups_of, found_of, has_failed, is_known_in, moments_of, refusals_of, unsynced_of}
+use Rattle.raft_log_engine.specs.Engine.{all_batches, base_of, contents_of, directory_of, durable_of, folders_of, found_groups_of, found_of, has_failed, is_known_in, refusals_of, unsynced_of}
 use Rattle.raft_script.specs.Batches.{MayBeInFlight, accepted_of, is_covering}
-use Rattle.raft_script.specs.Durability.{IsCall, IsDurableAfter, IsOutOfNumbersIn, IsStep, LeavesInFlight, Steps, durable_groups_of, progress_after_all}
-use Rattle.raft_script.specs.Headline.{IsAllowedInside, Leads, Progress, RunState, progress_after, progress_from, run_state_of}
+use Rattle.raft_script.specs.Durability.{IsCall, IsDurableAfter, IsOutOfNumbersIn, Steps, durable_groups_of, progress_after_all}
+use Rattle.raft_script.specs.Headline.{AreSafe, IsSafe, Progress, ReadsFirst, progress_after, progress_from}
+use Rattle.raft_script.specs.Once.{AreOnce}
+use Rattle.raft_script.proofs.ActOnceLemmas.{are_once}
+use Rattle.raft_script.proofs.SafeLemmas.{are_safe, is_safe}
 use Rattle.raft_script.specs.Run.{IsUnasked}
 use Rattle.raft_script.specs.declared.operation.Op.{Op}
-use Rattle.raft_script.specs.declared.operation.Outcome.{Outcome}
-use Rattle.raft_script.proofs.StepsLemmas.{after-append, begun_place, failure_place, found_same, groups_same, inside_call, known-append, last_state-more, leads_len, leads_more, place_more, steps_shown}
-use Rattle.raft_script.proofs.DurabilityLemmas.{IsUnderWay, batches_more, durable_after, inside_here, leaves_after, leaves_standing, progress_more, read_standing, under_way_begun, under_way_more}
+use Rattle.raft_script.proofs.StepsLemmas.{after-append, begun_place, failure_place, found_same, groups_same, known-append, last_state-more, leads_len, leads_more, place_more}
+use Rattle.raft_script.proofs.DurabilityLemmas.{IsUnderWay, batches_more, durable_after, inside_here, leaves_standing, progress_more, read_standing, under_way_begun, under_way_more}
 use Rattle.raft_script.proofs.ActLemmas.{have_acted}
 use Rattle.raft_script.proofs.PassedLemmas.{passes_more, passes_none}
 use Rattle.raft_script.proofs.RunLemmas.{IsNextPlace, accepted_same, answer_weaker, rose_more, stands_so_far, still_failing, taken_more}
@@ -32,7 +33,6 @@ pub loop-op-preserved : goal.loop-op-preserved
 loop-op-preserved g c =
     let kept = c.loop-op.invariant in
     let step = c.step-outcome.ensures in
-    let up = c.crash_is_said_of_files.ensures in
     let begun = c.args.engine.now in
     let old = c.loop-op.engine in
     let new = c.step-outcome.new.engine in
@@ -91,29 +91,32 @@ loop-op-preserved g c =
     ∙ append_assoc (base_of begun) p.batches (accepted_of (after_batches m p.batches) op outcome) in
     let now = (g.met.F.FileSystem g.world.𝓛 g.world.𝓜 g.world.𝓡 ((λ s allowed. allowed), (λ patient. patient), (λ solo. solo), (λ cuts. cuts))).now_counts new.file_system in
     let once = (g.met.F.FileSystem g.world.𝓛 g.world.𝓜 g.world.𝓡 ((λ s allowed. allowed), (λ patient. patient), (λ solo. solo), (λ cuts. cuts))).now_counts old.file_system in
-    let leaves = subst (λ (f : Folders). LeavesAllowed f (durable_of new) (unsynced_of new) (directory_of new)) (step.folder ∙ kept.2) law.crash in
-    let newest : (x : Directory) (earlier : List Directory) → moments_of new ≡ x ∷ earlier → LeavesAllowed folders (durable_of new) (unsynced_of new) x = λ x earlier moments.
-    let same : directory_of new ≡ x = cc now.1 in subst (λ (y : Directory). LeavesAllowed folders (durable_of new) (unsynced_of new) y) same leaves in
-    let written : (x : Directory) (earlier : List Directory) → moments_of new ≡ x ∷ earlier → has_failed new ≡ false → LogStandsFor folders (durable_of new) (unsynced_of new) x = λ x earlier moments stands.
-    let same : directory_of new ≡ x = cc now.1 in subst (λ (y : Directory). LogStandsFor folders (durable_of new) (unsynced_of new) y) same
-    (subst (λ (f : Folders). LogStandsFor f (durable_of new) (unsynced_of new) (directory_of new)) (step.folder ∙ kept.2) (law.written stands)) in
-    let allowed : IsAllowedInside folders m p op outcome (run_state_of old) (run_state_of new) = inside_call folders m p op outcome (run_state_of old) (run_state_of new) (LeavesInFlight op old) does.moments does.rests still
-    (λ x alive allowed. ∥∥₁_elim allowed ∥∥₁_prop (λ (some, may_be, leaves).
-    inside_here found m p c.args.ops.now place failed_at next_at (durability_of old) kept.5 op outcome some (durability_of new) next up folders x (subst (λ (f : Contents). MayBeInFlight (after_batches f (all_batches old)) op some) before may_be) holds alive
-    (subst (λ (f : Contents). LeavesAllowed folders (after_batches f (base_of old)) (unsynced_of old ++ some) x) before (subst (λ (f : Folders). LeavesAllowed f (durable_of old) (unsynced_of old ++ some) x) kept.2 leaves))))
-    (λ stands x earlier moments. (
-      read_standing folders found m q c.args.ops.now next_at (durability_of new) way stands x (subst (λ (f : Contents). LogStandsFor folders (after_batches f (base_of new)) (unsynced_of new) x) after (written x earlier moments stands)),
-      leaves_standing up folders found m q c.args.ops.now next_at (durability_of new) way stands x (subst (λ (f : Contents). LeavesAllowed folders (after_batches f (base_of new)) (unsynced_of new) x) after (newest x earlier moments)),
-    )) step.failed in
+    let here_before : LeavesAllowed (folders_of old) (durable_of old) (unsynced_of old) (directory_of old) = subst (λ (f : Contents). LeavesAllowed (folders_of old) (after_batches f (base_of old)) (unsynced_of old) (directory_of old)) (sym before) kept.10.leaves in
+    let here_after : LeavesAllowed (folders_of old) (after_batches found (base_of new)) (unsynced_of new) (directory_of new) =
+    subst (λ (f : Contents). LeavesAllowed (folders_of old) (after_batches f (base_of new)) (unsynced_of new) (directory_of new)) after
+    (subst (λ (f : Folders). LeavesAllowed f (durable_of new) (unsynced_of new) (directory_of new)) step.folder law.crash) in
+    let written : has_failed new ≡ false → LogStandsFor (folders_of old) (after_batches found (base_of new)) (unsynced_of new) (directory_of new) = λ stands.
+    subst (λ (f : Contents). LogStandsFor (folders_of old) (after_batches f (base_of new)) (unsynced_of new) (directory_of new)) after
+    (subst (λ (f : Folders). LogStandsFor f (durable_of new) (unsynced_of new) (directory_of new)) step.folder (law.written stands)) in
+    let ahead : (some : List Batch) (x : Directory) → has_failed old ≡ false → MayBeInFlight (contents_of old) op some → LeavesAllowed (folders_of old) (durable_of old) (unsynced_of old ++ some) x
+    → MayBeInFlight (after_batches m p.batches) op some × LeavesAllowedFrom p.covered (folders_of old) m (p.batches ++ some) x = λ some x alive may_be left.
+    inside_here found m p c.args.ops.now place failed_at next_at (durability_of old) kept.5 op outcome some (durability_of new) next (folders_of old) x (subst (λ (f : Contents). MayBeInFlight (after_batches f (all_batches old)) op some) before may_be) holds alive
+    (subst (λ (f : Contents). LeavesAllowed (folders_of old) (after_batches f (base_of old)) (unsynced_of old ++ some) x) before left) in
+    let read : has_failed new ≡ false → ReadsFirst (λ x. x ≡ after_batches m q.batches) (folders_of old) (directory_of new) = λ stands.
+    read_standing (folders_of old) found m q c.args.ops.now next_at (durability_of new) way stands (directory_of new) (written stands) in
+    let left : has_failed new ≡ false → LeavesAllowedFrom q.covered (folders_of old) m q.batches (directory_of new) = λ stands.
+    leaves_standing (folders_of old) found m q c.args.ops.now next_at (durability_of new) way stands (directory_of new) here_after in
+    let holding : has_failed new ≡ false → contents_of new ≡ after_batches m q.batches = λ stands.
+    ap (λ (f : Contents). after_batches f (all_batches new)) after ∙ ap (after_batches found) (listed stands) ∙ after-append found (base_of begun) q.batches in
+    let safe : IsSafe m p op outcome old new = is_safe old new once now op outcome does c.crashes_come_back.ensures m p step.failed here_before ahead (λ stands. (holding stands, read stands, left stands)) in
     let known_is : has_failed old ≡ false → known_from known p.batches ≡ is_known_in old = λ alive.
     sym (known-append (found_groups_of begun) (base_of begun) p.batches)
     ∙ ap (known_from (found_groups_of begun)) (sym (kept.4 alive))
     ∙ ap (λ (k : ℕ → Bool). known_from k (all_batches old)) (sym groups) in
-    let ended : (x : IsOutOfNumbersIn (folders_of new) (run_state_of new)) → IsOutOfNumbersIn folders (run_state_of new) = subst (λ (f : Folders). IsOutOfNumbersIn f (run_state_of new)) (step.folder ∙ kept.2) in
-    let answer = answer_weaker _ (IsOutOfNumbersIn folders (run_state_of new)) (λ last. ended (c.last_number_stands.ensures last.0 last.1)) (has_failed old) (after_batches m p.batches) (known_from known p.batches) op outcome
+    let ended : IsOutOfNumbersIn (folders_of new) (directory_of new) → IsOutOfNumbersIn folders (directory_of new) = subst (λ (f : Folders). IsOutOfNumbersIn f (directory_of new)) (step.folder ∙ kept.2) in
+    let answer = answer_weaker _ (IsOutOfNumbersIn folders (directory_of new)) (λ last. ended (c.last_number_stands.ensures last.0 last.1)) (has_failed old) (after_batches m p.batches) (known_from known p.batches) op outcome
     (step.value (after_batches m p.batches) (known_from known p.batches) (λ alive. sym (held alive)) known_is) in
-    let is_step : IsStep folders m known p op outcome (run_state_of old) (run_state_of new) = record { answer = answer; failure = step.failed; allowed = allowed } in
-    let is_call : IsCall folders m known p op outcome old new = record { step = is_step; does = does; purged = step.purged } in
+    let is_call : IsCall folders m known p op outcome old new = record { answer = answer; failure = step.failed; safe = safe; does = does; purged = step.purged } in
     let states = kept.6.states in
     let fails = map has_failed states in
     let as_many = leads_len (IsCall folders m known) m first begun ops outcomes states kept.6.each in
@@ -177,7 +180,6 @@ returns-clause-ok g c =
       steps = subst (λ (l : List Op). Steps has_failed (IsCall (folders_of old) m (durable_groups_of old)) m first old l outcomes failed_at e) whole kept.6;
       counted = kept.8;
       batches = subst (λ (l : List Op). has_failed e ≡ false → all_batches e ≡ base_of old ++ (progress_after_all m first l outcomes).batches) whole kept.4;
-      now = leaves_after (found_of old) m (unsynced_of old) ops outcomes failed_at (durability_of e) way c.crash_is_said_of_files.ensures (folders_of old) (directory_of e) (subst (λ (f : Folders). LeavesAllowed f (after_batches (found_of old) (base_of e)) (unsynced_of e) (directory_of e)) kept.2 kept.10.leaves);
       progress = subst (λ (f : Contents). IsDurableAfter failed_at m (unsynced_of old) ops outcomes (after_batches f (base_of e)) (unsynced_of e)) (sym (found_same e old kept.2 kept.3)) (durable_after (found_of old) m (unsynced_of old) ops outcomes failed_at (durability_of e) way);
     }
 
@@ -186,35 +188,22 @@ returns-clause-numbers g c =
     let old = c.args.engine.now in
     have_acted c.a_number_acts_once.ensures.once (contents_of old) (durable_of old) (unsynced_of old) c.args.ops.now c.loop-op.outcomes.items (after-append (found_of old) (base_of old) (unsynced_of old))
 
-pub returns-clause-any_moment : goal.returns-clause-any_moment
-returns-clause-any_moment g c =
+pub returns-clause-crash : goal.returns-clause-crash
+returns-clause-crash g c =
     let old = c.args.engine.now in
     let ops = c.args.ops.now in
-    let outcomes = c.loop-op.outcomes.items in
-    let folders = folders_of old in
-    let m = durable_of old in
-    let known = durable_groups_of old in
-    let first = progress_from (unsynced_of old) in
-    let steps = c.loop-op.invariant.6 in
-    let done = take c.loop-op.op-index ops in
-    let whole : done ≡ ops = take_all c.loop-op.op-index ops (omega (arith, c.loop-op-test.false)) in
-    let shown = steps_shown run_state_of (IsCall folders m known) (IsAllowedInside folders m) (λ p op outcome a b call. call.step.allowed) m has_failed (λ (s : RunState). s.failed) (λ e. refl) first old done outcomes c.loop-op.failed_at c.loop-op.engine steps in (
-      shown.states,
-      subst (λ (l : List Op). Leads (IsAllowedInside folders m) m first (run_state_of old) l outcomes shown.states) whole shown.each,
-      shown.ends,
-    )
+    let whole : take c.loop-op.op-index ops ≡ ops = take_all c.loop-op.op-index ops (omega (arith, c.loop-op-test.false)) in
+    subst (λ (l : List Op). AreSafe l c.loop-op.outcomes.items old c.loop-op.engine) whole
+    (are_safe old c.loop-op.engine (take c.loop-op.op-index ops) c.loop-op.outcomes.items c.loop-op.failed_at c.crashes_come_back.ensures c.an_engine_recovers_what_it_keeps.ensures.crash c.loop-op.invariant.6)
 
-pub returns-clause-left : goal.returns-clause-left
-returns-clause-left g c =
-    let e = c.loop-op.engine in
-    let kept = c.loop-op.invariant in
-    c.crash_is_said_of_files.ensures 0 (folders_of e) (durable_of e) (unsynced_of e) (directory_of e)
-    (subst (λ (f : Contents). LeavesAllowed (folders_of e) (after_batches f (base_of e)) (unsynced_of e) (directory_of e)) (sym (found_same e c.args.engine.now kept.2 kept.3)) kept.10.leaves)
-
-pub returns-in_err-outcomes-clause-left : goal.returns-in_err-outcomes-clause-left
-returns-in_err-outcomes-clause-left g c =
-    let e = c.args.engine.now in
-    c.crash_is_said_of_files.ensures 0 (folders_of e) (durable_of e) (unsynced_of e) (directory_of e) c.an_engine_recovers_what_it_keeps.ensures.crash
+pub returns-clause-once : goal.returns-clause-once
+returns-clause-once g c =
+    let old = c.args.engine.now in
+    let ops = c.args.ops.now in
+    let whole : take c.loop-op.op-index ops ≡ ops = take_all c.loop-op.op-index ops (omega (arith, c.loop-op-test.false)) in
+    subst (λ (l : List Op). AreOnce l c.loop-op.outcomes.items old c.loop-op.engine) whole
+    (are_once c.a_number_acts_once.ensures.once (take c.loop-op.op-index ops) c.loop-op.outcomes.items old c.loop-op.engine
+    (are_safe old c.loop-op.engine (take c.loop-op.op-index ops) c.loop-op.outcomes.items c.loop-op.failed_at c.crashes_come_back.ensures c.an_engine_recovers_what_it_keeps.ensures.crash c.loop-op.invariant.6))
 
 pub returns-clause-passed : goal.returns-clause-passed
 returns-clause-passed g c = c.loop-op.invariant.11

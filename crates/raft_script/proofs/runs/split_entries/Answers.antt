@@ -1,6 +1,6 @@
 use Rattle.std.proofs.Common.{◌≡◌, ◌∙◌, ap, map, refl, rules}
 use Rattle.std.proofs.lemmas.List.{take_all}
-use Rattle.raft_script.specs.Entry.{indexed_bytes}
+use Rattle.raft_script.specs.Batches.{indexed_bytes}
 use Rattle.raft_script.proofs.EntryLemmas.{same_more, split_more}
 use Rattle.raft_script.proofs.runs.split_entries.Goals as goal
 

@@ -2,7 +2,7 @@ use Rattle.std.proofs.Common.{◌≡◌, ℕ, length, map, take}
 use Rattle.std.specs.Prelude.{Vec}
 use Rattle.std.specs.declared.alloc.Global.{Global}
 use Rattle.raft_records.specs.Batch.{raw_entries}
-use Rattle.raft_script.specs.Entry.{indexed_bytes}
+use Rattle.raft_script.specs.Batches.{indexed_bytes}
 use Rattle.raft_script.proofs.runs.split_entries.Given as goal
 
 abbrev pub invariant-loop-entry : goal.invariant-loop-entry

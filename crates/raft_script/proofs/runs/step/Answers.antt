@@ -1,5 +1,5 @@
 use Rattle.std.proofs.lemmas.Result.{on_ok_weaker}
-use Rattle.std.proofs.Common.{◌≡◌, ◌∙◌, ◌∷◌, [], true, List, Option, Some, ap, map, inl, inr, refl, rules, subst, sym}
+use Rattle.std.proofs.Common.{◌≡◌, ◌∙◌, ◌∷◌, [], true, List, Option, Some, ap, map, refl, rules, subst, sym}
 use Rattle.std.specs.Prelude.{unwrap_or}
 use Rattle.raft_records.specs.Contents.{Contents, first_index_of, last_index_of}
 use Rattle.raft_records.specs.Item.{Batch}
@@ -9,7 +9,7 @@ use Rattle.raft_script.proofs.PurgesLemmas.{purged_append, purged_expired, purge
 use Rattle.raft_script.specs.Batches.{Part, batch_of_acts, batches_of_parts, items_of_acts}
 use Rattle.raft_script.specs.Durability.{Does}
 use Rattle.raft_script.specs.Run.{IsUnbuilt, IsUnbuiltGroup}
-use Rattle.raft_held.specs.Crash.{pending_of}
+use Rattle.raft_crash_laws.specs.Crash.{pending_of}
 use Rattle.raft_log_engine.specs.Cause.{plain_part}
 use Rattle.raft_log_engine.specs.Group.{chosen_of, items_of}
 use Rattle.raft_log_engine.specs.Once.{IsWriteOnce}

@@ -1,6 +1,7 @@
 use Rattle.std.proofs.Common.{◌≡◌, ℕ, ◌+◌, ◌-◌, ◌∙◌, ap, arith, map}
 use Rattle.std.specs.List.{range_with_len}
-use Rattle.raft_script.specs.Entry.{indexed_bytes, text_entries, text_entry}
+use Rattle.raft_script.specs.Entry.{text_entries, text_entry}
+use Rattle.raft_script.specs.Batches.{indexed_bytes}
 use Rattle.raft_script.proofs.EntryLemmas.{entries_more}
 use Rattle.raft_script.proofs.text_entry.entries_between.Goals as goal
 use Rattle.raft_script.proofs.text_entry.entries_between.Goals.{else-loop-index-test, then-loop-index-test+in_ok-text+in_ok-push+else-index-last}

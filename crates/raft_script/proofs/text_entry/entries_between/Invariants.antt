@@ -1,6 +1,7 @@
 use Rattle.std.proofs.Common.{◌≡◌, ◌≤◌, ◌+◌, ◌-◌, map}
 use Rattle.std.specs.List.{range_with_len}
-use Rattle.raft_script.specs.Entry.{indexed_bytes, text_entry}
+use Rattle.raft_script.specs.Entry.{text_entry}
+use Rattle.raft_script.specs.Batches.{indexed_bytes}
 use Rattle.raft_script.proofs.text_entry.entries_between.Given as goal
 
 abbrev pub invariant-loop-index : goal.invariant-loop-index

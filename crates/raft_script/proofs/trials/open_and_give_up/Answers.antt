@@ -1,4 +1,5 @@
-use Rattle.std.proofs.Common.{ap, arith, inl, inr, subst, sym}
+use Rattle.std.proofs.Common.{ap, arith, inl, inr, refl, subst, sym}
+use Rattle.std.specs.Prelude.{Ok, Err}
 use Rattle.std.proofs.lemmas.Result.{IfErr-weaker, IfOk-weaker}
 use Rattle.raft_env.proofs.MomentsLemmas.{moves_then_reads}
 use Rattle.raft_env.specs.Refusal.{Refusals, RoseBy}
@@ -8,7 +9,8 @@ use Rattle.raft_once.specs.Numbers.{shown}
 use Rattle.raft_records.specs.Contents.{Contents}
 use Rattle.raft_config.proofs.ConfigLemmas.{no_contradiction}
 use Rattle.raft_config.specs.Folders.{folders_in}
-use Rattle.raft_script.proofs.TrialLemmas.{opening_rose, read_fails, read_rose, refused_inside, refused_outside}
+use Rattle.raft_script.proofs.CrashLemmas.{refused_outside}
+use Rattle.raft_script.proofs.TrialLemmas.{opening_rose, read_fails, read_rose, refused_inside}
 use Rattle.raft_script.proofs.trials.open_and_give_up.Goals as goal
 
 pub returns-in-Ok-clause-value : goal.returns-in-Ok-clause-value
@@ -58,3 +60,9 @@ returns-in-Err-clause-any_moment g c = record {
   any_moment = c.in-Err.ensures.opened.any_moment;
   counted = opening_rose c.args.config (g.F.FileSystem.directory c.args.files) (g.F.FileSystem.refusals_of c.args.files) (g.F.FileSystem.refusals_of c.in-Err.refused.file_system) c.in-Err.refused.fault c.in-Err.ensures.refused;
 }
+
+pub returns-in-Ok-clause-opens : goal.returns-in-Ok-clause-opens
+returns-in-Ok-clause-opens g c = record { answer = Ok c.in-Ok.engine; opens = c.in-Ok.ensures; shows = tt }
+
+pub returns-in-Err-clause-opens : goal.returns-in-Err-clause-opens
+returns-in-Err-clause-opens g c = record { answer = Err c.in-Err.refused; opens = c.in-Err.ensures; shows = refl }

@@ -1,28 +1,23 @@
-use Rattle.std.proofs.Common.{◌≡◌, ◌∷◌, ◌||◌, ℕ, Option, false, is_some, List, ◌++◌, map, ap, append_assoc, arith, ◌∙◌, Bool, [], inl, inr, refl, sym, subst}
+use Rattle.std.proofs.Common.{◌≡◌, ◌∷◌, false, List, ◌++◌, map, ap, append_assoc, arith, ◌∙◌, Bool, [], inl, inr, refl, sym, subst}
 use Rattle.std.proofs.lemmas.Result.{err_from_is_err_and}
-use Rattle.raft_records.specs.Contents.{Contents, after_batches}
+use Rattle.raft_records.specs.Contents.{Contents}
 use Rattle.raft_records.specs.Item.{Batch}
 use Rattle.raft_env.specs.Directory.{Directory}
 use Rattle.raft_env.specs.Refusal.{Refusals}
 use Rattle.raft_config.specs.Folders.{Folders, folders_in}
-use Rattle.raft_log_engine.specs.Engine.{base_of, begun_of, contents_of, directory_of, durable_of, folders_of, found_groups_of, found_of, has_failed, unsynced_of}
-use Rattle.raft_held.specs.Contents.{contents_at, found_contents, found_groups, known_at}
+use Rattle.raft_log_engine.specs.Engine.{begun_of, contents_of, directory_of, durable_of, folders_of, found_groups_of, has_failed, moments_of, unsynced_of}
+use Rattle.raft_crash_laws.specs.Contents.{contents_at, found_groups, known_at, known_from}
 use Rattle.std.specs.List.{AllByRecursion}
 use Rattle.raft_base.specs.declared.pipe_log.LogQueue.{LogQueue}
 use Rattle.raft_pipes.specs.Completed.{ReadsCompletedRecordsIfSimpleOf}
 use Rattle.raft_pipes.specs.Folder.{AreClear}
-use Rattle.raft_held.specs.Queues.{AreSingleIn}
+use Rattle.raft_crash_laws.specs.Queues.{AreSingleIn}
 use Rattle.raft_script.specs.Trial.{LeavesDetectable, LeavesSound}
-use Rattle.raft_script.specs.Durability.{IsCall, IsStep, LeavesAllowedAfter, Steps, durable_groups_of}
+use Rattle.raft_script.specs.Durability.{durable_groups_of}
 use Rattle.raft_script.specs.Numbers.{HaveActed}
-use Rattle.raft_script.specs.Headline.{RunState, progress_from, run_state_of}
-use Rattle.raft_script.proofs.StepsLemmas.{failure_place, leads_moments, never_failed, nothing_known, steps_shown}
-use Rattle.raft_script.proofs.TrialLemmas.{opened_after, refused_after}
+use Rattle.raft_script.specs.Headline.{progress_from}
+use Rattle.raft_script.proofs.StepsLemmas.{failure_place, leads_moments, never_failed}
 use Rattle.raft_script.proofs.trials.run_over.Goals as goal
-
--- a state has failed
-abbrev fails : RunState → Bool
-fails s = s.failed
 
 pub returns-in_ok-ran-in-Ok-clause-ok : goal.returns-in_ok-ran-in-Ok-clause-ok
 returns-in_ok-ran-in-Ok-clause-ok g c =
@@ -33,32 +28,26 @@ returns-in_ok-ran-in-Ok-clause-ok g c =
     let opened = c.in-Ok.ensures.opened in
     let after = c.run_watched.new.engine in
     let groups : found_groups_of e ≡ known_at dir files = ap (λ (f : Folders). found_groups f (begun_of e)) opened.ok.folders_are ∙ ap (found_groups dir) opened.value in
-    let known : durable_groups_of e ≡ known_at dir files = nothing_known (found_groups_of e) (base_of e) (unsynced_of e) opened.ok.none ∙ groups in
     let ops = c.args.ops.now in
-    let ran = c.in_ok-ran-in-Ok.ran in
-    let outcomes = ran.outcomes.items in
+    let outcomes = c.in_ok-ran-in-Ok.ran.outcomes.items in
     let run = c.in_ok-ran-in-Ok.ensures in
     let durable : durable_of e ≡ m = opened.ok.synced.0 ∙ opened.contents in
-    let left = opened_after (folders_of e) dir m (durable_of e) (unsynced_of e) ops outcomes ran.failed_at (directory_of after) opened.ok.folders_are durable opened.ok.synced.1 run.ok.now in
-    let shown = steps_shown run_state_of (IsCall (folders_of e) (durable_of e) (durable_groups_of e)) (IsStep (folders_of e) (durable_of e) (durable_groups_of e)) (λ p op outcome a b call. call.step) (durable_of e) has_failed fails (λ a. refl) (progress_from (unsynced_of e)) e ops outcomes ran.failed_at after run.ok.steps in
-    let steps : Steps fails (IsStep dir m (known_at dir files)) m (progress_from []) (run_state_of e) ops outcomes ran.failed_at (run_state_of after) =
-    subst (λ (f : Folders). Steps fails (IsStep f m (known_at dir files)) m (progress_from []) (run_state_of e) ops outcomes ran.failed_at (run_state_of after)) opened.ok.folders_are
-    (subst (λ (x : Contents). Steps fails (IsStep (folders_of e) x (known_at dir files)) x (progress_from []) (run_state_of e) ops outcomes ran.failed_at (run_state_of after)) durable
-    (subst (λ (k : ℕ → Bool). Steps fails (IsStep (folders_of e) (durable_of e) k) (durable_of e) (progress_from []) (run_state_of e) ops outcomes ran.failed_at (run_state_of after)) known
-    (subst (λ (l : List Batch). Steps fails (IsStep (folders_of e) (durable_of e) (durable_groups_of e)) (durable_of e) (progress_from l) (run_state_of e) ops outcomes ran.failed_at (run_state_of after)) opened.ok.synced.1 shown))) in
     λ _. record {
       answered = inl (record {
         opened = refl;
-        before = run_state_of e;
-        stands = opened.ok.stands;
-        now = run_state_of after;
-        moments = sym c.give_up.ensures.unchanged.1;
-        steps = steps;
+        begun = e;
+        opens = c.in-Ok.ensures;
+        holds = opened.contents;
+        knows = ap (λ (l : List Batch). known_from (found_groups_of e) l) opened.ok.none ∙ groups;
+        ended = after;
+        runs = run.ok;
+        once = run.once;
         numbers = subst (λ (x : Contents). HaveActed x m [] ops outcomes) opened.contents
             (subst (λ (x : Contents). HaveActed (contents_of e) x [] ops outcomes) durable (subst (λ (l : List Batch). HaveActed (contents_of e) (durable_of e) l ops outcomes) opened.ok.synced.1 run.numbers));
+        files = c.give_up.ensures.unchanged.0;
+        moments = c.give_up.ensures.unchanged.1;
         counted = (let rose = run.ok.counted in let same = c.give_up.ensures.unchanged.2 in omega (arith, rose, ap (λ (r : Refusals). r.storage) same));
       });
-      after = subst (λ (n : Directory). LeavesAllowedAfter ran.failed_at dir m [] ops outcomes n) (sym c.give_up.ensures.unchanged.0) left;
       clear = subst (λ (p : Folders). AreClear p (g.F.FileSystem.directory c.give_up.result)) (run.folder ∙ opened.ok.folders_are)
           (c.crash_leaves_contents.ensures.clear (folders_of after) (durable_of after) (unsynced_of after) (g.F.FileSystem.directory c.give_up.result) c.give_up.ensures.crash);
       single = subst (λ (p : Folders). AreSingleIn p (g.F.FileSystem.directory c.give_up.result)) (run.folder ∙ opened.ok.folders_are)
@@ -86,8 +75,8 @@ returns-in-Err-clause-ok g c =
         none = c.new.ensures.items;
         stands = refl;
         files_keep = kept;
+        back = c.crashes_come_back.ensures 0 dir m [] files (c.crash_leaves_contents.ensures.left dir m [] files kept);
       });
-      after = rw c.new.ensures.items (refused_after dir m c.args.ops.now files (c.crash_is_said_of_files.ensures 0 dir m [] files (c.crash_leaves_contents.ensures.left dir m [] files kept)));
       clear = c.crash_leaves_contents.ensures.clear dir m [] files kept;
       single = c.crash_leaves_contents.ensures.single dir m [] files kept;
     }
@@ -117,10 +106,10 @@ returns-in_ok-ran-in-Ok-clause-any_moment g c =
     let e = c.in-Ok.engine in
     let before = g.F.FileSystem.moments c.args.files in
     let opened = c.in-Ok.ensures.opened.any_moment.throughout in
-    let allowed = c.in_ok-ran-in-Ok.ensures.any_moment in
-    let run = leads_moments (folders_of e) (durable_of e) (progress_from (unsynced_of e)) (run_state_of e) c.args.ops.now c.in_ok-ran-in-Ok.ran.outcomes.items allowed.0 allowed.1 in (
+    let steps = c.in_ok-ran-in-Ok.ensures.ok.steps in
+    let run = leads_moments (folders_of e) (durable_of e) (durable_groups_of e) (progress_from (unsynced_of e)) e c.args.ops.now c.in_ok-ran-in-Ok.ran.outcomes.items steps.states steps.each in (
       run.0 ++ opened.added,
-      c.give_up.ensures.unchanged.1 ∙ sym (ap (λ (s : RunState). s.moments) allowed.2) ∙ run.1 ∙ ap (λ (l : List Directory). run.0 ++ l) opened.is ∙ sym (append_assoc run.0 opened.added before),
+      c.give_up.ensures.unchanged.1 ∙ sym (ap moments_of steps.ends) ∙ run.1 ∙ ap (λ (l : List Directory). run.0 ++ l) opened.is ∙ sym (append_assoc run.0 opened.added before),
     )
 
 pub returns-in-Err-clause-any_moment : goal.returns-in-Err-clause-any_moment

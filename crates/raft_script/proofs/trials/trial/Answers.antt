@@ -1,5 +1,5 @@
 use denote.Param.Send.{sendable}
-use Rattle.std.proofs.Common.{refl, rules}
+use Rattle.std.proofs.Common.{refl}
 use Rattle.raft_memory.proofs.Sent.{memory_send, memory_sync}
 use Rattle.std.proofs.lemmas.Result.{err_from_is_err_and}
 use Rattle.raft_config.specs.Folders.{folders_in}
@@ -27,10 +27,10 @@ returns-clause-value c =
       crash = crash;
       none = refl;
       last = c.open_and_give_up-opened.result.1;
-      opening = opening_shown (AreDetectablyLeft (folders_in config) crash.last choices) (Unit {0}) config c.in_ok-again.again left c.open_and_give_up-opened.result.1 c.open_and_give_up-opened.result.0 c.in_ok-again.ensures.value
-          (λ free before detectable. crash_opens config ops c.args.stop choices ran left crash free detectable)
-          (λ free before. (crash_clear config ops c.args.stop choices ran left crash free, crash_single config ops c.args.stop choices ran left crash free))
-          opening.any_moment opening.value opening.refused opening.cause;
+      opening = opening_shown _ (AreDetectablyLeft (folders_in config) crash.last choices) (Unit {0}) config c.in_ok-again.again left c.open_and_give_up-opened.result.1 c.open_and_give_up-opened.result.0 c.in_ok-again.ensures.value
+          (λ free before detectable. crash_opens _ config ops c.args.stop choices ran left crash refl free detectable)
+          (λ free before. (crash_clear _ config ops c.args.stop choices ran left crash refl free, crash_single _ config ops c.args.stop choices ran left crash refl free))
+          opening.any_moment opening.value opening.refused opening.cause opening.opens;
     }
 
 pub returns-in_err-ran-clause-cause : goal.returns-in_err-ran-clause-cause

@@ -1,18 +1,18 @@
 use denote.Param.Send.{sendable}
-use Rattle.std.proofs.Common.{◌∙◌, ◌⊎◌, ⊎_elim, [], inl, inr, refl, rules, subst, sym}
+use Rattle.std.proofs.Common.{◌∙◌, ⊎_elim, [], inl, inr, refl, subst, sym}
 use Rattle.std.proofs.lemmas.Result.{err_from_is_err_and}
 use Rattle.raft_memory.proofs.Sent.{memory_send, memory_sync}
 use Rattle.raft_config.specs.Folders.{Folders, folders_in}
 use Rattle.raft_env.specs.Directory.{Directory}
-use Rattle.raft_held.specs.Contents.{contents_at}
-use Rattle.raft_held.specs.Crash.{IsLeftFrom, RecoversContents, StillRecovers, contents_after_crash}
-use Rattle.raft_held.specs.Queues.{AreSingleIn}
+use Rattle.raft_crash_laws.specs.Contents.{contents_at}
+use Rattle.raft_crash_laws.specs.Crash.{IsLeftFrom, RecoversContents, StillRecovers, contents_after_crash}
+use Rattle.raft_crash_laws.specs.Queues.{AreSingleIn}
 use Rattle.raft_memory.specs.Choice.{left_by}
 use Rattle.raft_memory.specs.Memory.{memory_directory}
 use Rattle.raft_pipes.specs.Folder.{AreClear}
 use Rattle.raft_script.proofs.TrialLemmas.{choices_refused, clear_restarted, reopens_same, same_folders, single_restarted}
-use Rattle.raft_script.proofs.TrialOpeningLemmas.{allowed_alone, crash_clear, crash_opens, crash_single, opening_shown}
-use Rattle.raft_script.specs.Headline.{OpensTolerantly}
+use Rattle.raft_script.proofs.CrashLemmas.{allowed_alone}
+use Rattle.raft_script.proofs.TrialOpeningLemmas.{OpensTolerantly, crash_clear, crash_opens, crash_single, opening_shown}
 use Rattle.raft_script.specs.Trial.{AreDetectablyLeft, HaveNoLogPath, Ran}
 use Rattle.raft_script.proofs.trials.trial_twice.Goals as goal
 
@@ -67,23 +67,23 @@ returns-clause-value c =
         image = c.open_and_give_up-image.result.0;
         is = refl;
         last = last;
-        opening = opening_shown Q (Unit {0}) config c.in_ok-second.second begun last c.open_and_give_up-image.result.0 c.in_ok-second.ensures.value
-            (λ free before q. subst (OpensTolerantly dir) (sym begins) (crash_opens config ops c.args.stop choices ran first crash free q))
-            (λ free before. (subst (AreClear dir) (sym begins) (crash_clear config ops c.args.stop choices ran first crash free), subst (AreSingleIn dir) (sym begins) (crash_single config ops c.args.stop choices ran first crash free)))
-            opened.any_moment opened.value opened.refused opened.cause;
+        opening = opening_shown _ Q (Unit {0}) config c.in_ok-second.second begun last c.open_and_give_up-image.result.0 c.in_ok-second.ensures.value
+            (λ free before q. subst (OpensTolerantly dir) (sym begins) (crash_opens _ config ops c.args.stop choices ran first crash refl free q))
+            (λ free before. (subst (AreClear dir) (sym begins) (crash_clear _ config ops c.args.stop choices ran first crash refl free), subst (AreSingleIn dir) (sym begins) (crash_single _ config ops c.args.stop choices ran first crash refl free)))
+            opened.any_moment opened.value opened.refused opened.cause opened.opens;
         leaves = leaves;
         restarted = restarted;
         fresh = (c.in_ok-left.ensures.others.1, c.in_ok-left.ensures.others.0, c.in_ok-left.ensures.counts);
         same = λ free q p. law.found dir files after d restarted ∙ allowed_alone m (contents_after_crash dir files d) ((left_as free q).found p);
       };
       last = c.open_and_give_up-opened.result.1;
-      opening = opening_shown (AreDetectablyLeft dir last more) Q config c.in_ok-last.last left c.open_and_give_up-opened.result.1 c.open_and_give_up-opened.result.0 c.in_ok-last.ensures.value
+      opening = opening_shown _ (AreDetectablyLeft dir last more) Q config c.in_ok-last.last left c.open_and_give_up-opened.result.1 c.open_and_give_up-opened.result.0 c.in_ok-last.ensures.value
           (λ free q p. record {
             clear = (stands free q).0;
             single = (stands free q).1;
             openable = law.opens dir files after d restarted ((left_as free q).sound p);
           })
-          stands c.open_and_give_up-opened.ensures.any_moment c.open_and_give_up-opened.ensures.value c.open_and_give_up-opened.ensures.refused c.open_and_give_up-opened.ensures.cause;
+          stands c.open_and_give_up-opened.ensures.any_moment c.open_and_give_up-opened.ensures.value c.open_and_give_up-opened.ensures.refused c.open_and_give_up-opened.ensures.cause c.open_and_give_up-opened.ensures.opens;
     }
 
 pub returns-in_err-left-clause-cause : goal.returns-in_err-left-clause-cause
