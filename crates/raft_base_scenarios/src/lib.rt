@@ -1,4 +1,4 @@
-//! Tests of numbers, batches, tables, and the names and readings of log files. Each is one loop over a table of cases.
+//! Tests of numbers, batches, tables, files, settings and the rules of purges. Each is one loop over a table of cases.
 #![tactic(auto)]
 
 #[cfg(test)]
@@ -6,21 +6,53 @@ mod asks;
 #[cfg(test)]
 mod batches;
 #[cfg(test)]
+mod block_sizes;
+#[cfg(test)]
+mod c_batches;
+#[cfg(test)]
+mod c_parts;
+#[cfg(test)]
 mod changes;
 #[cfg(test)]
 mod counts;
 #[cfg(test)]
+mod encoded;
+#[cfg(test)]
 mod faults;
+#[cfg(test)]
+mod listeners;
+#[cfg(test)]
+mod log_files;
+#[cfg(test)]
+mod memory_files;
 #[cfg(test)]
 mod names;
 #[cfg(test)]
 mod numbers;
 #[cfg(test)]
+mod once_batches;
+#[cfg(test)]
+mod once_pairs;
+#[cfg(test)]
 mod openings;
+#[cfg(test)]
+mod purge_hook;
+#[cfg(test)]
+mod purge_plans;
+#[cfg(test)]
+mod purge_rules;
 #[cfg(test)]
 mod reading;
 #[cfg(test)]
+mod record_rows;
+#[cfg(test)]
+mod records;
+#[cfg(test)]
+mod refused_rows;
+#[cfg(test)]
 mod settings;
+#[cfg(test)]
+mod settings_text;
 #[cfg(test)]
 mod sizes;
 #[cfg(test)]

@@ -7,7 +7,7 @@ use Rattle.raft_base.specs.declared.errors.Fault.TheVariants as fault
 use Rattle.raft_env.specs.Moments.{MovesBy}
 use Rattle.raft_env.specs.Refusal.{FailsCountedAt}
 use Rattle.raft_env.specs.declared.env.FileSystem.{Ghosts}
-use Rattle.raft_held.specs.Crash.{LeavesAllowed, RecoversContents, pending_of}
+use Rattle.raft_crash_laws.specs.Crash.{LeavesAllowed, RecoversContents, pending_of}
 use Rattle.raft_log_engine.specs.Advance.{Advances, ChangesOnlyItsLog, StaysWithin, state_of}
 use Rattle.raft_log_engine.specs.Cause.{IsWriteRefusal, plain_part}
 use Rattle.raft_log_engine.specs.Durability.{HasOnlyRead}

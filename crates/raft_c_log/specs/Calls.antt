@@ -3,7 +3,7 @@ use Rattle.std.specs.Borrow.{Bor}
 use Rattle.std.specs.Option.{option_copied}
 use Rattle.std.specs.Prelude.{◌≡◌, ◌+◌, ℕ, Bool, true, false, List, [], length, Option, Some, None, Ok, drop, option_map, zip}
 use Rattle.raft_env.specs.declared.env.FileSystem.{Ghosts}
-use Rattle.raft_held.specs.Crash.{pending_of, written_batch}
+use Rattle.raft_crash_laws.specs.Crash.{pending_of, written_batch}
 use Rattle.raft_pipes.specs.PipeState.{PipeState}
 use Rattle.raft_purge.specs.Scope.{HasRewritten}
 use Rattle.raft_purge.specs.declared.append_queue.AppendScope.{AppendScope}

@@ -5,7 +5,7 @@ use Rattle.raft_base.specs.declared.errors.Fault.{Fault}
 use Rattle.raft_env.specs.Moments.{MovesBy}
 use Rattle.raft_env.specs.Refusal.{FailsCountedAt}
 use Rattle.raft_env.specs.declared.env.FileSystem.{Ghosts}
-use Rattle.raft_held.specs.Crash.{LeavesAllowed, RecoversContents}
+use Rattle.raft_crash_laws.specs.Crash.{LeavesAllowed, RecoversContents}
 use Rattle.raft_pipes.specs.Folder.{LeavesOtherFiles}
 use Rattle.raft_pipes.specs.Queue.{NamesLog}
 use Rattle.raft_log_engine.specs.Engine.{contents_of, directory_of, durable_of, folders_of, has_failed, is_known_in, refusals_of, unsynced_of}

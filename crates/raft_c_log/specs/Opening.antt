@@ -9,9 +9,9 @@ use Rattle.raft_env.specs.Directory.{Directory}
 use Rattle.raft_env.specs.Moments.{HoldsThroughout}
 use Rattle.raft_env.specs.Refusal.{Refusals}
 use Rattle.raft_env.specs.declared.env.FileSystem.{Ghosts}
-use Rattle.raft_held.specs.Contents.{contents_at}
-use Rattle.raft_held.specs.Crash.{StillRecovers}
-use Rattle.raft_held.specs.Queues.{IsOpeningRefusal}
+use Rattle.raft_crash_laws.specs.Contents.{contents_at}
+use Rattle.raft_crash_laws.specs.Crash.{StillRecovers}
+use Rattle.raft_crash_laws.specs.Queues.{IsOpeningRefusal}
 use Rattle.raft_log_engine.specs.Engine.{contents_of}
 use Rattle.raft_log_engine.specs.Opening.{IsNewIn, Opens}
 use Rattle.raft_log_engine.specs.declared.engine.Engine.{Engine}

@@ -5,7 +5,7 @@ use Rattle.raft_base.specs.declared.errors.Fault.{Fault}
 use Rattle.raft_base.specs.declared.errors.Fault.TheVariants as fault
 use Rattle.raft_env.specs.Refusal.{FailsAt, FailsCountedAt}
 use Rattle.raft_env.specs.declared.env.FileSystem.{Ghosts}
-use Rattle.raft_held.specs.Crash.{LeavesAllowed, pending_of}
+use Rattle.raft_crash_laws.specs.Crash.{LeavesAllowed, pending_of}
 use Rattle.raft_pipes.specs.Folder.{LeavesOtherFiles}
 use Rattle.raft_pipes.specs.Queue.{NamesLog}
 use Rattle.raft_records.specs.Contents.{Contents}

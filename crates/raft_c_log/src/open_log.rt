@@ -77,7 +77,7 @@ impl<F: FileSystem> OpenLog<F> {
     ghost use Rattle.raft_log_engine.specs.Durability.{HasOnlyRead};
     ghost use Rattle.raft_log_engine.specs.Engine.{contents_of, has_failed, is_known_in};
     ghost use Rattle.raft_log_engine.specs.Reads.{compact_batch, entry_of};
-    ghost use Rattle.raft_held.specs.Crash.{pending_of};
+    ghost use Rattle.raft_crash_laws.specs.Crash.{pending_of};
     ghost use Rattle.raft_once.specs.Numbers.{shown};
     ghost use Rattle.raft_c_log.specs.Calls.{HasAnswered, HasChanged, HasPurgedStale, HasPurgedUpTo, HasRewrittenAppend, HasRewrittenRewrite, IsCompacted, IsFetchAnswer, IsGroupsAnswer, IsScanAnswer, IsSpanAnswer, IsSynced, IsWrittenBy, IsWrittenOnceBy, answered};
     ghost use Rattle.raft_c_log.specs.Outcomes.{HasEnded, IsReply};

@@ -13,11 +13,11 @@ use Rattle.raft_env.specs.Directory.{Directory}
 use Rattle.raft_env.specs.Moments.{OnlyReads}
 use Rattle.raft_env.specs.Refusal.{NoFewer}
 use Rattle.raft_env.specs.declared.env.FileSystem.{Ghosts}
-use Rattle.raft_held.specs.Queues.{IsOpeningRefusal}
+use Rattle.raft_crash_laws.specs.Queues.{IsOpeningRefusal}
 use Rattle.raft_opening.proofs.OpenLemmas.{left_alone}
 use Rattle.raft_opening.specs.Folder.{LeavesAllButOpened}
 use Rattle.raft_opening.specs.Queue.{IsUntouched}
-use Rattle.raft_queues.specs.Builder.{CanBeOpenedIn}
+use Rattle.raft_builder.specs.Builder.{CanBeOpenedIn}
 use Rattle.raft_queues.proofs.SameFilesLemmas.{readable_same}
 use Rattle.raft_log_engine.specs.Engine.{directory_of, moments_of, refusals_of}
 use Rattle.raft_log_engine.specs.Opening.{AnswersOpening, Opens, OpensWith}

@@ -12,8 +12,8 @@ use Rattle.raft_records.specs.Places.{Blocks}
 use Rattle.raft_tables.specs.Known.{known_after}
 use Rattle.raft_tables.specs.Tables.{Applies, tables_of}
 use Rattle.raft_tables.specs.declared.memtables.MemTables.{MemTables}
-use Rattle.raft_held.specs.Contents.{StandFor, known_from}
-use Rattle.raft_held.specs.Queues.{AreByQueue, HasBothBlocks}
+use Rattle.raft_crash_laws.specs.Contents.{StandFor, known_from}
+use Rattle.raft_crash_laws.specs.Queues.{AreByQueue, HasBothBlocks}
 use Rattle.raft_queues.proofs.DualLemmas.{both_have_blocks}
 
 -- tables that took a batch hold it too

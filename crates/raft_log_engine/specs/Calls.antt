@@ -9,7 +9,7 @@ use Rattle.raft_records.specs.Item.{Batch}
 use Rattle.raft_env.specs.declared.env.FileSystem.{Ghosts}
 use Rattle.raft_env.specs.Refusal.{FailsCountedAt}
 use Rattle.raft_pipes.specs.Queue.{NamesLog}
-use Rattle.raft_held.specs.Crash.{pending_of, written_batch}
+use Rattle.raft_crash_laws.specs.Crash.{pending_of, written_batch}
 use Rattle.raft_log_engine.specs.Advance.{Advances, ChangesOnlyItsLog, LeavesRewrite, StaysWithin, state_of}
 use Rattle.raft_log_engine.specs.Cause.{HasNoneInFlight, IsAppendRefusal, IsUnwritable, IsWriteRefusal, StandsUnless, plain_parts}
 use Rattle.raft_log_engine.specs.Durability.{ChangesNoFile, ChangesNothing, HasRefused, HasWritten, Progresses, StaysFailed, accepted_by, covered_by, durability_of}

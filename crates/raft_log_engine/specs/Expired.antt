@@ -6,7 +6,7 @@ use Rattle.raft_env.specs.declared.env.FileSystem.{Ghosts}
 use Rattle.raft_base.specs.declared.pipe_log.LogQueue.TheVariants.{Append}
 use Rattle.raft_listeners.specs.Heard.{HasAnswered, Heard}
 use Rattle.raft_pipes.specs.PipeState.{last_seq}
-use Rattle.raft_purge.specs.Apart.{KeepsOthers}
+use Rattle.raft_rewrite.specs.Apart.{KeepsOthers}
 use Rattle.raft_purge.specs.Expired.{HasPurgedAppend, first_renewed}
 use Rattle.raft_purge_rules.specs.Choosing.{AreDecisions, groups_by}
 use Rattle.raft_purge_rules.specs.Plan.{rounds_after}

@@ -16,17 +16,18 @@ use Rattle.raft_tables.specs.FirstFiles.{first_of_tables}
 use Rattle.raft_tables.specs.GroupIds.{ids_bound}
 use Rattle.raft_tables.specs.declared.memtables.MemTables.{MemTables}
 use Rattle.raft_tables.specs.declared.rewritten.GroupsMet.{GroupsMet}
-use Rattle.raft_purge.specs.Apart.{KeepsOthers}
-use Rattle.raft_purge.specs.Dropping.{HasDroppedOld, HasDroppedSome}
+use Rattle.raft_rewrite.specs.Apart.{KeepsOthers}
+use Rattle.raft_stale.specs.Dropping.{HasDroppedOld, HasDroppedSome}
 use Rattle.raft_purge.specs.Expired.{HasDroppedExpired, IsIdle}
-use Rattle.raft_purge.specs.Faults.{IsByChange, IsPurgeRefusal}
-use Rattle.raft_purge.specs.OpenGroup.{EndsOpen, HasNoId, IsAtomicRefusal}
-use Rattle.raft_purge.specs.Emptied.{MovesOnly}
-use Rattle.raft_purge.specs.Scope.{HasEmptied, HasLostFront, HasRewritten, watermark_in}
+use Rattle.raft_purge_steps.specs.Faults.{IsByChange, IsPurgeRefusal}
+use Rattle.raft_rewrite.specs.OpenGroup.{EndsOpen, HasNoId, IsAtomicRefusal}
+use Rattle.raft_rewrite.specs.Emptied.{MovesOnly}
+use Rattle.raft_purge.specs.Scope.{HasEmptied, HasRewritten, watermark_in}
+use Rattle.raft_stale.specs.Scope.{HasLostFront}
 use Rattle.raft_tables.specs.Tables.{Tables}
-use Rattle.raft_purge.specs.Steps.{IsLog, LogState, LogValue}
-use Rattle.raft_purge.specs.Unfit.{IsUnfit}
-use Rattle.raft_purge.specs.declared.fault.StepFault.{StepFault}
+use Rattle.raft_purge_steps.specs.Steps.{IsLog, LogState, LogValue}
+use Rattle.raft_purge_steps.specs.Unfit.{IsUnfit}
+use Rattle.raft_purge_steps.specs.declared.fault.StepFault.{StepFault}
 use Rattle.raft_log_engine.specs.Engine.{directory_of}
 use Rattle.raft_log_engine.specs.declared.engine.Engine.{Engine}
 use Rattle.raft_log_engine.specs.declared.engine.purge_kind.Purge.{Purge}

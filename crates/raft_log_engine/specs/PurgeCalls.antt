@@ -8,9 +8,9 @@ use Rattle.raft_base.specs.declared.pipe_log.LogQueue.{LogQueue}
 use Rattle.raft_env.specs.declared.env.FileSystem.{Ghosts}
 use Rattle.raft_listeners.specs.Heard.{HasHeard, Heard}
 use Rattle.raft_tables.specs.Tables.{tables_of}
-use Rattle.raft_held.specs.Crash.{LeavesAllowed}
-use Rattle.raft_purge.specs.Dropping.{KeepsFront}
-use Rattle.raft_purge.specs.Scope.{HasLostFront}
+use Rattle.raft_crash_laws.specs.Crash.{LeavesAllowed}
+use Rattle.raft_stale.specs.Dropping.{KeepsFront}
+use Rattle.raft_stale.specs.Scope.{HasLostFront}
 use Rattle.raft_log_engine.specs.Advance.{ChangesOnlyItsLog, StaysWithin, state_of}
 use Rattle.raft_log_engine.specs.Durability.{Progresses, durability_of}
 use Rattle.raft_log_engine.specs.Engine.{contents_of, directory_of, durable_of, folders_of, has_failed, queue_of, refusals_of, rewrite_queue_of, has_groups_together, spans_of, unsynced_of}

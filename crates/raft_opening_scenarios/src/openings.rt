@@ -10,13 +10,13 @@ use std::alloc::{AllocError, Global};
 use std::test::Fail;
 use std::thread::Threads;
 
-pub(crate) const TOLERANT: RecoveryMode = RecoveryMode::TolerateAnyCorruption;
+pub(crate) const ABSOLUTE: RecoveryMode = RecoveryMode::AbsoluteConsistency;
 
-pub(crate) const MODES: [RecoveryMode; 3] = [
-    RecoveryMode::AbsoluteConsistency,
-    RecoveryMode::TolerateTailCorruption,
-    TOLERANT,
-];
+pub(crate) const TAIL: RecoveryMode = RecoveryMode::TolerateTailCorruption;
+
+pub(crate) const ANY: RecoveryMode = RecoveryMode::TolerateAnyCorruption;
+
+pub(crate) const MODES: [RecoveryMode; 3] = [ABSOLUTE, TAIL, ANY];
 
 /// So many workers read the files.
 pub(crate) const WORKERS: [usize; 4] = [1, 2, 3, 8];

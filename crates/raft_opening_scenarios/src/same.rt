@@ -1,7 +1,7 @@
 //! Workers find, cut and refuse what an opening in order does.
 
 use crate::openings::{
-    MODES, TOLERANT, WORKERS, are_same_files, break_byte, left, open_by_workers, open_in_order,
+    ANY, MODES, WORKERS, are_same_files, break_byte, left, open_by_workers, open_in_order,
     refusal_by_workers, written,
 };
 use raft_env::{FileSystem, IoKind};
@@ -205,7 +205,7 @@ fn refuse_read<R: Threads + Sync + Abort>(
     let mut before = left(alloc, found, &Left::All)?;
     let mut files = left(alloc, found, &Left::All)?;
     files.refuse(FsCall::Read, nth, IoKind::Other)?;
-    let (fault, mut files) = refusal_by_workers(rt, alloc, TOLERANT, workers, files)?;
+    let (fault, mut files) = refusal_by_workers(rt, alloc, ANY, workers, files)?;
     if files.refusals() == 0 {
         assert!(rt; fault.is_none(), "{workers} workers, read {nth}");
         return Ok(false);

@@ -6,13 +6,13 @@ ghost use Rattle.raft_queues.specs.Dual.{StandSideBySide};
 use crate::crashed_rows::{Case, Left, ONE_EACH, Opening, Stage, Step, cases, openings};
 use crate::folders::begun;
 use LogQueue::{Append, Rewrite};
+use raft_builder::{DefaultMachineFactory, DualPipesBuilder};
 use raft_env::{FileSystem, IoKind};
 use raft_memory::{Choice, MemoryFileSystem};
 use raft_opening::ReplayMachine;
 use raft_pipes::{AppendFault, RotationFault};
-use raft_queues::{DualPipes, DualPipesBuilder};
+use raft_queues::DualPipes;
 use raft_records::{Fault, FileId, Fresh, KeyValue, LogBatch, LogItem, LogItemContent, LogQueue};
-use raft_workers::DefaultMachineFactory;
 use std::alloc::Global;
 use std::test::Fail;
 

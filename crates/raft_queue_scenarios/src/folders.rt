@@ -1,8 +1,8 @@
 //! What the tests of queues share: the settings of their folder, and its files before and after.
 
+use raft_builder::DualPipesBuilder;
 use raft_config::Config;
 use raft_env::{FileSystem, FsFault, Permission};
-use raft_queues::DualPipesBuilder;
 use raft_records::{Fault, Fresh};
 use raft_rows::store_in;
 use std::alloc::{AllocError, Global};

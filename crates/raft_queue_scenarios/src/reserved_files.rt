@@ -3,6 +3,7 @@
 use crate::folders::{self, store};
 use crate::two_folders::settings;
 use crate::two_queues::read;
+use raft_builder::DualPipesBuilder;
 use raft_config::Config;
 use raft_env::{FileSystem, FsFault, IoKind, Permission};
 use raft_files::FileNameExt;
@@ -10,7 +11,6 @@ use raft_memory::{FsCall, MemoryFileSystem};
 use raft_opening::clear_metadata;
 use raft_opening::prefill::{SpareLimits, prefill};
 use raft_pipes::{LogFolders, SpareFile};
-use raft_queues::DualPipesBuilder;
 use raft_records::{Fault, FileId, LogQueue, ReadableSize};
 use std::alloc::Global;
 use std::test::Fail;

@@ -2,11 +2,11 @@
 
 use crate::folders::HEADER;
 use crate::two_queues::{PUT_1, PUT_2, Wanted, are_cuts, read_both};
+use raft_builder::DualPipesBuilder;
 use raft_config::Config;
 use raft_env::{FileSystem, FsFault, Permission};
 use raft_memory::MemoryFileSystem;
 use raft_pipes::file_list::{FileKind, FoundFile, scan};
-use raft_queues::DualPipesBuilder;
 use raft_records::{Fault, Fresh, LogQueue};
 use raft_rows::store_in;
 use std::alloc::{AllocError, Global};

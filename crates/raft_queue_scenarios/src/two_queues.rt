@@ -1,10 +1,11 @@
 //! Both queues of a folder, opened in stages: what is read of each, where their files are cut, and what is left of them.
 
 use crate::folders::{HEADER, begun, have_lengths, store};
+use raft_builder::{Cut, DualPipesBuilder};
 use raft_env::{FileSystem, FsFault};
 use raft_memory::MemoryFileSystem;
 use raft_opening::ReplayMachine;
-use raft_queues::{Cut, DualPipes, DualPipesBuilder};
+use raft_queues::DualPipes;
 use raft_records::{Factory, Fault, FileId, LogItem, LogQueue};
 use std::alloc::Global;
 use std::test::Fail;

@@ -3,7 +3,7 @@ use Rattle.std.specs.Prelude.{ℕ, List, [], ◌∷◌, map, Option, Some, None}
 use Rattle.raft_records.specs.Item.{Content, Entries, Clean, Compact, Put, Delete, Item, Batch}
 use Rattle.raft_records.specs.Contents.{no_contents, after_batches}
 use Rattle.raft_records.specs.Record.{Begin, End, mark_item}
-use Rattle.raft_recovery.specs.Recovered.{recovered}
+use Rattle.raft_recovery_laws.specs.Recovered.{recovered}
 
 abbrev pub item : Content → Item
 item content = record { group = 1; content = content }

@@ -1,11 +1,11 @@
 //! Batches of both queues, those of the Append queue in chunks.
 
+use raft_builder::MergingMachine;
 use raft_opening::ReplayMachine;
 use raft_records::{
     Command, EntryIndex, Fault, FileId, KeyValue, LogItem, LogItemContent, LogQueue,
 };
-use raft_replayed::{Read, RecoveryMachine, read_of};
-use raft_workers::MergingMachine;
+use raft_replay::{Read, RecoveryMachine, read_of};
 use std::alloc::{AllocError, Global};
 use std::test::Fail;
 

@@ -4,6 +4,14 @@
 #[cfg(test)]
 mod answers;
 #[cfg(test)]
+mod fork_refusals;
+#[cfg(test)]
+mod fork_stops;
+#[cfg(test)]
+mod heard;
+#[cfg(test)]
+mod keepers;
+#[cfg(test)]
 mod recycling;
 #[cfg(test)]
 mod refusals;

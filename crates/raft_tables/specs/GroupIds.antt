@@ -3,7 +3,7 @@ use Rattle.std.specs.Prelude.{ℕ, ◌+◌, ◌<◌, ◌^◌, ◌==◌, ◌&&◌
 use Rattle.std.specs.List.{AllByRecursion as Each}
 use Rattle.std.specs.Str.{bytes_eq}
 use Rattle.raft_records.specs.Item.{Batch}
-use Rattle.raft_recovery.specs.Groups.{GroupMark, first_place, mark_of}
+use Rattle.raft_recovery_laws.specs.Groups.{GroupMark, first_place, mark_of}
 use Rattle.raft_tables.specs.declared.group_ids.GroupIds.{GroupIds}
 
 -- every number that was met or given is below this one

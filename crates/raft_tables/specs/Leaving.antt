@@ -6,7 +6,7 @@ use Rattle.raft_records.specs.Contents.{Contents, entries_below}
 use Rattle.raft_records.specs.Item.{Batch, Entries, Clean, Compact, Put, Delete, group_mark_key}
 use Rattle.raft_records.specs.PlacedItem.{PlacedContent, EntriesAt, Plain, PlacedItem}
 use Rattle.raft_records.specs.Validity.{are_in_order}
-use Rattle.raft_recovery.specs.Recovered.{leaves, leaves_key}
+use Rattle.raft_recovery_laws.specs.Recovered.{leaves, leaves_key}
 use Rattle.raft_tables.specs.Counters.{count_after}
 use Rattle.raft_tables.specs.Table.{TableView, rewritten_in, with_entries_at, with_key}
 use Rattle.raft_tables.specs.Tables.{Tables, or_empty, with_table}

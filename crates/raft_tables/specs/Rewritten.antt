@@ -8,8 +8,8 @@ use Rattle.raft_records.specs.Item.{Batch}
 use Rattle.raft_records.specs.LogItem.{placed_item_of}
 use Rattle.raft_records.specs.PlacedItem.{PlacedItem, are_all_placed, item_in, is_placed_in_order}
 use Rattle.raft_records.specs.Places.{Blocks}
-use Rattle.raft_recovery.specs.Groups.{GroupMark, batch_counts, first_place, last_place, mark_of, place_by, whole}
-use Rattle.raft_recovery.specs.Recovered.{effect}
+use Rattle.raft_recovery_laws.specs.Groups.{GroupMark, batch_counts, first_place, last_place, mark_of, place_by, whole}
+use Rattle.raft_recovery_laws.specs.Recovered.{effect}
 use Rattle.raft_tables.specs.Counting.{stats_after}
 use Rattle.raft_tables.specs.Known.{known_in}
 use Rattle.raft_tables.specs.Tables.{AreAllPlaced, Tables, contents_in, tables_after, tables_of}

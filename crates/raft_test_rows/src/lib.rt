@@ -1,11 +1,13 @@
 //! Operations, crashes and answers as rows of tables, and what may be found after them: for the tests alone.
 #![tactic(auto)]
 
+mod held;
 mod plans;
 mod states;
 
+pub use held::{Failing, Faulty, Held};
 pub use plans::{Answer, Change, Left, Plan, are_answers, choice_of, choices_of, fault_of, ops_of};
 pub use states::{
     EMPTY, EXPIRED, MAX_FILES, OPERATIONS, PURGES, REWRITTEN_IN_PARTS, State, after, are_new,
-    count_below, first_refused, is_allowed, is_done, settings, state_of, value_of,
+    count_below, first_refused, is_allowed, is_done, settings, settings_in, state_of, value_of,
 };

@@ -12,8 +12,6 @@ pub enum Change {
     Entries(u64, u64, u64, &'static [u8]),
     /// .. and a word of so many times this byte.
     LongEntries(u64, u64, u64, u8, usize),
-    /// One entry with this index and these bytes.
-    EntryBytes(u64, u64, &'static [u8]),
     Clean(u64),
     Compact(u64, u64),
 }
@@ -23,8 +21,6 @@ pub enum Plan {
     Write(&'static [Change], bool),
     /// Batches that are written at once, and which of them ask for a sync.
     WriteGroup(&'static [(&'static [Change], bool)]),
-    /// The changes as one batch that acts once, by these groups with a number each.
-    WriteOnce(&'static [Change], &'static [(u64, u64)], bool),
     Sync,
     Get(u64, &'static [u8]),
     CompactTo(u64, u64),
@@ -57,10 +53,6 @@ pub enum Answer {
     Entry(u64, &'static [u8]),
     Index(Option<u64>),
     Groups(&'static [u64]),
-    /// So many log files went.
-    Dropped(usize),
-    /// The compaction of these groups is asked for.
-    ToCompact(&'static [u64]),
     /// It fails with this code.
     Fails(u8),
 }
@@ -77,10 +69,6 @@ fn act_of(alloc: Global, change: &Change) -> Result<Act, AllocError> {
         Change::LongEntries(group, first, last, byte, len) => {
             let word = vec![in alloc; *byte; *len]?;
             Ok(Act::Entries(*group, entries_between(alloc, *first, *last, &word)?))
-        }
-        Change::EntryBytes(group, index, bytes) => {
-            let entry = (*index, bytes.to_vec(alloc)?);
-            Ok(Act::Entries(*group, vec![in alloc; entry]?))
         }
         Change::Clean(group) => Ok(Act::Clean(*group)),
         Change::Compact(group, index) => Ok(Act::Compact(*group, *index)),
@@ -110,10 +98,6 @@ fn op_of(alloc: Global, plan: &Plan) -> Result<Op, AllocError> {
     match plan {
         Plan::Write(changes, sync) => Ok(Op::Write(acts_of(alloc, changes)?, *sync)),
         Plan::WriteGroup(parts) => Ok(Op::WriteGroup(parts_of(alloc, parts)?)),
-        Plan::WriteOnce(changes, pairs, sync) => {
-            let acts = acts_of(alloc, changes)?;
-            Ok(Op::WriteOnce(acts, pairs.to_vec(alloc)?, *sync))
-        }
         Plan::Sync => Ok(Op::Sync),
         Plan::Get(group, key) => Ok(Op::Get(*group, key.to_vec(alloc)?)),
         Plan::CompactTo(group, index) => Ok(Op::CompactTo(*group, *index)),
@@ -196,8 +180,6 @@ fn is_answer(outcome: &Outcome, answer: &Answer) -> bool {
         }
         (Outcome::Index(index), Answer::Index(wanted)) => *index == *wanted,
         (Outcome::Groups(Ok(groups)), Answer::Groups(wanted)) => groups.as_slice() == *wanted,
-        (Outcome::Dropped(Ok(count)), Answer::Dropped(wanted)) => *count == *wanted,
-        (Outcome::ToCompact(Ok(groups)), Answer::ToCompact(wanted)) => groups.as_slice() == *wanted,
         (_, Answer::Fails(code)) => match fault_of(outcome) {
             Some(fault) => fault.code() == *code,
             None => false,

@@ -2,7 +2,7 @@
 //! image.
 
 use crate::plans::{Change, Plan};
-use raft_log_engine::{Config, Image};
+use raft_log_engine::{Config, Image, RecoveryMode};
 use raft_records::{Fresh, ReadableSize};
 use raft_script::{Act, Op, Outcome};
 use std::alloc::{AllocError, Global};
@@ -317,6 +317,13 @@ pub fn settings(alloc: Global) -> Result<Config, AllocError> {
     config.dir.push_str("raft")?;
     config.target_file_size = ReadableSize::kb(1);
     config.purge_threshold = ReadableSize::kb(1);
+    Ok(config)
+}
+
+/// The same, in this mode.
+pub fn settings_in(alloc: Global, mode: RecoveryMode) -> Result<Config, AllocError> {
+    let mut config = settings(alloc)?;
+    config.recovery_mode = mode;
     Ok(config)
 }
 

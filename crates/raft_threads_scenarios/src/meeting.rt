@@ -1,13 +1,12 @@
 //! Two workers that wait for one another.
 
 use crate::stored::{scanned, store_both};
+use raft_builder::{MergingMachine, RecoveryConfig};
 use raft_config::RecoveryMode;
 use raft_env::FileSystem;
 use raft_memory::MemoryFileSystem;
 use raft_opening::ReplayMachine;
-use raft_queues::RecoveryConfig;
 use raft_records::{Factory, Fault, FileId, LogItem, LogQueue};
-use raft_workers::MergingMachine;
 use std::alloc::Global;
 use std::sync::Arc;
 use std::sync::atomic::{AtomicU64, Ordering};

@@ -1,7 +1,7 @@
 //! What a newer chunk of batches does to what an older one left.
 
-use raft_chunks::Reaches;
 use raft_records::{Command, EntryIndex, KeyValue, LogItem, LogItemContent};
+use raft_replay::Reaches;
 use std::alloc::{AllocError, Global};
 use std::test::Fail;
 

@@ -1,13 +1,12 @@
 //! Both queues, read by so many workers.
 
 use crate::stored::{scanned, store_both};
+use raft_builder::{DefaultMachineFactory, MergingMachine, RecoveryConfig};
 use raft_config::RecoveryMode;
 use raft_env::{FileSystem, IoKind};
 use raft_memory::{FsCall, MemoryFileSystem};
 use raft_opening::ReplayMachine;
-use raft_queues::RecoveryConfig;
 use raft_records::{Fault, FileId, Fresh, KeyValue, LogItem, LogItemContent, LogQueue};
-use raft_workers::{DefaultMachineFactory, MergingMachine};
 use std::alloc::Global;
 use std::test::Fail;
 use std::thread::Threads;

@@ -1,9 +1,9 @@
 //! Log files that the tests of workers read.
 
+use raft_builder::DualPipesBuilder;
 use raft_config::{Config, RecoveryMode};
 use raft_env::FileSystem;
 use raft_files::FileNameExt;
-use raft_queues::DualPipesBuilder;
 use raft_records::{Fault, FileId, Fresh, LogBatch, LogFileContext, LogQueue, Version};
 use raft_rows::store;
 use std::alloc::Global;

@@ -1,8 +1,8 @@
 //! The first hole in each group's entries, by one checker and by several that are merged.
 
+use raft_builder::merge_in_order;
 use raft_consistency::ConsistencyChecker;
 use raft_records::{EntryIndex, Fault, LogItem, LogItemContent, LogQueue};
-use raft_workers::merge_in_order;
 use std::alloc::{AllocError, Global};
 use std::test::Fail;
 

@@ -1,6 +1,6 @@
 //! How many workers read each queue, and how many files each takes.
 
-use raft_workers::{Workers, chunk_len, workers_for};
+use raft_builder::{Workers, chunk_len, workers_for};
 use std::test::Fail;
 
 /// Threads and files of both queues, the workers of each, and how many files each of them takes

@@ -8,9 +8,9 @@ use Rattle.raft_pipes.specs.Counts.{synced_to}
 use Rattle.raft_pipes.specs.Folder.{readable_queue}
 use Rattle.raft_pipes.specs.Queue.{RecoversPrefixOf}
 use Rattle.raft_pipes.proofs.QueueFilesLemmas.{now_leaves_synced}
-use Rattle.raft_recovery.specs.Recovered.{recovered}
-use Rattle.raft_recovery.proofs.ContentsLemmas.{recovered-nothing_rewritten}
-use Rattle.raft_held.specs.Crash.{IsAllowedFrom, RecoversContents, left_of_queue}
+use Rattle.raft_recovery_laws.specs.Recovered.{recovered}
+use Rattle.raft_recovery_laws.proofs.ContentsLemmas.{recovered-nothing_rewritten}
+use Rattle.raft_crash_laws.specs.Crash.{IsAllowedFrom, RecoversContents, left_of_queue}
 use Rattle.raft_log_engine.proofs.CrashLemmas.{contents_clear, contents_found, contents_left, contents_single, keeps_found, same_groups, same_queues}
 use Rattle.raft_log_engine.proofs.laws.crash_leaves_contents.Goals as goal
 

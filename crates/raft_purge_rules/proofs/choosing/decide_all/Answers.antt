@@ -2,7 +2,7 @@ use Rattle.std.proofs.Common.{◌≡◌, ◌∙◌, ◌+◌, ◌++◌, ◌∷◌
 use Rattle.std.proofs.lemmas.List.{take_more}
 use Rattle.std.specs.Prelude.{nat_le}
 use Rattle.std.specs.List.{AllByRecursion as Each}
-use Rattle.raft_recovery.proofs.EachLemmas.{each_append}
+use Rattle.raft_recovery_laws.proofs.EachLemmas.{each_append}
 use Rattle.raft_tables.specs.Tables.{tables_of}
 use Rattle.raft_purge_rules.specs.Choosing.{IsDecided}
 use Rattle.raft_purge_rules.specs.Rounds.{rounds_of}

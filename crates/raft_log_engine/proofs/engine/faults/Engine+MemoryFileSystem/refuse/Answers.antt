@@ -1,5 +1,5 @@
 use Rattle.std.proofs.Common.{subst, sym}
-use Rattle.raft_held.specs.Contents.{Holds}
+use Rattle.raft_crash_laws.specs.Contents.{Holds}
 use Rattle.raft_log_engine.specs.Engine.{contents_of, is_known_in}
 use Rattle.raft_entry_blocks.specs.Cache.{HoldsBlockIn}
 use Rattle.raft_log_engine.proofs.HeldLemmas.{completed_still, left_still, queues_still}

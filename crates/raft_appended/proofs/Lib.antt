@@ -1,5 +1,0 @@
-pub mod AppendedLemmas
-pub mod CodedLemmas
-pub mod HoleLemmas
-mod JoinedLemmas
-pub mod OverLemmas

@@ -1,0 +1,13 @@
+pub mod BuilderLemmas
+pub mod CutLemmas
+pub mod DualOpeningLemmas
+pub mod FindLemmas
+pub mod RecoverLemmas
+pub mod SettlingLemmas
+pub mod MergeLemmas
+pub mod CountLemmas
+pub mod DealLemmas
+pub mod GatherLemmas
+pub mod JobLemmas
+pub mod PartLemmas
+pub mod QueueReadLemmas

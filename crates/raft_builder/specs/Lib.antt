@@ -1,0 +1,5 @@
+pub mod Builder
+pub mod Machines
+pub mod Workers
+pub mod Parts
+pub mod Reading

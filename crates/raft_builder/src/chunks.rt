@@ -1,0 +1,41 @@
+//! How many workers read a queue, and how many of its files each takes.
+ghost use Rattle.std.specs.Prelude.{◌≡◌, ◌<◌};
+
+/// How many workers read the files of each queue.
+#[derive(Clone, Copy, Debug, PartialEq, Eq)]
+pub struct Workers {
+    pub append: usize,
+    pub rewrite: usize,
+}
+
+ghost use Rattle.raft_builder.specs.Workers.{files_a_chunk, workers_for};
+
+/// The workers of both queues, for so many threads and files. There are no more than files. Where
+/// both queues have files they share the workers by how many, and each has one at least; else
+/// both have all.
+pub fn workers_for(threads: usize, append: usize, rewrite: usize) -> Workers
+    ensures value { result ≡ workers_for threads append rewrite }
+{
+    let files = append as u128 + rewrite as u128;
+    let all = (threads as u128).min(files);
+    if append == 0 || rewrite == 0 {
+        return Workers {
+            append: all as usize,
+            rewrite: all as usize,
+        };
+    }
+    let of_append = (all * append as u128 / files).max(1);
+    let of_rewrite = all.saturating_sub(of_append).max(1);
+    Workers {
+        append: of_append as usize,
+        rewrite: of_rewrite as usize,
+    }
+}
+
+/// How many files each of these workers takes, of so many; the last one may take fewer.
+pub fn chunk_len(files: usize, workers: usize) -> usize
+    requires { 0 < workers }
+    ensures value { result ≡ files_a_chunk files workers }
+{
+    files.div_ceil(workers).max(1)
+}

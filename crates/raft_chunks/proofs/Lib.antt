@@ -1,5 +1,0 @@
-pub mod ChunkLemmas
-pub mod KnownLemmas
-pub mod NotedLemmas
-pub mod ReachLemmas
-mod OlderLemmas

@@ -1,0 +1,252 @@
+//! What an opening makes of files with one byte broken, and of files that no engine wrote.
+
+ghost use Rattle.std.specs.Prelude.{◌<◌};
+
+use crate::openings::{ABSOLUTE, ANY, MODES, TAIL};
+use crate::stored::{ALL, HEADER_2, THREE, make, store};
+use raft_env::{FileSystem, FsFault, Permission};
+use raft_log_engine::RecoveryMode;
+use raft_memory::MemoryFileSystem;
+use raft_test_rows::{EMPTY, Faulty, Held, State};
+use std::alloc::{AllocError, Global};
+use std::test::Fail;
+
+/// What is found without a byte's file.
+const WITHOUT: [State; 3] = [
+    State { a: 0, ..ALL },
+    State { b: 0, ..ALL },
+    State { c: 0, ..ALL },
+];
+
+/// The first place of a file, and the place behind the last one, at which another byte breaks the
+/// file, or doesn't.
+struct Places {
+    name: &'static str,
+    first: usize,
+    end: usize,
+    is_broken: bool,
+}
+
+static PLACES: [Places; 4] = [
+    Places {
+        name: "a header's text",
+        first: 0,
+        end: 53,
+        is_broken: true,
+    },
+    Places {
+        name: "its version",
+        first: 53,
+        end: 61,
+        is_broken: true,
+    },
+    // A record that can be read stands there whatever the alignment.
+    Places {
+        name: "its alignment",
+        first: 61,
+        end: 69,
+        is_broken: false,
+    },
+    Places {
+        name: "a record",
+        first: 69,
+        end: 97,
+        is_broken: true,
+    },
+];
+
+// No file has this byte.
+fn break_byte<F: FileSystem>(files: &mut F, path: &str, at: usize) -> Result<(), FsFault> {
+    let handle = files.open(path, Permission::ReadWrite)?;
+    let mut writer = files.new_writer(&handle)?;
+    files.write(&mut writer, at, &[0xa5])
+}
+
+// What is found of three files, the one of this place in the list broken.
+fn found_without(mode: RecoveryMode, file: usize) -> Result<State, u8>
+    requires { file < 3 }
+{
+    match mode {
+        RecoveryMode::AbsoluteConsistency => Err(2),
+        RecoveryMode::TolerateTailCorruption if file + 1 < WITHOUT.len() => Err(2),
+        _ => Ok(WITHOUT[file]),
+    }
+}
+
+fn is_broken_so<F: Faulty>(
+    alloc: Global,
+    held: &mut Held<F>,
+    mode: RecoveryMode,
+    file: usize,
+    at: usize,
+    is_broken: bool,
+) -> bool
+    requires { file < 3 }
+{
+    held.renew(alloc);
+    if make(alloc, held, THREE).is_none() {
+        return false;
+    }
+    let is_changed = match held.files() {
+        Some(files) => break_byte(files, THREE[file].0, at).is_ok(),
+        None => false,
+    };
+    let wanted = if is_broken {
+        found_without(mode, file)
+    } else {
+        Ok(ALL)
+    };
+    is_changed && held.open(alloc, mode) && held.has_come_to(&wanted)
+}
+
+// The places of which one breaks another file than it should, and that place.
+fn wrong_place<F: Faulty>(alloc: Global, files: F) -> Option<(&'static str, usize)> {
+    let mut held = Held::Files(files);
+    for row in &PLACES {
+        for at in row.first..row.end {
+            for file in 0..WITHOUT.len() {
+                for mode in MODES {
+                    if !is_broken_so(alloc, &mut held, mode, file, at, row.is_broken) {
+                        return Some((row.name, at));
+                    }
+                }
+            }
+        }
+    }
+    None
+}
+
+#[test]
+fn each_broken_byte_is_met(rt: HostRuntime) -> Result<(), Fail> {
+    let files = MemoryFileSystem::new(rt.alloc());
+    assert_eq!(rt; wrong_place(rt.alloc(), files), None);
+    Ok(())
+}
+
+/// Files of bytes that no engine wrote, and what openings of them find.
+struct Noise {
+    name: &'static str,
+    paths: &'static [&'static str],
+    /// What each begins with.
+    front: &'static [u8],
+    found: &'static [(RecoveryMode, Result<State, u8>)],
+}
+
+const ONE_EACH: &[&str] = &[
+    "raft/0000000000000007.raftlog",
+    "raft/0000000000000002.rewrite",
+    "raft/0000000000000003.raftlog.reserved",
+];
+
+const TWO: &[&str] = &[
+    "raft/0000000000000007.raftlog",
+    "raft/0000000000000008.raftlog",
+];
+
+/// A last file is cut, and one before it too in the mode that tolerates that.
+static NOISE: [Noise; 4] = [
+    Noise {
+        name: "one file of each queue",
+        paths: ONE_EACH,
+        front: b"",
+        found: &[(ABSOLUTE, Err(2)), (TAIL, Ok(EMPTY)), (ANY, Ok(EMPTY))],
+    },
+    Noise {
+        name: "one file of each queue, behind a header",
+        paths: ONE_EACH,
+        front: HEADER_2,
+        found: &[(ABSOLUTE, Err(2)), (TAIL, Ok(EMPTY)), (ANY, Ok(EMPTY))],
+    },
+    Noise {
+        name: "two files",
+        paths: TWO,
+        front: b"",
+        found: &[(ABSOLUTE, Err(2)), (TAIL, Err(2)), (ANY, Ok(EMPTY))],
+    },
+    Noise {
+        name: "two files, behind a header",
+        paths: TWO,
+        front: HEADER_2,
+        found: &[(ABSOLUTE, Err(2)), (TAIL, Err(2)), (ANY, Ok(EMPTY))],
+    },
+];
+
+/// How many files of each kind, each longer than the one before.
+const LENGTHS: usize = 60;
+
+// Bytes of a generator (Knuth's), from a state on.
+fn bytes_from(alloc: Global, seed: u64, len: usize) -> Result<Vec<u8>, AllocError> {
+    let mut bytes = Vec::new(alloc);
+    let mut state = seed;
+    for _ in 0..len {
+        state = state
+            .wrapping_mul(6_364_136_223_846_793_005)
+            .wrapping_add(1_442_695_040_888_963_407);
+        bytes.push((state >> 56) as u8)?;
+    }
+    Ok(bytes)
+}
+
+fn store_noise<F: FileSystem>(
+    alloc: Global,
+    files: &mut F,
+    row: &Noise,
+    len: usize,
+) -> Result<(), FsFault> {
+    files.make_dir("raft")?;
+    let mut seed = len as u64;
+    for path in row.paths {
+        seed = seed.wrapping_add(1_000);
+        store(
+            alloc,
+            files,
+            path,
+            &[row.front, &bytes_from(alloc, seed, len)?],
+        )?;
+    }
+    Ok(())
+}
+
+// Whether an opening comes to what is wanted, and where it holds a state the next one after a close.
+fn is_found<F: Faulty>(
+    alloc: Global,
+    held: &mut Held<F>,
+    row: &Noise,
+    len: usize,
+    mode: RecoveryMode,
+    wanted: &Result<State, u8>,
+) -> bool {
+    held.renew(alloc);
+    let is_stored = match held.files() {
+        Some(files) => store_noise(alloc, files, row, len).is_ok(),
+        None => false,
+    };
+    let is_opened = is_stored && held.open(alloc, mode) && held.has_come_to(wanted);
+    if is_opened && wanted.is_ok() {
+        held.close();
+        return held.open(alloc, ABSOLUTE) && held.has_come_to(wanted);
+    }
+    is_opened
+}
+
+// The files of which an opening finds something else, and how long their bytes are.
+fn wrong_noise<F: Faulty>(alloc: Global, files: F) -> Option<(&'static str, usize)> {
+    let mut held = Held::Files(files);
+    for row in &NOISE {
+        for len in 1..LENGTHS {
+            for (mode, wanted) in row.found {
+                if !is_found(alloc, &mut held, row, len, *mode, wanted) {
+                    return Some((row.name, len));
+                }
+            }
+        }
+    }
+    None
+}
+
+#[test]
+fn bytes_that_no_engine_wrote_are_cut_or_refused(rt: HostRuntime) -> Result<(), Fail> {
+    let files = MemoryFileSystem::new(rt.alloc());
+    assert_eq!(rt; wrong_noise(rt.alloc(), files), None);
+    Ok(())
+}

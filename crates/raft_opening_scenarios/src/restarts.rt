@@ -1,0 +1,211 @@
+//! Openings of several log files that stop, or in which one call fails, and the next one.
+
+use crate::openings::{ABSOLUTE, ANY, TAIL};
+use crate::stored::{
+    ALL, BROKEN_2, HEADER_2, HEADER_MOVED, PUT_1, PUT_2, PUT_3, Stored, THREE, have, make,
+};
+use raft_env::IoKind;
+use raft_log_engine::RecoveryMode;
+use raft_memory::{FsCall, MemoryFileSystem};
+use raft_records::Fault;
+use raft_test_rows::{Failing, Faulty, Held, Left, State};
+use std::alloc::Global;
+use std::test::Fail;
+
+/// Three files, each of which an opening changes in the mode that takes all.
+const BROKEN: &[Stored] = &[
+    (
+        "raft/0000000000000001.raftlog",
+        &[HEADER_2, PUT_1, BROKEN_2],
+    ),
+    ("raft/0000000000000002.raftlog", &[HEADER_MOVED, PUT_2]),
+    (
+        "raft/0000000000000003.raftlog",
+        &[HEADER_2, PUT_3, &[0; 40]],
+    ),
+];
+
+const MAX_CALLS: u64 = 20;
+
+/// A name; each nth call of a sort fails, or for none each call that changes files is the last, in
+/// openings in this mode; and how many there are at the least.
+struct Calls(&'static str, Option<FsCall>, RecoveryMode, u64);
+
+const WITHOUT_2: State = State { b: 0, ..ALL };
+
+/// Each of the three files is read.
+static READS: [Calls; 3] = [
+    Calls("read", Some(FsCall::Read), ABSOLUTE, 3),
+    Calls("read", Some(FsCall::Read), TAIL, 3),
+    Calls("read", Some(FsCall::Read), ANY, 3),
+];
+
+/// The calls of an opening, but for those that no opening of files makes. Each file is cut and
+/// synced, and one gets a header.
+static CALLS: [Calls; 11] = [
+    Calls("changes", None, ANY, 7),
+    Calls("open", Some(FsCall::Open), ANY, 0),
+    Calls("new reader", Some(FsCall::NewReader), ANY, 0),
+    Calls("new writer", Some(FsCall::NewWriter), ANY, 0),
+    Calls("write", Some(FsCall::Write), ANY, 0),
+    Calls("truncate", Some(FsCall::Truncate), ANY, 0),
+    Calls("allocate", Some(FsCall::Allocate), ANY, 0),
+    Calls("sync", Some(FsCall::Sync), ANY, 0),
+    Calls("file size", Some(FsCall::FileSize), ANY, 0),
+    Calls("list", Some(FsCall::List), ANY, 0),
+    Calls("read", Some(FsCall::Read), ANY, 0),
+];
+
+/// What a crash leaves after the opening of broken files; or none, of whole ones.
+static WHOLE: [Option<Left>; 1] = [None];
+
+static LEFT: [Option<Left>; 4] = [
+    Some(Left::All),
+    Some(Left::Synced),
+    Some(Left::Torn(7, 255)),
+    Some(Left::Torn(60, 0)),
+];
+
+fn is_refusal(fault: &Fault) -> bool {
+    match fault {
+        Fault::Io(kind, _) => *kind == IoKind::Other,
+        _ => false,
+    }
+}
+
+// Whether the files that an opening refused are as they were, and the next opening finds all.
+fn is_untouched<F: Faulty>(
+    alloc: Global,
+    held: &mut Held<F>,
+    mode: RecoveryMode,
+    count: usize,
+) -> bool {
+    have(alloc, held, THREE, count) && held.open(alloc, mode) && held.has_come_to(&Ok(ALL))
+}
+
+// An opening of whole files that a call fails changes nothing: whether it failed, or nothing where
+// that is wrong.
+fn cuts_nothing<F: Faulty>(
+    alloc: Global,
+    held: &mut Held<F>,
+    mode: RecoveryMode,
+    failing: Failing,
+) -> Option<bool> {
+    let count = make(alloc, held, THREE)?;
+    if !held.fail(failing) || !held.open(alloc, mode) {
+        return None;
+    }
+    let is_right = match held.fault() {
+        Some(fault) => is_refusal(fault),
+        None => return Some(false),
+    };
+    if is_right && is_untouched(alloc, held, mode, count) {
+        Some(true)
+    } else {
+        None
+    }
+}
+
+// Whether a call was refused since the files were made.
+fn is_met<F: Faulty>(held: &mut Held<F>) -> bool {
+    match held.files() {
+        Some(files) => files.refusals() > 0,
+        None => false,
+    }
+}
+
+// Whether broken files are made, and a crash leaves them as they are.
+fn breaks<F: Faulty>(alloc: Global, held: &mut Held<F>) -> bool {
+    make(alloc, held, BROKEN).is_some() && held.crash(alloc, &Left::All)
+}
+
+// After a crash of broken files, an opening with failing calls and another crash the rest is found:
+// whether a call failed, or nothing where that is wrong.
+fn finds_rest<F: Faulty>(
+    alloc: Global,
+    held: &mut Held<F>,
+    mode: RecoveryMode,
+    failing: Failing,
+    left: &Left,
+) -> Option<bool> {
+    if !breaks(alloc, held) || !held.fail(failing) || !held.open(alloc, mode) {
+        return None;
+    }
+    held.give_up();
+    let is_refused = is_met(held);
+    if held.crash(alloc, left) && held.open(alloc, mode) && held.has_come_to(&Ok(WITHOUT_2)) {
+        Some(is_refused)
+    } else {
+        None
+    }
+}
+
+// Whether the nth call failed, or nothing where something is wrong.
+fn failed<F: Faulty>(
+    alloc: Global,
+    held: &mut Held<F>,
+    calls: &Calls,
+    nth: u64,
+    left: &Option<Left>,
+) -> Option<bool> {
+    let Calls(_, call, mode, _) = calls;
+    let failing = match call {
+        Some(call) => Failing::Nth(*call, nth, IoKind::Other),
+        None => Failing::From(nth),
+    };
+    held.renew(alloc);
+    match left {
+        Some(left) => finds_rest(alloc, held, *mode, failing, left),
+        None => cuts_nothing(alloc, held, *mode, failing),
+    }
+}
+
+// The last call that failed, or nothing where something is wrong.
+fn last_failed<F: Faulty>(
+    alloc: Global,
+    held: &mut Held<F>,
+    calls: &Calls,
+    left: &Option<Left>,
+) -> Option<u64> {
+    let mut last = 0;
+    for nth in 1..MAX_CALLS {
+        if failed(alloc, held, calls, nth, left)? {
+            last = nth;
+        }
+    }
+    Some(last)
+}
+
+// The first calls, and the place of what a crash leaves, at which something is wrong, or that are
+// fewer or more.
+fn wrong_call<F: Faulty>(
+    alloc: Global,
+    files: F,
+    calls: &'static [Calls],
+    lefts: &'static [Option<Left>],
+) -> Option<(&'static str, usize)> {
+    let mut held = Held::Files(files);
+    for (place, left) in lefts.iter().enumerate() {
+        for calls in calls {
+            match last_failed(alloc, &mut held, calls, left) {
+                Some(last) if calls.3 <= last && last.saturating_add(1) < MAX_CALLS => {}
+                _ => return Some((calls.0, place)),
+            }
+        }
+    }
+    None
+}
+
+#[test]
+fn refused_read_cuts_nothing(rt: HostRuntime) -> Result<(), Fail> {
+    let files = MemoryFileSystem::new(rt.alloc());
+    assert_eq!(rt; wrong_call(rt.alloc(), files, &READS, &WHOLE), None);
+    Ok(())
+}
+
+#[test]
+fn an_opening_may_stop_anywhere(rt: HostRuntime) -> Result<(), Fail> {
+    let files = MemoryFileSystem::new(rt.alloc());
+    assert_eq!(rt; wrong_call(rt.alloc(), files, &CALLS, &LEFT), None);
+    Ok(())
+}

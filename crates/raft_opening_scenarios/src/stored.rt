@@ -1,0 +1,152 @@
+//! Three log files as their bytes, part by part.
+
+use raft_env::{FileSystem, FsFault, Permission};
+use raft_test_rows::{EMPTY, Faulty, Held, State};
+use std::alloc::{AllocError, Global};
+
+pub(crate) const HEADER_2: &[u8] =
+    b"RAFT-LOG-FILE-HEADER-9986AB3E47F320B394C8E84916EB0ED5\0\0\0\0\0\0\0\x02\0\0\0\0\0\0\0\0";
+
+/// The header of version 2 without its first byte.
+pub(crate) const HEADER_MOVED: &[u8] =
+    b"AFT-LOG-FILE-HEADER-9986AB3E47F320B394C8E84916EB0ED5\0\0\0\0\0\0\0\x02\0\0\0\0\0\0\0\0";
+
+// The records below were made by Python's struct and zlib: one put each, for the file of that number
+// in version 2.
+pub(crate) const PUT_1: &[u8] =
+    b"\x00\x00\x00\x00\x00\x00\x1c\x00\x00\x00\x00\x00\x00\x00\x00\x10\x01\x01\x03\x01\x01\x61\x01\x01\xf9\x48\xbe\x2b";
+
+pub(crate) const PUT_2: &[u8] =
+    b"\x00\x00\x00\x00\x00\x00\x1c\x00\x00\x00\x00\x00\x00\x00\x00\x10\x01\x01\x03\x01\x01\x62\x01\x02\x19\xa7\xf1\xb0";
+
+pub(crate) const PUT_3: &[u8] =
+    b"\x00\x00\x00\x00\x00\x00\x1c\x00\x00\x00\x00\x00\x00\x00\x00\x10\x01\x02\x03\x01\x01\x63\x01\x03\x24\xe7\xdc\xf7";
+
+/// The put of file 2, but for a bit of its value.
+pub(crate) const BROKEN_2: &[u8] =
+    b"\x00\x00\x00\x00\x00\x00\x1c\x00\x00\x00\x00\x00\x00\x00\x00\x10\x01\x01\x03\x01\x01\x62\x01\x03\x19\xa7\xf1\xb0";
+
+/// A file's path, and its bytes part by part.
+pub(crate) type Stored = (&'static str, &'static [&'static [u8]]);
+
+/// Files 1, 2 and 3, one put each.
+pub(crate) const THREE: &[Stored] = &[
+    ("raft/0000000000000001.raftlog", &[HEADER_2, PUT_1]),
+    ("raft/0000000000000002.raftlog", &[HEADER_2, PUT_2]),
+    ("raft/0000000000000003.raftlog", &[HEADER_2, PUT_3]),
+];
+
+/// What an opening finds in them.
+pub(crate) const ALL: State = State {
+    a: 1,
+    b: 2,
+    c: 3,
+    ..EMPTY
+};
+
+fn joined(alloc: Global, parts: &[&[u8]]) -> Result<Vec<u8>, AllocError> {
+    let mut bytes = Vec::new(alloc);
+    for part in parts {
+        bytes.extend_from_slice(part)?;
+    }
+    Ok(bytes)
+}
+
+/// Makes a file of these parts.
+pub(crate) fn store<F: FileSystem>(
+    alloc: Global,
+    files: &mut F,
+    path: &str,
+    parts: &[&[u8]],
+) -> Result<(), FsFault> {
+    let bytes = joined(alloc, parts)?;
+    let handle = files.create(path)?;
+    let mut writer = files.new_writer(&handle)?;
+    files.write(&mut writer, 0, &bytes)
+}
+
+fn read_all<F: FileSystem>(
+    files: &mut F,
+    handle: &F::Handle,
+    bytes: &mut [u8],
+) -> Result<usize, FsFault> {
+    let mut reader = files.new_reader(handle)?;
+    let read = files.read(&mut reader, 0, bytes);
+    files.end_reader(reader);
+    read
+}
+
+fn is_joined(bytes: &[u8], parts: &[&[u8]]) -> bool {
+    let mut rest = bytes;
+    for part in parts {
+        match rest.strip_prefix(*part) {
+            Some(after) => rest = after,
+            None => return false,
+        }
+    }
+    rest.is_empty()
+}
+
+fn is_stored<F: FileSystem>(
+    alloc: Global,
+    files: &mut F,
+    path: &str,
+    parts: &[&[u8]],
+) -> Result<bool, FsFault> {
+    let handle = files.open(path, Permission::ReadOnly)?;
+    let size = files.file_size(&handle)?;
+    let mut bytes = vec![in alloc; 0; size]?;
+    Ok(read_all(files, &handle, &mut bytes)? == size && is_joined(&bytes, parts))
+}
+
+fn are_stored<F: FileSystem>(
+    alloc: Global,
+    files: &mut F,
+    stored: &[Stored],
+    count: usize,
+) -> Result<bool, FsFault> {
+    for (path, parts) in stored {
+        if !is_stored(alloc, files, path, parts)? {
+            return Ok(false);
+        }
+    }
+    Ok(files.list("raft")?.len() == count)
+}
+
+fn store_all<F: FileSystem>(
+    alloc: Global,
+    files: &mut F,
+    stored: &[Stored],
+) -> Result<usize, FsFault> {
+    files.make_dir("raft/more")?;
+    for (path, parts) in stored {
+        store(alloc, files, path, parts)?;
+    }
+    Ok(files.list("raft")?.len())
+}
+
+/// Makes these files, and a folder beside them. Answers how many the log's folder has, if it is
+/// done.
+pub(crate) fn make<F: Faulty>(
+    alloc: Global,
+    held: &mut Held<F>,
+    stored: &[Stored],
+) -> Option<usize> {
+    match store_all(alloc, held.files()?, stored) {
+        Ok(count) => Some(count),
+        Err(_) => None,
+    }
+}
+
+/// Whether the files have these bytes, and are so many in the log's folder.
+pub(crate) fn have<F: Faulty>(
+    alloc: Global,
+    held: &mut Held<F>,
+    stored: &[Stored],
+    count: usize,
+) -> bool {
+    match held.files() {
+        Some(files) => matches!(are_stored(alloc, files, stored, count), Ok(true)),
+        None => false,
+    }
+}

@@ -1,0 +1,108 @@
+//! What a check tells of an opening of the folders a and b, and whether the opening does it.
+
+use crate::files::length;
+use raft_dump::Planned;
+use raft_env::FileSystem;
+use raft_inspect::{Outlook, QueueFiles, inspect};
+use raft_log_engine::{Config, Engine, RecoveryMode};
+use raft_records::{Fault, Fresh, LogQueue};
+use std::alloc::{AllocError, Global};
+
+/// The files of both queues.
+#[derive(Drop)]
+struct Checked {
+    append: QueueFiles,
+    rewrite: QueueFiles,
+}
+
+fn check_both<F: FileSystem>(alloc: Global, files: &mut F) -> Result<Checked, Fault> {
+    Ok(Checked {
+        append: inspect(alloc, files, &["a", "b"], LogQueue::Append)?,
+        rewrite: inspect(alloc, files, &["a", "b"], LogQueue::Rewrite)?,
+    })
+}
+
+fn outlook_of(alloc: Global, checked: &Checked, mode: RecoveryMode) -> Result<Outlook, Fault> {
+    let mut outlook = Outlook::new();
+    outlook.add_queue(alloc, &checked.append, mode)?;
+    outlook.add_queue(alloc, &checked.rewrite, mode)?;
+    Ok(outlook)
+}
+
+fn config(alloc: Global, mode: RecoveryMode) -> Result<Config, AllocError> {
+    let mut config = Config::fresh(alloc);
+    config.dir = String::from_str(alloc, "a")?;
+    config.spill_dir = Some(String::from_str(alloc, "b")?);
+    config.recovery_mode = mode;
+    Ok(config)
+}
+
+// Whether an opening goes through, and what it leaves.
+fn opened<F: FileSystem + Drop>(alloc: Global, config: Config, files: F) -> (bool, F) {
+    match Engine::open_in_order(alloc, config, files) {
+        Ok(engine) => (true, engine.give_up()),
+        Err(refused) => (false, refused.file_system),
+    }
+}
+
+// The length of a file of which this was planned; one without a header gets one of 61 bytes.
+fn planned_len(planned: Option<&Planned>, len: usize) -> usize {
+    match planned {
+        Some(Planned::Cut(0)) => 61,
+        Some(Planned::Cut(end)) => *end,
+        Some(Planned::Keep | Planned::Fail) | None => len,
+    }
+}
+
+// Whether each file of a queue is as long as planned; where the opening fails, none has changed.
+fn is_left<F: FileSystem>(
+    alloc: Global,
+    files: &mut F,
+    queue: &QueueFiles,
+    mode: RecoveryMode,
+    opens: bool,
+) -> Result<bool, Fault> {
+    let plan = queue.plan(alloc, mode)?;
+    for (place, (file, check)) in queue.files.iter().zip(&queue.checks).enumerate() {
+        let planned = match place.checked_sub(queue.passed) {
+            Some(kept) if opens => plan.get(kept),
+            _ => None,
+        };
+        match length(files, file.path.as_str()) {
+            Ok(len) if len == planned_len(planned, check.len) => {}
+            Ok(_) => return Ok(false),
+            Err(fault) => return Err(fault.with_path(alloc, file.path.as_str())),
+        }
+    }
+    Ok(true)
+}
+
+/// What a check tells of an opening, if the opening then does it.
+pub(crate) fn outlook<F: FileSystem + Drop>(
+    alloc: Global,
+    files: F,
+    mode: RecoveryMode,
+) -> Result<String, Fault> {
+    let mut files = files;
+    let checked = check_both(alloc, &mut files)?;
+    let outlook = outlook_of(alloc, &checked, mode)?;
+    let (opens, mut left) = opened(alloc, config(alloc, mode)?, files);
+    let does = opens != outlook.fails
+        && is_left(alloc, &mut left, &checked.append, mode, opens)?
+        && is_left(alloc, &mut left, &checked.rewrite, mode, opens)?;
+    let Outlook {
+        fails,
+        files,
+        bytes,
+        zeros,
+        stale,
+        ..
+    } = &outlook;
+    Ok(if !does {
+        String::from_str(alloc, "otherwise")?
+    } else if *fails {
+        String::from_str(alloc, "fails")?
+    } else {
+        format!(in alloc; "opens {files} {bytes} {zeros} {stale}")?
+    })
+}

@@ -1,0 +1,168 @@
+//! Lines that ask an engine for what it holds.
+
+use crate::answer::{Answer, Unanswered};
+use crate::words::{Names, Spelled, bound, bytes_of, number};
+use raft_env::FileSystem;
+use raft_log_engine::Engine;
+use raft_script::{Outcome, TextEntry};
+use raft_test_rows::state_of;
+use std::alloc::{AllocError, Global};
+
+/// The keys and values that a scan hands over, as far as there is memory.
+#[derive(Drop)]
+struct Handed {
+    alloc: Global,
+    text: String,
+    count: u64,
+    most: u64,
+    is_whole: bool,
+}
+
+impl Handed {
+    fn new(alloc: Global, most: u64) -> Result<Handed, AllocError> {
+        Ok(Handed {
+            alloc,
+            text: String::from_str(alloc, "pairs")?,
+            count: 0,
+            most,
+            is_whole: true,
+        })
+    }
+
+    fn add(&mut self, key: &[u8], value: &[u8]) -> Result<(), AllocError> {
+        let key = Spelled(key);
+        let value = Spelled(value);
+        let pair = format!(in self.alloc; " {key} {value}")?;
+        self.text.push_str(pair.as_str())
+    }
+
+    // Whether more is to be handed over.
+    fn takes(&mut self, key: &[u8], value: &[u8]) -> bool {
+        self.is_whole = self.is_whole && self.add(key, value).is_ok();
+        self.count = self.count.saturating_add(1);
+        self.count < self.most
+    }
+
+    fn answer(self) -> Result<Answer, Unanswered> {
+        if self.is_whole {
+            Ok(Answer::Text(self.text))
+        } else {
+            Err(Unanswered::MEMORY)
+        }
+    }
+}
+
+// A bound of a scan, or none for `-`.
+fn key_bound(alloc: Global, names: &Names, word: &str) -> Result<Option<Vec<u8>>, Unanswered> {
+    match word {
+        "-" => Ok(None),
+        _ => Ok(Some(bytes_of(alloc, names, word)?)),
+    }
+}
+
+// The pairs of a group from one key up to another, in order or backwards, until there are so many.
+fn scanned<F: FileSystem>(
+    alloc: Global,
+    names: &Names,
+    engine: &Engine<F>,
+    words: &[&str],
+) -> Result<Answer, Unanswered> {
+    let (group, start, end, reverse, most) = match words {
+        [group, start, end, "most", most] => (group, start, end, false, most),
+        [group, start, end, "back", "most", most] => (group, start, end, true, most),
+        _ => return Err(Unanswered::BadLine),
+    };
+    let group = number(group)?;
+    let start = key_bound(alloc, names, start)?;
+    let end = key_bound(alloc, names, end)?;
+    let mut handed = Handed::new(alloc, number(most)?)?;
+    engine.scan_raw_messages(
+        group,
+        start.as_deref(),
+        end.as_deref(),
+        reverse,
+        &mut |key: &[u8], value: &[u8]| handed.takes(key, value),
+    )?;
+    handed.answer()
+}
+
+// The keys of a group with the words of their messages.
+fn messages<F: FileSystem>(
+    alloc: Global,
+    engine: &Engine<F>,
+    group: u64,
+) -> Result<Answer, Unanswered> {
+    let mut handed = Handed::new(alloc, u64::MAX)?;
+    engine.scan_messages::<TextEntry, _>(
+        group,
+        None,
+        None,
+        false,
+        &mut |key: &[u8], entry: TextEntry| handed.takes(key, &entry.word),
+    )?;
+    handed.answer()
+}
+
+// What a fetch answers, and how many entries it hands over.
+fn fetched<F: FileSystem>(
+    alloc: Global,
+    engine: &mut Engine<F>,
+    words: &[&str],
+) -> Result<Answer, Unanswered> {
+    let [group, begin, end, most] = words else {
+        return Err(Unanswered::BadLine);
+    };
+    let (group, begin, end) = (number(group)?, number(begin)?, number(end)?);
+    let most = match bound(most)? {
+        Some(most) => Some(most as usize),
+        None => None,
+    };
+    let mut entries: Vec<TextEntry> = Vec::new(alloc);
+    let count = engine.fetch_entries_to::<TextEntry>(group, begin, end, most, &mut entries)?;
+    Ok(Answer::Pair(count as u64, entries.len() as u64))
+}
+
+/// What an engine answers.
+pub(crate) fn answer<F: FileSystem>(
+    alloc: Global,
+    names: &Names,
+    engine: &mut Engine<F>,
+    words: &[&str],
+) -> Result<Answer, Unanswered> {
+    Ok(match words {
+        ["found"] => Answer::Found(state_of(&engine.image()?)),
+        ["get", group, key] => {
+            let key = bytes_of(alloc, names, key)?;
+            Answer::Outcome(Outcome::Value(engine.get(number(group)?, &key)))
+        }
+        ["entry", group, index] => {
+            let (group, index) = (number(group)?, number(index)?);
+            Answer::Outcome(Outcome::Entry(engine.get_entry::<TextEntry>(group, index)))
+        }
+        ["message-at", group, key] => {
+            let key = bytes_of(alloc, names, key)?;
+            let message = engine.get_message::<TextEntry>(number(group)?, &key);
+            Answer::Outcome(Outcome::Entry(message))
+        }
+        ["first", group] => Answer::Outcome(Outcome::Index(engine.first_index(number(group)?))),
+        ["last", group] => Answer::Outcome(Outcome::Index(engine.last_index(number(group)?))),
+        ["groups"] => Answer::Outcome(Outcome::Groups(engine.raft_groups())),
+        ["empty"] => Answer::Is(engine.is_empty()),
+        ["failed"] => Answer::Is(engine.failed()),
+        ["used"] => Answer::Number(engine.get_used_size() as u64),
+        ["path"] => Answer::Text(String::from_str(alloc, engine.path())?),
+        ["span", queue] => {
+            let spans = engine.file_spans();
+            let (first, last) = match *queue {
+                "append" => spans.append,
+                "rewrite" => spans.rewrite,
+                _ => return Err(Unanswered::BadLine),
+            };
+            Answer::Pair(first, last)
+        }
+        ["fetch", bounds @ ..] => fetched(alloc, engine, bounds)?,
+        ["scan", bounds @ ..] => scanned(alloc, names, engine, bounds)?,
+        ["messages", group] => messages(alloc, engine, number(group)?)?,
+        _ => return Err(Unanswered::BadLine),
+    })
+}

@@ -1,0 +1,43 @@
+//! Plays files of lines, each of which asks something of a log in memory and may say what is
+//! answered, and prints how many there were and which are answered otherwise. README.md has them.
+#![tactic(auto)]
+
+mod answer;
+mod batch;
+mod calls;
+mod check;
+mod files;
+mod looks;
+mod program;
+mod session;
+mod table;
+mod words;
+
+use raft_memory::MemoryFileSystem;
+use std::process::ExitCode;
+use std::{env, fs};
+use table::{Tally, play};
+
+fn main(rt: HostRuntime) -> Result<ExitCode, anyhow::Error> {
+    let mut all_right = true;
+    for path in env::args(&rt)?.skip(1) {
+        let text = fs::read_to_string(&rt, path.as_str())?;
+        let Tally {
+            stories,
+            lines,
+            answers,
+            wrong,
+            first_wrong,
+        } = &play::<MemoryFileSystem>(rt.alloc(), text.as_str())?;
+        println!(rt; "{path}: {stories} stories, {lines} lines, {answers} answers, {wrong} wrong")?;
+        if let Some(first) = first_wrong {
+            println!(rt; "{first}")?;
+            all_right = false;
+        }
+    }
+    Ok(if all_right {
+        ExitCode::SUCCESS
+    } else {
+        ExitCode::from(1)
+    })
+}

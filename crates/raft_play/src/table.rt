@@ -1,0 +1,88 @@
+//! A file of lines, played from its first to its last.
+
+use crate::answer::BAD_LINE;
+use crate::session::Session;
+use raft_test_rows::Faulty;
+use std::alloc::{AllocError, Global};
+
+/// What a file came to.
+#[derive(Drop)]
+pub(crate) struct Tally {
+    pub(crate) stories: u64,
+    /// The lines that ask for something, and those of them that say what is answered.
+    pub(crate) lines: u64,
+    pub(crate) answers: u64,
+    pub(crate) wrong: u64,
+    /// The first line that is answered otherwise, and how.
+    pub(crate) first_wrong: Option<String>,
+}
+
+// What a line asks for, and what is to be answered, where it says so.
+fn parts(line: &str) -> (&str, Option<&str>) {
+    if line.starts_with("< ") {
+        return (line, None);
+    }
+    if let Some(printed) = line.strip_prefix("> ") {
+        return (">", Some(printed));
+    }
+    match line.split_once(" = ") {
+        Some((asked, wanted)) => (asked, Some(wanted)),
+        None => (line, None),
+    }
+}
+
+// A line without an answer asks for something that isn't refused.
+fn is_right(answered: &str, wanted: Option<&str>) -> bool {
+    match wanted {
+        _ if answered == BAD_LINE => false,
+        Some(wanted) => answered == wanted,
+        None => !answered.starts_with("refused") && answered != "no",
+    }
+}
+
+impl Tally {
+    fn play_line<F: Faulty>(
+        &mut self,
+        alloc: Global,
+        session: &mut Session<F>,
+        number: usize,
+        line: &str,
+    ) -> Result<(), AllocError> {
+        if line.starts_with("story ") {
+            self.stories = self.stories.saturating_add(1);
+            return session.renew();
+        }
+        let (asked, wanted) = parts(line);
+        self.lines = self.lines.saturating_add(1);
+        if wanted.is_some() {
+            self.answers = self.answers.saturating_add(1);
+        }
+        let answered = session.answered(asked)?;
+        if !is_right(answered.as_str(), wanted) {
+            self.wrong = self.wrong.saturating_add(1);
+            if self.first_wrong.is_none() {
+                let text = format!(in alloc; "line {number}: {line}: was {answered}")?;
+                self.first_wrong = Some(text);
+            }
+        }
+        Ok(())
+    }
+}
+
+/// Plays the lines over new files of this kind.
+pub(crate) fn play<F: Faulty>(alloc: Global, text: &str) -> Result<Tally, AllocError> {
+    let mut session: Session<F> = Session::new(alloc);
+    let mut tally = Tally {
+        stories: 0,
+        lines: 0,
+        answers: 0,
+        wrong: 0,
+        first_wrong: None,
+    };
+    for (place, line) in text.lines().enumerate() {
+        if !line.is_empty() && !line.starts_with("#") {
+            tally.play_line(alloc, &mut session, place.saturating_add(1), line)?;
+        }
+    }
+    Ok(tally)
+}

@@ -1,0 +1,13 @@
+pub mod StepLemmas
+pub mod MarkLemmas
+pub mod DropLemmas
+pub mod MarkStepLemmas
+pub mod FaultLemmas
+pub mod ReadLemmas
+pub mod RenewalLemmas
+pub mod RewriterMomentLemmas
+pub mod AnewLemmas
+pub mod UnfitLemmas
+pub mod ToldLemmas
+pub mod CutLemmas
+pub mod KeepingLemmas

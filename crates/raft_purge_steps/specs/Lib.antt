@@ -1,0 +1,12 @@
+pub mod Emptied
+pub mod Dropping
+pub mod Faults
+pub mod RenewGathering
+pub mod Renewing
+pub mod Gathering
+pub mod Keeping
+pub mod Rewriting
+pub mod Scope
+pub mod Steps
+pub mod Unfit
+pub mod Cut

@@ -1,0 +1,11 @@
+-- What a purge gathers of the Rewrite queue, group by group, while that is written anew.
+use Rattle.raft_tables.specs.Owed.{Owed}
+use Rattle.raft_crash_laws.specs.Log.{KnownGroups}
+use Rattle.raft_crash_laws.specs.Renewal.{Renewal}
+use Rattle.raft_purge_steps.specs.Steps.{LogValue}
+
+-- of all of which the one is so, the other is so too
+abbrev pub RenewsOn : (Owed → KnownGroups → Renewal → LogValue → Type 0)
+    → (Owed → KnownGroups → Renewal → LogValue → Type 0) → Type 0
+RenewsOn P Q =
+    (owed : Owed) (met : KnownGroups) (r : Renewal) (v : LogValue) → P owed met r v → Q owed met r v

@@ -1,0 +1,10 @@
+//! The steps of a purge: the syncs and rotations with which each begins, how a batch gets into the Rewrite queue, and why a step fails.
+#![tactic(auto)]
+
+mod fault;
+mod steps;
+
+pub use fault::StepFault;
+pub use steps::{
+    append_rewritten, append_synced, rotate, rotate_rewrite, sync_append, sync_rewrite,
+};

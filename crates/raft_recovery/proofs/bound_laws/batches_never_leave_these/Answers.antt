@@ -1,5 +1,0 @@
-use Rattle.raft_recovery.proofs.BoundLemmas.{batches_below, no_mark_recovered, no_mark_value}
-use Rattle.raft_recovery.proofs.bound_laws.batches_never_leave_these.Goals as goal
-
-pub returns : goal.returns
-returns c = record { below = batches_below; marks = no_mark_value; recovered = no_mark_recovered }

@@ -1,5 +1,0 @@
-use Rattle.raft_recovery.proofs.PartLemmas.{after_item-parts}
-use Rattle.raft_recovery.proofs.rewrite_laws.entries_in_parts_are_the_same_as_at_once.Goals as goal
-
-pub returns : goal.returns
-returns c = record { parts = after_item-parts }

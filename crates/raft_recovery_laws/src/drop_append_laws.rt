@@ -1,0 +1,20 @@
+//! When the first files of the Append queue may be dropped.
+ghost use Rattle.std.specs.Prelude.{◌≡◌, ◌++◌, List};
+ghost use Rattle.raft_records.specs.Item.{Batch};
+ghost use Rattle.raft_recovery_laws.specs.Consecutive.{HaveConsecutiveEntries};
+ghost use Rattle.raft_recovery_laws.specs.DroppingFront.{HoldsDropped};
+ghost use Rattle.raft_recovery_laws.specs.Recovered.{effect, recovered};
+
+/// The first batches of the Append queue may be dropped where the Rewrite queue holds what the
+/// others leave alone of what is recovered, and nothing of a group right before its entries or
+/// after them, nor a key that isn't there (`dropped`); and nowhere else (`needed`).
+pub fn a_dropped_front_changes_nothing()
+    ensures dropped { (rewritten front rest : List Batch) → HaveConsecutiveEntries rewritten
+        → HaveConsecutiveEntries (front ++ rest)
+        → HoldsDropped (effect rewritten) rest (recovered rewritten (front ++ rest))
+        → recovered rewritten rest ≡ recovered rewritten (front ++ rest) }
+    ensures needed { (rewritten front rest : List Batch) → HaveConsecutiveEntries rewritten
+        → HaveConsecutiveEntries rest
+        → recovered rewritten rest ≡ recovered rewritten (front ++ rest)
+        → HoldsDropped (effect rewritten) rest (recovered rewritten (front ++ rest)) }
+{}

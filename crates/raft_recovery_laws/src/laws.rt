@@ -1,0 +1,45 @@
+//! What an opening finds where batches are appended, and where older ones still stand before these.
+ghost use Rattle.std.specs.Prelude.{◌≡◌, ◌++◌, ◌∷◌, List, []};
+ghost use Rattle.raft_records.specs.Contents.{Contents, after_batch, after_batches, no_contents};
+ghost use Rattle.raft_records.specs.Item.{Batch};
+ghost use Rattle.raft_records.specs.Validity.{IsValidBatch};
+ghost use Rattle.raft_recovery_laws.specs.Consecutive.{HasConsecutiveEntries, HaveConsecutiveEntries};
+ghost use Rattle.raft_recovery_laws.specs.Recovered.{effect, recovered, replay};
+ghost use Rattle.raft_recovery_laws.specs.Valid.{AreValidBatches};
+
+/// Where the Rewrite queue is empty, the Append queue's batches are found one after the other
+/// (`alone`). A batch that is valid for what is found is found after it (`one`), and so are batches
+/// that are valid one after the other (`all`), whatever the Rewrite queue holds.
+pub fn valid_batches_are_found()
+    ensures alone { (appended : List Batch)
+        → recovered [] appended ≡ after_batches no_contents appended }
+    ensures one { (rewritten appended : List Batch) (batch : Batch)
+        → HaveConsecutiveEntries rewritten → HaveConsecutiveEntries appended
+        → IsValidBatch (recovered rewritten appended) batch
+        → recovered rewritten (appended ++ batch ∷ [])
+        ≡ after_batch (recovered rewritten appended) batch }
+    ensures all { (rewritten appended batches : List Batch) → HaveConsecutiveEntries rewritten
+        → HaveConsecutiveEntries appended
+        → AreValidBatches (recovered rewritten appended) batches
+        → recovered rewritten (appended ++ batches)
+        ≡ after_batches (recovered rewritten appended) batches }
+{}
+
+/// The Append queue's batches change nothing of what was found with them (`again`). Where batches
+/// change nothing of contents, the later ones of them change nothing (`later`); and where those
+/// contents are found with the later ones alone, they are found with all (`older`). So a dropped
+/// file may still stand, as long as the files after it do. All hold for any contents with
+/// consecutive entries, as those of the Rewrite queue are (`rewritten`).
+pub fn older_batches_change_nothing()
+    ensures again { (x : Contents) (appended : List Batch) → HasConsecutiveEntries x
+        → HaveConsecutiveEntries appended
+        → replay (replay x appended) appended ≡ replay x appended }
+    ensures later { (m : Contents) (older newer : List Batch) → HasConsecutiveEntries m
+        → HaveConsecutiveEntries (older ++ newer) → replay m (older ++ newer) ≡ m
+        → replay m newer ≡ m }
+    ensures older { (x found : Contents) (older newer : List Batch) → HasConsecutiveEntries x
+        → HaveConsecutiveEntries (older ++ newer) → replay found (older ++ newer) ≡ found
+        → replay x newer ≡ found → replay x (older ++ newer) ≡ found }
+    ensures rewritten { (rewritten : List Batch) → HaveConsecutiveEntries rewritten
+        → HasConsecutiveEntries (effect rewritten) }
+{}

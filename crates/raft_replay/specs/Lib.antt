@@ -1,0 +1,9 @@
+pub mod Kept
+pub mod Recovered
+pub mod Machine
+pub mod Read
+pub mod Placed
+pub mod Appended
+pub mod Chunks
+pub mod Reaches
+pub mod Older

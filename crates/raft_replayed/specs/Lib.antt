@@ -1,4 +1,0 @@
-pub mod Kept
-pub mod Recovered
-pub mod Machine
-pub mod Read

@@ -1,5 +1,0 @@
-use Rattle.raft_standing.proofs.WholeLemmas.{whole_rewritten}
-use Rattle.raft_standing.proofs.laws.rewritten_batches_place_all_there.Goals as goal
-
-pub returns : goal.returns
-returns c = record { whole = whole_rewritten }

@@ -1,0 +1,206 @@
+//! Files in memory, or an engine over them.
+
+use crate::plans::{Left, choices_of};
+use crate::states::{MAX_FILES, State, settings_in, state_of};
+use raft_env::{FileSystem, IoKind};
+use raft_log_engine::{Config, Engine, RecoveryMode, Refused};
+use raft_memory::{FsCall, MemoryFileSystem};
+use raft_records::Fault;
+use std::alloc::Global;
+use std::mem;
+
+/// Which call fails: the nth of a sort, in this way, or the nth that changes files and each after it.
+#[derive(Clone, Copy)]
+pub enum Failing {
+    Nth(FsCall, u64, IoKind),
+    From(u64),
+}
+
+/// Files that fail and crash as they are told.
+pub trait Faulty: FileSystem + Drop {
+    fn fresh(alloc: Global) -> Self;
+
+    fn fail(&mut self, failing: Failing) -> Result<(), Fault>;
+
+    fn fail_under(engine: &mut Engine<Self>, failing: Failing) -> Result<(), Fault>;
+
+    fn crash_to(&mut self, alloc: Global, left: &Left) -> Result<(), Fault>;
+
+    /// Gives a folder so many bytes of free space.
+    fn free_to(&mut self, folder: &str, bytes: u64) -> Result<(), Fault>;
+
+    /// Gives metadata to a path.
+    fn note(&mut self, path: &str) -> Result<(), Fault>;
+
+    /// The files with all their bytes, as a crash leaves them.
+    fn copied(&self, alloc: Global) -> Result<Self, Fault>;
+}
+
+impl Faulty for MemoryFileSystem {
+    fn fresh(alloc: Global) -> MemoryFileSystem {
+        MemoryFileSystem::new(alloc)
+    }
+
+    fn fail(&mut self, failing: Failing) -> Result<(), Fault> {
+        match failing {
+            Failing::Nth(call, nth, kind) => self.refuse(call, nth, kind),
+            Failing::From(nth) => {
+                self.stop_at(nth);
+                Ok(())
+            }
+        }
+    }
+
+    fn fail_under(engine: &mut Engine<MemoryFileSystem>, failing: Failing) -> Result<(), Fault> {
+        match failing {
+            Failing::Nth(call, nth, kind) => engine.refuse(call, nth, kind),
+            Failing::From(nth) => {
+                engine.stop_at(nth);
+                Ok(())
+            }
+        }
+    }
+
+    fn crash_to(&mut self, alloc: Global, left: &Left) -> Result<(), Fault> {
+        *self = self.crash(&choices_of(alloc, left, MAX_FILES)?)?;
+        Ok(())
+    }
+
+    fn free_to(&mut self, folder: &str, bytes: u64) -> Result<(), Fault> {
+        Ok(self.set_free(folder, bytes)?)
+    }
+
+    fn note(&mut self, path: &str) -> Result<(), Fault> {
+        Ok(self.set_metadata(path)?)
+    }
+
+    fn copied(&self, alloc: Global) -> Result<MemoryFileSystem, Fault> {
+        self.crash(&choices_of(alloc, &Left::All, MAX_FILES)?)
+    }
+}
+
+/// Where the files are.
+#[derive(Drop)]
+pub enum Held<F: FileSystem> {
+    Files(F),
+    Engine(Engine<F>),
+    /// What the last opening or closing gave back.
+    Refused(Refused<F>),
+    Nothing,
+}
+
+fn is_image<F: FileSystem>(engine: &mut Engine<F>, state: State) -> bool {
+    match engine.image() {
+        Ok(image) => state_of(&image) == state,
+        Err(_) => false,
+    }
+}
+
+impl<F: Faulty> Held<F> {
+    /// Begins anew.
+    pub fn renew(&mut self, alloc: Global) {
+        *self = Held::Files(F::fresh(alloc));
+    }
+
+    fn take(&mut self) -> Option<F> {
+        match mem::replace(self, Held::Nothing) {
+            Held::Files(files) => Some(files),
+            Held::Engine(engine) => Some(engine.give_up()),
+            Held::Refused(refused) => Some(refused.file_system),
+            Held::Nothing => None,
+        }
+    }
+
+    /// The files, unless an engine has them.
+    pub fn files(&mut self) -> Option<&mut F> {
+        match self {
+            Held::Files(files) => Some(files),
+            Held::Refused(refused) => Some(&mut refused.file_system),
+            _ => None,
+        }
+    }
+
+    pub fn give_up(&mut self) {
+        if let Some(files) = self.take() {
+            *self = Held::Files(files);
+        }
+    }
+
+    /// Opens the files, which an engine gives up first.
+    pub fn open_with(&mut self, alloc: Global, config: Config) {
+        if let Some(files) = self.take() {
+            *self = match Engine::open_in_order(alloc, config, files) {
+                Ok(engine) => Held::Engine(engine),
+                Err(refused) => Held::Refused(refused),
+            };
+        }
+    }
+
+    /// .. with the settings of the tests, in this mode: whether there was memory for them.
+    pub fn open(&mut self, alloc: Global, mode: RecoveryMode) -> bool {
+        match settings_in(alloc, mode) {
+            Ok(config) => {
+                self.open_with(alloc, config);
+                true
+            }
+            Err(_) => false,
+        }
+    }
+
+    pub fn close(&mut self) {
+        if let Held::Engine(engine) = mem::replace(self, Held::Nothing) {
+            *self = match engine.close() {
+                Ok(files) => Held::Files(files),
+                Err(refused) => Held::Refused(refused),
+            };
+        }
+    }
+
+    pub fn reopen(&mut self) {
+        if let Held::Engine(engine) = mem::replace(self, Held::Nothing) {
+            *self = match engine.reopen() {
+                Ok(engine) => Held::Engine(engine),
+                Err(refused) => Held::Refused(refused),
+            };
+        }
+    }
+
+    /// Why the last opening or closing failed, if it did.
+    pub fn fault(&self) -> Option<&Fault> {
+        match self {
+            Held::Refused(refused) => Some(&refused.fault),
+            _ => None,
+        }
+    }
+
+    /// Whether an opening came to this state, or failed with this code.
+    pub fn has_come_to(&mut self, wanted: &Result<State, u8>) -> bool {
+        match self {
+            Held::Engine(engine) => match wanted {
+                Ok(state) => is_image(engine, *state),
+                Err(_) => false,
+            },
+            Held::Refused(refused) => match wanted {
+                Ok(_) => false,
+                Err(code) => refused.fault.code() == *code,
+            },
+            _ => false,
+        }
+    }
+
+    pub fn crash(&mut self, alloc: Global, left: &Left) -> bool {
+        match self.files() {
+            Some(files) => files.crash_to(alloc, left).is_ok(),
+            None => false,
+        }
+    }
+
+    pub fn fail(&mut self, failing: Failing) -> bool {
+        match self {
+            Held::Engine(engine) => F::fail_under(engine, failing).is_ok(),
+            Held::Files(files) => files.fail(failing).is_ok(),
+            Held::Refused(refused) => refused.file_system.fail(failing).is_ok(),
+            Held::Nothing => false,
+        }
+    }
+}
