@@ -35,6 +35,14 @@ const SPILL_2: Stored = (
 
 const SPILL_REWRITE_2: Stored = ("more", "more/0000000000000002.rewrite", &[HEADER]);
 
+const MAIN_4: Stored = ("data", "data/0000000000000004.raftlog", &[HEADER]);
+
+const MAIN_5: Stored = ("data", "data/0000000000000005.raftlog", &[HEADER]);
+
+const SPILL_5: Stored = ("more", "more/0000000000000005.raftlog", &[HEADER]);
+
+const SPILL_6: Stored = ("more", "more/0000000000000006.raftlog", &[HEADER]);
+
 /// Files, and those of the Append queue that a recovery keeps, each with whether its number stands in one folder alone.
 struct Scan {
     name: &'static str,
@@ -42,7 +50,7 @@ struct Scan {
     kept: &'static [(&'static str, bool)],
 }
 
-static SCANS: [Scan; 9] = [
+static SCANS: [Scan; 10] = [
     Scan {
         name: "no files",
         stored: &[],
@@ -78,6 +86,14 @@ static SCANS: [Scan; 9] = [
         kept: &[
             ("more/0000000000000001.raftlog", false),
             ("data/0000000000000002.raftlog", true),
+        ],
+    },
+    Scan {
+        name: "a doubled number inside a run over both folders",
+        stored: &[MAIN_4, MAIN_5, SPILL_5, SPILL_6],
+        kept: &[
+            ("more/0000000000000005.raftlog", false),
+            ("more/0000000000000006.raftlog", true),
         ],
     },
     Scan {
