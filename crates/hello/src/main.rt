@@ -1,7 +1,8 @@
 //! Puts a key with a sync into a log in a folder, and finds it after the next opening.
 #![tactic(auto)]
 
-use raft_engine::{Config, DiskFileSystem, Engine, Fault, FileSystem, Fresh, LogBatch};
+use raft_disk::DiskFileSystem;
+use raft_log_engine::{Config, Engine, Fault, FileSystem, Fresh, LogBatch};
 use std::alloc::Global;
 
 fn main(rt: HostRuntime) -> Result<(), anyhow::Error> {

@@ -1,5 +1,6 @@
 use denote.Param.Send.{sendable}
-use Rattle.raft_engine.proofs.Sent.{memory_send, memory_sync, folder_send, folder_sync, mirror_send, mirror_sync}
+use Rattle.raft_memory.proofs.Sent.{memory_send, memory_sync}
+use Rattle.raft_disk.proofs.Sent.{folder_send, folder_sync, mirror_send, mirror_sync}
 use Rattle.hello.proofs.main.Goals as goal
 
 pub put-requires-send-F : goal.put-requires-send-F
