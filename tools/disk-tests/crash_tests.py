@@ -274,7 +274,7 @@ class Tests:
         if env:
             env = {"LD_PRELOAD": self.recorder, "RECORD_FOLDER": folder, "ASAN_OPTIONS": "verify_asan_link_order=0", **env}
         words = [program or self.program, folder, *map(str, words)]
-        return subprocess.run(words, capture_output=True, text=True, env={**os.environ, **env}, timeout=120)
+        return subprocess.run(words, capture_output=True, text=True, env={**os.environ, **env}, timeout=900)
 
     def standing(self, folder, run):
         """How many keys of each thread stand from 0 on, or what is wrong. A look makes no folder."""

@@ -148,7 +148,7 @@ func judge(ctx context.Context, s settings, c *cluster.Cluster, h *history) erro
 	fmt.Printf("since their last starts the nodes saved %d changes in %d rounds, made %d snapshots "+
 		"and purged %d times\n", stats.Changes, stats.Rounds, stats.Snapshots, stats.Purges)
 	for i := 0; i < cluster.Size; i++ {
-		if !c.End(i, syscall.SIGTERM, 10*time.Second) {
+		if !c.End(i, syscall.SIGTERM, endsWithin) {
 			return fmt.Errorf("node %d doesn't stop", i+1)
 		}
 	}
