@@ -97,7 +97,7 @@ func run(s settings) (err error) {
 
 // hurt lets clients call, and things go wrong, as long as the settings say.
 func hurt(ctx context.Context, s settings, c *cluster.Cluster, disk *disk) (*history, error) {
-	starting, cancel := context.WithTimeout(ctx, time.Minute)
+	starting, cancel := context.WithTimeout(ctx, 2*time.Minute)
 	defer cancel()
 	if err := c.StartAll(starting); err != nil {
 		return nil, err
