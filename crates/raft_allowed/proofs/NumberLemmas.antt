@@ -1,0 +1,49 @@
+-- The numbers that groups keep, and which are new.
+use Rattle.std.proofs.Common.{◌≡◌, ℕ, ◌+◌, ◌<◌, ◌≤◌, Bool, true, false, cond, List, [], ◌∷◌, ◌++◌, length, map, take, drop, get_or, Option, Some, None, refl, sym, ◌∙◌, ap, subst, append_assoc, arith, nat_eq}
+use Rattle.std.specs.Prelude.{◌||◌, ◌&&◌, nat_lt, Vec}
+use Rattle.std.specs.List.{list_all, list_any}
+use Rattle.std.specs.Map.{lookup}
+use Rattle.std.specs.Str.{bytes_eq}
+use Rattle.std.specs.Cmp.Lexicographic.{nat_list_eq_equiv}
+use Rattle.std.specs.declared.alloc.Global.{Global}
+use Rattle.std.proofs.lemmas.Bool.{cond-true, cond-false, le-ltb}
+use Rattle.std.proofs.lemmas.List.{map-append}
+use Rattle.raft_once.specs.Numbers.{Pair, are_new, is_number_key, number_in, number_item, number_items, number_key, number_of, numbered}
+use Rattle.raft_records.specs.Contents.{Contents}
+use Rattle.raft_records.specs.Item.{Batch}
+use Rattle.raft_tables.specs.Listing.{listed}
+use Rattle.raft_log_engine.specs.declared.engine.image.GroupImage.{GroupImage}
+use Rattle.raft_allowed.specs.Held.{Held, IsHeldBy, held_at, held_of, kept_of}
+
+-- what a group keeps is told from its pairs
+pub kept_is : (m : Contents) (images : List GroupImage) (group : ℕ) → IsHeldBy m images → kept_of (held_at group (held_of images)) ≡ number_of m group
+kept_is m images group held = ap number_in ((held.each group).keys.value number_key)
+
+-- the first of numbers is new, or isn't
+pub new_first : (m : Contents) (pair : Pair) (pairs : List Pair) → number_of m pair.0 < pair.1 → are_new m pairs ≡ are_new m (pair ∷ pairs)
+new_first m pair pairs greater = sym (ap (λ b. b && are_new m pairs) (yes greater))
+  where
+    yes : number_of m pair.0 < pair.1 → nat_lt (number_of m pair.0) pair.1 ≡ true
+    yes h = grind arith
+
+pub old_first : (m : Contents) (pair : Pair) (pairs : List Pair) → pair.1 ≤ number_of m pair.0 → false ≡ are_new m (pair ∷ pairs)
+old_first m pair pairs less = sym (ap (λ b. b && are_new m pairs) (le-ltb pair.1 (number_of m pair.0) less))
+
+-- numbers behind the items of a batch, with one more
+pub numbered_more : (items : Batch) (pairs : List Pair) (i : ℕ) (pair : Pair) (old new : Batch) → take (i + 1) pairs ≡ take i pairs ++ pair ∷ [] → old ≡ numbered items (take i pairs) → new ≡ old ++ number_item pair ∷ [] → new ≡ numbered items (take (i + 1) pairs)
+numbered_more items pairs i pair old new taken so_far pushed =
+    pushed ∙ ap (λ (l : Batch). l ++ number_item pair ∷ []) so_far ∙ append_assoc items (number_items (take i pairs)) (number_item pair ∷ [])
+    ∙ ap (λ (l : Batch). items ++ l) (sym (map-append number_item (take i pairs) (pair ∷ []))) ∙ sym (ap (λ (ps : List Pair). items ++ number_items ps) taken)
+
+-- at the first of pairs the key is found, or it isn't
+abbrev pub Stored : Type 0
+Stored = Vec ℕ Global × Vec ℕ Global
+
+same_test : (key : List ℕ) (b : Bool) → is_number_key key ≡ b → bytes_eq number_key key ≡ b
+same_test key b is = nat_list_eq_equiv.symm number_key key ∙ is
+
+pub found_first : (pair : Stored) (pairs : List Stored) → is_number_key pair.0.items ≡ true → lookup (bytes_eq number_key) (listed (pair ∷ pairs)) ≡ Some pair.1.items
+found_first pair pairs is = cond-true (bytes_eq number_key pair.0.items) (Some pair.1.items) (lookup (bytes_eq number_key) (listed pairs)) (same_test pair.0.items true is)
+
+pub found_later : (pair : Stored) (pairs : List Stored) → is_number_key pair.0.items ≡ false → lookup (bytes_eq number_key) (listed (pair ∷ pairs)) ≡ lookup (bytes_eq number_key) (listed pairs)
+found_later pair pairs is = cond-false (bytes_eq number_key pair.0.items) (Some pair.1.items) (lookup (bytes_eq number_key) (listed pairs)) (same_test pair.0.items false is)

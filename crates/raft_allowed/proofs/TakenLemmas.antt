@@ -1,0 +1,59 @@
+-- Images of what contents take of a batch, one place after the other.
+use Rattle.std.proofs.Common.{◌≡◌, ℕ, zero, suc, ◌+◌, ◌<◌, Bool, true, false, cond, List, [], ◌∷◌, ◌++◌, length, map, take, get_or, Option, None, refl, sym, ◌∙◌, ap, subst, arith}
+use Rattle.std.specs.Prelude.{is_none}
+use Rattle.std.specs.List.{AllZip}
+use Rattle.std.specs.declared.cmp.Ordering.{Ordering}
+use Rattle.std.proofs.lemmas.List.{flat_map_more}
+use Rattle.raft_records.specs.Contents.{Contents, after_batch}
+use Rattle.raft_records.specs.Item.{Batch}
+use Rattle.raft_records.specs.Validity.{batch_refusal}
+use Rattle.raft_crash_laws.specs.Crash.{pending_of, written_batch}
+use Rattle.raft_log_engine.specs.declared.engine.image.Image.{Image}
+use Rattle.raft_allowed.specs.Held.{IsHeldBy, between, is_nil}
+use Rattle.raft_allowed.specs.Walk.{AreHeldBy, taken_of}
+use Rattle.raft_allowed.proofs.ChoiceLemmas.{zip_append}
+
+-- no bounds
+pub between_all : {K V : Type 0} (cmp : K → K → Ordering) (es : List (K × V)) → between cmp None None es ≡ es
+between_all cmp [] = refl
+between_all cmp (e ∷ es) = ap (λ l. e ∷ l) (between_all cmp es)
+
+-- what stands at a place of two lists side by side
+pub record IsAtPlace {A B : Type 0} (R : A → B → Type 0) (x : A) (ys : List B) (place : ℕ) : Type 0 where
+  pub other : B
+  pub are : R x other
+  pub taken : take (suc place) ys ≡ take place ys ++ other ∷ []
+
+pub zip_at : {A B : Type 0} (R : A → B → Type 0) (xs : List A) (ys : List B) (place : ℕ) (x : A) → AllZip R xs ys → place < length xs → x ≡ get_or xs place x → IsAtPlace R x ys place
+zip_at R [] ys place x zip within is = absurd (omega arith)
+zip_at R (a ∷ xs) [] place x zip within is = absurd zip
+zip_at R (a ∷ xs) (b ∷ ys) zero x zip within is = record { other = b; are = subst (λ c. R c b) (sym is) zip.0; taken = refl }
+zip_at R (a ∷ xs) (b ∷ ys) (suc n) x zip within is =
+    let rest = zip_at R xs ys n x zip.1 (omega arith) is in
+    record { other = rest.other; are = rest.are; taken = ap (λ l. b ∷ l) rest.taken }
+
+-- of a batch with items what is pending is the batch, where it is taken
+pending_some : (m : Contents) (batch : Batch) → is_nil batch ≡ false → pending_of m batch ≡ cond (is_none (batch_refusal m batch)) (batch ∷ []) []
+pending_some m [] some = cc
+pending_some m (item ∷ items) some = refl
+
+-- an image more, where it is taken
+pub taken_step : (batch : Batch) (ms : List Contents) (taken found new : List Image) (place : ℕ) (image applied : Image) (fits : Bool) → is_nil batch ≡ false → AreHeldBy found ms → place < length found → image ≡ get_or found place image
+    → AreHeldBy taken (taken_of batch (take place ms)) → ((m : Contents) → IsHeldBy m image.groups.items → IsHeldBy (after_batch m batch) applied.groups.items × (fits ≡ is_none (batch_refusal m batch))) → new ≡ taken ++ cond fits (applied ∷ []) []
+    → AreHeldBy new (taken_of batch (take (place + 1) ms))
+taken_step batch ms taken found new place image applied fits some are within is so_far step pushed =
+    let R : Image → Contents → Type 0 = λ i m. IsHeldBy m i.groups.items in
+    let at = zip_at R found ms place image are within is in
+    let after = step at.other at.are in
+    let next : place + 1 ≡ suc place = omega arith in
+    let whole : taken_of batch (take (place + 1) ms) ≡ taken_of batch (take place ms) ++ map (after_batch at.other) (pending_of at.other batch) =
+    ap (λ (n : ℕ). taken_of batch (take n ms)) next ∙ ap (taken_of batch) at.taken ∙ sym (flat_map_more (λ m. map (after_batch m) (pending_of m batch)) [] (take place ms) at.other) in
+    let pending : map (after_batch at.other) (pending_of at.other batch) ≡ map (after_batch at.other) (cond fits (batch ∷ []) []) =
+    ap (map (after_batch at.other)) (pending_some at.other batch some ∙ ap (λ b. cond b (batch ∷ []) []) (sym after.1)) in
+    subst (λ (l : List Image). AreHeldBy l (taken_of batch (take (place + 1) ms))) (sym pushed)
+    (subst (AreHeldBy (taken ++ cond fits (applied ∷ []) [])) (sym (whole ∙ ap (λ l. taken_of batch (take place ms) ++ l) pending))
+    (zip_append R taken (cond fits (applied ∷ []) []) (taken_of batch (take place ms)) (map (after_batch at.other) (cond fits (batch ∷ []) [])) so_far (one fits at.other after.0)))
+  where
+    one : (b : Bool) (m : Contents) → IsHeldBy (after_batch m batch) applied.groups.items → AreHeldBy (cond b (applied ∷ []) []) (map (after_batch m) (cond b (batch ∷ []) []))
+    one true m held = (held, tt)
+    one false m held = tt

@@ -1,0 +1,162 @@
+//! The batches of operations.
+ghost use Rattle.std.specs.Prelude.{◌≡◌, ◌∷◌, ◌^◌, [], nat_lt, not, true, IfOk};
+ghost use Rattle.raft_records.specs.Contents.{Contents};
+ghost use Rattle.raft_once.specs.History.{are_numbers};
+ghost use Rattle.raft_once.specs.Numbers.{are_new};
+ghost use Rattle.raft_log_engine.specs.Cause.{plain_parts};
+ghost use Rattle.raft_log_engine.specs.Reads.{compact_batch};
+ghost use Rattle.raft_script.specs.Batches.{batch_of_acts, batches_of_op, group_batches, once_batch};
+ghost use Rattle.raft_allowed.specs.Changes.{batch_in, batches_in};
+ghost use Rattle.raft_allowed.specs.Held.{IsHeldBy, held_at, held_of, is_nil, kept_of};
+
+use crate::changes::{Change, What, changes_of, changes_of_all, has_numbers, plain_part, push_numbers};
+use crate::parts::kept_in;
+use raft_log_engine::GroupImage;
+use raft_once::are_unfit;
+use raft_script::{Act, Op};
+use std::alloc::{AllocError, Global};
+
+/// The batches that an operation is to write, where these groups stand before it.
+pub(crate) fn batches_of<'a>(
+    alloc: Global,
+    groups: &[GroupImage],
+    op: &'a Op,
+) -> Result<Vec<Vec<Change<'a>>>, AllocError>
+    ensures { IfOk result (λ batches. (m : Contents) → IsHeldBy m groups.now
+        → batches_in batches.items ≡ batches_of_op m op.now) }
+{
+    match op {
+        Op::Write(acts, _) => {
+            let changes = changes_of_all(alloc, acts)?;
+            batch_alone(alloc, plain_part(changes))
+        }
+        Op::WriteOnce(acts, pairs, _) => {
+            let changes = acting_changes(alloc, groups, acts, pairs)?;
+            batch_alone(alloc, changes)
+        }
+        Op::WriteGroup(parts) => batches_of_parts(alloc, parts),
+        Op::CompactTo(group, index) => {
+            let changes = compaction(alloc, groups, *group, *index)?;
+            batch_alone(alloc, changes)
+        }
+        _ => Ok(Vec::new(alloc)),
+    }
+}
+
+fn batch_alone<'a>(
+    alloc: Global,
+    batch: Vec<Change<'a>>,
+) -> Result<Vec<Vec<Change<'a>>>, AllocError>
+    ensures { IfOk result (λ batches. batches_in batches.items ≡ batch_in batch.entry.items ∷ []) }
+{
+    let mut batches = Vec::new(alloc);
+    batches.push(batch)?;
+    Ok(batches)
+}
+
+// A batch of each part, and none at all where one of them has none.
+fn batches_of_parts<'a>(
+    alloc: Global,
+    parts: &'a [(Vec<Act>, bool)],
+) -> Result<Vec<Vec<Change<'a>>>, AllocError>
+    ensures { IfOk result (λ batches.
+        batches_in batches.items ≡ plain_parts (group_batches parts.now)) }
+{
+    let mut batches = Vec::new(alloc);
+    for part in parts {
+        match changes_of(alloc, &part.0)? {
+            Some(changes) => batches.push(plain_part(changes))?,
+            None => return Ok(Vec::new(alloc)),
+        }
+    }
+    Ok(batches)
+}
+
+// The changes of a write with numbers, where it acts.
+fn acting_changes<'a>(
+    alloc: Global,
+    groups: &[GroupImage],
+    acts: &'a [Act],
+    pairs: &[(u64, u64)],
+) -> Result<Vec<Change<'a>>, AllocError>
+    ensures { IfOk result (λ batch. (m : Contents) → IsHeldBy m groups.now
+        → batch_in batch.items ≡ once_batch m (batch_of_acts acts.now) pairs.now) }
+{
+    numbers_fit(pairs);
+    let Some(mut changes) = changes_of(alloc, acts)? else {
+        return Ok(Vec::new(alloc));
+    };
+    if are_unfit(pairs) || has_numbers(&changes) || !are_new(groups, pairs) {
+        return Ok(Vec::new(alloc));
+    }
+    push_numbers(&mut changes, pairs)?;
+    Ok(changes)
+}
+
+// Each number has eight bytes, as its type says: they are read for that alone.
+fn numbers_fit(pairs: &[(u64, u64)])
+    ensures { are_numbers pairs.now ≡ true }
+{
+    for (_, number) in pairs {
+        number_fits(*number);
+    }
+}
+
+fn number_fits(number: u64)
+    ensures { nat_lt number (2 ^ 64) ≡ true }
+{}
+
+// Whether each number is greater than the one that its group keeps.
+fn are_new(groups: &[GroupImage], pairs: &[(u64, u64)]) -> bool
+    ensures { (m : Contents) → IsHeldBy m groups.now → result ≡ are_new m pairs.now }
+{
+    for pair in pairs {
+        if pair.1 <= kept_at(groups, pair.0) {
+            return false;
+        }
+    }
+    true
+}
+
+// The number that a group keeps, 0 where it keeps none.
+fn kept_at(groups: &[GroupImage], group: u64) -> u64
+    ensures { result ≡ kept_of (held_at group (held_of groups.now)) }
+{
+    for image in groups {
+        if image.group == group {
+            return kept_in(&image.pairs);
+        }
+    }
+    0
+}
+
+// The command that drops entries of a group, where it has some.
+fn compaction<'a>(
+    alloc: Global,
+    groups: &[GroupImage],
+    group: u64,
+    index: u64,
+) -> Result<Vec<Change<'a>>, AllocError>
+    ensures { IfOk result (λ batch. batch_in batch.items
+        ≡ compact_batch group index (held_at group (held_of groups.now)).entries) }
+{
+    let mut batch = Vec::new(alloc);
+    if has_entries(groups, group) {
+        batch.push(Change {
+            group,
+            what: What::Compact(index),
+        })?;
+    }
+    Ok(batch)
+}
+
+fn has_entries(groups: &[GroupImage], group: u64) -> bool
+    ensures { is_nil (held_at group (held_of groups.now)).entries ≡ not result }
+{
+    for image in groups {
+        if image.group == group {
+            return !image.entries.is_empty();
+        }
+    }
+    false
+}
