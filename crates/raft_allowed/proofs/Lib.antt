@@ -9,3 +9,4 @@ pub mod WalkLemmas
 pub mod TakenLemmas
 pub mod ShownLemmas
 pub mod NumberLemmas
+pub mod AnswerLemmas

@@ -1,17 +1,18 @@
 -- Images of what contents take of a batch, one place after the other.
-use Rattle.std.proofs.Common.{◌≡◌, ℕ, zero, suc, ◌+◌, ◌<◌, Bool, true, false, cond, List, [], ◌∷◌, ◌++◌, length, map, take, get_or, Option, None, refl, sym, ◌∙◌, ap, subst, arith}
+use Rattle.std.proofs.Common.{◌≡◌, ℕ, zero, suc, ◌+◌, ◌<◌, Bool, true, false, cond, List, [], ◌∷◌, ◌++◌, length, map, take, drop, get_or, Option, None, refl, sym, ◌∙◌, ap, subst, arith}
 use Rattle.std.specs.Prelude.{is_none}
 use Rattle.std.specs.List.{AllZip}
 use Rattle.std.specs.declared.cmp.Ordering.{Ordering}
-use Rattle.std.proofs.lemmas.List.{flat_map_more}
+use Rattle.std.proofs.lemmas.List.{append-nil, flat_map_more}
 use Rattle.raft_records.specs.Contents.{Contents, after_batch}
 use Rattle.raft_records.specs.Item.{Batch}
 use Rattle.raft_records.specs.Validity.{batch_refusal}
 use Rattle.raft_crash_laws.specs.Crash.{pending_of, written_batch}
 use Rattle.raft_log_engine.specs.declared.engine.image.Image.{Image}
 use Rattle.raft_allowed.specs.Held.{IsHeldBy, between, is_nil}
-use Rattle.raft_allowed.specs.Walk.{AreHeldBy, taken_of}
+use Rattle.raft_allowed.specs.Walk.{AreHeldBy, contents_from, taken_of}
 use Rattle.raft_allowed.proofs.ChoiceLemmas.{zip_append}
+use Rattle.raft_allowed.proofs.LoopLemmas.{ahead}
 
 -- no bounds
 pub between_all : {K V : Type 0} (cmp : K → K → Ordering) (es : List (K × V)) → between cmp None None es ≡ es
@@ -57,3 +58,21 @@ taken_step batch ms taken found new place image applied fits some are within is 
     one : (b : Bool) (m : Contents) → IsHeldBy (after_batch m batch) applied.groups.items → AreHeldBy (cond b (applied ∷ []) []) (map (after_batch m) (cond b (batch ∷ []) []))
     one true m held = (held, tt)
     one false m held = tt
+
+-- a batch without items is taken by none
+taken_none : (ms : List Contents) → taken_of [] ms ≡ []
+taken_none [] = refl
+taken_none (m ∷ ms) = taken_none ms
+
+pub none_taken : (found : List Image) (ms : List Contents) (batch : Batch) → batch ≡ [] → AreHeldBy found ms → AreHeldBy found (ms ++ taken_of batch ms)
+none_taken found ms batch empty are =
+    let same : ms ≡ ms ++ taken_of batch ms = sym (append-nil ms) ∙ ap (λ (l : List Contents). ms ++ l) (sym (taken_none ms)) ∙ ap (λ (b : Batch). ms ++ taken_of b ms) (sym empty) in
+    subst (AreHeldBy found) same are
+
+pub taken_behind : (found taken new : List Image) (ms : List Contents) (batch : Batch) → new ≡ found ++ taken → AreHeldBy found ms → AreHeldBy taken (taken_of batch ms) → AreHeldBy new (ms ++ taken_of batch ms)
+taken_behind found taken new ms batch is are more =
+    subst (λ (l : List Image). AreHeldBy l (ms ++ taken_of batch ms)) (sym is) (zip_append (λ image m. IsHeldBy m image.groups.items) found taken ms (taken_of batch ms) are more)
+
+-- the batches from a place on
+pub flight_more : {X : Type 0} (f : X → Batch) (ms : List Contents) (whole : List Contents) (xs : List X) (i : ℕ) (x : X) → i < length xs → x ≡ get_or xs i x → contents_from ms (map f (drop i xs)) ≡ whole → contents_from (ms ++ taken_of (f x) ms) (map f (drop (i + 1) xs)) ≡ whole
+flight_more {X} f ms whole xs i x within is so = sym (ap (λ (l : List X). contents_from ms (map f l)) (ahead xs i x within is)) ∙ so

@@ -1,9 +1,10 @@
 -- What operations lead to, and what may be left after them.
-use Rattle.std.proofs.Common.{◌≡◌, ℕ, zero, suc, ◌+◌, ◌-◌, ◌<◌, ◌≤◌, Bool, true, false, cond, inl, inr, ⊎_elim, List, [], ◌∷◌, ◌++◌, length, length-append, map, take, drop, drop-cons, Option, Some, None, refl, sym, ◌∙◌, ap, subst, append_assoc, arith}
+use Rattle.std.proofs.Common.{◌≡◌, ℕ, zero, suc, ◌+◌, ◌-◌, ◌<◌, ◌≤◌, Bool, true, false, cond, inl, inr, ⊎_elim, List, [], ◌∷◌, ◌++◌, length, length-append, map, take, drop, drop-cons, get_or, Option, Some, None, refl, sym, ◌∙◌, ap, subst, append_assoc, arith}
 use Rattle.std.specs.Prelude.{◌⊎◌, Any, MatchOption, Result, Ok, Err, is_ok, if◌then◌else◌, IsSomeAnd, slice_get, option_and_then}
 use Rattle.std.specs.List.{AllByRecursion, AllZip}
 use Rattle.std.proofs.lemmas.Bool.{cases_lt}
 use Rattle.std.proofs.lemmas.List.{append-nil, take_all, take-append-le}
+use Rattle.std.proofs.Math.ListN.{drop_of_length-le}
 use Rattle.std.proofs.Math.Logic.{∥∥₁_elim, ∥∥₁_map, ∥∥₁_prop}
 use Rattle.raft_base.specs.declared.errors.Fault.{Fault}
 use Rattle.raft_once.specs.Numbers.{shown}
@@ -26,6 +27,7 @@ use Rattle.raft_allowed.specs.declared.walk.Reached.{Reached}
 use Rattle.raft_allowed.proofs.ChoiceLemmas.{IsAmong, after-append, among_before, among_cases, among_left, among_map, among_right, before-append, before_among, chosen_among, chosen_from, map_among, prefix_chosen, zip_all, zip_any, zip_append}
 use Rattle.raft_allowed.proofs.HeldLemmas.{none_of_none}
 use Rattle.raft_allowed.proofs.ImageLemmas.{image_of_held}
+use Rattle.raft_allowed.proofs.LoopLemmas.{ahead}
 
 -- Steps.
 
@@ -121,6 +123,17 @@ accepting_more whole answers place batch rest old new so step =
 pub none_more : (p : Progress) (reached : Reached) → IsReached p reached → IsReached (with_batches p []) reached
 none_more p reached is = subst (λ (q : Progress). IsReached q reached) (ap (λ (l : List Batch). let q : Progress = record { batches = l; covered = p.covered } in q) (sym (append-nil p.batches))) is
 
+-- .. at a place of a list
+pub accepting_on : {X : Type 0} (f : X → Batch) (whole : Progress) (answers : List (Result ℕ Fault)) (xs : List X) (i : ℕ) (x : X) (accepted : Bool) (batch : Batch) (old new : Reached) → i < length xs → x ≡ get_or xs i x → accepted ≡ is_ok_at i answers → batch ≡ f x
+    → IsAccepting whole answers i (map f (drop i xs)) old → ((p : Progress) → IsReached p old → IsReached (with_batches p (cond accepted (written_batch batch) [])) new) → IsAccepting whole answers (i + 1) (map f (drop (i + 1) xs)) new
+accepting_on f whole answers xs i x accepted batch old new within is told same so step =
+    let next : suc i ≡ i + 1 = omega arith in
+    let here : IsAccepting whole answers i (f x ∷ map f (drop (i + 1) xs)) old = subst (λ (l : List Batch). IsAccepting whole answers i l old) (ap (map f) (ahead xs i x within is)) so in
+    let one : cond accepted (written_batch batch) [] ≡ cond (is_ok_at i answers) (written_batch (f x)) [] =
+    ap (λ b. cond b (written_batch batch) []) told ∙ ap (λ (b : Batch). cond (is_ok_at i answers) (written_batch b) []) same in
+    subst (λ (n : ℕ). IsAccepting whole answers n (map f (drop (i + 1) xs)) new) next
+    (accepting_more whole answers i (f x) (map f (drop (i + 1) xs)) old new here (λ p reached. subst (λ (l : List Batch). IsReached (with_batches p l) new) one (step p reached)))
+
 accepted_none : (answers : List (Result ℕ Fault)) → accepted_in answers [] ≡ []
 accepted_none [] = refl
 accepted_none (Ok len ∷ answers) = refl
@@ -151,6 +164,18 @@ walking_more whole op ops outcome outcomes old new so step = record {
 
 pub walking_ended : (whole : Progress) (outcomes : List Outcome) (reached : Reached) → IsWalking whole [] outcomes reached → IsReached whole reached
 walking_ended whole outcomes reached so = subst (λ (q : Progress). IsReached q reached) so.leads so.is
+
+-- .. at a place of the lists
+pub walking_on : (whole : Progress) (ops : List Op) (outcomes : List Outcome) (i : ℕ) (op : Op) (outcome : Outcome) (old new : Reached) → i < length ops → op ≡ get_or ops i op → i < length outcomes → outcome ≡ get_or outcomes i outcome → IsWalking whole (drop i ops) (drop i outcomes) old
+    → ((p : Progress) → IsReached p old → IsReached (progress_after no_contents p op outcome) new) → IsWalking whole (drop (i + 1) ops) (drop (i + 1) outcomes) new
+walking_on whole ops outcomes i op outcome old new within is among same so step =
+    let first = subst (λ (l : List Op). IsWalking whole l (drop i outcomes) old) (ahead ops i op within is) so in
+    let both = subst (λ (l : List Outcome). IsWalking whole (op ∷ drop (i + 1) ops) l old) (ahead outcomes i outcome among same) first in
+    walking_more whole op (drop (i + 1) ops) outcome (drop (i + 1) outcomes) old new both step
+
+pub walking_done : (whole : Progress) (ops : List Op) (outcomes : List Outcome) (i : ℕ) (reached : Reached) → length ops ≤ i → IsWalking whole (drop i ops) (drop i outcomes) reached → IsReached whole reached
+walking_done whole ops outcomes i reached past so =
+    walking_ended whole (drop i outcomes) reached (subst (λ (l : List Op). IsWalking whole l (drop i outcomes) reached) (drop_of_length-le ops past) so)
 
 -- The end.
 

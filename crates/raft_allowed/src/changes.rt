@@ -119,7 +119,7 @@ pub(crate) fn push_numbers<'a>(
 
 /// The changes, and none where one of them is of a group's number, which no caller may change.
 pub(crate) fn plain_part<'a>(changes: Vec<Change<'a>>) -> Vec<Change<'a>>
-    ensures { batch_in result.items ≡ plain_part (batch_in changes.items) }
+    ensures { batch_in result.items ≡ plain_part (batch_in changes.entry.items) }
 {
     let mut plain = changes;
     if has_numbers(&plain) {

@@ -56,7 +56,8 @@ fn push_group(
     if !is_group_between(after, before, image.group) {
         return Ok(());
     }
-    into.push(copy_of(alloc, image)?)
+    into.push(copy_of(alloc, image)?)?;
+    Ok(())
 }
 
 /// A copy of one of the groups; where it isn't there it has nothing.

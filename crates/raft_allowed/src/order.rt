@@ -39,7 +39,8 @@ fn push_entry(
     if !is_within(from, to, entry.0) {
         return Ok(());
     }
-    into.push((entry.0, entry.1.to_vec(alloc)?))
+    into.push((entry.0, entry.1.to_vec(alloc)?))?;
+    Ok(())
 }
 
 fn is_within(from: u64, to: Option<u64>, index: u64) -> bool
@@ -60,7 +61,7 @@ pub(crate) fn push_pairs(
     before: Option<&[u8]>,
 ) -> Result<(), AllocError>
     ensures { OnOk result (listed into.new.items ≡ listed into.old.items
-        ++ between (slice_cmp nat_cmp) (option_copied after) (option_copied before)
+        ++ between (slice_cmp nat_cmp) (option_copied after.entry) (option_copied before.entry)
         (listed pairs.now)) }
 {
     for pair in pairs {
@@ -77,24 +78,25 @@ fn push_pair(
     before: Option<&[u8]>,
 ) -> Result<(), AllocError>
     ensures { OnOk result (listed into.new.items ≡ listed into.old.items
-        ++ between (slice_cmp nat_cmp) (option_copied after) (option_copied before)
+        ++ between (slice_cmp nat_cmp) (option_copied after.entry) (option_copied before.entry)
         ((pair.now.0.items, pair.now.1.items) ∷ [])) }
 {
     if !is_key_between(after, before, &pair.0) {
         return Ok(());
     }
-    into.push((pair.0.to_vec(alloc)?, pair.1.to_vec(alloc)?))
+    into.push((pair.0.to_vec(alloc)?, pair.1.to_vec(alloc)?))?;
+    Ok(())
 }
 
 fn is_key_between(after: Option<&[u8]>, before: Option<&[u8]>, key: &[u8]) -> bool
     ensures { result
-        ≡ is_between (slice_cmp nat_cmp) (option_copied after) (option_copied before) key.now }
+        ≡ is_between (slice_cmp nat_cmp) (option_copied after.entry) (option_copied before.entry) key.now }
 {
     is_key_past(after, key) && is_key_short(before, key)
 }
 
 fn is_key_past(after: Option<&[u8]>, key: &[u8]) -> bool
-    ensures { result ≡ is_past (slice_cmp nat_cmp) (option_copied after) key.now }
+    ensures { result ≡ is_past (slice_cmp nat_cmp) (option_copied after.entry) key.now }
 {
     match after {
         Some(bound) => bound < key,
@@ -103,7 +105,7 @@ fn is_key_past(after: Option<&[u8]>, key: &[u8]) -> bool
 }
 
 fn is_key_short(before: Option<&[u8]>, key: &[u8]) -> bool
-    ensures { result ≡ is_short (slice_cmp nat_cmp) (option_copied before) key.now }
+    ensures { result ≡ is_short (slice_cmp nat_cmp) (option_copied before.entry) key.now }
 {
     match before {
         Some(bound) => key < bound,

@@ -26,7 +26,7 @@ pub(crate) fn with_pair(
     value: Option<&[u8]>,
 ) -> Result<Vec<(Vec<u8>, Vec<u8>)>, AllocError>
     ensures { IfOk result (λ new.
-        listed new.items ≡ with_pair key.now (option_copied value) (listed pairs.now)) }
+        listed new.items ≡ with_pair key.now (option_copied value.entry) (listed pairs.now)) }
 {
     let mut new = Vec::new(alloc);
     push_pairs(alloc, &mut new, pairs, None, Some(key))?;
@@ -42,7 +42,7 @@ fn push_one(
     value: Option<&[u8]>,
 ) -> Result<(), AllocError>
     ensures { OnOk result (listed into.new.items
-        ≡ listed into.old.items ++ with_one key.now (option_copied value)) }
+        ≡ listed into.old.items ++ with_one key.now (option_copied value.entry)) }
 {
     match value {
         Some(value) => {

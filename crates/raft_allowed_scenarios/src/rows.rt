@@ -8,6 +8,7 @@ use std::test::Fail;
 
 /// What it shows, operations with their answers, the place where the engine failed, and what may be
 /// left.
+#[derive(Clone, Copy)]
 struct Case(
     &'static str,
     &'static [(Step, Reply)],

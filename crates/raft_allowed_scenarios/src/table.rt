@@ -33,6 +33,7 @@ pub(crate) enum Reply {
 }
 
 /// A group's number; its entries' first index, and words of one byte each from there on; its pairs.
+#[derive(Clone, Copy)]
 pub(crate) struct Row(
     pub u64,
     pub u64,
