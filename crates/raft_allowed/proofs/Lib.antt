@@ -7,6 +7,7 @@ pub mod ActLemmas
 pub mod ChoiceLemmas
 pub mod WalkLemmas
 pub mod TakenLemmas
+pub mod GroupLemmas
 pub mod ShownLemmas
 pub mod NumberLemmas
 pub mod AnswerLemmas

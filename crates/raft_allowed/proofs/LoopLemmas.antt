@@ -15,6 +15,13 @@ taken_more xs i x within is =
     let next : i + 1 ≡ suc i = omega arith in
     ap (λ (n : ℕ). take n xs) next ∙ take-suc xs i x within ∙ ap (λ y. take i xs ++ y ∷ []) (sym is)
 
+-- one element, which passes a test or doesn't
+pub push_none : {Y : Type 0} (p : Y → Bool) (y : Y) (old : List Y) → p y ≡ false → old ≡ old ++ filter p (y ∷ [])
+push_none p y old fails = sym (append-nil old) ∙ ap (λ l. old ++ l) (sym (ap (λ b. cond b (y ∷ []) []) fails))
+
+pub push_one : {Y : Type 0} (p : Y → Bool) (y : Y) (old new : List Y) → p y ≡ true → new ≡ old ++ y ∷ [] → new ≡ old ++ filter p (y ∷ [])
+push_one p y old new passes pushed = pushed ∙ ap (λ l. old ++ l) (sym (ap (λ b. cond b (y ∷ []) []) passes))
+
 module _ {X Y : Type 0} (f : X → Y) (p : Y → Bool) where
   -- what was pushed, and what of the rest passes, are these
   abbrev pub IsPushing : List Y → List X → List Y → Type 0

@@ -1,5 +1,5 @@
 -- The numbers that groups keep, and which are new.
-use Rattle.std.proofs.Common.{◌≡◌, ℕ, ◌+◌, ◌<◌, ◌≤◌, Bool, true, false, cond, List, [], ◌∷◌, ◌++◌, length, map, take, drop, get_or, Option, Some, None, refl, sym, ◌∙◌, ap, subst, append_assoc, arith, nat_eq}
+use Rattle.std.proofs.Common.{◌≡◌, ℕ, ◌+◌, ◌<◌, ◌≤◌, Bool, true, false, cond, List, [], ◌∷◌, ◌++◌, length, map, take, drop, get_or, Option, Some, None, refl, sym, ◌∙◌, ap, subst, append_assoc, add-one, drop-cons, arith, nat_eq}
 use Rattle.std.specs.Prelude.{◌||◌, ◌&&◌, nat_lt, Vec}
 use Rattle.std.specs.List.{list_all, list_any}
 use Rattle.std.specs.Map.{lookup}
@@ -19,15 +19,22 @@ use Rattle.raft_allowed.specs.Held.{Held, IsHeldBy, held_at, held_of, kept_of}
 pub kept_is : (m : Contents) (images : List GroupImage) (group : ℕ) → IsHeldBy m images → kept_of (held_at group (held_of images)) ≡ number_of m group
 kept_is m images group held = ap number_in ((held.each group).keys.value number_key)
 
--- the first of numbers is new, or isn't
-pub new_first : (m : Contents) (pair : Pair) (pairs : List Pair) → number_of m pair.0 < pair.1 → are_new m pairs ≡ are_new m (pair ∷ pairs)
-new_first m pair pairs greater = sym (ap (λ b. b && are_new m pairs) (yes greater))
-  where
-    yes : number_of m pair.0 < pair.1 → nat_lt (number_of m pair.0) pair.1 ≡ true
-    yes h = grind arith
+-- the number at a place is new, or isn't
+told_at : (m : Contents) (images : List GroupImage) (pair : Pair) (kept : ℕ) (b : Bool) → IsHeldBy m images → kept ≡ kept_of (held_at pair.0 (held_of images)) → nat_lt kept pair.1 ≡ b → nat_lt (number_of m pair.0) pair.1 ≡ b
+told_at m images pair kept b held keeps told = ap (λ (n : ℕ). nat_lt n pair.1) (sym (keeps ∙ kept_is m images pair.0 held)) ∙ told
 
-pub old_first : (m : Contents) (pair : Pair) (pairs : List Pair) → pair.1 ≤ number_of m pair.0 → false ≡ are_new m (pair ∷ pairs)
-old_first m pair pairs less = sym (ap (λ b. b && are_new m pairs) (le-ltb pair.1 (number_of m pair.0) less))
+ahead_at : (m : Contents) (pairs : List Pair) (i : ℕ) (d : Pair) → i < length pairs → are_new m (drop i pairs) ≡ (nat_lt (number_of m (get_or pairs i d).0) (get_or pairs i d).1 && are_new m (drop (i + 1) pairs))
+ahead_at m pairs i d within = ap (are_new m) (drop-cons pairs i d within) ∙ ap (λ (n : ℕ). nat_lt (number_of m (get_or pairs i d).0) (get_or pairs i d).1 && are_new m (drop n pairs)) (sym (add-one i))
+
+pub new_at : (m : Contents) (images : List GroupImage) (pairs : List Pair) (i : ℕ) (d : Pair) (kept : ℕ) → IsHeldBy m images → i < length pairs → kept ≡ kept_of (held_at (get_or pairs i d).0 (held_of images)) → nat_lt kept (get_or pairs i d).1 ≡ true → are_new m (drop i pairs) ≡ are_new m pairs
+    → are_new m (drop (i + 1) pairs) ≡ are_new m pairs
+new_at m images pairs i d kept held within keeps told so =
+    sym (ap (λ b. b && are_new m (drop (i + 1) pairs)) (told_at m images (get_or pairs i d) kept true held keeps told)) ∙ sym (ahead_at m pairs i d within) ∙ so
+
+pub old_at : (m : Contents) (images : List GroupImage) (pairs : List Pair) (i : ℕ) (d : Pair) (kept : ℕ) → IsHeldBy m images → i < length pairs → kept ≡ kept_of (held_at (get_or pairs i d).0 (held_of images)) → nat_lt kept (get_or pairs i d).1 ≡ false → are_new m (drop i pairs) ≡ are_new m pairs
+    → false ≡ are_new m pairs
+old_at m images pairs i d kept held within keeps told so =
+    sym (ap (λ b. b && are_new m (drop (i + 1) pairs)) (told_at m images (get_or pairs i d) kept false held keeps told)) ∙ sym (ahead_at m pairs i d within) ∙ so
 
 -- numbers behind the items of a batch, with one more
 pub numbered_more : (items : Batch) (pairs : List Pair) (i : ℕ) (pair : Pair) (old new : Batch) → take (i + 1) pairs ≡ take i pairs ++ pair ∷ [] → old ≡ numbered items (take i pairs) → new ≡ old ++ number_item pair ∷ [] → new ≡ numbered items (take (i + 1) pairs)

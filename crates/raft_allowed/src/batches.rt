@@ -10,7 +10,8 @@ ghost use Rattle.raft_allowed.specs.Changes.{batch_in, batches_in};
 ghost use Rattle.raft_allowed.specs.Held.{IsHeldBy, held_at, held_of, is_nil, kept_of};
 
 use crate::changes::{Change, What, changes_of, changes_of_all, has_numbers, plain_part, push_numbers};
-use crate::parts::kept_in;
+use crate::groups::is_of;
+use crate::parts::{are_no_entries, kept_in};
 use raft_log_engine::GroupImage;
 use raft_once::are_unfit;
 use raft_script::{Act, Op};
@@ -111,11 +112,17 @@ fn are_new(groups: &[GroupImage], pairs: &[(u64, u64)]) -> bool
     ensures { (m : Contents) → IsHeldBy m groups.now → result ≡ are_new m pairs.now }
 {
     for pair in pairs {
-        if pair.1 <= kept_at(groups, pair.0) {
+        if !is_below(kept_at(groups, pair.0), pair.1) {
             return false;
         }
     }
     true
+}
+
+fn is_below(kept: u64, number: u64) -> bool
+    ensures { result ≡ nat_lt kept number }
+{
+    kept < number
 }
 
 // The number that a group keeps, 0 where it keeps none.
@@ -123,7 +130,7 @@ fn kept_at(groups: &[GroupImage], group: u64) -> u64
     ensures { result ≡ kept_of (held_at group (held_of groups.now)) }
 {
     for image in groups {
-        if image.group == group {
+        if is_of(image, group) {
             return kept_in(&image.pairs);
         }
     }
@@ -154,8 +161,8 @@ fn has_entries(groups: &[GroupImage], group: u64) -> bool
     ensures { is_nil (held_at group (held_of groups.now)).entries ≡ not result }
 {
     for image in groups {
-        if image.group == group {
-            return !image.entries.is_empty();
+        if is_of(image, group) {
+            return !are_no_entries(&image.entries);
         }
     }
     false

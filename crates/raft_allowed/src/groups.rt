@@ -1,14 +1,14 @@
 //! Images of groups, and what changes make of one.
-ghost use Rattle.std.specs.Prelude.{◌≡◌, ◌∷◌, ◌++◌, [], is_none, IfOk, OnOk, None, Some};
+ghost use Rattle.std.specs.Prelude.{◌≡◌, ◌∷◌, ◌++◌, [], is_none, nat_eq, IfOk, OnOk, None, Some};
 ghost use Rattle.std.specs.Ordering.{nat_cmp};
 ghost use Rattle.raft_tables.specs.Listing.{listed};
 ghost use Rattle.raft_log_engine.specs.Image.{entries_of};
 ghost use Rattle.raft_allowed.specs.Changes.{content_of};
-ghost use Rattle.raft_allowed.specs.Held.{between, group_with_held, held_after, held_at, held_in, held_of, is_nothing, refusal_of, with_list, with_pairs};
+ghost use Rattle.raft_allowed.specs.Held.{between, group_with_held, held_after, held_at, held_in, held_of, is_nil, is_nothing, refusal_of, with_list, with_pairs};
 
 use crate::changes::What;
 use crate::order::{is_group_between, push_entries, push_pairs};
-use crate::parts::{fits, is_mark, with_entries, with_number, with_pair};
+use crate::parts::{are_no_entries, fits, is_mark, with_entries, with_number, with_pair};
 use raft_log_engine::GroupImage;
 use std::alloc::{AllocError, Global};
 
@@ -56,8 +56,16 @@ fn push_group(
     if !is_group_between(after, before, image.group) {
         return Ok(());
     }
-    into.push(copy_of(alloc, image)?)?;
+    let copy = copy_of(alloc, image)?;
+    into.push(copy)?;
     Ok(())
+}
+
+/// Whether it is the image of the group.
+pub(crate) fn is_of(image: &GroupImage, group: u64) -> bool
+    ensures { result ≡ nat_eq group image.now.group }
+{
+    group == image.group
 }
 
 /// A copy of one of the groups; where it isn't there it has nothing.
@@ -70,7 +78,7 @@ pub(crate) fn group_at(
         ≡ (group, held_at group (held_of groups.now))) }
 {
     for image in groups {
-        if image.group == group {
+        if is_of(image, group) {
             return copy_of(alloc, image);
         }
     }
@@ -175,5 +183,11 @@ pub(crate) fn takes(old: &GroupImage, what: &What<'_>) -> bool
 pub(crate) fn has_nothing(image: &GroupImage) -> bool
     ensures { result ≡ is_nothing (held_in image.now) }
 {
-    image.entries.is_empty() && image.pairs.is_empty()
+    are_no_entries(&image.entries) && are_no_pairs(&image.pairs)
+}
+
+fn are_no_pairs(pairs: &[(Vec<u8>, Vec<u8>)]) -> bool
+    ensures { result ≡ is_nil (listed pairs.now) }
+{
+    pairs.is_empty()
 }

@@ -39,7 +39,8 @@ fn push_entry(
     if !is_within(from, to, entry.0) {
         return Ok(());
     }
-    into.push((entry.0, entry.1.to_vec(alloc)?))?;
+    let bytes = entry.1.to_vec(alloc)?;
+    into.push((entry.0, bytes))?;
     Ok(())
 }
 
@@ -84,7 +85,9 @@ fn push_pair(
     if !is_key_between(after, before, &pair.0) {
         return Ok(());
     }
-    into.push((pair.0.to_vec(alloc)?, pair.1.to_vec(alloc)?))?;
+    let key = pair.0.to_vec(alloc)?;
+    let value = pair.1.to_vec(alloc)?;
+    into.push((key, value))?;
     Ok(())
 }
 

@@ -1,5 +1,5 @@
 //! What a group has after a change, as lists.
-ghost use Rattle.std.specs.Prelude.{◌≡◌, ◌++◌, filter, is_none, IfOk, OnOk, None, Some};
+ghost use Rattle.std.specs.Prelude.{◌≡◌, ◌++◌, ◌+◌, ◌-◌, ◌^◌, ◌==◌, ◌&&◌, ◌||◌, filter, is_none, nat_le, not, IfOk, OnOk, None, Some, if◌then◌else◌};
 ghost use Rattle.std.specs.Map.{lookup};
 ghost use Rattle.std.specs.Option.{option_copied};
 ghost use Rattle.std.specs.Str.{bytes_eq};
@@ -11,7 +11,7 @@ ghost use Rattle.raft_records.specs.Validity.{entries_refusal};
 ghost use Rattle.raft_tables.specs.Listing.{listed};
 ghost use Rattle.raft_log_engine.specs.Image.{entries_of};
 ghost use Rattle.raft_allowed.specs.Changes.{are_counted_from};
-ghost use Rattle.raft_allowed.specs.Held.{is_within, with_one, with_pair};
+ghost use Rattle.raft_allowed.specs.Held.{is_nil, is_within, with_one, with_pair};
 
 use crate::order::{push_entries, push_pairs};
 use raft_codec::number::push_u64;
@@ -46,7 +46,9 @@ fn push_one(
 {
     match value {
         Some(value) => {
-            into.push((key.to_vec(alloc)?, value.to_vec(alloc)?))?;
+            let key = key.to_vec(alloc)?;
+            let value = value.to_vec(alloc)?;
+            into.push((key, value))?;
             Ok(())
         }
         None => Ok(()),
@@ -108,14 +110,16 @@ fn end_of_kept(old: &[(u64, Vec<u8>)], new: &[(u64, Vec<u8>)]) -> Option<u64>
     ensures { with_entries (entries_of old.now) (entries_of new.now)
         ≡ filter (λ e. is_within 0 result e.0) (entries_of old.now) ++ entries_of new.now }
 {
-    let Some(first) = new.first() else {
-        return None;
-    };
-    if is_next_to(old, first.0) {
-        Some(first.0)
-    } else {
-        Some(0)
+    match new.first() {
+        Some(first) => end_at(is_next_to(old, first.0), first.0),
+        None => None,
     }
+}
+
+fn end_at(next: bool, start: u64) -> Option<u64>
+    ensures { result ≡ (if next then Some start else Some 0) }
+{
+    if next { Some(start) } else { Some(0) }
 }
 
 /// Entries may start inside the list or right after it.
@@ -123,9 +127,15 @@ fn is_next_to(old: &[(u64, Vec<u8>)], start: u64) -> bool
     ensures { result ≡ is_next_to (entries_of old.now) start }
 {
     match old.first() {
-        Some(first) => first.0 <= start && start - first.0 <= old.len() as u64,
+        Some(first) => is_in_span(first.0, old.len() as u64, start),
         None => false,
     }
+}
+
+fn is_in_span(first: u64, len: u64, start: u64) -> bool
+    ensures { result ≡ (nat_le first start && nat_le start (first + len)) }
+{
+    first <= start && start - first <= len
 }
 
 /// Whether a list takes the entries.
@@ -133,21 +143,37 @@ pub(crate) fn fits(old: &[(u64, Vec<u8>)], new: &[(u64, Vec<u8>)]) -> bool
     ensures { result ≡ is_none (entries_refusal (entries_of old.now) (entries_of new.now)) }
 {
     match new.first() {
-        Some(first) => are_counted(new, first.0) && (old.is_empty() || is_next_to(old, first.0)),
+        Some(first) => are_counted(new, first.0) && takes_at(old, first.0),
         None => true,
     }
+}
+
+fn takes_at(old: &[(u64, Vec<u8>)], start: u64) -> bool
+    ensures { result ≡ (is_nil (entries_of old.now) || is_next_to (entries_of old.now) start) }
+{
+    are_no_entries(old) || is_next_to(old, start)
+}
+
+pub(crate) fn are_no_entries(entries: &[(u64, Vec<u8>)]) -> bool
+    ensures { result ≡ is_nil (entries_of entries.now) }
+{
+    entries.is_empty()
 }
 
 // Each index is the one above that before it, from this one on, and none is the greatest number.
 fn are_counted(entries: &[(u64, Vec<u8>)], start: u64) -> bool
     ensures { result ≡ are_counted_from start (entries_of entries.now) }
 {
-    let mut index = start;
-    for entry in entries {
-        if entry.0 == u64::MAX || entry.0 != index {
+    for (place, entry) in entries.iter().enumerate() {
+        if !is_counted(entry.0, start, place as u64) {
             return false;
         }
-        index += 1;
     }
     true
+}
+
+fn is_counted(index: u64, start: u64, place: u64) -> bool
+    ensures { result ≡ (not (index == 2 ^ 64 - 1) && index == start + place) }
+{
+    index != u64::MAX && index >= start && index - start == place
 }
