@@ -1,11 +1,12 @@
 -- Images of contents, and batches of items.
-use Rattle.std.proofs.Common.{◌≡◌, ℕ, Bool, true, false, cond, List, [], ◌∷◌, ◌++◌, map, Option, Some, None, refl, sym, ◌∙◌, ap, subst, arith, nat_eq}
+use Rattle.std.proofs.Common.{◌≡◌, ℕ, ◌+◌, ◌<◌, Bool, true, false, cond, List, [], ◌∷◌, ◌++◌, length, map, take, get_or, Option, Some, None, refl, sym, ◌∙◌, ap, subst, arith, nat_eq}
 use Rattle.std.specs.Prelude.{◌||◌, ◌&&◌, Vec, fold, is_none, unwrap_or}
 use Rattle.std.specs.declared.alloc.Global.{Global}
 use Rattle.std.specs.List.{AllByRecursion, list_any}
 use Rattle.std.specs.List.Sorted.{IsStrictlySortedBy}
 use Rattle.std.specs.Map.{keys_of, lookup}
 use Rattle.std.specs.Ordering.{nat_cmp}
+use Rattle.std.proofs.lemmas.List.{map-append}
 use Rattle.std.proofs.lemmas.List.Sums.{fold-append}
 use Rattle.raft_base.specs.declared.errors.Fault.{Fault}
 use Rattle.raft_records.specs.Contents.{Contents, after_batch, after_item}
@@ -14,9 +15,10 @@ use Rattle.raft_records.specs.Validity.{batch_refusal, content_refusal}
 use Rattle.raft_tables.specs.Listing.{listed}
 use Rattle.raft_log_engine.specs.Image.{IsGroupImageOf, IsImageOf, IsWithout, entries_of, groups_of}
 use Rattle.raft_log_engine.specs.declared.engine.image.GroupImage.{GroupImage}
-use Rattle.raft_allowed.specs.Held.{AreGroupsOf, Groups, Held, IsHeldAt, IsHeldBy, group_with_held, groups_after, held_at, held_in, held_of, is_nil, is_nothing, nothing, refusal_of}
+use Rattle.raft_allowed.specs.Held.{AreGroupsOf, Groups, Held, IsHeldAt, IsHeldBy, group_with_held, groups_after, held_after, held_at, held_in, held_of, is_nil, is_nothing, nothing, refusal_of, with_held}
 use Rattle.raft_allowed.proofs.HeldLemmas.{groups_changed, refusal_same}
 use Rattle.raft_allowed.proofs.KeyedLemmas.{lookup-own, number_order}
+use Rattle.raft_allowed.proofs.LoopLemmas.{taken_more}
 
 keys-held : (images : List GroupImage) → keys_of (held_of images) ≡ groups_of images
 keys-held [] = refl
@@ -87,3 +89,19 @@ applied_more m items item old new fits more applied is more_is = record {
   groups_are = subst (AreGroupsOf (after_batch m (items ++ item ∷ []))) (sym is) (subst (λ (n : Contents). AreGroupsOf n (groups_after old item)) (sym (fold-append after_item m items (item ∷ []))) (groups_changed (after_batch m items) old item applied.groups_are));
   fits_is = ap (λ b. b && more) applied.fits_is ∙ ap (λ b. is_none (batch_refusal m items) && b) (more_is ∙ ap is_none (refusal_same (after_batch m items) old item applied.groups_are)) ∙ sym (refusal-push m items item);
 }
+
+-- .. at a place of a list
+pub applied_on : {X : Type 0} (f : X → Item) (m : Contents) (xs : List X) (i : ℕ) (x : X) (old new : Groups) (fits more both : Bool) → i < length xs → x ≡ get_or xs i x → AreAppliedTo m (map f (take i xs)) old fits → new ≡ groups_after old (f x) → more ≡ is_none (refusal_of (held_at (f x).group old) (f x).content)
+    → both ≡ (fits && more) → AreAppliedTo m (map f (take (i + 1) xs)) new both
+applied_on f m xs i x old new fits more both within at applied is more_is both_is =
+    let items : map f (take i xs) ++ f x ∷ [] ≡ map f (take (i + 1) xs) = sym (map-append f (take i xs) (x ∷ [])) ∙ sym (ap (map f) (taken_more xs i x within at)) in
+    subst (λ (b : Bool). AreAppliedTo m (map f (take (i + 1) xs)) new b) (sym both_is)
+    (subst (λ (l : Batch). AreAppliedTo m l new (fits && more)) items (applied_more m (map f (take i xs)) (f x) old new fits more applied is more_is))
+
+-- the groups after a change of one of them
+pub changed_is : (groups : Groups) (old new : GroupImage) (item : Item) (result : Groups) → group_with_held old ≡ (item.group, held_at item.group groups) → group_with_held new ≡ (old.group, held_after item.content (held_in old)) → result ≡ with_held new.group (held_in new) groups → result ≡ groups_after groups item
+changed_is groups old new item result first second is =
+    is ∙ ap (λ (p : ℕ × Held). with_held p.0 p.1 groups) (second ∙ ap (λ (p : ℕ × Held). let q : ℕ × Held = (p.0, held_after item.content p.1) in q) first)
+
+pub fits_at : (groups : Groups) (old : GroupImage) (item : Item) → group_with_held old ≡ (item.group, held_at item.group groups) → is_none (refusal_of (held_in old) item.content) ≡ is_none (refusal_of (held_at item.group groups) item.content)
+fits_at groups old item first = ap (λ (p : ℕ × Held). is_none (refusal_of p.1 item.content)) first

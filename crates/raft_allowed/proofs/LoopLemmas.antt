@@ -1,9 +1,12 @@
 -- Loops that push what passes a test, and what is ahead of them.
 use Rattle.std.proofs.Common.{◌≡◌, ℕ, suc, ◌+◌, ◌<◌, ◌≤◌, Bool, true, false, cond, List, [], ◌∷◌, ◌++◌, length, map, take, drop, drop-cons, get_or, refl, sym, ◌∙◌, ap, subst, append_assoc, arith}
-use Rattle.std.specs.Prelude.{filter}
+use Rattle.std.specs.Prelude.{◌==◌, filter}
 use Rattle.std.specs.List.{AllZip}
 use Rattle.std.proofs.lemmas.List.{append-nil, map-append}
 use Rattle.std.proofs.Math.Seq.{take-suc}
+use Rattle.raft_records.specs.Item.{Item}
+use Rattle.raft_crash_laws.specs.Crash.{written_batch}
+use Rattle.raft_allowed.specs.Held.{is_nil}
 
 pub ahead : {X : Type 0} (xs : List X) (i : ℕ) (x : X) → i < length xs → x ≡ get_or xs i x → drop i xs ≡ x ∷ drop (i + 1) xs
 ahead xs i x within is =
@@ -14,6 +17,28 @@ pub taken_more : {X : Type 0} (xs : List X) (i : ℕ) (x : X) → i < length xs 
 taken_more xs i x within is =
     let next : i + 1 ≡ suc i = omega arith in
     ap (λ (n : ℕ). take n xs) next ∙ take-suc xs i x within ∙ ap (λ y. take i xs ++ y ∷ []) (sym is)
+
+-- Lists with and without elements, by their lengths.
+
+pub mapped_none : {X Y : Type 0} (f : X → Y) (xs : List X) → (length xs == 0) ≡ true → map f xs ≡ []
+mapped_none f [] none = refl
+mapped_none f (x ∷ xs) none = cc
+
+pub written_none : {X : Type 0} (f : X → Item) (xs : List X) → (length xs == 0) ≡ true → written_batch (map f xs) ≡ []
+written_none f [] none = refl
+written_none f (x ∷ xs) none = cc
+
+pub written_one : {X : Type 0} (f : X → Item) (xs : List X) → (length xs == 0) ≡ false → written_batch (map f xs) ≡ map f xs ∷ []
+written_one f [] some = cc
+written_one f (x ∷ xs) some = refl
+
+pub some_left : {X : Type 0} (xs : List X) → (length xs == 0) ≡ false → is_nil xs ≡ false
+some_left [] some = cc
+some_left (x ∷ xs) some = refl
+
+pub nil_mapped : {X Y : Type 0} (f : X → Y) (xs : List X) → is_nil (map f xs) ≡ is_nil xs
+nil_mapped f [] = refl
+nil_mapped f (x ∷ xs) = refl
 
 -- one element, which passes a test or doesn't
 pub push_none : {Y : Type 0} (p : Y → Bool) (y : Y) (old : List Y) → p y ≡ false → old ≡ old ++ filter p (y ∷ [])

@@ -1,10 +1,10 @@
 -- Contents without the numbers that groups keep.
-use Rattle.std.proofs.Common.{◌≡◌, ℕ, suc, ◌+◌, ◌<◌, Bool, true, false, cond, List, [], ◌∷◌, ◌++◌, length, map, take, get_or, Option, Some, None, refl, sym, ◌∙◌, ap, subst, arith, nat_eq}
+use Rattle.std.proofs.Common.{◌≡◌, ℕ, suc, ◌+◌, ◌<◌, ◌≤◌, Bool, true, false, cond, List, [], ◌∷◌, ◌++◌, length, map, take, get_or, Option, Some, None, refl, sym, ◌∙◌, ap, subst, arith, nat_eq}
 use Rattle.std.specs.Prelude.{◌||◌, ◌&&◌, unwrap_or}
 use Rattle.std.specs.List.{AllZip, list_any}
 use Rattle.std.specs.Map.{lookup}
 use Rattle.std.specs.Str.{bytes_eq}
-use Rattle.std.proofs.lemmas.List.{map-append}
+use Rattle.std.proofs.lemmas.List.{map-append, take_all}
 use Rattle.raft_once.specs.Numbers.{is_number_key, number_key, shown}
 use Rattle.raft_records.specs.Contents.{Contents, after_batch, with_value}
 use Rattle.raft_records.specs.Item.{Batch, Delete, Item}
@@ -15,7 +15,7 @@ use Rattle.raft_allowed.specs.Held.{AreGroupsOf, Groups, IsHeldAt, IsHeldBy, hel
 use Rattle.raft_allowed.specs.Walk.{AreHeldBy}
 use Rattle.raft_allowed.proofs.ChoiceLemmas.{zip_append}
 use Rattle.raft_allowed.proofs.ImageLemmas.{none_found}
-use Rattle.raft_allowed.proofs.TakenLemmas.{zip_at}
+use Rattle.raft_allowed.proofs.TakenLemmas.{zip_at, zip_len}
 
 -- groups that stand for contents stand for those that have the same
 same_groups : (m n : Contents) (groups : Groups) → ((g : ℕ) → m.entries g ≡ n.entries g) → ((g : ℕ) (k : List ℕ) → m.value g k ≡ n.value g k) → AreGroupsOf m groups → AreGroupsOf n groups
@@ -91,3 +91,9 @@ shown_more images new next ms place image one are within is so_far step pushed =
     subst (λ (l : List Image). AreHeldBy l (map shown (take (place + 1) ms))) (sym pushed)
     (subst (AreHeldBy (new ++ one ∷ [])) (sym whole)
     (zip_append R new (one ∷ []) (map shown (take place ms)) (shown at.other ∷ []) so_far (step at.other at.are, tt)))
+
+pub shown_all : (images new : List Image) (ms : List Contents) (place : ℕ) → length images ≤ place → AreHeldBy images ms → AreHeldBy new (map shown (take place ms)) → AreHeldBy new (map shown ms)
+shown_all images new ms place past are so =
+    let same : length images ≡ length ms = zip_len (λ (i : Image) (m : Contents). IsHeldBy m i.groups.items) images ms are in
+    let all : length ms ≤ place = omega arith in
+    subst (λ (l : List Contents). AreHeldBy new (map shown l)) (take_all place ms all) so

@@ -1,9 +1,9 @@
 -- Images of what contents take of a batch, one place after the other.
-use Rattle.std.proofs.Common.{◌≡◌, ℕ, zero, suc, ◌+◌, ◌<◌, Bool, true, false, cond, List, [], ◌∷◌, ◌++◌, length, map, take, drop, get_or, Option, None, refl, sym, ◌∙◌, ap, subst, arith}
+use Rattle.std.proofs.Common.{◌≡◌, ℕ, zero, suc, ◌+◌, ◌<◌, ◌≤◌, Bool, true, false, cond, List, [], ◌∷◌, ◌++◌, length, map, take, drop, get_or, Option, None, refl, sym, ◌∙◌, ap, subst, arith}
 use Rattle.std.specs.Prelude.{is_none}
 use Rattle.std.specs.List.{AllZip}
 use Rattle.std.specs.declared.cmp.Ordering.{Ordering}
-use Rattle.std.proofs.lemmas.List.{append-nil, flat_map_more}
+use Rattle.std.proofs.lemmas.List.{append-nil, flat_map_more, take_all}
 use Rattle.raft_records.specs.Contents.{Contents, after_batch}
 use Rattle.raft_records.specs.Item.{Batch}
 use Rattle.raft_records.specs.Validity.{batch_refusal}
@@ -76,3 +76,20 @@ taken_behind found taken new ms batch is are more =
 -- the batches from a place on
 pub flight_more : {X : Type 0} (f : X → Batch) (ms : List Contents) (whole : List Contents) (xs : List X) (i : ℕ) (x : X) → i < length xs → x ≡ get_or xs i x → contents_from ms (map f (drop i xs)) ≡ whole → contents_from (ms ++ taken_of (f x) ms) (map f (drop (i + 1) xs)) ≡ whole
 flight_more {X} f ms whole xs i x within is so = sym (ap (λ (l : List X). contents_from ms (map f l)) (ahead xs i x within is)) ∙ so
+
+-- one image of one
+pub one_held : (m : Contents) (image : Image) (found : List Image) → found ≡ image ∷ [] → IsHeldBy m image.groups.items → AreHeldBy found (m ∷ [])
+one_held m image found is held = subst (λ (l : List Image). AreHeldBy l (m ∷ [])) (sym is) (held, tt)
+
+-- lists side by side are as long
+pub zip_len : {A B : Type 0} (R : A → B → Type 0) (xs : List A) (ys : List B) → AllZip R xs ys → length xs ≡ length ys
+zip_len R [] [] zip = refl
+zip_len R [] (y ∷ ys) zip = absurd zip
+zip_len R (x ∷ xs) [] zip = absurd zip
+zip_len R (x ∷ xs) (y ∷ ys) zip = ap suc (zip_len R xs ys zip.1)
+
+pub taken_all : (batch : Batch) (found taken : List Image) (ms : List Contents) (place : ℕ) → length found ≤ place → AreHeldBy found ms → AreHeldBy taken (taken_of batch (take place ms)) → AreHeldBy taken (taken_of batch ms)
+taken_all batch found taken ms place past are so =
+    let same : length found ≡ length ms = zip_len (λ (i : Image) (m : Contents). IsHeldBy m i.groups.items) found ms are in
+    let all : length ms ≤ place = omega arith in
+    subst (λ (l : List Contents). AreHeldBy taken (taken_of batch l)) (take_all place ms all) so

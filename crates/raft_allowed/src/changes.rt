@@ -55,7 +55,8 @@ pub(crate) fn changes_of<'a>(
 {
     let mut changes = Vec::new(alloc);
     for act in acts {
-        if !push_change(&mut changes, act)? {
+        let done = push_change(&mut changes, act)?;
+        if !done {
             return Ok(None);
         }
     }

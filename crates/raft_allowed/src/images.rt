@@ -105,5 +105,6 @@ pub(crate) fn shown(alloc: Global, image: &Image) -> Result<Image, AllocError>
             what: What::Delete(&key),
         })?;
     }
-    Ok(after_batch(alloc, image, &deletes)?.image)
+    let applied = after_batch(alloc, image, &deletes)?;
+    Ok(applied.image)
 }

@@ -83,7 +83,8 @@ fn images_of(
     let mut found = in_flight(alloc, reached.last, &batches)?;
     let mut images = reached.earlier;
     images.append(&mut found)?;
-    Ok(all_shown(alloc, &images)?)
+    let shown = all_shown(alloc, &images)?;
+    Ok(shown)
 }
 
 // The images without the numbers that groups keep.
@@ -93,7 +94,8 @@ fn all_shown(alloc: Global, images: &[Image]) -> Result<Vec<Image>, AllocError>
 {
     let mut new = Vec::new(alloc);
     for image in images {
-        new.push(shown(alloc, image)?)?;
+        let one = shown(alloc, image)?;
+        new.push(one)?;
     }
     Ok(new)
 }

@@ -95,9 +95,17 @@ fn write(alloc: Global, reached: &mut Reached, batch: &[Change<'_>]) -> Result<(
         → IsReached (with_batches p (batch_in batch.now ∷ [])) reached.new) }
 {
     let applied = after_batch(alloc, &reached.last, batch)?;
-    let before = mem::replace(&mut reached.last, applied.image);
+    let before = put_last(reached, applied.image);
     reached.earlier.push(before)?;
     Ok(())
+}
+
+fn put_last(reached: &mut Reached, image: Image) -> Image
+    ensures value { result ≡ reached.old.last }
+    ensures last { reached.new.last ≡ image }
+    ensures earlier { reached.new.earlier ≡ reached.old.earlier }
+{
+    mem::replace(&mut reached.last, image)
 }
 
 // An operation that covers what was accepted leaves no earlier image.
@@ -105,9 +113,10 @@ fn cover(reached: &mut Reached, op: &Op, outcome: &Outcome)
     ensures { (p : Progress) → IsReached p reached.old
         → IsReached (covered_if p op.now outcome.now) reached.new }
 {
-    if is_covering(op, outcome) {
-        forget(reached);
+    if !is_covering(op, outcome) {
+        return;
     }
+    forget(reached);
 }
 
 fn forget(reached: &mut Reached)
@@ -130,7 +139,8 @@ pub(crate) fn in_flight(
     let mut found = Vec::new(alloc);
     found.push(last)?;
     for batch in batches {
-        found = with_taken(alloc, found, batch)?;
+        let more = with_taken(alloc, found, batch)?;
+        found = more;
     }
     Ok(found)
 }
@@ -174,8 +184,10 @@ fn push_if_fits(taken: &mut Vec<Image>, applied: Applied) -> Result<(), AllocErr
     ensures { OnOk result (taken.new.items ≡ taken.old.items
         ++ (if applied.fits then applied.image ∷ [] else [])) }
 {
-    if applied.fits {
-        taken.push(applied.image)?;
+    let fits = applied.fits;
+    if !fits {
+        return Ok(());
     }
+    taken.push(applied.image)?;
     Ok(())
 }
