@@ -9,7 +9,9 @@ ghost use Rattle.raft_script.specs.Batches.{batch_of_acts, batches_of_op, group_
 ghost use Rattle.raft_allowed.specs.Changes.{batch_in, batches_in};
 ghost use Rattle.raft_allowed.specs.Held.{IsHeldBy, held_at, held_of, is_nil, kept_of};
 
-use crate::changes::{Change, What, changes_of, changes_of_all, has_numbers, plain_part, push_numbers};
+use crate::changes::{
+    Change, What, changes_of, changes_of_all, has_numbers, plain_part, push_numbers,
+};
 use crate::groups::is_of;
 use crate::parts::{are_no_entries, kept_in};
 use raft_log_engine::GroupImage;

@@ -76,11 +76,7 @@ fn accept_one(
 }
 
 // A batch without items changes nothing.
-fn write_some(
-    alloc: Global,
-    reached: &mut Reached,
-    batch: &[Change<'_>],
-) -> Result<(), AllocError>
+fn write_some(alloc: Global, reached: &mut Reached, batch: &[Change<'_>]) -> Result<(), AllocError>
     ensures { OnOk result ((p : Progress) → IsReached p reached.old
         → IsReached (with_batches p (written_batch (batch_in batch.now))) reached.new) }
 {

@@ -14,8 +14,7 @@ loop-batch-init c = λ m held. (m ∷ [], one_held m c.args.last c.push.new.self
 pub loop-batch-preserved : goal.loop-batch-preserved
 loop-batch-preserved c = λ m held.
     let so = c.loop-batch.invariant m held in
-    let batch = c.batch-item.result in
-    (
+    let batch = c.batch-item.result in (
       so.0 ++ taken_of (batch_in batch.items) so.0,
       subst (λ (l : List Change). AreHeldBy c.in_ok-more.more.items (so.0 ++ taken_of (batch_in l) so.0)) c.deref.ensures.value (c.in_ok-more.ensures so.0 so.1),
       flight_more (λ (b : Vec Change Global). batch_in b.items) so.0 _ c.args.batches.now c.loop-batch.batch-index batch c.loop-batch-test.true c.batch-item.is so.2,
