@@ -22,7 +22,8 @@ pub record AreFitting (failed_at : Option ℕ) (ops : List Op) (outcomes : List 
 abbrev pub MayBeLeft : Option ℕ → List Op → List Outcome → Contents → Type 0
 MayBeLeft failed_at ops outcomes m =
     let p = progress_after_all no_contents (progress_from []) ops outcomes in
-    (flight : List Batch) × MayBeInFlightAt failed_at (after_batches no_contents p.batches) ops flight
+    (flight : List Batch)
+    × MayBeInFlightAt failed_at (after_batches no_contents p.batches) ops flight
     × IsAllowedFrom p.covered no_contents (p.batches ++ flight) m
 
 -- the image is one of such contents, as reads show them: without the numbers that groups keep

@@ -93,7 +93,8 @@ fn push_pair(
 
 fn is_key_between(after: Option<&[u8]>, before: Option<&[u8]>, key: &[u8]) -> bool
     ensures { result
-        ≡ is_between (slice_cmp nat_cmp) (option_copied after.entry) (option_copied before.entry) key.now }
+        ≡ is_between (slice_cmp nat_cmp) (option_copied after.entry) (option_copied before.entry)
+        key.now }
 {
     is_key_past(after, key) && is_key_short(before, key)
 }
