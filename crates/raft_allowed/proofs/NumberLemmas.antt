@@ -8,10 +8,13 @@ use Rattle.std.specs.Cmp.Lexicographic.{nat_list_eq_equiv}
 use Rattle.std.specs.declared.alloc.Global.{Global}
 use Rattle.std.proofs.lemmas.Bool.{cond-true, cond-false, le-ltb}
 use Rattle.std.proofs.lemmas.List.{map-append}
-use Rattle.raft_once.specs.Numbers.{Pair, are_new, is_number_key, number_in, number_item, number_items, number_key, number_of, numbered}
+use Rattle.raft_once.specs.History.{are_numbers}
+use Rattle.raft_once.specs.Numbers.{Pair, are_new, are_unfit, has_numbers, is_number_key, number_in, number_item, number_items, number_key, number_of, numbered}
 use Rattle.raft_records.specs.Contents.{Contents}
 use Rattle.raft_records.specs.Item.{Batch}
 use Rattle.raft_tables.specs.Listing.{listed}
+use Rattle.raft_log_engine.specs.Once.{acting_batch}
+use Rattle.raft_script.specs.Batches.{once_batch}
 use Rattle.raft_log_engine.specs.declared.engine.image.GroupImage.{GroupImage}
 use Rattle.raft_allowed.specs.Held.{Held, IsHeldBy, held_at, held_of, kept_of}
 
@@ -54,3 +57,24 @@ found_first pair pairs is = cond-true (bytes_eq number_key pair.0.items) (Some p
 
 pub found_later : (pair : Stored) (pairs : List Stored) → is_number_key pair.0.items ≡ false → lookup (bytes_eq number_key) (listed (pair ∷ pairs)) ≡ lookup (bytes_eq number_key) (listed pairs)
 found_later pair pairs is = cond-false (bytes_eq number_key pair.0.items) (Some pair.1.items) (lookup (bytes_eq number_key) (listed pairs)) (same_test pair.0.items false is)
+
+-- Whether a write acts.
+
+pub unfit_acts : (m : Contents) (items : Batch) (pairs : List Pair) → are_unfit pairs ≡ true → acting_batch m items pairs ≡ []
+unfit_acts m items pairs unfit = ap (λ b. cond b [] (cond (has_numbers items) [] (cond (are_new m pairs) (numbered items pairs) []))) unfit
+
+pub numbers_act : (m : Contents) (items : Batch) (pairs : List Pair) → are_unfit pairs ≡ false → has_numbers items ≡ true → acting_batch m items pairs ≡ []
+numbers_act m items pairs fit numbers =
+    ap (λ b. cond b [] (cond (has_numbers items) [] (cond (are_new m pairs) (numbered items pairs) []))) fit
+    ∙ ap (λ b. cond b [] (cond (are_new m pairs) (numbered items pairs) [])) numbers
+
+pub new_acts : (m : Contents) (items : Batch) (pairs : List Pair) (b : Bool) → are_unfit pairs ≡ false → has_numbers items ≡ false → b ≡ are_new m pairs → acting_batch m items pairs ≡ cond b (numbered items pairs) []
+new_acts m items pairs b fit plain told =
+    ap (λ x. cond x [] (cond (has_numbers items) [] (cond (are_new m pairs) (numbered items pairs) []))) fit
+    ∙ ap (λ x. cond x [] (cond (are_new m pairs) (numbered items pairs) [])) plain
+    ∙ ap (λ x. cond x (numbered items pairs) []) (sym told)
+
+-- .. of the acts that it is of
+pub once_is : (m : Contents) (made : Option Batch) (items : Batch) (pairs : List Pair) (batch : Batch) → are_numbers pairs ≡ true → made ≡ Some items → acting_batch m items pairs ≡ batch → batch ≡ once_batch m made pairs
+once_is m made items pairs batch fit is acts =
+    sym (ap (λ (o : Option Batch). once_batch m o pairs) is ∙ ap (λ b. cond b (acting_batch m items pairs) []) fit ∙ acts)

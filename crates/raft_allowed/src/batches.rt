@@ -1,9 +1,10 @@
 //! The batches of operations.
-ghost use Rattle.std.specs.Prelude.{◌≡◌, ◌∷◌, ◌^◌, [], nat_lt, not, true, IfOk};
+ghost use Rattle.std.specs.Prelude.{◌≡◌, ◌∷◌, ◌^◌, [], nat_lt, not, true, IfOk, if◌then◌else◌};
 ghost use Rattle.raft_records.specs.Contents.{Contents};
 ghost use Rattle.raft_once.specs.History.{are_numbers};
-ghost use Rattle.raft_once.specs.Numbers.{are_new};
+ghost use Rattle.raft_once.specs.Numbers.{are_new, numbered};
 ghost use Rattle.raft_log_engine.specs.Cause.{plain_parts};
+ghost use Rattle.raft_log_engine.specs.Once.{acting_batch};
 ghost use Rattle.raft_log_engine.specs.Reads.{compact_batch};
 ghost use Rattle.raft_script.specs.Batches.{batch_of_acts, batches_of_op, group_batches, once_batch};
 ghost use Rattle.raft_allowed.specs.Changes.{batch_in, batches_in};
@@ -67,10 +68,12 @@ fn batches_of_parts<'a>(
 {
     let mut batches = Vec::new(alloc);
     for part in parts {
-        match changes_of(alloc, &part.0)? {
-            Some(changes) => batches.push(plain_part(changes))?,
-            None => return Ok(Vec::new(alloc)),
-        }
+        let made = changes_of(alloc, &part.0)?;
+        let Some(changes) = made else {
+            return Ok(Vec::new(alloc));
+        };
+        let plain = plain_part(changes);
+        batches.push(plain)?;
     }
     Ok(batches)
 }
@@ -86,14 +89,31 @@ fn acting_changes<'a>(
         → batch_in batch.items ≡ once_batch m (batch_of_acts acts.now) pairs.now) }
 {
     numbers_fit(pairs);
-    let Some(mut changes) = changes_of(alloc, acts)? else {
+    let made = changes_of(alloc, acts)?;
+    let Some(changes) = made else {
         return Ok(Vec::new(alloc));
     };
-    if are_unfit(pairs) || has_numbers(&changes) || !are_new(groups, pairs) {
+    if !may_act(groups, &changes, pairs) {
         return Ok(Vec::new(alloc));
     }
-    push_numbers(&mut changes, pairs)?;
-    Ok(changes)
+    let mut numbered = changes;
+    push_numbers(&mut numbered, pairs)?;
+    Ok(numbered)
+}
+
+// Whether a write of the changes with these numbers acts.
+fn may_act(groups: &[GroupImage], changes: &[Change<'_>], pairs: &[(u64, u64)]) -> bool
+    ensures { (m : Contents) → IsHeldBy m groups.now
+        → acting_batch m (batch_in changes.now) pairs.now
+        ≡ (if result then numbered (batch_in changes.now) pairs.now else []) }
+{
+    if are_unfit(pairs) {
+        return false;
+    }
+    if has_numbers(changes) {
+        return false;
+    }
+    are_new(groups, pairs)
 }
 
 // Each number has eight bytes, as its type says: they are read for that alone.
