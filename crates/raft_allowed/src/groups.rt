@@ -1,6 +1,9 @@
 //! Images of groups, and what changes make of one.
 ghost use Rattle.std.specs.Prelude.{◌≡◌, ◌∷◌, ◌++◌, [], is_none, nat_eq, IfOk, OnOk, None, Some};
 ghost use Rattle.std.specs.Ordering.{nat_cmp};
+ghost use Rattle.raft_codec.specs.Number.{u64_bytes};
+ghost use Rattle.raft_once.specs.Numbers.{number_key};
+ghost use Rattle.raft_records.specs.Item.{Compact, Delete, Entries, Put};
 ghost use Rattle.raft_tables.specs.Listing.{listed};
 ghost use Rattle.raft_log_engine.specs.Image.{entries_of};
 ghost use Rattle.raft_allowed.specs.Changes.{content_of};
@@ -99,36 +102,76 @@ pub(crate) fn changed(
         ≡ (old.now.group, held_after (content_of what.now) (held_in old.now))) }
 {
     match what {
-        What::Entries(entries) => {
-            let entries = with_entries(alloc, &old.entries, entries)?;
-            with_list(alloc, old, entries)
-        }
+        What::Entries(entries) => with_new(alloc, old, entries),
         What::Clean => Ok(GroupImage {
             group: old.group,
             entries: Vec::new(alloc),
             pairs: Vec::new(alloc),
         }),
-        What::Compact(index) => {
-            let mut entries = Vec::new(alloc);
-            push_entries(alloc, &mut entries, &old.entries, *index, None)?;
-            with_list(alloc, old, entries)
-        }
-        What::Put(key, value) => {
-            if is_mark(key) {
-                return copy_of(alloc, old);
-            }
-            let pairs = with_pair(alloc, &old.pairs, key, Some(value))?;
-            with_pairs(alloc, old, pairs)
-        }
-        What::Delete(key) => {
-            let pairs = with_pair(alloc, &old.pairs, key, None)?;
-            with_pairs(alloc, old, pairs)
-        }
-        What::Number(number) => {
-            let pairs = with_number(alloc, &old.pairs, *number)?;
-            with_pairs(alloc, old, pairs)
-        }
+        What::Compact(index) => compacted(alloc, old, *index),
+        What::Put(key, value) => with_put(alloc, old, key, value),
+        What::Delete(key) => without(alloc, old, key),
+        What::Number(number) => with_kept(alloc, old, *number),
     }
+}
+
+fn with_new(
+    alloc: Global,
+    old: &GroupImage,
+    new: &[(u64, Vec<u8>)],
+) -> Result<GroupImage, AllocError>
+    ensures { IfOk result (λ image. group_with_held image
+        ≡ (old.now.group, held_after (Entries (entries_of new.now)) (held_in old.now))) }
+{
+    let entries = with_entries(alloc, &old.entries, new)?;
+    let image = with_list(alloc, old, entries)?;
+    Ok(image)
+}
+
+fn compacted(alloc: Global, old: &GroupImage, index: u64) -> Result<GroupImage, AllocError>
+    ensures { IfOk result (λ image. group_with_held image
+        ≡ (old.now.group, held_after (Compact index) (held_in old.now))) }
+{
+    let mut entries = Vec::new(alloc);
+    push_entries(alloc, &mut entries, &old.entries, index, None)?;
+    let image = with_list(alloc, old, entries)?;
+    Ok(image)
+}
+
+fn with_put(
+    alloc: Global,
+    old: &GroupImage,
+    key: &[u8],
+    value: &[u8],
+) -> Result<GroupImage, AllocError>
+    ensures { IfOk result (λ image. group_with_held image
+        ≡ (old.now.group, held_after (Put key.now value.now) (held_in old.now))) }
+{
+    if is_mark(key) {
+        let image = copy_of(alloc, old)?;
+        return Ok(image);
+    }
+    let pairs = with_pair(alloc, &old.pairs, key, Some(value))?;
+    let image = with_pairs(alloc, old, pairs)?;
+    Ok(image)
+}
+
+fn without(alloc: Global, old: &GroupImage, key: &[u8]) -> Result<GroupImage, AllocError>
+    ensures { IfOk result (λ image. group_with_held image
+        ≡ (old.now.group, held_after (Delete key.now) (held_in old.now))) }
+{
+    let pairs = with_pair(alloc, &old.pairs, key, None)?;
+    let image = with_pairs(alloc, old, pairs)?;
+    Ok(image)
+}
+
+fn with_kept(alloc: Global, old: &GroupImage, number: u64) -> Result<GroupImage, AllocError>
+    ensures { IfOk result (λ image. group_with_held image
+        ≡ (old.now.group, held_after (Put number_key (u64_bytes number)) (held_in old.now))) }
+{
+    let pairs = with_number(alloc, &old.pairs, number)?;
+    let image = with_pairs(alloc, old, pairs)?;
+    Ok(image)
 }
 
 fn with_list(
