@@ -3,10 +3,10 @@ ghost use Rattle.std.specs.Prelude.{◌≡◌, ◌∷◌, ◌^◌, [], nat_lt, n
 ghost use Rattle.raft_records.specs.Contents.{Contents};
 ghost use Rattle.raft_once.specs.History.{are_numbers};
 ghost use Rattle.raft_once.specs.Numbers.{are_new, numbered};
-ghost use Rattle.raft_log_engine.specs.Cause.{plain_parts};
+ghost use Rattle.raft_log_engine.specs.Cause.{plain_part, plain_parts};
 ghost use Rattle.raft_log_engine.specs.Once.{acting_batch};
 ghost use Rattle.raft_log_engine.specs.Reads.{compact_batch};
-ghost use Rattle.raft_script.specs.Batches.{batch_of_acts, batches_of_op, group_batches, once_batch};
+ghost use Rattle.raft_script.specs.Batches.{batch_of_acts, batches_of_op, group_batches, items_of_acts, once_batch};
 ghost use Rattle.raft_allowed.specs.Changes.{batch_in, batches_in};
 ghost use Rattle.raft_allowed.specs.Held.{IsHeldBy, held_at, held_of, is_nil, kept_of};
 
@@ -30,21 +30,50 @@ pub(crate) fn batches_of<'a>(
         → batches_in batches.items ≡ batches_of_op m op.now) }
 {
     match op {
-        Op::Write(acts, _) => {
-            let changes = changes_of_all(alloc, acts)?;
-            batch_alone(alloc, plain_part(changes))
-        }
-        Op::WriteOnce(acts, pairs, _) => {
-            let changes = acting_changes(alloc, groups, acts, pairs)?;
-            batch_alone(alloc, changes)
-        }
+        Op::Write(acts, _) => of_write(alloc, acts),
+        Op::WriteOnce(acts, pairs, _) => of_once(alloc, groups, acts, pairs),
         Op::WriteGroup(parts) => batches_of_parts(alloc, parts),
-        Op::CompactTo(group, index) => {
-            let changes = compaction(alloc, groups, *group, *index)?;
-            batch_alone(alloc, changes)
-        }
+        Op::CompactTo(group, index) => of_compaction(alloc, groups, *group, *index),
         _ => Ok(Vec::new(alloc)),
     }
+}
+
+fn of_write<'a>(alloc: Global, acts: &'a [Act]) -> Result<Vec<Vec<Change<'a>>>, AllocError>
+    ensures { IfOk result (λ batches.
+        batches_in batches.items ≡ plain_part (items_of_acts acts.now) ∷ []) }
+{
+    let changes = changes_of_all(alloc, acts)?;
+    let plain = plain_part(changes);
+    let batches = batch_alone(alloc, plain)?;
+    Ok(batches)
+}
+
+fn of_once<'a>(
+    alloc: Global,
+    groups: &[GroupImage],
+    acts: &'a [Act],
+    pairs: &[(u64, u64)],
+) -> Result<Vec<Vec<Change<'a>>>, AllocError>
+    ensures { IfOk result (λ batches. (m : Contents) → IsHeldBy m groups.now
+        → batches_in batches.items ≡ once_batch m (batch_of_acts acts.now) pairs.now ∷ []) }
+{
+    let changes = acting_changes(alloc, groups, acts, pairs)?;
+    let batches = batch_alone(alloc, changes)?;
+    Ok(batches)
+}
+
+fn of_compaction<'a>(
+    alloc: Global,
+    groups: &[GroupImage],
+    group: u64,
+    index: u64,
+) -> Result<Vec<Vec<Change<'a>>>, AllocError>
+    ensures { IfOk result (λ batches. batches_in batches.items
+        ≡ compact_batch group index (held_at group (held_of groups.now)).entries ∷ []) }
+{
+    let batch = compaction(alloc, groups, group, index)?;
+    let batches = batch_alone(alloc, batch)?;
+    Ok(batches)
 }
 
 fn batch_alone<'a>(
