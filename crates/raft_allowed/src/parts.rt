@@ -67,7 +67,8 @@ pub(crate) fn with_number(
     let mut value = Vec::new(alloc);
     push_u64(&mut value, number)?;
     let key = NUMBER_KEY;
-    with_pair(alloc, pairs, &key, Some(&value))
+    let new = with_pair(alloc, pairs, &key, Some(&value))?;
+    Ok(new)
 }
 
 /// The number that a group with these pairs keeps.
