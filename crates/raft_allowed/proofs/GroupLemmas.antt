@@ -1,5 +1,5 @@
 -- What a group has, of lists that are alike.
-use Rattle.std.proofs.Common.{◌≡◌, ℕ, ◌+◌, ◌<◌, ◌≤◌, true, false, List, [], ◌∷◌, length, map, drop, get_or, refl, ◌∙◌, ap, sym, nat_eq}
+use Rattle.std.proofs.Common.{◌≡◌, ℕ, suc, ◌+◌, ◌<◌, ◌≤◌, true, false, List, [], ◌∷◌, length, map, drop, get_or, refl, ◌∙◌, ap, sym, nat_eq, arith}
 use Rattle.std.specs.Prelude.{◌==◌, unwrap_or, IfOk, Result, Ok, Err, None, Option, Some}
 use Rattle.std.specs.Map.{lookup}
 use Rattle.std.proofs.Math.ListN.{drop_of_length-le}
@@ -33,7 +33,10 @@ at_none images i group past so = sym (ap (λ (l : List GroupImage). held_at grou
 -- lists are empty where they have no length
 pub nil_by_length : {X Y : Type 0} (f : X → Y) (xs : List X) → (length xs == 0) ≡ is_nil (map f xs)
 nil_by_length f [] = refl
-nil_by_length f (x ∷ xs) = refl
+nil_by_length f (x ∷ xs) = no_zero (length xs)
+  where
+    no_zero : (n : ℕ) → (suc n == 0) ≡ false
+    no_zero n = grind arith
 
 abbrev pub group_pair : ℕ → Held → ℕ × Held
 group_pair group held = (group, held)

@@ -33,7 +33,7 @@ nil_from_test (x ∷ xs) is = cc
 nothing_from_test : (held : Held) → is_nothing held ≡ true → held ≡ nothing
 nothing_from_test held is = at (is_nil held.entries) refl is
   where
-    at : (b : Bool) → is_nil held.entries ≡ b → cond b (is_nil held.pairs) false ≡ true → held ≡ nothing
+    at : (b : Bool) → is_nil held.entries ≡ b → (b && is_nil held.pairs) ≡ true → held ≡ nothing
     at false first both = cc
     at true first both =
         let entries = nil_from_test held.entries first in

@@ -27,11 +27,11 @@ keys-held (image ∷ images) = ap (λ ks. image.group ∷ ks) (keys-held images)
 -- a group that isn't listed isn't found
 pub none_found : (group : ℕ) (images : List GroupImage) → list_any (nat_eq group) (groups_of images) ≡ false → lookup (nat_eq group) (held_of images) ≡ None
 none_found group [] none = refl
-none_found group (image ∷ images) none = at (nat_eq group image.group) none
+none_found group (image ∷ images) none = at (nat_eq group image.group) none (λ is. none_found group images is)
   where
-    at : (b : Bool) → (b || list_any (nat_eq group) (groups_of images)) ≡ false → cond b (Some (held_in image)) (lookup (nat_eq group) (held_of images)) ≡ None
-    at true is = cc
-    at false is = none_found group images is
+    at : (b : Bool) → (b || list_any (nat_eq group) (groups_of images)) ≡ false → (list_any (nat_eq group) (groups_of images) ≡ false → lookup (nat_eq group) (held_of images) ≡ None) → cond b (Some (held_in image)) (lookup (nat_eq group) (held_of images)) ≡ None
+    at true is rest = cc
+    at false is rest = rest is
 
 no_lists : (image : GroupImage) → is_nothing (held_in image) ≡ false → image.entries.items ≡ [] → image.pairs.items ≡ [] → ⊥
 no_lists image some entries pairs =
@@ -69,11 +69,11 @@ refusal_one m y (Some f) is = rw is refl
 -- the refusal of a batch with one item more
 refusal-push : (m : Contents) (xs : Batch) (y : Item) → is_none (batch_refusal m (xs ++ y ∷ [])) ≡ (is_none (batch_refusal m xs) && is_none (content_refusal (after_batch m xs) y.group y.content))
 refusal-push m [] y = refusal_one m y (content_refusal m y.group y.content) refl
-refusal-push m (x ∷ xs) y = at (content_refusal m x.group x.content) refl
+refusal-push m (x ∷ xs) y = at (content_refusal m x.group x.content) refl (refusal-push (after_item m x) xs y)
   where
-    at : (o : Option Fault) → content_refusal m x.group x.content ≡ o → is_none (batch_refusal m ((x ∷ xs) ++ y ∷ [])) ≡ (is_none (batch_refusal m (x ∷ xs)) && is_none (content_refusal (after_batch (after_item m x) xs) y.group y.content))
-    at None is = rw is (refusal-push (after_item m x) xs y)
-    at (Some f) is = rw is refl
+    at : (o : Option Fault) → content_refusal m x.group x.content ≡ o → is_none (batch_refusal (after_item m x) (xs ++ y ∷ [])) ≡ (is_none (batch_refusal (after_item m x) xs) && is_none (content_refusal (after_batch (after_item m x) xs) y.group y.content)) → is_none (batch_refusal m ((x ∷ xs) ++ y ∷ [])) ≡ (is_none (batch_refusal m (x ∷ xs)) && is_none (content_refusal (after_batch (after_item m x) xs) y.group y.content))
+    at None is rest = rw is rest
+    at (Some f) is rest = rw is refl
 
 -- the groups and the test that items lead to
 pub record AreAppliedTo (m : Contents) (items : Batch) (groups : Groups) (fits : Bool) : Type 0 where

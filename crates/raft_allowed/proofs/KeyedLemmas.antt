@@ -76,19 +76,19 @@ all_weaker P Q f (x ∷ xs) all = (f x all.0, all_weaker P Q f xs all.1)
 
 all_filter : {X : Type 0} (P : X → Type 0) (p : X → Bool) (xs : List X) → AllByRecursion P xs → AllByRecursion P (filter p xs)
 all_filter P p [] all = tt
-all_filter P p (x ∷ xs) all = at (p x)
+all_filter P p (x ∷ xs) all = at (p x) (all_filter P p xs all.1)
   where
-    at : (b : Bool) → AllByRecursion P (cond b (x ∷ filter p xs) (filter p xs))
-    at true = (all.0, all_filter P p xs all.1)
-    at false = all_filter P p xs all.1
+    at : (b : Bool) → AllByRecursion P (filter p xs) → AllByRecursion P (cond b (x ∷ filter p xs) (filter p xs))
+    at true rest = (all.0, rest)
+    at false rest = rest
 
 all_pass : {X : Type 0} (p : X → Bool) (xs : List X) → AllByRecursion (λ x. p x ≡ true) (filter p xs)
 all_pass p [] = tt
-all_pass p (x ∷ xs) = at (p x) refl
+all_pass p (x ∷ xs) = at (p x) refl (all_pass p xs)
   where
-    at : (b : Bool) → p x ≡ b → AllByRecursion (λ y. p y ≡ true) (cond b (x ∷ filter p xs) (filter p xs))
-    at true is = (is, all_pass p xs)
-    at false is = all_pass p xs
+    at : (b : Bool) → p x ≡ b → AllByRecursion (λ y. p y ≡ true) (filter p xs) → AllByRecursion (λ y. p y ≡ true) (cond b (x ∷ filter p xs) (filter p xs))
+    at true is rest = (is, rest)
+    at false is rest = rest
 
 -- the first that is there
 abbrev or_next : {A : Type 0} → Option A → Option A → Option A
@@ -98,6 +98,32 @@ or_next (Some a) other = Some a
 or_next-None : {A : Type 0} (a : Option A) → or_next a None ≡ a
 or_next-None None = refl
 or_next-None (Some a) = refl
+
+above_less : (b : Bool) → (b && true) ≡ true → b ≡ true
+above_less true is = refl
+above_less false is = is
+
+module _ {K : Type 0} (cmp : K → K → Ordering) (eq : K → K → Bool) (o : IsKeyOrder cmp eq) where
+  not_less_self : (a : K) → is_lt (cmp a a) ≡ false
+  not_less_self a = not_Less (cmp a a) (λ below. let differ = o.less a a below in let self = o.self a in cc)
+
+  below_is : (k key : K) (b : Bool) → is_lt (cmp k key) ≡ b → is_between cmp None (Some key) k ≡ b
+  below_is k key b is = is
+
+  above_is : (k key : K) (b : Bool) → is_lt (cmp key k) ≡ b → is_between cmp (Some key) None k ≡ b
+  above_is k key true is = ap (λ x. x && true) is
+  above_is k key false is = ap (λ x. x && true) is
+
+  sorted_join : (xs ys : List K) (key : K) → IsStrictlySortedBy cmp xs → IsStrictlySortedBy cmp ys → AllByRecursion (λ x. cmp x key ≡ Less) xs → AllByRecursion (λ y. cmp key y ≡ Less) ys
+      → IsStrictlySortedBy cmp (xs ++ ys) × IsStrictlySortedBy cmp (xs ++ key ∷ ys)
+  unfolding IsStrictlySortedBy
+  sorted_join [] ys key first last below above = (last, (above, last))
+  sorted_join (x ∷ xs) ys key first last below above =
+      let rest = sorted_join xs ys key first.1 last below.1 above in
+      let past : AllByRecursion (λ y. cmp x y ≡ Less) ys = all_weaker (λ y. cmp key y ≡ Less) (λ y. cmp x y ≡ Less) (λ y more. o.trans x key y below.0 more) ys above in (
+        (all_append (λ y. cmp x y ≡ Less) xs ys first.0 past, rest.0),
+        (all_append (λ y. cmp x y ≡ Less) xs (key ∷ ys) first.0 (below.0, past), rest.1),
+      )
 
 module _ {K V : Type 0} (cmp : K → K → Ordering) (eq : K → K → Bool) (o : IsKeyOrder cmp eq) where
   lookup-append : (test : K → Bool) (xs ys : List (K × V)) → lookup test (xs ++ ys) ≡ or_next (lookup test xs) (lookup test ys)
@@ -120,31 +146,21 @@ module _ {K V : Type 0} (cmp : K → K → Ordering) (eq : K → K → Bool) (o 
   lookup-between : (after before : Option K) (k : K) (b : Bool) (es : List (K × V)) → is_between cmp after before k ≡ b → lookup (eq k) (between cmp after before es) ≡ cond b (lookup (eq k) es) None
   lookup-between after before k b es is = lookup-filter-keys (eq k) (is_between cmp after before) b (λ x same. ap (is_between cmp after before) (sym (o.same k x same)) ∙ is) es
 
-  not_less_self : (a : K) → is_lt (cmp a a) ≡ false
-  not_less_self a = not_Less (cmp a a) (λ below. let differ = o.less a a below in let self = o.self a in cc)
-
-  below_is : (k key : K) (b : Bool) → is_lt (cmp k key) ≡ b → is_between cmp None (Some key) k ≡ b
-  below_is k key b is = is
-
-  above_is : (k key : K) (b : Bool) → is_lt (cmp key k) ≡ b → is_between cmp (Some key) None k ≡ b
-  above_is k key true is = ap (λ x. x && true) is
-  above_is k key false is = ap (λ x. x && true) is
-
   lookup-parts : (k key : K) (value : Option V) (es : List (K × V)) (below above here : Bool) → is_lt (cmp k key) ≡ below → is_lt (cmp key k) ≡ above → eq k key ≡ here
       → lookup (eq k) (put_at cmp key value es) ≡ or_next (or_next (cond below (lookup (eq k) es) None) (cond here value None)) (cond above (lookup (eq k) es) None)
   lookup-parts k key value es below above here is_below is_above is_here =
       lookup-append (eq k) (between cmp None (Some key) es ++ with_one key value) (between cmp (Some key) None es)
       ∙ ap (λ x. or_next x (lookup (eq k) (between cmp (Some key) None es))) (lookup-append (eq k) (between cmp None (Some key) es) (with_one key value))
-      ∙ ap (λ x. or_next (or_next x (lookup (eq k) (with_one key value))) (lookup (eq k) (between cmp (Some key) None es))) (lookup-between None (Some key) k below es (below_is k key below is_below))
+      ∙ ap (λ x. or_next (or_next x (lookup (eq k) (with_one key value))) (lookup (eq k) (between cmp (Some key) None es))) (lookup-between None (Some key) k below es (below_is cmp eq o k key below is_below))
       ∙ ap (λ x. or_next (or_next (cond below (lookup (eq k) es) None) x) (lookup (eq k) (between cmp (Some key) None es))) (lookup-one k key value ∙ ap (λ b. cond b value None) is_here)
-      ∙ ap (or_next (or_next (cond below (lookup (eq k) es) None) (cond here value None))) (lookup-between (Some key) None k above es (above_is k key above is_above))
+      ∙ ap (or_next (or_next (cond below (lookup (eq k) es) None) (cond here value None))) (lookup-between (Some key) None k above es (above_is cmp eq o k key above is_above))
 
   -- at the key the value is found
   pub lookup-put_same : (k key : K) (value : Option V) (es : List (K × V)) → eq k key ≡ true → lookup (eq k) (put_at cmp key value es) ≡ value
   lookup-put_same k key value es here =
       let same : k ≡ key = o.same k key here in
-      let below : is_lt (cmp k key) ≡ false = ap (λ x. is_lt (cmp x key)) same ∙ not_less_self key in
-      let above : is_lt (cmp key k) ≡ false = ap (λ x. is_lt (cmp key x)) same ∙ not_less_self key in
+      let below : is_lt (cmp k key) ≡ false = ap (λ x. is_lt (cmp x key)) same ∙ not_less_self cmp eq o key in
+      let above : is_lt (cmp key k) ≡ false = ap (λ x. is_lt (cmp key x)) same ∙ not_less_self cmp eq o key in
       lookup-parts k key value es false false true below above here ∙ or_next-None value
 
   -- .. and at another key what was found there
@@ -167,27 +183,12 @@ module _ {K V : Type 0} (cmp : K → K → Ordering) (eq : K → K → Bool) (o 
       at true rest = ap (λ ks. e.0 ∷ ks) rest
       at false rest = rest
 
-  sorted_join : (xs ys : List K) (key : K) → IsStrictlySortedBy cmp xs → IsStrictlySortedBy cmp ys → AllByRecursion (λ x. cmp x key ≡ Less) xs → AllByRecursion (λ y. cmp key y ≡ Less) ys
-      → IsStrictlySortedBy cmp (xs ++ ys) × IsStrictlySortedBy cmp (xs ++ key ∷ ys)
-  unfolding IsStrictlySortedBy
-  sorted_join [] ys key first last below above = (last, (above, last))
-  sorted_join (x ∷ xs) ys key first last below above =
-      let rest = sorted_join xs ys key first.1 last below.1 above in
-      let past : AllByRecursion (λ y. cmp x y ≡ Less) ys = all_weaker (λ y. cmp key y ≡ Less) (λ y. cmp x y ≡ Less) (λ y more. o.trans x key y below.0 more) ys above in (
-        (all_append (λ y. cmp x y ≡ Less) xs ys first.0 past, rest.0),
-        (all_append (λ y. cmp x y ≡ Less) xs (key ∷ ys) first.0 (below.0, past), rest.1),
-      )
-
   keys-put : (key : K) (value : Option V) (es : List (K × V)) → keys_of (put_at cmp key value es) ≡ (filter (is_between cmp None (Some key)) (keys_of es) ++ keys_of (with_one key value)) ++ filter (is_between cmp (Some key) None) (keys_of es)
   keys-put key value es =
       map-append (λ (e : K × V). e.0) (between cmp None (Some key) es ++ with_one key value) (between cmp (Some key) None es)
       ∙ ap (λ ks. ks ++ keys_of (between cmp (Some key) None es)) (map-append (λ (e : K × V). e.0) (between cmp None (Some key) es) (with_one key value))
       ∙ ap (λ ks. (ks ++ keys_of (with_one key value)) ++ keys_of (between cmp (Some key) None es)) (keys-filter (is_between cmp None (Some key)) es)
       ∙ ap (λ ks. (filter (is_between cmp None (Some key)) (keys_of es) ++ keys_of (with_one key value)) ++ ks) (keys-filter (is_between cmp (Some key) None) es)
-
-  above_less : (b : Bool) → (b && true) ≡ true → b ≡ true
-  above_less true is = refl
-  above_less false is = is
 
   sorted_parts : (first last : List K) (key : K) (value : Option V) → IsStrictlySortedBy cmp (first ++ last) × IsStrictlySortedBy cmp (first ++ key ∷ last) → IsStrictlySortedBy cmp ((first ++ keys_of (with_one key value)) ++ last)
   sorted_parts first last key None both = subst (λ (ks : List K). IsStrictlySortedBy cmp (ks ++ last)) (sym (append-nil first)) both.0
@@ -200,7 +201,7 @@ module _ {K V : Type 0} (cmp : K → K → Ordering) (eq : K → K → Bool) (o 
       let ks = keys_of es in
       subst (IsStrictlySortedBy cmp) (sym (keys-put key value es))
       (sorted_parts (filter below ks) (filter above ks) key value
-      (sorted_join (filter below ks) (filter above ks) key
+      (sorted_join cmp eq o (filter below ks) (filter above ks) key
       (IsStrictlySortedBy-filter cmp below ks sorted)
       (IsStrictlySortedBy-filter cmp above ks sorted)
       (all_weaker (λ x. below x ≡ true) (λ x. cmp x key ≡ Less) (λ x is. is_lt-Less (cmp x key) is) (filter below ks) (all_pass below ks))

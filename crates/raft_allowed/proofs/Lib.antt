@@ -10,4 +10,3 @@ pub mod TakenLemmas
 pub mod GroupLemmas
 pub mod ShownLemmas
 pub mod NumberLemmas
-pub mod AnswerLemmas

@@ -2,6 +2,7 @@
 use Rattle.std.proofs.Common.{◌≡◌, ℕ, suc, ◌+◌, ◌<◌, ◌≤◌, Bool, true, false, cond, List, [], ◌∷◌, ◌++◌, length, map, take, drop, drop-cons, get_or, refl, sym, ◌∙◌, ap, subst, append_assoc, arith}
 use Rattle.std.specs.Prelude.{◌==◌, filter}
 use Rattle.std.specs.List.{AllZip}
+use Rattle.std.proofs.lemmas.Bool.{eqb-true}
 use Rattle.std.proofs.lemmas.List.{append-nil, map-append}
 use Rattle.std.proofs.Math.Seq.{take-suc}
 use Rattle.raft_records.specs.Item.{Item}
@@ -20,13 +21,18 @@ taken_more xs i x within is =
 
 -- Lists with and without elements, by their lengths.
 
+no_length : (n : ℕ) → (suc n == 0) ≡ true → ⊥
+no_length n is =
+    let none : suc n ≡ 0 = eqb-true (suc n) 0 is in
+    omega arith
+
 pub mapped_none : {X Y : Type 0} (f : X → Y) (xs : List X) → (length xs == 0) ≡ true → map f xs ≡ []
 mapped_none f [] none = refl
-mapped_none f (x ∷ xs) none = cc
+mapped_none f (x ∷ xs) none = absurd (no_length (length xs) none)
 
 pub written_none : {X : Type 0} (f : X → Item) (xs : List X) → (length xs == 0) ≡ true → written_batch (map f xs) ≡ []
 written_none f [] none = refl
-written_none f (x ∷ xs) none = cc
+written_none f (x ∷ xs) none = absurd (no_length (length xs) none)
 
 pub written_one : {X : Type 0} (f : X → Item) (xs : List X) → (length xs == 0) ≡ false → written_batch (map f xs) ≡ map f xs ∷ []
 written_one f [] some = cc

@@ -17,7 +17,7 @@ loop-act-preserved c =
     let act = c.act-item.result in
     let whole = batch_of_acts acts in
     let one = rw c.if-not-done.false at c.in_ok-done.ensures in
-    acts_more (batch_in c.loop-act.changes.items) one.0 (batch_in c.push_change-done.new.changes.items) act (drop (i + 1) acts) whole one.1 one.2
+    acts_more (batch_in c.loop-act.changes.items) one.0 (batch_in c.push_change.new.changes.items) act (drop (i + 1) acts) whole one.1 one.2
     (subst (λ (l : List Act). AreOfActs (batch_in c.loop-act.changes.items) l whole) (ahead acts i act c.loop-act-test.true c.act-item.is) c.loop-act.invariant)
 
 pub returns-then-not-done : goal.returns-then-not-done

@@ -5,5 +5,5 @@ use Rattle.raft_allowed.proofs.images.after_batch.Goals as goal
 
 pub loop-change-preserved : goal.loop-change-preserved
 loop-change-preserved c = λ m held.
-    applied_on item_of m c.args.batch.now c.loop-change.change-index c.change-item.result (held_of c.loop-change.image.groups.items) (held_of c.in_ok-applied.applied.image.groups.items) c.loop-change.fits c.in_ok-applied.applied.fits c.both.result
-    c.loop-change-test.true c.change-item.is (c.loop-change.invariant m held) c.in_ok-applied.ensures.value c.in_ok-applied.ensures.fits c.both.ensures
+    applied_on item_of m c.args.batch.now c.loop-change.change-index c.change-item.result (held_of c.loop-change.image.groups.items) (held_of c.in_ok-applied.applied.image.groups.items) c.loop-change.fits c.in_ok-applied.applied.fits c.both-fits.result
+    c.loop-change-test.true c.change-item.is (c.loop-change.invariant m held) c.in_ok-applied.ensures.value c.in_ok-applied.ensures.fits c.both-fits.ensures

@@ -16,4 +16,4 @@ pub returns : goal.returns
 returns c =
     let copied : c.in_ok-bytes.bytes.items ≡ c.args.entry.now.1.items = search rules in
     push_one (λ (e : Entry). is_within c.args.from c.args.to e.0) (c.args.entry.now.0, c.args.entry.now.1.items) (entries_of c.args.into.now.items) (entries_of c.push.new.self.items) (sym c.is_within.ensures ∙ c.if-not-is_within.false)
-    (rw (c.in_ok-push.ensures.items, map-append (λ (e : ℕ × Vec ℕ Global). (e.0, e.1.items)) c.args.into.now.items _, copied) refl)
+    (rw (c.in_ok-push.ensures.items, map-append {B = Entry} (λ (e : ℕ × Vec ℕ Global). (e.0, e.1.items)) c.args.into.now.items _, copied) refl)

@@ -21,4 +21,4 @@ returns c =
     let value : c.in_ok-value.value.items ≡ c.args.pair.now.1.items = search rules in
     push_one (λ (p : List ℕ × List ℕ). is_between (slice_cmp nat_cmp) (option_copied c.args.after) (option_copied c.args.before) p.0) (c.args.pair.now.0.items, c.args.pair.now.1.items) (listed c.args.into.now.items) (listed c.push.new.self.items)
     (ap (is_between (slice_cmp nat_cmp) (option_copied c.args.after) (option_copied c.args.before)) (sym c.deref.ensures.value) ∙ sym c.is_key_between.ensures ∙ c.if-not-is_key_between.false)
-    (rw (c.in_ok-push.ensures.items, map-append (λ (p : Vec ℕ Global × Vec ℕ Global). (p.0.items, p.1.items)) c.args.into.now.items _, key, value) refl)
+    (rw (c.in_ok-push.ensures.items, map-append {B = List ℕ × List ℕ} (λ (p : Vec ℕ Global × Vec ℕ Global). (p.0.items, p.1.items)) c.args.into.now.items _, key, value) refl)

@@ -9,8 +9,8 @@ use Rattle.raft_allowed.proofs.walk.with_taken.Goals as goal
 pub returns-then-is_empty : goal.returns-then-is_empty
 returns-then-is_empty c = λ ms are. none_taken c.args.found.items ms (batch_in c.args.batch.now) (mapped_none item_of c.args.batch.now (sym c.is_empty.ensures ∙ c.if-is_empty.true)) are
 
-pub taken_from-taken-requires : goal.taken_from-taken-requires
-taken_from-taken-requires c = some_left c.args.batch.now (sym c.is_empty.ensures ∙ c.if-is_empty.false)
+pub taken_from-requires : goal.taken_from-requires
+taken_from-requires c = some_left c.args.batch.now (sym c.is_empty.ensures ∙ c.if-is_empty.false)
 
 pub returns : goal.returns
 returns c = λ ms are.
