@@ -12,7 +12,7 @@ use Rattle.raft_allowed.proofs.batches.acting_changes.Goals as goal
 pub returns-in_default : goal.returns-in_default
 returns-in_default c = λ m held.
     let none : batch_of_acts c.args.acts.now ≡ None = sym c.in_ok-made.ensures ∙ ap (option_map (λ (some : Vec Change Global). batch_in some.items)) c.in_default.is in
-    sym (ap (λ o. once_batch m o c.args.pairs.now) none)
+    rw c.new.ensures.items (sym (ap (λ o. once_batch m o c.args.pairs.now) none))
 
 pub returns-then-not-may_act : goal.returns-then-not-may_act
 returns-then-not-may_act c = λ m held.
@@ -21,7 +21,7 @@ returns-then-not-may_act c = λ m held.
     let made : batch_of_acts c.args.acts.now ≡ Some items = sym c.in_ok-made.ensures ∙ ap (option_map (λ (some : Vec Change Global). batch_in some.items)) c.in-Some.is in
     let acts : acting_batch m items pairs ≡ [] =
     ap (λ (l : List Change). acting_batch m (batch_in l) pairs) (sym c.deref.ensures.value) ∙ c.may_act.ensures m held ∙ ap (λ b. cond b (numbered (batch_in c.deref.result.now) pairs) []) c.if-not-may_act.true in
-    once_is m (batch_of_acts c.args.acts.now) items pairs [] c.numbers_fit.ensures made acts
+    rw c.new-then-not-may_act.ensures.items (once_is m (batch_of_acts c.args.acts.now) items pairs [] c.numbers_fit.ensures made acts)
 
 pub returns : goal.returns
 returns c = λ m held.

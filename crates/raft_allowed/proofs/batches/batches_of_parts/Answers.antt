@@ -35,7 +35,7 @@ returns-in_default c =
     let whole = batches_of_parts parts in
     let old = batches_in c.loop-part.batches.items in
     let none = ap batch_of_acts (sym c.deref.ensures.value) ∙ sym c.in_ok-made.ensures ∙ ap (option_map (λ (some : Vec Change Global). batch_in some.items)) c.in_default.is in
-    plain_refused old part (drop (i + 1) parts) whole none (subst (λ (l : List Part). ArePlainOf old l whole) (ahead parts i part c.loop-part-test.true c.part-item.is) c.loop-part.invariant)
+    rw c.new.ensures.items (plain_refused old part (drop (i + 1) parts) whole none (subst (λ (l : List Part). ArePlainOf old l whole) (ahead parts i part c.loop-part-test.true c.part-item.is) c.loop-part.invariant))
 
 pub returns : goal.returns
 returns c = plain_ended (batches_in c.loop-part.batches.items) _ (batches_of_parts c.args.parts.now) (drop_of_length-le c.args.parts.now c.loop-part-test.false) c.loop-part.invariant

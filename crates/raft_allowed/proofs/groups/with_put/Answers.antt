@@ -11,4 +11,4 @@ returns-then-is_mark c =
 pub returns : goal.returns
 returns c =
     let plain : bytes_eq c.args.key.now group_mark_key ≡ false = sym c.is_mark.ensures ∙ c.if-is_mark.false in
-    rw (plain, c.in_ok-image.ensures, c.in_ok-pairs.ensures, c.deref.ensures.value) refl
+    rw (plain, c.in_ok-image-2.ensures, c.in_ok-pairs.ensures, c.deref.ensures.value) refl
