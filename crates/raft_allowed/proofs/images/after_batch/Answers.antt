@@ -1,8 +1,8 @@
-use Rattle.std.proofs.Common.{List, subst}
+use Rattle.std.proofs.Common.{List, subst, sym}
 use Rattle.std.proofs.lemmas.List.{take_all}
 use Rattle.raft_allowed.specs.Changes.{batch_in, item_of}
 use Rattle.raft_allowed.specs.declared.changes.Change.{Change}
-use Rattle.raft_allowed.specs.Held.{held_of}
+use Rattle.raft_allowed.specs.Held.{AreGroupsOf, held_of}
 use Rattle.raft_allowed.proofs.ImageLemmas.{AreAppliedTo, applied_on}
 use Rattle.raft_allowed.proofs.images.after_batch.Goals as goal
 
@@ -13,5 +13,5 @@ loop-change-preserved c = λ m held.
 
 pub returns : goal.returns
 returns c = λ m held.
-    let so = subst (λ (l : List Change). AreAppliedTo m (batch_in l) (held_of c.loop-change.image.groups.items) c.loop-change.fits) (take_all c.loop-change.change-index c.args.batch.now c.loop-change-test.false) (c.loop-change.invariant m held) in
+    let so = subst (λ (l : List Change). AreAppliedTo m (batch_in l) (held_of c.loop-change.image.groups.items) c.loop-change.fits) (take_all c.loop-change.change-index c.args.batch.now c.loop-change-test.false) (c.loop-change.invariant m (subst (AreGroupsOf m) (sym c.in_ok-image.ensures) held)) in
     (so.groups_are, so.fits_is)
