@@ -283,7 +283,9 @@ static void be_killed(const char *folder, int times) {
             _exit(0);
         }
         usleep(30000 + 7000 * i);
-        CHECK(!kill(child, SIGKILL) && waitpid(child, NULL, 0) == child);
+        int status;
+        CHECK(!kill(child, SIGKILL) && waitpid(child, &status, 0) == child);
+        CHECK(WIFSIGNALED(status));
         raftlog *log = open_at(folder);
         finds(log, THREADS, answered);
         CHECK(!raftlog_close(log));

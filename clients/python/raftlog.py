@@ -7,7 +7,8 @@ from ctypes import POINTER, byref, c_bool, c_char_p, c_int, c_size_t, c_uint64, 
 _HERE = os.path.dirname(os.path.abspath(__file__))
 _C = ctypes.CDLL(os.environ.get("RAFTLOG_SO", os.path.join(_HERE, "../c/build/libraftlog.so")))
 INVALID, IO, TRY_AGAIN, GAP, COMPACTED, NO_ENTRY, FAILED, ABSENT, IN_USE, FOLDER = 1, 3, 4, 5, 7, 8, 11, 20, 30, 32
-STALE_NUMBER = 18
+CORRUPTION, STALE_NUMBER = 2, 18
+_Watch = ctypes.CFUNCTYPE(None, c_void_p, c_uint64, c_uint64)
 
 
 class _Slice(ctypes.Structure):
@@ -37,12 +38,14 @@ class _Bytes(ctypes.Structure):
 
 for _name, _result, _arguments in [
     ("bytes_free", None, [POINTER(_Bytes)]),
-    ("open", c_int, [c_char_p, c_char_p, POINTER(c_void_p), c_char_p, c_size_t]),
+    ("open_watched", c_int, [c_char_p, c_char_p, _Watch, c_void_p, POINTER(c_void_p), c_char_p, c_size_t]),
     ("open_memory", c_int, [c_char_p, POINTER(c_void_p), c_char_p, c_size_t]),
     ("close", c_int, [c_void_p]),
     ("stats", c_int, [c_void_p, POINTER(Stats)]),
     ("message", c_size_t, [c_void_p, c_char_p, c_size_t]),
     ("code_text", c_char_p, [c_int]),
+    ("survive_bus_errors", c_int, []),
+    ("expect_reads", c_int, [c_void_p, c_bool]),
     ("write_bytes", c_int, [c_void_p, c_char_p, c_size_t, c_bool]),
     ("write_once_bytes", c_int,
      [c_void_p, c_char_p, c_size_t, POINTER(c_uint64), POINTER(c_uint64), c_size_t, c_bool]),
@@ -68,6 +71,15 @@ class Error(Exception):
     def __init__(self, code, text):
         super().__init__(text or _C.raftlog_code_text(code).decode())
         self.code = code
+
+
+def survive_bus_errors():
+    """By default the process ends, by SIGBUS, where a part of a log file can't be read again: the disk fails, or another
+    program cut the file. After this call, once for the process, a read that needs this part fails as CORRUPTION in its
+    place, and an opening that needs it as IO."""
+    code = _C.raftlog_survive_bus_errors()
+    if code:
+        raise Error(code, "")
 
 
 def _number(number):
@@ -131,17 +143,19 @@ def _parts(data):
 
 
 class Engine:
-    """`folder` None: a log in memory. The settings are TOML. A context manager; it is closed with a sync.
+    """`folder` None: a log in memory. The settings are TOML. A context manager; it is closed with a sync. `watch` is told how
+    far the opening of a folder is, `watch(done, all)` with each file: of so many bytes, so many are read; it makes no call.
 
     Threads may share it, but for `close`: writers that come at once share a sync, and reads don't wait for the disk
     (raftlog.h, "Rounds")."""
 
-    def __init__(self, folder=None, settings=""):
+    def __init__(self, folder=None, settings="", watch=None):
         text, self._log = ctypes.create_string_buffer(512), c_void_p()
         if folder is None:
             code = _C.raftlog_open_memory(settings.encode(), byref(self._log), text, 512)
         else:
-            code = _C.raftlog_open(os.fsencode(folder), settings.encode(), byref(self._log), text, 512)
+            told = _Watch(lambda _, done, all_bytes: watch(done, all_bytes)) if watch else _Watch()
+            code = _C.raftlog_open_watched(os.fsencode(folder), settings.encode(), told, None, byref(self._log), text, 512)
         if code:
             raise Error(code, text.value.decode(errors="replace"))
 
@@ -182,6 +196,11 @@ class Engine:
         stats = Stats()
         self._call("stats", byref(stats))
         return stats
+
+    def expect_reads(self, at_random):
+        """How entries will be read that are no longer in memory: in order, the default, with some 128 KB ahead; or at
+        random, and no more than is asked for."""
+        self._call("expect_reads", at_random)
 
     def get(self, group, key):
         return self._read("get", group, key, len(key))

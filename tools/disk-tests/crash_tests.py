@@ -274,7 +274,7 @@ class Tests:
         if env:
             env = {"LD_PRELOAD": self.recorder, "RECORD_FOLDER": folder, "ASAN_OPTIONS": "verify_asan_link_order=0", **env}
         words = [program or self.program, folder, *map(str, words)]
-        return subprocess.run(words, capture_output=True, text=True, env={**os.environ, **env}, timeout=120)
+        return subprocess.run(words, capture_output=True, text=True, env={**os.environ, **env}, timeout=900)
 
     def standing(self, folder, run):
         """How many keys of each thread stand from 0 on, or what is wrong. A look makes no folder."""
@@ -422,22 +422,25 @@ class Tests:
         return turns, bad
 
     def refuse_each(self):
-        """What an opening has to refuse, with the words that say why."""
+        """What an opening has to refuse, with the words that say why, and what it passes over."""
         work = os.path.join(self.work, "refused")
         os.makedirs(work)
         place = lambda name: os.path.join(work, name)
         with open(place("file"), "wb"):
             pass
-        self.run(place("link"), *load(3, 1))
-        os.symlink("/etc/hostname", place("link/other"))
-        self.run(place("names"), *load(3, 1))
-        os.link(place("names/LOCK"), place("names/more"))
-        cases = [("file", "raftctl: "), ("file/below", "raftctl: ")]
-        cases += [("link", "neither a folder nor a file"), ("names", "neither a folder nor a file")]
+        for name in ("link", "names", "others"):
+            self.run(place(name), *load(3, 1))
+        os.symlink("/etc/hostname", place("link/0000000000000099.raftlog"))
+        os.link(place("names/0000000000000001.raftlog"), place("names/0000000000000002.raftlog"))
+        # These have no log file's names.
+        os.symlink("/etc/hostname", place("others/other"))
+        os.link(place("others/LOCK"), place("others/more"))
+        cases = [("file", 1, "raftctl: "), ("file/below", 1, "raftctl: "), ("others", 0, "")]
+        cases += [("link", 1, "neither a folder nor a file"), ("names", 1, "neither a folder nor a file")]
         bad = 0
-        for name, words in cases:
+        for name, status, words in cases:
             ran = self.run(place(name), "put", "1", "key", "value")
-            if ran.returncode != 1 or words not in ran.stderr:
+            if ran.returncode != status or words not in ran.stderr:
                 bad += 1
                 print(f"{name}: status {ran.returncode}: {ran.stderr}")
         return len(cases) + 1, bad + self.open_twice(place("twice"))

@@ -16,7 +16,8 @@ import (
 func ask(command string, arguments []string) error {
 	flags := flag.NewFlagSet("kv "+command, flag.ContinueOnError)
 	nodes := flags.String("nodes", nodesOf(os.Getenv("KV_NODES")), "where the nodes answer HTTP")
-	timeout := flags.Duration("timeout", 10*time.Second, "how long the nodes are asked")
+	timeout := flags.Duration("timeout", timeoutOf(os.Getenv("KV_TIMEOUT")),
+		"how long the nodes are asked")
 	isLong := new(bool)
 	if command == "status" {
 		flags.BoolVar(isLong, "groups", false, "a line for each group")
@@ -46,6 +47,13 @@ func nodesOf(nodes string) string {
 		return "127.0.0.1:8101,127.0.0.1:8102,127.0.0.1:8103"
 	}
 	return nodes
+}
+
+func timeoutOf(text string) time.Duration {
+	if timeout, err := time.ParseDuration(text); err == nil {
+		return timeout
+	}
+	return 10 * time.Second
 }
 
 func change(ctx context.Context, c *client.Client, command string, arguments []string) error {

@@ -18,7 +18,7 @@ const usage = `kv is a key store on several nodes, over etcd's raft and raftlog.
   kv status [--groups]  tells of each node, and of each of its groups
 
 kv COMMAND --help tells the settings of a command. The client asks the nodes of --nodes, or of the
-variable KV_NODES, and else 127.0.0.1:8101 to 8103.
+variable KV_NODES, and else 127.0.0.1:8101 to 8103; as long as --timeout or KV_TIMEOUT says, else 10s.
 
 Statuses: 0 done, 1 failed, 2 wrong arguments, 3 the key has no value.
 `

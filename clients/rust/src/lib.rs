@@ -13,9 +13,10 @@
 //! ```
 mod sys;
 
-use std::ffi::{c_char, c_int, CStr, CString};
+use std::ffi::{c_char, c_int, c_void, CStr, CString};
 use std::fmt;
 use std::os::unix::ffi::OsStrExt;
+use std::panic::{catch_unwind, resume_unwind, AssertUnwindSafe};
 use std::path::Path;
 use std::ptr;
 use std::time::Duration;
@@ -263,6 +264,33 @@ pub struct Stats {
     pub sync_time: Duration,
 }
 
+// Who is told how far an opening is. No panic goes through C: it goes on behind the opening.
+struct Watched<'a> {
+    watch: &'a mut dyn FnMut(u64, u64),
+    panic: Option<Box<dyn std::any::Any + Send>>,
+}
+
+unsafe extern "C" fn tell(with: *mut c_void, done: u64, all: u64) {
+    let watched = unsafe { &mut *with.cast::<Watched<'_>>() };
+    if watched.panic.is_none() {
+        watched.panic = catch_unwind(AssertUnwindSafe(|| (watched.watch)(done, all))).err();
+    }
+}
+
+fn path_text(path: &Path) -> Result<CString> {
+    CString::new(path.as_os_str().as_bytes()).map_err(|_| Error::invalid("the folder's path has a NUL"))
+}
+
+/// By default the process ends, by SIGBUS, where a part of a log file can't be read again: the disk fails, or another
+/// program cut the file. After this call, once for the process, a read that needs this part answers `Code::Corruption` in
+/// its place, and an opening that needs it fails as `Code::Io`. Other SIGBUS go to the handler that was set before.
+pub fn survive_bus_errors() -> Result<()> {
+    match unsafe { sys::raftlog_survive_bus_errors() } {
+        OK => Ok(()),
+        code => Err(Error { code: Code::of(code), message: code_text(code) }),
+    }
+}
+
 /// An open log. It may be used by many threads: writers that come at once share a sync, and reads don't
 /// wait for the disk (`raftlog.h`, "Rounds"). It is closed, with a sync, when it is dropped; `close` tells
 /// whether that was done.
@@ -284,10 +312,25 @@ impl Engine {
     /// Opens the log in a folder, which is made where it is missing. The settings are TOML, as
     /// `target-file-size = "64MB"`; those that aren't named are the defaults.
     pub fn open(folder: impl AsRef<Path>, settings: &str) -> Result<Engine> {
-        let folder = CString::new(folder.as_ref().as_os_str().as_bytes()).map_err(|_| Error::invalid("the folder's path has a NUL"))?;
+        let folder = path_text(folder.as_ref())?;
         Engine::opened(settings, |settings, out, text, room| unsafe {
             sys::raftlog_open(folder.as_ptr(), settings, out, text, room)
         })
+    }
+
+    /// As `open`. `watch` is told how far it is, with each file: of so many bytes, so many are read. Once all are, they are
+    /// replayed, which takes as long again.
+    pub fn open_watched(folder: impl AsRef<Path>, settings: &str, mut watch: impl FnMut(u64, u64)) -> Result<Engine> {
+        let folder = path_text(folder.as_ref())?;
+        let mut watched = Watched { watch: &mut watch, panic: None };
+        let with = (&mut watched as *mut Watched<'_>).cast();
+        let engine = Engine::opened(settings, |settings, out, text, room| unsafe {
+            sys::raftlog_open_watched(folder.as_ptr(), settings, Some(tell), with, out, text, room)
+        });
+        if let Some(panic) = watched.panic {
+            resume_unwind(panic);
+        }
+        engine
     }
 
     /// A log in memory, for tests.
@@ -381,6 +424,12 @@ impl Engine {
             bytes: counts.bytes,
             sync_time: Duration::from_nanos(counts.sync_ns),
         })
+    }
+
+    /// How entries will be read that are no longer in memory: in order, the default, with some 128 KB ahead; or at random,
+    /// and no more than is asked for.
+    pub fn expect_reads(&self, at_random: bool) -> Result<()> {
+        self.done(unsafe { sys::raftlog_expect_reads(self.log, at_random) })
     }
 
     /// The value that a group has at a key.

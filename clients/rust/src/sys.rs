@@ -32,12 +32,25 @@ pub struct raftlog_counts {
     pub sync_ns: u64,
 }
 
+pub type raftlog_progress = unsafe extern "C" fn(with: *mut c_void, done: u64, all: u64);
+
 extern "C" {
     pub fn raftlog_bytes_free(bytes: *mut raftlog_bytes);
     pub fn raftlog_open(folder: *const c_char, settings: *const c_char, out: *mut *mut raftlog, text: *mut c_char, room: usize) -> c_int;
+    pub fn raftlog_open_watched(
+        folder: *const c_char,
+        settings: *const c_char,
+        watch: Option<raftlog_progress>,
+        with: *mut c_void,
+        out: *mut *mut raftlog,
+        text: *mut c_char,
+        room: usize,
+    ) -> c_int;
     pub fn raftlog_open_memory(settings: *const c_char, out: *mut *mut raftlog, text: *mut c_char, room: usize) -> c_int;
     pub fn raftlog_close(log: *mut raftlog) -> c_int;
     pub fn raftlog_stats(log: *mut raftlog, counts: *mut raftlog_counts) -> c_int;
+    pub fn raftlog_survive_bus_errors() -> c_int;
+    pub fn raftlog_expect_reads(log: *mut raftlog, at_random: bool) -> c_int;
     pub fn raftlog_message(log: *mut raftlog, text: *mut c_char, room: usize) -> usize;
     pub fn raftlog_code_text(code: c_int) -> *const c_char;
     pub fn raftlog_write_bytes(log: *mut raftlog, bytes: *const c_void, len: usize, sync: bool) -> c_int;

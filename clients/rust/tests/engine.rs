@@ -103,6 +103,54 @@ fn in_a_folder() {
     std::fs::remove_dir_all(folder).unwrap();
 }
 
+// A log of 4,000 entries of 1,000 bytes, and the file in which they stand.
+fn make_entries(folder: &std::path::Path) -> std::path::PathBuf {
+    let log = Engine::open(folder, "").unwrap();
+    let mut batch = LogBatch::new();
+    for index in 1..=4000 {
+        batch.add_entries(1, [(index, [1u8; 1000].as_slice())]);
+        log.write(&mut batch, false).unwrap();
+    }
+    log.close().unwrap();
+    folder.join("0000000000000001.raftlog")
+}
+
+#[test]
+fn watched_opening() {
+    let folder = folder("watched");
+    make_entries(&folder);
+    let size = std::fs::read_dir(&folder).unwrap().map(|file| file.unwrap().metadata().unwrap().len()).sum();
+    let mut told = Vec::new();
+    let log = Engine::open_watched(&folder, "", |done, all| told.push((done, all))).unwrap();
+    assert!(told.windows(2).all(|it| it[0] <= it[1]) && told.last() == Some(&(size, size)), "{told:?}");
+    for at_random in [true, false] {
+        log.expect_reads(at_random).unwrap();
+        assert!([4000, 7, 2000].iter().all(|&index| log.get_entry(1, index).unwrap().unwrap().len() == 1000));
+    }
+    log.close().unwrap();
+    let panics = || Engine::open_watched(&folder, "", |_, _| panic!("as wanted"));
+    assert!(std::panic::catch_unwind(panics).is_err());
+    Engine::open(&folder, "").unwrap();
+    std::fs::remove_dir_all(folder).unwrap();
+}
+
+/// A file that is cut behind an open log.
+#[test]
+fn bus_errors_that_are_survived() {
+    raftlog::survive_bus_errors().unwrap();
+    let folder = folder("cut");
+    let file = make_entries(&folder);
+    let log = Engine::open(&folder, "").unwrap();
+    std::fs::OpenOptions::new().write(true).open(file).unwrap().set_len(1 << 20).unwrap();
+    let read = |index| log.get_entry(1, index).map(|entry| entry.unwrap().len());
+    let answers: Vec<_> = (1..=4000).map(|index| read(index).map_err(|error| error.code)).collect();
+    assert!(answers.iter().all(|it| matches!(it, Ok(1000) | Err(Code::Corruption))));
+    let done = answers.iter().filter(|it| it.is_ok()).count();
+    assert!(answers[0].is_ok() && done < 2000, "{done}");
+    drop(log);
+    std::fs::remove_dir_all(folder).unwrap();
+}
+
 #[test]
 fn by_threads() {
     let log = Arc::new(Engine::open_memory("").unwrap());

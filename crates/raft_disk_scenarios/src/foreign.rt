@@ -77,7 +77,7 @@ const KNOWN: [(&str, bool, bool); 6] = [
     ("again", false, false),
 ];
 
-fn knows<F: FileSystem>(files: &F, all: bool) -> bool {
+fn knows(files: &DiskFileSystem, all: bool) -> bool {
     for (path, in_all, in_two) in KNOWN {
         let wanted = if all { in_all } else { in_two };
         if files.is_file(path) != wanted {
@@ -120,7 +120,7 @@ fn is_refused(done: Result<(), FsFault>, wanted: Option<IoKind>) -> bool {
     }
 }
 
-fn reaches<F: FileSystem>(files: &mut F, reach: &Reach) -> bool {
+fn reaches(files: &mut DiskFileSystem, reach: &Reach) -> bool {
     match reach {
         Reach::Create(path, wanted) => is_refused(files.create(path).map(|_| ()), *wanted),
         Reach::MakeDir(path, wanted) => is_refused(files.make_dir(path), *wanted),
@@ -129,7 +129,7 @@ fn reaches<F: FileSystem>(files: &mut F, reach: &Reach) -> bool {
     }
 }
 
-fn is_out_of_reach<F: FileSystem>(files: &mut F) -> bool {
+fn is_out_of_reach(files: &mut DiskFileSystem) -> bool {
     for reach in &REACHES {
         if !reaches(files, reach) {
             return false;

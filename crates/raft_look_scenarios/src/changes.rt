@@ -91,12 +91,12 @@ fn status_of<R: Threads + Sync>(rt: HostRuntime, threads: &R, words: &[String]) 
 
 // Whether the files that keep something, and no others of such a name, stand in the folder.
 fn keeps(rt: &HostRuntime, folder: &str, kept: &[FileParts]) -> Result<bool, Fail> {
-    let mut found = 0;
+    let mut found: usize = 0;
     for (name, bytes) in &standing(rt, folder)? {
         if !name.contains(".cut-") {
             continue;
         }
-        found += 1;
+        found = found.saturating_add(1);
         let Some((_, parts)) = kept.iter().find(|(each, _)| name.as_str() == *each) else {
             return Ok(false);
         };

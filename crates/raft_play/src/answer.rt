@@ -84,13 +84,16 @@ impl fmt::Display for Found<'_> {
         let bytes = [
             state.a, state.b, state.c, state.d, p, q, r, s, t, u, v, w, other,
         ];
-        let mut between = "";
+        let mut is_first = true;
         for (place, byte) in PLACES.iter().zip(bytes.iter()) {
             if *byte != 0 {
                 let one = [*byte];
                 let value = Spelled(&one);
-                write!(f, "{between}{place}={value}")?;
-                between = " ";
+                if !is_first {
+                    write!(f, " ")?;
+                }
+                write!(f, "{place}={value}")?;
+                is_first = false;
             }
         }
         Ok(())

@@ -4,6 +4,7 @@ package cluster
 import (
 	"context"
 	"fmt"
+	"math/rand"
 	"net"
 	"os"
 	"os/exec"
@@ -63,15 +64,19 @@ func New(options Options) (*Cluster, error) {
 	return c, err
 }
 
-// freePorts answers addresses that were free a moment ago.
+// freePorts answers addresses that were free a moment ago. The system gives connections none of these
+// ports, so a node that was away finds its own free.
 func freePorts(count int) (addresses []string, err error) {
-	for i := 0; i < count; i++ {
-		listener, err := net.Listen("tcp", "127.0.0.1:0")
-		if err != nil {
+	random := rand.New(rand.NewSource(time.Now().UnixNano()))
+	for tries := 100 * count; len(addresses) < count; tries-- {
+		address := fmt.Sprint("127.0.0.1:", 10000+random.Intn(20000))
+		listener, err := net.Listen("tcp", address)
+		if err == nil {
+			defer listener.Close()
+			addresses = append(addresses, address)
+		} else if tries == 0 {
 			return nil, err
 		}
-		defer listener.Close()
-		addresses = append(addresses, listener.Addr().String())
 	}
 	return
 }

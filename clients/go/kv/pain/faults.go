@@ -13,11 +13,19 @@ import (
 	"kv/cluster"
 )
 
+// How long a node may take to end on a busy machine, and to meet a full disk.
+const (
+	endsWithin  = time.Minute
+	fillsWithin = 15 * time.Second
+)
+
 // faults make things go wrong, one after the other.
 type faults struct {
 	cluster *cluster.Cluster
 	disk    *disk
 	random  *rand.Rand
+	// Whether the disk was full since the last start of the node on it.
+	wasFull bool
 
 	mutex  sync.Mutex
 	counts map[string]int
@@ -83,11 +91,27 @@ func (f *faults) count(name string) {
 
 func (f *faults) allRun() error {
 	for i := 0; i < cluster.Size; i++ {
-		if f.cluster.HasEnded(i, 0) {
-			return fmt.Errorf("node %d ended by itself: %s", i+1, f.cluster.Said(i))
+		if !f.cluster.HasEnded(i, 0) {
+			continue
+		}
+		said := f.cluster.Said(i)
+		last := said[strings.LastIndex(said, "\n")+1:]
+		if i != fullNode || !f.wasFull || !strings.Contains(last, "space left on device") {
+			return fmt.Errorf("node %d ended by itself: %s", i+1, said)
+		}
+		f.count("ended by a full disk")
+		if err := f.start(i); err != nil {
+			return err
 		}
 	}
 	return nil
+}
+
+func (f *faults) start(i int) error {
+	if i == fullNode {
+		f.wasFull = false
+	}
+	return f.cluster.Start(i)
 }
 
 // sleep waits between so many milliseconds, or until the context ends.
@@ -104,13 +128,13 @@ func (f *faults) end(ctx context.Context, signal syscall.Signal, nodes ...int) e
 		f.cluster.Signal(i, signal)
 	}
 	for _, i := range nodes {
-		if !f.cluster.HasEnded(i, 10*time.Second) {
+		if !f.cluster.HasEnded(i, endsWithin) {
 			return fmt.Errorf("node %d doesn't end", i+1)
 		}
 	}
 	f.sleep(ctx, 100, 2500)
 	for _, i := range nodes {
-		if err := f.cluster.Start(i); err != nil {
+		if err := f.start(i); err != nil {
 			return err
 		}
 	}
@@ -160,22 +184,19 @@ func (f *faults) cutOneWay(ctx context.Context, i int) error {
 	return nil
 }
 
-// fill fills the disk of one node until its log fails and it ends, makes room, and starts it.
+// fill fills the disk of one node until its log fails and it ends, and makes room. Who ended by it, also
+// a little later, is started by allRun.
 func (f *faults) fill(ctx context.Context, _ int) error {
 	if f.disk == nil {
 		return nil
 	}
+	f.wasFull = true
 	if err := f.disk.fill(); err != nil {
 		return err
 	}
-	hasEnded := f.cluster.HasEnded(fullNode, 15*time.Second)
-	if err := f.disk.empty(); err != nil {
-		return err
-	}
-	if !hasEnded {
-		return nil
-	}
-	f.count("ended by a full disk")
+	f.cluster.HasEnded(fullNode, fillsWithin)
 	f.sleep(ctx, 100, 1000)
-	return f.cluster.Start(fullNode)
+	err := f.disk.empty()
+	f.cluster.HasEnded(fullNode, time.Second)
+	return err
 }

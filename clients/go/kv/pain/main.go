@@ -97,7 +97,7 @@ func run(s settings) (err error) {
 
 // hurt lets clients call, and things go wrong, as long as the settings say.
 func hurt(ctx context.Context, s settings, c *cluster.Cluster, disk *disk) (*history, error) {
-	starting, cancel := context.WithTimeout(ctx, time.Minute)
+	starting, cancel := context.WithTimeout(ctx, 2*time.Minute)
 	defer cancel()
 	if err := c.StartAll(starting); err != nil {
 		return nil, err
@@ -148,7 +148,7 @@ func judge(ctx context.Context, s settings, c *cluster.Cluster, h *history) erro
 	fmt.Printf("since their last starts the nodes saved %d changes in %d rounds, made %d snapshots "+
 		"and purged %d times\n", stats.Changes, stats.Rounds, stats.Snapshots, stats.Purges)
 	for i := 0; i < cluster.Size; i++ {
-		if !c.End(i, syscall.SIGTERM, 10*time.Second) {
+		if !c.End(i, syscall.SIGTERM, endsWithin) {
 			return fmt.Errorf("node %d doesn't stop", i+1)
 		}
 	}

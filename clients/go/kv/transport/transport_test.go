@@ -15,9 +15,13 @@ import (
 	pb "go.etcd.io/etcd/raft/raftpb"
 )
 
+// The group of messages that are sent until nodes are connected: what comes before is dropped.
+const connecting = 0
+
 // A recorder is a receiver that notes what it is told.
 type recorder struct {
 	mutex       sync.Mutex
+	isConnected bool
 	received    []Envelope
 	unreachable int
 	snapshots   map[bool]int
@@ -26,6 +30,10 @@ type recorder struct {
 func (r *recorder) Received(e Envelope) {
 	r.mutex.Lock()
 	defer r.mutex.Unlock()
+	if e.Group == connecting {
+		r.isConnected = true
+		return
+	}
 	r.received = append(r.received, e)
 }
 
@@ -47,7 +55,7 @@ func (r *recorder) SentSnapshot(_, _ uint64, ok bool) {
 // await waits until what was noted is as it should be.
 func (r *recorder) await(t *testing.T, what string, is func() bool) {
 	t.Helper()
-	for end := time.Now().Add(20 * time.Second); time.Now().Before(end); {
+	for end := time.Now().Add(2 * time.Minute); time.Now().Before(end); {
 		r.mutex.Lock()
 		done := is()
 		r.mutex.Unlock()
@@ -96,6 +104,10 @@ func TestMessages(t *testing.T) {
 	var one, two recorder
 	first := begin(t, Config{Node: 1, Groups: 4, Peers: peers}, &one, io.Discard)
 	second := begin(t, Config{Node: 2, Groups: 4, Peers: peers}, &two, io.Discard)
+	two.await(t, "a connection", func() bool {
+		first.Send(message(connecting, 1, 2, ""))
+		return two.isConnected
+	})
 	for i := uint64(1); i <= 500; i++ {
 		first.Send(message(i, 1, 2, strings.Repeat("x", int(i*100))))
 	}

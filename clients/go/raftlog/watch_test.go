@@ -1,0 +1,80 @@
+package raftlog
+
+import (
+	"os"
+	"path/filepath"
+	"testing"
+)
+
+const entries = 4000
+
+// makeEntries makes a log of entries of 1,000 bytes, and answers its folder and the file they stand in.
+func makeEntries(t *testing.T) (folder, file string) {
+	folder = filepath.Join(t.TempDir(), "log")
+	log, err := Open(folder, "")
+	must(t, err)
+	var b Batch
+	for i := uint64(1); i <= entries; i++ {
+		b.AddEntries(1, []Entry{{i, make([]byte, 1000)}})
+		must(t, log.Write(&b, false))
+	}
+	must(t, log.Close())
+	return folder, filepath.Join(folder, "0000000000000001.raftlog")
+}
+
+func TestWatch(t *testing.T) {
+	folder, _ := makeEntries(t)
+	files, err := filepath.Glob(filepath.Join(folder, "*"))
+	must(t, err)
+	size, last := uint64(0), uint64(0)
+	for _, file := range files {
+		is, err := os.Stat(file)
+		must(t, err)
+		size += uint64(is.Size())
+	}
+	log, err := OpenWatched(folder, "", func(done, all uint64) {
+		if done < last || all != size {
+			t.Error(done, all, size)
+		}
+		last = done
+	})
+	must(t, err)
+	if last != size {
+		t.Fatal(last, size)
+	}
+	for _, atRandom := range []bool{true, false} {
+		must(t, log.ExpectReads(atRandom))
+		for _, index := range []uint64{entries, 7, 2000} {
+			if data, found, err := log.GetEntry(1, index); err != nil || !found || len(data) != 1000 {
+				t.Fatal(len(data), found, err)
+			}
+		}
+	}
+	must(t, log.Close())
+	if err := log.ExpectReads(true); !HasCode(err, Failed) {
+		t.Fatal(err)
+	}
+}
+
+// A file that is cut behind an open log.
+func TestSurviveBusErrors(t *testing.T) {
+	must(t, SurviveBusErrors())
+	folder, file := makeEntries(t)
+	log, err := Open(folder, "")
+	must(t, err)
+	must(t, os.Truncate(file, 1<<20))
+	done := 0
+	for i := uint64(1); i <= entries; i++ {
+		data, found, err := log.GetEntry(1, i)
+		switch {
+		case err == nil && found && len(data) == 1000:
+			done++
+		case !HasCode(err, Corruption):
+			t.Fatal(i, found, err)
+		}
+	}
+	if done == 0 || done > entries/2 {
+		t.Fatal(done)
+	}
+	must(t, log.Close())
+}

@@ -1,0 +1,56 @@
+//! What a program names of the log, under one name and in the modules of upstream: nothing here is
+//! code of its own.
+#![tactic(auto)]
+
+/// Settings, and settings from text and as text.
+pub mod config {
+    pub use raft_config::{Config, RecoveryMode};
+    pub use raft_settings::{read, with_text, write};
+}
+
+/// Files: the contract of storage, files in memory that fail and crash, and a folder.
+pub mod env {
+    pub use raft_disk::{DiskFileSystem, OpenFault};
+    pub use raft_env::{FileSystem, FsFault, IoKind, Permission};
+    pub use raft_memory::{Choice, FsCall, MemoryFileSystem};
+}
+
+/// Whether the entries of each group follow one another.
+pub mod consistency {
+    pub use raft_consistency::{
+        ConsistencyChecker, consistency_check, consistency_check_with_file_system,
+    };
+}
+
+/// What log files hold, item by item.
+pub mod debug {
+    pub use raft_dump::{
+        LogItemReader, build_file_reader, build_file_writer, dump_with_file_system,
+    };
+}
+
+/// One engine for many threads, beside the history of their calls.
+pub mod shared {
+    pub use raft_shared::{
+        Call, Finished, Receipt, Recorded, Refused, Reply, Seat, Shared, SharedBytes, SharedCall,
+        Unfinished,
+    };
+}
+
+/// Lists of calls, trials of them with a crash, and all that a crash may leave after them.
+pub mod script {
+    pub use raft_allowed::allowed;
+    pub use raft_script::{Act, Op, Outcome, TextEntry, Trial, run, trial, trial_twice};
+}
+
+pub use config::{Config, RecoveryMode};
+pub use env::{DiskFileSystem, FileSystem, MemoryFileSystem};
+pub use raft_fork::{CopyDetails, fork};
+pub use raft_log_engine::{
+    Engine, Event, EventListener, EventSink, FileKeeper, FileSpans, GroupImage, Image, Listeners,
+    NoListeners, PurgeHook, Refused,
+};
+pub use raft_records::{
+    Command, Factory, Fault, FileId, FileSeq, Fresh, IoKind, LogBatch, LogQueue, Message,
+    MessageExt, ReadableSize, Version,
+};
