@@ -37,8 +37,9 @@ pub mod shared {
     };
 }
 
-/// Lists of calls, and trials of them with a crash.
+/// Lists of calls, trials of them with a crash, and all that a crash may leave after them.
 pub mod script {
+    pub use raft_allowed::allowed;
     pub use raft_script::{Act, Op, Outcome, TextEntry, Trial, run, trial, trial_twice};
 }
 

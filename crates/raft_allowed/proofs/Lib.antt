@@ -1,0 +1,12 @@
+pub mod KeyedLemmas
+pub mod HeldLemmas
+pub mod ImageLemmas
+pub mod EntriesLemmas
+pub mod LoopLemmas
+pub mod ActLemmas
+pub mod ChoiceLemmas
+pub mod WalkLemmas
+pub mod TakenLemmas
+pub mod GroupLemmas
+pub mod ShownLemmas
+pub mod NumberLemmas

@@ -1,0 +1,16 @@
+use Rattle.std.proofs.Common.{◌∙◌, ap, sym}
+use Rattle.raft_allowed.specs.Held.{kept_of}
+use Rattle.raft_allowed.proofs.GroupLemmas.{at_here, at_later, at_none}
+use Rattle.raft_allowed.proofs.batches.kept_at.Goals as goal
+
+pub loop-image-preserved : goal.loop-image-preserved
+loop-image-preserved c =
+    at_later c.args.groups.now c.loop-image.image-index c.image-item.result c.args.group c.loop-image-test.true c.image-item.is (sym c.is_of.ensures ∙ c.if-is_of.false) c.loop-image.invariant
+
+pub returns-then-is_of : goal.returns-then-is_of
+returns-then-is_of c =
+    c.kept_in.ensures ∙ rw c.deref.ensures.value
+    (ap kept_of (at_here c.args.groups.now c.loop-image.image-index c.image-item.result c.args.group c.loop-image-test.true c.image-item.is (sym c.is_of.ensures ∙ c.if-is_of.true) c.loop-image.invariant))
+
+pub returns : goal.returns
+returns c = ap kept_of (at_none c.args.groups.now c.loop-image.image-index c.args.group c.loop-image-test.false c.loop-image.invariant)

@@ -1,0 +1,15 @@
+//! What a crash may leave of a log after operations on it, told from the operations and their
+//! outcomes alone.
+#![tactic(auto)]
+
+mod answers;
+mod batches;
+mod changes;
+mod groups;
+mod images;
+mod left;
+mod order;
+mod parts;
+mod walk;
+
+pub use left::allowed;
