@@ -63,7 +63,7 @@ item_refused taken b e is refused = subst (IsBatchRefusal taken) is refused
 
 module _ {F H R W : Type 0} {g : Ghosts F H R W} where
   pub read_same : {e : Engine F H R W g} → HasOnlyRead e e
-  read_same = record { files = refl; moments = refl; refusals = (omega arith, omega arith); folders = refl; state = refl; begun = refl; settings = refl; pipes = refl }
+  read_same = record { files = refl; moments = refl; refusals = (omega arith, omega arith); folders = refl; state = refl; begun = refl; settings = refl; pipes = refl; memory = refl }
 
   -- a call that leaves the engine as it was
   keeps_same : (flight : List Batch) (e : Engine F H R W g) → KeepsLog flight e e
@@ -81,7 +81,7 @@ module _ {F H R W : Type 0} {g : Ghosts F H R W} where
 
   -- one on the Append queue
   pub keeps_advance : {a : List Batch} {c : Bool} {flight : List Batch} {old new : Engine F H R W g} → Advances a c flight (state_of old) (state_of new) → KeepsLog flight old new
-  keeps_advance advance = record { any_moment = advance.any_moment; others = advance.log.others }
+  keeps_advance advance = record { any_moment = advance.any_moment; others = advance.only.log.others }
 
   -- .. that writes the batch of some bytes
   pub keeps_written : {a : List Batch} {c : Bool} {old mid new : Engine F H R W g} {taken : Option Batch} {items : Batch} → new ≡ mid → taken ≡ Some items → Advances a c (pending_of (contents_of old) (plain_part items)) (state_of old) (state_of mid) → KeepsLog (pending_in (contents_of old) taken) old new

@@ -30,6 +30,7 @@ pub mod GatherLemmas
 pub mod FitsLemmas
 pub mod StepLemmas
 pub mod GroupIdLemmas
+pub mod AscendingGroupLemmas
 pub mod AtomicStepLemmas
 pub mod MovedGroupLemmas
 pub mod NewFileLemmas

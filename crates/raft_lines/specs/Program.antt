@@ -23,7 +23,7 @@ use Rattle.raft_tables.specs.Listing.{IsListing, listed}
 use Rattle.raft_script.specs.Entry.{range_of}
 use Rattle.raft_lines.specs.Line.{Asked, Nothing, Range, Reopen, Scan, Span, Crash, asked_by_op}
 use Rattle.raft_script.specs.Durability.{Does, IsAnswerOf}
-use Rattle.raft_script.specs.Purges.{HasPurgedAs}
+use Rattle.raft_script.specs.Called.{IsCalled}
 use Rattle.raft_script.specs.Batches.{accepted_of}
 use Rattle.raft_script.specs.Failure.{IsFailing, IsStorageOrMemory, Refuses}
 use Rattle.raft_script.specs.Run.{IsUnasked}
@@ -52,7 +52,7 @@ module _ {F H R W : Type 0} {g : Ghosts F H R W} where
         → contents_of new
         ≡ after_batches (contents_of old) (accepted_of (contents_of old) op outcome)
     pub done : Does op outcome old new
-    pub purged : HasPurgedAs op outcome old new
+    pub called : IsCalled op outcome old new
     pub folders : folders_of new ≡ folders_of old
     pub begun : begun_of new ≡ begun_of old
 

@@ -36,3 +36,4 @@ pub mod ExpiredLemmas
 pub mod Crossing
 pub mod PurgeEventLemmas
 pub mod PurgeCallLemmas
+pub mod AscendLemmas

@@ -47,6 +47,7 @@ module _ {F H R W : Type 0} {g : Ghosts F H R W} where
       rounds = tt;
       value = tt;
       settings = tt;
+      memory = tt;
       durable = tt;
       now = tt;
       any_moment = moves_none (λ m batches kept. kept);
@@ -68,6 +69,7 @@ module _ {F H R W : Type 0} {g : Ghosts F H R W} where
           rounds = tt;
           value = tt;
           settings = tt;
+          memory = tt;
           durable = tt;
           now = tt;
           any_moment = moves_then_reads opens.opened.any_moment given;

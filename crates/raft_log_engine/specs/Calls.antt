@@ -1,22 +1,25 @@
 -- What `Engine` says of its calls that write and sync, once for all forms of a call.
-use Rattle.std.specs.Prelude.{◌≡◌, ◌↔◌, ℕ, Bool, true, false, List, [], Result, Ok, Err, IfOk, IfErr, MatchResult, OnOk, OnErr, Vec, is_ok}
+use Rattle.std.specs.Prelude.{◌≡◌, ◌↔◌, ℕ, Bool, true, false, List, [], Result, Ok, Err, IfOk, IfErr, IsErrAnd, MatchResult, OnOk, OnErr, Vec, is_ok}
 use Rattle.std.specs.List.{AllByRecursion}
 use Rattle.std.specs.declared.alloc.Global.{Global}
+use Rattle.raft_base.specs.Fault.{fault_code}
+use Rattle.raft_once.specs.Numbers.{has_numbers, meets_number}
 use Rattle.raft_base.specs.declared.errors.Fault.{Fault}
 use Rattle.raft_base.specs.declared.errors.Fault.TheVariants as fault
 use Rattle.raft_records.specs.Contents.{after_batch}
 use Rattle.raft_records.specs.Item.{Batch}
 use Rattle.raft_env.specs.declared.env.FileSystem.{Ghosts}
 use Rattle.raft_env.specs.Refusal.{FailsCountedAt}
+use Rattle.raft_pipes.specs.PipeState.{last_file}
 use Rattle.raft_pipes.specs.Queue.{NamesLog}
 use Rattle.raft_crash_laws.specs.Crash.{pending_of, written_batch}
-use Rattle.raft_log_engine.specs.Advance.{Advances, ChangesOnlyItsLog, LeavesRewrite, StaysWithin, state_of}
-use Rattle.raft_log_engine.specs.Cause.{HasNoneInFlight, IsAppendRefusal, IsUnwritable, IsWriteRefusal, StandsUnless, plain_parts}
+use Rattle.raft_log_engine.specs.Advance.{Advances, OnlyAppends, StaysWithin, state_of}
+use Rattle.raft_log_engine.specs.Cause.{HasNoneInFlight, IsAppendRefusal, IsUnwritable, IsWriteRefusal, StandsUnless, plain_part, plain_parts}
 use Rattle.raft_log_engine.specs.Durability.{ChangesNoFile, ChangesNothing, HasRefused, HasWritten, Progresses, StaysFailed, accepted_by, covered_by, durability_of}
-use Rattle.raft_log_engine.specs.Engine.{IsDurableToEnd, contents_of, directory_of, durable_of, folders_of, has_failed, queue_of, refusals_of, target_size_of, unsynced_of}
+use Rattle.raft_log_engine.specs.Engine.{IsDurableToEnd, contents_of, directory_of, durable_of, folders_of, has_failed, memory_of, queue_of, refusals_of, target_size_of, unsynced_of}
 use Rattle.raft_log_engine.specs.Group.{FailsWithChoice, HasWrittenGroup, IsGroupRefusal, LeavesChoice, accepted_in}
 use Rattle.raft_log_engine.specs.Reads.{compact_batch, compact_count}
-use Rattle.raft_log_engine.specs.Write.{HasGoneOn, StandsWithRoom}
+use Rattle.raft_log_engine.specs.Write.{HasGoneOn, StandsWithRoom, TakesItems}
 use Rattle.raft_log_engine.specs.declared.engine.Engine.{Engine}
 
 module _ {F H R W : Type 0} {g : Ghosts F H R W} where
@@ -41,6 +44,17 @@ module _ {F H R W : Type 0} {g : Ghosts F H R W} where
         × IfErr result (FailsCountedAt (NamesLog (folders_of old)) (refusals_of old)
         (refusals_of new))
 
+  -- .. by a caller, who changes no group's number
+  pub record IsCallersWrite (items rest : Batch) (sync : Bool) (old new : Engine F H R W g)
+      (result : Result ℕ Fault) : Type 0 where
+    pub call : IsWrite items rest sync old new result
+    pub taken : OnOk result (has_numbers items ≡ false)
+    pub reserved : has_failed old ≡ false → meets_number (contents_of old) items ≡ true
+        → IsErrAnd result (λ e. fault_code e ≡ 1) × ChangesNothing old new
+    pub plain : let part = plain_part items in
+        Advances (accepted_by result (written_batch part)) (covered_by result sync)
+        (pending_of (contents_of old) part) (state_of old) (state_of new)
+
   -- .. of several batches, so many with so many flags, of which one asks for a sync or none does
   pub record IsGroupWrite (batches rest : List Batch) (count flags : ℕ) (sync : Bool)
       (old new : Engine F H R W g) (result : Result (Vec (Result ℕ Fault) Global) Fault)
@@ -63,9 +77,7 @@ module _ {F H R W : Type 0} {g : Ghosts F H R W} where
     pub fits : IfOk result (λ _. count ≡ flags)
     pub cause : IfErr result (IsGroupRefusal (folders_of old) count flags (has_failed old)
         (has_failed new) (refusals_of old) (refusals_of new))
-    pub others : ChangesOnlyItsLog (state_of old) (state_of new)
-    pub rewrite : LeavesRewrite (state_of old) (state_of new)
-    pub rounds : new.rounds ≡ old.rounds
+    pub only : OnlyAppends (state_of old) (state_of new)
 
   -- a compaction of a group to an index
   pub record IsCompaction (group index : ℕ) (old new : Engine F H R W g) (result : Result ℕ Fault)
@@ -75,10 +87,13 @@ module _ {F H R W : Type 0} {g : Ghosts F H R W} where
         (λ _. (has_failed new ≡ false)
         × (contents_of new ≡ after_batch (contents_of old)
         (compact_batch group index ((contents_of old).entries group)))
+        × TakesItems (compact_batch group index ((contents_of old).entries group))
+        (last_file (queue_of new)) (memory_of old) (memory_of new)
         × (((contents_of old).entries group ≡ [] → ⊥)
         → StandsWithRoom (target_size_of old) (refusals_of old) (refusals_of new)
         (queue_of old) (queue_of new)))
         (λ e. has_failed new ≡ false → (contents_of new ≡ contents_of old)
+        × (memory_of new ≡ memory_of old)
         × HasGoneOn (target_size_of old) (refusals_of old) (refusals_of new)
         (queue_of old) (queue_of new) e)
     pub advance : let batch = compact_batch group index ((contents_of old).entries group) in
@@ -97,6 +112,7 @@ module _ {F H R W : Type 0} {g : Ghosts F H R W} where
   -- a sync
   pub record IsSync (old new : Engine F H R W g) (result : Result (Unit {0}) Fault) : Type 0 where
     pub contents : (contents_of new ≡ contents_of old) × (queue_of new ≡ queue_of old)
+    pub memory : memory_of new ≡ memory_of old
     pub advance : Advances [] (is_ok result) [] (state_of old) (state_of new)
     pub durable : OnOk result (IsDurableToEnd new)
     pub stands : OnOk result (has_failed new ≡ false)

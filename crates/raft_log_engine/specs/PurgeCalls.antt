@@ -1,25 +1,28 @@
 -- What the purges of an engine make of it, each of them once, with listeners and without.
-use Rattle.std.specs.Prelude.{◌≡◌, ℕ, true, false, [], IfErr, IfOk, OnErr, OnOk, Result, Some, Vec, is_ok}
+use Rattle.std.specs.Prelude.{◌≡◌, ◌↔◌, ℕ, true, false, [], Err, IfErr, IfOk, OnErr, OnOk, Result, Some, Vec, is_ok}
 use Rattle.std.specs.List.Sorted.{IsStrictlySortedBy}
 use Rattle.std.specs.Ordering.{nat_cmp}
 use Rattle.std.specs.declared.alloc.Global.{Global}
 use Rattle.raft_base.specs.declared.errors.Fault.{Fault}
+use Rattle.raft_base.specs.declared.errors.Fault.TheVariants as fault
+use Rattle.raft_base.specs.declared.pipe_log.LogQueue.TheVariants.{Append}
 use Rattle.raft_base.specs.declared.pipe_log.LogQueue.{LogQueue}
 use Rattle.raft_env.specs.declared.env.FileSystem.{Ghosts}
 use Rattle.raft_listeners.specs.Heard.{HasHeard, Heard}
+use Rattle.raft_tables.specs.Counters.{deleted_count}
 use Rattle.raft_tables.specs.Tables.{tables_of}
 use Rattle.raft_crash_laws.specs.Crash.{LeavesAllowed}
 use Rattle.raft_stale.specs.Dropping.{KeepsFront}
 use Rattle.raft_stale.specs.Scope.{HasLostFront}
 use Rattle.raft_log_engine.specs.Advance.{ChangesOnlyItsLog, StaysWithin, state_of}
-use Rattle.raft_log_engine.specs.Durability.{Progresses, durability_of}
-use Rattle.raft_log_engine.specs.Engine.{contents_of, directory_of, durable_of, folders_of, has_failed, queue_of, refusals_of, rewrite_queue_of, has_groups_together, spans_of, unsynced_of}
+use Rattle.raft_log_engine.specs.Durability.{Progresses, StaysFailed, durability_of}
+use Rattle.raft_log_engine.specs.Engine.{contents_of, directory_of, durable_of, folders_of, has_failed, memory_of, queue_of, refusals_of, rewrite_queue_of, has_groups_together, spans_of, unsynced_of}
 use Rattle.raft_log_engine.specs.Events.{AreRecordsCut, HearsPurge}
 use Rattle.raft_log_engine.specs.Expired.{AsksBarrier, HasPurgedExpired}
-use Rattle.raft_log_engine.specs.Purge.{HasFreed, HasLostSome, HasPurged, IsFailureCause, IsIdlePurge, IsPurgeFault, LeavesBehind, LeavesOthers}
+use Rattle.raft_log_engine.specs.Purge.{HasFreed, HasLastId, HasLostSome, HasOpenGroup, HasPurged, IsFailureCause, IsIdlePurge, IsPurgeFault, LacksId, LeavesBehind, LeavesOpen, LeavesOthers, queue_freed}
 use Rattle.raft_log_engine.specs.declared.engine.Engine.{Engine}
 use Rattle.raft_log_engine.specs.declared.engine.purge_kind.Purge.{Purge}
-use Rattle.raft_log_engine.specs.declared.engine.purge_kind.Purge.TheVariants.{RewriteRewrite}
+use Rattle.raft_log_engine.specs.declared.engine.purge_kind.Purge.TheVariants.{DropStale, RewriteRewrite}
 
 module _ {F H R W : Type 0} {g : Ghosts F H R W} where
   -- each purge, which answers of this queue, and where that may be leaves an atomic group open, or lacks
@@ -59,6 +62,17 @@ module _ {F H R W : Type 0} {g : Ghosts F H R W} where
     pub idle : OnOk result (IsIdlePurge purge → (new.pipes ≡ old.pipes)
         × (new.tables ≡ old.tables) × (new.stats ≡ old.stats))
     pub rounds : new.rounds ≡ old.rounds
+    -- a rewriting of the Rewrite queue counts anew, and a drop of stale files moves and counts nothing
+    pub counted : purge ≡ RewriteRewrite → OnOk result (deleted_count new.stats ≡ 0)
+    pub stale : purge ≡ DropStale → memory_of new ≡ memory_of old
+
+  -- one of the `must_` purges
+  pub record IsPurge (purge : Purge) (old new : Engine F H R W g) (result : Result ℕ Fault)
+      : Type 0 where
+    pub log : PurgesLog (queue_freed purge) (LeavesOpen purge new) (LacksId purge new) result old new
+    pub files : FreesFiles purge result old new
+    pub failed : (result ≡ Err fault.Failed) ↔ (has_failed old ≡ true)
+    pub unchanged : has_failed old ≡ true → StaysFailed old new
 
   -- the same of a purge by watermarks with this barrier, which counts rounds where it is answered
   pub record FreesExpired (barrier : ℕ) (result : Result (Vec ℕ Global) Fault)
@@ -67,6 +81,14 @@ module _ {F H R W : Type 0} {g : Ghosts F H R W} where
     pub ascending : IfOk result (λ asked. IsStrictlySortedBy nat_cmp asked.items)
     pub rounds : OnErr result (new.rounds ≡ old.rounds)
     pub first : OnErr result (HasLostFront (Some barrier) new.tables (queue_of old) (queue_of new))
+
+  -- a purge by watermarks
+  pub record IsExpiry (barrier : ℕ) (old new : Engine F H R W g)
+      (result : Result (Vec ℕ Global) Fault) : Type 0 where
+    pub log : PurgesLog Append (HasOpenGroup new) (HasLastId new) result old new
+    pub expired : FreesExpired barrier result old new
+    pub failed : (result ≡ Err fault.Failed) ↔ (has_failed old ≡ true)
+    pub unchanged : has_failed old ≡ true → StaysFailed old new
 
   -- what listeners hear of a purge of which all batches but so many are full, unless the engine fails in
   -- it; nothing of an engine that had failed

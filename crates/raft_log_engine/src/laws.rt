@@ -1,20 +1,23 @@
 //! What a crash leaves of an engine, whatever calls came before.
-ghost use Rattle.std.specs.Prelude.{◌≡◌, ◌++◌, ℕ, List, [], false};
+ghost use Rattle.std.specs.Prelude.{◌≡◌, ◌++◌, ℕ, List, [], false, true};
 ghost use Rattle.raft_records.specs.Contents.{Contents, after_batches, no_contents};
 ghost use Rattle.raft_records.specs.Item.{Batch};
-ghost use Rattle.raft_env.specs.Directory.{Directory, IsRestarted, CrashImage};
+ghost use Rattle.raft_env.specs.Directory.{Directory, IsRestarted, CrashImage, Leaves};
 ghost use Rattle.raft_crash_laws.specs.Begins.{LogStandsFor};
-ghost use Rattle.raft_crash_laws.specs.Crash.{IsAllowedFrom, LeavesAllowed, RecoversContents, contents_after_crash, known_after_crash};
+ghost use Rattle.raft_crash_laws.specs.Crash.{IsAllowedFrom, LeavesAllowed, RecoversContents, contents_after_crash, known_after_crash, left_of_queue};
+ghost use Rattle.raft_crash_laws.specs.Log.{do_groups_ascend};
+ghost use Rattle.raft_base.specs.declared.pipe_log.LogQueue.TheVariants.{Rewrite};
+ghost use Rattle.raft_queues.specs.Dual.{HaveForm, form_by};
 ghost use Rattle.raft_files.specs.Records.{as_it_is};
 ghost use Rattle.raft_crash_laws.specs.Contents.{contents_at, known_at};
 ghost use Rattle.raft_log_engine.specs.Advance.{StaysWithin, state_of};
 ghost use Rattle.raft_log_engine.specs.Opening.{FoundCompletedRecords};
-ghost use Rattle.raft_log_engine.specs.Engine.{contents_of, directory_of, durable_of, folders_of, has_failed, queue_of, settings_of, unsynced_of};
+ghost use Rattle.raft_log_engine.specs.Engine.{contents_of, directory_of, durable_of, folders_of, has_failed, has_groups_together, settings_of, unsynced_of};
 ghost use Rattle.raft_queue_laws.specs.DetectableDamage.{HaveNoStaleRecordIn};
 ghost use Rattle.raft_env.specs.Consistent.{AreConsistent};
 ghost use Rattle.raft_memory.specs.Choice.{AreWhole, left_by};
 ghost use Rattle.raft_memory.specs.declared.crash.Choice.{Choice};
-ghost use Rattle.raft_pipes.specs.Folder.{AreClear, HasNoLog};
+ghost use Rattle.raft_pipes.specs.Folder.{AreClear, HasNoLog, readable_queue};
 ghost use Rattle.raft_config.specs.Folders.{Folders};
 ghost use Rattle.raft_crash_laws.specs.Queues.{AreDetectableIn, AreOpenableIn, AreSingleIn, AreSoundIn, HaveSimplePastIn};
 ghost use Rattle.raft_config.specs.declared.config.RecoveryMode.{RecoveryMode};
@@ -91,9 +94,22 @@ pub fn the_damage_of_an_engine_is_detectable<F: FileSystem>(engine: &Engine<F>)
     raft_queue_laws::damage::damage_of_a_queue_is_detectable();
 }
 
-/// A next log file that the queue of an engine that hasn't failed goes on to has the settings'
-/// version.
-pub fn new_files_have_the_settings_version<F: FileSystem>(engine: &Engine<F>)
-    ensures version { has_failed engine.now ≡ false → (queue_of engine.now).format_version
-        ≡ (settings_of engine.now).format_version }
+/// A next log file that a queue of an engine that hasn't failed goes on to has the settings' version
+/// and size, and purges keep so many files to be used again as the settings say: none where they don't
+/// recycle, and none of the Rewrite queue.
+pub fn pipes_are_made_by_the_settings<F: FileSystem>(engine: &Engine<F>)
+    ensures form { has_failed engine.now ≡ false
+        → HaveForm (form_by (settings_of engine.now)) engine.now.pipes }
+{}
+
+/// Where no log stands each atomic group's batches stand together: a new engine knows that of itself.
+/// And an engine that knows it leaves a log of which each opening finds it, after a crash of detectable
+/// damage too.
+pub fn groups_stand_together<F: FileSystem>(engine: &Engine<F>)
+    ensures none { (folders : Folders) (n : Directory) → HasNoLog folders n
+        → do_groups_ascend (readable_queue Rewrite folders n) ≡ true }
+    ensures crash { let folders = folders_of engine.now in let n = directory_of engine.now in
+        has_failed engine.now ≡ false → has_groups_together engine.now ≡ true → (d : CrashImage)
+        → Leaves n d → AreDetectableIn folders n d
+        → do_groups_ascend (left_of_queue Rewrite folders n d) ≡ true }
 {}

@@ -1,3 +1,4 @@
+pub mod CountLemmas
 pub mod KeptLemmas
 pub mod RecoveredLemmas
 pub mod MachineLemmas

@@ -18,6 +18,7 @@ use Rattle.raft_records.specs.Contents.{Contents, after_batch}
 use Rattle.raft_records.specs.Batch.{BatchView}
 use Rattle.raft_records.specs.Item.{Batch}
 use Rattle.raft_crash_laws.specs.Crash.{written_batch}
+use Rattle.raft_log_engine.specs.Calls.{IsGroupWrite}
 use Rattle.raft_log_engine.specs.Cause as engine
 use Rattle.raft_log_engine.specs.Cause.{plain_part, plain_parts}
 use Rattle.raft_pipes.specs.PipeState.{HasLastNumber, PipeState}
@@ -28,6 +29,7 @@ use Rattle.raft_log_engine.specs.Group.{AreGroupAnswers, FailsWithChoice, GroupS
 use Rattle.raft_log_engine.specs.declared.engine.Engine.{Engine}
 use Rattle.raft_script.specs.Durability.{Does, LeavesInFlight}
 use Rattle.raft_script.specs.Batches.{Part, batch_of_acts, batches_of_parts, group_batches, of_both}
+use Rattle.raft_script.specs.Called.{IsCalled}
 use Rattle.raft_script.specs.Failure.{FailsBy, IsStorageOrMemory, Refuses, is_io}
 use Rattle.raft_script.specs.Run.{AreBatchAnswers, IsBatchRefusal, IsGroupRefusal, IsUnbuiltGroup, IsWrittenGroup}
 use Rattle.raft_script.proofs.StepsLemmas.{all_weaker}
@@ -190,6 +192,23 @@ module _ {F H R W : Type 0} {g : Ghosts F H R W} (parts : Vec Part Global) (view
   same_count : length views ≡ length flags
   same_count = sym (length-map views (λ (v : BatchView). v.items)) ∙ part_count parts.items batches built ∙ sym (length-map parts.items (λ (part : Part). part.1)) ∙ sym (ap length flags_are)
 
+  asked : list_any (λ (flag : Bool). flag) flags ≡ list_any (λ (part : Part). part.1) parts.items
+  asked = ap (list_any (λ (flag : Bool). flag)) flags_are ∙ flags_any parts.items
+
+  -- .. by its own clause
+  pub called_group : (result : Result (Vec (Result ℕ Fault) Global) Fault) → IsGroupWrite batches (items_of after) (length views) (length flags) (list_any (λ (flag : Bool). flag) flags) old new result → IsCalled (WriteGroup parts) (Sizes result) old new
+  called_group result write =
+      inr (subst (λ (o : Option (List Batch)). IsSomeAnd o (λ (l : List Batch). (rest : List Batch) × IsGroupWrite l rest (length l) (length l) (list_any (λ (part : Part). part.1) parts.items) old new result)) (sym built) (items_of after, as_many))
+    where
+      views_are : length views ≡ length batches
+      views_are = sym (length-map views (λ (v : BatchView). v.items))
+
+      as_many : IsGroupWrite batches (items_of after) (length batches) (length batches) (list_any (λ (part : Part). part.1) parts.items) old new result
+      as_many =
+          subst (λ (sync : Bool). IsGroupWrite batches (items_of after) (length batches) (length batches) sync old new result) asked
+          (subst (λ (k : ℕ). IsGroupWrite batches (items_of after) (length batches) k (list_any (λ (flag : Bool). flag) flags) old new result) (sym same_count ∙ views_are)
+          (subst (λ (k : ℕ). IsGroupWrite batches (items_of after) k (length flags) (list_any (λ (flag : Bool). flag) flags) old new result) views_are write))
+
   pub group_answered : (m : Contents) → (has_failed old ≡ false → m ≡ contents_of old) → (result : Result (Vec (Result ℕ Fault) Global) Fault) → IsOk result → (has_failed old ≡ true → result ≡ Err fault.Failed) → IsCause result
       → MatchResult result (λ answers. IsWrittenGroup (NoneLeft (has_failed new) (queue_of new)) m parts.items answers.items) (IsGroupRefusal parts.items)
   group_answered m same (Ok answers) ok failed cause = elim (cases_Bool (has_failed old)) [
@@ -257,9 +276,6 @@ module _ {F H R W : Type 0} {g : Ghosts F H R W} (parts : Vec Part Global) (view
       → (has_failed old ≡ true → moments_of new ≡ moments_of old) → Does (WriteGroup parts) (Sizes result) old new
   does_group result ok progress moments stays = by_result result ok progress
     where
-      asked : list_any (λ (flag : Bool). flag) flags ≡ list_any (λ (part : Part). part.1) parts.items
-      asked = ap (list_any (λ (flag : Bool). flag)) flags_are ∙ flags_any parts.items
-
       adds : (added : List Directory) × (moments_of new ≡ added ++ moments_of old) × AllByRecursion (LeavesInFlight (WriteGroup parts) old) added
       adds = (
         moments.added,

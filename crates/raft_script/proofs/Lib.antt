@@ -14,4 +14,4 @@ pub mod TrialLemmas
 pub mod TrialOpeningLemmas
 pub mod SafeLemmas
 pub mod PassedLemmas
-pub mod PurgesLemmas
+pub mod CalledLemmas

@@ -241,4 +241,4 @@ module _ {F H R W : Type 0} {g : Ghosts F H R W} (old new : Engine F H R W g) (o
 
 -- an engine that isn't asked only read
 pub read_same : {F H R W : Type 0} {g : Ghosts F H R W} (e : Engine F H R W g) → HasOnlyRead e e
-read_same e = record { files = refl; moments = refl; refusals = (omega arith, omega arith); folders = refl; state = refl; begun = refl; settings = refl; pipes = refl }
+read_same e = record { files = refl; moments = refl; refusals = (omega arith, omega arith); folders = refl; state = refl; begun = refl; settings = refl; pipes = refl; memory = refl }

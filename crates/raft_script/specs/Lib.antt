@@ -7,5 +7,5 @@ pub mod Numbers
 pub mod Once
 pub mod Entry
 pub mod Trial
-pub mod Purges
+pub mod Called
 pub mod Number

@@ -17,7 +17,7 @@ ghost use Rattle.raft_script.specs.Durability.{CrashesComeBack, Does, HaveRun, I
 ghost use Rattle.raft_script.specs.Headline.{AreSafe};
 ghost use Rattle.raft_script.specs.Once.{AreOnce};
 ghost use Rattle.raft_script.specs.Numbers.{HaveActed};
-ghost use Rattle.raft_script.specs.Purges.{HasPurgedAs};
+ghost use Rattle.raft_script.specs.Called.{IsCalled};
 ghost use Rattle.raft_script.specs.Batches.{accepted_of, batch_of_acts, batches_of_parts, items_of_act};
 ghost use Rattle.raft_script.specs.Failure.{IsFailing, Refuses};
 ghost use Rattle.raft_script.specs.Run.{IsUnbuilt, IsUnbuiltGroup, IsUnasked};
@@ -154,7 +154,7 @@ pub fn step<F: FileSystem>(alloc: Global, engine: &mut Engine<F>, op: &Op) -> Ou
         ≡ after_batches (contents_of engine.old)
         (accepted_of (contents_of engine.old) op.now result) }
     ensures progress { Does op.now result engine.old engine.new }
-    ensures purged { HasPurgedAs op.now result engine.old engine.new }
+    ensures called { IsCalled op.now result engine.old engine.new }
     ensures folder { folders_of engine.new ≡ folders_of engine.old }
     ensures others { begun_of engine.new ≡ begun_of engine.old }
     ensures passed { PassesOver engine.old engine.new }

@@ -9,10 +9,10 @@ use Rattle.raft_records.specs.Item.{Batch}
 use Rattle.raft_log_engine.specs.Engine.{has_failed}
 use Rattle.raft_log_engine.specs.declared.engine.Engine.{Engine}
 use Rattle.raft_shared.specs.Begun.{contents_in, failed_in, lacks_numbers, lacks_numbers_in, refusals_in}
-use Rattle.raft_log_engine.specs.Calls.{IsSync}
+use Rattle.raft_log_engine.specs.Calls.{IsCallersWrite, IsSync}
 use Rattle.raft_log_engine.specs.Once.{IsWriteOnce}
 use Rattle.raft_once.specs.Numbers.{Pair}
-use Rattle.raft_shared.specs.Calls.{IsCallersWrite, IsGet}
+use Rattle.raft_shared.specs.Calls.{IsGet}
 use Rattle.raft_shared.specs.History.{Answer, Asked, Done, Event, Get, Index, Size, Sync, Value, Write, WriteOnce}
 use Rattle.raft_shared.specs.Words.{Told, answer_by, event_of, told_by}
 use Rattle.raft_shared.specs.declared.call.Receipt.{Receipt}

@@ -1,7 +1,7 @@
 //! Calls of the engine, with all that it says of each in one relation.
-ghost use Rattle.raft_log_engine.specs.Calls.{IsSync};
+ghost use Rattle.raft_log_engine.specs.Calls.{IsCallersWrite, IsSync};
 ghost use Rattle.raft_log_engine.specs.Once.{IsWriteOnce};
-ghost use Rattle.raft_shared.specs.Calls.{IsCallersWrite, IsGet};
+ghost use Rattle.raft_shared.specs.Calls.{IsGet};
 
 use raft_log_engine::{Engine, Fault, FileSystem, LogBatch};
 

@@ -1,24 +1,26 @@
 -- Older tables put below newer ones.
-use Rattle.std.proofs.Common.{◌≡◌, ℕ, ◌+◌, ◌-◌, ◌^◌, ◌==◌, nat_eq, ◌||◌, min, Bool, true, false, cond, List, [], ◌∷◌, Option, Some, None, is_some, unwrap_or, refl, sym, ◌∙◌, ap, subst, arith}
+use Rattle.std.proofs.Common.{◌≡◌, ℕ, ◌+◌, ◌-◌, ◌^◌, ◌<◌, ◌==◌, nat_eq, ◌||◌, min, Bool, true, false, cond, List, [], ◌∷◌, Option, Some, None, is_some, unwrap_or, refl, sym, ◌∙◌, ap, subst, arith}
 use Rattle.std.proofs.lemmas.Bool.Decides.{nat_tests}
 use Rattle.std.proofs.lemmas.Grind.{common_steps}
 use Rattle.std.proofs.lemmas.List.Sums.{sum_by-cons}
 use Rattle.std.proofs.lemmas.Map.{lookup-none}
-use Rattle.std.proofs.lemmas.Map.Entries.{lookup_head, none_past_head, sum_by-set_value, sum_by_puts_entry}
+use Rattle.std.proofs.lemmas.Map.Entries.{lookup_head, none_past_head, sum_by-remove_entry, sum_by-set_value, sum_by_puts_entry, sum_by_values_permutation}
 use Rattle.std.specs.Cmp.{nat_eq_equiv}
 use Rattle.std.specs.HashMap as hash
 use Rattle.std.specs.List.{IsDistinct, sum_by}
-use Rattle.std.specs.Map.{keys_of, lookup, set_value, values_of}
+use Rattle.std.specs.List.Sorted.{IsPermutation}
+use Rattle.std.specs.Map.{keys_of, lookup, remove_entry, set_value, values_of}
 use Rattle.std.specs.Option.{option_map, option_or}
 use Rattle.raft_base.specs.declared.pipe_log.LogQueue.TheVariants.{Rewrite}
 use Rattle.raft_records.specs.Contents.{with_entries}
 use Rattle.raft_records.specs.declared.entry_index.EntryPlace.{EntryPlace}
-use Rattle.raft_tables.specs.Counters.{count_after}
-use Rattle.raft_tables.specs.Recovering.{IsJoined, IsTableJoined, rewritten_total}
+use Rattle.raft_tables.specs.Counters.{count_after, deleted_count, rewritten_count}
+use Rattle.raft_tables.specs.Recovering.{AreCounted, IsJoined, IsTableJoined, rewritten_total}
 use Rattle.raft_tables.specs.Table.{StoredValue, TableView, rewritten_in, table_of}
 use Rattle.raft_tables.specs.Tables.{Tables, or_empty, with_table}
 use Rattle.raft_tables.specs.declared.memtable.MemTable.{MemTable}
 use Rattle.raft_tables.specs.declared.memtables.MemTables.{MemTables}
+use Rattle.raft_tables.specs.declared.stats.GlobalStats.{GlobalStats}
 use Rattle.raft_tables.proofs.TablesLemmas.{Groups}
 
 eq_from_test : (a b : ℕ) → (a == b) ≡ true → a ≡ b
@@ -108,6 +110,24 @@ total-insert m n group new old none is puts =
     let nothing = ap (λ o. unwrap_or (option_map (λ (t : MemTable). rewritten_in (table_of t)) o) 0) (is ∙ sym none) in
     omega (arith, sum, nothing)
 
+-- .. and so many more were placed there than left
+pub total-written : (m : MemTables) (n : Groups) (group : ℕ) (old new : MemTable) (left placed : ℕ) → Some old ≡ hash.get nat_eq m.tables group → n.entries ≡ set_value (nat_eq group) m.tables.entries new
+    → left + rewritten_in (table_of new) ≡ rewritten_in (table_of old) + placed → left + rewritten_total (record { alloc = m.alloc; tables = n }) ≡ rewritten_total m + placed
+total-written m n group old new left placed there is counted = omega (arith, counted, total-set m n group old new there is)
+
+pub total-removed : (m : MemTables) (n : Groups) (group : ℕ) (old : Option MemTable) → old ≡ hash.get nat_eq m.tables group → IsPermutation (remove_entry (nat_eq group) m.tables.entries) n.entries
+    → rewritten_in (or_empty (option_map table_of old)) + rewritten_total (record { alloc = m.alloc; tables = n }) ≡ rewritten_total m
+total-removed m n group old is moved =
+    let f = λ (t : MemTable). rewritten_in (table_of t) in
+    let sum = sum_by-remove_entry f (nat_eq group) m.tables.entries in
+    let same = sum_by_values_permutation f (remove_entry (nat_eq group) m.tables.entries) n.entries moved in
+    let gone = weight_of old ∙ ap (λ o. unwrap_or (option_map f o) 0) is in
+    omega (arith, sum, same, gone)
+  where
+    weight_of : (o : Option MemTable) → rewritten_in (or_empty (option_map table_of o)) ≡ unwrap_or (option_map (λ (t : MemTable). rewritten_in (table_of t)) o) 0
+    weight_of None = refl
+    weight_of (Some t) = refl
+
 pub total_in-cons : (e : ℕ × MemTable) (es : List (ℕ × MemTable)) → total_in (e ∷ es) ≡ rewritten_in (table_of e.1) + total_in es
 total_in-cons e es = sum_by-cons (λ (t : MemTable). rewritten_in (table_of t)) e.1 (values_of es)
 
@@ -116,3 +136,30 @@ count_more n left more next is then = at (2 ^ 64 - 1) is then
   where
     at : (most : ℕ) → left ≡ min (0 + n) most → next ≡ min (left + more) most → next ≡ min (0 + (n + more)) most
     at most before after = grind (arith, nat_tests)
+
+-- .. where what is added is a count itself
+pub count_more-counted : (n left gone more next : ℕ) → left ≡ count_after Rewrite n 0 → more ≡ count_after Rewrite gone 0 → next ≡ min (left + more) (2 ^ 64 - 1) → next ≡ count_after Rewrite (n + gone) 0
+count_more-counted n left gone more next is counted then = at (2 ^ 64 - 1) is counted then
+  where
+    at : (most : ℕ) → left ≡ min (0 + n) most → more ≡ min (0 + gone) most → next ≡ min (left + more) most → next ≡ min (0 + (n + gone)) most
+    at most before added after = grind (arith, nat_tests)
+
+-- where all was counted before, all is after so many more were placed and so many left
+pub counted_more : (m n : MemTables) (s r : GlobalStats) (placed left : ℕ) → rewritten_count r ≡ count_after Rewrite placed (rewritten_count s) → deleted_count r ≡ count_after Rewrite left (deleted_count s)
+    → left + rewritten_total n ≡ rewritten_total m + placed → AreCounted m s → AreCounted n r
+counted_more m n s r placed left rewritten deleted total counted =
+    at (2 ^ 64 - 1) (rewritten_count s) (deleted_count s) (rewritten_count r) (deleted_count r) (rewritten_total m) (rewritten_total n) rewritten deleted total counted
+  where
+    at : (most a b c d t u : ℕ) → c ≡ min (a + placed) most → d ≡ min (b + left) most → left + u ≡ t + placed → (a < most → b + t ≡ a) → c < most → d + u ≡ c
+    at most a b c d t u first second total counted short =
+        let below : a + placed < most = grind (arith, nat_tests) in
+        let before : b + t ≡ a = counted (omega arith) in
+        grind (arith, nat_tests)
+
+-- what left is what stands no more
+pub count_rest : (a b n : ℕ) → n + b ≡ a → count_after Rewrite n 0 ≡ count_after Rewrite (a - b) 0
+count_rest a b n is = ap (λ k. count_after Rewrite k 0) (omega (arith, is))
+
+-- no tables, where as many left as were placed
+pub none_counted : (m : MemTables) (s : GlobalStats) → rewritten_total m ≡ 0 → deleted_count s ≡ rewritten_count s → AreCounted m s
+none_counted m s none even short = omega (arith, none, even)

@@ -21,3 +21,4 @@ pub mod FirstFileLemmas
 pub mod TakingLemmas
 pub mod WrittenLemmas
 pub mod GroupIdsLemmas
+pub mod AscendingLemmas

@@ -116,7 +116,7 @@ loop-op-preserved g c =
     let ended : IsOutOfNumbersIn (folders_of new) (directory_of new) → IsOutOfNumbersIn folders (directory_of new) = subst (λ (f : Folders). IsOutOfNumbersIn f (directory_of new)) (step.folder ∙ kept.2) in
     let answer = answer_weaker _ (IsOutOfNumbersIn folders (directory_of new)) (λ last. ended (c.last_number_stands.ensures last.0 last.1)) (has_failed old) (after_batches m p.batches) (known_from known p.batches) op outcome
     (step.value (after_batches m p.batches) (known_from known p.batches) (λ alive. sym (held alive)) known_is) in
-    let is_call : IsCall folders m known p op outcome old new = record { answer = answer; failure = step.failed; safe = safe; does = does; purged = step.purged } in
+    let is_call : IsCall folders m known p op outcome old new = record { answer = answer; failure = step.failed; safe = safe; does = does; called = step.called } in
     let states = kept.6.states in
     let fails = map has_failed states in
     let as_many = leads_len (IsCall folders m known) m first begun ops outcomes states kept.6.each in

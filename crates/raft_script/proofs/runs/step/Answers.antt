@@ -1,11 +1,10 @@
-use Rattle.std.proofs.lemmas.Result.{on_ok_weaker}
 use Rattle.std.proofs.Common.{◌≡◌, ◌∙◌, ◌∷◌, [], true, List, Option, Some, ap, map, refl, rules, subst, sym}
 use Rattle.std.specs.Prelude.{unwrap_or}
 use Rattle.raft_records.specs.Contents.{Contents, first_index_of, last_index_of}
 use Rattle.raft_records.specs.Item.{Batch}
 use Rattle.raft_log_engine.specs.Durability.{Durability, durability_of}
 use Rattle.raft_log_engine.specs.Engine.{contents_of, directory_of, folders_of, has_failed, is_known_in, moments_of, queue_of, refusals_of, rewrite_queue_of}
-use Rattle.raft_script.proofs.PurgesLemmas.{purged_append, purged_expired, purged_rewrite, purged_stale}
+use Rattle.raft_script.proofs.CalledLemmas.{called_once, called_write, unbuilt_group, unbuilt_once, unbuilt_write}
 use Rattle.raft_script.specs.Batches.{Part, batch_of_acts, batches_of_parts, items_of_acts}
 use Rattle.raft_script.specs.Durability.{Does}
 use Rattle.raft_script.specs.Run.{IsUnbuilt, IsUnbuiltGroup}
@@ -17,6 +16,7 @@ use Rattle.raft_log_engine.specs.Reads.{compact_batch}
 use Rattle.raft_once.specs.History.{are_numbers}
 use Rattle.raft_once.specs.Numbers.{Pair}
 use Rattle.raft_script.specs.declared.operation.Op.TheVariants.{CompactTo, Purge, PurgeStale, RewriteAppend, RewriteRewrite, Sync, Write, WriteGroup, WriteOnce}
+use Rattle.raft_script.specs.declared.operation.Act.{Act}
 use Rattle.raft_script.specs.declared.operation.Outcome.TheVariants.{Dropped, Size, Sizes, ToCompact}
 use Rattle.raft_script.proofs.DurabilityLemmas.{alone, compaction_progress}
 use Rattle.raft_script.proofs.OnceLemmas.{covered_write, does_contents, does_write, once_answered, once_does, once_fails, once_rose, write_fails}
@@ -27,7 +27,7 @@ use Rattle.raft_script.proofs.RunLemmas.{compaction_answered, compaction_fails, 
 use Rattle.raft_script.proofs.RefusalLemmas.{compaction_rose, sync_rose, write_rose}
 use Rattle.raft_log_engine.specs.Purge.{HasLastId, HasOpenGroup}
 use Rattle.raft_records.specs.Batch.{BatchView}
-use Rattle.raft_script.proofs.GroupLemmas.{does_group, group_answered, group_fails, group_refuses, unbuilt_answered, unbuilt_fails}
+use Rattle.raft_script.proofs.GroupLemmas.{called_group, does_group, group_answered, group_fails, group_refuses, unbuilt_answered, unbuilt_fails}
 use Rattle.raft_script.proofs.runs.step.Given.{Over}
 use Rattle.raft_script.proofs.runs.step.Goals.{After-write_group, After-write_once}
 use Rattle.raft_script.proofs.runs.step.Goals as goal
@@ -265,21 +265,6 @@ returns-in-PurgeStale-clause-progress g c =
     let purged = c.must_purge_all_stale.ensures in
     rw c.in-PurgeStale.is (does_purge e n (PurgeStale) (Dropped c.must_purge_all_stale.result) purged.log.progress purged.log.any_moment.throughout purged.unchanged)
 
-pub returns-in-RewriteAppend-clause-purged : goal.returns-in-RewriteAppend-clause-purged
-returns-in-RewriteAppend-clause-purged g c =
-    let purged = c.must_rewrite_append_queue.ensures in
-    rw c.in-RewriteAppend.is (purged_append c.in-RewriteAppend.watermark c.in-RewriteAppend.step c.must_rewrite_append_queue.result c.args.engine.now c.must_rewrite_append_queue.new.self purged.files.value (on_ok_weaker c.must_rewrite_append_queue.result (λ files. files.0) purged.files.files))
-
-pub returns-in-RewriteRewrite-clause-purged : goal.returns-in-RewriteRewrite-clause-purged
-returns-in-RewriteRewrite-clause-purged g c =
-    let purged = c.must_rewrite_rewrite_queue.ensures in
-    rw c.in-RewriteRewrite.is (purged_rewrite c.must_rewrite_rewrite_queue.result c.args.engine.now c.must_rewrite_rewrite_queue.new.self purged.files.value (on_ok_weaker c.must_rewrite_rewrite_queue.result (λ files. files.0) purged.files.files))
-
-pub returns-in-PurgeStale-clause-purged : goal.returns-in-PurgeStale-clause-purged
-returns-in-PurgeStale-clause-purged g c =
-    let purged = c.must_purge_all_stale.ensures in
-    rw c.in-PurgeStale.is (purged_stale c.must_purge_all_stale.result c.args.engine.now c.must_purge_all_stale.new.self purged.files.value purged.files.files)
-
 pub returns-in-Purge-clause-value : goal.returns-in-Purge-clause-value
 returns-in-Purge-clause-value g c =
     let e = c.args.engine.now in
@@ -307,11 +292,6 @@ returns-in-Purge-clause-progress g c =
     let n = c.purge_expired_files.new.self in
     let purged = c.purge_expired_files.ensures in
     rw c.in-Purge.is (does_purge e n Purge (ToCompact c.purge_expired_files.result) purged.log.progress purged.log.any_moment.throughout purged.unchanged)
-
-pub returns-in-Purge-clause-purged : goal.returns-in-Purge-clause-purged
-returns-in-Purge-clause-purged g c =
-    let purged = c.purge_expired_files.ensures in
-    rw c.in-Purge.is (purged_expired c.purge_expired_files.result c.args.engine.now c.purge_expired_files.new.self purged.expired.value)
 
 -- A write with numbers.
 
@@ -353,10 +333,10 @@ returns-in-Ok-build-clause-progress g c =
 pub returns-in-Ok-build-clause-contents : goal.returns-in-Ok-build-clause-contents
 returns-in-Ok-build-clause-contents g c =
     let at = (goal.at.returns-in-Ok-build-clause-contents g c).After-write_once in
-    rw c.in-WriteOnce.is (does_contents c.args.engine.now c.write_once.new.self (WriteOnce c.in-WriteOnce.acts c.in-WriteOnce.pairs c.in-WriteOnce.sync) (Size c.write_once.result) (once_done g at) c.write_once.ensures.advance.log.folders c.write_once.ensures.advance.log.begun)
+    rw c.in-WriteOnce.is (does_contents c.args.engine.now c.write_once.new.self (WriteOnce c.in-WriteOnce.acts c.in-WriteOnce.pairs c.in-WriteOnce.sync) (Size c.write_once.result) (once_done g at) c.write_once.ensures.advance.only.log.folders c.write_once.ensures.advance.only.log.begun)
 
 pub returns-in-Ok-build-clause-passed : goal.returns-in-Ok-build-clause-passed
-returns-in-Ok-build-clause-passed g c = record { files = c.write_once.ensures.advance.log.passed; still = c.write_once.ensures.advance.log.still }
+returns-in-Ok-build-clause-passed g c = record { files = c.write_once.ensures.advance.only.log.passed; still = c.write_once.ensures.advance.only.log.still }
 
 pub returns-in-Err-build-clause-progress : goal.returns-in-Err-build-clause-progress
 returns-in-Err-build-clause-progress g c = let e = c.args.engine.now in rw c.in-WriteOnce.is (does_read e e _ _ (read_same e) refl refl)
@@ -409,7 +389,7 @@ pub returns-in-Ok-build_group-clause-contents : goal.returns-in-Ok-build_group-c
 returns-in-Ok-build_group-clause-contents g c =
     let at = (goal.at.returns-in-Ok-build_group-clause-contents g c).After-write_group in
     let write = c.write_group.ensures in
-    rw c.in-WriteGroup.is (does_contents c.args.engine.now c.write_group.new.self (WriteGroup c.in-WriteGroup.parts) (Sizes c.write_group.result) (group_done g at) write.others.folders write.others.begun)
+    rw c.in-WriteGroup.is (does_contents c.args.engine.now c.write_group.new.self (WriteGroup c.in-WriteGroup.parts) (Sizes c.write_group.result) (group_done g at) write.only.log.folders write.only.log.begun)
 
 pub returns-in-Err-build_group-clause-value : goal.returns-in-Err-build_group-clause-value
 returns-in-Err-build_group-clause-value g c =
@@ -427,16 +407,16 @@ returns-in-Err-build_group-clause-progress g c = let e = c.args.engine.now in rw
 -- Log files that an opening passed over.
 
 pub returns-in-Ok-clause-passed : goal.returns-in-Ok-clause-passed
-returns-in-Ok-clause-passed g c = record { files = c.write.ensures.call.advance.log.passed; still = c.write.ensures.call.advance.log.still }
+returns-in-Ok-clause-passed g c = record { files = c.write.ensures.call.advance.only.log.passed; still = c.write.ensures.call.advance.only.log.still }
 
 pub returns-in-Ok-build_group-clause-passed : goal.returns-in-Ok-build_group-clause-passed
-returns-in-Ok-build_group-clause-passed g c = record { files = c.write_group.ensures.others.passed; still = c.write_group.ensures.others.still }
+returns-in-Ok-build_group-clause-passed g c = record { files = c.write_group.ensures.only.log.passed; still = c.write_group.ensures.only.log.still }
 
 pub returns-in-Sync-clause-passed : goal.returns-in-Sync-clause-passed
-returns-in-Sync-clause-passed g c = record { files = c.sync.ensures.advance.log.passed; still = c.sync.ensures.advance.log.still }
+returns-in-Sync-clause-passed g c = record { files = c.sync.ensures.advance.only.log.passed; still = c.sync.ensures.advance.only.log.still }
 
 pub returns-in-CompactTo-clause-passed : goal.returns-in-CompactTo-clause-passed
-returns-in-CompactTo-clause-passed g c = record { files = c.compact_to.ensures.advance.log.passed; still = c.compact_to.ensures.advance.log.still }
+returns-in-CompactTo-clause-passed g c = record { files = c.compact_to.ensures.advance.only.log.passed; still = c.compact_to.ensures.advance.only.log.still }
 
 pub returns-in-RewriteAppend-clause-passed : goal.returns-in-RewriteAppend-clause-passed
 returns-in-RewriteAppend-clause-passed g c =
@@ -480,3 +460,80 @@ returns-in-Last-clause-passed g c = passes_none c.args.engine.now
 
 pub returns-in-Groups-clause-passed : goal.returns-in-Groups-clause-passed
 returns-in-Groups-clause-passed g c = passes_none c.args.engine.now
+
+-- The calls' own clauses.
+
+pub returns-in-Ok-clause-called : goal.returns-in-Ok-clause-called
+returns-in-Ok-clause-called g c =
+    let write = c.write.ensures in
+    let items = c.in-Ok.batch.items in
+    let acts = c.in-Write.acts in
+    let built : batch_of_acts acts.items ≡ Some items = ap batch_of_acts (sym c.deref.ensures.value) ∙ c.in-Ok.ensures.value in
+    rw c.in-Write.is (called_write acts c.in-Write.sync items c.write.new.batch.items c.args.engine.now c.write.new.self c.write.result built
+    (record { call = write.call; taken = write.taken; reserved = write.reserved; plain = write.plain }))
+
+pub returns-in-Err-clause-called : goal.returns-in-Err-clause-called
+returns-in-Err-clause-called g c =
+    let unbuilt = subst (λ (l : List Act). IsUnbuilt l c.in-Err.fault) c.deref.ensures.value c.in-Err.ensures.cause in
+    rw c.in-Write.is (unbuilt_write c.in-Write.acts c.in-Write.sync c.in-Err.fault c.args.engine.now unbuilt)
+
+pub returns-in-Ok-build-clause-called : goal.returns-in-Ok-build-clause-called
+returns-in-Ok-build-clause-called g c =
+    let at = (goal.at.returns-in-Ok-build-clause-called g c).After-write_once in
+    rw c.in-WriteOnce.is (called_once c.in-WriteOnce.acts c.in-WriteOnce.pairs c.in-WriteOnce.sync c.in-Ok-build.batch.items c.write_once.new.batch.items c.args.engine.now c.write_once.new.self c.write_once.result (once_built g at) (once_write g at))
+
+pub returns-in-Err-build-clause-called : goal.returns-in-Err-build-clause-called
+returns-in-Err-build-clause-called g c =
+    let unbuilt = subst (λ (l : List Act). IsUnbuilt l c.in-Err-build.fault) c.deref-in-WriteOnce.ensures.value c.in-Err-build.ensures.cause in
+    rw c.in-WriteOnce.is (unbuilt_once c.in-WriteOnce.acts c.in-WriteOnce.pairs c.in-WriteOnce.sync c.in-Err-build.fault c.args.engine.now unbuilt)
+
+pub returns-in-Ok-build_group-clause-called : goal.returns-in-Ok-build_group-clause-called
+returns-in-Ok-build_group-clause-called g c =
+    let at = (goal.at.returns-in-Ok-build_group-clause-called g c).After-write_group in
+    rw c.in-WriteGroup.is (called_group c.in-WriteGroup.parts c.deref_mut.result.now c.write_group.new.batches c.deref-in-Ok-build_group.result.now c.args.engine.now c.write_group.new.self (group_built g at) (group_flags g at) c.write_group.result c.write_group.ensures)
+
+pub returns-in-Err-build_group-clause-called : goal.returns-in-Err-build_group-clause-called
+returns-in-Err-build_group-clause-called g c =
+    let unbuilt = subst (λ (l : List Part). IsUnbuiltGroup l c.in-Err-build_group.fault) c.deref-in-WriteGroup.ensures.value c.in-Err-build_group.ensures.cause in
+    rw c.in-WriteGroup.is (unbuilt_group c.in-WriteGroup.parts c.in-Err-build_group.fault c.args.engine.now unbuilt)
+
+pub returns-in-Sync-clause-called : goal.returns-in-Sync-clause-called
+returns-in-Sync-clause-called g c = rw c.in-Sync.is c.sync.ensures
+
+pub returns-in-Get-clause-called : goal.returns-in-Get-clause-called
+returns-in-Get-clause-called g c = rw c.in-Get.is refl
+
+pub returns-in-CompactTo-clause-called : goal.returns-in-CompactTo-clause-called
+returns-in-CompactTo-clause-called g c = rw c.in-CompactTo.is c.compact_to.ensures
+
+pub returns-in-Entry-clause-called : goal.returns-in-Entry-clause-called
+returns-in-Entry-clause-called g c = rw c.in-Entry.is c.get_entry.ensures.unchanged
+
+pub returns-in-First-clause-called : goal.returns-in-First-clause-called
+returns-in-First-clause-called g c = rw c.in-First.is refl
+
+pub returns-in-Last-clause-called : goal.returns-in-Last-clause-called
+returns-in-Last-clause-called g c = rw c.in-Last.is refl
+
+pub returns-in-Groups-clause-called : goal.returns-in-Groups-clause-called
+returns-in-Groups-clause-called g c = rw c.in-Groups.is refl
+
+pub returns-in-RewriteAppend-clause-called : goal.returns-in-RewriteAppend-clause-called
+returns-in-RewriteAppend-clause-called g c =
+    let purged = c.must_rewrite_append_queue.ensures in
+    rw c.in-RewriteAppend.is (record { log = purged.log; files = purged.files; failed = purged.failed; unchanged = purged.unchanged })
+
+pub returns-in-RewriteRewrite-clause-called : goal.returns-in-RewriteRewrite-clause-called
+returns-in-RewriteRewrite-clause-called g c =
+    let purged = c.must_rewrite_rewrite_queue.ensures in
+    rw c.in-RewriteRewrite.is (record { log = purged.log; files = purged.files; failed = purged.failed; unchanged = purged.unchanged })
+
+pub returns-in-PurgeStale-clause-called : goal.returns-in-PurgeStale-clause-called
+returns-in-PurgeStale-clause-called g c =
+    let purged = c.must_purge_all_stale.ensures in
+    rw c.in-PurgeStale.is (record { log = purged.log; files = purged.files; failed = purged.failed; unchanged = purged.unchanged })
+
+pub returns-in-Purge-clause-called : goal.returns-in-Purge-clause-called
+returns-in-Purge-clause-called g c =
+    let purged = c.purge_expired_files.ensures in
+    rw c.in-Purge.is (record { log = purged.log; expired = purged.expired; failed = purged.failed; unchanged = purged.unchanged })

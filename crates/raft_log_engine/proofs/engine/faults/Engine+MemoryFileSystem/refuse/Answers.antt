@@ -16,6 +16,6 @@ invariant_of-self c =
       cached = λ alive. subst (λ n. HoldsBlockIn e.pipes n e.cache) (sym same) (e.cached alive);
       queues = queues_still e _ same;
       completed = completed_still e _ same;
-      format = e.format;
+      form = e.form;
       left = left_still e _ same;
     }

@@ -1,0 +1,50 @@
+-- What an operation asks of an engine, by the clause of the call itself.
+use Rattle.std.specs.Prelude.{◌≡◌, ◌⊎◌, ◌-◌, ◌^◌, List, length, IsErrAnd, IsSomeAnd}
+use Rattle.std.specs.List.{list_any}
+use Rattle.raft_env.specs.declared.env.FileSystem.{Ghosts}
+use Rattle.raft_records.specs.Item.{Batch}
+use Rattle.raft_log_engine.specs.Calls.{IsCallersWrite, IsCompaction, IsGroupWrite, IsSync}
+use Rattle.raft_log_engine.specs.Durability.{HasOnlyRead}
+use Rattle.raft_log_engine.specs.Once.{IsWriteOnce}
+use Rattle.raft_log_engine.specs.PurgeCalls.{IsExpiry, IsPurge}
+use Rattle.raft_log_engine.specs.declared.engine.Engine.{Engine}
+use Rattle.raft_log_engine.specs.declared.engine.purge_kind.Purge.TheVariants as purge
+use Rattle.raft_script.specs.Batches.{batch_of_acts, batches_of_parts}
+use Rattle.raft_script.specs.Run.{IsUnbuilt, IsUnbuiltGroup}
+use Rattle.raft_script.specs.declared.operation.Op.{Op}
+use Rattle.raft_script.specs.declared.operation.Op.TheVariants as operation
+use Rattle.raft_script.specs.declared.operation.Op.TheVariants.{Write, WriteGroup, WriteOnce, Sync, Get, CompactTo, First, Last, RewriteAppend, RewriteRewrite, PurgeStale, Purge}
+use Rattle.raft_script.specs.declared.operation.Outcome.{Outcome}
+use Rattle.raft_script.specs.declared.operation.Outcome.TheVariants as reply
+use Rattle.raft_script.specs.declared.operation.Outcome.TheVariants.{Size, Sizes, Done, Value, Count, Index, Dropped, ToCompact}
+
+module _ {F H R W : Type 0} {g : Ghosts F H R W} where
+  -- an operation is a call of this engine, answered so, by the call's own clause; what couldn't be built
+  -- doesn't reach the engine
+  abbrev pub IsCalled : Op → Outcome → Engine F H R W g → Engine F H R W g → Type 0
+  IsCalled (Write acts sync) (Size answer) e e' =
+      ((e' ≡ e) × IsErrAnd answer (IsUnbuilt acts.items))
+      ⊎ IsSomeAnd (batch_of_acts acts.items) (λ batch. (rest : Batch)
+      × IsCallersWrite batch rest sync e e' answer)
+  IsCalled (WriteOnce acts pairs sync) (Size answer) e e' =
+      ((e' ≡ e) × IsErrAnd answer (IsUnbuilt acts.items))
+      ⊎ IsSomeAnd (batch_of_acts acts.items) (λ batch. (rest : Batch)
+      × IsWriteOnce batch rest pairs.items sync e e' answer)
+  IsCalled (WriteGroup parts) (Sizes answer) e e' =
+      ((e' ≡ e) × IsErrAnd answer (IsUnbuiltGroup parts.items))
+      ⊎ IsSomeAnd (batches_of_parts parts.items) (λ batches. (rest : List Batch)
+      × IsGroupWrite batches rest (length batches) (length batches)
+      (list_any (λ part. part.1) parts.items) e e' answer)
+  IsCalled Sync (Done answer) e e' = IsSync e e' answer
+  IsCalled (Get group key) (Value answer) e e' = e' ≡ e
+  IsCalled (CompactTo group index) (Count answer) e e' = IsCompaction group index e e' answer
+  IsCalled (operation.Entry group index) (reply.Entry answer) e e' = HasOnlyRead e e'
+  IsCalled (First group) (Index index) e e' = e' ≡ e
+  IsCalled (Last group) (Index index) e e' = e' ≡ e
+  IsCalled operation.Groups (reply.Groups answer) e e' = e' ≡ e
+  IsCalled (RewriteAppend watermark step) (Dropped answer) e e' =
+      IsPurge (purge.RewriteAppend (record { watermark = watermark; step = step })) e e' answer
+  IsCalled RewriteRewrite (Dropped answer) e e' = IsPurge purge.RewriteRewrite e e' answer
+  IsCalled PurgeStale (Dropped answer) e e' = IsPurge purge.DropStale e e' answer
+  IsCalled Purge (ToCompact answer) e e' = IsExpiry (2 ^ 64 - 1) e e' answer
+  IsCalled _ _ e e' = ⊥
