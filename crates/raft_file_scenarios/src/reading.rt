@@ -222,7 +222,7 @@ fn are_entries(content: &LogItemContent, seq: u64, offset: u64) -> bool {
 fn is_put(content: &LogItemContent) -> bool {
     match content {
         LogItemContent::Kv(KeyValue::Put { key, value }) => {
-            key.as_slice() == b"a" && value.as_slice() == b"x"
+            key.as_slice() == b"a".as_slice() && value.as_slice() == b"x".as_slice()
         }
         _ => false,
     }
