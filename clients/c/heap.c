@@ -62,7 +62,6 @@ static _Atomic(uint8_t *) arena;
 static size_t page;
 
 static _Atomic uint64_t last_id;
-static atomic_int random_logs; /* those whose reads are expected at random */
 static _Atomic uint64_t owner_of_all;
 static _Thread_local uint64_t owner_here;
 
@@ -387,7 +386,7 @@ static void make_up(struct heap_file *file, size_t len) {
 
 void heap_end(struct heap *heap) {
     drop_rest(heap);
-    if (heap->at_random) atomic_fetch_sub(&random_logs, 1);
+    if (heap->at_random) heap_expect_reads(heap, false);
     heap->id = 0;
 }
 
@@ -518,19 +517,35 @@ static void ask_for(const uint8_t *bytes, size_t len) {
     if (end > at + page) madvise(start + at, end - at, MADV_WILLNEED);
 }
 
-static void prepare_copy(const void *from, size_t len) {
-    bool is_asked = atomic_load_explicit(&random_logs, memory_order_relaxed);
-    if (is_asked && is_large(from)) ask_for(from, len);
-}
-
-void *heap_copy(void *to, const void *from, size_t len) {
-    prepare_copy(from, len);
+static void *copy_asked(void *to, const void *from, size_t len) {
+    if (is_large(from)) ask_for(from, len);
     return memcpy(to, from, len);
 }
 
-void *heap_move(void *to, const void *from, size_t len) {
-    prepare_copy(from, len);
+static void *move_asked(void *to, const void *from, size_t len) {
+    if (is_large(from)) ask_for(from, len);
     return memmove(to, from, len);
+}
+
+typedef void *copy_call(void *, const void *, size_t);
+static _Atomic(copy_call *) copy = memcpy, move = memmove;
+
+/* Counts the logs whose reads are expected at random. While there is one, all logs' copies are asked for. */
+static void count_random(int more) {
+    static int count;
+    pthread_mutex_lock(&slots_lock);
+    count += more;
+    atomic_store(&copy, count ? copy_asked : memcpy);
+    atomic_store(&move, count ? move_asked : memmove);
+    pthread_mutex_unlock(&slots_lock);
+}
+
+void *heap_copy(void *to, const void *from, size_t len) {
+    return atomic_load_explicit(&copy, memory_order_relaxed)(to, from, len);
+}
+
+void *heap_move(void *to, const void *from, size_t len) {
+    return atomic_load_explicit(&move, memory_order_relaxed)(to, from, len);
 }
 
 /* ---- settings, figures, tests */
@@ -539,7 +554,7 @@ void heap_expect_reads(struct heap *heap, bool at_random) {
     if (!heap->id) return;
     int advice = at_random ? MADV_RANDOM : MADV_NORMAL;
     keep_out(heap);
-    atomic_fetch_add(&random_logs, at_random - heap->at_random);
+    count_random(at_random - heap->at_random);
     heap->at_random = at_random;
     struct block *block = next_block(heap, blocks);
     for (; block; block = next_block(heap, block + 1))
