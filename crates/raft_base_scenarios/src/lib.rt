@@ -1,12 +1,10 @@
-//! Tests of numbers, batches, tables, files, settings and the rules of purges. Each is one loop over a table of cases.
+//! Tests of numbers, batches, records, tables and the rules of purges. Each is one loop over a table of cases.
 #![tactic(auto)]
 
 #[cfg(test)]
 mod asks;
 #[cfg(test)]
 mod batches;
-#[cfg(test)]
-mod block_sizes;
 #[cfg(test)]
 mod c_batches;
 #[cfg(test)]
@@ -22,12 +20,6 @@ mod faults;
 #[cfg(test)]
 mod listeners;
 #[cfg(test)]
-mod log_files;
-#[cfg(test)]
-mod memory_files;
-#[cfg(test)]
-mod names;
-#[cfg(test)]
 mod numbers;
 #[cfg(test)]
 mod once_batches;
@@ -42,17 +34,11 @@ mod purge_plans;
 #[cfg(test)]
 mod purge_rules;
 #[cfg(test)]
-mod reading;
-#[cfg(test)]
 mod record_rows;
 #[cfg(test)]
 mod records;
 #[cfg(test)]
 mod refused_rows;
-#[cfg(test)]
-mod settings;
-#[cfg(test)]
-mod settings_text;
 #[cfg(test)]
 mod sizes;
 #[cfg(test)]

@@ -1,5 +1,5 @@
 -- What the purges of an engine make of it, each of them once, with listeners and without.
-use Rattle.std.specs.Prelude.{◌≡◌, ◌↔◌, ℕ, true, false, [], Err, IfErr, IfOk, OnErr, OnOk, Result, Some, Vec, is_ok}
+use Rattle.std.specs.Prelude.{◌≡◌, ◌↔◌, ℕ, true, false, [], Err, IfErr, IfOk, OnErr, OnOk, Option, Result, Some, Vec, is_ok}
 use Rattle.std.specs.List.Sorted.{IsStrictlySortedBy}
 use Rattle.std.specs.Ordering.{nat_cmp}
 use Rattle.std.specs.declared.alloc.Global.{Global}
@@ -22,7 +22,7 @@ use Rattle.raft_log_engine.specs.Expired.{AsksBarrier, HasPurgedExpired}
 use Rattle.raft_log_engine.specs.Purge.{HasFreed, HasLastId, HasLostSome, HasOpenGroup, HasPurged, IsFailureCause, IsIdlePurge, IsPurgeFault, LacksId, LeavesBehind, LeavesOpen, LeavesOthers, queue_freed}
 use Rattle.raft_log_engine.specs.declared.engine.Engine.{Engine}
 use Rattle.raft_log_engine.specs.declared.engine.purge_kind.Purge.{Purge}
-use Rattle.raft_log_engine.specs.declared.engine.purge_kind.Purge.TheVariants.{DropStale, RewriteRewrite}
+use Rattle.raft_log_engine.specs.declared.engine.purge_kind.Purge.TheVariants.{DropStale, RewriteAppend, RewriteRewrite}
 
 module _ {F H R W : Type 0} {g : Ghosts F H R W} where
   -- each purge, which answers of this queue, and where that may be leaves an atomic group open, or lacks
@@ -73,6 +73,18 @@ module _ {F H R W : Type 0} {g : Ghosts F H R W} where
     pub files : FreesFiles purge result old new
     pub failed : (result ≡ Err fault.Failed) ↔ (has_failed old ≡ true)
     pub unchanged : has_failed old ≡ true → StaysFailed old new
+
+  -- .. each for whoever can't name a kind of purge
+  abbrev pub IsAppendRewrite : Option ℕ → Option ℕ → Engine F H R W g → Engine F H R W g
+      → Result ℕ Fault → Type 0
+  IsAppendRewrite watermark step old new result =
+      IsPurge (RewriteAppend (record { watermark = watermark; step = step })) old new result
+
+  abbrev pub IsRewriteRewrite : Engine F H R W g → Engine F H R W g → Result ℕ Fault → Type 0
+  IsRewriteRewrite old new result = IsPurge RewriteRewrite old new result
+
+  abbrev pub IsStalePurge : Engine F H R W g → Engine F H R W g → Result ℕ Fault → Type 0
+  IsStalePurge old new result = IsPurge DropStale old new result
 
   -- the same of a purge by watermarks with this barrier, which counts rounds where it is answered
   pub record FreesExpired (barrier : ℕ) (result : Result (Vec ℕ Global) Fault)

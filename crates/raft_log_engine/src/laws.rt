@@ -103,8 +103,8 @@ pub fn pipes_are_made_by_the_settings<F: FileSystem>(engine: &Engine<F>)
 {}
 
 /// Where no log stands each atomic group's batches stand together: a new engine knows that of itself.
-/// And an engine that knows it leaves a log of which each opening finds it, after a crash of detectable
-/// damage too.
+/// And an engine that knows it leaves, after a crash between two calls whose damage is detectable, a log
+/// of which an opening finds it; after a close its clause `together` says so.
 pub fn groups_stand_together<F: FileSystem>(engine: &Engine<F>)
     ensures none { (folders : Folders) (n : Directory) → HasNoLog folders n
         → do_groups_ascend (readable_queue Rewrite folders n) ≡ true }

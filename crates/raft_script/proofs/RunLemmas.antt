@@ -212,9 +212,9 @@ module _ (m n : Contents) (group index : ℕ) (failed : Bool) (folders : Folders
   entry_rose (Err _) fails cause io = absurd cc
 
 -- a compaction fails an engine by storage or for lack of memory alone
-pub compaction_fails : (P R : Type 0) (Q : Fault → Type 0) (failed fails : Bool) (folders : Folders) (p : PipeState) (old new : Refusals) (result : Result ℕ Fault) → MatchResult result (λ _. (fails ≡ false) × P × R) Q → ((result ≡ Err fault.Failed) ↔ (failed ≡ true)) → (failed ≡ true → fails ≡ true)
+pub compaction_fails : (P R S : Type 0) (Q : Fault → Type 0) (failed fails : Bool) (folders : Folders) (p : PipeState) (old new : Refusals) (result : Result ℕ Fault) → MatchResult result (λ _. (fails ≡ false) × P × R × S) Q → ((result ≡ Err fault.Failed) ↔ (failed ≡ true)) → (failed ≡ true → fails ≡ true)
     → IfErr result (λ e. failed ≡ false → engine.IsAppendRefusal folders p fails old new e) → FailsBy failed result fails (λ _. ⊥)
-compaction_fails P R Q failed fails folders p old new result ok told still cause = record {
+compaction_fails P R S Q failed fails folders p old new result ok told still cause = record {
   still = still;
   only_failed = told.0;
   refused = λ gone. inl (told.1 gone);
@@ -228,7 +228,7 @@ compaction_fails P R Q failed fails folders p old new result ok told still cause
     by_fault fault.TryAgain h dies = absurd (let clash = sym dies ∙ h.1 in cc)
     by_fault _ h dies = absurd h
 
-    caused : (result : Result ℕ Fault) → MatchResult result (λ _. (fails ≡ false) × P × R) Q → IfErr result (λ e. failed ≡ false → engine.IsAppendRefusal folders p fails old new e) → failed ≡ false → fails ≡ true → IsErrAnd result IsStorageOrMemory
+    caused : (result : Result ℕ Fault) → MatchResult result (λ _. (fails ≡ false) × P × R × S) Q → IfErr result (λ e. failed ≡ false → engine.IsAppendRefusal folders p fails old new e) → failed ≡ false → fails ≡ true → IsErrAnd result IsStorageOrMemory
     caused (Ok count) ok cause alive dies = absurd (let clash = sym dies ∙ ok.0 in cc)
     caused (Err e) ok cause alive dies = by_fault e (cause alive) dies
 

@@ -6,9 +6,8 @@ use Rattle.raft_records.specs.Item.{Batch}
 use Rattle.raft_log_engine.specs.Calls.{IsCallersWrite, IsCompaction, IsGroupWrite, IsSync}
 use Rattle.raft_log_engine.specs.Durability.{HasOnlyRead}
 use Rattle.raft_log_engine.specs.Once.{IsWriteOnce}
-use Rattle.raft_log_engine.specs.PurgeCalls.{IsExpiry, IsPurge}
+use Rattle.raft_log_engine.specs.PurgeCalls.{IsAppendRewrite, IsExpiry, IsRewriteRewrite, IsStalePurge}
 use Rattle.raft_log_engine.specs.declared.engine.Engine.{Engine}
-use Rattle.raft_log_engine.specs.declared.engine.purge_kind.Purge.TheVariants as purge
 use Rattle.raft_script.specs.Batches.{batch_of_acts, batches_of_parts}
 use Rattle.raft_script.specs.Run.{IsUnbuilt, IsUnbuiltGroup}
 use Rattle.raft_script.specs.declared.operation.Op.{Op}
@@ -43,8 +42,8 @@ module _ {F H R W : Type 0} {g : Ghosts F H R W} where
   IsCalled (Last group) (Index index) e e' = e' ≡ e
   IsCalled operation.Groups (reply.Groups answer) e e' = e' ≡ e
   IsCalled (RewriteAppend watermark step) (Dropped answer) e e' =
-      IsPurge (purge.RewriteAppend (record { watermark = watermark; step = step })) e e' answer
-  IsCalled RewriteRewrite (Dropped answer) e e' = IsPurge purge.RewriteRewrite e e' answer
-  IsCalled PurgeStale (Dropped answer) e e' = IsPurge purge.DropStale e e' answer
+      IsAppendRewrite watermark step e e' answer
+  IsCalled RewriteRewrite (Dropped answer) e e' = IsRewriteRewrite e e' answer
+  IsCalled PurgeStale (Dropped answer) e e' = IsStalePurge e e' answer
   IsCalled Purge (ToCompact answer) e e' = IsExpiry (2 ^ 64 - 1) e e' answer
   IsCalled _ _ e e' = ⊥

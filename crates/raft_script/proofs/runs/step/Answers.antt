@@ -111,7 +111,7 @@ returns-in-CompactTo-clause-failed g c =
     let compaction = c.compact_to.ensures in
     let e = c.args.engine.now in
     let n = c.compact_to.new.self in
-    rw c.in-CompactTo.is (compaction_fails _ _ _ (has_failed e) (has_failed n) (folders_of e) (queue_of n) (refusals_of e) (refusals_of n) c.compact_to.result compaction.contents compaction.failed (λ gone. (compaction.unchanged gone).failed) compaction.cause)
+    rw c.in-CompactTo.is (compaction_fails _ _ _ _ (has_failed e) (has_failed n) (folders_of e) (queue_of n) (refusals_of e) (refusals_of n) c.compact_to.result compaction.contents compaction.failed (λ gone. (compaction.unchanged gone).failed) compaction.cause)
 
 pub returns-in-CompactTo-clause-progress : goal.returns-in-CompactTo-clause-progress
 returns-in-CompactTo-clause-progress g c =

@@ -1,6 +1,6 @@
 use denote.Param.Send.{sendable}
 use Rattle.raft_memory.proofs.Sent.{memory_send, memory_sync}
-use Rattle.raft_base_scenarios.proofs.block_sizes.is_read_in_blocks.Goals as goal
+use Rattle.raft_file_scenarios.proofs.block_sizes.is_read_in_blocks.Goals as goal
 
 pub all_read-requires-send-F : goal.all_read-requires-send-F
 all_read-requires-send-F c = λ κs. search (sendable, memory_send) depth 20

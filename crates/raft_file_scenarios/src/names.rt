@@ -1,6 +1,5 @@
 //! The names of log files, their headers, and the zeros between records.
 
-use crate::changes::is_joined;
 use raft_files::{
     FileNameExt, LogFileFormat, build_reserved_file_name, is_zero_padded, parse_reserved_file_name,
 };
@@ -141,7 +140,7 @@ fn is_read(bytes: &[u8], format: LogFileFormat) -> Result<bool, Fault> {
 fn has_header(alloc: Global, format: LogFileFormat, numbers: &[u8]) -> Result<bool, Fault> {
     let mut bytes = Vec::new(alloc);
     format.encode(&mut bytes)?;
-    Ok(is_joined(&bytes, &[MAGIC, numbers]) && is_read(&bytes, format)?)
+    Ok(bytes.strip_prefix(MAGIC) == Some(numbers) && is_read(&bytes, format)?)
 }
 
 impl Row for Header {

@@ -5,13 +5,12 @@ ghost use Rattle.std.specs.Option.{IfSome};
 ghost use Rattle.raft_files.specs.FileRecords.{ReadsIn};
 ghost use Rattle.raft_files.specs.Writer.{bytes_at};
 
-use crate::changes::{Change, are_items};
 use raft_env::{FileSystem, FsFault};
 use raft_files::{FileRecordReader, LogFileFormat, LogFileReader};
 use raft_memory::MemoryFileSystem;
 use raft_records::{
-    Command, EntryIndex, Fault, FileBlockHandle, FileId, LogItem, LogItemBatch, LogItemContent,
-    LogQueue, Version,
+    Command, EntryIndex, Fault, FileBlockHandle, FileId, KeyValue, LogItem, LogItemBatch,
+    LogItemContent, LogQueue, Version,
 };
 use std::alloc::Global;
 use std::test::Fail;
@@ -21,6 +20,7 @@ const PATH: &str = "log";
 const EMPTY: &[u8] =
     b"\x00\x00\x00\x00\x00\x00\x15\x00\x00\x00\x00\x00\x00\x00\x00\x10\x00\x88\xef\x02\xd2";
 
+/// A put of `a` in group 7.
 const PUT: &[u8] =
     b"\x00\x00\x00\x00\x00\x00\x1c\x00\x00\x00\x00\x00\x00\x00\x00\x10\x01\x07\x03\x01\x01\x61\x01\x78\x5f\xb4\xb7\x61";
 
@@ -50,7 +50,10 @@ const COMPRESSED_BROKEN: &[u8] =
 
 /// What comes next.
 enum Found {
-    Changes(&'static [Change]),
+    /// A batch without items.
+    Empty,
+    /// The put of `PUT`.
+    Put,
     Clean,
     /// The entries of `ENTRIES`, in a block at this offset.
     Entries(u64),
@@ -82,8 +85,8 @@ static CASES: [Case; 10] = [
         alignment: 128,
         records: [EMPTY, PUT],
         steps: &[
-            Step::Read(Found::Changes(&[]), 149),
-            Step::Replay(Found::Changes(&[Change(7, b"a", Some(b"x"))]), 177),
+            Step::Read(Found::Empty, 149),
+            Step::Replay(Found::Put, 177),
             Step::Replay(Found::End, 177),
             Step::Read(Found::End, 177),
         ],
@@ -104,7 +107,7 @@ static CASES: [Case; 10] = [
         alignment: 128,
         records: [EMPTY, CUT],
         steps: &[
-            Step::Replay(Found::Changes(&[]), 149),
+            Step::Replay(Found::Empty, 149),
             Step::Replay(Found::Refused(2), 149),
             Step::Read(Found::Refused(2), 149),
         ],
@@ -124,10 +127,7 @@ static CASES: [Case; 10] = [
         seq: 5,
         alignment: 128,
         records: [CLEAN, PUT],
-        steps: &[
-            Step::Read(Found::Clean, 152),
-            Step::Read(Found::Changes(&[Change(7, b"a", Some(b"x"))]), 180),
-        ],
+        steps: &[Step::Read(Found::Clean, 152), Step::Read(Found::Put, 180)],
     },
     Case {
         name: "entries",
@@ -146,7 +146,7 @@ static CASES: [Case; 10] = [
         alignment: 128,
         records: [PUT, ENTRIES_BROKEN],
         steps: &[
-            Step::Read(Found::Changes(&[Change(7, b"a", Some(b"x"))]), 156),
+            Step::Read(Found::Put, 156),
             Step::Read(Found::Refused(2), 156),
             Step::Replay(Found::Entries(172), 190),
             Step::Replay(Found::End, 190),
@@ -160,7 +160,7 @@ static CASES: [Case; 10] = [
         steps: &[
             Step::Read(Found::Refused(2), 69),
             Step::Replay(Found::Entries(144), 162),
-            Step::Read(Found::Changes(&[Change(7, b"a", Some(b"x"))]), 190),
+            Step::Read(Found::Put, 190),
         ],
     },
     Case {
@@ -219,10 +219,20 @@ fn are_entries(content: &LogItemContent, seq: u64, offset: u64) -> bool {
     }
 }
 
-// Whether these are the items that are wanted. An item that is no change is of group 7.
+fn is_put(content: &LogItemContent) -> bool {
+    match content {
+        LogItemContent::Kv(KeyValue::Put { key, value }) => {
+            key.as_slice() == b"a".as_slice() && value.as_slice() == b"x".as_slice()
+        }
+        _ => false,
+    }
+}
+
+// Whether these are the items that are wanted, each of group 7.
 fn has_items(items: &[LogItem], seq: u64, wanted: &Found) -> bool {
     match (wanted, items) {
-        (Found::Changes(changes), _) => are_items(items, changes),
+        (Found::Empty, []) => true,
+        (Found::Put, [item]) => item.raft_group_id == 7 && is_put(&item.content),
         (Found::Clean, [item]) => {
             item.raft_group_id == 7
                 && matches!(&item.content, LogItemContent::Command(Command::Clean))

@@ -1,6 +1,6 @@
 use denote.Param.Send.{sendable}
 use Rattle.raft_memory.proofs.Sent.{memory_send, memory_sync}
-use Rattle.raft_base_scenarios.proofs.reading.records_are_read_or_refused.Goals as goal
+use Rattle.raft_file_scenarios.proofs.reading.records_are_read_or_refused.Goals as goal
 
 pub is_read-requires-send-F : goal.is_read-requires-send-F
 is_read-requires-send-F g c = λ κs. search (sendable, memory_send) depth 20

@@ -1,6 +1,6 @@
 use denote.Param.Send.{sendable}
 use Rattle.raft_memory.proofs.Sent.{memory_send, memory_sync}
-use Rattle.raft_base_scenarios.proofs.memory_files.holds.Goals as goal
+use Rattle.raft_file_scenarios.proofs.memory_files.holds.Goals as goal
 
 pub is_answered-requires-send-F : goal.is_answered-requires-send-F
 is_answered-requires-send-F c = λ κs. search (sendable, memory_send) depth 20
