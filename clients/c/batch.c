@@ -54,62 +54,65 @@ void raftlog_batch_clear(raftlog_batch *batch) { batch->len = 0, batch->count = 
 
 bool raftlog_batch_is_empty(const raftlog_batch *batch) { return batch->count == 0; }
 
-/* Makes room for an item, and before the first one for the number of them. */
-static bool reserve(raftlog_batch *batch, size_t more) {
-    if (more > SIZE_MAX / 4 || batch->len > SIZE_MAX / 4) return false;
+/* Makes room for an item, and before the first one for the number of them: where the item begins, or NULL. */
+static uint8_t *reserve(raftlog_batch *batch, size_t more) {
+    if (more > SIZE_MAX / 4 || batch->len > SIZE_MAX / 4) return NULL;
     if (batch->room < batch->len + more + 8) {
         size_t room = batch->room * 2;
         if (room < batch->len + more + 8) room = batch->len + more + 8;
         if (room < 256) room = 256;
         uint8_t *data = realloc(batch->data, room);
-        if (!data) return false;
+        if (!data) return NULL;
         batch->data = data;
         batch->room = room;
     }
-    if (batch->len == 0) batch->len = 8;
-    return true;
+    return batch->data + (batch->len ? batch->len : 8);
 }
 
-static void push_number(raftlog_batch *batch, uint64_t number) {
+/* These put something at a place of a batch, and answer the place behind it. */
+static uint8_t *put_number(uint8_t *at, uint64_t number) {
     uint64_t bytes = htobe64(number);
-    memcpy(batch->data + batch->len, &bytes, 8);
-    batch->len += 8;
+    memcpy(at, &bytes, 8);
+    return at + 8;
 }
 
-static void push_bytes(raftlog_batch *batch, const void *bytes, size_t len) {
-    if (len) memcpy(batch->data + batch->len, bytes, len);
-    batch->len += len;
+static uint8_t *put_bytes(uint8_t *at, const void *bytes, size_t len) {
+    if (len) memcpy(at, bytes, len);
+    return at + len;
 }
 
-static void push_part(raftlog_batch *batch, const void *part, size_t len) {
-    push_number(batch, len);
-    push_bytes(batch, part, len);
+static uint8_t *put_part(uint8_t *at, const void *part, size_t len) {
+    return put_bytes(put_number(at, len), part, len);
 }
 
-static void push_head(raftlog_batch *batch, uint8_t kind, uint64_t group) {
-    batch->data[batch->len++] = kind;
-    push_number(batch, group);
+static uint8_t *put_head(uint8_t *at, uint8_t kind, uint64_t group) {
+    *at = kind;
+    return put_number(at + 1, group);
+}
+
+/* Takes the item that ends at a place into the batch. */
+static int add(raftlog_batch *batch, const uint8_t *end) {
+    batch->len = (size_t)(end - batch->data);
     batch->count++;
+    return RAFTLOG_OK;
 }
 
 int raftlog_batch_put(raftlog_batch *batch, uint64_t group, const void *key, size_t key_len, const void *value,
                       size_t value_len) {
     if (!batch || (!key && key_len) || (!value && value_len)) return RAFTLOG_INVALID;
     if (key_len > SIZE_MAX / 16 || value_len > SIZE_MAX / 16) return RAFTLOG_RANGE;
-    if (!reserve(batch, 25 + key_len + value_len)) return RAFTLOG_NO_MEMORY;
-    push_head(batch, 1, group);
-    push_part(batch, key, key_len);
-    push_part(batch, value, value_len);
-    return RAFTLOG_OK;
+    uint8_t *at = reserve(batch, 25 + key_len + value_len);
+    if (!at) return RAFTLOG_NO_MEMORY;
+    at = put_part(put_head(at, 1, group), key, key_len);
+    return add(batch, put_part(at, value, value_len));
 }
 
 int raftlog_batch_delete(raftlog_batch *batch, uint64_t group, const void *key, size_t key_len) {
     if (!batch || (!key && key_len)) return RAFTLOG_INVALID;
     if (key_len > SIZE_MAX / 16) return RAFTLOG_RANGE;
-    if (!reserve(batch, 17 + key_len)) return RAFTLOG_NO_MEMORY;
-    push_head(batch, 2, group);
-    push_part(batch, key, key_len);
-    return RAFTLOG_OK;
+    uint8_t *at = reserve(batch, 17 + key_len);
+    if (!at) return RAFTLOG_NO_MEMORY;
+    return add(batch, put_part(put_head(at, 2, group), key, key_len));
 }
 
 int raftlog_batch_entries(raftlog_batch *batch, uint64_t group, const raftlog_entry *entries, size_t count) {
@@ -121,30 +124,26 @@ int raftlog_batch_entries(raftlog_batch *batch, uint64_t group, const raftlog_en
         if (entries[i].len > SIZE_MAX / 16 || size > SIZE_MAX / 16) return RAFTLOG_RANGE;
         size += 16 + entries[i].len;
     }
-    if (!reserve(batch, size)) return RAFTLOG_NO_MEMORY;
-    push_head(batch, 3, group);
-    push_number(batch, count);
+    uint8_t *at = reserve(batch, size);
+    if (!at) return RAFTLOG_NO_MEMORY;
+    at = put_number(put_head(at, 3, group), count);
     for (size_t i = 0; i < count; i++) {
-        push_number(batch, 8 + entries[i].len);
-        push_number(batch, entries[i].index);
-        push_bytes(batch, entries[i].data, entries[i].len);
+        at = put_number(put_number(at, 8 + entries[i].len), entries[i].index);
+        at = put_bytes(at, entries[i].data, entries[i].len);
     }
-    return RAFTLOG_OK;
+    return add(batch, at);
 }
 
 int raftlog_batch_clean(raftlog_batch *batch, uint64_t group) {
     if (!batch) return RAFTLOG_INVALID;
-    if (!reserve(batch, 9)) return RAFTLOG_NO_MEMORY;
-    push_head(batch, 4, group);
-    return RAFTLOG_OK;
+    uint8_t *at = reserve(batch, 9);
+    return at ? add(batch, put_head(at, 4, group)) : RAFTLOG_NO_MEMORY;
 }
 
 int raftlog_batch_compact(raftlog_batch *batch, uint64_t group, uint64_t index) {
     if (!batch) return RAFTLOG_INVALID;
-    if (!reserve(batch, 17)) return RAFTLOG_NO_MEMORY;
-    push_head(batch, 5, group);
-    push_number(batch, index);
-    return RAFTLOG_OK;
+    uint8_t *at = reserve(batch, 17);
+    return at ? add(batch, put_number(put_head(at, 5, group), index)) : RAFTLOG_NO_MEMORY;
 }
 
 /* All its bytes, which begin with the number of its items. */

@@ -1,10 +1,12 @@
 /* Synced puts by many threads, and a get beside them: `bench_threads FOLDER [WORD=NUMBER]..`. Of
  * each number of threads each store has its turn, again and again; the best turn counts, with its
- * spread. seconds=1   of a turn        turns=3      of each store       threads=0    1, 4, 16 and
- * 64 sync-us=0   a disk of our own: a sync takes so long, and nothing goes to the disk below
+ * spread.
+ *   seconds=1   of a turn        turns=3      of each store       threads=0    1, 4, 16 and 64
+ *   sync-us=0   a disk of our own: a sync takes so long, below 0 no time, and nothing goes to the disk
  *   pause-us=0  the most that a writer waits between its puts
  *   reads=0     1: the time of a get alone and beside the writers
- *   peers=1     0: this library alone */
+ *   peers=1     0: this library alone
+ *   fill=0      so many puts by one thread into each store, whose memory is told then */
 #include "raftlog.h"
 #include "stores.h"
 
@@ -16,22 +18,25 @@
 #include <string.h>
 #include <sys/prctl.h>
 #include <sys/syscall.h>
+#include <sys/wait.h>
 #include <time.h>
 #include <unistd.h>
 
 enum { MOST = 64, STORES = 5, KEYS = 1000, TIMES = 1 << 16 };
 
 static struct {
-    long seconds, turns, threads, sync_us, pause_us, reads, peers;
-} set = {1, 3, 0, 0, 0, 0, 1};
+    long seconds, turns, threads, sync_us, pause_us, reads, peers, fill;
+} set = {1, 3, 0, 0, 0, 0, 1, 0};
 
 /* ---- the calls of all stores on the disk: what stands here goes before libc's */
 
 static _Atomic uint64_t syncs;
+bool is_unsynced;
 
 static int sync_by(long call, int fd) {
     atomic_fetch_add(&syncs, 1);
     if (!set.sync_us) return (int)syscall(call, fd);
+    if (is_unsynced) return 0;
     static _Thread_local bool is_exact;
     if (!is_exact) is_exact = !prctl(PR_SET_TIMERSLACK, 1);
     struct timespec time = {0, set.sync_us * 1000};
@@ -194,6 +199,47 @@ static struct result turn(const struct store *store, const char *folder, long th
     return result;
 }
 
+/* ---- memory */
+
+/* A line of the system's about this process, in MB. */
+static long held_mb(const char *word) {
+    char line[200];
+    long held = 0;
+    FILE *file = fopen("/proc/self/status", "r");
+    while (file && fgets(line, sizeof line, file))
+        if (!strncmp(line, word, strlen(word))) held = atol(line + strlen(word)) / 1024;
+    if (file) fclose(file);
+    return held;
+}
+
+/* In a process of its own, so that nothing of another store's is counted. */
+static void fill_one(const struct store *store, const char *folder) {
+    uint8_t key[KEY], value[VALUE] = {7};
+    pid_t child = fork();
+    if (child) {
+        waitpid(child, NULL, 0);
+        return;
+    }
+    void *log = store->open(folder);
+    for (long i = 0; log && i < set.fill; i++) {
+        key_of((uint64_t)i, key);
+        memcpy(value, key, KEY);
+        if (store->put(log, (uint64_t)i % MOST, key, value)) puts("a put failed"), exit(1);
+    }
+    printf("%-8s own %ld MB, files' %ld MB\n", store->name, held_mb("RssAnon:"), held_mb("RssFile:"));
+    store->close(log);
+    exit(0);
+}
+
+static void fill(const struct store **stores, const char *folder) {
+    char command[400];
+    snprintf(command, sizeof command, "du -sm '%s'; rm -rf '%s'", folder, folder);
+    for (int s = 0; stores[s]; s++) {
+        fill_one(stores[s], folder);
+        if (system(command)) exit(1);
+    }
+}
+
 /* ---- all of them */
 
 static void compare(const struct store **stores, const char *folder, long threads) {
@@ -221,7 +267,7 @@ static bool parse(int argc, char **argv) {
     } words[] = {{"seconds=", &set.seconds},   {"turns=", &set.turns},
                  {"threads=", &set.threads},   {"sync-us=", &set.sync_us},
                  {"pause-us=", &set.pause_us}, {"reads=", &set.reads},
-                 {"peers=", &set.peers}};
+                 {"peers=", &set.peers},       {"fill=", &set.fill}};
     for (int i = 2; i < argc; i++) {
         bool is_known = false;
         for (size_t w = 0; w < sizeof words / sizeof *words; w++) {
@@ -242,16 +288,18 @@ int main(int argc, char **argv) {
                      stderr),
                2;
     const struct store *stores[STORES] = {&own};
+    is_unsynced = set.sync_us < 0;
     setvbuf(stdout, NULL, _IOLBF, 0);
     for (int s = 0; set.peers && peers[s].name; s++) {
         /* It syncs by a flag of a file too, which a disk of our own doesn't slow. */
-        if (set.sync_us && !strcmp(peers[s].name, "LMDB")) continue;
+        if (set.sync_us > 0 && !strcmp(peers[s].name, "LMDB")) continue;
         for (int at = 1; at < STORES; at++)
             if (!stores[at]) {
                 stores[at] = &peers[s];
                 break;
             }
     }
+    if (set.fill) return fill(stores, argv[1]), 0;
     printf("threads store       puts/s     least   syncs/s puts/sync  %s\n",
            set.reads ? "get: middle, slowest 1% us" : "put: middle, slowest 1% us");
     if (set.reads) compare(stores, argv[1], 0);

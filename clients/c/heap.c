@@ -99,6 +99,13 @@ static struct block *block_at(const void *at) {
     return &blocks[(size_t)((const uint8_t *)at - arena) / HEAP_SLOT];
 }
 
+/* Of an address anywhere in it. */
+static struct block *block_around(const void *at) {
+    struct block *block = block_at(at);
+    while (block > blocks && block->slots == LATER) block--;
+    return block;
+}
+
 static bool is_block(const struct block *block) { return block->slots && block->slots != LATER; }
 
 /* The first of so many free slots side by side, or `slot_count`. With `slots_lock` held. */
@@ -379,6 +386,7 @@ static void make_up(struct heap_file *file, size_t len) {
 
 void heap_end(struct heap *heap) {
     drop_rest(heap);
+    if (heap->at_random) heap_expect_reads(heap, false);
     heap->id = 0;
 }
 
@@ -482,8 +490,7 @@ void heap_loaded(struct heap *heap, int fd, uint8_t *mapped, size_t len) {
 
 bool heap_lose_page(void *at) {
     if (!is_large(at)) return false;
-    struct block *block = block_at(at);
-    while (block > blocks && block->slots == LATER) block--;
+    struct block *block = block_around(at);
     uint8_t *lost = (uint8_t *)((uintptr_t)at & ~(uintptr_t)(page - 1));
     if (!block->slots || (size_t)(lost - start_of(block)) >= block->backed) return false;
     block->is_lost = true;
@@ -498,12 +505,56 @@ bool heap_opening_lost(struct heap *heap) {
     return block;
 }
 
+/* ---- copies of what may be on the disk alone */
+
+/* Asks for the pages of these bytes that have a file behind them, where they are several. Who copies
+ * is let in by the block's log. */
+static void ask_for(const uint8_t *bytes, size_t len) {
+    const struct block *block = block_around(bytes);
+    uint8_t *start = start_of(block);
+    size_t from = (size_t)(bytes - start), at = whole_pages(from);
+    size_t end = least(pages_to(from + len), block->backed);
+    if (end > at + page) madvise(start + at, end - at, MADV_WILLNEED);
+}
+
+static void *copy_asked(void *to, const void *from, size_t len) {
+    if (is_large(from)) ask_for(from, len);
+    return memcpy(to, from, len);
+}
+
+static void *move_asked(void *to, const void *from, size_t len) {
+    if (is_large(from)) ask_for(from, len);
+    return memmove(to, from, len);
+}
+
+typedef void *copy_call(void *, const void *, size_t);
+static _Atomic(copy_call *) copy = memcpy, move = memmove;
+
+/* Counts the logs whose reads are expected at random. While there is one, all logs' copies are asked for. */
+static void count_random(int more) {
+    static int count;
+    pthread_mutex_lock(&slots_lock);
+    count += more;
+    atomic_store(&copy, count ? copy_asked : memcpy);
+    atomic_store(&move, count ? move_asked : memmove);
+    pthread_mutex_unlock(&slots_lock);
+}
+
+void *heap_copy(void *to, const void *from, size_t len) {
+    return atomic_load_explicit(&copy, memory_order_relaxed)(to, from, len);
+}
+
+void *heap_move(void *to, const void *from, size_t len) {
+    return atomic_load_explicit(&move, memory_order_relaxed)(to, from, len);
+}
+
 /* ---- settings, figures, tests */
 
 void heap_expect_reads(struct heap *heap, bool at_random) {
     if (!heap->id) return;
     int advice = at_random ? MADV_RANDOM : MADV_NORMAL;
     keep_out(heap);
+    count_random(at_random - heap->at_random);
     heap->at_random = at_random;
     struct block *block = next_block(heap, blocks);
     for (; block; block = next_block(heap, block + 1))

@@ -86,6 +86,10 @@ bool heap_opening_lost(struct heap *heap);
 /* ---- settings, figures, tests */
 
 void heap_expect_reads(struct heap *heap, bool at_random);
+/* As memcpy and memmove, and the proved part copies by them. Where reads are expected at random they first ask the
+ * system for all pages of the copy at once: else each that isn't in memory is a read of the disk by itself. */
+void *heap_copy(void *to, const void *from, size_t len);
+void *heap_move(void *to, const void *from, size_t len);
 /* Of all logs: blocks that can have a file behind them, their bytes, and how many of these do. */
 void heap_stat(size_t *blocks, size_t *bytes, size_t *backed);
 /* Takes all pages back that have a file behind them, as the system may at any moment. */

@@ -14,6 +14,7 @@ enum { LOGS = 3 };
 #include <stdlib.h>
 #include <string.h>
 #include <sys/mman.h>
+#include <sys/resource.h>
 #include <unistd.h>
 
 enum { FILES = 6, MOST = 1 << 20, PATH_ROOM = 300 };
@@ -304,6 +305,48 @@ static void stay_apart(const char *folder) {
     close(fd);
 }
 
+static long major_faults(void) {
+    struct rusage usage;
+    need(!getrusage(RUSAGE_SELF, &usage), "getrusage");
+    return usage.ru_majflt;
+}
+
+/* How many reads of the disk copies of five pages each wait for, after all were taken back. */
+static long cold_copies(const uint8_t *block, void *copy(void *, const void *, size_t)) {
+    static uint8_t bytes[4 * 4096];
+    long before = major_faults();
+    heap_page_out();
+    for (size_t at = 100; at + sizeof bytes < MOST; at += 3 * sizeof bytes) {
+        copy(bytes, block + at, sizeof bytes);
+        for (size_t i = 0; i < sizeof bytes; i++)
+            need(bytes[i] == (uint8_t)((at + i) / 99), "a copy reads otherwise");
+    }
+    return major_faults() - before;
+}
+
+/* Where reads are expected at random, a cold copy of several pages is one read of the disk. On a file
+ * system in memory none is. */
+static void copy_cold_bytes(const char *folder) {
+    struct heap heap;
+    char path[PATH_ROOM];
+    snprintf(path, PATH_ROOM, "%s/cold", folder);
+    int fd = open(path, O_RDWR | O_CREAT, 0600);
+    heap_begin(&heap, NULL);
+    heap_enter(&heap);
+    uint8_t *block = heap_alloc(MOST);
+    heap_leave();
+    for (size_t i = 0; i < MOST; i++) block[i] = (uint8_t)(i / 99);
+    need(pwrite(fd, block, MOST, 0) == MOST && !fsync(fd), "pwrite");
+    load_file(&heap, fd, MOST);
+    close(fd);
+    heap_expect_reads(&heap, true);
+    long plain = cold_copies(block, memmove), asked = cold_copies(block, heap_copy);
+    printf("cold copies: %ld reads, plain %ld; ", asked, plain);
+    need(2 * asked <= plain, "a cold copy is read by pages");
+    heap_free(block);
+    heap_end(&heap);
+}
+
 /* What only a program that has the heap in it can ask of it. */
 static void look_at_heap(const char *folder) {
     size_t count, bytes, backed;
@@ -312,6 +355,7 @@ static void look_at_heap(const char *folder) {
     printf("%zu large blocks of %zu KB, %zu KB have a file behind them; ", count, bytes >> 10,
            backed >> 10);
     stay_apart(folder);
+    copy_cold_bytes(folder);
 }
 #else
 static void look_at_heap(const char *folder) { (void)folder; }

@@ -1,8 +1,9 @@
 /* A log larger than memory: `large FOLDER WORDS`. Pages that have a file behind them are taken
  * back TAKE_BACK times a second, if that is set. The words are
- * - write COUNT SYNC_EACH: batches of four entries of 1,000 bytes, in turn to 100 groups;
- * - read COUNT [random]: entries in no order, cold, beside bare preads; then all in order;
- * - purge KEEP: all but so many entries of each group go. */
+ * - write COUNT SYNC_EACH: batches of four entries, in turn to 100 groups;
+ * - read COUNT [random]: entries in no order, cold, beside bare preads; then all in order, compared;
+ * - purge KEEP: all but so many entries of each group go.
+ * SIZE: bytes of an entry, 1000 where it isn't set. */
 #include "heap.h"
 #include "raftlog.h"
 
@@ -14,9 +15,13 @@
 #include <time.h>
 #include <unistd.h>
 
-enum { GROUPS = 100, PER_BATCH = 4, SIZE = 1000, BLOCK = PER_BATCH * (SIZE + 8), FILES = 1024 };
+enum { GROUPS = 100, PER_BATCH = 4, MOST_SIZE = 1 << 16, FILES = 1024 };
 
 static double begun;
+static size_t size = 1000;
+
+/* What an entries block takes in a file. */
+static size_t block_size(void) { return PER_BATCH * (size + 8) + 4; }
 
 static double now(void) {
     struct timespec time;
@@ -69,6 +74,33 @@ static uint64_t random_below(uint64_t bound) {
     return (state >> 20) % bound;
 }
 
+/* ---- what is written */
+
+static uint8_t some[2 * MOST_SIZE];
+
+static void fill_some(void) {
+    for (size_t i = 0; i < sizeof some; i++) some[i] = (uint8_t)random_below(256);
+}
+
+static const uint8_t *rest_of(uint64_t group, uint64_t index) {
+    return some + (group * 1009 + index * 31) % MOST_SIZE;
+}
+
+/* The value of an entry: its group, its index, and bytes that depend on both. */
+static void make_value(uint8_t *value, uint64_t group, uint64_t index) {
+    memcpy(value, &group, 8);
+    memcpy(value + 8, &index, 8);
+    memcpy(value + 16, rest_of(group, index), size - 16);
+}
+
+static void compare(uint64_t group, const raftlog_entry *entry) {
+    static uint8_t value[MOST_SIZE];
+    make_value(value, group, entry->index);
+    if (entry->len == size && !memcmp(entry->data, value, size)) return;
+    printf("WRONG: entry %lu of group %lu\n", (unsigned long)entry->index, (unsigned long)group);
+    exit(1);
+}
+
 /* ---- the log files themselves */
 
 static int log_files[FILES], log_file_count;
@@ -80,10 +112,10 @@ static void open_files(const char *folder) {
         char path[1000];
         snprintf(path, sizeof path, "%s/%s", folder, entry->d_name);
         int fd = strstr(entry->d_name, ".raftlog") ? open(path, O_RDONLY) : -1;
-        off_t size = fd < 0 ? 0 : lseek(fd, 0, SEEK_END);
-        if (size < 2 * BLOCK) continue;
+        off_t end = fd < 0 ? 0 : lseek(fd, 0, SEEK_END);
+        if (end < 2 * (off_t)block_size()) continue;
         log_files[log_file_count] = fd;
-        log_file_sizes[log_file_count++] = size;
+        log_file_sizes[log_file_count++] = end;
     }
     if (dir) closedir(dir);
 }
@@ -98,16 +130,17 @@ static void make_cold(void) {
 /* ---- what is measured */
 
 static void write_batches(raftlog *log, uint64_t count, uint64_t sync_each) {
-    uint8_t value[SIZE];
+    static uint8_t values[PER_BATCH][MOST_SIZE];
     double longest = 0;
     raftlog_batch *batch = raftlog_batch_new();
-    for (uint64_t i = 0; i < SIZE; i++) value[i] = (uint8_t)random_below(256);
     for (uint64_t i = 0; i < count; i++) {
         uint64_t group = 1 + i % GROUPS, last = 0;
         raftlog_entry entries[PER_BATCH];
         if (raftlog_last_index(log, group, &last)) last = 0;
-        for (uint64_t k = 0; k < PER_BATCH; k++)
-            entries[k] = (raftlog_entry){last + 1 + k, value, SIZE};
+        for (uint64_t k = 0; k < PER_BATCH; k++) {
+            make_value(values[k], group, last + 1 + k);
+            entries[k] = (raftlog_entry){last + 1 + k, values[k], size};
+        }
         need(raftlog_batch_entries(batch, group, entries, PER_BATCH), "batch");
         double from = now();
         need(raftlog_write(log, batch, sync_each && i % sync_each == 0), "write");
@@ -129,24 +162,45 @@ static double read_one(raftlog *log, raftlog_bytes *bytes) {
 }
 
 static double read_bare(void) {
-    static uint8_t bytes[BLOCK];
+    static uint8_t bytes[PER_BATCH * (MOST_SIZE + 8) + 4];
+    size_t len = block_size();
     int i = (int)random_below((uint64_t)log_file_count);
-    off_t at = (off_t)random_below((uint64_t)(log_file_sizes[i] - BLOCK));
+    off_t at = (off_t)random_below((uint64_t)log_file_sizes[i] - len);
     double from = now();
-    if (pread(log_files[i], bytes, BLOCK, at) != BLOCK) need(RAFTLOG_IO, "pread");
+    if (pread(log_files[i], bytes, len, at) != (ssize_t)len) need(RAFTLOG_IO, "pread");
     return now() - from;
 }
 
+static int by_size(const void *one, const void *other) {
+    double x = *(const double *)one, y = *(const double *)other;
+    return x < y ? -1 : x > y;
+}
+
+static double middle_of(double *took, uint64_t count) {
+    qsort(took, count, sizeof *took, by_size);
+    return took[count / 2] * 1e6;
+}
+
+/* Which of the two is first changes in turn. */
 static void read_at_random(raftlog *log, uint64_t count) {
     raftlog_bytes bytes = {0};
-    double took = 0, bare = 0;
+    double all = 0, all_bare = 0;
+    double *took = calloc(count, sizeof *took), *bare = calloc(count, sizeof *bare);
     for (uint64_t i = 0; i < count; i++) {
         if (i % 32 == 0) make_cold();
-        took += read_one(log, &bytes);
-        bare += read_bare();
+        if (i % 2) bare[i] = read_bare();
+        all += took[i] = read_one(log, &bytes);
+        if (i % 2 == 0) bare[i] = read_bare();
+        all_bare += bare[i];
     }
-    printf("a cold entry: %.1f us; a bare pread of a block: %.1f us; %.2f times\n",
-           took * 1e6 / (double)count, bare * 1e6 / (double)count, took / bare);
+    double each = all * 1e6 / (double)count, each_bare = all_bare * 1e6 / (double)count;
+    printf("a cold entry: %.1f us; a bare pread of a block: %.1f us; %.2f times\n", each,
+           each_bare, each / each_bare);
+    double middle = middle_of(took, count), middle_bare = middle_of(bare, count);
+    printf("the middle ones: %.1f us; %.1f us; %.2f times\n", middle, middle_bare,
+           middle / middle_bare);
+    free(took);
+    free(bare);
     raftlog_bytes_free(&bytes);
     tell("read at random", (double)count);
 }
@@ -160,10 +214,13 @@ static void read_in_order(raftlog *log) {
         for (uint64_t at = first; at <= last; at += 100) {
             uint64_t end = at + 100 < last + 1 ? at + 100 : last + 1;
             need(raftlog_fetch_entries(log, group, at, end, 0, &bytes), "fetch");
-            count += end - at;
+            raftlog_entry entry;
+            for (size_t next = 0; raftlog_next_entry(&bytes, &next, &entry); count++)
+                compare(group, &entry);
         }
     }
     raftlog_bytes_free(&bytes);
+    printf("entries that are right: %lu\n", (unsigned long)count);
     tell("fetched in order, each entry", (double)count);
 }
 
@@ -187,6 +244,9 @@ int main(int argc, char **argv) {
     const char *times = getenv("TAKE_BACK"), *what = argv[2];
     long each = times ? atol(times) : 0;
     uint64_t count = strtoull(argv[3], NULL, 10);
+    if (getenv("SIZE")) size = strtoull(getenv("SIZE"), NULL, 10);
+    if (size < 16 || size > MOST_SIZE) return 2;
+    fill_some();
     if (each > 0 && pthread_create(&thread, NULL, take_back, &each)) return 1;
     begun = now();
     int code = raftlog_open(argv[1], NULL, &log, text, sizeof text);

@@ -234,9 +234,7 @@ static int obey_one(raftlog *log, const uint8_t *at, size_t left, size_t *len) {
     return error;
 }
 
-/* Carries out the orders that were given since the last time, up to the first that fails. */
-int parts_obey(raftlog *log) {
-    if (log->orders < 0) return 0;
+int parts_obey_file(raftlog *log) {
     off_t end = lseek(log->orders, 0, SEEK_CUR);
     int error = heap_opening_lost(&log->heap) ? EIO : 0;
     if (error) break_at(log, "reading", "a log file again", error);

@@ -56,25 +56,38 @@ enum parts_kind {
     PARTS_CLOSE
 };
 
+/* Groups and the numbers beside them, by which a batch acts once. */
+struct parts_numbers {
+    const uint64_t *groups, *numbers;
+    size_t count;
+};
+
 /* A change, with its place in the queue. It is its caller's, and stands still until it is
- * answered. */
+ * answered. It is made for each call, so it is small. */
 struct parts_change {
     enum parts_kind kind;
+    atomic_int state; /* its place in the queue, between these two */
+    struct parts_change *older, *newer;
     bool sync;
-    const uint8_t *bytes; /* of a batch */
-    size_t len;
-    const uint64_t *groups, *numbers; /* of a batch that acts once */
-    size_t count;
-    uint64_t group, index;
-    /* its answer */
-    int code;
+    int code; /* its answer */
+    union {
+        struct { /* of the first two kinds */
+            const uint8_t *bytes;
+            size_t len;
+            const struct parts_numbers *once;
+        };
+        struct { /* of a compaction */
+            uint64_t group, index;
+        };
+    };
     char *text; /* of a failure, where there was memory for it; the caller frees it */
     uint64_t found;
     raftlog_bytes *answer; /* NULL where a number or nothing is answered */
-    /* its place */
-    struct parts_change *older, *newer;
-    atomic_int state;
 };
+
+static inline bool parts_is_batch(const struct parts_change *change) {
+    return change->kind <= PARTS_WRITE_ONCE;
+}
 
 /* Groups have places in a table of this many: those of one place wait for one another. */
 enum { PARTS_PLACES = 4096 };
@@ -87,12 +100,10 @@ enum { PARTS_CLOSING = 1 << 30 };
 struct raftlog {
     _Atomic(struct parts_change *) newest; /* that waits or is carried out; NULL: none is */
     _Atomic uint64_t done;                 /* rounds that are over */
-    atomic_uint over;                      /* changes whenever one is */
-    atomic_int waiting;                    /* reads that wait for that */
     atomic_int reading;                    /* reads that have begun, and PARTS_CLOSING */
     _Atomic uint64_t lost;                 /* the round whose orders failed; none: UINT64_MAX */
     struct parts_counts {
-        _Atomic uint64_t rounds, changes, synced_changes, largest_round, syncs, bytes, sync_ns;
+        _Atomic uint64_t changes, synced_changes, largest_round, syncs, bytes, sync_ns;
     } counts;
     pthread_mutex_t lock;
     raft_c_handle handle; /* of a log, from its opening to its close */
@@ -137,7 +148,8 @@ int parts_make_folders(const char *path);
 
 /* Carries out the orders that were given since the last time, up to the first that fails, which
  * `broken` then tells: 0, or an error. */
-int parts_obey(raftlog *log);
+int parts_obey_file(raftlog *log);
+static inline int parts_obey(raftlog *log) { return log->orders < 0 ? 0 : parts_obey_file(log); }
 void parts_let_file_go(raftlog *log);
 
 /* Keeps why nothing is changed any more, if nothing was kept before. */

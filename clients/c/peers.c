@@ -77,7 +77,7 @@ static void *lmdb_open_at(const char *folder) {
     MDB_txn *txn = NULL;
     mkdir(folder, 0777);
     if (mdb_env_create(&env) || mdb_env_set_mapsize(env, (size_t)4 << 30)
-        || mdb_env_open(env, folder, 0, 0666))
+        || mdb_env_open(env, folder, is_unsynced ? MDB_NOSYNC : 0, 0666))
         return NULL;
     if (mdb_txn_begin(env, NULL, 0, &txn) || mdb_dbi_open(txn, NULL, MDB_CREATE, &keys)
         || mdb_txn_commit(txn))

@@ -139,7 +139,7 @@ int raftlog_stats(raftlog *log, raftlog_counts *counts) {
     counts->synced_changes = log->counts.synced_changes;
     counts->largest_round = log->counts.largest_round;
     counts->changes = log->counts.changes;
-    counts->rounds = log->counts.rounds;
+    counts->rounds = log->done;
     counts->syncs = log->counts.syncs;
     counts->bytes = log->counts.bytes;
     parts_end_read(log);
@@ -171,13 +171,12 @@ int raftlog_write_once_bytes(raftlog *log, const void *bytes, size_t len, const 
                              const uint64_t *numbers, size_t count, bool sync) {
     bool lacks = is_lacking(bytes, len) || is_lacking(groups, count) || is_lacking(numbers, count);
     if (!log || lacks) return refuse(log, RAFTLOG_INVALID);
+    struct parts_numbers once = {groups, numbers, count};
     struct parts_change write = {.kind = PARTS_WRITE_ONCE,
                                  .bytes = parts_some(bytes),
                                  .len = len,
                                  .sync = sync,
-                                 .groups = groups,
-                                 .numbers = numbers,
-                                 .count = count};
+                                 .once = &once};
     return change(log, &write);
 }
 

@@ -25,6 +25,11 @@ static void sleep_while(void *at, int value) {
     syscall(SYS_futex, at, FUTEX_WAIT_PRIVATE, value, NULL);
 }
 
+/* The half of a number that changes with each one, for those who wait for the next. */
+static void *low_half(_Atomic uint64_t *number) {
+    return (uint32_t *)number + (htobe64(1) == 1);
+}
+
 static void tell(struct parts_change *change, int state) {
     atomic_store_explicit(&change->state, state, memory_order_release);
     wake(&change->state, 1);
@@ -66,6 +71,7 @@ static void touch_batch(raftlog *log, const uint8_t *at, size_t left) {
     for (at += 8, left -= 8; count && left >= 9; count--) {
         uint8_t kind = *at;
         touch(log, parts_number(at + 1));
+        if (count == 1) return;
         at += 9, left -= 9;
         uint64_t parts = kind == 1 ? 2 : kind == 2 ? 1 : 0;
         if (kind == 3 || kind == 5) {
@@ -78,9 +84,11 @@ static void touch_batch(raftlog *log, const uint8_t *at, size_t left) {
 }
 
 static void touch_all(raftlog *log, const struct parts_change *change) {
-    if (change->bytes) touch_batch(log, change->bytes, change->len);
-    for (size_t i = 0; i < change->count; i++) touch(log, change->groups[i]);
     if (change->kind == PARTS_COMPACT_TO) touch(log, change->group);
+    if (!parts_is_batch(change)) return;
+    touch_batch(log, change->bytes, change->len);
+    const struct parts_numbers *once = change->once;
+    for (size_t i = 0; once && i < once->count; i++) touch(log, once->groups[i]);
 }
 
 /* ---- a round */
@@ -93,16 +101,19 @@ static struct parts_change *after(const struct round *round, const struct parts_
     return change == round->last ? NULL : change->newer;
 }
 
-static void call(raft_c_handle *handle, const struct parts_change *change, bool sync) {
+static void write_once(raft_c_handle *handle, const struct parts_change *change, bool sync) {
     static const uint64_t no_number[1];
-    const uint64_t *groups = change->count ? change->groups : no_number;
-    const uint64_t *numbers = change->count ? change->numbers : no_number;
+    const struct parts_numbers *once = change->once;
+    const uint64_t *groups = once->count ? once->groups : no_number;
+    const uint64_t *numbers = once->count ? once->numbers : no_number;
+    raft_c_write_once(handle, change->bytes, change->len, groups, once->count, numbers, once->count,
+                      sync);
+}
+
+static void call(raft_c_handle *handle, const struct parts_change *change, bool sync) {
     switch (change->kind) {
     case PARTS_WRITE: raft_c_write(handle, change->bytes, change->len, sync); break;
-    case PARTS_WRITE_ONCE:
-        raft_c_write_once(handle, change->bytes, change->len, groups, change->count, numbers,
-                          change->count, sync);
-        break;
+    case PARTS_WRITE_ONCE: write_once(handle, change, sync); break;
     case PARTS_SYNC: raft_c_sync(handle); break;
     case PARTS_COMPACT_TO: raft_c_compact_to(handle, change->group, change->index); break;
     case PARTS_REWRITE_APPEND: raft_c_must_rewrite_append_queue(handle); break;
@@ -154,7 +165,7 @@ static void give_up(raftlog *log, const struct round *round) {
 }
 
 /* Carries the orders of a round out: whether they all were. */
-static bool obey(raftlog *log, bool syncs) {
+static inline bool obey(raftlog *log, bool syncs) {
     if (!syncs) return !parts_obey(log);
     uint64_t began = now_ns();
     bool is_done = !parts_obey(log);
@@ -182,16 +193,16 @@ static void carry_out_many(raftlog *log, const struct round *round) {
     if ((syncs && !sync_round(log)) || !obey(log, syncs)) give_up(log, round);
 }
 
-static void carry_out(raftlog *log, const struct round *round) {
+static inline void carry_out(raftlog *log, const struct round *round) {
+    struct parts_change *first = round->first;
     if (*log->broken) {
-        for (struct parts_change *at = round->first; at; at = after(round, at))
+        for (struct parts_change *at = first; at; at = after(round, at))
             fail(at, RAFTLOG_FAILED, log->broken);
-    } else if (round->first != round->last) {
-        carry_out_many(log, round);
+    } else if (first == round->last) {
+        hand_over(log, first, first->sync);
+        if (!obey(log, first->sync && !first->code)) give_up(log, round);
     } else {
-        struct parts_change *single = round->first;
-        hand_over(log, single, single->sync);
-        if (!obey(log, single->sync && !single->code)) give_up(log, round);
+        carry_out_many(log, round);
     }
 }
 
@@ -202,7 +213,6 @@ static void count(raftlog *log, const struct round *round) {
         changes++;
         synced += at->sync && !at->code;
     }
-    parts_add(&counts->rounds, 1);
     parts_add(&counts->changes, changes);
     if (synced) parts_add(&counts->synced_changes, synced);
     uint64_t largest = atomic_load_explicit(&counts->largest_round, memory_order_relaxed);
@@ -231,26 +241,38 @@ static bool is_alone(const struct parts_change *change) {
     return change->kind >= PARTS_REWRITE_APPEND;
 }
 
-static struct round take(raftlog *log, struct parts_change *first) {
-    struct parts_change *newest = atomic_load(&log->newest);
+static size_t size_of(const struct parts_change *change) {
+    return parts_is_batch(change) ? change->len : 0;
+}
+
+/* The first of those that wait, and as many behind it as a round has. Where nobody led when the first
+ * came, it is the only one. */
+static inline struct round take(raftlog *log, struct parts_change *first) {
     struct round round = {first, first};
-    size_t changes = 1, bytes = first->len;
+    if (!first->older) return round;
+    struct parts_change *newest = atomic_load(&log->newest);
+    size_t changes = 1, bytes = size_of(first);
     link_newer(newest, first);
     while (round.last != newest && !is_alone(first) && !is_alone(round.last->newer)
            && changes < RAFTLOG_ROUND_CHANGES
-           && bytes + round.last->newer->len <= RAFTLOG_ROUND_BYTES) {
+           && bytes + size_of(round.last->newer) <= RAFTLOG_ROUND_BYTES) {
         round.last = round.last->newer;
-        bytes += round.last->len;
+        bytes += size_of(round.last);
         changes++;
     }
     return round;
 }
 
-/* Says that a round is over. */
-static void end_round(raftlog *log) {
-    parts_add(&log->done, 1);
-    atomic_fetch_add(&log->over, 1);
-    if (atomic_load(&log->waiting)) wake(&log->over, INT_MAX);
+/* Those of all logs that wait until a round is over. */
+static atomic_int waiting_reads;
+
+/* Wakes the reads that wait for a round of this number, after it was counted and the lead was given
+ * up, which on x86-64 is a fence between the two. The log may be freed by now, if no read waits. */
+static void wake_reads(_Atomic uint64_t *done) {
+#ifndef __x86_64__
+    atomic_thread_fence(memory_order_seq_cst);
+#endif
+    if (atomic_load(&waiting_reads)) wake(low_half(done), INT_MAX);
 }
 
 /* The change that leads next, or NULL where none waits. The leader looks at the log no more. */
@@ -275,14 +297,15 @@ static void lead(raftlog *log, struct parts_change *mine) {
     struct round round = take(log, mine);
     carry_out(log, &round);
     count(log, &round);
-    end_round(log);
+    parts_add(&log->done, 1);
     struct parts_change *next = next_leader(log, round.last);
+    wake_reads(&log->done);
     answer(&round);
     if (next) tell(next, LEADS);
 }
 
 /* Waits for the lead: false where another leader answered. */
-static bool comes_to_lead(raftlog *log, struct parts_change *mine) {
+static inline bool comes_to_lead(raftlog *log, struct parts_change *mine) {
     struct parts_change *older = put_in_queue(log, mine);
     if (older == &closed) return fail(mine, RAFTLOG_FAILED, "the log is closed"), false;
     return !older || await(mine) == LEADS;
@@ -306,14 +329,12 @@ bool parts_begin_read(raftlog *log) {
 }
 
 bool parts_wait_for(raftlog *log, uint64_t round) {
-    if (atomic_load(&log->done) < round) {
-        atomic_fetch_add(&log->waiting, 1);
-        for (;;) {
-            unsigned seen = atomic_load(&log->over);
-            if (atomic_load(&log->done) >= round) break;
-            sleep_while(&log->over, (int)seen);
-        }
-        atomic_fetch_sub(&log->waiting, 1);
+    uint64_t done = atomic_load(&log->done);
+    if (done < round) {
+        atomic_fetch_add(&waiting_reads, 1);
+        while ((done = atomic_load(&log->done)) < round)
+            sleep_while(low_half(&log->done), (int)(uint32_t)done);
+        atomic_fetch_sub(&waiting_reads, 1);
     }
     return round < atomic_load(&log->lost);
 }

@@ -2,6 +2,7 @@
 #ifndef STORES_H
 #define STORES_H
 
+#include <stdbool.h>
 #include <stddef.h>
 #include <stdint.h>
 
@@ -17,6 +18,9 @@ struct store {
 };
 
 enum { KEY = 16, VALUE = 100 };
+
+/* No sync takes any time. */
+extern bool is_unsynced;
 
 /* The peers that this machine has, ended by one without a name. */
 extern const struct store peers[];

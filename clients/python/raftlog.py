@@ -198,8 +198,8 @@ class Engine:
         return stats
 
     def expect_reads(self, at_random):
-        """How entries will be read that are no longer in memory: in order, the default, with some 128 KB ahead; or at
-        random, and no more than is asked for."""
+        """How entries will be read that are no longer in memory: in order, the default, with as much ahead as the disk's
+        read_ahead_kb says; or at random, no more than is asked for, in one read."""
         self._call("expect_reads", at_random)
 
     def get(self, group, key):

@@ -42,8 +42,8 @@ func SurviveBusErrors() error {
 	return nil
 }
 
-// ExpectReads says how entries will be read that are no longer in memory: in order, the default, with some
-// 128 KB ahead; or at random, and no more than is asked for.
+// ExpectReads says how entries will be read that are no longer in memory: in order, the default, with as much
+// ahead as the disk's read_ahead_kb says; or at random, no more than is asked for, in one read.
 func (e *Engine) ExpectReads(atRandom bool) error {
 	c, _, err := e.do(func(log *C.raftlog, c *call) C.int {
 		return C.raftlog_expect_reads(log, C.bool(atRandom))

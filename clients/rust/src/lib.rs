@@ -426,8 +426,8 @@ impl Engine {
         })
     }
 
-    /// How entries will be read that are no longer in memory: in order, the default, with some 128 KB ahead; or at random,
-    /// and no more than is asked for.
+    /// How entries will be read that are no longer in memory: in order, the default, with as much ahead as the disk's
+    /// `read_ahead_kb` says; or at random, no more than is asked for, in one read.
     pub fn expect_reads(&self, at_random: bool) -> Result<()> {
         self.done(unsafe { sys::raftlog_expect_reads(self.log, at_random) })
     }
