@@ -21,6 +21,10 @@ const MAIN_2: Stored = ("data", "data/0000000000000002.raftlog", &[HEADER, PUT_2
 
 const MAIN_3: Stored = ("data", "data/0000000000000003.raftlog", &[HEADER]);
 
+const MAIN_4: Stored = ("data", "data/0000000000000004.raftlog", &[HEADER]);
+
+const MAIN_5: Stored = ("data", "data/0000000000000005.raftlog", &[HEADER]);
+
 const MAIN_11: Stored = ("data", "data/0000000000000011.raftlog", &[HEADER]);
 
 const MAIN_12: Stored = ("data", "data/0000000000000012.raftlog", &[HEADER]);
@@ -33,6 +37,10 @@ const SPILL_2: Stored = (
     &[HEADER, PUT_2, b"\x07"],
 );
 
+const SPILL_5: Stored = ("more", "more/0000000000000005.raftlog", &[HEADER]);
+
+const SPILL_6: Stored = ("more", "more/0000000000000006.raftlog", &[HEADER]);
+
 const SPILL_REWRITE_2: Stored = ("more", "more/0000000000000002.rewrite", &[HEADER]);
 
 /// Files, and those of the Append queue that a recovery keeps, each with whether its number stands in one folder alone.
@@ -42,7 +50,7 @@ struct Scan {
     kept: &'static [(&'static str, bool)],
 }
 
-static SCANS: [Scan; 9] = [
+static SCANS: [Scan; 10] = [
     Scan {
         name: "no files",
         stored: &[],
@@ -84,6 +92,14 @@ static SCANS: [Scan; 9] = [
         name: "a doubled number before a hole",
         stored: &[MAIN_1, SPILL_1, MAIN_3],
         kept: &[("data/0000000000000003.raftlog", true)],
+    },
+    Scan {
+        name: "a doubled number inside a run over both folders",
+        stored: &[MAIN_4, MAIN_5, SPILL_5, SPILL_6],
+        kept: &[
+            ("more/0000000000000005.raftlog", false),
+            ("more/0000000000000006.raftlog", true),
+        ],
     },
     Scan {
         name: "three files before a hole of seven numbers",
