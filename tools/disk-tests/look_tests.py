@@ -13,6 +13,7 @@ import subprocess
 import sys
 import tempfile
 
+from call_cases import Calls
 from folders import bytes_of, logs_in, numbers_in, reserved_in, state_of
 from loss_cases import Losses
 
@@ -30,7 +31,7 @@ WHOLE = [0, 3, 0, 0, 0, 0, 3, 0, 0, 0, 0, 0, 0, 0, 0, 0, 0, 0, 0, 0]
 BROKEN = [1, 1, 1, 1, 1, 1, 1, 1, 1, 1, 4, 4, 5, 5, 4, 1, 0, 1, 0, 1]
 
 
-class Tests(Losses):
+class Tests(Losses, Calls):
     def __init__(self, program, work):
         self.program = os.path.abspath(program)
         self.work = work
@@ -338,6 +339,7 @@ def main():
         tests.files()
         tests.dry_runs(thresholds)
         tests.documents()
+        tests.killed_forks()
     print(f"{tests.tried} cases, {tests.bad} wrong")
     return 1 if tests.bad else 0
 

@@ -1,11 +1,13 @@
 // Loaded before the C library: notes each call that changes a file below $RECORD_FOLDER in the file
 // $RECORD, and fails the Nth call of a kind where $FAIL asks for it, as in FAIL=fdatasync:3:5.
 // With FAIL=short:N:ERRNO the Nth pwrite writes half of its bytes, and the next one fails.
+// With KILL=N the Nth of all these calls isn't carried out, or a pwrite by half, and the process is killed.
 #define _GNU_SOURCE
 #include <dlfcn.h>
 #include <errno.h>
 #include <fcntl.h>
 #include <limits.h>
+#include <signal.h>
 #include <stdarg.h>
 #include <stdio.h>
 #include <stdlib.h>
@@ -86,6 +88,18 @@ static int fails(const char *kind) {
     return 0;
 }
 
+// Whether this call is the one at which the process is to be killed.
+static int is_last(void) {
+    static int seen;
+    const char *wanted = getenv("KILL");
+    return wanted && ++seen == atoi(wanted);
+}
+
+static void die_if_last(void) {
+    if (is_last())
+        raise(SIGKILL);
+}
+
 static int remember(int fd, const char *path, int is_new) {
     if (fd >= 0 && fd < MAX_FILES) {
         char full[PATH_MAX];
@@ -101,8 +115,11 @@ int open(const char *path, int flags, ...) {
     va_start(rest, flags);
     int mode = flags & O_CREAT ? va_arg(rest, int) : 0;
     va_end(rest);
-    if (flags & O_CREAT && fails("open"))
-        return -1;
+    if (flags & O_CREAT) {
+        die_if_last();
+        if (fails("open"))
+            return -1;
+    }
     int is_new = flags & O_CREAT && access(path, F_OK) != 0;
     int fd = REAL("open", int (*)(const char *, int, ...))(path, flags, mode);
     return remember(fd, path, is_new);
@@ -132,6 +149,7 @@ static void follow(const char *path, const char *to) {
 }
 
 int unlink(const char *path) {
+    die_if_last();
     if (fails("unlink"))
         return -1;
     char full[PATH_MAX];
@@ -145,6 +163,7 @@ int unlink(const char *path) {
 }
 
 int rename(const char *from, const char *to) {
+    die_if_last();
     if (fails("rename"))
         return -1;
     char old[PATH_MAX], new[PATH_MAX];
@@ -165,6 +184,7 @@ int close(int fd) {
 }
 
 int mkdir(const char *path, mode_t mode) {
+    die_if_last();
     if (fails("mkdir"))
         return -1;
     int status = REAL("mkdir", int (*)(const char *, mode_t))(path, mode);
@@ -176,14 +196,16 @@ int mkdir(const char *path, mode_t mode) {
 }
 
 ssize_t pwrite(int fd, const void *bytes, size_t len, off_t at) {
-    int how = fails("pwrite");
+    int how = fails("pwrite"), last = is_last();
     if (how == 1)
         return -1;
-    if (how == 2)
+    if (how == 2 || last)
         len /= 2;
     ssize_t put = REAL("pwrite", ssize_t (*)(int, const void *, size_t, off_t))(fd, bytes, len, at);
     if (put > 0)
         note("write", path_of(fd), at, bytes, put);
+    if (last)
+        raise(SIGKILL);
     return put;
 }
 
@@ -195,6 +217,7 @@ ssize_t write(int fd, const void *bytes, size_t len) {
 }
 
 int ftruncate(int fd, off_t size) {
+    die_if_last();
     if (fails("ftruncate"))
         return -1;
     int status = REAL("ftruncate", int (*)(int, off_t))(fd, size);
@@ -204,6 +227,7 @@ int ftruncate(int fd, off_t size) {
 }
 
 int fsync(int fd) {
+    die_if_last();
     if (fails("fsync"))
         return -1;
     int status = REAL("fsync", int (*)(int))(fd);
@@ -213,6 +237,7 @@ int fsync(int fd) {
 }
 
 int fdatasync(int fd) {
+    die_if_last();
     if (fails("fdatasync"))
         return -1;
     int status = REAL("fdatasync", int (*)(int))(fd);

@@ -29,6 +29,11 @@ pub mod debug {
     };
 }
 
+/// What an opening would lose of the log files, found before it.
+pub mod losses {
+    pub use raft_inspect::{Cut, Losses, Passed, Unexplained, losses_of};
+}
+
 /// One engine for many threads, beside the history of their calls.
 pub mod shared {
     pub use raft_shared::{

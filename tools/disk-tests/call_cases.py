@@ -1,0 +1,62 @@
+"""What a command leaves that is killed at one of its calls."""
+import os
+import shutil
+import signal
+import subprocess
+
+from folders import logs_in, state_of
+
+HERE = os.path.dirname(os.path.abspath(__file__))
+MARK = "FORKING"
+
+
+class Calls:
+    """Cases of `look_tests.py`."""
+
+    def calling(self, **more):
+        """An environment in which `record_calls.c` takes part in each call of the system."""
+        recorder = os.path.join(self.work, "record_calls.so")
+        if not os.path.exists(recorder):
+            source = os.path.join(HERE, "record_calls.c")
+            subprocess.run(["cc", "-shared", "-fPIC", "-O1", "-o", recorder, source, "-ldl"], check=True)
+        return {**os.environ, "LD_PRELOAD": recorder, **more}
+
+    def killed_forks(self):
+        """A fork that is killed at any of its calls leaves no log file, or a mark, or all of the log."""
+        source = self.make("forked")
+        self.run(source, "rewrite", "append", "--target", "20KB")
+        self.run(source, "load", 300, 40, "--sync-each", 100, "--target", "20KB")
+        count = len(logs_in(source))
+        self.expect("the source has both queues", count >= 4)
+        told = [self.run(source, *words.split()).stdout for words in ("list", "entries 7")]
+        before = state_of(source)
+        marked = 0
+        for call in range(1, 1000):
+            target = os.path.join(self.work, "fork-killed")
+            ran = self.run(source, "fork", target, env=self.calling(KILL=str(call)))
+            if ran.returncode == 0:
+                break
+            self.expect(f"call {call}: killed", ran.returncode == -signal.SIGKILL)
+            if os.path.exists(os.path.join(target, MARK)):
+                marked += 1
+                self.is_refused(call, target)
+            elif os.path.exists(target) and logs_in(target):
+                same = [self.run(target, *words.split()).stdout for words in ("list", "entries 7")] == told
+                self.expect(f"call {call}: without a mark all is there", same and logs_in(target) == logs_in(source))
+            shutil.rmtree(target, ignore_errors=True)
+        # Of each file its making, its folder's sync, its bytes and its own sync.
+        self.expect(f"a fork is killed at each call: {call}, {marked}", call > 4 * count < marked + count)
+        self.expect("killed forks leave their source", state_of(source) == before)
+
+    def is_refused(self, call, target):
+        """Looks, changes and forks refuse the target, and change nothing of it."""
+        before = state_of(target)
+        for words in ("check", "list", "put 1 a b", "repair"):
+            ran = self.run(target, *words.split())
+            holds = ran.returncode == 1 and b"has not ended" in ran.stderr
+            self.expect(f"call {call}: {words} on a fork that has not ended: {ran.stderr}", holds)
+        ran = self.run(os.path.join(self.work, "forked"), "fork", target)
+        self.expect(f"call {call}: a fork over it: {ran.stderr}", ran.returncode == 1)
+        left = {path: state for path, state in state_of(target).items() if not path.endswith("/LOCK")}
+        same = all(before.get(path) == state for path, state in left.items() if path != target)
+        self.expect(f"call {call}: it is as it was", same)
