@@ -51,6 +51,7 @@ int fsync(int fd) { return sync_by(SYS_fsync, fd); }
 struct log {
     raftlog *log;
     raftlog_batch *batches[MOST];
+    uint64_t entries[MOST]; /* that each thread's group has */
 };
 
 static void *raftlog_open_at(const char *folder) {
@@ -69,6 +70,16 @@ static int raftlog_put_one(void *with, uint64_t thread, const uint8_t *key, cons
            || raftlog_write(log->log, batch, true);
 }
 
+/* The value alone, as the next entry of the thread's group. */
+static int raftlog_append_one(void *with, uint64_t thread, const uint8_t *key, const uint8_t *value) {
+    (void)key;
+    struct log *log = with;
+    raftlog_batch *batch = log->batches[thread];
+    raftlog_entry entry = {++log->entries[thread], value, VALUE};
+    return raftlog_batch_entries(batch, thread, &entry, 1)
+           || raftlog_write(log->log, batch, true);
+}
+
 static int raftlog_get_one(void *with, const uint8_t *key) {
     static _Thread_local raftlog_bytes bytes;
     return raftlog_get(((struct log *)with)->log, 0, key, KEY, &bytes) || bytes.len != VALUE;
@@ -83,6 +94,8 @@ static void raftlog_close_it(void *with) {
 
 static const struct store own = {"raftlog", raftlog_open_at, raftlog_put_one, raftlog_get_one,
                                  raftlog_close_it};
+static const struct store entries = {"entries", raftlog_open_at, raftlog_append_one, NULL,
+                                     raftlog_close_it};
 
 /* ---- a turn of a store */
 
