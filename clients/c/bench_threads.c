@@ -6,7 +6,8 @@
  *   pause-us=0  the most that a writer waits between its puts
  *   reads=0     1: the time of a get alone and beside the writers
  *   peers=1     0: this library alone
- *   fill=0      so many puts by one thread into each store, whose memory is told then */
+ *   fill=0      so many puts by one thread into each store, and entries into this one, whose
+ *               memory is told then */
 #include "raftlog.h"
 #include "stores.h"
 
@@ -236,7 +237,7 @@ static void fill_one(const struct store *store, const char *folder) {
     void *log = store->open(folder);
     for (long i = 0; log && i < set.fill; i++) {
         key_of((uint64_t)i, key);
-        memcpy(value, key, KEY);
+        for (size_t at = 0; at < VALUE; at += 2) value[at] = (uint8_t)rand();
         if (store->put(log, (uint64_t)i % MOST, key, value)) puts("a put failed"), exit(1);
     }
     printf("%-8s own %ld MB, files' %ld MB\n", store->name, held_mb("RssAnon:"), held_mb("RssFile:"));
@@ -247,10 +248,8 @@ static void fill_one(const struct store *store, const char *folder) {
 static void fill(const struct store **stores, const char *folder) {
     char command[400];
     snprintf(command, sizeof command, "du -sm '%s'; rm -rf '%s'", folder, folder);
-    for (int s = 0; stores[s]; s++) {
-        fill_one(stores[s], folder);
-        if (system(command)) exit(1);
-    }
+    fill_one(&entries, folder);
+    for (int s = 0; !system(command) && stores[s]; s++) fill_one(stores[s], folder);
 }
 
 /* ---- all of them */
