@@ -6,7 +6,8 @@
  *   pause-us=0  the most that a writer waits between its puts
  *   reads=0     1: the time of a get alone and beside the writers
  *   peers=1     0: this library alone
- *   fill=0      so many puts by one thread into each store, whose memory is told then */
+ *   fill=0      so many puts by one thread into each store, and entries into this one, whose
+ *               memory is told then */
 #include "raftlog.h"
 #include "stores.h"
 
@@ -51,6 +52,7 @@ int fsync(int fd) { return sync_by(SYS_fsync, fd); }
 struct log {
     raftlog *log;
     raftlog_batch *batches[MOST];
+    uint64_t entries[MOST]; /* that each thread's group has */
 };
 
 static void *raftlog_open_at(const char *folder) {
@@ -69,6 +71,16 @@ static int raftlog_put_one(void *with, uint64_t thread, const uint8_t *key, cons
            || raftlog_write(log->log, batch, true);
 }
 
+/* The value alone, as the next entry of the thread's group. */
+static int raftlog_append_one(void *with, uint64_t thread, const uint8_t *key, const uint8_t *value) {
+    (void)key;
+    struct log *log = with;
+    raftlog_batch *batch = log->batches[thread];
+    raftlog_entry entry = {++log->entries[thread], value, VALUE};
+    return raftlog_batch_entries(batch, thread, &entry, 1)
+           || raftlog_write(log->log, batch, true);
+}
+
 static int raftlog_get_one(void *with, const uint8_t *key) {
     static _Thread_local raftlog_bytes bytes;
     return raftlog_get(((struct log *)with)->log, 0, key, KEY, &bytes) || bytes.len != VALUE;
@@ -83,6 +95,8 @@ static void raftlog_close_it(void *with) {
 
 static const struct store own = {"raftlog", raftlog_open_at, raftlog_put_one, raftlog_get_one,
                                  raftlog_close_it};
+static const struct store entries = {"entries", raftlog_open_at, raftlog_append_one, NULL,
+                                     raftlog_close_it};
 
 /* ---- a turn of a store */
 
@@ -223,7 +237,7 @@ static void fill_one(const struct store *store, const char *folder) {
     void *log = store->open(folder);
     for (long i = 0; log && i < set.fill; i++) {
         key_of((uint64_t)i, key);
-        memcpy(value, key, KEY);
+        for (size_t at = 0; at < VALUE; at += 2) value[at] = (uint8_t)rand();
         if (store->put(log, (uint64_t)i % MOST, key, value)) puts("a put failed"), exit(1);
     }
     printf("%-8s own %ld MB, files' %ld MB\n", store->name, held_mb("RssAnon:"), held_mb("RssFile:"));
@@ -234,10 +248,8 @@ static void fill_one(const struct store *store, const char *folder) {
 static void fill(const struct store **stores, const char *folder) {
     char command[400];
     snprintf(command, sizeof command, "du -sm '%s'; rm -rf '%s'", folder, folder);
-    for (int s = 0; stores[s]; s++) {
-        fill_one(stores[s], folder);
-        if (system(command)) exit(1);
-    }
+    fill_one(&entries, folder);
+    for (int s = 0; !system(command) && stores[s]; s++) fill_one(stores[s], folder);
 }
 
 /* ---- all of them */
