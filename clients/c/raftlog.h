@@ -181,7 +181,7 @@ const char *raftlog_code_text(int code);
 /* ---- memory
  *
  * The index is in memory: 56 bytes an entry, and keys with their values. So is what was written since
- * the last sync. The rest of the log files is mapped: the system takes its memory back where it
+ * the last sync, and during a purge all that it rewrites, twice. The rest of the log files is mapped: the system takes its memory back where it
  * needs it, and reads it again from the files when it is asked for. */
 
 /* By default the program ends, by SIGBUS, where a part of a file can't be read again: the disk fails,
