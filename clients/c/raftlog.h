@@ -181,8 +181,9 @@ const char *raftlog_code_text(int code);
 /* ---- memory
  *
  * The index is in memory: 56 bytes an entry, and keys with their values. So is what was written since
- * the last sync, and during a purge all that it rewrites, twice. The rest of the log files is mapped: the system takes its memory back where it
- * needs it, and reads it again from the files when it is asked for. */
+ * the last sync, and during a purge what it rewrites (docs/PROCEDURES.md). The rest of the log files is
+ * mapped: the system takes its memory back where it needs it, and reads it again from the files when it
+ * is asked for. */
 
 /* By default the program ends, by SIGBUS, where a part of a file can't be read again: the disk fails,
  * or another program cut the file. After this call, once for the process, a read that needs this
