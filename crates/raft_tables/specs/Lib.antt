@@ -1,3 +1,4 @@
+pub mod PackedPlace
 pub mod EntryTable
 pub mod KeyHash
 pub mod Table
