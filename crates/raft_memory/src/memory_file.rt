@@ -1,6 +1,6 @@
 //! A file in memory: its bytes now, what its changes since the last sync wrote over, and the ranges
 //! that they touched.
-ghost use Rattle.std.specs.Prelude.{◌≡◌, ◌≤◌, ◌<◌, ◌+◌, ◌-◌, ◌==◌, ◌&&◌, ◌++◌, ◌^◌, ◌||◌, ℕ, [], length, take, drop, if◌then◌else◌, true, OnOk, OnErr, IfOk, IfErr, MatchBool, vec_len, vec_capacity};
+ghost use Rattle.std.specs.Prelude.{◌≡◌, ◌≤◌, ◌<◌, ◌+◌, ◌-◌, ◌==◌, ◌&&◌, ◌^◌, ◌||◌, ℕ, [], length, take, if◌then◌else◌, true, OnOk, OnErr, IfOk, IfErr, MatchBool, vec_len, vec_capacity};
 ghost use Rattle.raft_env.specs.Outcomes.{File, MayLeave, synced_file, file_after_write, file_after_resize, synced_of, renamed_of, longest_of, overlay, pad_to, is_within};
 ghost use Rattle.raft_memory.specs.Choice.{torn_bytes};
 ghost use Rattle.raft_memory.specs.MemoryFile.{IsFileOf, IsSaved, is_covered, SameOutside};
