@@ -5,6 +5,7 @@ pub mod Cause
 pub mod Engine
 pub mod Events
 pub mod Expired
+pub mod AppendGroups
 pub mod Indexed
 pub mod Group
 pub mod Durability
