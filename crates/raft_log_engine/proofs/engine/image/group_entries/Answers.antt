@@ -1,10 +1,11 @@
 use Rattle.std.proofs.Common.{◌≡◌, ◌∙◌, ◌+◌, ◌++◌, ◌∷◌, [], List, ℕ, Vec, Global, ap, arith, sym, append_assoc, append-nil}
-use Rattle.std.proofs.lemmas.List.{map-append}
+use Rattle.std.proofs.lemmas.List.{length-map, map-append}
 use Rattle.std.proofs.lemmas.Result.{err_from_is_err_and}
 use Rattle.raft_base.specs.declared.pipe_log.LogQueue.TheVariants.{Append}
 use Rattle.raft_records.specs.Item.{Entry}
 use Rattle.raft_records.specs.Places.{Blocks, bytes_in, entries_in}
 use Rattle.raft_tables.specs.EntryTable.{places_of}
+use Rattle.raft_tables.specs.PackedPlace.{unpacked}
 use Rattle.raft_tables.specs.Table.{table_of}
 use Rattle.raft_log_engine.specs.Image.{entries_of}
 use Rattle.raft_entry_blocks.specs.Reader.{blocks_of}
@@ -34,7 +35,7 @@ pub overflow_add-index-end : goal.overflow_add-index-end
 overflow_add-index-end g c =
     let t = c.args.table.now in
     let ends = ends_of t.entries.first c.in-Some.first c.in-Some-last_index.last (places_of t.entries) (sym c.in-Some.ensures.value) (sym c.in-Some-last_index.ensures.value) in
-    omega (arith, ends.1, t.entries.bounded)
+    omega (arith, ends.1, t.entries.bounded, length-map t.entries.places.items unpacked)
 
 pub loop-index-init : goal.loop-index-init
 loop-index-init g c =
