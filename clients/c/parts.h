@@ -112,6 +112,9 @@ struct raftlog {
     uint8_t *order;       /* its bytes, mapped */
     size_t mapped;
     size_t obeyed; /* those before this place were carried out */
+    bool is_opening;
+    raftlog_cut *cuts; /* that the opening made; their paths are the log's */
+    size_t cut_count, cut_room;
     char *path;    /* of the file that is open to be changed, from the folder */
     int file;
     struct heap heap;        /* the blocks that the proved part keeps the files in */

@@ -51,6 +51,8 @@ static void let_go(raftlog *log) {
     if (log->order) munmap(log->order, log->mapped);
     if (log->orders >= 0) close(log->orders);
     if (log->held >= 0) close(log->held);
+    for (size_t i = 0; i < log->cut_count; i++) free((char *)log->cuts[i].path);
+    free(log->cuts);
     pthread_mutex_destroy(&log->lock);
     free(log->folder);
     free(log);
@@ -71,7 +73,9 @@ static int open_found(raftlog *log, const char *settings, char *text, size_t roo
     if (!settings) settings = "";
     heap_enter(&log->heap);
     raft_c_open(&log->handle, log->orders, parts_some(settings), strlen(settings));
+    log->is_opening = true;
     int code = raft_c_settle(&log->handle, !parts_obey(log));
+    log->is_opening = false;
     heap_leave();
     if (!code) return RAFTLOG_OK;
     char *said = *log->broken ? NULL : parts_answered_text(log);
@@ -122,6 +126,12 @@ int raftlog_open_watched(const char *folder, const char *settings, raftlog_progr
 int raftlog_open_memory(const char *settings, raftlog **out, char *text, size_t room) {
     if (!out) return RAFTLOG_INVALID;
     return open_log(NULL, settings, NULL, NULL, out, text, room);
+}
+
+size_t raftlog_cuts(raftlog *log, raftlog_cut *cuts, size_t room) {
+    if (!log) return 0;
+    for (size_t i = 0; cuts && i < log->cut_count && i < room; i++) cuts[i] = log->cuts[i];
+    return log->cut_count;
 }
 
 int raftlog_close(raftlog *log) {

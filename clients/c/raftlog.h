@@ -148,6 +148,17 @@ int raftlog_open_watched(const char *folder, const char *settings, raftlog_progr
 /* The same in memory, for tests: it fails as RAFTLOG_INVALID for settings that are refused. */
 int raftlog_open_memory(const char *settings, raftlog **out, char *text, size_t room);
 
+/* Bytes that an opening cut off of a log file, whose path is that from the folder: so many from a place on. */
+typedef struct {
+    const char *path;
+    uint64_t offset, len;
+} raftlog_cut;
+
+/* Answers how many of these there were when the log was opened, and puts the first ones into `cuts`, no more than `room`;
+ * it may be NULL for none. Paths last until the log is closed. Zeros that were made ahead hold nothing, and aren't told,
+ * nor are files that an opening passes over: `raftctl FOLDER check` tells them, and before an opening what it would cut. */
+size_t raftlog_cuts(raftlog *log, raftlog_cut *cuts, size_t room);
+
 /* Syncs and closes, and frees the log whatever it answers; after RAFTLOG_OK all that was written survives
  * a crash. Else RAFTLOG_IO or RAFTLOG_FAILED: the next opening finds what was answered before; where the
  * machine crashes first, what was synced, and perhaps more. Calls that wait when it begins get their
