@@ -45,7 +45,7 @@ static void keys(raftlog *log) {
     raftlog_batch_free(batch);
 }
 
-/* What an opening cuts off */
+/* What an opening cuts off: four bytes, but no zeros */
 static void cuts(const char *folder) {
     char place[1000];
     snprintf(place, sizeof place, "%s/cut", folder);
@@ -61,7 +61,8 @@ static void cuts(const char *folder) {
     snprintf(place, sizeof place, "%s/cut", folder);
     log = open_at(place);
     CHECK(raftlog_cuts(log, NULL, 0) == 1 && raftlog_cuts(log, found, 2) == 1);
-    CHECK(!strcmp(found[0].path, "0000000000000001.raftlog") && found[0].offset == (uint64_t)end && found[0].len == 4);
+    CHECK(!strcmp(found[0].path, "0000000000000001.raftlog"));
+    CHECK(found[0].offset == (uint64_t)end && found[0].len == 4);
     CHECK(raftlog_close(log) == 0);
 }
 
