@@ -607,7 +607,8 @@ static struct got got_of(void *at) {
 }
 
 struct got rattle_alloc(size_t size, size_t align) {
-    return got_of(heap_alloc(size ? size : align));
+    size_t some = size ? size : align;
+    return got_of(some < HEAP_LARGE ? malloc(some) : heap_alloc(some));
 }
 
 struct got rattle_realloc(void *at, size_t old, size_t size, size_t align) {
