@@ -1,11 +1,12 @@
 //! What an opening of both queues would lose.
-ghost use Rattle.std.specs.Prelude.{IfOk};
+ghost use Rattle.std.specs.Prelude.{◌≡◌, ◌++◌, [], false, map, true, IfOk};
 ghost use Rattle.raft_env.specs.Moments.{OnlyReads};
-ghost use Rattle.raft_inspect.specs.Losses.{AreLossesOf};
+ghost use Rattle.raft_inspect.specs.Cuts.{place_of};
+ghost use Rattle.raft_inspect.specs.Losses.{AreLossesOf, IsPlannedToFail, cuts_by};
 
 use crate::cuts::Cut;
 use crate::queue_files::{QueueFiles, inspect};
-use raft_config::Config;
+use raft_config::{Config, RecoveryMode};
 use raft_dump::FileCheck;
 use raft_env::FileSystem;
 use raft_records::{Fault, LogQueue};
@@ -52,13 +53,8 @@ impl Losses {
         let rewrite = inspect(alloc, file_system, &folders, LogQueue::Rewrite)?;
         let append = inspect(alloc, file_system, &folders, LogQueue::Append)?;
         let passed = passed_of(alloc, &rewrite, &append)?;
-        let fails_of_rewrite = rewrite.fails(alloc, mode)?;
-        let fails = append.fails(alloc, mode)? || fails_of_rewrite;
-        let mut cuts = Vec::new(alloc);
-        if !fails {
-            rewrite.add_cuts(mode, &mut cuts)?;
-            append.add_cuts(mode, &mut cuts)?;
-        }
+        let fails = fails_at(alloc, mode, &rewrite, &append)?;
+        let cuts = cuts_where(alloc, mode, fails, &rewrite, &append)?;
         Ok(Losses {
             fails,
             cuts,
@@ -76,6 +72,42 @@ fn folders_of<'a>(alloc: Global, config: &'a Config) -> Result<Vec<&'a str>, All
         }
     }
     Ok(folders)
+}
+
+fn fails_at(
+    alloc: Global,
+    mode: RecoveryMode,
+    rewrite: &QueueFiles,
+    append: &QueueFiles,
+) -> Result<bool, Fault>
+    ensures rewrite { IfOk result (λ fails. IsPlannedToFail mode rewrite.now → fails ≡ true) }
+    ensures append { IfOk result (λ fails. IsPlannedToFail mode append.now → fails ≡ true) }
+{
+    if rewrite.fails(alloc, mode)? {
+        return Ok(true);
+    }
+    append.fails(alloc, mode)
+}
+
+// Of both queues, and nothing where the opening fails.
+fn cuts_where(
+    alloc: Global,
+    mode: RecoveryMode,
+    fails: bool,
+    rewrite: &QueueFiles,
+    append: &QueueFiles,
+) -> Result<Vec<Cut>, AllocError>
+    ensures none { IfOk result (λ cuts. fails ≡ true → map place_of cuts.items ≡ []) }
+    ensures cuts { IfOk result (λ cuts. fails ≡ false → map place_of cuts.items
+        ≡ cuts_by mode rewrite.now ++ cuts_by mode append.now) }
+{
+    let mut cuts = Vec::new(alloc);
+    if fails {
+        return Ok(cuts);
+    }
+    rewrite.add_cuts(mode, &mut cuts)?;
+    append.add_cuts(mode, &mut cuts)?;
+    Ok(cuts)
 }
 
 fn passed_of(
