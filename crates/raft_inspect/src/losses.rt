@@ -97,7 +97,7 @@ fn cuts_where(
     rewrite: &QueueFiles,
     append: &QueueFiles,
 ) -> Result<Vec<Cut>, AllocError>
-    ensures none { IfOk result (λ cuts. fails ≡ true → map place_of cuts.items ≡ []) }
+    ensures fails { IfOk result (λ cuts. fails ≡ true → map place_of cuts.items ≡ []) }
     ensures cuts { IfOk result (λ cuts. fails ≡ false → map place_of cuts.items
         ≡ cuts_by mode rewrite.now ++ cuts_by mode append.now) }
 {

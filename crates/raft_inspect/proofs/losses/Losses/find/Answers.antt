@@ -19,6 +19,6 @@ returns-clause-value g c =
         | inl first ↦ c.in_ok-fails.ensures.rewrite first
         | inr second ↦ c.in_ok-fails.ensures.append second
       ];
-      none = c.in_ok-cuts.ensures.none;
+      none = c.in_ok-cuts.ensures.fails;
       cuts = c.in_ok-cuts.ensures.cuts;
     }
