@@ -1,21 +1,9 @@
 //! What a newer chunk of batches does to what an older one left.
 
-use raft_records::{Command, EntryIndex, KeyValue, LogItem, LogItemContent};
+use crate::steps::{GROUP, Step, items_of};
 use raft_replay::Reaches;
 use std::alloc::{AllocError, Global};
 use std::test::Fail;
-
-const KEY: &[u8] = b"k";
-
-/// What an item of group 1 does.
-#[derive(Clone, Copy)]
-enum Step {
-    /// Entries from the first index to the last.
-    Entries(u64, u64),
-    Compact(u64),
-    Clean,
-    Put,
-}
 
 /// Items of two chunks, whether the newer one replaces all older entries, and else which indexes
 /// it leaves alone of those up to 9.
@@ -58,49 +46,15 @@ static CASES: [Case; 4] = [
     },
 ];
 
-fn entry(index: u64) -> EntryIndex {
-    EntryIndex {
-        index,
-        entries: None,
-        entry_offset: 0,
-        entry_len: 0,
-        lz4: false,
-    }
-}
-
-fn content(alloc: Global, step: Step) -> Result<LogItemContent, AllocError> {
-    Ok(match step {
-        Step::Entries(first, last) => {
-            let mut entries = Vec::new(alloc);
-            for index in first..last {
-                entries.push(entry(index))?;
-            }
-            entries.push(entry(last))?;
-            LogItemContent::EntryIndexes(entries)
-        }
-        Step::Compact(index) => LogItemContent::Command(Command::Compact { index }),
-        Step::Clean => LogItemContent::Command(Command::Clean),
-        Step::Put => LogItemContent::Kv(KeyValue::Put {
-            key: KEY.to_vec(alloc)?,
-            value: KEY.to_vec(alloc)?,
-        }),
-    })
-}
-
 fn note(alloc: Global, reaches: &mut Reaches, steps: &[Step]) -> Result<(), AllocError> {
     for step in steps {
-        let mut items = Vec::new(alloc);
-        items.push(LogItem {
-            raft_group_id: 1,
-            content: content(alloc, *step)?,
-        })?;
-        reaches.note(&items)?;
+        reaches.note(&items_of(alloc, *step)?)?;
     }
     Ok(())
 }
 
 fn leaves_as_said(newer: &Reaches, left: &[u64]) -> bool {
-    let reach = newer.reach(1);
+    let reach = newer.reach(GROUP);
     let mut as_said = true;
     for index in 1..10 {
         as_said = reach.leaves(index) == left.iter().any(|one| *one == index) && as_said;
@@ -114,13 +68,13 @@ fn is_as_said(alloc: Global, case: &Case) -> Result<bool, AllocError> {
     note(alloc, &mut older, case.older)?;
     let mut newer = Reaches::new(alloc);
     note(alloc, &mut newer, case.newer)?;
-    let replaces = newer.reach(1).replaces(&older.reach(1));
+    let replaces = newer.reach(GROUP).replaces(&older.reach(GROUP));
     let leaves = leaves_as_said(&newer, case.left);
     let mut whole = Reaches::new(alloc);
     note(alloc, &mut whole, case.older)?;
     note(alloc, &mut whole, case.newer)?;
     older.then(newer)?;
-    Ok(replaces == case.replaces && leaves && older.reach(1) == whole.reach(1))
+    Ok(replaces == case.replaces && leaves && older.reach(GROUP) == whole.reach(GROUP))
 }
 
 #[test]

@@ -1,6 +1,6 @@
 use denote.Param.Send.{sendable}
 use Rattle.raft_memory.proofs.Sent.{memory_send, memory_sync}
-use Rattle.raft_threads_scenarios.proofs.recovering.is_refused.Goals as goal
+use Rattle.raft_workers_scenarios.proofs.recovering.is_refused.Goals as goal
 
 pub store_both-requires-send-F : goal.store_both-requires-send-F
 store_both-requires-send-F g c κs = search (sendable, memory_send) depth 20

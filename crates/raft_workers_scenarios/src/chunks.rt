@@ -1,26 +1,12 @@
 //! Batches of both queues, those of the Append queue in chunks.
 
+use crate::steps::{GROUP, KEY, Step, items_of};
 use raft_builder::MergingMachine;
 use raft_opening::ReplayMachine;
-use raft_records::{
-    Command, EntryIndex, Fault, FileId, KeyValue, LogItem, LogItemContent, LogQueue,
-};
+use raft_records::{Fault, FileId, LogQueue};
 use raft_replay::{Read, RecoveryMachine, read_of};
-use std::alloc::{AllocError, Global};
+use std::alloc::Global;
 use std::test::Fail;
-
-const KEY: &[u8] = b"k";
-
-/// What an item of group 1 does. Each stands in a batch of its own.
-#[derive(Clone, Copy)]
-enum Step {
-    /// Entries from the first index to the last.
-    Entries(u64, u64),
-    Compact(u64),
-    Clean,
-    Put,
-    Delete,
-}
 
 /// Batches of the Rewrite queue and two chunks of the Append queue's, the first and the last index that
 /// are read of them, and whether the key is.
@@ -100,38 +86,6 @@ static CASES: [Case; 8] = [
     },
 ];
 
-fn entry(index: u64) -> EntryIndex {
-    EntryIndex {
-        index,
-        entries: None,
-        entry_offset: 0,
-        entry_len: 0,
-        lz4: false,
-    }
-}
-
-fn content(alloc: Global, step: Step) -> Result<LogItemContent, AllocError> {
-    Ok(match step {
-        Step::Entries(first, last) => {
-            let mut entries = Vec::new(alloc);
-            for index in first..last {
-                entries.push(entry(index))?;
-            }
-            entries.push(entry(last))?;
-            LogItemContent::EntryIndexes(entries)
-        }
-        Step::Compact(index) => LogItemContent::Command(Command::Compact { index }),
-        Step::Clean => LogItemContent::Command(Command::Clean),
-        Step::Put => LogItemContent::Kv(KeyValue::Put {
-            key: KEY.to_vec(alloc)?,
-            value: KEY.to_vec(alloc)?,
-        }),
-        Step::Delete => LogItemContent::Kv(KeyValue::Delete {
-            key: KEY.to_vec(alloc)?,
-        }),
-    })
-}
-
 fn replay(
     alloc: Global,
     machine: &mut RecoveryMachine,
@@ -139,11 +93,7 @@ fn replay(
     steps: &[Step],
 ) -> Result<(), Fault> {
     for step in steps {
-        let mut items = Vec::new(alloc);
-        items.push(LogItem {
-            raft_group_id: 1,
-            content: content(alloc, *step)?,
-        })?;
+        let mut items = items_of(alloc, *step)?;
         machine.replay(&mut items, FileId { queue, seq: 1 })?;
     }
     Ok(())
@@ -168,11 +118,11 @@ fn read(alloc: Global, case: &Case, apart: bool) -> Result<Read, Fault> {
 fn is_as_said(alloc: Global, case: &Case, apart: bool) -> Result<bool, Fault> {
     let read = read(alloc, case, apart)?;
     let tables = &read.tables;
-    let indexes = match (tables.first_index(1), tables.last_index(1)) {
+    let indexes = match (tables.first_index(GROUP), tables.last_index(GROUP)) {
         (Some(first), Some(last)) => Some((first, last)),
         _ => None,
     };
-    Ok(indexes == case.indexes && tables.get(1, KEY).is_some() == case.has_key)
+    Ok(indexes == case.indexes && tables.get(GROUP, KEY).is_some() == case.has_key)
 }
 
 #[test]

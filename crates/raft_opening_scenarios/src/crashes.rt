@@ -1,9 +1,12 @@
-//! What a crash may leave of a folder. After each of some puts the log's bytes are copied as a crash could leave them,
-//! and an engine opens the copy: it finds every key that a sync covers, and no key after a gap.
+//! What a crash may leave of a folder of the operating system. After each of some puts the log's
+//! bytes are copied as a crash could leave them, and an engine opens the copy: it finds every key
+//! that a sync covers, and no key after a gap.
 
-use crate::temp::{bytes_at, temp_folder};
 use raft_disk::DiskFileSystem;
-use raft_log_engine::{Config, Engine, Fault, FileSystem, Fresh, LogBatch};
+use raft_env::FileSystem;
+use raft_records::{Fault, Fresh, LogBatch};
+use raft_rows::temp_folder;
+use raft_test_rows::{Config, Engine};
 use std::alloc::{AllocError, Global};
 use std::fs;
 use std::test::Fail;
@@ -154,13 +157,10 @@ struct Wrong {
 }
 
 fn log_bytes(rt: &HostRuntime, live: &str) -> Result<Vec<u8>, Fail> {
-    match bytes_at(rt, live, LOG)? {
-        Some(mut bytes) => {
-            bytes.truncate(LOG_LEN);
-            Ok(bytes)
-        }
-        None => Err(Fail::new("there is no log")),
-    }
+    let log = format!(in rt.alloc(); "{live}/{LOG}")?;
+    let mut bytes = fs::read(rt, log.as_str())?;
+    bytes.truncate(LOG_LEN);
+    Ok(bytes)
 }
 
 fn crash_after_each<F: FileSystem>(

@@ -1,6 +1,6 @@
 use denote.Param.Send.{sendable}
 use Rattle.raft_memory.proofs.Sent.{memory_send, memory_sync}
-use Rattle.raft_threads_scenarios.proofs.meeting.two_workers_meet.Goals as goal
+use Rattle.raft_workers_scenarios.proofs.meeting.two_workers_meet.Goals as goal
 
 pub meet-requires-send-F : goal.meet-requires-send-F
 meet-requires-send-F g c κs = search (sendable, memory_send) depth 20
