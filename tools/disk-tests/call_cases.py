@@ -63,7 +63,7 @@ class Calls:
         self.expect(f"call {call}: it is as it was", same)
 
     def full_disk(self, thresholds):
-        """On a full disk a last file without a byte hinders neither a repair nor a purge."""
+        """On a full disk a last file that holds nothing hinders neither a repair nor a purge."""
         full = self.calling(FULL="1")
         words = ["--settings", thresholds]
         for command in ("repair", "purge"):
@@ -77,7 +77,7 @@ class Calls:
             add(empty, b"")
             before = len(logs_in(folder))
             ran = self.run(folder, command, *words, env=full)
-            self.expect(f"{command} on a full disk: {ran.stderr}", ran.returncode == 0 and b"no byte" in ran.stderr)
+            self.expect(f"{command} on a full disk: {ran.stderr}", ran.returncode == 0 and b"held nothing" in ran.stderr)
             self.expect(f"{command}: the empty file is gone", not os.path.exists(empty))
             if command == "purge":
                 self.expect("a purge frees space on a full disk", len(logs_in(folder)) < before - 1)

@@ -79,7 +79,17 @@ class FullDisk(Tests):
         self.expect(f"a put that finds no space: {ran.returncode} {ran.stderr}", ran.returncode == 1 and says)
         self.keeps_all("behind a refused put")
         ran = self.do("check")
-        self.expect(f"behind a refused put nothing is lost: {ran.stdout}", ran.returncode in (0, 4))
+        self.expect(f"behind a refused put nothing is lost: {ran.stdout}", ran.returncode == 0)
+
+    def empty_last(self):
+        """A next file for whose header there was no space hinders no repair."""
+        empty = os.path.join(self.folder, f"{self.last():016}.raftlog")
+        with open(empty, "rb") as file:
+            self.expect("a file is left that holds nothing", not file.read().strip(b"\0"))
+        ran = self.do("repair")
+        self.expect(f"a repair: {ran.stderr}", ran.returncode == 0 and b"held nothing" in ran.stderr)
+        self.expect("the empty file is gone", not os.path.exists(empty))
+        self.keeps_all("behind a repair")
 
     def kept_cut(self):
         path = os.path.join(self.folder, f"{self.last():016}.raftlog")
@@ -94,13 +104,9 @@ class FullDisk(Tests):
         self.expect(f"a repair without: {ran.stderr}", ran.returncode == 0)
         self.keeps_all("behind a repair")
 
-    def empty_last(self):
-        empty = os.path.join(self.folder, f"{self.last() + 1:016}.raftlog")
-        add(empty, b"")
-        ran = self.do("repair")
-        self.expect(f"a repair: {ran.stderr}", ran.returncode == 0 and b"no byte" in ran.stderr)
-        self.expect("the empty file is gone", not os.path.exists(empty))
-        add(empty, b"")
+    def purged(self):
+        """A purge frees space, also where there is an empty file."""
+        add(os.path.join(self.folder, f"{self.last() + 1:016}.raftlog"), b"")
         count = len(logs_in(self.folder))
         ran = self.do("purge")
         self.expect(f"a purge: {ran.stderr}", ran.returncode == 0 and len(logs_in(self.folder)) < count - 1)
@@ -115,8 +121,9 @@ def on_disk(program, disk):
     tests.fill()
     tests.looks_on()
     tests.refused_put()
-    tests.kept_cut()
     tests.empty_last()
+    tests.kept_cut()
+    tests.purged()
     print(f"{tests.tried} cases, {tests.bad} wrong")
     return 1 if tests.bad else 0
 

@@ -26,7 +26,9 @@ pub(crate) fn keep(rt: &HostRuntime, folder: &str, name: &str, bytes: &[u8]) -> 
 }
 
 fn unkept(place: &str, error: &io::Error) -> anyhow::Error {
-    anyhow!("what is cut off cannot be kept: {place}: {error}; `--no-keep` goes on without")
+    anyhow!("{error}; `--no-keep` goes on without").context(anyhow!(
+        "what is cut off cannot be kept: {place}"
+    ))
 }
 
 /// A name like this one in a folder, that nothing has.

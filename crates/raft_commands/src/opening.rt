@@ -55,8 +55,8 @@ fn open_without_empty<R: Threads + Sync, F: FileSystem + Drop>(
     Err(refusal(alloc, Refused { fault, file_system }, options))
 }
 
-// Deletes the last file of each queue that has no byte, where another one stands before it, and tells
-// whether there was one.
+// Deletes the last file of each queue that holds nothing, where another one stands before it, and tells
+// whether there was one. A rotation that finds no space leaves such a file.
 fn delete_empty<F: FileSystem>(
     rt: &HostRuntime,
     files: &mut F,
@@ -73,7 +73,7 @@ fn delete_empty<F: FileSystem>(
             return Err(failure("an empty file cannot be deleted", &fault));
         }
         let text = format!(in alloc;
-            "{path} had no byte, and no space is left for its header: it was deleted"
+            "{path} held nothing, and no space is left for its header: it was deleted"
         )?;
         note(rt, options, text.as_str())?;
         is_one = true;
@@ -168,7 +168,7 @@ fn refusal<F: FileSystem + Drop>(
     } = refused;
     if let Fault::Corruption = fault {
         if let Ok(Some(said)) = broken(alloc, &mut file_system, options) {
-            return anyhow!("the log cannot be opened: {said}");
+            return anyhow!("{said}").context("the log cannot be opened");
         }
     }
     failure("the log cannot be opened", &fault)

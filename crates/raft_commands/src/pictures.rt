@@ -17,7 +17,7 @@ pub(crate) fn print_picture<F: FileSystem>(
     let alloc = rt.alloc();
     match broken(alloc, image, &request.options) {
         Ok(None) => {}
-        Ok(Some(said)) => return Err(anyhow!("the log cannot be drawn: {said}")),
+        Ok(Some(said)) => return Err(anyhow!("{said}").context("the log cannot be drawn")),
         Err(fault) => return Err(failure("the log cannot be drawn", &fault)),
     }
     match drawn(alloc, image, request.folder, &request.options) {

@@ -28,9 +28,9 @@ pub(crate) fn open_folder(rt: HostRuntime, request: &Request<'_>) -> Result<Disk
 
 fn in_use(rt: HostRuntime, folder: &str) -> anyhow::Error {
     if is_looked_at(rt, folder) {
-        return anyhow!("{folder}: it is being looked at; `--wait SECONDS` waits for its end");
+        return anyhow!("it is being looked at; `--wait SECONDS` waits for its end").context(folder);
     }
-    anyhow!("{folder}: it is open already; `--wait SECONDS` waits for its end")
+    anyhow!("it is open already; `--wait SECONDS` waits for its end").context(folder)
 }
 
 // Whether those that have it only look: they share the lock.

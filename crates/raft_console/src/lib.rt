@@ -25,28 +25,26 @@ const REFUSED: &str = "the system refused a call on it";
 
 /// Whether such a call is told of.
 pub fn is_refusal(alloc: Global, error: &anyhow::Error) -> Result<bool, AllocError> {
-    Ok(format!(in alloc; "{error}")?.contains(REFUSED))
+    Ok(format!(in alloc; "{error:#}")?.contains(REFUSED))
 }
 
-/// What couldn't be done, why, and what helps.
+/// What couldn't be done, why, and what helps. What couldn't be done and why have room for 120 bytes each.
 pub fn failure(what: &str, fault: &Fault) -> anyhow::Error {
+    cause_of(fault).context(what)
+}
+
+fn cause_of(fault: &Fault) -> anyhow::Error {
     match fault {
         Fault::Io(IoKind::NoSpace, path) => anyhow!(
-            "{what}: {path}: no space is left on its disk for the header of a file, 69 bytes, or for \
-            what was to be written: free a block or more; all that was answered stands"
+            "{path}: no space is left: free a block or more; all that was answered stands"
         ),
         Fault::TryAgain => anyhow!(
-            "{what}: no space is left on its disk in two log files: free a block or more; all that was \
-            answered stands"
+            "no space is left, in two files: free a block or more; all that was answered stands"
         ),
-        Fault::Io(IoKind::NotFound, path) => anyhow!(
-            "{what}: {path}: the system finds no such file"
-        ),
-        Fault::Io(IoKind::Other, path) => anyhow!("{what}: {path}: {}", REFUSED),
-        Fault::Lz4 => anyhow!(
-            "{what}: {fault}; entries that Lz4 compressed are read by raft-engine alone"
-        ),
-        _ => anyhow!("{what}: {fault}"),
+        Fault::Io(IoKind::NotFound, path) => anyhow!("{path}: the system finds no such file"),
+        Fault::Io(IoKind::Other, path) => anyhow!("{path}: {REFUSED}"),
+        Fault::Lz4 => anyhow!("{fault}; entries that Lz4 compressed are read by raft-engine alone"),
+        _ => anyhow!("{fault}"),
     }
 }
 

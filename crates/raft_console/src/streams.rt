@@ -30,6 +30,6 @@ fn take_if_closed<S: AsFd>(rt: &HostRuntime, stream: &S, options: &OpenOptions) 
             file.into_raw_fd();
             Ok(())
         }
-        Err(e) => bail!("{NULL}, in place of a closed stream: {e}"),
+        Err(e) => bail!("a stream is closed, and {NULL} can't stand for it: {e}"),
     }
 }

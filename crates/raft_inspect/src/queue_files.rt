@@ -129,10 +129,11 @@ impl QueueFiles {
         self.files.get(self.passed..).unwrap_or(&[])
     }
 
-    /// The path of the last file, where it has no byte and another one stands before it.
+    /// The path of the last file, where it has no header and nothing but zeros, and another one stands before it.
     pub fn empty_last(&self) -> Option<&str> {
         let last = self.kept_files().len().checked_sub(1)?;
-        if last == 0 || self.kept_checks().get(last)?.len > 0 {
+        let check = self.kept_checks().get(last)?;
+        if last == 0 || check.end > 0 || !check.zeros {
             return None;
         }
         Some(self.kept_files().get(last)?.path.as_str())

@@ -117,22 +117,21 @@ fn misread(alloc: Global, path: &str, text: &str, reason: &str) -> anyhow::Error
     if let Some((key, wanted)) = KEYS.iter().find(|(key, _)| *key == reason) {
         return match line_of_key(text, key) {
             Some((number, line)) => {
-                anyhow!(
-                    "{path}: line {number}: `{}`: {key} is {wanted}",
+                anyhow!("{key} is {wanted}").context(anyhow!(
+                    "{path}: line {number}: `{}`",
                     line.trim()
-                )
+                ))
             }
-            None => anyhow!("{path}: {key} is {wanted}"),
+            None => anyhow!("{key} is {wanted}").context(path),
         };
     }
     match toml::table_from_str(alloc, text) {
         Err(e) => {
             let at = e.span().map_or(0, |span| span.start);
-            anyhow!(
-                "{path}: line {}: no TOML: {}",
-                line_at(text, at),
-                e.message()
-            )
+            anyhow!("no TOML: {}", e.message()).context(anyhow!(
+                "{path}: line {}",
+                line_at(text, at)
+            ))
         }
         Ok(_) => anyhow!("{path}: {reason}"),
     }

@@ -58,7 +58,7 @@ fn print_completion(rt: &HostRuntime) -> Result<()> {
 }
 
 fn failed(rt: &HostRuntime, error: &anyhow::Error) -> ExitCode {
-    let _ = eprintln!(rt; "raftctl: {error}");
+    let _ = eprintln!(rt; "raftctl: {error:#}");
     ExitCode::FAILURE
 }
 
