@@ -117,6 +117,9 @@ static void call(raft_c_handle *handle, const struct parts_change *change, bool 
     case PARTS_SYNC: raft_c_sync(handle); break;
     case PARTS_COMPACT_TO: raft_c_compact_to(handle, change->group, change->index); break;
     case PARTS_REWRITE_APPEND: raft_c_must_rewrite_append_queue(handle); break;
+    case PARTS_REWRITE_GROUPS:
+        raft_c_must_rewrite_append_groups(handle, change->watermark, change->from, change->budget);
+        break;
     case PARTS_REWRITE_REWRITE: raft_c_must_rewrite_rewrite_queue(handle); break;
     case PARTS_PURGE_STALE: raft_c_must_purge_all_stale(handle); break;
     /* No file is kept for anybody. */
@@ -142,8 +145,7 @@ static void hand_over(raftlog *log, struct parts_change *change, bool sync) {
         uint64_t len = raft_c_answer(&log->handle, change->answer->data, change->answer->room);
         if (!parts_take_answer(log, change->answer, len)) change->code = RAFTLOG_NO_MEMORY;
     } else if (change->kind >= PARTS_COMPACT_TO) {
-        uint64_t other;
-        raft_c_numbers(&log->handle, &change->found, &other);
+        raft_c_numbers(&log->handle, &change->found, &change->found_too);
     }
     pthread_mutex_unlock(&log->lock);
 }
