@@ -1,5 +1,5 @@
 -- What a trial finds, and what may be left after its operations.
-use Rattle.std.proofs.Common.{◌≡◌, ◌⊎◌, ℕ, ◌+◌, ◌≤◌, inl, inr, ⊎_elim, List, [], ◌∷◌, ◌++◌, length, length-append, length-drop, take, drop, Option, Some, None, refl, sym, ◌∙◌, ap, subst, arith}
+use Rattle.std.proofs.Common.{◌≡◌, ◌⊎◌, ℕ, ◌+◌, inl, inr, ⊎_elim, List, [], ◌∷◌, ◌++◌, length, length-append, length-drop, take, drop, Option, Some, None, refl, sym, ◌∙◌, ap, subst, arith}
 use Rattle.std.specs.Prelude.{IfOk, IsSomeAnd, Result, Ok, Err}
 use Rattle.std.proofs.lemmas.List.{drop-append-le, take-append-le}
 use Rattle.std.proofs.lemmas.List.Sums.{fold-append}
@@ -8,7 +8,7 @@ use Rattle.std.proofs.Math.Seq.{take-add}
 use Rattle.raft_base.specs.declared.errors.Fault.{Fault}
 use Rattle.raft_records.specs.Contents.{Contents, after_batch, after_batches, no_contents}
 use Rattle.raft_records.specs.Item.{Batch}
-use Rattle.raft_env.specs.Directory.{CrashImage, Directory, IsRestarted, Leaves}
+use Rattle.raft_env.specs.Directory.{CrashImage, Directory, IsRestarted}
 use Rattle.raft_env.specs.declared.env.FileSystem.{Ghosts}
 use Rattle.raft_memory.specs.Choice.{left_by}
 use Rattle.raft_memory.specs.Memory.{memory_directory}
@@ -19,8 +19,7 @@ use Rattle.raft_config.specs.declared.config.Config.{Config}
 use Rattle.raft_tables.specs.Known.{known_in}
 use Rattle.raft_crash_laws.specs.Contents.{contents_at}
 use Rattle.raft_crash_laws.specs.Crash.{IsAllowedFrom, LeavesAllowed, contents_after_crash}
-use Rattle.raft_crash_laws.specs.Queues.{AreDetectableIn}
-use Rattle.raft_log_engine.specs.Engine.{contents_of, directory_of, durable_of, folders_of, unsynced_of}
+use Rattle.raft_log_engine.specs.Engine.{directory_of, durable_of, folders_of, unsynced_of}
 use Rattle.raft_log_engine.specs.Image.{IsImageOf}
 use Rattle.raft_log_engine.specs.declared.engine.Engine.{Engine}
 use Rattle.raft_log_engine.specs.declared.engine.image.Image.{Image}
@@ -28,9 +27,9 @@ use Rattle.raft_log_engine.proofs.EngineLemmas.{engine_leaves}
 use Rattle.raft_once.specs.Numbers.{shown}
 use Rattle.raft_script.specs.Batches.{batch_of_acts, batches_of_parts}
 use Rattle.raft_script.specs.Called.{IsCalled}
-use Rattle.raft_script.specs.Durability.{IsCall, IsDurableAfter, IsPartlyDurable, MayBeInFlightAt, progress_after_all}
+use Rattle.raft_script.specs.Durability.{IsCall, IsDurableAfter, IsPartlyDurable, progress_after_all}
 use Rattle.raft_script.specs.Headline.{Leads, Progress, last_state, progress_after, progress_from}
-use Rattle.raft_script.specs.Trial.{AreAnswered, AreDetectablyLeft, AreNotAsked, HaveNoLogPath, IsTrialOf, Ran, ran_in}
+use Rattle.raft_script.specs.Trial.{AreAnswered, AreDetectablyLeft, AreNotAsked, HaveNoLogPath, IsTrialOf, ran_in}
 use Rattle.raft_script.specs.declared.operation.Op.{Op}
 use Rattle.raft_script.specs.declared.operation.Op.TheVariants as operation
 use Rattle.raft_script.specs.declared.operation.Op.TheVariants.{Write, WriteGroup, WriteOnce, Sync, Get, CompactTo, First, Last, RewriteAppend, RewriteRewrite, PurgeStale, Purge}
