@@ -1,17 +1,21 @@
-//! The list of operations, its settings, and what is found after a part of it.
+//! Lists of operations with their settings, and what may be left of them.
 
 use raft_allowed::allowed;
 use raft_log_engine::{Config, Image};
 use raft_records::{Fault, ReadableSize};
 use raft_script::{Act, Op, Outcome};
-use raft_test_rows::{Change, Plan, ops_of, settings};
+use raft_test_rows::{
+    Change, EXPIRED, OPERATIONS, PURGES, Plan, REWRITTEN_IN_PARTS, ops_of, settings,
+};
 use std::alloc::{AllocError, Global};
 
-/// Operations, and others of the same number from which is told what may be left of them.
 #[derive(Drop)]
 pub(crate) struct List {
     pub(crate) done: Vec<Op>,
-    pub(crate) told: Vec<Op>,
+    /// The same operations, from which is told what may be left.
+    told: Vec<Op>,
+    /// More than so many KB of log files are purged, each of which has 1 KB.
+    purge_threshold: u64,
 }
 
 /// What operations came to.
@@ -39,20 +43,37 @@ const MIXED: [Plan; 11] = [
     Plan::PurgeStale,
 ];
 
+/// Groups of batches that go to next files.
+const GROUPED: [Plan; 3] = [
+    Plan::WriteGroup(&[
+        (&[Change::Put(1, b"a", &[1; 500])], false),
+        (&[Change::Entries(3, 1, 3, b"x")], true),
+        (&[Change::Put(2, b"c", &[2; 500])], false),
+    ]),
+    Plan::WriteGroup(&[
+        (&[Change::Entries(3, 2, 4, b"y")], false),
+        (
+            &[Change::Delete(1, b"a"), Change::Put(2, b"d", &[3; 500])],
+            false,
+        ),
+    ]),
+    Plan::Groups,
+];
+
 fn put_b(alloc: Global) -> Result<Vec<Act>, AllocError> {
     let key = b"b".to_vec(alloc)?;
     let value = b"b".to_vec(alloc)?;
     Ok(vec![in alloc; Act::Put(1, key, value)]?)
 }
 
-// .. and a put at the end.
+// With a put at the end.
 fn mixed_and_put(alloc: Global) -> Result<Vec<Op>, AllocError> {
     let mut ops = ops_of(alloc, &MIXED)?;
     ops.push(Op::Write(put_b(alloc)?, false))?;
     Ok(ops)
 }
 
-// .. and the same put twice, with the same number.
+// .. twice, with the same number.
 fn mixed_and_once(alloc: Global) -> Result<Vec<Op>, AllocError> {
     let mut ops = ops_of(alloc, &MIXED)?;
     for _ in 0..2 {
@@ -61,35 +82,48 @@ fn mixed_and_once(alloc: Global) -> Result<Vec<Op>, AllocError> {
     Ok(ops)
 }
 
-// Each write asks for a sync.
-fn sync_all(ops: &mut [Op]) {
-    for op in ops.iter_mut() {
-        if let Op::Write(_, sync) = op {
-            *sync = true;
-        }
-    }
+// The operations of a name, and the KB of files above which they purge.
+fn ops_named(alloc: Global, name: &str) -> Result<Option<(Vec<Op>, u64)>, AllocError> {
+    Ok(Some(match name {
+        "put" => (mixed_and_put(alloc)?, 3),
+        "once" => (mixed_and_once(alloc)?, 3),
+        "keys" => (ops_of(alloc, &OPERATIONS)?, 1),
+        "groups" => (ops_of(alloc, &GROUPED)?, 1),
+        "purges" => (ops_of(alloc, &PURGES)?, 1),
+        "watermarks" => (ops_of(alloc, &EXPIRED)?, 1),
+        "parts" => (ops_of(alloc, &REWRITTEN_IN_PARTS)?, 1),
+        _ => return Ok(None),
+    }))
 }
 
 impl List {
-    pub(crate) fn with_a_put(alloc: Global) -> Result<List, AllocError> {
-        Ok(List {
-            done: mixed_and_put(alloc)?,
-            told: mixed_and_put(alloc)?,
-        })
-    }
-
-    pub(crate) fn with_equal_numbers(alloc: Global) -> Result<List, AllocError> {
-        Ok(List {
-            done: mixed_and_once(alloc)?,
-            told: mixed_and_once(alloc)?,
-        })
+    pub(crate) fn named(alloc: Global, name: &str) -> Result<Option<List>, AllocError> {
+        let Some((done, purge_threshold)) = ops_named(alloc, name)? else {
+            return Ok(None);
+        };
+        let Some((told, _)) = ops_named(alloc, name)? else {
+            return Ok(None);
+        };
+        Ok(Some(List {
+            done,
+            told,
+            purge_threshold,
+        }))
     }
 
     /// What may be left is told as if each plain write were synced.
-    pub(crate) fn told_as_synced(alloc: Global) -> Result<List, AllocError> {
-        let mut list = List::with_a_put(alloc)?;
-        sync_all(&mut list.told);
-        Ok(list)
+    pub(crate) fn tell_as_synced(&mut self) {
+        for op in self.told.iter_mut() {
+            if let Op::Write(_, sync) = op {
+                *sync = true;
+            }
+        }
+    }
+
+    pub(crate) fn config(&self, alloc: Global) -> Result<Config, AllocError> {
+        let mut config = settings(alloc)?;
+        config.purge_threshold = ReadableSize::kb(self.purge_threshold);
+        Ok(config)
     }
 
     /// Whether an image is one of what may be left then: nothing where no opening was answered.
@@ -105,11 +139,4 @@ impl List {
         let images = allowed(alloc, &self.told, ran.outcomes, ran.failed_at)?;
         Ok(images.iter().any(|image| *image == *found))
     }
-}
-
-/// A file is full once it has 1 KB, and three of them are purged.
-pub(crate) fn three_files(alloc: Global) -> Result<Config, AllocError> {
-    let mut config = settings(alloc)?;
-    config.purge_threshold = ReadableSize::kb(3);
-    Ok(config)
 }

@@ -1,5 +1,5 @@
-//! Trials of one list of operations: a crash at each call that changes files, and each call refused.
-//! Prints how many there were, and how many found what may not be left. README.md has their names.
+//! Trials of lists of operations, each held against what may be left; prints how many there were.
+//! README.md has the words.
 #![tactic(auto)]
 
 mod lists;
@@ -15,34 +15,34 @@ use std::env;
 use std::process::ExitCode;
 use tally::Tally;
 
-// What comes of the trials of a name, if it is one.
-fn tried(alloc: Global, name: &str) -> Result<Option<Tally>, Fault> {
-    Ok(Some(match name {
-        "put" => stops::each_stop(alloc, &List::with_a_put(alloc)?)?,
-        "once" => stops::each_stop(alloc, &List::with_equal_numbers(alloc)?)?,
-        "as-synced" => stops::objections(alloc, &List::told_as_synced(alloc)?)?,
-        "no-space" => refused(alloc, IoKind::NoSpace)?,
-        "not-found" => refused(alloc, IoKind::NotFound)?,
-        "other" => refused(alloc, IoKind::Other)?,
-        "memory" => stops::without_stop(alloc, &List::with_equal_numbers(alloc)?)?,
+// What comes of the trials that a word names, if it names any.
+fn tried(alloc: Global, word: &str) -> Result<Option<Tally>, Fault> {
+    let Some((name, trials)) = word.split_once('/') else {
+        return Ok(None);
+    };
+    let Some(list) = List::named(alloc, name)? else {
+        return Ok(None);
+    };
+    Ok(Some(match trials {
+        "stops" => stops::each_stop(alloc, &list)?,
+        "as-synced" => stops::objections(alloc, list)?,
+        "no-space" => refusals::each_call(alloc, &list, IoKind::NoSpace)?,
+        "not-found" => refusals::each_call(alloc, &list, IoKind::NotFound)?,
+        "other" => refusals::each_call(alloc, &list, IoKind::Other)?,
+        "whole" => stops::without_stop(alloc, &list)?,
         _ => return Ok(None),
     }))
 }
 
-fn refused(alloc: Global, kind: IoKind) -> Result<Tally, Fault> {
-    let list = List::with_equal_numbers(alloc)?;
-    refusals::each_call(alloc, &list, kind)
-}
-
 fn main(rt: HostRuntime) -> Result<ExitCode, anyhow::Error> {
     let mut all_right = true;
-    for name in env::args(&rt)?.skip(1) {
-        let found = tried(rt.alloc(), name.as_str())?;
+    for word in env::args(&rt)?.skip(1) {
+        let found = tried(rt.alloc(), word.as_str())?;
         let Some(tally) = &found else {
-            println!(rt; "{name}: no trials have this name")?;
+            println!(rt; "{word}: no trials")?;
             return Ok(ExitCode::from(2));
         };
-        println!(rt; "{name}: {tally}")?;
+        println!(rt; "{word}: {tally}")?;
         if let Some(first) = &tally.first_wrong {
             println!(rt; "{first}")?;
             all_right = false;

@@ -1,6 +1,6 @@
 //! Operations of which one call of storage is refused.
 
-use crate::lists::{CameTo, List, three_files};
+use crate::lists::{CameTo, List};
 use crate::tally::Tally;
 use raft_env::{FileSystem, IoKind};
 use raft_log_engine::{Engine, Image};
@@ -42,7 +42,7 @@ struct Ran<F> {
 }
 
 fn run_over<F: FileSystem + Drop>(alloc: Global, list: &List, files: F) -> Result<Ran<F>, Fault> {
-    match Engine::open_in_order(alloc, three_files(alloc)?, files) {
+    match Engine::open_in_order(alloc, list.config(alloc)?, files) {
         Ok(mut engine) => {
             let outcomes = run(alloc, &mut engine, &list.done)?;
             let failed_at = if engine.failed() {
@@ -66,8 +66,8 @@ fn run_over<F: FileSystem + Drop>(alloc: Global, list: &List, files: F) -> Resul
     }
 }
 
-fn image_in<F: FileSystem + Drop>(alloc: Global, files: F) -> Result<Image, Fault> {
-    let mut engine = Engine::open_in_order(alloc, three_files(alloc)?, files)?;
+fn image_in<F: FileSystem + Drop>(alloc: Global, list: &List, files: F) -> Result<Image, Fault> {
+    let mut engine = Engine::open_in_order(alloc, list.config(alloc)?, files)?;
     engine.image()
 }
 
@@ -130,7 +130,7 @@ fn refuse_one(
     };
     for left in [Left::All, Left::Synced, Left::Torn(7, 255)] {
         let choices = choices_of(alloc, &left, MAX_FILES)?;
-        let found = image_in(alloc, ran.files.crash(&choices)?)?;
+        let found = image_in(alloc, list, ran.files.crash(&choices)?)?;
         right = right && list.allows(alloc, came_to, &found)?;
         tally.add_crash();
     }

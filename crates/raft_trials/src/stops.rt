@@ -1,6 +1,6 @@
 //! Operations that stop at each call that changes files, and crash there in 132 ways.
 
-use crate::lists::{CameTo, List, three_files};
+use crate::lists::{CameTo, List};
 use crate::tally::Tally;
 use raft_memory::Choice;
 use raft_records::Fault;
@@ -54,7 +54,7 @@ fn crash_at(
     tally: &mut Tally,
 ) -> Result<bool, Fault> {
     let choices = choices_of(alloc, left, MAX_FILES)?;
-    let shown = trial(alloc, three_files(alloc)?, &list.done, Some(stop), &choices)?;
+    let shown = trial(alloc, list.config(alloc)?, &list.done, Some(stop), &choices)?;
     tally.add_crash();
     if !is_left(alloc, list, &shown)? {
         tally.add_wrong(alloc, &shown)?;
@@ -81,7 +81,7 @@ fn stop_openings(
 ) -> Result<(), Fault> {
     let mut answered: u64 = 0;
     for again in 1..MAX_CALLS {
-        let config = three_files(alloc)?;
+        let config = list.config(alloc)?;
         let ops = list.done.as_slice();
         let shown = trial_twice(
             alloc,
@@ -127,11 +127,13 @@ pub(crate) fn each_stop(alloc: Global, list: &List) -> Result<Tally, Fault> {
     Ok(tally)
 }
 
-/// At each stop a crash that leaves what was synced. What is found wrong is wanted so, and not told.
-pub(crate) fn objections(alloc: Global, list: &List) -> Result<Tally, Fault> {
+/// At each stop a crash that leaves what was synced, where what may be left is told as if each plain
+/// write were synced. So many wrong ones are wanted, and the first isn't told.
+pub(crate) fn objections(alloc: Global, mut list: List) -> Result<Tally, Fault> {
+    list.tell_as_synced();
     let mut tally = Tally::new();
     for stop in 1..MAX_CALLS {
-        if !crash_at(alloc, list, stop, &Left::Synced, &mut tally)? {
+        if !crash_at(alloc, &list, stop, &Left::Synced, &mut tally)? {
             break;
         }
         tally.add_call();
@@ -161,9 +163,9 @@ fn are_without_memory(shown: &Trial) -> bool {
 /// operation or an opening says what it had no memory for, and what is found may be left.
 pub(crate) fn without_stop(alloc: Global, list: &List) -> Result<Tally, Fault> {
     let mut tally = Tally::new();
-    for left in [Left::All, Left::Synced] {
+    for left in [Left::All, Left::Synced, Left::Torn(7, 255)] {
         let choices = choices_of(alloc, &left, MAX_FILES)?;
-        let shown = trial(alloc, three_files(alloc)?, &list.done, None, &choices)?;
+        let shown = trial(alloc, list.config(alloc)?, &list.done, None, &choices)?;
         tally.add_crash();
         let is_right = shown.opened.is_err() || is_left(alloc, list, &shown)?;
         if !is_right || !are_without_memory(&shown) {
