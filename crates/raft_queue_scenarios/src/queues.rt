@@ -5,7 +5,7 @@ ghost use Rattle.raft_pipes.specs.Pipe.{IsPipeOf};
 use crate::folders::{HEADER, have_lengths, settings, store};
 use raft_env::FileSystem;
 use raft_memory::MemoryFileSystem;
-use raft_opening::{ReplayMachine, read_files, settle_or_begin};
+use raft_opening::{NewPipe, ReplayMachine, read_files, settle_or_begin};
 use raft_pipes::{AppendFault, LogFolders, RotationFault, SinglePipe};
 use raft_records::{Fault, FileBlockHandle, FileId, LogItem, LogQueue};
 use std::alloc::Global;
@@ -131,11 +131,15 @@ fn opened<F: FileSystem>(alloc: Global, fs: &mut F) -> Result<SinglePipe<F>, Fau
     let files = folders.find(alloc, queue, fs)?;
     let mode = config.recovery_mode;
     let replayed = read_files(alloc, queue, &files, mode, 512, fs, &mut NoMachine {})?;
-    let version = config.format_version;
-    let spare = Vec::new(alloc);
-    settle_or_begin(
-        alloc, queue, folders, files, replayed, version, spare, 0, 0, fs,
-    )
+    let wanted = NewPipe {
+        queue,
+        folders,
+        version: config.format_version,
+        spare: Vec::new(alloc),
+        capacity: 0,
+        target_size: 0,
+    };
+    settle_or_begin(alloc, wanted, files, replayed, fs)
 }
 
 fn append<F: FileSystem>(
