@@ -16,6 +16,7 @@ import tempfile
 from call_cases import Calls
 from folders import bytes_of, logs_in, numbers_in, reserved_in, state_of
 from loss_cases import Losses
+from stream_cases import Streams
 
 KEYS = 2000
 # A record of a key and a value of 40 bytes has fewer bytes.
@@ -31,7 +32,7 @@ WHOLE = [0, 3, 0, 0, 0, 0, 3, 0, 0, 0, 0, 0, 0, 0, 0, 0, 0, 0, 0, 0]
 BROKEN = [1, 1, 1, 1, 1, 1, 1, 1, 1, 1, 4, 4, 5, 5, 4, 1, 0, 1, 0, 1]
 
 
-class Tests(Losses, Calls):
+class Tests(Losses, Calls, Streams):
     def __init__(self, program, work):
         self.program = os.path.abspath(program)
         self.work = work
@@ -340,6 +341,9 @@ def main():
         tests.dry_runs(thresholds)
         tests.documents()
         tests.killed_forks()
+        tests.full_disk(thresholds)
+        tests.refused_calls()
+        tests.closed_streams()
     print(f"{tests.tried} cases, {tests.bad} wrong")
     return 1 if tests.bad else 0
 

@@ -136,7 +136,6 @@ class Losses:
         make()
         ran = self.run(folder, "put", 1, "a", "b")
         self.expect(f"an opening refuses {what}: {ran.returncode} {ran.stderr}", ran.returncode == 1)
-        if what != "a pipe":
-            ran = self.run(folder, "check")
-            self.expect(f"check foresees {what}: {ran.stdout}", ran.returncode == 5 and b"refused " in ran.stdout)
+        ran = self.run(folder, "check")
+        self.expect(f"check foresees {what}: {ran.stdout}", ran.returncode == 5 and b"refused " in ran.stdout)
         os.unlink(name)

@@ -1,13 +1,13 @@
 //! What the opening before a change would lose: the change is refused, or what is lost is kept.
 
 use crate::kept::{free_name, keep};
-use crate::opening::standing_folders;
+use crate::opening::config;
 use anyhow::{Result, anyhow};
 use raft_command_line::{Request, Verb};
 use raft_console::{failure, note};
 use raft_dump::log_files;
 use raft_env::FileSystem;
-use raft_inspect::{Cut, Losses, Passed, Unexplained, losses_of, queue_name};
+use raft_inspect::{Cut, Losses, Passed, Unexplained, queue_name};
 use raft_records::Fault;
 use std::alloc::{AllocError, Global};
 use std::{fs, io};
@@ -67,8 +67,7 @@ fn found<F: FileSystem>(
     files: &mut F,
     request: &Request<'_>,
 ) -> Result<Losses, Fault> {
-    let folders = standing_folders(alloc, files, &request.options)?;
-    let mut losses = losses_of(alloc, files, &folders, request.options.mode)?;
+    let mut losses = Losses::find(alloc, &config(alloc, &request.options)?, files)?;
     if losses.fails {
         losses.passed.clear();
     }
@@ -237,7 +236,10 @@ fn paths_passed<F: FileSystem>(
     request: &Request<'_>,
 ) -> Result<Vec<String>> {
     let mut paths = Vec::new(alloc);
-    for folder in standing_folders(alloc, files, &request.options)? {
+    for folder in request.options.folders(alloc)? {
+        if !files.is_dir(folder) {
+            continue;
+        }
         let names = match files.list(folder) {
             Ok(names) => names,
             Err(fault) => return Err(anyhow!("{}", fault.with_path(alloc, folder))),

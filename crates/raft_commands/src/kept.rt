@@ -15,14 +15,18 @@ pub(crate) fn keep(rt: &HostRuntime, folder: &str, name: &str, bytes: &[u8]) -> 
                 Ok(()) => return Ok(free),
                 Err(e) => {
                     let _ = fs::remove_file(rt, place.as_str());
-                    return Err(anyhow!("what is cut off cannot be kept: {place}: {e}"));
+                    return Err(unkept(place.as_str(), &e));
                 }
             },
             Err(e) if e.kind() == ErrorKind::AlreadyExists => {}
-            Err(e) => return Err(anyhow!("what is cut off cannot be kept: {place}: {e}")),
+            Err(e) => return Err(unkept(place.as_str(), &e)),
         }
     }
     Err(anyhow!("what is cut off cannot be kept: {folder}/{name}: no name is free"))
+}
+
+fn unkept(place: &str, error: &io::Error) -> anyhow::Error {
+    anyhow!("what is cut off cannot be kept: {place}: {error}; `--no-keep` goes on without")
 }
 
 /// A name like this one in a folder, that nothing has.

@@ -19,6 +19,7 @@ mod repair;
 mod spares;
 mod stat;
 mod stored;
+mod trial;
 mod waiting;
 mod writing;
 

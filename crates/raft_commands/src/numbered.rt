@@ -3,7 +3,7 @@
 use crate::changes::{Change, write};
 use anyhow::Result;
 use raft_command_line::Load;
-use raft_console::{Output, Progress, failure};
+use raft_console::{Output, Progress, failure, print_bytes};
 use raft_env::FileSystem;
 use raft_inspect::Word;
 use raft_log_engine::Engine;
@@ -45,7 +45,7 @@ fn put_next<F: FileSystem>(
         return Err(failure("the keys cannot be loaded", &fault));
     }
     if sync {
-        println!(rt; "synced {number}")?;
+        print_bytes(rt, format!(in rt.alloc(); "synced {number}\n")?.as_bytes())?;
     }
     if load.purge_each > 0 && nth % load.purge_each == 0 {
         if let Err(fault) = engine.purge_expired_files(FileSeq::MAX) {

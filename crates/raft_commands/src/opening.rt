@@ -3,26 +3,98 @@
 use anyhow::{Result, anyhow};
 use raft_command_line::{Options, mode_name};
 use raft_config::{Config, RecoveryMode};
-use raft_console::failure;
+use raft_console::{failure, note};
 use raft_env::FileSystem;
 use raft_inspect::{QueueFiles, inspect};
 use raft_log_engine::{Engine, Refused};
-use raft_records::{Fault, Fresh, LogQueue};
+use raft_records::{Fault, Fresh, IoKind, LogQueue};
 use std::alloc::{AllocError, Global};
 use std::thread::Threads;
 
 /// Opens the log, whose files are read by as many workers as the settings in force have threads; in
-/// a dry run as one in memory.
+/// a dry run as one in memory. Where the disk has no space for the header of a last file, which holds
+/// nothing, the log is opened without that file.
 pub(crate) fn open<R: Threads + Sync, F: FileSystem + Drop>(
+    rt: &HostRuntime,
     threads: &R,
-    alloc: Global,
     files: F,
     options: &Options<'_>,
 ) -> Result<Engine<F>> {
+    let alloc = rt.alloc();
     if options.changing.dry_run {
         return open_image(threads, alloc, files, options);
     }
-    open_over(threads, alloc, config(alloc, options)?, files, options)
+    match Engine::open_with_file_system(threads, alloc, config(alloc, options)?, files) {
+        Ok(engine) => Ok(engine),
+        Err(refused) => open_without_empty(rt, threads, refused, options),
+    }
+}
+
+fn open_without_empty<R: Threads + Sync, F: FileSystem + Drop>(
+    rt: &HostRuntime,
+    threads: &R,
+    refused: Refused<F>,
+    options: &Options<'_>,
+) -> Result<Engine<F>> {
+    let alloc = rt.alloc();
+    let Refused {
+        fault,
+        mut file_system,
+    } = refused;
+    if let Fault::Io(IoKind::NoSpace, _) = &fault {
+        if delete_empty(rt, &mut file_system, options)? {
+            return open_over(
+                threads,
+                alloc,
+                config(alloc, options)?,
+                file_system,
+                options,
+            );
+        }
+    }
+    Err(refusal(alloc, Refused { fault, file_system }, options))
+}
+
+// Deletes the last file of each queue that has no byte, where another one stands before it, and tells
+// whether there was one.
+fn delete_empty<F: FileSystem>(
+    rt: &HostRuntime,
+    files: &mut F,
+    options: &Options<'_>,
+) -> Result<bool> {
+    let alloc = rt.alloc();
+    let mut is_one = false;
+    for queue in [LogQueue::Append, LogQueue::Rewrite] {
+        let Some(path) = empty_last(alloc, files, queue, options)? else {
+            continue;
+        };
+        if let Err(fault) = files.delete(path.as_str()) {
+            let fault = fault.with_path(alloc, path.as_str());
+            return Err(failure("an empty file cannot be deleted", &fault));
+        }
+        let text = format!(in alloc;
+            "{path} had no byte, and no space is left for its header: it was deleted"
+        )?;
+        note(rt, options, text.as_str())?;
+        is_one = true;
+    }
+    Ok(is_one)
+}
+
+fn empty_last<F: FileSystem>(
+    alloc: Global,
+    files: &mut F,
+    queue: LogQueue,
+    options: &Options<'_>,
+) -> Result<Option<String>> {
+    let found = match inspect(alloc, files, &options.folders(alloc)?, queue) {
+        Ok(found) => found,
+        Err(fault) => return Err(failure("the files cannot be checked", &fault)),
+    };
+    match found.empty_last() {
+        Some(path) => Ok(Some(String::from_str(alloc, path)?)),
+        None => Ok(None),
+    }
 }
 
 /// Opens a log in memory, which is looked at alone: no file is made ahead there.
@@ -56,21 +128,6 @@ pub(crate) fn close<F: FileSystem + Drop>(engine: Engine<F>) -> Result<()> {
         Ok(_) => Ok(()),
         Err(refused) => Err(failure("the log cannot be closed", &refused.fault)),
     }
-}
-
-/// The folders of the options that stand; an opening makes the second one where it is missing.
-pub(crate) fn standing_folders<'a, F: FileSystem>(
-    alloc: Global,
-    files: &F,
-    options: &Options<'a>,
-) -> Result<Vec<&'a str>, AllocError> {
-    let mut folders = Vec::new(alloc);
-    for folder in options.folders(alloc)? {
-        if files.is_dir(folder) {
-            folders.push(folder)?;
-        }
-    }
-    Ok(folders)
 }
 
 /// The settings in force: what the options name, over those of the file.
@@ -123,7 +180,7 @@ pub(crate) fn broken<F: FileSystem>(
     files: &mut F,
     options: &Options<'_>,
 ) -> Result<Option<String>, Fault> {
-    let folders = standing_folders(alloc, files, options)?;
+    let folders = options.folders(alloc)?;
     for queue in [LogQueue::Append, LogQueue::Rewrite] {
         let found = inspect(alloc, files, &folders, queue)?;
         if let Some(said) = broken_place(alloc, &found, options.mode)? {

@@ -1,6 +1,6 @@
 //! A picture of the files, and of what the index still refers to.
 
-use crate::opening::{broken, standing_folders};
+use crate::opening::broken;
 use anyhow::{Result, anyhow};
 use raft_command_line::{Options, Request};
 use raft_console::{Status, failure, print_bytes};
@@ -35,7 +35,7 @@ fn drawn<F: FileSystem>(
     title: &str,
     options: &Options<'_>,
 ) -> Result<String, Fault> {
-    let folders = standing_folders(alloc, image, options)?;
+    let folders = options.folders(alloc)?;
     let rewrite = inspect(alloc, image, &folders, LogQueue::Rewrite)?;
     let append = inspect(alloc, image, &folders, LogQueue::Append)?;
     let usage = measure(alloc, image, &rewrite, &append)?;

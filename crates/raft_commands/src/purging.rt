@@ -26,7 +26,7 @@ pub(crate) fn purge<R: Threads + Sync, F: FileSystem + Drop>(
     let mut progress = Progress::new(*rt, options.quiet)?;
     let before = find(alloc, &mut files, options)?;
     progress.begin("the log is being opened")?;
-    let engine = open(threads, alloc, files, options)?;
+    let engine = open(rt, threads, files, options)?;
     let mut left = purge_and_close(alloc, engine, purge, &mut progress, out)?;
     let after = find(alloc, &mut left, options)?;
     let gone = before.gone(&left);

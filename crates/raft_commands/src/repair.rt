@@ -21,7 +21,7 @@ pub(crate) fn repair<R: Threads + Sync, F: FileSystem + Drop>(
     let Some(taken) = guard(rt, &mut files, request)? else {
         return Ok(Status::Refused);
     };
-    match open(threads, rt.alloc(), files, &request.options) {
+    match open(rt, threads, files, &request.options) {
         Ok(engine) => {
             add_taken(&taken, false, out)?;
             close(engine)?;

@@ -1,7 +1,7 @@
 //! What a folder holds, in numbers.
 
 use crate::keys::count;
-use crate::opening::{open_image, standing_folders};
+use crate::opening::open_image;
 use crate::stored::Total;
 use anyhow::Result;
 use raft_command_line::Options;
@@ -65,7 +65,7 @@ fn sizes_of<F: FileSystem>(
     files: &mut F,
     options: &Options<'_>,
 ) -> Result<Sizes, Fault> {
-    let folders = standing_folders(alloc, files, options)?;
+    let folders = options.folders(alloc)?;
     let append = inspect(alloc, files, &folders, LogQueue::Append)?;
     let rewrite = inspect(alloc, files, &folders, LogQueue::Rewrite)?;
     let usage = measure(alloc, files, &rewrite, &append)?;

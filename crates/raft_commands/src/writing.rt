@@ -9,10 +9,11 @@ use crate::opening::{close, open};
 use crate::purging::purge;
 use crate::repair::repair;
 use crate::spares::note_prefill;
+use crate::trial::tell_refusal;
 use crate::waiting::open_folder;
-use anyhow::{Result, anyhow};
+use anyhow::{Error, Result, anyhow};
 use raft_command_line::{Request, Verb};
-use raft_console::{Output, Progress, Status, bytes_of, failure};
+use raft_console::{Output, Progress, Status, bytes_of, failure, is_refusal};
 use raft_env::FileSystem;
 use raft_log_engine::Engine;
 use raft_looks::Folder;
@@ -32,10 +33,20 @@ pub fn change<R: Threads + Sync>(
     }
     let files = open_folder(rt, request)?;
     let changed = change_files(&rt, threads, files, request);
-    if changed.is_err() {
-        tell_hindrances(rt, request)?;
+    if let Err(error) = &changed {
+        // What can't be told hides no error.
+        let _ = tell_causes(rt, request, error);
     }
     changed
+}
+
+// What the system says, where a change failed.
+fn tell_causes(rt: HostRuntime, request: &Request<'_>, error: &Error) -> Result<()> {
+    tell_hindrances(rt, request)?;
+    if is_refusal(rt.alloc(), error)? {
+        tell_refusal(&rt, request.folder)?;
+    }
+    Ok(())
 }
 
 // What the system refuses of the log's own files, where a change failed.
@@ -101,7 +112,7 @@ fn change_log<R: Threads + Sync, F: FileSystem + Drop>(
     request: &Request<'_>,
     out: &mut Output,
 ) -> Result<Status> {
-    let mut engine = open(threads, rt.alloc(), files, &request.options)?;
+    let mut engine = open(rt, threads, files, &request.options)?;
     carry_out(rt, &mut engine, request, out)?;
     if request.sync {
         close(engine)?;

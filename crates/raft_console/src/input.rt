@@ -25,8 +25,10 @@ pub fn bytes_of(rt: &HostRuntime, word: &str, hex: bool) -> Result<Vec<u8>> {
 
 fn input(rt: &HostRuntime) -> Result<Vec<u8>> {
     let mut bytes = Vec::new(rt.alloc());
-    rt.reader().read_to_end(&mut bytes)?;
-    Ok(bytes)
+    match rt.reader().read_to_end(&mut bytes) {
+        Ok(_) => Ok(bytes),
+        Err(e) => bail!("standard input: {e}"),
+    }
 }
 
 /// The bytes of a file, or of standard input for `-`.

@@ -6,6 +6,7 @@ mod line_input;
 mod output;
 mod progress;
 mod status;
+mod streams;
 
 use anyhow::anyhow;
 pub use input::{bytes_of, file_or_input};
@@ -15,23 +16,37 @@ pub use progress::Progress;
 use raft_base::{Fault, IoKind};
 use raft_command_line::Options;
 pub use status::Status;
+use std::alloc::{AllocError, Global};
 use std::io;
+pub use streams::take_closed_streams;
+
+/// What is told of a call whose fault has no text of the system's.
+const REFUSED: &str = "the system refused a call on it";
+
+/// Whether such a call is told of.
+pub fn is_refusal(alloc: Global, error: &anyhow::Error) -> Result<bool, AllocError> {
+    Ok(format!(in alloc; "{error}")?.contains(REFUSED))
+}
 
 /// What couldn't be done, why, and what helps.
 pub fn failure(what: &str, fault: &Fault) -> anyhow::Error {
-    match advice(fault) {
-        Some(advice) => anyhow!("{what}: {fault}; {advice}"),
-        None => anyhow!("{what}: {fault}"),
-    }
-}
-
-fn advice(fault: &Fault) -> Option<&'static str> {
     match fault {
-        Fault::Io(IoKind::NoSpace, _) => Some(
-            "free space on its disk: all that was answered stands",
+        Fault::Io(IoKind::NoSpace, path) => anyhow!(
+            "{what}: {path}: no space is left on its disk for the header of a file, 69 bytes, or for \
+            what was to be written: free a block or more; all that was answered stands"
         ),
-        Fault::Lz4 => Some("entries that Lz4 compressed are read by raft-engine alone"),
-        _ => None,
+        Fault::TryAgain => anyhow!(
+            "{what}: no space is left on its disk in two log files: free a block or more; all that was \
+            answered stands"
+        ),
+        Fault::Io(IoKind::NotFound, path) => anyhow!(
+            "{what}: {path}: the system finds no such file"
+        ),
+        Fault::Io(IoKind::Other, path) => anyhow!("{what}: {path}: {}", REFUSED),
+        Fault::Lz4 => anyhow!(
+            "{what}: {fault}; entries that Lz4 compressed are read by raft-engine alone"
+        ),
+        _ => anyhow!("{what}: {fault}"),
     }
 }
 

@@ -1,6 +1,6 @@
 //! What a command prints.
 
-use anyhow::Result;
+use anyhow::{Result, anyhow};
 use raft_command_line::Options;
 use raft_inspect::{Field, Lines, Word};
 use std::io::{self, Write};
@@ -35,7 +35,7 @@ impl Output {
     /// Prints a value: as its bytes alone, where that is asked for, else on a line.
     pub fn value(&mut self, value: &[u8]) -> Result<()> {
         if self.raw {
-            return Ok(print_bytes(&self.rt, value)?);
+            return print_bytes(&self.rt, value);
         }
         self.line(&[("value", Word::Bytes(value))])
     }
@@ -62,8 +62,9 @@ impl Output {
 }
 
 /// Prints these bytes.
-pub fn print_bytes(rt: &HostRuntime, bytes: &[u8]) -> io::Result<()> {
-    let mut writer = io::writer(rt);
-    writer.write_all(bytes)?;
-    writer.flush()
+pub fn print_bytes(rt: &HostRuntime, bytes: &[u8]) -> Result<()> {
+    match io::writer(rt).write_all(bytes) {
+        Ok(()) => Ok(()),
+        Err(e) => Err(anyhow!("standard output: {e}")),
+    }
 }

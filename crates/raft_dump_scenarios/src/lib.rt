@@ -8,6 +8,8 @@ mod checks;
 #[cfg(test)]
 mod dumps;
 #[cfg(test)]
+mod losses;
+#[cfg(test)]
 mod parts;
 #[cfg(test)]
 mod refused;

@@ -31,7 +31,7 @@ pub mod debug {
 
 /// What an opening would lose of the log files, found before it.
 pub mod losses {
-    pub use raft_inspect::{Cut, Losses, Passed, Unexplained, losses_of};
+    pub use raft_inspect::{Cut, Losses, Passed, Unexplained};
 }
 
 /// One engine for many threads, beside the history of their calls.
@@ -50,6 +50,7 @@ pub mod script {
 
 pub use config::{Config, RecoveryMode};
 pub use env::{DiskFileSystem, FileSystem, MemoryFileSystem};
+pub use losses::Losses;
 pub use raft_fork::{CopyDetails, fork};
 pub use raft_log_engine::{
     Engine, Event, EventListener, EventSink, FileKeeper, FileSpans, GroupImage, Image, Listeners,

@@ -1,2 +1,4 @@
 pub mod Behind
 pub mod Checks
+pub mod Cuts
+pub mod Losses

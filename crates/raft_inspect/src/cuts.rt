@@ -1,9 +1,14 @@
 //! What an opening cuts off of log files.
+ghost use Rattle.std.specs.Prelude.{◌≡◌, ◌++◌, ◌⊎◌, [], None, Some, drop, map, if◌then◌else◌, IfErr, IfOk, OnOk};
+ghost use Rattle.std.specs.Option.{option_map};
+ghost use Rattle.raft_base.specs.declared.errors.Fault.TheVariants.{Memory};
+ghost use Rattle.raft_dump.specs.Check.{planned_stop};
+ghost use Rattle.raft_inspect.specs.Cuts.{IsToldOf, cut_as, cuts_in, place_in, place_of};
 
 use crate::behind::{Behind, search_behind};
 use crate::queue_files::QueueFiles;
 use raft_config::RecoveryMode;
-use raft_dump::{FileCheck, LogFile, Planned, build_file_reader};
+use raft_dump::{FileCheck, LogFile, build_file_reader};
 use raft_env::FileSystem;
 use raft_records::{Fault, FileBlockHandle, FileId, Version};
 use std::alloc::{AllocError, Global};
@@ -36,17 +41,43 @@ pub enum Unexplained {
 }
 
 impl Cut {
-    fn new(
+    // What an opening that tolerates broken bytes, or doesn't, cuts off of a file. Zeros that were made
+    // ahead hold nothing, and aren't told.
+    fn planned(
         file: &LogFile,
         check: &FileCheck,
-        offset: usize,
+        is_tolerant: bool,
         is_last: bool,
-    ) -> Result<Cut, AllocError> {
+    ) -> Result<Option<Cut>, AllocError>
+        ensures value { IfOk result (λ cut. option_map place_of cut
+            ≡ cut_as (planned_stop is_tolerant check.now.end check.now.stop) file.now check.now) }
+    {
+        match &check.stop {
+            None => Ok(None),
+            Some(Fault::Corruption) if is_tolerant => Cut::broken(file, check, is_last),
+            Some(_) => Ok(None),
+        }
+    }
+
+    fn broken(file: &LogFile, check: &FileCheck, is_last: bool) -> Result<Option<Cut>, AllocError>
+        ensures value { IfOk result (λ cut. option_map place_of cut
+            ≡ (if check.now.zeros then None else Some (place_in file.now check.now))) }
+    {
+        if check.zeros {
+            return Ok(None);
+        }
+        Ok(Some(Cut::new(file, check, is_last)?))
+    }
+
+    // From where its reading ends on.
+    fn new(file: &LogFile, check: &FileCheck, is_last: bool) -> Result<Cut, AllocError>
+        ensures value { IfOk result (IsToldOf file.now check.now) }
+    {
         Ok(Cut {
             id: file.id,
             path: file.path.clone()?,
-            offset,
-            len: check.len.saturating_sub(offset),
+            offset: check.end,
+            len: check.len.saturating_sub(check.end),
             stale: check.stale,
             is_last,
             version: check.format.map(|format| format.version),
@@ -87,23 +118,42 @@ impl Cut {
     }
 }
 
+impl QueueFiles {
+    /// Adds what an opening in a mode, where it doesn't fail, cuts off of the files that it keeps.
+    pub(crate) fn add_cuts(&self, mode: RecoveryMode, cuts: &mut Vec<Cut>) -> Result<(), AllocError>
+        ensures value { OnOk result (map place_of cuts.new.items ≡ map place_of cuts.old.items
+            ++ cuts_in mode (drop self.now.passed self.now.files.items)
+            (drop self.now.passed self.now.checks.items)) }
+    {
+        let mut files = self.kept_files();
+        let mut checks = self.kept_checks();
+        'files: while let Some((check, checks_left)) = checks.split_first() {
+            let Some((file, files_left)) = files.split_first() else {
+                return Ok(());
+            };
+            let is_last = checks_left.is_empty();
+            let is_tolerant = mode.tolerates_corruption(is_last);
+            if let Some(cut) = Cut::planned(file, check, is_tolerant, is_last)? {
+                cuts.push(cut)?;
+            }
+            files = files_left;
+            checks = checks_left;
+        }
+        Ok(())
+    }
+}
+
 /// What an opening in a mode cuts off of the files of a queue; nothing where it fails. Zeros that were made ahead hold
 /// nothing, and aren't told.
-pub fn cuts_of(alloc: Global, found: &QueueFiles, mode: RecoveryMode) -> Result<Vec<Cut>, Fault> {
+pub fn cuts_of(alloc: Global, found: &QueueFiles, mode: RecoveryMode) -> Result<Vec<Cut>, Fault>
+    ensures value { IfOk result (λ cuts. (map place_of cuts.items ≡ [])
+        ⊎ (map place_of cuts.items ≡ cuts_in mode (drop found.now.passed found.now.files.items)
+        (drop found.now.passed found.now.checks.items))) }
+    ensures memory { IfErr result (λ e. e ≡ Memory) }
+{
     let mut cuts = Vec::new(alloc);
-    let plan = found.plan(alloc, mode)?;
-    if plan.contains(&Planned::Fail) || found.is_doubled() {
-        return Ok(cuts);
-    }
-    let last = plan.len().saturating_sub(1);
-    let files = found.kept_files().iter().zip(found.kept_checks());
-    for (place, (planned, (file, check))) in plan.iter().zip(files).enumerate() {
-        match planned {
-            Planned::Cut(offset) if !check.zeros => {
-                cuts.push(Cut::new(file, check, *offset, place == last)?)?;
-            }
-            _ => {}
-        }
+    if !found.fails(alloc, mode)? {
+        found.add_cuts(mode, &mut cuts)?;
     }
     Ok(cuts)
 }

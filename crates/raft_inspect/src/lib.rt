@@ -21,7 +21,7 @@ pub use cuts::{Cut, Unexplained, cuts_of};
 pub use filter::{Filter, ItemKind};
 pub use items::{add_fault, add_item};
 pub use lines::{Field, Lines, Word};
-pub use losses::{Losses, Passed, losses_of};
+pub use losses::{Losses, Passed};
 pub use outlook::Outlook;
 pub use picture::draw;
 pub use queue_files::{QueueFiles, inspect};

@@ -1,12 +1,16 @@
 //! What an opening of both queues would lose.
+ghost use Rattle.std.specs.Prelude.{◌≡◌, ◌++◌, [], false, map, true, IfOk};
+ghost use Rattle.raft_env.specs.Moments.{OnlyReads};
+ghost use Rattle.raft_inspect.specs.Cuts.{place_of};
+ghost use Rattle.raft_inspect.specs.Losses.{AreLossesOf, IsPlannedToFail, cuts_by};
 
-use crate::cuts::{Cut, cuts_of};
+use crate::cuts::Cut;
 use crate::queue_files::{QueueFiles, inspect};
-use raft_config::RecoveryMode;
+use raft_config::{Config, RecoveryMode};
 use raft_dump::FileCheck;
 use raft_env::FileSystem;
 use raft_records::{Fault, LogQueue};
-use std::alloc::Global;
+use std::alloc::{AllocError, Global};
 
 /// Log files of a queue that hold something and that an opening passes over, since a number is
 /// missing behind them.
@@ -21,7 +25,7 @@ pub struct Passed {
     pub missing: u64,
 }
 
-/// What an opening in a mode loses of the log files of both queues.
+/// What an opening loses of the log files of both queues.
 #[derive(Drop)]
 pub struct Losses {
     /// Whether it fails, and so loses nothing.
@@ -30,46 +34,94 @@ pub struct Losses {
     pub passed: Vec<Passed>,
 }
 
-/// What an opening in this mode loses of the log files in these folders. It changes nothing.
-pub fn losses_of<F: FileSystem>(
-    alloc: Global,
-    file_system: &mut F,
-    folders: &[&str],
-    mode: RecoveryMode,
-) -> Result<Losses, Fault> {
-    let mut losses = Losses {
-        fails: false,
-        cuts: Vec::new(alloc),
-        passed: Vec::new(alloc),
-    };
-    for queue in [LogQueue::Rewrite, LogQueue::Append] {
-        let found = inspect(alloc, file_system, folders, queue)?;
-        losses.add_queue(alloc, &found, mode)?;
+impl Losses {
+    /// What an opening with these settings loses of the log's files, found before it and with nothing changed: the bytes
+    /// that it cuts off, zeros that were made ahead left out, and the files that it passes over. It fails as `Io` where a
+    /// storage call failed, or as `Memory`.
+    pub fn find<F: FileSystem>(
+        alloc: Global,
+        config: &Config,
+        file_system: &mut F,
+    ) -> Result<Losses, Fault>
+        ensures value { IfOk result
+            (AreLossesOf config.now.recovery_mode (F.directory file_system.old)) }
+        ensures unchanged { OnlyReads F.directory F.moments F.refusals_of
+            file_system.old file_system.new }
+    {
+        let folders = folders_of(alloc, config)?;
+        let mode = config.recovery_mode;
+        let rewrite = inspect(alloc, file_system, &folders, LogQueue::Rewrite)?;
+        let append = inspect(alloc, file_system, &folders, LogQueue::Append)?;
+        let passed = passed_of(alloc, &rewrite, &append)?;
+        let fails = fails_at(alloc, mode, &rewrite, &append)?;
+        let cuts = cuts_where(alloc, mode, fails, &rewrite, &append)?;
+        Ok(Losses {
+            fails,
+            cuts,
+            passed,
+        })
     }
-    if losses.fails {
-        losses.cuts.clear();
-    }
-    Ok(losses)
 }
 
-impl Losses {
-    fn add_queue(
-        &mut self,
-        alloc: Global,
-        found: &QueueFiles,
-        mode: RecoveryMode,
-    ) -> Result<(), Fault> {
-        if found.is_doubled() || found.failing(alloc, mode)?.is_some() {
-            self.fails = true;
+// The settings' folders, each once.
+fn folders_of<'a>(alloc: Global, config: &'a Config) -> Result<Vec<&'a str>, AllocError> {
+    let mut folders = vec![in alloc; config.dir.as_str()]?;
+    if let Some(spill) = &config.spill_dir {
+        if *spill != config.dir {
+            folders.push(spill.as_str())?;
         }
-        for cut in cuts_of(alloc, found, mode)? {
-            self.cuts.push(cut)?;
-        }
-        if let Some(passed) = found.passed() {
-            self.passed.push(passed)?;
-        }
-        Ok(())
     }
+    Ok(folders)
+}
+
+fn fails_at(
+    alloc: Global,
+    mode: RecoveryMode,
+    rewrite: &QueueFiles,
+    append: &QueueFiles,
+) -> Result<bool, Fault>
+    ensures rewrite { IfOk result (λ fails. IsPlannedToFail mode rewrite.now → fails ≡ true) }
+    ensures append { IfOk result (λ fails. IsPlannedToFail mode append.now → fails ≡ true) }
+{
+    if rewrite.fails(alloc, mode)? {
+        return Ok(true);
+    }
+    append.fails(alloc, mode)
+}
+
+// Of both queues, and nothing where the opening fails.
+fn cuts_where(
+    alloc: Global,
+    mode: RecoveryMode,
+    fails: bool,
+    rewrite: &QueueFiles,
+    append: &QueueFiles,
+) -> Result<Vec<Cut>, AllocError>
+    ensures fails { IfOk result (λ cuts. fails ≡ true → map place_of cuts.items ≡ []) }
+    ensures cuts { IfOk result (λ cuts. fails ≡ false → map place_of cuts.items
+        ≡ cuts_by mode rewrite.now ++ cuts_by mode append.now) }
+{
+    let mut cuts = Vec::new(alloc);
+    if fails {
+        return Ok(cuts);
+    }
+    rewrite.add_cuts(mode, &mut cuts)?;
+    append.add_cuts(mode, &mut cuts)?;
+    Ok(cuts)
+}
+
+fn passed_of(
+    alloc: Global,
+    rewrite: &QueueFiles,
+    append: &QueueFiles,
+) -> Result<Vec<Passed>, AllocError> {
+    let mut passed = Vec::new(alloc);
+    for found in [rewrite, append] {
+        if let Some(each) = found.passed() {
+            passed.push(each)?;
+        }
+    }
+    Ok(passed)
 }
 
 impl QueueFiles {

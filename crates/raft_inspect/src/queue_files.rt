@@ -1,8 +1,9 @@
 //! The log files of a queue, and what can be read of them.
-ghost use Rattle.std.specs.Prelude.{◌≡◌, IfErr, IfOk, drop};
+ghost use Rattle.std.specs.Prelude.{◌≡◌, Contains, IfErr, IfOk, drop, true};
 ghost use Rattle.raft_base.specs.declared.errors.Fault.TheVariants.{Memory};
 ghost use Rattle.raft_env.specs.Moments.{OnlyReads};
 ghost use Rattle.raft_dump.specs.Check.{plan_of};
+ghost use Rattle.raft_dump.specs.declared.plan.Planned.TheVariants.{Fail};
 ghost use Rattle.raft_inspect.specs.Checks.{AreChecksOf};
 
 use raft_config::RecoveryMode;
@@ -21,7 +22,7 @@ pub struct QueueFiles {
     pub passed: usize,
 }
 
-/// Reads the log files of a queue in these folders.
+/// Reads the log files of a queue in these folders. One that isn't there has none.
 pub fn inspect<F: FileSystem>(
     alloc: Global,
     file_system: &mut F,
@@ -72,6 +73,9 @@ fn add_files<F: FileSystem>(
     ensures unchanged { OnlyReads F.directory F.moments F.refusals_of file_system.old
         file_system.new }
 {
+    if !file_system.is_dir(folder) {
+        return Ok(());
+    }
     let names = match file_system.list(folder) {
         Ok(names) => names,
         Err(fault) => return Err(fault.with_path(alloc, folder)),
@@ -119,8 +123,19 @@ impl QueueFiles {
     }
 
     /// The files that an opening doesn't pass over.
-    pub fn kept_files(&self) -> &[LogFile] {
+    pub fn kept_files(&self) -> &[LogFile]
+        ensures value { result.now ≡ drop self.now.passed self.now.files.items }
+    {
         self.files.get(self.passed..).unwrap_or(&[])
+    }
+
+    /// The path of the last file, where it has no byte and another one stands before it.
+    pub fn empty_last(&self) -> Option<&str> {
+        let last = self.kept_files().len().checked_sub(1)?;
+        if last == 0 || self.kept_checks().get(last)?.len > 0 {
+            return None;
+        }
+        Some(self.kept_files().get(last)?.path.as_str())
     }
 
     /// What can be read of each of them.
@@ -150,6 +165,17 @@ impl QueueFiles {
             (Some(before), Some(first)) => before == first.id.seq,
             _ => false,
         }
+    }
+
+    /// Whether an opening in a mode fails for what the files hold, or for two of one number.
+    pub fn fails(&self, alloc: Global, mode: RecoveryMode) -> Result<bool, Fault>
+        ensures planned { IfOk result (λ fails.
+            Contains (plan_of mode (drop self.now.passed self.now.checks.items)) Fail
+            → fails ≡ true) }
+        ensures memory { IfErr result (λ e. e ≡ Memory) }
+    {
+        let plan = self.plan(alloc, mode)?;
+        Ok(plan.contains(&Planned::Fail) || self.is_doubled())
     }
 
     /// The first file at which an opening in a mode fails, and where its reading ends.

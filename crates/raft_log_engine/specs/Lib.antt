@@ -9,6 +9,7 @@ pub mod Indexed
 pub mod Group
 pub mod Durability
 pub mod Advance
+pub mod Loaded
 pub mod Need
 pub mod Once
 pub mod Opening

@@ -3,6 +3,7 @@ pub mod ChoiceLemmas
 pub mod ChoiceTornLemmas
 pub mod ChoiceWholeLemmas
 pub mod CrashedLemmas
+pub mod FileBytesLemmas
 pub mod FilesFolderLemmas
 pub mod FilesLemmas
 pub mod MemoryFileBeforeImagesLemmas

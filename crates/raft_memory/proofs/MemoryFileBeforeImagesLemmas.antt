@@ -61,6 +61,10 @@ module _ (bytes : List ℕ) (saved : BeforeImages) (len : ℕ) (synced : List �
     each = λ i h. k.each i h ∙ still_known (before_image_at saved i) (is_within from size i) (get_or bytes i 0) (get_or after i 0) (same i h) ∙ ap (λ (o : Option ℕ). unwrap_or o (get_or after i 0)) (sym (added i));
   }
 
+  -- bytes that hold the same at each place
+  pub saved_same : (stored : List ℕ) → ((i : ℕ) → get_or stored i 0 ≡ get_or bytes i 0) → IsSaved stored saved len synced
+  saved_same stored same = record { len_is = k.len_is; each = λ i h. k.each i h ∙ ap (unwrap_or (before_image_at saved i)) (sym (same i)) }
+
   pub saved_written : (more : BeforeImages) (at : ℕ) (given kept : List ℕ) → length kept ≤ length given
       → ((i : ℕ) → before_image_at more i ≡ option_or (before_image_at saved i) (cond (is_within at (min len (at + length given) - at) i) (Some (get_or bytes i 0)) None)) → IsSaved (overlay bytes at kept) more len synced
   saved_written more at given kept part added = saved_again more (overlay bytes at kept) at (min len (at + length given) - at) added (λ i h out.

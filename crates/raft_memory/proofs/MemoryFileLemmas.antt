@@ -94,9 +94,3 @@ overlaid_short bytes mid at given some short is =
     ap (λ (l : List ℕ). take at l ++ given ++ drop (at + length given) mid) same
     ∙ ap (λ (l : List ℕ). take at (pad_to bytes (at + length given)) ++ given ++ l) (drop_all _ mid long ∙ sym (drop_all _ bytes (omega arith)))
     ∙ sym (overlaid_is bytes at given (inr some))
-
-pub lengthened : (bytes mid : List ℕ) (size : ℕ) → mid ≡ take (max size (length bytes)) bytes ++ replicate (max size (length bytes) - length bytes) 0 → mid ≡ pad_to bytes size
-lengthened bytes mid size is =
-    let more : max size (length bytes) - length bytes ≡ size - length bytes = omega arith in
-    let whole : length bytes ≤ max size (length bytes) = omega arith in
-    is ∙ ap (λ (l : List ℕ). l ++ replicate (max size (length bytes) - length bytes) 0) (take_all _ _ whole) ∙ ap (λ (n : ℕ). bytes ++ replicate n 0) more

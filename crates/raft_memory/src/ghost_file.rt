@@ -3,6 +3,7 @@ ghost use Rattle.std.specs.Prelude.{◌≡◌};
 ghost use Rattle.std.specs.Borrow.{ftrue};
 ghost use Rattle.raft_env.specs.Outcomes.{File};
 
+use crate::file_bytes::FileBytes;
 use std::marker::Model;
 
 #[derive(Drop)]
@@ -19,12 +20,12 @@ unsafe impl Send for GhostFile {}
 
 unsafe impl Sync for GhostFile {}
 
-/// What became of a file, of which that was known before. The last slice of a step has the file's
-/// bytes then.
+/// What became of a file, of which that was known before. The last bytes of a step are the
+/// file's then.
 #[derive(Clone, Copy, Drop)]
 pub(crate) enum Step<'a> {
-    Write(&'a GhostFile, usize, &'a [u8], bool, &'a [u8]),
-    Resize(&'a GhostFile, &'a [u8]),
+    Write(&'a GhostFile, usize, &'a [u8], bool, &'a FileBytes),
+    Resize(&'a GhostFile, &'a FileBytes),
     Sync(&'a GhostFile),
     Rename(&'a GhostFile),
     /// The file is new, or a crash left these bytes.

@@ -5,6 +5,7 @@ ghost use Rattle.raft_env.specs.Directory.{IsReading};
 ghost use Rattle.raft_env.specs.Refusal.{CountsRefusal};
 ghost use Rattle.raft_memory.specs.Counted.{by_storage};
 
+use crate::file_bytes::FileBytes;
 use raft_env::{FsFault, IoKind};
 
 #[derive(Drop)]
@@ -38,13 +39,13 @@ impl MemoryReader {
 }
 
 /// As many bytes as there are from that place on, at most as many as fit.
-pub(crate) fn copy_from(from: &[u8], at: usize, bytes: &mut [u8]) -> usize
+pub(crate) fn copy_from(from: &FileBytes, at: usize, bytes: &mut [u8]) -> usize
     ensures { IsReading from.now at result bytes.old bytes.new }
 {
     if at >= from.len() {
         return 0;
     }
     let count = bytes.len().min(from.len() - at);
-    bytes[..count].copy_from_slice(&from[at..at + count]);
+    from.copy_to(at, &mut bytes[..count]);
     count
 }

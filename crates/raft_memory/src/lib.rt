@@ -5,6 +5,7 @@ mod armed;
 mod before_images;
 mod calls;
 mod crash;
+mod file_bytes;
 mod ghost_file;
 mod half_write;
 mod handles;

@@ -1,25 +1,21 @@
 //! A file in memory: its bytes now, what its changes since the last sync wrote over, and the ranges
 //! that they touched.
-ghost use Rattle.std.specs.Prelude.{◌≡◌, ◌≤◌, ◌<◌, ◌+◌, ◌-◌, ◌==◌, ◌&&◌, ◌++◌, ◌^◌, ◌||◌, ℕ, [], length, take, drop, if◌then◌else◌, true, OnOk, OnErr, IfOk, IfErr, MatchBool, vec_len, vec_capacity};
+ghost use Rattle.std.specs.Prelude.{◌≡◌, ◌≤◌, ◌<◌, ◌+◌, ◌-◌, ◌==◌, ◌&&◌, ◌^◌, ◌||◌, ℕ, [], length, take, if◌then◌else◌, true, OnOk, OnErr, IfOk, IfErr, MatchBool, vec_len, vec_capacity};
 ghost use Rattle.raft_env.specs.Outcomes.{File, MayLeave, synced_file, file_after_write, file_after_resize, synced_of, renamed_of, longest_of, overlay, pad_to, is_within};
 ghost use Rattle.raft_memory.specs.Choice.{torn_bytes};
 ghost use Rattle.raft_memory.specs.MemoryFile.{IsFileOf, IsSaved, is_covered, SameOutside};
 
 use crate::before_images::BeforeImages;
 use crate::crash::Choice;
+use crate::file_bytes::FileBytes;
 use crate::ghost_file::{GhostFile, Step};
 use raft_base::Fault;
 use std::alloc::{AllocError, Global};
 use std::marker::Model;
 
-/// A file of more bytes than these grows by so many at once.
-const LARGE_FILE: usize = 4 << 20;
-
-const LARGE_GROWTH: usize = 64 << 20;
-
 #[derive(Drop)]
 pub(crate) struct MemoryFile {
-    bytes: Vec<u8>,
+    bytes: FileBytes,
     synced_len: usize,
     saved: BeforeImages,
     ranges: Vec<(usize, usize)>,
@@ -33,9 +29,9 @@ impl Model for MemoryFile {
 
     ghost view = { λ s. s.ghost_file.file };
 
-    ghost invariant = { λ s. IsFileOf s.bytes.items s.ghost_file.file.synced s.ranges.items s.least
+    ghost invariant = { λ s. IsFileOf s.bytes s.ghost_file.file.synced s.ranges.items s.least
         s.greatest s.ghost_file.file
-        × IsSaved s.bytes.items s.saved s.synced_len s.ghost_file.file.synced };
+        × IsSaved s.bytes s.saved s.synced_len s.ghost_file.file.synced };
 }
 
 impl MemoryFile {
@@ -43,7 +39,7 @@ impl MemoryFile {
         ensures { result ≡ synced_file [] }
     {
         MemoryFile {
-            bytes: Vec::new(alloc),
+            bytes: FileBytes::new(alloc),
             synced_len: 0,
             saved: BeforeImages::new(alloc),
             ranges: Vec::new(alloc),
@@ -53,9 +49,8 @@ impl MemoryFile {
         }
     }
 
-    pub(crate) fn bytes(&self) -> &[u8]
+    pub(crate) fn bytes(&self) -> &FileBytes
         ensures value { result.now ≡ self.now.now }
-        ensures fits { length result.now < 2 ^ 63 }
     {
         let _ghost_file = &self.ghost_file;
         &self.bytes
@@ -78,8 +73,8 @@ impl MemoryFile {
     {
         self.ranges.reserve(1)?;
         let end = self.synced_len.min(at + given.len());
-        self.saved.save(&self.bytes, at, end)?;
-        overlay(&mut self.bytes, at, kept)?;
+        self.saved.save(self.bytes.stored(), at, end)?;
+        self.bytes.overlay(at, kept)?;
         add_range(&mut self.ranges, at, given.len());
         self.least = self.least.min(self.bytes.len());
         let longest = longest_of(is_done, at, given.len(), self.bytes.len());
@@ -102,7 +97,7 @@ impl MemoryFile {
     {
         self.ranges.reserve(1)?;
         let from = size.min(self.bytes.len());
-        self.saved.save(&self.bytes, from, self.synced_len)?;
+        self.saved.save(self.bytes.stored(), from, self.synced_len)?;
         add_range(&mut self.ranges, from, self.bytes.len() - from);
         self.bytes.truncate(from);
         self.least = self.least.min(from);
@@ -112,6 +107,7 @@ impl MemoryFile {
     }
 
     pub(crate) fn lengthen(&mut self, size: usize) -> Result<(), AllocError>
+        requires { size < 2 ^ 63 }
         ensures ok { OnOk result (self.new
             ≡ file_after_resize (pad_to self.old.now size) self.old) }
         ensures err { OnErr result (self.new ≡ self.old) }
@@ -119,8 +115,7 @@ impl MemoryFile {
         self.ranges.reserve(1)?;
         let from = self.bytes.len();
         let len = size.max(from);
-        make_room(&mut self.bytes, len)?;
-        self.bytes.resize(len, 0)?;
+        self.bytes.lengthen(len);
         add_range(&mut self.ranges, from, len - from);
         self.least = self.least.min(len);
         self.greatest = self.greatest.max(len);
@@ -163,7 +158,7 @@ impl MemoryFile {
             least: bytes.len(),
             greatest: bytes.len(),
             ghost_file,
-            bytes,
+            bytes: FileBytes::of(bytes),
         }
     }
 
@@ -171,7 +166,7 @@ impl MemoryFile {
     fn synced(&self, alloc: Global) -> Result<Vec<u8>, AllocError>
         ensures ok { IfOk result (λ synced. synced.items ≡ self.now.synced) }
     {
-        let mut synced = self.bytes.to_vec(alloc)?;
+        let mut synced = self.bytes.stored().to_vec(alloc)?;
         synced.resize(self.synced_len, 0)?;
         self.saved.restore(&mut synced);
         Ok(synced)
@@ -187,13 +182,10 @@ impl MemoryFile {
         match choice {
             Choice::All => Ok(self.bytes.to_vec(alloc)?),
             Choice::Synced => Ok(self.synced(alloc)?),
-            Choice::Torn(kept, fill) => Ok(torn_bytes(
-                alloc,
-                &self.bytes,
-                &self.ranges,
-                *kept,
-                *fill,
-            )?),
+            Choice::Torn(kept, fill) => {
+                let now = self.bytes.to_vec(alloc)?;
+                Ok(torn_bytes(alloc, &now, &self.ranges, *kept, *fill)?)
+            }
             Choice::Bytes(bytes) => {
                 let synced = self.synced(alloc)?;
                 if bytes.len() < self.least
@@ -296,43 +288,4 @@ fn add_range(ranges: &mut Vec<(usize, usize)>, from: usize, size: usize)
     let Ok(()) = ranges.push((start, from - start + size)) else {
         unreachable!()
     };
-}
-
-// Writes over what is there, and past the end; no bytes change nothing.
-#[inline(always)]
-fn overlay(bytes: &mut Vec<u8>, at: usize, given: &[u8]) -> Result<(), AllocError>
-    requires { at + length given.now < 2 ^ 63 }
-    ensures ok { OnOk result (bytes.new.items ≡ overlay bytes.old.items at given.now) }
-    ensures err { OnErr result (bytes.new.items ≡ bytes.old.items) }
-{
-    if given.is_empty() {
-        return Ok(());
-    }
-    let end = at + given.len();
-    if end > bytes.len() {
-        make_room(bytes, end)?;
-        bytes.resize(end, 0)?;
-    }
-    put(bytes, at, given);
-    Ok(())
-}
-
-// A large file grows by much at once: so large a piece of memory is moved without a copy.
-fn make_room(bytes: &mut Vec<u8>, end: usize) -> Result<(), AllocError>
-    ensures unchanged { bytes.new.items ≡ bytes.old.items }
-{
-    if bytes.len() <= LARGE_FILE || end <= bytes.capacity() {
-        return Ok(());
-    }
-    bytes.reserve(LARGE_GROWTH)
-}
-
-#[inline(always)]
-fn put(bytes: &mut [u8], at: usize, given: &[u8])
-    requires { at + length given.now ≤ length bytes.old }
-    ensures unchanged { length bytes.new ≡ length bytes.old }
-    ensures ok { bytes.new
-        ≡ take at bytes.old ++ given.now ++ drop (at + length given.now) bytes.old }
-{
-    bytes[at..at + given.len()].copy_from_slice(given);
 }

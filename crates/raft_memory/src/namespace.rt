@@ -126,6 +126,7 @@ impl Namespace {
     }
 
     pub(crate) fn lengthen(&mut self, path: &str, size: usize) -> Result<(), FsFault>
+        requires { size < 2 ^ 63 }
         ensures value { OnOk result (HasFile (namespace_directory self.old) path.now) }
         ensures ok { OnOk result (namespace_directory self.new ≡ update_file path.now
             (λ f. file_after_resize (pad_to f.now size) f) (namespace_directory self.old)) }

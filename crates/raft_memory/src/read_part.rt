@@ -4,6 +4,7 @@ ghost use Rattle.raft_env.specs.Directory.{IsPartAt, file_at};
 ghost use Rattle.raft_env.specs.Moments.{OnlyReads};
 
 use crate::armed::FsCall;
+use crate::file_bytes::FileBytes;
 use crate::memory::MemoryFileSystem;
 use raft_env::{FsFault, IoKind};
 use std::alloc::AllocError;
@@ -50,7 +51,7 @@ impl MemoryFileSystem {
 }
 
 // As many bytes as there are from that place on, at most so many, in place of the buffer's own.
-fn copy_part(from: &[u8], at: usize, len: usize, bytes: &mut Vec<u8>) -> Result<(), AllocError>
+fn copy_part(from: &FileBytes, at: usize, len: usize, bytes: &mut Vec<u8>) -> Result<(), AllocError>
     ensures { OnOk result (bytes.new.items ≡ take len (drop at from.now)) }
 {
     bytes.clear();
@@ -58,5 +59,5 @@ fn copy_part(from: &[u8], at: usize, len: usize, bytes: &mut Vec<u8>) -> Result<
         return Ok(());
     }
     let count = len.min(from.len() - at);
-    bytes.extend_from_slice(&from[at..at + count])
+    from.push_to(at, count, bytes)
 }

@@ -3,6 +3,7 @@ pub mod EntryTableLemmas
 pub mod TableLemmas
 pub mod TablesLemmas
 pub mod MovingLemmas
+pub mod ToMoveLemmas
 pub mod ListingLemmas
 pub mod ContentsLemmas
 pub mod KnownLemmas

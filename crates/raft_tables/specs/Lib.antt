@@ -1,3 +1,4 @@
+pub mod PackedPlace
 pub mod EntryTable
 pub mod KeyHash
 pub mod Table
@@ -20,5 +21,6 @@ pub mod FirstFile
 pub mod FirstFiles
 pub mod MovedEntries
 pub mod Moving
+pub mod ToMove
 pub mod Deleting
 pub mod Replayed

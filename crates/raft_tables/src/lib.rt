@@ -12,6 +12,7 @@ pub mod memtable;
 pub mod memtables;
 mod moving;
 pub mod owed;
+mod packed_place;
 pub mod recovering;
 pub mod rewritten;
 mod span;

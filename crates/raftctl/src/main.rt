@@ -5,13 +5,16 @@ use anyhow::{Result, bail};
 use clap::Error;
 use raft_command_line::{Request, Verb, completion_script, parse};
 use raft_commands::{change, look};
-use raft_console::{Status, print_bytes};
+use raft_console::{Status, print_bytes, take_closed_streams};
 use raft_offline::{fork_folder, print_settings, settings_of};
 use std::env;
 use std::process::ExitCode;
 use std::thread::Threads;
 
 fn main(rt: HostRuntime) -> ExitCode {
+    if let Err(error) = take_closed_streams(&rt) {
+        return failed(&rt, &error);
+    }
     let words = match words(&rt) {
         Ok(words) => words,
         Err(error) => return failed(&rt, &error),
@@ -51,7 +54,7 @@ fn completed(rt: &HostRuntime) -> ExitCode {
 
 fn print_completion(rt: &HostRuntime) -> Result<()> {
     let script = completion_script(rt.alloc())?;
-    Ok(print_bytes(rt, script.as_bytes())?)
+    print_bytes(rt, script.as_bytes())
 }
 
 fn failed(rt: &HostRuntime, error: &anyhow::Error) -> ExitCode {

@@ -10,7 +10,7 @@ pub returns-in-Some-get-clause-value : goal.returns-in-Some-get-clause-value
 returns-in-Some-get-clause-value c =
     let path = string_bytes c.args.handle.now.path in
     let stands : tree.get_by_text c.args.self.now.namespace.files path ≡ Some c.in-Some-get.file.now = search rules in
-    (c.in-Some-get.file.now, file_at-namespace_directory c.args.self.now.namespace path ∙ stands, ap length c.bytes.ensures.value)
+    (c.in-Some-get.file.now, file_at-namespace_directory c.args.self.now.namespace path ∙ stands, c.len.ensures.value ∙ ap length c.bytes.ensures.value)
 
 pub returns-in-None-clause-cause : goal.returns-in-None-clause-cause
 returns-in-None-clause-cause c =

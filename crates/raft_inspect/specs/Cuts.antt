@@ -1,0 +1,43 @@
+-- What an opening cuts off of log files.
+use Rattle.std.specs.Prelude.{◌≡◌, ℕ, ◌-◌, ◌==◌, List, [], ◌∷◌, length, Option, Some, None, if◌then◌else◌}
+use Rattle.std.specs.List.{cons_option}
+use Rattle.std.specs.String.{string_bytes}
+use Rattle.raft_env.specs.Directory.{Path}
+use Rattle.raft_config.specs.Recovery.{tolerates_corruption}
+use Rattle.raft_config.specs.declared.config.RecoveryMode.{RecoveryMode}
+use Rattle.raft_dump.specs.Check.{planned_stop}
+use Rattle.raft_dump.specs.declared.check.FileCheck.{FileCheck}
+use Rattle.raft_dump.specs.declared.files.LogFile.{LogFile}
+use Rattle.raft_dump.specs.declared.plan.Planned.{Planned}
+use Rattle.raft_dump.specs.declared.plan.Planned.TheVariants.{Cut, Fail, Keep}
+use Rattle.raft_inspect.specs.declared.cuts.Cut.{Cut as TheCut}
+
+-- bytes of a file: its path, where they begin, and how many there are
+pub record CutPlace : Type 0 where
+  pub path : Path
+  pub offset : ℕ
+  pub len : ℕ
+
+abbrev pub place_of : TheCut → CutPlace
+place_of c = record { path = string_bytes c.path; offset = c.offset; len = c.len }
+
+-- those behind what can be read of a file
+abbrev pub place_in : LogFile → FileCheck → CutPlace
+place_in f c = record { path = string_bytes f.path; offset = c.end; len = c.len - c.end }
+
+abbrev pub IsToldOf : LogFile → FileCheck → TheCut → Type 0
+IsToldOf f c told = place_of told ≡ place_in f c
+
+-- what is told of a file of which this is planned: zeros that were made ahead hold nothing
+abbrev pub cut_as : Planned → LogFile → FileCheck → Option CutPlace
+cut_as (Cut _) f c = if c.zeros then None else Some (place_in f c)
+cut_as Keep f c = None
+cut_as Fail f c = None
+
+-- .. of each of these files of a queue, with what can be read of them
+abbrev pub cuts_in : RecoveryMode → List LogFile → List FileCheck → List CutPlace
+cuts_in mode files [] = []
+cuts_in mode [] (c ∷ checks) = []
+cuts_in mode (f ∷ files) (c ∷ checks) =
+    cons_option (cut_as (planned_stop (tolerates_corruption mode (length checks == 0)) c.end c.stop) f c)
+    (cuts_in mode files checks)
