@@ -3,7 +3,7 @@
 use raft_allowed::allowed;
 use raft_log_engine::{Config, Image};
 use raft_records::{Fault, ReadableSize};
-use raft_script::{Act, Op, Outcome};
+use raft_script::{Op, Outcome};
 use raft_test_rows::{
     Change, EXPIRED, OPERATIONS, PURGES, Plan, REWRITTEN_IN_PARTS, ops_of, settings,
 };
@@ -60,24 +60,26 @@ const GROUPED: [Plan; 3] = [
     Plan::Groups,
 ];
 
-fn put_b(alloc: Global) -> Result<Vec<Act>, AllocError> {
-    let key = b"b".to_vec(alloc)?;
-    let value = b"b".to_vec(alloc)?;
-    Ok(vec![in alloc; Act::Put(1, key, value)]?)
+/// What stands at its end: a put, or twice a put with the same number.
+const LAST: [Plan; 1] = [Plan::Write(&[Change::Put(1, b"b", b"b")], false)];
+
+/// The write, where there are numbers as one that acts once with them.
+pub(crate) fn numbered(alloc: Global, op: Op, pairs: &[(u64, u64)]) -> Result<Op, AllocError> {
+    if pairs.is_empty() {
+        return Ok(op);
+    }
+    match op {
+        Op::Write(acts, sync) => Ok(Op::WriteOnce(acts, pairs.to_vec(alloc)?, sync)),
+        other => Ok(other),
+    }
 }
 
-// With a put at the end.
-fn mixed_and_put(alloc: Global) -> Result<Vec<Op>, AllocError> {
+fn mixed(alloc: Global, times: u64, pairs: &[(u64, u64)]) -> Result<Vec<Op>, AllocError> {
     let mut ops = ops_of(alloc, &MIXED)?;
-    ops.push(Op::Write(put_b(alloc)?, false))?;
-    Ok(ops)
-}
-
-// .. twice, with the same number.
-fn mixed_and_once(alloc: Global) -> Result<Vec<Op>, AllocError> {
-    let mut ops = ops_of(alloc, &MIXED)?;
-    for _ in 0..2 {
-        ops.push(Op::WriteOnce(put_b(alloc)?, vec![in alloc; (1, 7)]?, false))?;
+    for _ in 0..times {
+        for op in ops_of(alloc, &LAST)? {
+            ops.push(numbered(alloc, op, pairs)?)?;
+        }
     }
     Ok(ops)
 }
@@ -85,8 +87,8 @@ fn mixed_and_once(alloc: Global) -> Result<Vec<Op>, AllocError> {
 // The operations of a name, and the KB of files above which they purge.
 fn ops_named(alloc: Global, name: &str) -> Result<Option<(Vec<Op>, u64)>, AllocError> {
     Ok(Some(match name {
-        "put" => (mixed_and_put(alloc)?, 3),
-        "once" => (mixed_and_once(alloc)?, 3),
+        "put" => (mixed(alloc, 1, &[])?, 3),
+        "once" => (mixed(alloc, 2, &[(1, 7)])?, 3),
         "keys" => (ops_of(alloc, &OPERATIONS)?, 1),
         "groups" => (ops_of(alloc, &GROUPED)?, 1),
         "purges" => (ops_of(alloc, &PURGES)?, 1),

@@ -6,6 +6,7 @@ mod lists;
 mod refusals;
 mod stops;
 mod tally;
+mod written;
 
 use lists::List;
 use raft_env::IoKind;
@@ -17,6 +18,9 @@ use tally::Tally;
 
 // What comes of the trials that a word names, if it names any.
 fn tried(alloc: Global, word: &str) -> Result<Option<Tally>, Fault> {
+    if word == "by-hand" {
+        return Ok(Some(written::each_list(alloc)?));
+    }
     let Some((name, trials)) = word.split_once('/') else {
         return Ok(None);
     };
