@@ -1,11 +1,10 @@
 //! Lists of operations with their settings, and what may be left of them.
 
 use raft_allowed::allowed;
-use raft_log_engine::{Config, Image};
 use raft_records::{Fault, ReadableSize};
-use raft_script::{Op, Outcome};
 use raft_test_rows::{
-    Change, EXPIRED, OPERATIONS, PURGES, Plan, REWRITTEN_IN_PARTS, ops_of, settings,
+    Change, Config, EXPIRED, Image, OPERATIONS, Op, Outcome, PURGES, Plan, REWRITTEN_IN_PARTS,
+    ops_of, settings,
 };
 use std::alloc::{AllocError, Global};
 

@@ -4,8 +4,9 @@ use crate::lists::{CameTo, List};
 use crate::tally::Tally;
 use raft_memory::Choice;
 use raft_records::Fault;
-use raft_script::{Op, Trial, trial, trial_twice};
-use raft_test_rows::{Left, MAX_FILES, choices_of, fault_of, is_done};
+use raft_test_rows::{
+    Left, MAX_FILES, Op, Trial, choices_of, fault_of, is_done, trial, trial_twice,
+};
 use std::alloc::{AllocError, Global};
 
 const MAX_CALLS: u64 = 400;
