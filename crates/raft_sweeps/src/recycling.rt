@@ -5,8 +5,7 @@ use crate::answers::{CALLS, are_answers, begin_as_wanted};
 use crate::sittings::{Folders, Sittings, both_sittings, finds_allowed, new_files, sit_twice};
 use raft_env::{FileSystem, IoKind};
 use raft_memory::FsCall;
-use raft_script::Outcome;
-use raft_test_rows::{Left, is_done};
+use raft_test_rows::{Left, Outcome, is_done};
 use std::alloc::Global;
 use std::ops::Range;
 use std::process::Abort;
@@ -176,6 +175,16 @@ fn refuse_each(rt: &impl Abort, alloc: Global, folders: Folders, kind: IoKind) -
 #[test]
 fn each_call_of_recycling_may_be_refused(rt: HostRuntime) -> Result<(), Fail> {
     refuse_each(&rt, rt.alloc(), Folders::One, IoKind::Other)
+}
+
+#[test]
+fn each_call_of_recycling_may_find_nothing(rt: HostRuntime) -> Result<(), Fail> {
+    refuse_each(&rt, rt.alloc(), Folders::One, IoKind::NotFound)
+}
+
+#[test]
+fn each_call_of_recycling_may_find_no_space(rt: HostRuntime) -> Result<(), Fail> {
+    refuse_each(&rt, rt.alloc(), Folders::One, IoKind::NoSpace)
 }
 
 #[test]
