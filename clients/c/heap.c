@@ -345,9 +345,10 @@ void heap_expect_reads(struct heap *heap, bool at_random) {
     if (!heap->id) return;
     int advice = at_random ? MADV_RANDOM : MADV_NORMAL;
     keep_out(heap);
+    bool is_so = heap->at_random == at_random;
     count_random(at_random - heap->at_random);
     heap->at_random = at_random;
-    struct block *block = blocks_next(heap, heap_blocks.all);
+    struct block *block = is_so ? NULL : blocks_next(heap, heap_blocks.all);
     for (; block; block = blocks_next(heap, block + 1))
         if (block->backed) madvise(start_of(block), block->backed, advice);
     let_in(heap);

@@ -213,7 +213,7 @@ int raftlog_survive_bus_errors(void);
 /* How entries will be read that are no longer in memory. In order, which is the default: with each
  * read the system reads ahead, as far as the disk's read_ahead_kb says (128 KB, or some MB). At
  * random: no more than is asked for, in one read; asking costs half a microsecond where the entry is
- * in memory. */
+ * in memory. A purge reads at random by itself. */
 int raftlog_expect_reads(raftlog *log, bool at_random);
 
 /* ---- batches */

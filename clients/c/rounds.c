@@ -128,15 +128,26 @@ static void call(raft_c_handle *handle, const struct parts_change *change, bool 
     }
 }
 
+/* A purge reads the entries of one group after the other, which stand far apart: what the system would
+ * read around each of them is many times as much. */
+static void call_purge(raftlog *log, const struct parts_change *change) {
+    bool was_random = log->heap.at_random;
+    heap_expect_reads(&log->heap, true);
+    log->obeys_ahead = true;
+    call(&log->handle, change, false);
+    log->obeys_ahead = false;
+    heap_expect_reads(&log->heap, was_random);
+}
+
 /* Hands a change to the proved part, and takes its answer, which the next call writes over: what
  * the log has done, if the round's orders are carried out. */
 static void hand_over(raftlog *log, struct parts_change *change, bool sync) {
     pthread_mutex_lock(&log->lock);
     log->handed = atomic_load_explicit(&log->done, memory_order_relaxed) + 1;
     touch_all(log, change);
-    log->obeys_ahead = parts_is_purge(change);
     parts_enter(log);
-    call(&log->handle, change, sync);
+    if (parts_is_purge(change)) call_purge(log, change);
+    else call(&log->handle, change, sync);
     change->code = raft_c_settle(&log->handle, true);
     parts_leave();
     if (change->code) {
