@@ -45,9 +45,9 @@ ssize_t __wrap_pwrite(int fd, const void *bytes, size_t len, off_t at) {
     return -1;
 }
 
-ssize_t __real_write(int fd, const void *bytes, size_t len);
-ssize_t __wrap_write(int fd, const void *bytes, size_t len) {
-    return fails_at(&faults_orders_left) ? -1 : __real_write(fd, bytes, len);
+ssize_t __real_parts_give(int to, const void *order, size_t len);
+ssize_t __wrap_parts_give(int to, const void *order, size_t len) {
+    return fails_at(&faults_orders_left) ? -1 : __real_parts_give(to, order, len);
 }
 
 int __real_fdatasync(int fd);

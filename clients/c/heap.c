@@ -224,13 +224,14 @@ void heap_leave(void) { owner_here = 0; }
 
 void heap_own_all(const struct heap *heap) { owner_of_all = heap->id; }
 
-/* Nobody else reads or writes the log's blocks until `let_in`. */
+/* Nobody else reads or writes the log's blocks until `let_in`. A thread that is in a call on the log
+ * keeps them out already. */
 static void keep_out(struct heap *heap) {
-    if (heap->lock) pthread_mutex_lock(heap->lock);
+    if (heap->lock && owner_here != heap->id) pthread_mutex_lock(heap->lock);
 }
 
 static void let_in(struct heap *heap) {
-    if (heap->lock) pthread_mutex_unlock(heap->lock);
+    if (heap->lock && owner_here != heap->id) pthread_mutex_unlock(heap->lock);
 }
 
 /* The next of the log's blocks from a slot on, or NULL. */
@@ -359,10 +360,14 @@ static void drop_rest(struct heap *heap) {
     heap->rest = (struct heap_file){0};
 }
 
-static void keep_rest(struct heap_file *file) {
-    struct heap *heap = file->heap;
+static void finish_rest(struct heap *heap) {
     if (heap->rest.heap) back(&heap->rest, true, ALL_STEPS);
     drop_rest(heap);
+}
+
+static void keep_rest(struct heap_file *file) {
+    struct heap *heap = file->heap;
+    finish_rest(heap);
     int fd = fcntl(file->fd, F_DUPFD_CLOEXEC, 0);
     if (fd < 0) {
         free(file->part);
@@ -447,6 +452,11 @@ void heap_synced(struct heap_file *file) {
     if (!file->heap) return;
     file->safe = file->written;
     if (file->safe >= file->next) back(file, false, MOST_STEPS);
+}
+
+void heap_catch_up(struct heap *heap, struct heap_file *file) {
+    finish_rest(heap);
+    if (file->heap) back(file, false, ALL_STEPS);
 }
 
 void heap_let_go(struct heap_file *file) {
@@ -597,7 +607,8 @@ static struct got got_of(void *at) {
 }
 
 struct got rattle_alloc(size_t size, size_t align) {
-    return got_of(heap_alloc(size ? size : align));
+    size_t some = size ? size : align;
+    return got_of(some < HEAP_LARGE ? malloc(some) : heap_alloc(some));
 }
 
 struct got rattle_realloc(void *at, size_t old, size_t size, size_t align) {

@@ -56,8 +56,8 @@ void heap_begin(struct heap *heap, pthread_mutex_t *lock);
 /* No file is put behind its blocks any more; what stands there stays until they are freed. */
 void heap_end(struct heap *heap);
 
-/* What this thread allocates from now on is this log's; or no log's. Blocks that are no log's
- * never have a file behind them. */
+/* What this thread allocates from now on is this log's, which it keeps others out of; or no log's.
+ * Blocks that are no log's never have a file behind them. */
 void heap_enter(const struct heap *heap);
 void heap_leave(void);
 
@@ -68,6 +68,8 @@ void heap_before_write(struct heap_file *file, uint64_t at, size_t len);
 /* 0, or an error of the system's, after which the file may not be cut. */
 int heap_before_cut(struct heap_file *file, uint64_t size);
 void heap_synced(struct heap_file *file);
+/* Puts what is left of this file, and of the one before it, behind its block. */
+void heap_catch_up(struct heap *heap, struct heap_file *file);
 /* Before the file is closed. */
 void heap_let_go(struct heap_file *file);
 

@@ -111,7 +111,8 @@ static void open_files(const char *folder) {
     for (struct dirent *entry; dir && (entry = readdir(dir)) && log_file_count < FILES;) {
         char path[1000];
         snprintf(path, sizeof path, "%s/%s", folder, entry->d_name);
-        int fd = strstr(entry->d_name, ".raftlog") ? open(path, O_RDONLY) : -1;
+        bool is_log = strstr(entry->d_name, ".raftlog") || strstr(entry->d_name, ".rewrite");
+        int fd = is_log ? open(path, O_RDONLY) : -1;
         off_t end = fd < 0 ? 0 : lseek(fd, 0, SEEK_END);
         if (end < 2 * (off_t)block_size()) continue;
         log_files[log_file_count] = fd;

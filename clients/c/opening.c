@@ -148,10 +148,10 @@ static int map_file(int fd, size_t len, uint8_t **bytes, bool *is_mapped) {
 }
 
 static int hand_over(raftlog *log, const char *path, const uint8_t *bytes, size_t len) {
-    heap_enter(&log->heap);
+    parts_enter(log);
     const uint8_t *name = (const uint8_t *)path;
     int code = raft_c_add_file(&log->handle, name, strlen(path), parts_some(bytes), len);
-    heap_leave();
+    parts_leave();
     return code == RAFTLOG_INVALID ? EILSEQ : code ? ENOMEM : 0;
 }
 
@@ -236,8 +236,6 @@ static int find(raftlog *log, struct found *found) {
     if (!error) error = parts_sync_name(log->folder);
     int code = error ? fail(found, log->folder, error) : lock_folder(log, found);
     if (!code) code = look_for_mark(log, found);
-    if (!code && (log->orders = memfd_create("raftlog", MFD_CLOEXEC)) < 0)
-        code = fail(found, log->folder, errno);
     if (code) return code;
     heap_begin(&log->heap, &log->lock);
     code = find_in(log, found, "");

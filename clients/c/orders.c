@@ -5,13 +5,16 @@
 #include <fcntl.h>
 #include <stdio.h>
 #include <stdlib.h>
-#include <sys/mman.h>
 #include <sys/stat.h>
 #include <unistd.h>
 
-/* Orders that were carried out are written over from this many bytes on, and a file of them that is
- * longer than those of a round (RAFTLOG_ROUND_BYTES) is cut. */
-enum { ORDERS_ROOM = 1 << 18, ORDERS_MAPPED = 1 << 22 };
+/* Bytes of a purge's orders that are gathered before they are carried out; less in tests. */
+#ifndef ORDERS_GATHERED
+#define ORDERS_GATHERED RAFTLOG_PURGE_BYTES
+#endif
+
+/* Room for orders at first, and what of it is kept for a next round. */
+enum { ORDERS_BEGIN = 1 << 16, ORDERS_KEPT = 1 << 21 };
 
 /* What is ordered, as crates/raft_orders numbers it. */
 enum { CREATE = 1, DELETE, RENAME, MAKE_FOLDER, WRITE, TRUNCATE, ALLOCATE, SYNC };
@@ -109,6 +112,44 @@ static int resize(raftlog *log, uint64_t size, bool cut) {
     return ftruncate(log->file, (off_t)size) ? errno : 0;
 }
 
+/* Whether only zeros stand in the open file between two places; what can't be read is none. */
+static bool are_zeros(int fd, uint64_t at, uint64_t end) {
+    static const uint8_t zeros[4096];
+    uint8_t bytes[sizeof zeros];
+    while (at < end) {
+        size_t len = end - at < sizeof bytes ? (size_t)(end - at) : sizeof bytes;
+        ssize_t moved = pread(fd, bytes, len, (off_t)at);
+        if (moved < 0 && errno == EINTR) continue;
+        if (moved <= 0 || memcmp(bytes, zeros, (size_t)moved)) return false;
+        at += (uint64_t)moved;
+    }
+    return true;
+}
+
+static int note_cut(raftlog *log, const char *path, uint64_t at, uint64_t end) {
+    if (log->cut_count == log->cut_room) {
+        size_t room = log->cut_room ? 2 * log->cut_room : 8;
+        raftlog_cut *cuts = realloc(log->cuts, room * sizeof *cuts);
+        if (!cuts) return ENOMEM;
+        log->cuts = cuts;
+        log->cut_room = room;
+    }
+    char *name = strdup(path);
+    if (!name) return ENOMEM;
+    log->cuts[log->cut_count++] = (raftlog_cut){name, at, end - at};
+    return 0;
+}
+
+/* Cuts the open file, and notes what an opening cuts off. */
+static int cut_file(raftlog *log, const char *path, uint64_t size) {
+    struct stat found;
+    if (fstat(log->file, &found)) return errno;
+    uint64_t end = (uint64_t)found.st_size;
+    bool is_told = log->is_opening && size < end && !are_zeros(log->file, size, end);
+    int error = is_told ? note_cut(log, path, size, end) : 0;
+    return error ? error : resize(log, size, true);
+}
+
 static int write_file(raftlog *log, const uint8_t *bytes, size_t len, uint64_t at) {
     parts_add(&log->counts.bytes, len);
     heap_before_write(&log->behind, at, len);
@@ -167,37 +208,11 @@ static int carry_out(raftlog *log, int kind, uint64_t number, const char *first,
     if (error) return error;
     switch (kind) {
     case WRITE: return write_file(log, second, len, number);
-    case TRUNCATE: return resize(log, number, true);
+    case TRUNCATE: return cut_file(log, first, number);
     case ALLOCATE: return resize(log, number, false);
     case SYNC: return sync_file(log);
     default: return EINVAL;
     }
-}
-
-/* Maps the orders up to this place. */
-static int map_orders(raftlog *log, size_t end) {
-    if (end <= log->mapped) return 0;
-    size_t len = log->mapped ? log->mapped : ORDERS_MAPPED;
-    while (len < end) len *= 2;
-    void *at = log->order ? mremap(log->order, log->mapped, len, MREMAP_MAYMOVE)
-                          : mmap(NULL, len, PROT_READ, MAP_SHARED, log->orders, 0);
-    if (at == MAP_FAILED) return ENOMEM;
-    log->order = at;
-    log->mapped = len;
-    return 0;
-}
-
-/* The next orders are written over those that were carried out. */
-static int begin_anew(raftlog *log) {
-    if (lseek(log->orders, 0, SEEK_SET)) return EIO;
-    if (log->mapped > ORDERS_MAPPED) {
-        if (ftruncate(log->orders, 0)) return errno;
-        munmap(log->order, log->mapped);
-        log->order = NULL;
-        log->mapped = 0;
-    }
-    log->obeyed = 0;
-    return 0;
 }
 
 static const char *kind_text(int kind) {
@@ -234,17 +249,79 @@ static int obey_one(raftlog *log, const uint8_t *at, size_t left, size_t *len) {
     return error;
 }
 
-int parts_obey_file(raftlog *log) {
-    off_t end = lseek(log->orders, 0, SEEK_CUR);
-    int error = heap_opening_lost(&log->heap) ? EIO : 0;
-    if (error) break_at(log, "reading", "a log file again", error);
-    else error = end < 0 ? errno : map_orders(log, (size_t)end);
-    while (!error && log->obeyed < (size_t)end) {
-        size_t len = 0;
-        error = obey_one(log, log->order + log->obeyed, (size_t)end - log->obeyed, &len);
-        log->obeyed += len;
+static int obey_all(raftlog *log) {
+    int error = *log->broken ? EIO : 0;
+    if (!error && heap_opening_lost(&log->heap)) {
+        error = EIO;
+        break_at(log, "reading", "a log file again", error);
     }
-    if (!error && log->obeyed >= ORDERS_ROOM) error = begin_anew(log);
+    for (size_t at = 0; !error && at < log->given;) {
+        size_t len = 0;
+        error = obey_one(log, log->orders + at, log->given - at, &len);
+        at += len;
+    }
     if (error) break_at(log, "reading", "the orders of a round", error);
+    log->given = 0;
     return error;
+}
+
+int parts_obey_file(raftlog *log) {
+    int error = obey_all(log);
+    if (log->room > ORDERS_KEPT) {
+        free(log->orders);
+        log->orders = NULL;
+        log->room = 0;
+    }
+    return error;
+}
+
+/* ---- what the proved part calls */
+
+/* The log whose call this thread is in. */
+static _Thread_local raftlog *giving;
+
+void parts_enter(raftlog *log) {
+    heap_enter(&log->heap);
+    giving = log;
+}
+
+void parts_leave(void) {
+    heap_leave();
+    giving = NULL;
+}
+
+/* Room for as many bytes of orders; false where memory is wanting. */
+static bool has_room(raftlog *log, size_t len) {
+    size_t room = log->room ? log->room : ORDERS_BEGIN;
+    while (room < log->given + len) room *= 2;
+    if (room == log->room) return true;
+    uint8_t *orders = realloc(log->orders, room);
+    if (!orders) return false;
+    log->orders = orders;
+    log->room = room;
+    return true;
+}
+
+/* Carries out what was given of a purge that goes on, and puts the files behind the blocks that it
+ * writes, so that its bytes are held neither here nor there. */
+static int obey_ahead(raftlog *log) {
+    int error = obey_all(log);
+    if (!error && log->file >= 0) {
+        error = sync_file(log);
+        if (error) break_at(log, kind_text(SYNC), log->path, error);
+    }
+    if (!error) heap_catch_up(&log->heap, &log->behind);
+    return error;
+}
+
+ssize_t parts_give(int to, const void *order, size_t len) {
+    raftlog *log = giving;
+    int error = !log || to != PARTS_ORDERS ? EBADF : 0;
+    bool is_long = !error && log->obeys_ahead && log->given + len > ORDERS_GATHERED;
+    if (is_long && log->given) error = obey_ahead(log);
+    if (!error && !has_room(log, len)) error = ENOMEM;
+    if (error) return errno = error, -1;
+    memcpy(log->orders + log->given, order, len);
+    log->given += len;
+    return (ssize_t)len;
 }

@@ -6,6 +6,7 @@
 #include "raftlog.h"
 
 #include <endian.h>
+#include <limits.h>
 #include <pthread.h>
 #include <stdatomic.h>
 #include <string.h>
@@ -89,6 +90,10 @@ static inline bool parts_is_batch(const struct parts_change *change) {
     return change->kind <= PARTS_WRITE_ONCE;
 }
 
+static inline bool parts_is_purge(const struct parts_change *change) {
+    return change->kind >= PARTS_REWRITE_APPEND && change->kind < PARTS_CLOSE;
+}
+
 /* Groups have places in a table of this many: those of one place wait for one another. */
 enum { PARTS_PLACES = 4096 };
 
@@ -108,11 +113,13 @@ struct raftlog {
     pthread_mutex_t lock;
     raft_c_handle handle; /* of a log, from its opening to its close */
     uint64_t handed;      /* the round that is handed over, or was last */
-    int orders;           /* the file that the calls' orders are written to; -1: in memory */
-    uint8_t *order;       /* its bytes, mapped */
-    size_t mapped;
-    size_t obeyed; /* those before this place were carried out */
-    char *path;    /* of the file that is open to be changed, from the folder */
+    uint8_t *orders;      /* that were given, and not carried out yet */
+    size_t given, room;   /* their bytes */
+    bool obeys_ahead;     /* in a purge: the first orders are carried out before all are given */
+    bool is_opening;
+    raftlog_cut *cuts; /* that the opening made; their paths are the log's */
+    size_t cut_count, cut_room;
+    char *path; /* of the file that is open to be changed, from the folder */
     int file;
     struct heap heap;        /* the blocks that the proved part keeps the files in */
     struct heap_file behind; /* the open file, for its block */
@@ -146,10 +153,21 @@ int parts_sync(const char *path);
 int parts_sync_name(const char *path);
 int parts_make_folders(const char *path);
 
-/* Carries out the orders that were given since the last time, up to the first that fails, which
- * `broken` then tells: 0, or an error. */
+/* Around a call of the proved part: its orders and its blocks are this log's. */
+void parts_enter(raftlog *log);
+void parts_leave(void);
+
+/* The descriptor that the proved part gives orders to, which is none of the system's. */
+enum { PARTS_ORDERS = INT_MAX };
+
+/* What the proved part calls in place of `write`: takes an order of the log whose call this is. Of
+ * a purge that gives many the first ones are carried out here. */
+ssize_t parts_give(int to, const void *order, size_t len);
+
+/* Carries out the orders that were given, up to the first that fails, which `broken` then tells:
+ * 0, or an error. */
 int parts_obey_file(raftlog *log);
-static inline int parts_obey(raftlog *log) { return log->orders < 0 ? 0 : parts_obey_file(log); }
+static inline int parts_obey(raftlog *log) { return log->folder ? parts_obey_file(log) : 0; }
 void parts_let_file_go(raftlog *log);
 
 /* Keeps why nothing is changed any more, if nothing was kept before. */

@@ -3,7 +3,6 @@
 
 #include <stdio.h>
 #include <stdlib.h>
-#include <sys/mman.h>
 #include <unistd.h>
 
 static uint8_t none[1];
@@ -48,9 +47,10 @@ static void let_go(raftlog *log) {
     heap_end(&log->heap);
     parts_let_file_go(log);
     if (log->handle.at) raft_c_free(&log->handle);
-    if (log->order) munmap(log->order, log->mapped);
-    if (log->orders >= 0) close(log->orders);
+    free(log->orders);
     if (log->held >= 0) close(log->held);
+    for (size_t i = 0; i < log->cut_count; i++) free((char *)log->cuts[i].path);
+    free(log->cuts);
     pthread_mutex_destroy(&log->lock);
     free(log->folder);
     free(log);
@@ -59,7 +59,7 @@ static void let_go(raftlog *log) {
 static raftlog *new_log(void) {
     raftlog *log = calloc(1, sizeof *log);
     if (!log) return NULL;
-    log->held = log->orders = log->file = -1;
+    log->held = log->file = -1;
     atomic_init(&log->lost, UINT64_MAX);
     if (!pthread_mutex_init(&log->lock, NULL)) return log;
     free(log);
@@ -69,10 +69,13 @@ static raftlog *new_log(void) {
 /* Opens the log over what was found: a code, and for a failure its text. */
 static int open_found(raftlog *log, const char *settings, char *text, size_t room) {
     if (!settings) settings = "";
-    heap_enter(&log->heap);
-    raft_c_open(&log->handle, log->orders, parts_some(settings), strlen(settings));
+    log->is_opening = true;
+    parts_enter(log);
+    int orders = log->folder ? PARTS_ORDERS : -1;
+    raft_c_open(&log->handle, orders, parts_some(settings), strlen(settings));
     int code = raft_c_settle(&log->handle, !parts_obey(log));
-    heap_leave();
+    parts_leave();
+    log->is_opening = false;
     if (!code) return RAFTLOG_OK;
     char *said = *log->broken ? NULL : parts_answered_text(log);
     parts_put_text(said ? said : *log->broken ? log->broken : raftlog_code_text(code), text, room);
@@ -122,6 +125,12 @@ int raftlog_open_watched(const char *folder, const char *settings, raftlog_progr
 int raftlog_open_memory(const char *settings, raftlog **out, char *text, size_t room) {
     if (!out) return RAFTLOG_INVALID;
     return open_log(NULL, settings, NULL, NULL, out, text, room);
+}
+
+size_t raftlog_cuts(raftlog *log, raftlog_cut *cuts, size_t room) {
+    if (!log) return 0;
+    for (size_t i = 0; cuts && i < log->cut_count && i < room; i++) cuts[i] = log->cuts[i];
+    return log->cut_count;
 }
 
 int raftlog_close(raftlog *log) {

@@ -36,6 +36,8 @@
  * RAFTLOG_FAILED where that failed: so what a read tells of a synced write survives a crash as the
  * write's own answer does. It waits only where the round changes its group, or one of the few that share
  * its place in a table of 4096 (`raftlog_groups`: any group), and for one round at most.
+ *   A purge that writes more than RAFTLOG_PURGE_BYTES carries the first of them out before it goes on,
+ * so that they needn't stand in memory: reads that begin then wait until it is over.
  *
  * What is proved, of the functions behind these (crates/raft_c): of each code, what the log has done and
  * what it holds then; of a failure, why it comes; and that at each moment inside a call a crash leaves
@@ -97,8 +99,12 @@ enum {
     RAFTLOG_FOLDER = 32
 };
 
-/* The most that a round takes. */
-enum { RAFTLOG_ROUND_CHANGES = 256, RAFTLOG_ROUND_BYTES = 1 << 20 };
+/* The most that a round takes, and that a purge writes before it waits for the disk. */
+enum {
+    RAFTLOG_ROUND_CHANGES = 256,
+    RAFTLOG_ROUND_BYTES = 1 << 20,
+    RAFTLOG_PURGE_BYTES = 1 << 26
+};
 
 typedef struct raftlog raftlog;
 typedef struct raftlog_batch raftlog_batch;
@@ -148,6 +154,18 @@ int raftlog_open_watched(const char *folder, const char *settings, raftlog_progr
 /* The same in memory, for tests: it fails as RAFTLOG_INVALID for settings that are refused. */
 int raftlog_open_memory(const char *settings, raftlog **out, char *text, size_t room);
 
+/* What an opening cut off of a log file: so many bytes from a place on, behind the last record that
+ * could be read. */
+typedef struct {
+    const char *path; /* of the file, from the folder; it lasts until the log is closed */
+    uint64_t offset, len;
+} raftlog_cut;
+
+/* Answers how many there were when the log was opened, and puts the first of them, at most `room`, into
+ * `cuts`, which may be NULL where that is 0. Not told are zeros, which hold nothing, and files that an
+ * opening passes over: `raftctl FOLDER check` tells these, and before an opening what it would cut. */
+size_t raftlog_cuts(raftlog *log, raftlog_cut *cuts, size_t room);
+
 /* Syncs and closes, and frees the log whatever it answers; after RAFTLOG_OK all that was written survives
  * a crash. Else RAFTLOG_IO or RAFTLOG_FAILED: the next opening finds what was answered before; where the
  * machine crashes first, what was synced, and perhaps more. Calls that wait when it begins get their
@@ -181,9 +199,9 @@ const char *raftlog_code_text(int code);
 /* ---- memory
  *
  * The index is in memory: 56 bytes an entry, and keys with their values. So is what was written since
- * the last sync, and during a purge what it rewrites (docs/PROCEDURES.md). The rest of the log files is
- * mapped: the system takes its memory back where it needs it, and reads it again from the files when it
- * is asked for. */
+ * the last sync, and during a purge twice RAFTLOG_PURGE_BYTES. The rest of the log files is mapped: the
+ * system takes its memory back where it needs it, and reads it again from the files when it is asked
+ * for. */
 
 /* By default the program ends, by SIGBUS, where a part of a file can't be read again: the disk fails,
  * or another program cut the file. After this call, once for the process, a read that needs this

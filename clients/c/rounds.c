@@ -131,10 +131,11 @@ static void hand_over(raftlog *log, struct parts_change *change, bool sync) {
     pthread_mutex_lock(&log->lock);
     log->handed = atomic_load_explicit(&log->done, memory_order_relaxed) + 1;
     touch_all(log, change);
-    heap_enter(&log->heap);
+    log->obeys_ahead = parts_is_purge(change);
+    parts_enter(log);
     call(&log->handle, change, sync);
     change->code = raft_c_settle(&log->handle, true);
-    heap_leave();
+    parts_leave();
     if (change->code) {
         change->text = parts_answered_text(log);
     } else if (change->answer) {
@@ -201,6 +202,7 @@ static inline void carry_out(raftlog *log, const struct round *round) {
     } else if (first == round->last) {
         hand_over(log, first, first->sync);
         if (!obey(log, first->sync && !first->code)) give_up(log, round);
+        else if (parts_is_purge(first)) heap_catch_up(&log->heap, &log->behind);
     } else {
         carry_out_many(log, round);
     }

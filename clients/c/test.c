@@ -45,6 +45,27 @@ static void keys(raftlog *log) {
     raftlog_batch_free(batch);
 }
 
+/* What an opening cuts off: four bytes, but no zeros */
+static void cuts(const char *folder) {
+    char place[1000];
+    snprintf(place, sizeof place, "%s/cut", folder);
+    raftlog *log = open_at(place);
+    raftlog_cut found[2];
+    CHECK(raftlog_cuts(log, found, 2) == 0 && raftlog_cuts(NULL, NULL, 0) == 0);
+    CHECK(raftlog_close(log) == 0);
+    snprintf(place, sizeof place, "%s/cut/0000000000000001.raftlog", folder);
+    FILE *file = fopen(place, "ab");
+    CHECK(file && fseek(file, 0, SEEK_END) == 0);
+    long end = ftell(file);
+    CHECK(fwrite("torn", 4, 1, file) == 1 && fclose(file) == 0);
+    snprintf(place, sizeof place, "%s/cut", folder);
+    log = open_at(place);
+    CHECK(raftlog_cuts(log, NULL, 0) == 1 && raftlog_cuts(log, found, 2) == 1);
+    CHECK(!strcmp(found[0].path, "0000000000000001.raftlog"));
+    CHECK(found[0].offset == (uint64_t)end && found[0].len == 4);
+    CHECK(raftlog_close(log) == 0);
+}
+
 /* Scans of keys */
 static void scans(raftlog *log) {
     raftlog_bytes bytes = {0};
@@ -292,6 +313,7 @@ int main(int argc, char **argv) {
     for (int i = 0; i < 3; i++) CHECK(raftlog_open(argv[1], wrong[i], &log, text, sizeof text) == RAFTLOG_INVALID && *text);
     CHECK(raftlog_open("/proc/none/x", NULL, &log, text, sizeof text) == RAFTLOG_FOLDER);
     CHECK(raftlog_open(NULL, NULL, &log, NULL, 0) == RAFTLOG_INVALID && raftlog_close(NULL) == 0);
+    cuts(argv[1]);
     puts("ok");
     return 0;
 }

@@ -26,6 +26,10 @@ class Stats(ctypes.Structure):
         return "Stats(%s)" % ", ".join("%s=%d" % (name, getattr(self, name)) for name, _ in self._fields_)
 
 
+class _Cut(ctypes.Structure):
+    _fields_ = [("path", c_char_p), ("offset", c_uint64), ("len", c_uint64)]
+
+
 class _Bytes(ctypes.Structure):
     _fields_ = [("data", POINTER(c_uint8)), ("len", c_size_t), ("room", c_size_t)]
 
@@ -42,6 +46,7 @@ for _name, _result, _arguments in [
     ("open_memory", c_int, [c_char_p, POINTER(c_void_p), c_char_p, c_size_t]),
     ("close", c_int, [c_void_p]),
     ("stats", c_int, [c_void_p, POINTER(Stats)]),
+    ("cuts", c_size_t, [c_void_p, POINTER(_Cut), c_size_t]),
     ("message", c_size_t, [c_void_p, c_char_p, c_size_t]),
     ("code_text", c_char_p, [c_int]),
     ("survive_bus_errors", c_int, []),
@@ -196,6 +201,16 @@ class Engine:
         stats = Stats()
         self._call("stats", byref(stats))
         return stats
+
+    def cuts(self):
+        """What the opening cut off of log files behind the last record that could be read, but for zeros: of each file its
+        path from the folder, the first byte that is gone, and how many are."""
+        if not self._log:
+            raise Error(FAILED, "the log is closed")
+        count = _C.raftlog_cuts(self._log, None, 0)
+        found = (_Cut * count)()
+        _C.raftlog_cuts(self._log, found, count)
+        return [(os.fsdecode(cut.path), cut.offset, cut.len) for cut in found]
 
     def expect_reads(self, at_random):
         """How entries will be read that are no longer in memory: in order, the default, with as much ahead as the disk's

@@ -298,6 +298,28 @@ func (e *Engine) Stats() (Stats, error) {
 	}, nil
 }
 
+// A Cut is what the opening cut off of a log file: so many bytes from an offset on, behind the last record that could be
+// read.
+type Cut struct {
+	Path        string // of the file, from the folder
+	Offset, Len uint64
+}
+
+// Cuts tells what the opening cut off, but for zeros.
+func (e *Engine) Cuts() ([]Cut, error) {
+	e.mutex.RLock()
+	defer e.mutex.RUnlock()
+	if e.log == nil {
+		return nil, &Error{Failed, "the log is closed"}
+	}
+	found := make([]C.raftlog_cut, C.raftlog_cuts(e.log, nil, 0)+1)
+	cuts := make([]Cut, C.raftlog_cuts(e.log, &found[0], C.size_t(len(found))))
+	for i := range cuts {
+		cuts[i] = Cut{C.GoString(found[i].path), uint64(found[i].offset), uint64(found[i].len)}
+	}
+	return cuts, nil
+}
+
 // Get finds the value at a key.
 func (e *Engine) Get(group uint64, key []byte) (value []byte, found bool, err error) {
 	c, found, err := e.do(func(log *C.raftlog, c *call) C.int {

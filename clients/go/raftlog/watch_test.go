@@ -56,6 +56,39 @@ func TestWatch(t *testing.T) {
 	}
 }
 
+// Four bytes behind the last record, which the next opening cuts off and tells.
+func TestCuts(t *testing.T) {
+	folder, file := makeEntries(t)
+	is, err := os.Stat(file)
+	must(t, err)
+	end, err := os.OpenFile(file, os.O_APPEND|os.O_WRONLY, 0)
+	must(t, err)
+	_, err = end.WriteString("torn")
+	must(t, err)
+	must(t, end.Close())
+	for _, want := range [][]Cut{{{filepath.Base(file), uint64(is.Size()), 4}}, {}} {
+		log, err := Open(folder, "")
+		must(t, err)
+		cuts, err := log.Cuts()
+		must(t, err)
+		if !areSame(cuts, want) {
+			t.Fatal(cuts, want)
+		}
+		must(t, log.Close())
+		if _, err := log.Cuts(); !HasCode(err, Failed) {
+			t.Fatal(err)
+		}
+	}
+}
+
+func areSame(one, other []Cut) bool {
+	same := len(one) == len(other)
+	for i := range one {
+		same = same && one[i] == other[i]
+	}
+	return same
+}
+
 // A file that is cut behind an open log.
 func TestSurviveBusErrors(t *testing.T) {
 	must(t, SurviveBusErrors())

@@ -13,11 +13,11 @@
 //! ```
 mod sys;
 
-use std::ffi::{c_char, c_int, c_void, CStr, CString};
+use std::ffi::{c_char, c_int, c_void, CStr, CString, OsStr};
 use std::fmt;
 use std::os::unix::ffi::OsStrExt;
 use std::panic::{catch_unwind, resume_unwind, AssertUnwindSafe};
-use std::path::Path;
+use std::path::{Path, PathBuf};
 use std::ptr;
 use std::time::Duration;
 
@@ -264,6 +264,18 @@ pub struct Stats {
     pub sync_time: Duration,
 }
 
+/// What an opening cut off of a log file, behind the last record that could be read.
+#[derive(Clone, Debug, PartialEq, Eq)]
+#[non_exhaustive]
+pub struct Cut {
+    /// Of the file, from the folder.
+    pub path: PathBuf,
+    /// The first byte that is gone.
+    pub offset: u64,
+    /// How many bytes are.
+    pub len: u64,
+}
+
 // Who is told how far an opening is. No panic goes through C: it goes on behind the opening.
 struct Watched<'a> {
     watch: &'a mut dyn FnMut(u64, u64),
@@ -424,6 +436,16 @@ impl Engine {
             bytes: counts.bytes,
             sync_time: Duration::from_nanos(counts.sync_ns),
         })
+    }
+
+    /// What the opening cut off, but for zeros.
+    pub fn cuts(&self) -> Vec<Cut> {
+        let count = unsafe { sys::raftlog_cuts(self.log, ptr::null_mut(), 0) };
+        let mut found = Vec::with_capacity(count);
+        unsafe { sys::raftlog_cuts(self.log, found.as_mut_ptr(), count) };
+        unsafe { found.set_len(count) };
+        let path_of = |cut: &sys::raftlog_cut| OsStr::from_bytes(unsafe { CStr::from_ptr(cut.path) }.to_bytes()).into();
+        found.iter().map(|cut| Cut { path: path_of(cut), offset: cut.offset, len: cut.len }).collect()
     }
 
     /// How entries will be read that are no longer in memory: in order, the default, with as much ahead as the disk's

@@ -32,6 +32,13 @@ pub struct raftlog_counts {
     pub sync_ns: u64,
 }
 
+#[repr(C)]
+pub struct raftlog_cut {
+    pub path: *const c_char,
+    pub offset: u64,
+    pub len: u64,
+}
+
 pub type raftlog_progress = unsafe extern "C" fn(with: *mut c_void, done: u64, all: u64);
 
 extern "C" {
@@ -49,6 +56,7 @@ extern "C" {
     pub fn raftlog_open_memory(settings: *const c_char, out: *mut *mut raftlog, text: *mut c_char, room: usize) -> c_int;
     pub fn raftlog_close(log: *mut raftlog) -> c_int;
     pub fn raftlog_stats(log: *mut raftlog, counts: *mut raftlog_counts) -> c_int;
+    pub fn raftlog_cuts(log: *mut raftlog, cuts: *mut raftlog_cut, room: usize) -> usize;
     pub fn raftlog_survive_bus_errors() -> c_int;
     pub fn raftlog_expect_reads(log: *mut raftlog, at_random: bool) -> c_int;
     pub fn raftlog_message(log: *mut raftlog, text: *mut c_char, room: usize) -> usize;

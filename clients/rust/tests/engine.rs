@@ -1,4 +1,5 @@
 use raftlog::{Code, Engine, LogBatch};
+use std::io::Write;
 use std::sync::Arc;
 
 fn folder(name: &str) -> std::path::PathBuf {
@@ -135,6 +136,21 @@ fn watched_opening() {
 }
 
 /// A file that is cut behind an open log.
+// Four bytes behind the last record, which the next opening cuts off and tells.
+#[test]
+fn cuts_that_are_told() {
+    let folder = folder("cuts");
+    let file = make_entries(&folder);
+    let end = std::fs::metadata(&file).unwrap().len();
+    let mut torn = std::fs::OpenOptions::new().append(true).open(&file).unwrap();
+    torn.write_all(b"torn").unwrap();
+    let told = Engine::open(&folder, "").unwrap().cuts();
+    assert_eq!(told.len(), 1);
+    assert_eq!((folder.join(&told[0].path), told[0].offset, told[0].len), (file, end, 4));
+    assert_eq!(Engine::open(&folder, "").unwrap().cuts(), []);
+    std::fs::remove_dir_all(folder).unwrap();
+}
+
 #[test]
 fn bus_errors_that_are_survived() {
     raftlog::survive_bus_errors().unwrap();

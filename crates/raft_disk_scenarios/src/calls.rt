@@ -1,8 +1,9 @@
 //! Calls on the files of a folder: what each is answered, and what then stands on the disk.
 
-use crate::temp::{bytes_at, temp_folder};
+use crate::reads::bytes_at;
 use raft_disk::DiskFileSystem;
 use raft_env::{FileSystem, FsFault, IoKind, Permission};
+use raft_rows::temp_folder;
 use std::test::Fail;
 use std::{fs, io};
 

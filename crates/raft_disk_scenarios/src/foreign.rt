@@ -1,8 +1,9 @@
 //! What stands in a log's folder and is none of its files: an opening passes it over, and no call reaches it.
 
-use crate::temp::{bytes_at, temp_folder};
+use crate::reads::bytes_at;
 use raft_disk::{DiskFileSystem, OpenFault, is_log_name};
 use raft_env::{FileSystem, FsFault, IoKind};
+use raft_rows::temp_folder;
 use std::os::unix::fs::symlink;
 use std::test::Fail;
 use std::{fs, io};

@@ -5,12 +5,10 @@
 #[cfg(test)]
 mod calls;
 #[cfg(test)]
-mod crashes;
-#[cfg(test)]
 mod foreign;
 #[cfg(test)]
 mod openings;
 #[cfg(test)]
-mod temp;
+mod reads;
 #[cfg(test)]
 mod views;

@@ -1,7 +1,7 @@
 //! Openings that fail: what they say, and that what stood there stands as it did.
 
-use crate::temp::temp_folder;
 use raft_disk::DiskFileSystem;
+use raft_rows::temp_folder;
 use std::alloc::AllocError;
 use std::os::unix::fs::symlink;
 use std::test::Fail;

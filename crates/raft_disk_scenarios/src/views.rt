@@ -1,7 +1,7 @@
 //! Looks at a folder: what they read, and that the folder is byte for byte as before.
 
-use crate::temp::temp_folder;
 use raft_disk::{DiskFileSystem, FolderView};
+use raft_rows::temp_folder;
 use std::test::Fail;
 use std::{fs, io};
 

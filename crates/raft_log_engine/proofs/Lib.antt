@@ -33,6 +33,7 @@ pub mod RoomLemmas
 pub mod AttemptLemmas
 pub mod EventLemmas
 pub mod ExpiredLemmas
+pub mod AppendGroupsLemmas
 pub mod Crossing
 pub mod PurgeEventLemmas
 pub mod PurgeCallLemmas

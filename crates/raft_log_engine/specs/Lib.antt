@@ -5,10 +5,12 @@ pub mod Cause
 pub mod Engine
 pub mod Events
 pub mod Expired
+pub mod AppendGroups
 pub mod Indexed
 pub mod Group
 pub mod Durability
 pub mod Advance
+pub mod Loaded
 pub mod Need
 pub mod Once
 pub mod Opening

@@ -22,20 +22,23 @@ use Rattle.raft_purge.specs.Expired.{HasDroppedExpired, IsIdle}
 use Rattle.raft_purge_steps.specs.Faults.{IsByChange, IsPurgeRefusal}
 use Rattle.raft_rewrite.specs.OpenGroup.{EndsOpen, HasNoId, IsAtomicRefusal}
 use Rattle.raft_rewrite.specs.Emptied.{MovesOnly}
+use Rattle.raft_purge.specs.Groups.{HasEmptiedGroups}
 use Rattle.raft_purge.specs.Scope.{HasEmptied, HasRewritten, watermark_in}
 use Rattle.raft_stale.specs.Scope.{HasLostFront}
-use Rattle.raft_tables.specs.Tables.{Tables}
+use Rattle.raft_tables.specs.Tables.{Tables, tables_of}
 use Rattle.raft_purge_steps.specs.Steps.{IsLog, LogState, LogValue}
 use Rattle.raft_purge_steps.specs.Unfit.{IsUnfit}
 use Rattle.raft_purge_steps.specs.declared.fault.StepFault.{StepFault}
 use Rattle.raft_log_engine.specs.Engine.{directory_of}
 use Rattle.raft_log_engine.specs.declared.engine.Engine.{Engine}
 use Rattle.raft_log_engine.specs.declared.engine.purge_kind.Purge.{Purge}
-use Rattle.raft_log_engine.specs.declared.engine.purge_kind.Purge.TheVariants.{RewriteAppend, RewriteRewrite, DropStale, DropExpired}
+use Rattle.raft_log_engine.specs.declared.engine.purge_kind.Purge.TheVariants.{RewriteAppend, RewriteGroups, RewriteRewrite, DropStale, DropExpired}
 
 -- so many files left the queue of which a purge answers
 abbrev pub HasFreed : Purge → PipeState → PipeState → PipeState → PipeState → ℕ → Type 0
 HasFreed (RewriteAppend scope) append rewrite append' rewrite' count =
+    append.first + count ≡ append'.first
+HasFreed (RewriteGroups x) append rewrite append' rewrite' count =
     append.first + count ≡ append'.first
 HasFreed RewriteRewrite append rewrite append' rewrite' count =
     rewrite.first + count ≡ rewrite'.first
@@ -45,6 +48,7 @@ HasFreed (DropExpired x) append rewrite append' rewrite' count = append.first + 
 -- how many of the batches that a purge writes need not be full: the last one of each rewriting
 abbrev pub rests_of : Purge → ℕ
 rests_of (RewriteAppend scope) = 1
+rests_of (RewriteGroups x) = 1
 rests_of RewriteRewrite = 1
 rests_of DropStale = 0
 rests_of (DropExpired x) = 2
@@ -68,6 +72,8 @@ abbrev pub HasPurged : Purge → Bool → MemTables → MemTables → PipeState 
     → PipeState → Type 0
 HasPurged (RewriteAppend scope) together m m' append rewrite append' rewrite' =
     HasRewritten scope append append' × HasEmptied scope m m' append rewrite append' rewrite'
+HasPurged (RewriteGroups x) together m m' append rewrite append' rewrite' =
+    HasEmptiedGroups x (tables_of m) (tables_of m') append rewrite append' rewrite'
 HasPurged RewriteRewrite together m m' append rewrite append' rewrite' =
     HasRenewed together rewrite rewrite' × (append' ≡ append)
 HasPurged DropStale together m m' append rewrite append' rewrite' =
@@ -83,6 +89,7 @@ queue_freed _ = Append
 -- where the queue of which a purge answers begins once that was refused
 abbrev pub HasLostSome : Purge → MemTables → PipeState → PipeState → PipeState → PipeState → Type 0
 HasLostSome (RewriteAppend scope) m append rewrite append' rewrite' = HasLostFront None m append append'
+HasLostSome (RewriteGroups x) m append rewrite append' rewrite' = HasLostFront None m append append'
 HasLostSome RewriteRewrite m append rewrite append' rewrite' =
     HasDroppedSome (suc (last_seq rewrite)) m rewrite rewrite'
 HasLostSome DropStale m append rewrite append' rewrite' = HasLostFront None m append append'
@@ -91,6 +98,7 @@ HasLostSome (DropExpired x) m append rewrite append' rewrite' =
 
 -- where only the Append queue is rewritten, groups that aren't keep their places
 abbrev pub LeavesOthers : Purge → Tables → Tables → Type 0
+LeavesOthers (RewriteGroups x) t t' = KeepsOthers x.groups.items t t'
 LeavesOthers (DropExpired x) t t' = x.renews ≡ false → KeepsOthers x.groups.items t t'
 LeavesOthers _ t t' = Unit {0}
 
@@ -103,6 +111,7 @@ IsIdlePurge _ = ⊥
 abbrev pub LeavesBehind : Purge → PipeState → Tables → Tables → Type 0
 LeavesBehind (RewriteAppend scope) append t t' =
     MovesOnly (Some (watermark_in scope (last_seq append))) t t'
+LeavesBehind (RewriteGroups x) append t t' = MovesOnly (Some x.watermark) t t'
 LeavesBehind _ append t t' = Unit {0}
 
 -- a rewriting of the Rewrite queue may leave an atomic group there that isn't ended, no other purge

@@ -1,6 +1,7 @@
 //! The files of a folder, by their parts. Their bytes were made by another program.
 
-use std::{env, fs, io, process};
+use raft_rows::temp_folder;
+use std::{fs, io};
 
 /// A header of version 1.
 const HEADER: &[u8] =
@@ -69,20 +70,13 @@ pub(crate) const CUT_BEFORE: &[FileParts] = &[
     ("0000000000000001.raftlog.cut-89", &[PUT]),
 ];
 
-/// Makes a folder of this name below that for temporary files, which no other process has, with these
-/// files.
+/// Makes a folder for one test with these files.
 pub(crate) fn make(
     rt: &HostRuntime,
     name: &str,
     files: &'static [FileParts],
 ) -> io::Result<String> {
-    let id = process::id(rt.process());
-    let base = env::temp_dir(rt)?;
-    let folder = format!(in rt.alloc(); "{}/raft-looks-{id}-{name}", base.as_str())?;
-    if fs::exists(rt, folder.as_str())? {
-        fs::remove_dir_all(rt, folder.as_str())?;
-    }
-    fs::create_dir(rt, folder.as_str())?;
+    let folder = temp_folder(rt, name)?;
     for (file, parts) in files {
         let place = format!(in rt.alloc(); "{}/{file}", folder.as_str())?;
         let mut bytes = Vec::new(rt.alloc());

@@ -1,8 +1,11 @@
-//! Tests of openings: by workers beside openings in order, of broken files, and with failing calls.
+//! Tests of openings: by workers beside openings in order, of broken files, with failing calls, and
+//! of a real folder after crashes.
 #![tactic(auto)]
 
 #[cfg(test)]
 mod chunks;
+#[cfg(test)]
+mod crashes;
 #[cfg(test)]
 mod no_files;
 #[cfg(test)]

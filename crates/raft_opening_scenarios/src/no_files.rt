@@ -2,9 +2,9 @@
 
 use raft_env::FileSystem;
 use raft_listeners::NoListeners;
-use raft_log_engine::{Config, Engine};
 use raft_memory::MemoryFileSystem;
 use raft_records::{Fault, Fresh};
+use raft_test_rows::{Config, Engine};
 use std::alloc::Global;
 use std::test::Fail;
 use std::thread::Threads;

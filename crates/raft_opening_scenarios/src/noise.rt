@@ -5,9 +5,8 @@ ghost use Rattle.std.specs.Prelude.{◌<◌};
 use crate::openings::{ABSOLUTE, ANY, MODES, TAIL};
 use crate::stored::{ALL, HEADER_2, THREE, make, store};
 use raft_env::{FileSystem, FsFault, Permission};
-use raft_log_engine::RecoveryMode;
 use raft_memory::MemoryFileSystem;
-use raft_test_rows::{EMPTY, Faulty, Held, State};
+use raft_test_rows::{EMPTY, Faulty, Held, RecoveryMode, State};
 use std::alloc::{AllocError, Global};
 use std::test::Fail;
 

@@ -1,11 +1,12 @@
 //! An opening of files in memory, in order or by workers, and what the files are then.
 
 use raft_env::{FileSystem, FsFault, Permission};
-use raft_log_engine::{Config, Engine, Image, RecoveryMode, Refused};
 use raft_memory::MemoryFileSystem;
 use raft_records::Fault;
-use raft_script::run;
-use raft_test_rows::{Left, MAX_FILES, Plan, choices_of, ops_of, settings};
+use raft_test_rows::{
+    Config, Engine, Image, Left, MAX_FILES, Plan, RecoveryMode, Refused, choices_of, ops_of, run,
+    settings,
+};
 use std::alloc::{AllocError, Global};
 use std::test::Fail;
 use std::thread::Threads;

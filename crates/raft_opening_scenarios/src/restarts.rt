@@ -5,10 +5,9 @@ use crate::stored::{
     ALL, BROKEN_2, HEADER_2, HEADER_MOVED, PUT_1, PUT_2, PUT_3, Stored, THREE, have, make,
 };
 use raft_env::IoKind;
-use raft_log_engine::RecoveryMode;
 use raft_memory::{FsCall, MemoryFileSystem};
 use raft_records::Fault;
-use raft_test_rows::{Failing, Faulty, Held, Left, State};
+use raft_test_rows::{Failing, Faulty, Held, Left, RecoveryMode, State};
 use std::alloc::Global;
 use std::test::Fail;
 

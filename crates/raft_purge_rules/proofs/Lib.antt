@@ -1,2 +1,3 @@
 pub mod ChoosingLemmas
+pub mod NextGroupsLemmas
 pub mod RoundsLemmas

@@ -7,6 +7,7 @@ mod need;
 mod plan;
 mod rounds;
 mod watermarks;
+mod within_budget;
 
 pub use choosing::{Chosen, Decision, Needs, Watermarks, decide_all, group_use, groups_by};
 pub use group_choice::{Choice, GroupUse, choose};
@@ -14,3 +15,4 @@ pub use need::{QueueUse, RewrittenEntries, append_needs_rewrite, rewrite_needs_r
 pub use plan::{PurgePlan, plan_purge};
 pub use rounds::Rounds;
 pub use watermarks::{compact_watermark, rewrite_watermark};
+pub use within_budget::{NextGroups, next_groups};

@@ -1,8 +1,10 @@
-//! What tests below the engine share: tables of rows, and files made of parts. For the tests alone.
+//! What tests share: tables of rows, files made of parts, and folders of the operating system. For the tests alone.
 #![tactic(auto)]
 
 mod files;
+mod folders;
 mod rows;
 
 pub use files::{FileParts, HEADER, NOTHING, PUT, PUTS, ZEROS, fill, store, store_in};
+pub use folders::temp_folder;
 pub use rows::{Row, first_wrong};

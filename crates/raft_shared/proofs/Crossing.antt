@@ -46,7 +46,7 @@ pub seat_send : IsSend seat.the_row
 seat_send = recorded_send _ _ _ (seat.the_type).to_one (struct_send (shape seat.the_type) seat_parts)
 
 module _ (F H R W : RattleType) (g : Ghosts F.Denot H.Denot R.Denot W.Denot) where
-  shared_parts : IsSend F → IsSend W → AllSend (shape (shared.the_type F H R W g)).fields
+  pub shared_parts : IsSend F → IsSend W → AllSend (shape (shared.the_type F H R W g)).fields
   shared_parts f w = (
     search (sendable, items.crosses) depth 20,
     (

@@ -1,15 +1,12 @@
 //! The holes in the log files of a folder.
 
+use crate::stored::HEADER;
 use raft_consistency::{consistency_check, consistency_check_with_file_system};
 use raft_env::FileSystem;
 use raft_memory::MemoryFileSystem;
 use raft_rows::store_in;
 use std::alloc::Global;
 use std::test::Fail;
-
-/// That of a file in version 2.
-const HEADER: &[u8] =
-    b"RAFT-LOG-FILE-HEADER-9986AB3E47F320B394C8E84916EB0ED5\0\0\0\0\0\0\0\x02\0\0\0\0\0\0\0\0";
 
 // Records of entries without bytes, by Python's struct and zlib.
 

@@ -1,12 +1,24 @@
-//! Tests of the checker of consistency, and of how workers share out files. Each is one loop over
-//! a table of cases.
+//! Tests of what stands between the queues and the engine: how workers share out files, what they
+//! replay of them in chunks, and the checker of consistency.
 #![tactic(auto)]
 
 #[cfg(test)]
 mod checks;
 #[cfg(test)]
+mod chunks;
+#[cfg(test)]
 mod machines;
+#[cfg(test)]
+mod meeting;
+#[cfg(test)]
+mod reaches;
+#[cfg(test)]
+mod recovering;
 #[cfg(test)]
 mod refused;
 #[cfg(test)]
 mod shares;
+#[cfg(test)]
+mod steps;
+#[cfg(test)]
+mod stored;

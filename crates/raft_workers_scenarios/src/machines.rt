@@ -1,8 +1,9 @@
 //! The first hole in each group's entries, by one checker and by several that are merged.
 
+use crate::steps::entry;
 use raft_builder::merge_in_order;
 use raft_consistency::ConsistencyChecker;
-use raft_records::{EntryIndex, Fault, LogItem, LogItemContent, LogQueue};
+use raft_records::{Fault, LogItem, LogItemContent, LogQueue};
 use std::alloc::{AllocError, Global};
 use std::test::Fail;
 
@@ -53,16 +54,6 @@ static CASES: [Case; 7] = [
         wanted: &[],
     },
 ];
-
-fn entry(index: u64) -> EntryIndex {
-    EntryIndex {
-        index,
-        entries: None,
-        entry_offset: 0,
-        entry_len: 0,
-        lz4: false,
-    }
-}
 
 fn item(alloc: Global, entries: Entries) -> Result<LogItem, AllocError> {
     let (group, first, last) = entries;

@@ -1,9 +1,11 @@
 use Rattle.std.proofs.Common.{◌≡◌, ◌∙◌, ◌+◌, ◌++◌, ◌∷◌, [], List, ℕ, Vec, Global, ap, arith, sym, append_assoc, append-nil}
-use Rattle.std.proofs.lemmas.List.{map-append}
+use Rattle.std.proofs.lemmas.List.{length-map, map-append}
 use Rattle.std.proofs.lemmas.Result.{err_from_is_err_and}
 use Rattle.raft_base.specs.declared.pipe_log.LogQueue.TheVariants.{Append}
 use Rattle.raft_records.specs.Item.{Entry}
 use Rattle.raft_records.specs.Places.{Blocks, bytes_in, entries_in}
+use Rattle.raft_tables.specs.EntryTable.{places_of}
+use Rattle.raft_tables.specs.PackedPlace.{unpacked}
 use Rattle.raft_tables.specs.Table.{table_of}
 use Rattle.raft_log_engine.specs.Image.{entries_of}
 use Rattle.raft_entry_blocks.specs.Reader.{blocks_of}
@@ -26,22 +28,22 @@ listed_more items i v bytes rest now all is step listed =
 pub returns-in_default-last_index-clause-ok : goal.returns-in_default-last_index-clause-ok
 returns-in_default-last_index-clause-ok g c =
     let t = c.args.table.now in
-    let none = no_last t.entries.first t.entries.places.items (sym c.in_default-last_index.ensures.value) in
+    let none = no_last t.entries.first (places_of t.entries) (sym c.in_default-last_index.ensures.value) in
     ap entries_of c.new-entries.ensures.items ∙ ap (entries_in (blocks_of c.args.reader.now)) (sym none)
 
 pub overflow_add-index-end : goal.overflow_add-index-end
 overflow_add-index-end g c =
     let t = c.args.table.now in
-    let ends = ends_of t.entries.first c.in-Some.first c.in-Some-last_index.last t.entries.places.items (sym c.in-Some.ensures.value) (sym c.in-Some-last_index.ensures.value) in
-    omega (arith, ends.1, t.entries.bounded)
+    let ends = ends_of t.entries.first c.in-Some.first c.in-Some-last_index.last (places_of t.entries) (sym c.in-Some.ensures.value) (sym c.in-Some-last_index.ensures.value) in
+    omega (arith, ends.1, t.entries.bounded, length-map t.entries.places.items unpacked)
 
 pub loop-index-init : goal.loop-index-init
 loop-index-init g c =
     let t = c.args.table.now in
-    let ends = ends_of t.entries.first c.in-Some.first c.in-Some-last_index.last t.entries.places.items (sym c.in-Some.ensures.value) (sym c.in-Some-last_index.ensures.value) in
+    let ends = ends_of t.entries.first c.in-Some.first c.in-Some-last_index.last (places_of t.entries) (sym c.in-Some.ensures.value) (sym c.in-Some-last_index.ensures.value) in
     record {
       reads = reads_nothing c.args.reader.now;
-      listed = rw c.new-entries.ensures.items (placed_all (blocks_of c.args.reader.now) c.in-Some.first (c.in-Some-last_index.last + 1) t.entries.first t.entries.places.items (omega (arith, ends.0)) (omega (arith, ends.1)));
+      listed = rw c.new-entries.ensures.items (placed_all (blocks_of c.args.reader.now) c.in-Some.first (c.in-Some-last_index.last + 1) t.entries.first (places_of t.entries) (omega (arith, ends.0)) (omega (arith, ends.1)));
     }
 
 pub read-requires-clause-readable : goal.read-requires-clause-readable
@@ -63,7 +65,7 @@ loop-index-preserved g c =
     elim c.match-entry.branch [
       | in-Some-entry+in_ok-bytes+in_ok-push w ↦
           let place = w.in-Some-entry.place in
-          let step = placed_step blocks c.loop-index.index end t.entries.first t.entries.places.items place (sym w.in-Some-entry.ensures.value) c.loop-index-test.true in
+          let step = placed_step blocks c.loop-index.index end t.entries.first (places_of t.entries) place (sym w.in-Some-entry.ensures.value) c.loop-index-test.true in
           let read = w.in_ok-bytes.ensures.ok ∙ ap (λ (b : Blocks). bytes_in b place) (blocks_still c.args.reader.now c.loop-index.reader inv.reads) in
           record {
             reads = rw w.reader-is (reads_more c.args.reader.now c.loop-index.reader inv.reads w.read.new.self w.in_ok-bytes.ensures.unchanged);

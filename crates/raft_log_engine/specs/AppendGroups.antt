@@ -1,0 +1,39 @@
+-- What a rewriting of the next groups of the Append queue answers, and what it leaves.
+use Rattle.std.specs.Prelude.{◌≡◌, ◌<◌, ◌&&◌, ℕ, min, true, false, nat_le, is_some, IfOk, OnErr, OnOk, Option, None, Some, Result}
+use Rattle.std.specs.Option.{IfSome}
+use Rattle.raft_base.specs.declared.errors.Fault.{Fault}
+use Rattle.raft_env.specs.declared.env.FileSystem.{Ghosts}
+use Rattle.raft_pipes.specs.PipeState.{last_seq}
+use Rattle.raft_purge.specs.Scope.{HasRotatedAt}
+use Rattle.raft_purge_rules.specs.NextGroups.{comes_before}
+use Rattle.raft_purge_steps.specs.Emptied.{HasNoneToMove}
+use Rattle.raft_rewrite.specs.Emptied.{MovesOnly}
+use Rattle.raft_stale.specs.Scope.{HasLostFront}
+use Rattle.raft_tables.specs.Tables.{Tables, or_empty, tables_of}
+use Rattle.raft_log_engine.specs.Engine.{queue_of, rewrite_queue_of}
+use Rattle.raft_log_engine.specs.declared.engine.Engine.{Engine}
+
+-- of the groups from this one on and before the next one, which is a known one, nothing stands in the
+-- Append queue's files up to the watermark that may move. All others keep their places, and so does
+-- what stands behind it
+pub record HasRewrittenFrom (watermark from : ℕ) (next : Option ℕ) (t t' : Tables) : Type 0 where
+  pub emptied : (group : ℕ) → (nat_le from group && comes_before next group) ≡ true
+      → HasNoneToMove (Some watermark) (or_empty (t' group))
+  pub others :
+      (group : ℕ) → (nat_le from group && comes_before next group) ≡ false → t' group ≡ t group
+  pub only : MovesOnly (Some watermark) t t'
+  pub known : IfSome next (λ group. (from < group) × (is_some (t group) ≡ true))
+
+module _ {F H R W : Type 0} {g : Ghosts F H R W} where
+  -- up to the watermark, which is the last file at most: then the queue goes on to a next one. Both
+  -- queues begin as before. What is refused loses no file in which something stands
+  pub record RewritesGroups (watermark from : ℕ) (result : Result (Option ℕ) Fault)
+      (old new : Engine F H R W g) : Type 0 where
+    pub rewritten : IfOk result (λ next. HasRewrittenFrom (min watermark (last_seq (queue_of old))) from
+        next (tables_of old.tables) (tables_of new.tables))
+    pub rotated : OnOk result (HasRotatedAt (min watermark (last_seq (queue_of old)))
+        (queue_of old) (queue_of new))
+    pub append : OnOk result ((queue_of new).first ≡ (queue_of old).first)
+    pub rewrite : OnOk result ((rewrite_queue_of new).first ≡ (rewrite_queue_of old).first)
+    pub lost : OnErr result (HasLostFront None new.tables (queue_of old) (queue_of new))
+    pub rounds : new.rounds ≡ old.rounds

@@ -1,0 +1,6 @@
+pub mod Fronts
+pub mod Adding
+pub mod Durability
+pub mod Noting
+pub mod Witnesses
+pub mod Crossing

@@ -1,0 +1,9 @@
+use Rattle.std.proofs.Common.{refl}
+use Rattle.raft_tickets.proofs.Durability.{none_durable}
+use Rattle.raft_tickets.proofs.desk.Desk.new.Goals as goal
+
+pub invariant_of-result : goal.invariant_of-result
+invariant_of-result g c = record {
+  begins = rw c.requires refl;
+  durable = none_durable _;
+}

@@ -1,0 +1,64 @@
+-- What a beginning of the history shows of a batch and of a sync after it.
+use Rattle.std.specs.Prelude.{◌≡◌, ◌⊎◌, ◌++◌, ◌∷◌, [], ℕ, Bool, true, false, List, Option, Some, None, Ok, slice_get}
+use Rattle.raft_base.specs.declared.errors.Fault.{Fault}
+use Rattle.raft_base.specs.declared.errors.Fault.TheVariants as fault
+use Rattle.raft_records.specs.Item.{Batch}
+use Rattle.raft_shared.specs.History.{Answer, Asked, Done, Event, Size, Sync, Write}
+use Rattle.raft_shared.specs.Shared.{receipts_of}
+use Rattle.raft_shared.specs.Words.{Told, told_by}
+use Rattle.raft_shared.specs.declared.call.Receipt.{Receipt}
+use Rattle.raft_shared.specs.declared.seat.Seat.{Seat}
+
+-- the call of a seat that has this receipt
+abbrev pub event_by : ℕ → Receipt → Event
+event_by seat receipt = record {
+  seat = seat;
+  asked = (told_by receipt).asked;
+  answer = (told_by receipt).answer;
+}
+
+-- the answer of a sync that was done
+abbrev pub is_done : Answer → Bool
+is_done (Done (Ok done)) = true
+is_done answer = false
+
+-- a write without a sync that was accepted
+abbrev pub is_accepted_write : Asked → Answer → Bool
+is_accepted_write (Write batch false) (Size (Ok size)) = true
+is_accepted_write asked answer = false
+
+-- a sync that was done
+abbrev pub is_answered_sync : Asked → Answer → Bool
+is_answered_sync Sync answer = is_done answer
+is_answered_sync asked answer = false
+
+abbrev pub is_write : Option Event → Bool
+is_write (Some event) = is_accepted_write event.asked event.answer
+is_write None = false
+
+abbrev pub is_sync : Option Event → Bool
+is_sync (Some event) = is_answered_sync event.asked event.answer
+is_sync None = false
+
+-- such a write stands at this place
+abbrev pub is_write_at : ℕ → List Event → Bool
+is_write_at number events = is_write (slice_get events number)
+
+-- .. such a sync
+abbrev pub is_sync_at : ℕ → List Event → Bool
+is_sync_at number events = is_sync (slice_get events number)
+
+-- the batch of this seat stands at this place, accepted with this length
+abbrev pub IsWrittenAt : ℕ → ℕ → Batch → ℕ → List Event → Type 0
+IsWrittenAt number seat batch size events = slice_get events number
+    ≡ Some (record { seat = seat; asked = Write batch false; answer = Size (Ok size) })
+
+-- the seat was given one receipt more, of a call that was answered so
+abbrev pub IsTold : Asked → Answer → Seat → Seat → Type 0
+IsTold asked answer old new = (number : ℕ) × (receipts_of new
+    ≡ receipts_of old ++ record { number = number; asked = asked; answer = answer } ∷ [])
+
+-- the engine wasn't asked, or the book has other calls, or the engine answered so, as the seat was told
+abbrev pub FailsAs : Asked → Answer → Seat → Seat → Fault → Type 0
+FailsAs asked answer old new e = (e ≡ fault.TrailFull) ⊎ (e ≡ fault.Memory) ⊎ (e ≡ fault.Layer)
+    ⊎ IsTold asked answer old new

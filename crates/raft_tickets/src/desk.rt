@@ -1,0 +1,206 @@
+//! A shared engine, beside the front that its history is.
+ghost use Rattle.std.specs.Prelude.{◌≡◌, ◌⊎◌, ◌↔◌, ◌++◌, ◌∷◌, [], false, true, Err, length, map, take, OnErr, IfOk, IfErr, IfNone, IfSome, IsOk, Some, slice_get, if◌then◌else◌};
+ghost use Rattle.std.proofs.Props.{props};
+ghost use mathlib.Core.List.{IsPrefix};
+ghost use Rattle.raft_shared.specs.Shared.{history_of};
+ghost use Rattle.raft_shared.specs.Words.{event_of, told_by};
+ghost use Rattle.raft_tickets.specs.Calls.{event_by, is_done};
+ghost use Rattle.raft_tickets.specs.Durable.{AreDurableTo, IsFound};
+
+use crate::book::{Book, Front, Naming};
+use crate::ticket::Durable;
+use raft_log_engine::{Fault, FileSystem, LogBatch};
+use raft_shared::{Finished, Receipt, Recorded, Reply, Seat, Shared, Unfinished};
+
+/// A shared engine, which lies under a lock. Its front begins its history: it is all of it, unless
+/// the book has calls of another engine.
+#[derive(Drop)]
+pub struct Desk<F: FileSystem, J: Naming> {
+    shared: Shared<F>,
+    front: Front<J>,
+    // The place of the last sync that was answered.
+    synced: Option<usize>,
+    ghost begins: { take (length front) (history_of shared) ≡ front } by { Prim.hlevel props },
+    ghost durable: { AreDurableTo synced shared } by { Prim.hlevel props },
+}
+
+/// A call's receipt, and the history that ends with the call. None where the book has other calls
+/// there.
+#[derive(Drop)]
+pub struct Noted<J: Naming> {
+    pub receipt: Receipt,
+    pub front: Option<Front<J>>,
+}
+
+impl<F: FileSystem, J: Naming> Desk<F, J> {
+    ghost use Rattle.raft_shared.specs.Settled.{AreSettled};
+    ghost use Rattle.raft_shared.specs.Shared.{HasRecordedNothing, IsButSeats, RecordsGet, RecordsSync, RecordsWrite, engine_of, limit_of, receipts_of};
+
+    /// An engine that was just shared, with the front of a book that was just opened.
+    pub(crate) fn new(shared: Shared<F>, front: Front<J>) -> Desk<F, J>
+        requires { front ≡ [] }
+        ensures value { result.shared ≡ shared }
+    {
+        Desk {
+            shared,
+            front,
+            synced: None,
+        }
+    }
+
+    /// `Shared::seat`.
+    pub fn seat(&mut self) -> Result<Seat, Fault>
+        ensures ok { IfOk result (λ seat. receipts_of seat ≡ []) }
+        ensures unchanged { IsButSeats self.old.shared self.new.shared }
+    {
+        self.shared.seat()
+    }
+
+    /// `Shared::write` without a sync.
+    pub(crate) fn write(
+        &mut self,
+        book: &Book<J>,
+        seat: &mut Seat,
+        batch: &mut LogBatch,
+    ) -> Result<Noted<J>, Fault>
+        ensures ok { IfOk result (λ noted. RecordsWrite batch.old.items batch.new.items false
+            self.old.shared self.new.shared seat.old seat.new noted.receipt) }
+        ensures front { IfOk result (λ noted. IfSome noted.front (λ front.
+            (front ≡ history_of self.new.shared) × (slice_get front noted.receipt.number
+            ≡ Some (event_by seat.old.number noted.receipt)))) }
+        ensures err { OnErr result (HasRecordedNothing self.old.shared self.new.shared seat.old
+            seat.new × (batch.new ≡ batch.old)) }
+        ensures full { (result ≡ Err Fault.TrailFull)
+            ↔ (length (history_of self.old.shared) ≡ limit_of self.old.shared) }
+        ensures cause { IfErr result (λ e. (e ≡ Fault.TrailFull) ⊎ (e ≡ Fault.Memory)) }
+    {
+        let number = seat.number();
+        let receipt = self.shared.write(seat, batch, false)?;
+        Ok(note(&mut self.front, book, number, receipt))
+    }
+
+    /// `Shared::sync`.
+    pub(crate) fn sync(&mut self, book: &Book<J>, seat: &mut Seat) -> Result<Noted<J>, Fault>
+        ensures ok { IfOk result (λ noted. RecordsSync self.old.shared self.new.shared seat.old
+            seat.new noted.receipt) }
+        ensures front { IfOk result (λ noted. IfSome noted.front (λ front.
+            (front ≡ history_of self.new.shared) × (slice_get front noted.receipt.number
+            ≡ Some (event_by seat.old.number noted.receipt)))) }
+        ensures err { OnErr result (HasRecordedNothing self.old.shared self.new.shared seat.old
+            seat.new) }
+        ensures full { (result ≡ Err Fault.TrailFull)
+            ↔ (length (history_of self.old.shared) ≡ limit_of self.old.shared) }
+        ensures cause { IfErr result (λ e. (e ≡ Fault.TrailFull) ⊎ (e ≡ Fault.Memory)) }
+    {
+        let number = seat.number();
+        let receipt = self.shared.sync(seat)?;
+        self.synced = synced_by(self.synced, &receipt);
+        Ok(note(&mut self.front, book, number, receipt))
+    }
+
+    /// `Shared::get`.
+    pub(crate) fn get(
+        &mut self,
+        book: &Book<J>,
+        seat: &mut Seat,
+        group: u64,
+        key: &[u8],
+    ) -> Result<Noted<J>, Fault>
+        ensures ok { IfOk result (λ noted. RecordsGet group key.now self.old.shared
+            self.new.shared seat.old seat.new noted.receipt) }
+        ensures front { IfOk result (λ noted. IfSome noted.front (λ front.
+            (front ≡ history_of self.new.shared) × (slice_get front noted.receipt.number
+            ≡ Some (event_by seat.old.number noted.receipt)))) }
+        ensures err { OnErr result (HasRecordedNothing self.old.shared self.new.shared seat.old
+            seat.new) }
+        ensures full { (result ≡ Err Fault.TrailFull)
+            ↔ (length (history_of self.old.shared) ≡ limit_of self.old.shared) }
+        ensures cause { IfErr result (λ e. (e ≡ Fault.TrailFull) ⊎ (e ≡ Fault.Memory)) }
+    {
+        let number = seat.number();
+        let receipt = self.shared.get(seat, group, key)?;
+        Ok(note(&mut self.front, book, number, receipt))
+    }
+
+    /// Whether a front that somebody saw begins this engine's history: it does, unless the book has
+    /// calls of another engine.
+    pub fn has(&self, front: &Front<J>) -> bool
+        ensures value { result ≡ true → IsPrefix front.now (history_of self.now.shared) }
+    {
+        if front.len() > self.front.len() {
+            return false;
+        }
+        // It tells clauses that both are beginnings of one list.
+        let _both = self.front.longer(front);
+        true
+    }
+
+    /// Whether a witness is of this engine's history, and of a sync that it knows. Then a crash
+    /// from now on leaves what the first calls of the history left, the witness's batch among
+    /// them, and possibly more.
+    pub fn finds(&self, durable: &Durable<J>) -> bool
+        ensures value { result ≡ true
+            → IsFound durable.now.number durable.now.front self.now.shared }
+    {
+        match self.synced {
+            Some(last) => durable.sync() <= last && self.has(durable.front()),
+            None => false,
+        }
+    }
+
+    /// `Shared::finish`.
+    pub fn finish(self, seats: Vec<Seat>) -> Result<Finished<F>, Unfinished<F>>
+        ensures ok { IfOk result (λ done. (done.engine ≡ engine_of self.shared)
+            × (map event_of done.trail.items ≡ history_of self.shared)) }
+        ensures err { IfErr result (λ back. (back.engine ≡ engine_of self.shared)
+            × (map event_of back.trail.items ≡ history_of self.shared) × (back.seats ≡ seats)) }
+        ensures settled { IsOk result ↔ AreSettled seats.items (history_of self.shared) }
+    {
+        let Desk { shared, .. } = self;
+        shared.finish(seats)
+    }
+}
+
+// The place of the last answered sync, after one that has this receipt.
+fn synced_by(before: Option<usize>, receipt: &Receipt) -> Option<usize>
+    ensures value { result ≡ (if is_done (told_by receipt.now).answer then Some receipt.now.number
+        else before) }
+{
+    match &receipt.reply {
+        Reply::Done(Ok(())) => Some(receipt.number),
+        _ => before,
+    }
+}
+
+// Adds a call to a front that ends before it, where the book has no other call there.
+fn note<J: Naming>(front: &mut Front<J>, book: &Book<J>, seat: usize, receipt: Receipt) -> Noted<J>
+    ensures receipt { result.receipt ≡ receipt }
+    ensures some { IfSome result.front (λ longer. (front.new ≡ longer)
+        × (length front.old ≡ receipt.number)
+        × (longer ≡ front.old ++ event_by seat receipt ∷ [])) }
+    ensures none { IfNone result.front (front.new ≡ front.old) }
+{
+    let Receipt {
+        number,
+        call,
+        reply,
+    } = receipt;
+    let call = Recorded { seat, call, reply };
+    let longer = if front.len() == number as u64 {
+        front.with(book, &call)
+    } else {
+        None
+    };
+    if let Some(longer) = &longer {
+        *front = longer.again();
+    }
+    let Recorded { call, reply, .. } = call;
+    Noted {
+        receipt: Receipt {
+            number,
+            call,
+            reply,
+        },
+        front: longer,
+    }
+}

@@ -1,0 +1,81 @@
+//! Who writes, who leads, and the last answered sync.
+ghost use Rattle.std.specs.Prelude.{◌≡◌, IfOk, IfErr};
+
+use crate::book::Naming;
+use crate::ticket::{Covered, Durable, Ticket};
+
+/// What threads tell one another of their rounds.
+#[derive(Drop)]
+pub(crate) struct Gate<J: Naming> {
+    // How many writes were announced, and how many of these are done.
+    announced: u64,
+    written: u64,
+    // One of those that wait is at the disk, or about to be.
+    leading: bool,
+    covered: Option<Covered<J>>,
+}
+
+impl<J: Naming> Gate<J> {
+    ghost use Rattle.raft_tickets.specs.Answer.{Answers};
+
+    pub(crate) fn new() -> Gate<J> {
+        Gate {
+            announced: 0,
+            written: 0,
+            leading: false,
+            covered: None,
+        }
+    }
+
+    pub(crate) fn announce(&mut self) {
+        self.announced = self.announced.wrapping_add(1);
+    }
+
+    pub(crate) fn note_write(&mut self) {
+        self.written = self.written.wrapping_add(1);
+    }
+
+    /// How many writes a leader waits for: those that were announced, up to so many.
+    pub(crate) fn awaited(&self, bound: u64) -> u64 {
+        let missing = self.announced.wrapping_sub(self.written);
+        self.written.wrapping_add(missing.min(bound))
+    }
+
+    pub(crate) fn has_written(&self, count: u64) -> bool {
+        self.written.wrapping_sub(count) < 1 << 63
+    }
+
+    pub(crate) fn set_leading(&mut self, leading: bool) {
+        self.leading = leading;
+    }
+
+    /// Whether the ticket at this place has to wait: another one leads, and no sync after it was
+    /// answered.
+    pub(crate) fn holds_back(&self, number: usize) -> bool {
+        self.leading && !self.covers(number)
+    }
+
+    fn covers(&self, number: usize) -> bool {
+        match &self.covered {
+            Some(covered) => number < covered.number(),
+            None => false,
+        }
+    }
+
+    pub(crate) fn note_sync(&mut self, covered: &Covered<J>) {
+        if !self.covers(covered.number()) {
+            self.covered = Some(covered.again());
+        }
+    }
+
+    /// The ticket's answer, where a sync after it was answered.
+    pub(crate) fn answer(&self, ticket: Ticket<J>) -> Result<Durable<J>, Ticket<J>>
+        ensures ok { IfOk result (Answers ticket) }
+        ensures err { IfErr result (λ back. back ≡ ticket) }
+    {
+        match &self.covered {
+            Some(covered) => ticket.covered_by(covered),
+            None => Err(ticket),
+        }
+    }
+}

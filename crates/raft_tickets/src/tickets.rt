@@ -1,0 +1,194 @@
+//! The calls by which threads share a sync.
+ghost use Rattle.std.specs.Prelude.{◌≡◌, ◌⊎◌, [], false, Err, IfOk, IfErr};
+ghost use Rattle.raft_shared.specs.History.{Done, Get, Size, Sync, Write};
+ghost use Rattle.raft_shared.specs.Words.{reason_of, told_by};
+ghost use Rattle.raft_tickets.specs.Calls.{FailsAs, IsTold, IsWrittenAt};
+
+use crate::book::{Book, Naming, Opened};
+use crate::desk::{Desk, Noted};
+use crate::gate::Gate;
+use crate::ticket::{Covered, Durable, Ticket};
+use raft_log_engine::{Fault, FileSystem, LogBatch};
+use raft_shared::{Seat, Shared};
+use std::sync::{Condvar, Mutex, Wait};
+
+/// A shared engine for threads that wait for the disk together.
+#[derive(Drop)]
+pub struct Tickets<F: FileSystem, J: Naming> {
+    book: Book<J>,
+    desk: Mutex<Desk<F, J>>,
+    gate: Mutex<Gate<J>>,
+    // A write is done, for the one that leads.
+    written: Condvar,
+    // A sync was answered, for those that wait.
+    answered: Condvar,
+    bound: u64,
+}
+
+impl<F: FileSystem, J: Naming> Tickets<F, J> {
+    ghost use Rattle.raft_shared.specs.Shared.{receipts_of};
+    ghost use Rattle.raft_tickets.specs.Answer.{Answers};
+
+    /// Of an engine that was just shared. Whoever leads waits for at most `bound` writes that are
+    /// under way before it syncs.
+    pub fn new(opened: Opened, shared: Shared<F>, bound: u64) -> Tickets<F, J>
+        requires { opened.seen.book ≡ J.book }
+    {
+        let (book, front) = opened.named::<J>();
+        Tickets {
+            book,
+            desk: Mutex::new(Desk::new(shared, front)),
+            gate: Mutex::new(Gate::new()),
+            written: Condvar::new(),
+            answered: Condvar::new(),
+            bound,
+        }
+    }
+
+    /// `Shared::seat`.
+    pub fn seat<R: Wait>(&self, rt: &R) -> Result<Seat, Fault>
+        ensures ok { IfOk result (λ seat. receipts_of seat ≡ []) }
+    {
+        self.desk.lock(rt).seat()
+    }
+
+    /// Writes a batch without a sync: a ticket for one, where the engine accepted it. Else it fails
+    /// as the engine answered, and as `TrailFull` and `Memory` where it wasn't asked. `Layer` is
+    /// for a book that has calls of another engine.
+    pub fn write<R: Wait>(
+        &self,
+        rt: &R,
+        seat: &mut Seat,
+        batch: &mut LogBatch,
+    ) -> Result<Ticket<J>, Fault>
+        ensures ok { IfOk result (λ ticket. IsWrittenAt ticket.number seat.old.number
+            batch.old.items ticket.size ticket.front) }
+        ensures err { IfErr result (λ e. FailsAs (Write batch.old.items false)
+            (Size (Err (reason_of e))) seat.old seat.new e) }
+        ensures seat { seat.new.number ≡ seat.old.number }
+    {
+        self.gate.lock(rt).announce();
+        let noted = self.desk.lock(rt).write(&self.book, seat, batch);
+        self.gate.lock(rt).note_write();
+        self.written.notify_one();
+        let Noted { receipt, front } = noted?;
+        match front {
+            Some(front) => Ticket::of(receipt, front),
+            None => Err(Fault::Layer),
+        }
+    }
+
+    /// Waits until a sync after the ticket's write was answered, by this thread or another one: a
+    /// witness for the same batch. Where this thread asked for it, it fails as the engine answered,
+    /// and as `write` does.
+    pub fn wait<R: Wait>(
+        &self,
+        rt: &R,
+        seat: &mut Seat,
+        ticket: Ticket<J>,
+    ) -> Result<Durable<J>, Fault>
+        ensures ok { IfOk result (Answers ticket) }
+        ensures err { IfErr result (λ e. FailsAs Sync (Done (Err (reason_of e))) seat.old seat.new
+            e) }
+        ensures seat { seat.new.number ≡ seat.old.number }
+    {
+        let ticket = match self.turn(rt, ticket) {
+            Ok(durable) => return Ok(durable),
+            Err(ticket) => ticket,
+        };
+        self.gather(rt);
+        let synced = self.sync(rt, seat);
+        self.hand_over(rt, &synced);
+        match ticket.covered_by(&synced?) {
+            Ok(durable) => Ok(durable),
+            Err(_) => Err(Fault::Layer),
+        }
+    }
+
+    // The ticket's answer. Where there is none yet and nobody leads, the ticket, and this thread
+    // leads.
+    fn turn<R: Wait>(&self, rt: &R, ticket: Ticket<J>) -> Result<Durable<J>, Ticket<J>>
+        ensures ok { IfOk result (Answers ticket) }
+        ensures err { IfErr result (λ back. back ≡ ticket) }
+    {
+        let number = ticket.number();
+        let mut gate = self
+            .answered
+            .wait_while(rt, self.gate.lock(rt), |gate| gate.holds_back(number));
+        let answer = gate.answer(ticket);
+        if answer.is_err() {
+            gate.set_leading(true);
+        }
+        answer
+    }
+
+    // Lets the writes that are under way go first.
+    fn gather<R: Wait>(&self, rt: &R) {
+        let gate = self.gate.lock(rt);
+        let awaited = gate.awaited(self.bound);
+        let _gate = self
+            .written
+            .wait_while(rt, gate, |gate| !gate.has_written(awaited));
+    }
+
+    // A sync of the engine, with its place in the history.
+    fn sync<R: Wait>(&self, rt: &R, seat: &mut Seat) -> Result<Covered<J>, Fault>
+        ensures err { IfErr result (λ e. FailsAs Sync (Done (Err (reason_of e))) seat.old seat.new
+            e) }
+        ensures seat { seat.new.number ≡ seat.old.number }
+    {
+        let Noted { receipt, front } = self.desk.lock(rt).sync(&self.book, seat)?;
+        match front {
+            Some(front) => Covered::of(receipt, front),
+            None => Err(Fault::Layer),
+        }
+    }
+
+    // Shows a sync that was answered, and lets another thread lead.
+    fn hand_over<R: Wait>(&self, rt: &R, synced: &Result<Covered<J>, Fault>) {
+        let mut gate = self.gate.lock(rt);
+        if let Ok(covered) = synced {
+            gate.note_sync(covered);
+        }
+        gate.set_leading(false);
+        drop(gate);
+        self.answered.notify_all();
+    }
+
+    /// `write`, and then `wait`.
+    pub fn write_synced<R: Wait>(
+        &self,
+        rt: &R,
+        seat: &mut Seat,
+        batch: &mut LogBatch,
+    ) -> Result<Durable<J>, Fault>
+        ensures ok { IfOk result (λ durable. IsWrittenAt durable.number seat.old.number
+            batch.old.items durable.size durable.front) }
+        ensures seat { seat.new.number ≡ seat.old.number }
+    {
+        let ticket = self.write(rt, seat, batch)?;
+        self.wait(rt, seat, ticket)
+    }
+
+    /// `Shared::get`, for any thread.
+    pub fn get<R: Wait>(
+        &self,
+        rt: &R,
+        seat: &mut Seat,
+        group: u64,
+        key: &[u8],
+    ) -> Result<Noted<J>, Fault>
+        ensures ok { IfOk result (λ noted. IsTold (Get group key.now)
+            (told_by noted.receipt).answer seat.old seat.new) }
+        ensures cause { IfErr result (λ e. (e ≡ Fault.TrailFull) ⊎ (e ≡ Fault.Memory)) }
+        ensures seat { seat.new.number ≡ seat.old.number }
+    {
+        self.desk.lock(rt).get(&self.book, seat, group, key)
+    }
+
+    /// The engine and its history, when no thread needs them any more.
+    pub fn into_desk(self) -> Desk<F, J> {
+        let Tickets { desk, .. } = self;
+        desk.into_inner()
+    }
+}

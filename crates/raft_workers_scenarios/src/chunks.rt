@@ -1,0 +1,136 @@
+//! Batches of both queues, those of the Append queue in chunks.
+
+use crate::steps::{GROUP, KEY, Step, items_of};
+use raft_builder::MergingMachine;
+use raft_opening::ReplayMachine;
+use raft_records::{Fault, FileId, LogQueue};
+use raft_replay::{Read, RecoveryMachine, read_of};
+use std::alloc::Global;
+use std::test::Fail;
+
+/// Batches of the Rewrite queue and two chunks of the Append queue's, the first and the last index that
+/// are read of them, and whether the key is.
+struct Case {
+    name: &'static str,
+    rewritten: &'static [Step],
+    older: &'static [Step],
+    newer: &'static [Step],
+    indexes: Option<(u64, u64)>,
+    has_key: bool,
+}
+
+static CASES: [Case; 8] = [
+    Case {
+        name: "a hole in the newer chunk, and a compaction",
+        rewritten: &[],
+        older: &[Step::Entries(1, 10)],
+        newer: &[Step::Entries(5, 6), Step::Compact(8), Step::Entries(9, 10)],
+        indexes: Some((9, 10)),
+        has_key: false,
+    },
+    Case {
+        name: "a hole between the chunks",
+        rewritten: &[],
+        older: &[Step::Entries(1, 2)],
+        newer: &[Step::Entries(5, 6), Step::Entries(3, 4)],
+        indexes: Some((3, 4)),
+        has_key: false,
+    },
+    Case {
+        name: "the Rewrite queue's entries stay behind a hole that was filled",
+        rewritten: &[Step::Entries(1, 3)],
+        older: &[Step::Entries(4, 4)],
+        newer: &[Step::Entries(6, 6), Step::Entries(4, 4)],
+        indexes: Some((1, 4)),
+        has_key: false,
+    },
+    Case {
+        name: "the least start cuts both",
+        rewritten: &[Step::Entries(1, 9)],
+        older: &[Step::Entries(7, 8)],
+        newer: &[Step::Entries(8, 8), Step::Entries(3, 3)],
+        indexes: Some((1, 3)),
+        has_key: false,
+    },
+    Case {
+        name: "a key deleted in the newer chunk",
+        rewritten: &[Step::Put, Step::Entries(1, 1)],
+        older: &[Step::Put],
+        newer: &[Step::Delete],
+        indexes: Some((1, 1)),
+        has_key: false,
+    },
+    Case {
+        name: "a key deleted in the older chunk and put in the newer",
+        rewritten: &[Step::Put],
+        older: &[Step::Delete],
+        newer: &[Step::Put],
+        indexes: None,
+        has_key: true,
+    },
+    Case {
+        name: "a clean in the newer chunk",
+        rewritten: &[Step::Put, Step::Entries(1, 4)],
+        older: &[Step::Put, Step::Entries(5, 5)],
+        newer: &[Step::Clean, Step::Entries(7, 8)],
+        indexes: Some((7, 8)),
+        has_key: false,
+    },
+    Case {
+        name: "a key of the older chunk alone",
+        rewritten: &[Step::Entries(1, 4)],
+        older: &[Step::Put],
+        newer: &[Step::Compact(3)],
+        indexes: Some((3, 4)),
+        has_key: true,
+    },
+];
+
+fn replay(
+    alloc: Global,
+    machine: &mut RecoveryMachine,
+    queue: LogQueue,
+    steps: &[Step],
+) -> Result<(), Fault> {
+    for step in steps {
+        let mut items = items_of(alloc, *step)?;
+        machine.replay(&mut items, FileId { queue, seq: 1 })?;
+    }
+    Ok(())
+}
+
+/// What is read where the chunks are given to a machine each, or to one.
+fn read(alloc: Global, case: &Case, apart: bool) -> Result<Read, Fault> {
+    let mut rewritten = RecoveryMachine::new(alloc);
+    replay(alloc, &mut rewritten, LogQueue::Rewrite, case.rewritten)?;
+    let mut appended = RecoveryMachine::new(alloc);
+    replay(alloc, &mut appended, LogQueue::Append, case.older)?;
+    if apart {
+        let mut newer = RecoveryMachine::new(alloc);
+        replay(alloc, &mut newer, LogQueue::Append, case.newer)?;
+        appended.merge(newer, LogQueue::Append)?;
+    } else {
+        replay(alloc, &mut appended, LogQueue::Append, case.newer)?;
+    }
+    read_of(appended, rewritten)
+}
+
+fn is_as_said(alloc: Global, case: &Case, apart: bool) -> Result<bool, Fault> {
+    let read = read(alloc, case, apart)?;
+    let tables = &read.tables;
+    let indexes = match (tables.first_index(GROUP), tables.last_index(GROUP)) {
+        (Some(first), Some(last)) => Some((first, last)),
+        _ => None,
+    };
+    Ok(indexes == case.indexes && tables.get(GROUP, KEY).is_some() == case.has_key)
+}
+
+#[test]
+fn chunks_are_read_as_one(rt: HostRuntime) -> Result<(), Fail> {
+    for case in &CASES {
+        for apart in [false, true] {
+            assert!(rt; is_as_said(rt.alloc(), case, apart)?, "{}", case.name);
+        }
+    }
+    Ok(())
+}

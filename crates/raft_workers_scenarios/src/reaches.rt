@@ -1,0 +1,86 @@
+//! What a newer chunk of batches does to what an older one left.
+
+use crate::steps::{GROUP, Step, items_of};
+use raft_replay::Reaches;
+use std::alloc::{AllocError, Global};
+use std::test::Fail;
+
+/// Items of two chunks, whether the newer one replaces all older entries, and else which indexes
+/// it leaves alone of those up to 9.
+struct Case {
+    name: &'static str,
+    older: &'static [Step],
+    newer: &'static [Step],
+    replaces: bool,
+    left: &'static [u64],
+}
+
+static CASES: [Case; 4] = [
+    Case {
+        name: "a hole in the newer chunk, and a compaction",
+        older: &[Step::Entries(1, 10)],
+        newer: &[Step::Entries(5, 6), Step::Compact(8), Step::Entries(9, 10)],
+        replaces: true,
+        left: &[],
+    },
+    Case {
+        name: "a hole between the chunks",
+        older: &[Step::Entries(1, 2)],
+        newer: &[Step::Entries(5, 6), Step::Entries(3, 4)],
+        replaces: true,
+        left: &[1, 2],
+    },
+    Case {
+        name: "the least start isn't the first one",
+        older: &[Step::Entries(1, 5)],
+        newer: &[Step::Entries(4, 6), Step::Entries(2, 2)],
+        replaces: false,
+        left: &[1],
+    },
+    Case {
+        name: "a clean leaves nothing",
+        older: &[Step::Entries(1, 5)],
+        newer: &[Step::Entries(6, 6), Step::Clean, Step::Put],
+        replaces: false,
+        left: &[],
+    },
+];
+
+fn note(alloc: Global, reaches: &mut Reaches, steps: &[Step]) -> Result<(), AllocError> {
+    for step in steps {
+        reaches.note(&items_of(alloc, *step)?)?;
+    }
+    Ok(())
+}
+
+fn leaves_as_said(newer: &Reaches, left: &[u64]) -> bool {
+    let reach = newer.reach(GROUP);
+    let mut as_said = true;
+    for index in 1..10 {
+        as_said = reach.leaves(index) == left.iter().any(|one| *one == index) && as_said;
+    }
+    as_said
+}
+
+/// Whether the chunks do as the case says, and reach together what their items reach in order.
+fn is_as_said(alloc: Global, case: &Case) -> Result<bool, AllocError> {
+    let mut older = Reaches::new(alloc);
+    note(alloc, &mut older, case.older)?;
+    let mut newer = Reaches::new(alloc);
+    note(alloc, &mut newer, case.newer)?;
+    let replaces = newer.reach(GROUP).replaces(&older.reach(GROUP));
+    let leaves = leaves_as_said(&newer, case.left);
+    let mut whole = Reaches::new(alloc);
+    note(alloc, &mut whole, case.older)?;
+    note(alloc, &mut whole, case.newer)?;
+    older.then(newer)?;
+    Ok(replaces == case.replaces && leaves && older.reach(GROUP) == whole.reach(GROUP))
+}
+
+#[test]
+fn newer_chunks_leave_what_they_say(rt: HostRuntime) -> Result<(), Fail> {
+    for case in &CASES {
+        assert!(rt; is_as_said(rt.alloc(), case)?, "{}", case.name);
+    }
+    Ok(())
+}
