@@ -1,13 +1,11 @@
 -- The changes of acts, and the batches of parts.
-use Rattle.std.proofs.Common.{◌≡◌, ℕ, suc, ◌+◌, ◌<◌, ◌≤◌, Bool, true, false, List, [], ◌∷◌, ◌++◌, length, map, drop, get_or, Option, Some, None, refl, sym, ◌∙◌, ap, subst, append_assoc, arith}
-use Rattle.std.specs.Prelude.{option_map, unwrap_or, Vec}
-use Rattle.std.specs.declared.alloc.Global.{Global}
+use Rattle.std.proofs.Common.{◌≡◌, ◌+◌, List, [], ◌∷◌, ◌++◌, Option, Some, None, refl, sym, ◌∙◌, ap, append_assoc}
+use Rattle.std.specs.Prelude.{option_map, unwrap_or}
 use Rattle.std.proofs.lemmas.List.{append-nil, map-append}
 use Rattle.raft_records.specs.Item.{Batch}
 use Rattle.raft_log_engine.specs.Cause.{plain_part, plain_parts}
 use Rattle.raft_script.specs.Batches.{Part, batch_of_acts, batches_of_parts, items_of_act, of_both}
 use Rattle.raft_script.specs.declared.operation.Act.{Act}
-use Rattle.raft_allowed.proofs.LoopLemmas.{ahead}
 
 -- some, followed by what is there of others
 abbrev pub followed_by : {X : Type 0} → List X → Option (List X) → Option (List X)

@@ -1,12 +1,10 @@
 -- Contents after choices of batches, and after prefixes of them.
-use Rattle.std.proofs.Common.{◌≡◌, ℕ, zero, suc, ◌+◌, ◌<◌, ◌≤◌, Bool, true, false, cond, inl, inr, ⊎_elim, List, [], ◌∷◌, ◌++◌, length, map, take, Option, Some, None, refl, sym, ◌∙◌, ap, subst, append_assoc, arith}
-use Rattle.std.specs.Prelude.{◌⊎◌, Any, fold, is_none}
-use Rattle.std.specs.List.{AllByRecursion, AllZip, flat_map}
-use Rattle.std.proofs.lemmas.List.{append-nil}
+use Rattle.std.proofs.Common.{◌≡◌, ℕ, zero, suc, ◌+◌, ◌<◌, Bool, true, false, cond, inl, inr, ⊎_elim, List, [], ◌∷◌, ◌++◌, length, map, take, refl, sym, ◌∙◌, ap, subst, arith}
+use Rattle.std.specs.Prelude.{◌⊎◌, Any, is_none}
+use Rattle.std.specs.List.{AllByRecursion, AllZip}
 use Rattle.std.proofs.lemmas.List.Sums.{fold-append}
-use Rattle.raft_base.specs.declared.errors.Fault.{Fault}
 use Rattle.raft_records.specs.Contents.{Contents, after_batch, after_batches}
-use Rattle.raft_records.specs.Item.{Batch, Item}
+use Rattle.raft_records.specs.Item.{Batch}
 use Rattle.raft_records.specs.Validity.{batch_refusal}
 use Rattle.raft_crash_laws.specs.Crash.{pending_of, written_batch}
 use Rattle.raft_log_engine.specs.Group.{chosen_of}

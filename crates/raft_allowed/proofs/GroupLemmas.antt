@@ -1,6 +1,6 @@
 -- What a group has, of lists that are alike.
 use Rattle.std.proofs.Common.{◌≡◌, ℕ, suc, ◌+◌, ◌<◌, ◌≤◌, true, false, List, [], ◌∷◌, length, map, drop, get_or, refl, ◌∙◌, ap, sym, nat_eq, arith}
-use Rattle.std.specs.Prelude.{◌==◌, unwrap_or, IfOk, Result, Ok, Err, None, Option, Some}
+use Rattle.std.specs.Prelude.{◌==◌, unwrap_or, IfOk, Result, Ok, Err, Option, Some}
 use Rattle.std.specs.Map.{lookup}
 use Rattle.std.proofs.Math.ListN.{drop_of_length-le}
 use Rattle.std.proofs.lemmas.Bool.{cond-false, cond-true, eqb-true}

@@ -1,19 +1,17 @@
 -- Groups that stand for contents, after an item.
-use Rattle.std.proofs.Common.{◌≡◌, ℕ, Bool, true, false, cond, inl, inr, ⊎_elim, List, [], ◌∷◌, ◌++◌, Option, Some, None, refl, sym, ◌∙◌, ap, subst, arith, nat_eq}
-use Rattle.std.specs.Prelude.{◌==◌, ◌&&◌, filter, nat_le, unwrap_or}
-use Rattle.std.specs.List.{AllByRecursion}
+use Rattle.std.proofs.Common.{◌≡◌, ℕ, Bool, true, false, cond, List, [], ◌∷◌, Option, Some, None, refl, sym, ◌∙◌, ap, subst, nat_eq}
+use Rattle.std.specs.Prelude.{◌&&◌, filter, nat_le, unwrap_or}
 use Rattle.std.specs.List.Sorted.{IsStrictlySortedBy}
-use Rattle.std.specs.Map.{keys_of, lookup}
+use Rattle.std.specs.Map.{lookup}
 use Rattle.std.specs.Cmp.Lexicographic.{slice_cmp}
 use Rattle.std.specs.Ordering.{nat_cmp}
 use Rattle.std.specs.Str.{bytes_eq}
-use Rattle.std.proofs.lemmas.Bool.{cases_Bool, cond-true, cond-false, eqb-true, eq-eqb}
-use Rattle.raft_base.specs.declared.errors.Fault.{Fault}
+use Rattle.std.proofs.lemmas.Bool.{cond-true, cond-false, eqb-true, eq-eqb}
 use Rattle.raft_records.specs.Contents.{Contents, after_content, after_item, no_contents, with_entries, with_value}
 use Rattle.raft_records.specs.Item.{Clean, Compact, Content, Delete, Entries, Entry, Item, Put, group_mark_key}
 use Rattle.raft_records.specs.Validity.{content_refusal, entries_refusal}
 use Rattle.raft_tables.specs.Listing.{IsListing}
-use Rattle.raft_allowed.specs.Held.{AreGroupsOf, Groups, Held, IsHeldAt, Pairs, groups_after, held_after, held_at, if_any, is_nil, is_nothing, nothing, refusal_of, with_held, with_list, with_pair, with_pairs}
+use Rattle.raft_allowed.specs.Held.{AreGroupsOf, Groups, Held, IsHeldAt, Pairs, groups_after, held_after, held_at, if_any, is_nil, is_nothing, nothing, refusal_of, with_held, with_pair, with_pairs}
 use Rattle.raft_allowed.proofs.KeyedLemmas.{all-put, bytes_order, lookup-put_other, lookup-put_same, number_order, sorted-put}
 
 -- no groups stand for no contents

@@ -1,6 +1,6 @@
 -- Images of contents, and batches of items.
-use Rattle.std.proofs.Common.{◌≡◌, ℕ, ◌+◌, ◌<◌, Bool, true, false, cond, List, [], ◌∷◌, ◌++◌, length, map, take, get_or, Option, Some, None, refl, sym, ◌∙◌, ap, subst, arith, nat_eq}
-use Rattle.std.specs.Prelude.{◌||◌, ◌&&◌, Vec, fold, is_none, unwrap_or}
+use Rattle.std.proofs.Common.{◌≡◌, ℕ, ◌+◌, ◌<◌, Bool, true, false, cond, List, [], ◌∷◌, ◌++◌, length, map, take, get_or, Option, Some, None, refl, sym, ◌∙◌, ap, subst, nat_eq}
+use Rattle.std.specs.Prelude.{◌||◌, ◌&&◌, Vec, is_none, unwrap_or}
 use Rattle.std.specs.declared.alloc.Global.{Global}
 use Rattle.std.specs.List.{AllByRecursion, list_any}
 use Rattle.std.specs.List.Sorted.{IsStrictlySortedBy}
@@ -10,10 +10,10 @@ use Rattle.std.proofs.lemmas.List.{map-append}
 use Rattle.std.proofs.lemmas.List.Sums.{fold-append}
 use Rattle.raft_base.specs.declared.errors.Fault.{Fault}
 use Rattle.raft_records.specs.Contents.{Contents, after_batch, after_item}
-use Rattle.raft_records.specs.Item.{Batch, Entry, Item}
+use Rattle.raft_records.specs.Item.{Batch, Item}
 use Rattle.raft_records.specs.Validity.{batch_refusal, content_refusal}
 use Rattle.raft_tables.specs.Listing.{listed}
-use Rattle.raft_log_engine.specs.Image.{IsGroupImageOf, IsImageOf, IsWithout, entries_of, groups_of}
+use Rattle.raft_log_engine.specs.Image.{IsGroupImageOf, IsImageOf, entries_of, groups_of}
 use Rattle.raft_log_engine.specs.declared.engine.image.GroupImage.{GroupImage}
 use Rattle.raft_allowed.specs.Held.{AreGroupsOf, Groups, Held, IsHeldAt, IsHeldBy, group_with_held, groups_after, held_after, held_at, held_in, held_of, is_nil, is_nothing, nothing, refusal_of, with_held}
 use Rattle.raft_allowed.proofs.HeldLemmas.{groups_changed, refusal_same}

@@ -10,3 +10,4 @@ pub mod TakenLemmas
 pub mod GroupLemmas
 pub mod ShownLemmas
 pub mod NumberLemmas
+pub mod TrialLemmas

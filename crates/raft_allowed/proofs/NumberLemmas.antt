@@ -1,12 +1,11 @@
 -- The numbers that groups keep, and which are new.
-use Rattle.std.proofs.Common.{◌≡◌, ℕ, ◌+◌, ◌<◌, ◌≤◌, Bool, true, false, cond, List, [], ◌∷◌, ◌++◌, length, map, take, drop, get_or, Option, Some, None, refl, sym, ◌∙◌, ap, subst, append_assoc, add-one, drop-cons, arith, nat_eq}
-use Rattle.std.specs.Prelude.{◌||◌, ◌&&◌, nat_lt, Vec}
-use Rattle.std.specs.List.{list_all, list_any}
+use Rattle.std.proofs.Common.{◌≡◌, ℕ, ◌+◌, ◌<◌, Bool, true, false, cond, List, [], ◌∷◌, ◌++◌, length, take, drop, get_or, Option, Some, sym, ◌∙◌, ap, append_assoc, add-one, drop-cons}
+use Rattle.std.specs.Prelude.{◌&&◌, nat_lt, Vec}
 use Rattle.std.specs.Map.{lookup}
 use Rattle.std.specs.Str.{bytes_eq}
 use Rattle.std.specs.Cmp.Lexicographic.{nat_list_eq_equiv}
 use Rattle.std.specs.declared.alloc.Global.{Global}
-use Rattle.std.proofs.lemmas.Bool.{cond-true, cond-false, le-ltb}
+use Rattle.std.proofs.lemmas.Bool.{cond-true, cond-false}
 use Rattle.std.proofs.lemmas.List.{map-append}
 use Rattle.raft_once.specs.History.{are_numbers}
 use Rattle.raft_once.specs.Numbers.{Pair, are_new, are_unfit, has_numbers, is_number_key, number_in, number_item, number_items, number_key, number_of, numbered}
@@ -16,7 +15,7 @@ use Rattle.raft_tables.specs.Listing.{listed}
 use Rattle.raft_log_engine.specs.Once.{acting_batch}
 use Rattle.raft_script.specs.Batches.{once_batch}
 use Rattle.raft_log_engine.specs.declared.engine.image.GroupImage.{GroupImage}
-use Rattle.raft_allowed.specs.Held.{Held, IsHeldBy, held_at, held_of, kept_of}
+use Rattle.raft_allowed.specs.Held.{IsHeldBy, held_at, held_of, kept_of}
 
 -- what a group keeps is told from its pairs
 pub kept_is : (m : Contents) (images : List GroupImage) (group : ℕ) → IsHeldBy m images → kept_of (held_at group (held_of images)) ≡ number_of m group

@@ -1,7 +1,7 @@
 -- What operations lead to, and what may be left after them.
-use Rattle.std.proofs.Common.{◌≡◌, ℕ, zero, suc, ◌+◌, ◌-◌, ◌<◌, ◌≤◌, Bool, true, false, cond, inl, inr, ⊎_elim, List, [], ◌∷◌, ◌++◌, length, length-append, map, take, drop, drop-cons, get_or, Option, Some, None, refl, sym, ◌∙◌, ap, subst, append_assoc, arith}
-use Rattle.std.specs.Prelude.{◌⊎◌, Any, MatchOption, Result, Ok, Err, is_ok, if◌then◌else◌, IsSomeAnd, slice_get, option_and_then}
-use Rattle.std.specs.List.{AllByRecursion, AllZip}
+use Rattle.std.proofs.Common.{◌≡◌, ℕ, zero, suc, ◌+◌, ◌-◌, ◌<◌, ◌≤◌, Bool, true, false, cond, inl, inr, ⊎_elim, List, [], ◌∷◌, ◌++◌, length, length-append, map, take, drop, get_or, Option, Some, None, refl, sym, ◌∙◌, ap, subst, append_assoc, arith}
+use Rattle.std.specs.Prelude.{◌⊎◌, Any, MatchOption, Result, Ok, Err, IsSomeAnd, slice_get}
+use Rattle.std.specs.List.{AllByRecursion}
 use Rattle.std.proofs.lemmas.Bool.{cases_lt}
 use Rattle.std.proofs.lemmas.List.{append-nil, take_all, take-append-le}
 use Rattle.std.proofs.Math.ListN.{drop_of_length-le}
@@ -9,12 +9,12 @@ use Rattle.std.proofs.Math.Logic.{∥∥₁_elim, ∥∥₁_map, ∥∥₁_prop}
 use Rattle.raft_base.specs.declared.errors.Fault.{Fault}
 use Rattle.raft_once.specs.Numbers.{shown}
 use Rattle.raft_records.specs.Contents.{Contents, after_batch, after_batches, no_contents}
-use Rattle.raft_records.specs.Item.{Batch, Item}
-use Rattle.raft_crash_laws.specs.Crash.{IsAllowedFrom, written_batch}
+use Rattle.raft_records.specs.Item.{Batch}
+use Rattle.raft_crash_laws.specs.Crash.{written_batch}
 use Rattle.raft_log_engine.specs.Group.{accepted_in, chosen_of}
 use Rattle.raft_log_engine.specs.Image.{IsImageOf}
 use Rattle.raft_log_engine.specs.declared.engine.image.Image.{Image}
-use Rattle.raft_script.specs.Batches.{MayBeInFlight, accepted_of, answers_in, batches_of_op, is_covering}
+use Rattle.raft_script.specs.Batches.{MayBeInFlight, answers_in, batches_of_op, is_covering}
 use Rattle.raft_script.specs.Durability.{MayBeInFlightAt, progress_after_all}
 use Rattle.raft_script.specs.Headline.{Progress, progress_after, progress_from}
 use Rattle.raft_script.specs.declared.operation.Op.{Op}

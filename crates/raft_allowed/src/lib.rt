@@ -7,6 +7,7 @@ mod batches;
 mod changes;
 mod groups;
 mod images;
+pub mod laws;
 mod left;
 mod order;
 mod parts;

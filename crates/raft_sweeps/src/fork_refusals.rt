@@ -57,13 +57,15 @@ static SORTS: [Sort; 11] = [
 /// More calls of a sort than a fork makes.
 const MANY: u64 = 50;
 
+const KINDS: [IoKind; 3] = [IoKind::NoSpace, IoKind::NotFound, IoKind::Other];
+
 // Whether a fork of these files is done, or else failed as the call did, and a fork to another
 // folder is done then; none where it came to something else.
-fn is_done<F: Faulty>(alloc: Global, files: &mut F) -> Result<Option<bool>, Fault> {
+fn is_done<F: Faulty>(alloc: Global, files: &mut F, kind: IoKind) -> Result<Option<bool>, Fault> {
     let source = read(alloc, SETTINGS)?;
     match fork(alloc, &source, files, "b") {
         Ok(_) => Ok(Some(true)),
-        Err(Fault::Io(IoKind::Other, _)) => {
+        Err(Fault::Io(by, _)) if by == kind => {
             let again = fork(alloc, &source, files, "c")?;
             Ok(if again.copied.len() == SOURCE.len() {
                 Some(false)
@@ -75,17 +77,18 @@ fn is_done<F: Faulty>(alloc: Global, files: &mut F) -> Result<Option<bool>, Faul
     }
 }
 
-// How many calls of the sort fail a fork.
+// How many calls of the sort fail a fork in this way.
 fn count_failing<F: Faulty>(
     alloc: Global,
     files: &mut F,
     call: FsCall,
+    kind: IoKind,
 ) -> Result<Option<u64>, Fault> {
     for nth in 1..MANY {
         *files = F::fresh(alloc);
         make_source(alloc, files)?;
-        files.fail(Failing::Nth(call, nth, IoKind::Other))?;
-        match is_done(alloc, files)? {
+        files.fail(Failing::Nth(call, nth, kind))?;
+        match is_done(alloc, files, kind)? {
             Some(true) => return Ok(Some(nth - 1)),
             Some(false) => {}
             None => return Ok(None),
@@ -94,8 +97,13 @@ fn count_failing<F: Faulty>(
     Ok(None)
 }
 
-fn is_as_said<F: Faulty>(alloc: Global, files: &mut F, sort: &Sort) -> Result<bool, Fault> {
-    match (count_failing(alloc, files, sort.0)?, sort.1) {
+fn is_as_said<F: Faulty>(
+    alloc: Global,
+    files: &mut F,
+    sort: &Sort,
+    kind: IoKind,
+) -> Result<bool, Fault> {
+    match (count_failing(alloc, files, sort.0, kind)?, sort.1) {
         (Some(count), Some(wanted)) => Ok(count == wanted),
         (Some(count), None) => Ok(count > 0),
         (None, _) => Ok(false),
@@ -106,7 +114,10 @@ fn is_as_said<F: Faulty>(alloc: Global, files: &mut F, sort: &Sort) -> Result<bo
 fn each_failing_call_fails_the_fork(rt: HostRuntime) -> Result<(), Fail> {
     let mut files = MemoryFileSystem::new(rt.alloc());
     for (place, sort) in SORTS.iter().enumerate() {
-        assert!(rt; is_as_said(rt.alloc(), &mut files, sort)?, "row {place}");
+        for kind in KINDS {
+            let held = is_as_said(rt.alloc(), &mut files, sort, kind)?;
+            assert!(rt; held, "row {place}, {kind:?}");
+        }
     }
     Ok(())
 }

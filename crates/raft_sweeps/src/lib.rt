@@ -1,4 +1,4 @@
-//! Tests that cross crates: trials, and every stop, crash and refusal of a list of operations.
+//! Tests that cross crates: trials, refusals of a list of operations, and logs that use files again.
 #![tactic(auto)]
 
 #[cfg(test)]
@@ -17,7 +17,5 @@ mod recycling;
 mod refusals;
 #[cfg(test)]
 mod sittings;
-#[cfg(test)]
-mod sweep;
 #[cfg(test)]
 mod trials;

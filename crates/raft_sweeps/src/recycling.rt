@@ -179,6 +179,16 @@ fn each_call_of_recycling_may_be_refused(rt: HostRuntime) -> Result<(), Fail> {
 }
 
 #[test]
+fn each_call_of_recycling_may_find_nothing(rt: HostRuntime) -> Result<(), Fail> {
+    refuse_each(&rt, rt.alloc(), Folders::One, IoKind::NotFound)
+}
+
+#[test]
+fn each_call_of_recycling_may_find_no_space(rt: HostRuntime) -> Result<(), Fail> {
+    refuse_each(&rt, rt.alloc(), Folders::One, IoKind::NoSpace)
+}
+
+#[test]
 fn each_call_of_recycling_in_two_folders_may_be_refused(rt: HostRuntime) -> Result<(), Fail> {
     refuse_each(&rt, rt.alloc(), Folders::Two, IoKind::Other)
 }

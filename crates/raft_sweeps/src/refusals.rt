@@ -7,8 +7,8 @@ use raft_memory::{FsCall, MemoryFileSystem};
 use raft_records::Fault;
 use raft_script::{Op, Outcome, run};
 use raft_test_rows::{
-    Change, EXPIRED, Left, MAX_FILES, OPERATIONS, PURGES, Plan, State, choices_of, fault_of,
-    first_refused, is_allowed, is_done, ops_of, settings, state_of,
+    EXPIRED, Left, MAX_FILES, OPERATIONS, PURGES, Plan, State, choices_of, first_refused,
+    is_allowed, is_done, ops_of, settings, state_of,
 };
 use std::alloc::Global;
 use std::process::Abort;
@@ -154,68 +154,4 @@ fn each_call_of_purges_by_watermarks_may_be_refused(rt: HostRuntime) -> Result<(
 #[test]
 fn each_call_of_purges_may_find_no_space(rt: HostRuntime) -> Result<(), Fail> {
     refuse_each(&rt, rt.alloc(), &PURGES, &[IoKind::NoSpace])
-}
-
-// Memory is ample, or one request was refused.
-fn is_without_memory(fault: Option<&Fault>) -> bool {
-    match fault {
-        Some(fault) => matches!(fault, Fault::Memory | Fault::Failed),
-        None => true,
-    }
-}
-
-// With ample memory each operation is done. With the Nth request refused (`rt try --test --fail-alloc N`) one that fails
-// says so, and a crash leaves what may be found.
-fn lose_nothing(rt: &impl Abort, alloc: Global, plans: &[Plan]) -> Result<(), Fail> {
-    let ops = ops_of(alloc, plans)?;
-    let shown = run_over(alloc, &ops, MemoryFileSystem::new(alloc))?;
-    assert!(rt;
-        is_without_memory(shown.opening.as_ref()),
-        "{:?}",
-        shown.opening
-    );
-    for outcome in &shown.outcomes {
-        assert!(rt; is_without_memory(fault_of(outcome)), "{outcome:?}");
-    }
-    for left in [Left::All, Left::Synced, Left::Torn(7, 255)] {
-        let choices = choices_of(alloc, &left, MAX_FILES)?;
-        let found = found_in(alloc, shown.files.crash(&choices)?)?;
-        assert!(rt;
-            is_allowed(&ops, &shown.outcomes, shown.failed_at, found),
-            "{found:?}"
-        );
-    }
-    Ok(())
-}
-
-/// Groups of batches that go to next files.
-const GROUPED: [Plan; 3] = [
-    Plan::WriteGroup(&[
-        (&[Change::Put(1, b"a", &[1; 500])], false),
-        (&[Change::Entries(3, 1, 3, b"x")], true),
-        (&[Change::Put(2, b"c", &[2; 500])], false),
-    ]),
-    Plan::WriteGroup(&[
-        (&[Change::Entries(3, 2, 4, b"y")], false),
-        (
-            &[Change::Delete(1, b"a"), Change::Put(2, b"d", &[3; 500])],
-            false,
-        ),
-    ]),
-    Plan::Groups,
-];
-
-#[test]
-fn groups_without_memory_lose_nothing(rt: HostRuntime) -> Result<(), Fail> {
-    lose_nothing(&rt, rt.alloc(), &GROUPED)
-}
-
-#[test]
-fn purges_without_memory_lose_nothing(rt: HostRuntime) -> Result<(), Fail> {
-    lose_nothing(&rt, rt.alloc(), &PURGES)
-}
-
-#[test]
-fn purges_by_watermarks_without_memory_lose_nothing(rt: HostRuntime) -> Result<(), Fail> {
-    lose_nothing(&rt, rt.alloc(), &EXPIRED)
 }

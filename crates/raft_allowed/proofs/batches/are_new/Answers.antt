@@ -1,6 +1,6 @@
-use Rattle.std.proofs.Common.{◌≡◌, ◌∙◌, ◌+◌, ap, drop, get_or, refl, sym, true, false}
+use Rattle.std.proofs.Common.{◌∙◌, ap, sym, true, false}
 use Rattle.std.proofs.Math.ListN.{drop_of_length-le}
-use Rattle.raft_once.specs.Numbers.{Pair, are_new}
+use Rattle.raft_once.specs.Numbers.{are_new}
 use Rattle.raft_allowed.proofs.NumberLemmas.{new_at, old_at}
 use Rattle.raft_allowed.proofs.batches.are_new.Goals as goal
 

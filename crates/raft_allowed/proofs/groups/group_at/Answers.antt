@@ -1,5 +1,4 @@
-use Rattle.std.proofs.Common.{◌∙◌, ℕ, ap, sym}
-use Rattle.raft_allowed.specs.Held.{Held, held_in}
+use Rattle.std.proofs.Common.{◌∙◌, ap, sym}
 use Rattle.raft_allowed.proofs.GroupLemmas.{at_here, at_later, at_none, group_pair, same_number}
 use Rattle.raft_allowed.proofs.groups.group_at.Goals as goal
 

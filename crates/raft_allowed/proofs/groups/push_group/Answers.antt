@@ -1,4 +1,4 @@
-use Rattle.std.proofs.Common.{◌≡◌, ◌∙◌, ℕ, true, false, ◌++◌, ◌∷◌, [], refl, sym}
+use Rattle.std.proofs.Common.{◌∙◌, ℕ, true, false, refl, sym}
 use Rattle.std.specs.Ordering.{nat_cmp}
 use Rattle.std.proofs.lemmas.List.{map-append}
 use Rattle.raft_allowed.specs.Held.{Held, group_with_held, held_of, is_between}

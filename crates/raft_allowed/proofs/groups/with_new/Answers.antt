@@ -1,4 +1,4 @@
-use Rattle.std.proofs.Common.{◌≡◌, refl}
+use Rattle.std.proofs.Common.{refl}
 use Rattle.raft_allowed.proofs.groups.with_new.Goals as goal
 
 pub returns : goal.returns

@@ -1,4 +1,3 @@
-use Rattle.std.proofs.Common.{◌≡◌}
 use Rattle.std.specs.Ordering.{nat_cmp}
 use Rattle.raft_allowed.specs.Held.{held_of}
 use Rattle.raft_allowed.proofs.TakenLemmas.{between_all}

@@ -1,4 +1,4 @@
-use Rattle.std.proofs.Common.{◌≡◌, refl}
+use Rattle.std.proofs.Common.{refl}
 use Rattle.raft_allowed.proofs.images.with_group.Goals as goal
 
 pub returns : goal.returns

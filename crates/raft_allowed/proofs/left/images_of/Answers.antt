@@ -1,12 +1,12 @@
-use Rattle.std.proofs.Common.{◌≡◌, ◌∙◌, ◌++◌, ◌∷◌, [], List, arith, length, refl, subst, sym}
+use Rattle.std.proofs.Common.{◌≡◌, ◌∙◌, ◌++◌, ◌∷◌, [], List, arith, refl, subst, sym}
 use Rattle.raft_records.specs.Contents.{Contents, after_batches, no_contents}
 use Rattle.raft_records.specs.Item.{Batch}
 use Rattle.raft_log_engine.specs.declared.engine.image.Image.{Image}
 use Rattle.raft_script.specs.Durability.{progress_after_all}
-use Rattle.raft_script.specs.Headline.{Progress, progress_from}
+use Rattle.raft_script.specs.Headline.{progress_from}
 use Rattle.raft_allowed.specs.Changes.{batches_in}
 use Rattle.raft_allowed.specs.Walk.{AreHeldBy, IsReached, batches_at, contents_from}
-use Rattle.raft_allowed.proofs.WalkLemmas.{IsWalking, all_complete, all_sound, begun, walking_done, walking_on}
+use Rattle.raft_allowed.proofs.WalkLemmas.{all_complete, all_sound, begun, walking_done, walking_on}
 use Rattle.raft_allowed.proofs.left.images_of.Goals as goal
 
 pub loop-place-init : goal.loop-place-init

@@ -1,4 +1,4 @@
-use Rattle.std.proofs.Common.{◌≡◌, ◌∙◌, sym}
+use Rattle.std.proofs.Common.{sym}
 use Rattle.raft_log_engine.specs.Image.{entries_of}
 use Rattle.raft_allowed.proofs.EntriesLemmas.{within_all}
 use Rattle.raft_allowed.proofs.parts.with_entries.Goals as goal

@@ -1,0 +1,26 @@
+//! What holds of trials and of what may be left.
+ghost use Rattle.std.specs.Prelude.{◌≡◌, ℕ, IfOk, List, None, Option};
+ghost use Rattle.raft_config.specs.Folders.{folders_in};
+ghost use Rattle.raft_config.specs.declared.config.Config.{Config};
+ghost use Rattle.raft_memory.specs.declared.crash.Choice.{Choice};
+ghost use Rattle.raft_script.specs.Trial.{AreDetectablyLeft, HaveNoLogPath, IsTrialOf};
+ghost use Rattle.raft_script.specs.declared.operation.Op.{Op};
+ghost use Rattle.raft_script.specs.declared.operation.Trial.{Trial};
+ghost use Rattle.raft_allowed.specs.Allowed.{IsLeftAs};
+
+use raft_env::FileSystem;
+use raft_log_engine::laws::crash_leaves_contents;
+use raft_memory::MemoryFileSystem;
+
+/// What a trial finds is among what may be left after its operations and their outcomes, so that
+/// `allowed` answers an image of the same contents: of a trial whose first opening was answered,
+/// with a crash whose damage is detectable.
+pub fn a_trial_finds_what_may_be_left()
+    ensures found { (config : Config) (ops : List Op) (stop : Option ℕ) (choices : List Choice)
+        (t : Trial) (is : IsTrialOf ⟦<MemoryFileSystem as FileSystem>⟧ config ops stop choices t)
+        → t.refused ≡ None → HaveNoLogPath (folders_in config)
+        → AreDetectablyLeft (folders_in config) is.crash.last choices
+        → IfOk t.opened (IsLeftAs t.failed_at ops t.outcomes.items) }
+{
+    crash_leaves_contents();
+}

@@ -1,0 +1,176 @@
+//! Operations that stop at each call that changes files, and crash there in 132 ways.
+
+use crate::lists::{CameTo, List};
+use crate::tally::Tally;
+use raft_memory::Choice;
+use raft_records::Fault;
+use raft_script::{Op, Trial, trial, trial_twice};
+use raft_test_rows::{Left, MAX_FILES, choices_of, fault_of, is_done};
+use std::alloc::{AllocError, Global};
+
+const MAX_CALLS: u64 = 400;
+
+/// Of a torn file so many of the touched bytes stand at most.
+const KEPT: usize = 64;
+
+/// So many openings after a crash are to be answered, each stopped one call later than the one
+/// before.
+const ANSWERED: u64 = 3;
+
+// All that was not synced, nothing of it, and of the first bytes so many with the others as zeros
+// or as ones.
+fn ways(alloc: Global) -> Result<Vec<Left>, AllocError> {
+    let mut ways = vec![in alloc; Left::All, Left::Synced]?;
+    for kept in 0..=KEPT {
+        ways.push(Left::Torn(kept, 0))?;
+        ways.push(Left::Torn(kept, 255))?;
+    }
+    Ok(ways)
+}
+
+// Whether a trial found what may be left.
+fn is_left(alloc: Global, list: &List, shown: &Trial) -> Result<bool, Fault> {
+    let Ok(found) = &shown.opened else {
+        return Ok(false);
+    };
+    let ran = CameTo {
+        is_opened: shown.refused.is_none(),
+        outcomes: &shown.outcomes,
+        failed_at: shown.failed_at,
+    };
+    list.allows(alloc, ran, found)
+}
+
+fn is_stopped(ops: &[Op], shown: &Trial) -> bool {
+    shown.outcomes.len() != ops.len() || !shown.outcomes.iter().all(is_done)
+}
+
+// One crash: whether the stop came.
+fn crash_at(
+    alloc: Global,
+    list: &List,
+    stop: u64,
+    left: &Left,
+    tally: &mut Tally,
+) -> Result<bool, Fault> {
+    let choices = choices_of(alloc, left, MAX_FILES)?;
+    let shown = trial(alloc, list.config(alloc)?, &list.done, Some(stop), &choices)?;
+    tally.add_crash();
+    if !is_left(alloc, list, &shown)? {
+        tally.add_wrong(alloc, &shown)?;
+    }
+    Ok(is_stopped(&list.done, &shown))
+}
+
+// Whether the last opening found what the one before it did, if that was answered.
+fn is_found_again(shown: &Trial) -> bool {
+    match (&shown.second, &shown.opened) {
+        (Some(Ok(image)), Ok(found)) => *image == *found,
+        (Some(Ok(_)), Err(_)) => false,
+        _ => true,
+    }
+}
+
+// The opening after a crash stops at each call that changes files, and crashes in the same way.
+fn stop_openings(
+    alloc: Global,
+    list: &List,
+    stop: u64,
+    choices: &[Choice],
+    tally: &mut Tally,
+) -> Result<(), Fault> {
+    let mut answered: u64 = 0;
+    for again in 1..MAX_CALLS {
+        let config = list.config(alloc)?;
+        let ops = list.done.as_slice();
+        let shown = trial_twice(
+            alloc,
+            config,
+            ops,
+            Some(stop),
+            choices,
+            Some(again),
+            choices,
+        )?;
+        tally.add_in_opening();
+        if !is_left(alloc, list, &shown)? || !is_found_again(&shown) {
+            tally.add_wrong(alloc, &shown)?;
+        }
+        if matches!(&shown.second, Some(Ok(_))) {
+            answered = answered.saturating_add(1);
+        }
+        if answered == ANSWERED {
+            return Ok(());
+        }
+    }
+    Ok(())
+}
+
+/// At each stop a crash in each way, and after two of these a stop at each call of the opening.
+pub(crate) fn each_stop(alloc: Global, list: &List) -> Result<Tally, Fault> {
+    let mut tally = Tally::new();
+    let ways = ways(alloc)?;
+    for stop in 1..MAX_CALLS {
+        let mut stopped = false;
+        for left in &ways {
+            stopped = crash_at(alloc, list, stop, left, &mut tally)?;
+        }
+        for left in [Left::Synced, Left::Torn(7, 255)] {
+            let choices = choices_of(alloc, &left, MAX_FILES)?;
+            stop_openings(alloc, list, stop, &choices, &mut tally)?;
+        }
+        if !stopped {
+            break;
+        }
+        tally.add_call();
+    }
+    Ok(tally)
+}
+
+/// At each stop a crash that leaves what was synced, where what may be left is told as if each plain
+/// write were synced. So many wrong ones are wanted, and the first isn't told.
+pub(crate) fn objections(alloc: Global, mut list: List) -> Result<Tally, Fault> {
+    list.tell_as_synced();
+    let mut tally = Tally::new();
+    for stop in 1..MAX_CALLS {
+        if !crash_at(alloc, &list, stop, &Left::Synced, &mut tally)? {
+            break;
+        }
+        tally.add_call();
+    }
+    tally.first_wrong = None;
+    Ok(tally)
+}
+
+// Memory is ample, or one request was refused.
+fn is_without_memory(fault: Option<&Fault>) -> bool {
+    match fault {
+        Some(fault) => matches!(fault, Fault::Memory | Fault::Failed),
+        None => true,
+    }
+}
+
+fn are_without_memory(shown: &Trial) -> bool {
+    is_without_memory(shown.refused.as_ref())
+        && is_without_memory(shown.opened.as_ref().err())
+        && shown
+            .outcomes
+            .iter()
+            .all(|outcome| is_without_memory(fault_of(outcome)))
+}
+
+/// Crashes behind all operations. Where a request for memory is refused, as tools/refusals does, an
+/// operation or an opening says what it had no memory for, and what is found may be left.
+pub(crate) fn without_stop(alloc: Global, list: &List) -> Result<Tally, Fault> {
+    let mut tally = Tally::new();
+    for left in [Left::All, Left::Synced, Left::Torn(7, 255)] {
+        let choices = choices_of(alloc, &left, MAX_FILES)?;
+        let shown = trial(alloc, list.config(alloc)?, &list.done, None, &choices)?;
+        tally.add_crash();
+        let is_right = shown.opened.is_err() || is_left(alloc, list, &shown)?;
+        if !is_right || !are_without_memory(&shown) {
+            tally.add_wrong(alloc, &shown)?;
+        }
+    }
+    Ok(tally)
+}

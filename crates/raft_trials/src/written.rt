@@ -1,0 +1,308 @@
+//! Short lists of operations with their outcomes, and what may be left of them, written by hand.
+
+use crate::lists::numbered;
+use crate::tally::Tally;
+use raft_allowed::allowed;
+use raft_log_engine::{GroupImage, Image};
+use raft_records::{Fault, IoKind};
+use raft_script::{Op, Outcome, entries_between};
+use raft_test_rows::{Change, Plan, ops_of};
+use std::alloc::{AllocError, Global};
+
+/// How an operation is answered.
+#[derive(Clone, Copy)]
+enum Reply {
+    Written,
+    /// Its numbers have acted.
+    Old,
+    /// A group of two batches, of which the second is refused.
+    Grouped,
+    Compacted,
+    Failed,
+    GroupFailed,
+}
+
+/// An operation, the numbers of a write that acts once, and how it is answered.
+struct Step([Plan; 1], &'static [(u64, u64)], Reply);
+
+/// A group's number; its entries' first index, and words of one byte each from there on; its pairs.
+#[derive(Clone, Copy)]
+struct Row(
+    u64,
+    u64,
+    &'static [u8],
+    &'static [(&'static [u8], &'static [u8])],
+);
+
+/// What it shows, operations with their answers, the place where the engine failed, and what may be
+/// left.
+struct Case(
+    &'static str,
+    &'static [Step],
+    Option<usize>,
+    &'static [&'static [Row]],
+);
+
+const FIRST: Row = Row(1, 0, &[], &[(b"a", &[1])]);
+
+const BOTH: Row = Row(1, 0, &[], &[(b"a", &[1]), (b"b", &[2])]);
+
+const OTHER: Row = Row(1, 0, &[], &[(b"a", &[1]), (b"c", &[3])]);
+
+const ALL: Row = Row(1, 0, &[], &[(b"a", &[1]), (b"b", &[2]), (b"c", &[3])]);
+
+const ENTRIES: Row = Row(2, 1, b"ww", &[]);
+
+/// The key at which a group keeps its number.
+const NUMBER: &[u8] = b"\xffonce";
+
+const CASES: [Case; 6] = [
+    Case(
+        "nothing is synced: each prefix",
+        &[
+            Step(
+                [Plan::Write(&[Change::Put(1, b"a", &[1])], false)],
+                &[],
+                Reply::Written,
+            ),
+            Step(
+                [Plan::Write(&[Change::Put(1, b"b", &[2])], false)],
+                &[],
+                Reply::Written,
+            ),
+        ],
+        None,
+        &[&[], &[FIRST], &[BOTH]],
+    ),
+    Case(
+        "of a group any choice, but for entries that don't follow those that are there",
+        &[
+            Step(
+                [Plan::Write(
+                    &[Change::Put(1, b"a", &[1]), Change::Entries(2, 1, 2, b"w")],
+                    true,
+                )],
+                &[],
+                Reply::Written,
+            ),
+            Step(
+                [Plan::WriteGroup(&[
+                    (&[Change::Put(1, b"b", &[2])], false),
+                    (&[Change::Entries(2, 5, 5, b"w")], false),
+                    (&[Change::Put(1, b"c", &[3])], true),
+                ])],
+                &[],
+                Reply::GroupFailed,
+            ),
+        ],
+        Some(1),
+        &[
+            &[FIRST, ENTRIES],
+            &[BOTH, ENTRIES],
+            &[OTHER, ENTRIES],
+            &[ALL, ENTRIES],
+        ],
+    ),
+    Case(
+        "entries over others, a compaction, and a clean by a write that fails",
+        &[
+            Step(
+                [Plan::Write(&[Change::Entries(3, 1, 4, b"w")], false)],
+                &[],
+                Reply::Written,
+            ),
+            Step(
+                [Plan::WriteGroup(&[
+                    (&[Change::Entries(3, 3, 3, b"x")], true),
+                    (&[Change::Entries(3, 9, 9, b"x")], false),
+                ])],
+                &[],
+                Reply::Grouped,
+            ),
+            Step([Plan::CompactTo(3, 3)], &[], Reply::Compacted),
+            Step(
+                [Plan::Write(&[Change::Clean(3)], false)],
+                &[],
+                Reply::Failed,
+            ),
+        ],
+        Some(3),
+        &[&[Row(3, 1, b"wwx", &[])], &[Row(3, 3, b"x", &[])], &[]],
+    ),
+    Case(
+        "numbers act once, also the one in flight, and no image shows them",
+        &[
+            Step(
+                [Plan::Write(&[Change::Put(1, b"a", &[1])], true)],
+                &[(1, 5)],
+                Reply::Written,
+            ),
+            Step(
+                [Plan::Write(&[Change::Put(1, b"a", &[9])], false)],
+                &[(1, 5)],
+                Reply::Old,
+            ),
+            Step(
+                [Plan::Write(&[Change::Put(1, b"b", &[2])], false)],
+                &[(1, 6), (2, 1)],
+                Reply::Written,
+            ),
+            Step(
+                [Plan::Write(&[Change::Put(1, b"c", &[3])], true)],
+                &[(1, 7)],
+                Reply::Failed,
+            ),
+        ],
+        Some(3),
+        &[&[FIRST], &[BOTH], &[ALL]],
+    ),
+    Case(
+        "a clean forgets the number: what is in flight with it may act",
+        &[
+            Step(
+                [Plan::Write(&[Change::Put(1, b"a", &[9])], true)],
+                &[(1, 5)],
+                Reply::Written,
+            ),
+            Step(
+                [Plan::Write(&[Change::Clean(1)], true)],
+                &[],
+                Reply::Written,
+            ),
+            Step(
+                [Plan::Write(&[Change::Put(1, b"a", &[1])], true)],
+                &[(1, 5)],
+                Reply::Failed,
+            ),
+        ],
+        Some(2),
+        &[&[], &[FIRST]],
+    ),
+    Case(
+        "an ordinary write changes no number, and so nothing of it is in flight",
+        &[
+            Step(
+                [Plan::Write(&[Change::Put(1, b"a", &[1])], true)],
+                &[(1, 5)],
+                Reply::Written,
+            ),
+            Step(
+                [Plan::Write(
+                    &[Change::Put(1, b"b", &[2]), Change::Put(1, NUMBER, &[])],
+                    true,
+                )],
+                &[],
+                Reply::Failed,
+            ),
+        ],
+        Some(1),
+        &[&[FIRST]],
+    ),
+];
+
+fn ops_in(alloc: Global, steps: &[Step]) -> Result<Vec<Op>, AllocError> {
+    let mut ops = Vec::new(alloc);
+    for step in steps {
+        for op in ops_of(alloc, &step.0)? {
+            ops.push(numbered(alloc, op, step.1)?)?;
+        }
+    }
+    Ok(ops)
+}
+
+fn failure(alloc: Global) -> Result<Fault, AllocError> {
+    Ok(Fault::Io(IoKind::Other, String::from_str(alloc, "raft/1")?))
+}
+
+fn outcome_of(alloc: Global, reply: Reply) -> Result<Outcome, AllocError> {
+    match reply {
+        Reply::Written => Ok(Outcome::Size(Ok(28))),
+        Reply::Old => Ok(Outcome::Size(Ok(0))),
+        Reply::Grouped => {
+            let answers = vec![in alloc; Ok(33), Err(Fault::Gap)]?;
+            Ok(Outcome::Sizes(Ok(answers)))
+        }
+        Reply::Compacted => Ok(Outcome::Count(Ok(2))),
+        Reply::Failed => Ok(Outcome::Size(Err(failure(alloc)?))),
+        Reply::GroupFailed => Ok(Outcome::Sizes(Err(failure(alloc)?))),
+    }
+}
+
+fn outcomes_in(alloc: Global, steps: &[Step]) -> Result<Vec<Outcome>, AllocError> {
+    let mut outcomes = Vec::new(alloc);
+    for step in steps {
+        outcomes.push(outcome_of(alloc, step.2)?)?;
+    }
+    Ok(outcomes)
+}
+
+fn group_of(alloc: Global, row: &Row) -> Result<GroupImage, AllocError> {
+    let mut entries = Vec::new(alloc);
+    let mut index = row.1;
+    for byte in row.2 {
+        for entry in entries_between(alloc, index, index, &[*byte])? {
+            entries.push(entry)?;
+        }
+        index = index.saturating_add(1);
+    }
+    let mut pairs = Vec::new(alloc);
+    for pair in row.3 {
+        pairs.push((pair.0.to_vec(alloc)?, pair.1.to_vec(alloc)?))?;
+    }
+    Ok(GroupImage {
+        group: row.0,
+        entries,
+        pairs,
+    })
+}
+
+fn image_of(alloc: Global, rows: &[Row]) -> Result<Image, AllocError> {
+    let mut groups = Vec::new(alloc);
+    for row in rows {
+        groups.push(group_of(alloc, row)?)?;
+    }
+    Ok(Image { groups })
+}
+
+// Whether just these images are left, in this order.
+fn is_as_written(alloc: Global, case: &Case) -> Result<bool, Fault> {
+    let ops = ops_in(alloc, case.1)?;
+    let outcomes = outcomes_in(alloc, case.1)?;
+    let found = allowed(alloc, &ops, &outcomes, case.2)?;
+    let mut equal = found.len() == case.3.len();
+    for (image, rows) in found.iter().zip(case.3.iter()) {
+        equal = equal && *image == image_of(alloc, rows)?;
+    }
+    Ok(equal)
+}
+
+fn is_refused(answer: Result<Vec<Image>, Fault>) -> bool {
+    match answer {
+        Ok(_) => false,
+        Err(fault) => fault.code() == 1,
+    }
+}
+
+// Whether outcomes that aren't as many as the operations are refused, and a place behind them.
+fn misfits_are_refused(alloc: Global, case: &Case) -> Result<bool, Fault> {
+    let ops = ops_in(alloc, case.1)?;
+    let outcomes = outcomes_in(alloc, case.1)?;
+    let short = allowed(alloc, &ops, &[], None);
+    let past = allowed(alloc, &ops, &outcomes, Some(ops.len()));
+    Ok(is_refused(short) && is_refused(past))
+}
+
+/// What may be left of each list.
+pub(crate) fn each_list(alloc: Global) -> Result<Tally, Fault> {
+    let mut tally = Tally::new();
+    for case in &CASES {
+        if case.2.is_some() {
+            tally.add_call();
+        }
+        tally.add_crash();
+        if !is_as_written(alloc, case)? || !misfits_are_refused(alloc, case)? {
+            tally.add_wrong(alloc, &case.0)?;
+        }
+    }
+    Ok(tally)
+}
