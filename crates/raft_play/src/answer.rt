@@ -3,8 +3,7 @@
 use crate::words::Spelled;
 use raft_env::FsFault;
 use raft_records::Fault;
-use raft_script::Outcome;
-use raft_test_rows::{EMPTY, State};
+use raft_test_rows::{EMPTY, Outcome, State};
 use std::alloc::{AllocError, AllocFailed};
 use std::fmt;
 

@@ -3,7 +3,7 @@
 use crate::answer::{Answer, Unanswered};
 use crate::words::{Names, bytes_of, number};
 use raft_records::{Command, EntryIndex, Fault, LogBatch};
-use raft_script::{Outcome, TextEntry};
+use raft_test_rows::{Outcome, TextEntry};
 use std::alloc::{AllocError, Global};
 use std::mem;
 

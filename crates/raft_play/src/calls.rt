@@ -4,9 +4,8 @@ use crate::answer::Unanswered;
 use crate::batch::{Writing, add_raw};
 use crate::words::{Names, bound, bytes_of, number};
 use raft_env::FileSystem;
-use raft_log_engine::Engine;
 use raft_records::{Fault, FileSeq, LogBatch};
-use raft_script::Outcome;
+use raft_test_rows::{Engine, Outcome};
 use std::alloc::{AllocError, Global};
 
 /// A call that writes or purges.

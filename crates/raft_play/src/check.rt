@@ -4,8 +4,8 @@ use crate::files::length;
 use raft_dump::Planned;
 use raft_env::FileSystem;
 use raft_inspect::{Outlook, QueueFiles, inspect};
-use raft_log_engine::{Config, Engine, RecoveryMode};
 use raft_records::{Fault, Fresh, LogQueue};
+use raft_test_rows::{Config, Engine, RecoveryMode};
 use std::alloc::{AllocError, Global};
 
 /// The files of both queues.

@@ -5,8 +5,7 @@ use crate::check::outlook;
 use crate::words::{Names, bytes_of, number};
 use raft_env::{FileSystem, FsFault, Permission};
 use raft_fork::fork;
-use raft_log_engine::{Config, RecoveryMode};
-use raft_test_rows::{Faulty, Left};
+use raft_test_rows::{Config, Faulty, Left, RecoveryMode};
 use std::alloc::Global;
 
 fn store<F: FileSystem>(files: &mut F, path: &str, bytes: &[u8]) -> Result<(), FsFault> {

@@ -3,9 +3,7 @@
 use crate::answer::{Answer, Unanswered};
 use crate::words::{Names, Spelled, bound, bytes_of, number};
 use raft_env::FileSystem;
-use raft_log_engine::Engine;
-use raft_script::{Outcome, TextEntry};
-use raft_test_rows::state_of;
+use raft_test_rows::{Engine, Outcome, TextEntry, state_of};
 use std::alloc::{AllocError, Global};
 
 /// The keys and values that a scan hands over, as far as there is memory.

@@ -8,12 +8,10 @@ use crate::program::Program;
 use crate::words::{Names, bytes_of, number};
 use crate::{files, looks};
 use raft_env::IoKind;
-use raft_log_engine::{Config, RecoveryMode};
 use raft_memory::FsCall;
 use raft_records::{Fault, Fresh};
-use raft_script::Outcome;
 use raft_settings::with_text;
-use raft_test_rows::{Failing, Faulty, Held, settings};
+use raft_test_rows::{Config, Failing, Faulty, Held, Outcome, RecoveryMode, settings};
 use std::alloc::{AllocError, Global};
 
 /// Files or an engine over them, the settings of the next opening, the batch of the next write, and

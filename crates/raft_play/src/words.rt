@@ -3,7 +3,7 @@
 
 use crate::answer::Unanswered;
 use hex::FromHexError;
-use raft_script::number_of;
+use raft_test_rows::number_of;
 use std::alloc::Global;
 use std::fmt;
 

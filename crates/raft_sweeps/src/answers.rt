@@ -3,8 +3,9 @@
 use raft_env::IoKind;
 use raft_memory::FsCall;
 use raft_records::Fault;
-use raft_script::{Op, Outcome};
-use raft_test_rows::{EMPTY, State, after, are_new, count_below, fault_of, is_done, value_of};
+use raft_test_rows::{
+    EMPTY, Op, Outcome, State, after, are_new, count_below, fault_of, is_done, value_of,
+};
 use std::process::Abort;
 
 pub(crate) const CALLS: [FsCall; 16] = [

@@ -3,9 +3,9 @@
 use raft_base::{FileBlockHandle, FileId};
 use raft_env::{FileSystem, IoKind};
 use raft_listeners::{EventListener, EventSink, Listeners};
-use raft_log_engine::{Config, Engine};
 use raft_memory::{FsCall, MemoryFileSystem};
 use raft_records::{Command, EntryIndex, Fault, Fresh, LogBatch, ReadableSize};
+use raft_test_rows::{Config, Engine};
 use std::alloc::Global;
 use std::sync::Arc;
 use std::sync::atomic::{AtomicU64, Ordering};

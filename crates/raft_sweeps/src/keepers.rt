@@ -3,9 +3,9 @@
 use raft_base::{FileBlockHandle, FileId, FileSeq, LogQueue};
 use raft_env::FileSystem;
 use raft_listeners::{EventListener, EventSink, FileKeeper, Listeners};
-use raft_log_engine::{Config, Engine};
 use raft_memory::MemoryFileSystem;
 use raft_records::{EntryIndex, Fault, Fresh, LogBatch, ReadableSize};
+use raft_test_rows::{Config, Engine};
 use std::alloc::{AllocError, Global};
 use std::sync::Arc;
 use std::sync::atomic::{AtomicU64, Ordering};

@@ -2,13 +2,11 @@
 
 use crate::answers::{CALLS, are_answers, begin_as_wanted, is_refusal};
 use raft_env::{FileSystem, IoKind};
-use raft_log_engine::Engine;
 use raft_memory::{FsCall, MemoryFileSystem};
 use raft_records::Fault;
-use raft_script::{Op, Outcome, run};
 use raft_test_rows::{
-    EXPIRED, Left, MAX_FILES, OPERATIONS, PURGES, Plan, State, choices_of, first_refused,
-    is_allowed, is_done, ops_of, settings, state_of,
+    EXPIRED, Engine, Left, MAX_FILES, OPERATIONS, Op, Outcome, PURGES, Plan, State, choices_of,
+    first_refused, is_allowed, is_done, ops_of, run, settings, state_of,
 };
 use std::alloc::Global;
 use std::process::Abort;

@@ -1,12 +1,11 @@
 //! Two sittings at a log whose dropped files are used again, with a close between them.
 
 use raft_env::FileSystem;
-use raft_log_engine::{Config, Engine};
 use raft_memory::MemoryFileSystem;
 use raft_records::ReadableSize;
-use raft_script::{Op, Outcome, step};
 use raft_test_rows::{
-    Change, Left, MAX_FILES, Plan, State, choices_of, is_allowed, ops_of, settings, state_of,
+    Change, Config, Engine, Left, MAX_FILES, Op, Outcome, Plan, State, choices_of, is_allowed,
+    ops_of, settings, state_of, step,
 };
 use std::alloc::{AllocError, Global};
 use std::process::Abort;

@@ -1,9 +1,9 @@
 //! Trials: operations, a crash and an opening in one call.
 
 use raft_records::Fault;
-use raft_script::{Trial, trial, trial_twice};
 use raft_test_rows::{
-    Answer, Change, EMPTY, Left, Plan, State, are_answers, choice_of, ops_of, settings, state_of,
+    Answer, Change, EMPTY, Left, Plan, State, Trial, are_answers, choice_of, ops_of, settings,
+    state_of, trial, trial_twice,
 };
 use std::alloc::Global;
 

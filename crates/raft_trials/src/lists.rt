@@ -1,11 +1,10 @@
 //! Lists of operations with their settings, and what may be left of them.
 
 use raft_allowed::allowed;
-use raft_log_engine::{Config, Image};
 use raft_records::{Fault, ReadableSize};
-use raft_script::{Op, Outcome};
 use raft_test_rows::{
-    Change, EXPIRED, OPERATIONS, PURGES, Plan, REWRITTEN_IN_PARTS, ops_of, settings,
+    Change, Config, EXPIRED, Image, OPERATIONS, Op, Outcome, PURGES, Plan, REWRITTEN_IN_PARTS,
+    ops_of, settings,
 };
 use std::alloc::{AllocError, Global};
 
@@ -16,7 +15,12 @@ pub(crate) struct List {
     told: Vec<Op>,
     /// More than so many KB of log files are purged, each of which has 1 KB.
     purge_threshold: u64,
+    /// Of a torn file so many of the touched bytes stand at most.
+    pub(crate) kept: usize,
 }
+
+/// Of a list of large entries, which takes long, none of them.
+const KEPT: usize = 64;
 
 /// What operations came to.
 #[derive(Clone, Copy)]
@@ -110,6 +114,7 @@ impl List {
             done,
             told,
             purge_threshold,
+            kept: if name == "parts" { 0 } else { KEPT },
         }))
     }
 

@@ -3,11 +3,11 @@
 use crate::lists::{CameTo, List};
 use crate::tally::Tally;
 use raft_env::{FileSystem, IoKind};
-use raft_log_engine::{Engine, Image};
 use raft_memory::{FsCall, MemoryFileSystem};
 use raft_records::Fault;
-use raft_script::{Outcome, run};
-use raft_test_rows::{Left, MAX_FILES, choices_of, fault_of, first_refused, is_done};
+use raft_test_rows::{
+    Engine, Image, Left, MAX_FILES, Outcome, choices_of, fault_of, first_refused, is_done, run,
+};
 use std::alloc::Global;
 
 const MAX_CALLS: u64 = 400;

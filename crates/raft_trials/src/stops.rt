@@ -1,17 +1,15 @@
-//! Operations that stop at each call that changes files, and crash there in 132 ways.
+//! Operations that stop at each call that changes files, and crash there in up to 132 ways.
 
 use crate::lists::{CameTo, List};
 use crate::tally::Tally;
 use raft_memory::Choice;
 use raft_records::Fault;
-use raft_script::{Op, Trial, trial, trial_twice};
-use raft_test_rows::{Left, MAX_FILES, choices_of, fault_of, is_done};
+use raft_test_rows::{
+    Left, MAX_FILES, Op, Trial, choices_of, fault_of, is_done, trial, trial_twice,
+};
 use std::alloc::{AllocError, Global};
 
 const MAX_CALLS: u64 = 400;
-
-/// Of a torn file so many of the touched bytes stand at most.
-const KEPT: usize = 64;
 
 /// So many openings after a crash are to be answered, each stopped one call later than the one
 /// before.
@@ -19,9 +17,9 @@ const ANSWERED: u64 = 3;
 
 // All that was not synced, nothing of it, and of the first bytes so many with the others as zeros
 // or as ones.
-fn ways(alloc: Global) -> Result<Vec<Left>, AllocError> {
+fn ways(alloc: Global, most: usize) -> Result<Vec<Left>, AllocError> {
     let mut ways = vec![in alloc; Left::All, Left::Synced]?;
-    for kept in 0..=KEPT {
+    for kept in 0..=most {
         ways.push(Left::Torn(kept, 0))?;
         ways.push(Left::Torn(kept, 255))?;
     }
@@ -109,7 +107,7 @@ fn stop_openings(
 /// At each stop a crash in each way, and after two of these a stop at each call of the opening.
 pub(crate) fn each_stop(alloc: Global, list: &List) -> Result<Tally, Fault> {
     let mut tally = Tally::new();
-    let ways = ways(alloc)?;
+    let ways = ways(alloc, list.kept)?;
     for stop in 1..MAX_CALLS {
         let mut stopped = false;
         for left in &ways {
