@@ -1,11 +1,11 @@
-"""What a command leaves that is killed at one of its calls, and what it does on a full disk."""
+"""What a command leaves that is killed at one of its calls, and what it tells where calls are refused."""
 import errno
 import os
 import shutil
 import signal
 import subprocess
 
-from folders import add, logs_in, state_of
+from folders import logs_in, state_of
 
 HERE = os.path.dirname(os.path.abspath(__file__))
 MARK = "FORKING"
@@ -26,7 +26,7 @@ class Calls:
         """A fork that is killed at any of its calls leaves no log file, or a mark, or all of the log."""
         source = self.make("forked")
         self.run(source, "rewrite", "append", "--target", "20KB")
-        self.run(source, "load", 300, 40, "--sync-each", 100, "--target", "20KB")
+        self.run(source, "load", 600, 40, "--sync-each", 100, "--target", "20KB")
         count = len(logs_in(source))
         self.expect("the source has both queues", count >= 4)
         told = [self.run(source, *words.split()).stdout for words in ("list", "entries 7")]
@@ -62,53 +62,24 @@ class Calls:
         same = all(before.get(path) == state for path, state in left.items() if path != target)
         self.expect(f"call {call}: it is as it was", same)
 
-    def full_disk(self, thresholds):
-        """On a full disk a last file that holds nothing hinders neither a repair nor a purge."""
-        full = self.calling(FULL="1")
-        words = ["--settings", thresholds]
-        for command in ("repair", "purge"):
-            folder = os.path.join(self.work, f"full-{command}")
-            # The same keys again and again: nothing counts in the first files.
-            for _ in range(20):
-                self.run(folder, "load", 10, 40, "--target", "1KB")
-            told = self.run(folder, "list").stdout
-            number = max(int(name[:16]) for name in logs_in(folder) if name.endswith(".raftlog"))
-            empty = os.path.join(folder, f"{number + 1:016}.raftlog")
-            add(empty, b"")
-            before = len(logs_in(folder))
-            ran = self.run(folder, command, *words, env=full)
-            self.expect(f"{command} on a full disk: {ran.stderr}", ran.returncode == 0 and b"held nothing" in ran.stderr)
-            self.expect(f"{command}: the empty file is gone", not os.path.exists(empty))
-            if command == "purge":
-                self.expect("a purge frees space on a full disk", len(logs_in(folder)) < before - 1)
-            self.expect(f"{command} on a full disk loses no key", self.run(folder, "list").stdout == told)
-        ran = self.run(folder, "rewrite", "append", env=full)
-        self.expect(f"how much is wanted: {ran.stderr}", ran.returncode == 1 and b"free a block" in ran.stderr)
-        add(os.path.join(folder, max(name for name in logs_in(folder) if name.endswith(".raftlog"))), b"torn")
-        ran = self.run(folder, "repair", env=full)
-        self.expect(f"what can't be kept: {ran.stderr}", ran.returncode == 1 and b"--no-keep" in ran.stderr)
-        ran = self.run(folder, "repair", "--no-keep", env=full)
-        self.expect(f"a repair on a full disk: {ran.stderr}", ran.returncode == 0)
-        self.expect("and no key is lost", self.run(folder, "list").stdout == told)
-
     def refused_calls(self):
         """A call that the system refuses is told with its text and the folder."""
         folder = os.path.join(self.work, "refused-calls")
         self.run(folder, "load", 6, 40)
         # A first file of the Rewrite queue is made: a change of a folder that takes no new file.
         os.unlink(os.path.join(folder, f"{1:016}.rewrite"))
-        for kind, number, code, text in [
-            ("opens", 1, errno.EACCES, b"lock cannot be opened"),
-            ("opens", 2, errno.EACCES, b"file there can't be made"),
-            ("pwrites", 1, errno.EDQUOT, b"no space is left"),
-            ("pwrites", 1, errno.EIO, b"file there can't be written"),
-            ("fdatasyncs", 1, errno.EROFS, b"file there can't be written"),
+        for kind, number, code, texts in [
+            ("opens", 1, errno.EACCES, [b"lock cannot be opened", b"ermission", folder.encode()]),
+            ("opens", 2, errno.EACCES, [b"file there can't be made", b"ermission", folder.encode()]),
+            ("pwrites", 1, errno.EDQUOT, [b"no space is left", b"free a block"]),
+            ("pwrites", 1, errno.EIO, [b"file there can't be written", b"Input/output", folder.encode()]),
+            ("fdatasyncs", 1, errno.EROFS, [b"file there can't be written", b"ead-only", folder.encode()]),
         ]:
             env = self.calling(FAIL=f"{kind}:{number}:{code}")
             before = logs_in(folder)
             ran = self.run(folder, "put", 1, "a", "b", env=env)
-            self.expect(f"{kind} {number}: {ran.stderr}", ran.returncode == 1 and text in ran.stderr)
-            self.expect(f"{kind} {number}: the folder is told: {ran.stderr}", folder.encode() in ran.stderr)
+            told = all(text in ran.stderr for text in texts)
+            self.expect(f"{kind} {number}: {ran.stderr}", ran.returncode == 1 and told)
             for name in logs_in(folder) - before:
                 os.unlink(os.path.join(folder, name))
             self.expect("no file of the trial is left", not [it for it in os.listdir(folder) if ".trial" in it])

@@ -78,6 +78,9 @@ class FullDisk(Tests):
         says = all(word in ran.stderr for word in (b"no space is left", b"free a block", b"stands"))
         self.expect(f"a put that finds no space: {ran.returncode} {ran.stderr}", ran.returncode == 1 and says)
         self.keeps_all("behind a refused put")
+        ran = self.do("rewrite", "append")
+        self.expect(f"a rewriting that finds no space: {ran.stderr}", ran.returncode == 1 and b"free a block" in ran.stderr)
+        self.keeps_all("behind a refused rewriting")
         ran = self.do("check")
         self.expect(f"behind a refused put nothing is lost: {ran.stdout}", ran.returncode == 0)
 

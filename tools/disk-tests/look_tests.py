@@ -341,7 +341,6 @@ def main():
         tests.dry_runs(thresholds)
         tests.documents()
         tests.killed_forks()
-        tests.full_disk(thresholds)
         tests.refused_calls()
         tests.closed_streams()
     print(f"{tests.tried} cases, {tests.bad} wrong")

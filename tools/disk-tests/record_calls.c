@@ -3,7 +3,6 @@
 // With FAIL=short:N:ERRNO the Nth pwrite writes half of its bytes, and the next one fails.
 // With FAIL=opens:N:ERRNO, and so of each kind, the Nth call and each later one fail.
 // With KILL=N the Nth of all these calls isn't carried out, or a pwrite by half, and the process is killed.
-// With FULL set a write that needs another block of the disk fails, as on a full one.
 #define _GNU_SOURCE
 #include <dlfcn.h>
 #include <errno.h>
@@ -108,16 +107,6 @@ static void die_if_last(void) {
         raise(SIGKILL);
 }
 
-// Whether a full disk has no block for these bytes.
-static int is_full(int fd, size_t len, off_t at) {
-    enum { BLOCK = 4096 };
-    struct stat info;
-    if (!getenv("FULL") || fstat(fd, &info) != 0)
-        return 0;
-    errno = ENOSPC;
-    return (at + (off_t)len + BLOCK - 1) / BLOCK > (info.st_size + BLOCK - 1) / BLOCK;
-}
-
 static int remember(int fd, const char *path, int is_new) {
     if (fd >= 0 && fd < MAX_FILES) {
         char full[PATH_MAX];
@@ -215,7 +204,7 @@ int mkdir(const char *path, mode_t mode) {
 
 ssize_t pwrite(int fd, const void *bytes, size_t len, off_t at) {
     int how = fails("pwrite"), last = is_last();
-    if (how == 1 || is_full(fd, len, at))
+    if (how == 1)
         return -1;
     if (how == 2 || last)
         len /= 2;
@@ -228,8 +217,6 @@ ssize_t pwrite(int fd, const void *bytes, size_t len, off_t at) {
 }
 
 ssize_t write(int fd, const void *bytes, size_t len) {
-    if (fd > 2 && is_full(fd, len, lseek(fd, 0, SEEK_CUR)))
-        return -1;
     ssize_t put = REAL("write", ssize_t (*)(int, const void *, size_t))(fd, bytes, len);
     if (fd == 1 && put > 0 && !is_noting)
         note("say", ".", 0, bytes, put);

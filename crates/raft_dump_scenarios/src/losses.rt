@@ -2,7 +2,7 @@
 
 use raft_config::{Config, RecoveryMode};
 use raft_env::FileSystem;
-use raft_inspect::{Cut, Losses, Passed, Unexplained};
+use raft_inspect::{Cut, Losses, Passed, Unexplained, inspect};
 use raft_memory::MemoryFileSystem;
 use raft_records::{Fault, Fresh, LogQueue};
 use raft_rows::{FileParts, HEADER, PUT, PUTS, ZEROS, fill};
@@ -90,6 +90,20 @@ static CASES: [Case; 10] = [
     Case(GAP, ABSOLUTE, false, &[], &[PASSED]),
 ];
 
+/// A last file whose header found no space.
+const NO_HEADER: &[FileParts] = &[(FIRST, &[HEADER, PUT]), (SECOND, &[ZEROS])];
+
+/// Files, a queue, and its last file where that holds nothing and another one stands before it.
+struct EmptyLast(&'static [FileParts], LogQueue, Option<&'static str>);
+
+static EMPTY_LASTS: [EmptyLast; 5] = [
+    EmptyLast(WHOLE, LogQueue::Rewrite, Some("a/0000000000000005.rewrite")),
+    EmptyLast(WHOLE, LogQueue::Append, None),
+    EmptyLast(NO_HEADER, LogQueue::Append, Some(SECOND)),
+    EmptyLast(TORN_END, LogQueue::Append, None),
+    EmptyLast(&[(FIRST, &[ZEROS])], LogQueue::Append, None),
+];
+
 fn settings(alloc: Global, mode: RecoveryMode) -> Result<Config, Fault> {
     let mut config = Config::fresh(alloc);
     config.dir = String::from_str(alloc, "a")?;
@@ -135,6 +149,17 @@ fn losses_are_told_before_an_opening(rt: HostRuntime) -> Result<(), Fail> {
     for (place, case) in CASES.iter().enumerate() {
         let mut fs = MemoryFileSystem::new(rt.alloc());
         assert!(rt; is_told(&mut fs, rt.alloc(), case)?, "case {place}");
+    }
+    Ok(())
+}
+
+#[test]
+fn a_last_file_that_holds_nothing_is_told(rt: HostRuntime) -> Result<(), Fail> {
+    for (place, EmptyLast(files, queue, wanted)) in EMPTY_LASTS.iter().enumerate() {
+        let mut fs = MemoryFileSystem::new(rt.alloc());
+        fill(&mut fs, rt.alloc(), files)?;
+        let found = inspect(rt.alloc(), &mut fs, &["a", "b"], *queue)?;
+        assert_eq!(rt; found.empty_last(), *wanted, "case {place}");
     }
     Ok(())
 }
