@@ -198,7 +198,7 @@ const char *raftlog_code_text(int code);
 
 /* ---- memory
  *
- * The index is in memory: 56 bytes an entry, and keys with their values. So is what was written since
+ * The index is in memory: 40 bytes an entry, and keys with their values. So is what was written since
  * the last sync, and during a purge twice RAFTLOG_PURGE_BYTES. The rest of the log files is mapped: the
  * system takes its memory back where it needs it, and reads it again from the files when it is asked
  * for. */
