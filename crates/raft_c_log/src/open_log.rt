@@ -269,7 +269,9 @@ impl<F: FileSystem> OpenLog<F> {
         ensures keeps { KeepsLog [] self.old.engine self.new.engine }
     {
         let (_, last) = self.engine.file_spans().append;
-        let next = self.engine.must_rewrite_append_groups(watermark, from, budget)?;
+        let next = self
+            .engine
+            .must_rewrite_append_groups(watermark, from, budget)?;
         answer.numbers = (next.unwrap_or(0), watermark.min(last));
         Ok(())
     }
