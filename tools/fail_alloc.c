@@ -10,6 +10,7 @@
 #include <stdio.h>
 #include <stdlib.h>
 #include <string.h>
+#include <sys/syscall.h>
 #include <unistd.h>
 
 static unsigned long seen, wanted;
@@ -41,4 +42,10 @@ void *realloc(void *old, size_t size) {
 
 __attribute__((destructor)) static void tell(void) {
     if (getenv("COUNT_ALLOC")) fprintf(stderr, "allocations=%lu\n", seen);
+}
+
+/* A program of tests ends so, which runs no destructor. */
+void _exit(int status) {
+    tell();
+    for (;;) syscall(SYS_exit_group, status);
 }

@@ -1,4 +1,4 @@
-/* clients/c/heap.c for a program in Rattle that keeps a log in a folder; tools/heap uses it.
+/* clients/c/heap.c and blocks.c for a program in Rattle that keeps a log in a folder; tools/heap uses it.
  *
  *   LD_PRELOAD=./heap.so PROGRAM
  *   HEAP_TOLD=1          says at the end how much had files behind it

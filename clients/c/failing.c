@@ -23,7 +23,7 @@ static int turn;
 static uint64_t calls(raftlog *log, int *code) {
     raftlog_batch *batch = raftlog_batch_new();
     char value[300] = {0};
-    uint64_t i = 0;
+    uint64_t i = 0, watermark = UINT64_MAX, group = 0;
     for (*code = 0; !*code && i < 40; i++) {
         raftlog_entry entry = {i + 1, (const uint8_t *)&i, sizeof i};
         CHECK(!raftlog_batch_entries(batch, 1, &entry, 1)
@@ -31,6 +31,7 @@ static uint64_t calls(raftlog *log, int *code) {
         CHECK(!raftlog_batch_put(batch, 3, &i, sizeof i, value, sizeof value));
         if ((*code = raftlog_write(log, batch, i % 3 == 0))) break;
         if (i == 20) *code = raftlog_compact_to(log, 1, 10, NULL);
+        if (i == 23) *code = raftlog_must_rewrite_append_groups(log, &watermark, &group, 0);
         if (i == 25) *code = raftlog_must_rewrite_append_queue(log, NULL);
         if (i == 30) *code = raftlog_must_purge_all_stale(log, NULL);
         if (i == 35) *code = raftlog_must_rewrite_rewrite_queue(log, NULL);

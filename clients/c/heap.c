@@ -1,30 +1,12 @@
-/* Large blocks stand in an arena of reserved addresses, each at the beginning of a slot, so that a
- * block grows in place and begins a page. heap.h says what they are for. */
-#include "heap.h"
+/* What stands behind large blocks. heap.h says what it is for. */
+#include "blocks.h"
 
 #include <errno.h>
 #include <fcntl.h>
-#include <stdatomic.h>
 #include <stdlib.h>
 #include <string.h>
-#include <sys/mman.h>
 #include <sys/stat.h>
 #include <unistd.h>
-
-#ifndef MADV_PAGEOUT
-#define MADV_PAGEOUT 21
-#endif
-
-/* A log's blocks from HEAP_LARGE bytes on are large, and begin a slot of HEAP_SLOT. HEAP_STEP
- * bytes are compared and mapped at a time. Tests make these smaller. */
-#ifndef HEAP_SLOT
-#define HEAP_SLOT ((size_t)1 << 30)
-#define HEAP_LARGE ((size_t)1 << 20)
-#define HEAP_STEP ((size_t)1 << 18)
-#endif
-
-/* Slots that are reserved, or fewer where these aren't to be had. */
-enum { MOST_SLOTS = 4096, FEWEST_SLOTS = 64 };
 
 /* Steps after which a file that isn't a block's bytes is looked at again; bytes of a file that are
  * read at a time; how many times as much as a new mapping may stand behind a block already. */
@@ -34,222 +16,22 @@ enum { STEPS_BETWEEN_TRIES = 32, PART = 1 << 16, PART_OF_OTHERS = 16 };
  * writes: a step each time when so much of one was written. */
 enum { MOST_STEPS = 8, ALL_STEPS = 1 << 30, STEPS_FOR_ONE = 4 };
 
-/* Memory that is asked of the system for bytes of no file. */
-enum { OWN = MAP_PRIVATE | MAP_ANONYMOUS | MAP_NORESERVE, BOTH = PROT_READ | PROT_WRITE };
-
-/* In the place of a block's slots: a later slot of it. */
-static const size_t LATER = SIZE_MAX;
-
-struct block {
-    size_t slots;   /* that it takes; 0: the slot is free */
-    size_t size;    /* in bytes, whole pages */
-    uint64_t owner; /* the log's whose call allocated it; 0: no log's */
-    dev_t dev;      /* the file behind it */
-    ino_t ino;      /* 0: none */
-    size_t backed;  /* so many bytes have the file behind them, .. */
-    size_t settled; /* .. but from here on only pages that weren't written since */
-    bool is_lost;   /* a page of it couldn't be read again */
-};
-
-/* `slots_lock` is held for moments, and `slots`, `size`, `owner` and `backed` change under it.
- * The rest of a log's block belongs to who is let in by that log. */
-static pthread_mutex_t slots_lock = PTHREAD_MUTEX_INITIALIZER;
-static struct block blocks[MOST_SLOTS];
-static size_t slot_count; /* those that are reserved */
-static size_t used;       /* those that were ever used */
-static bool is_refused;   /* the addresses can't be reserved */
-static _Atomic(uint8_t *) arena;
-static size_t page;
-
-static _Atomic uint64_t last_id;
-static _Atomic uint64_t owner_of_all;
-static _Thread_local uint64_t owner_here;
-
-static size_t pages_to(size_t end) { return (end + page - 1) & ~(page - 1); }
-static size_t whole_pages(size_t end) { return end & ~(page - 1); }
-static size_t least(size_t one, size_t other) { return one < other ? one : other; }
-
-/* ---- slots */
-
-/* With `slots_lock` held. */
-static bool is_reserved(void) {
-    if (arena || is_refused) return !is_refused;
-    page = (size_t)sysconf(_SC_PAGESIZE);
-    void *at = MAP_FAILED;
-    slot_count = sizeof at < 8 ? 0 : 2 * MOST_SLOTS;
-    while (at == MAP_FAILED && slot_count / 2 >= FEWEST_SLOTS) {
-        slot_count /= 2;
-        at = mmap(NULL, HEAP_SLOT * slot_count, PROT_NONE, OWN, -1, 0);
-    }
-    is_refused = at == MAP_FAILED;
-    if (!is_refused) arena = at;
-    return !is_refused;
-}
-
-/* Addresses below the arena make a distance that is greater than it. */
-static bool is_large(const void *at) {
-    return arena && (uintptr_t)at - (uintptr_t)arena < HEAP_SLOT * slot_count;
-}
-
-static uint8_t *start_of(const struct block *block) {
-    return arena + (size_t)(block - blocks) * HEAP_SLOT;
-}
-
-static struct block *block_at(const void *at) {
-    return &blocks[(size_t)((const uint8_t *)at - arena) / HEAP_SLOT];
-}
-
-/* Of an address anywhere in it. */
-static struct block *block_around(const void *at) {
-    struct block *block = block_at(at);
-    while (block > blocks && block->slots == LATER) block--;
-    return block;
-}
-
-static bool is_block(const struct block *block) { return block->slots && block->slots != LATER; }
-
-/* The first of so many free slots side by side, or `slot_count`. With `slots_lock` held. */
-static size_t free_run(size_t count) {
-    size_t run = 0;
-    for (size_t i = 0; i < slot_count; i++) {
-        run = blocks[i].slots ? 0 : run + 1;
-        if (run == count) return i + 1 - count;
-    }
-    return slot_count;
-}
-
-/* The log whose call this is; 0: none. */
-static uint64_t owner(void) { return owner_here ? owner_here : owner_of_all; }
-
-static void mark(struct block *block, size_t count, size_t size) {
-    for (size_t i = 0; i < count; i++) block[i] = (struct block){.slots = i ? LATER : count};
-    block->size = size;
-    block->owner = owner();
-}
-
-static void unmark(struct block *block) {
-    pthread_mutex_lock(&slots_lock);
-    for (size_t i = block->slots; i--;) block[i] = (struct block){0};
-    pthread_mutex_unlock(&slots_lock);
-}
-
-static struct block *take(size_t size) {
-    struct block *block = NULL;
-    pthread_mutex_lock(&slots_lock);
-    if (is_reserved() && size <= HEAP_SLOT * (slot_count / 2)) {
-        size_t count = (size + HEAP_SLOT - 1) / HEAP_SLOT, first = free_run(count);
-        if (first < slot_count) {
-            block = &blocks[first];
-            mark(block, count, pages_to(size));
-            if (used < first + count) used = first + count;
-        }
-    }
-    pthread_mutex_unlock(&slots_lock);
-    if (block && mprotect(start_of(block), block->size, BOTH)) return unmark(block), NULL;
-    return block;
-}
-
-/* Takes memory and whatever file stands behind it away from these addresses. */
-static bool empty(uint8_t *at, size_t len) {
-    return mmap(at, len, PROT_NONE, MAP_FIXED | OWN, -1, 0) != MAP_FAILED;
-}
-
-static void say(struct block *block, size_t size, size_t backed) {
-    pthread_mutex_lock(&slots_lock);
-    block->size = size;
-    block->backed = backed;
-    pthread_mutex_unlock(&slots_lock);
-    block->settled = least(block->settled, backed);
-}
-
-/* Whether a block has this size now. */
-static bool resize(struct block *block, size_t size) {
-    if (size > block->slots * HEAP_SLOT) return false;
-    size_t len = pages_to(size), old = block->size;
-    uint8_t *at = start_of(block);
-    if (len > old && mprotect(at + old, len - old, BOTH)) return false;
-    if (len < old && !empty(at + len, old - len)) return true;
-    say(block, len, least(block->backed, len));
-    return true;
-}
-
-/* ---- blocks */
-
-void *heap_alloc(size_t size) {
-    if (size < HEAP_LARGE || !owner()) return malloc(size);
-    struct block *block = take(size);
-    return block ? start_of(block) : malloc(size);
-}
-
-void heap_free(void *at) {
-    if (!is_large(at)) {
-        free(at);
-        return;
-    }
-    struct block *block = block_at(at);
-    if (empty(at, block->size)) {
-        unmark(block);
-        return;
-    }
-    /* A file may stand behind it still, so its slots aren't used again. */
-    pthread_mutex_lock(&slots_lock);
-    block->owner = 0;
-    pthread_mutex_unlock(&slots_lock);
-}
-
-size_t heap_size(const void *at) { return is_large(at) ? block_at(at)->size : 0; }
-
-void *heap_realloc(void *at, size_t old, size_t size) {
-    if (!at) return heap_alloc(size);
-    bool was_large = is_large(at);
-    if (!was_large && (size < HEAP_LARGE || old >= HEAP_LARGE || !owner()))
-        return realloc(at, size);
-    if (was_large && size >= HEAP_LARGE && resize(block_at(at), size)) return at;
-    void *to = heap_alloc(size);
-    if (!to) return size < old ? at : NULL;
-    memcpy(to, at, least(old, size));
-    heap_free(at);
-    return to;
-}
-
-/* ---- logs */
-
-void heap_begin(struct heap *heap, pthread_mutex_t *lock) {
-    *heap = (struct heap){.id = atomic_fetch_add(&last_id, 1) + 1, .lock = lock};
-}
-
-void heap_enter(const struct heap *heap) { owner_here = heap->id; }
-
-void heap_leave(void) { owner_here = 0; }
-
-void heap_own_all(const struct heap *heap) { owner_of_all = heap->id; }
-
-/* Nobody else reads or writes the log's blocks until `let_in`. A thread that is in a call on the log
- * keeps them out already. */
+/* Nobody else reads or writes the log's blocks until `let_in`. A thread that is in a call on the
+ * log keeps them out already. */
 static void keep_out(struct heap *heap) {
-    if (heap->lock && owner_here != heap->id) pthread_mutex_lock(heap->lock);
+    if (heap->lock && !blocks_is_entered(heap)) pthread_mutex_lock(heap->lock);
 }
 
 static void let_in(struct heap *heap) {
-    if (heap->lock && owner_here != heap->id) pthread_mutex_unlock(heap->lock);
-}
-
-/* The next of the log's blocks from a slot on, or NULL. */
-static struct block *next_block(const struct heap *heap, const struct block *from) {
-    struct block *found = NULL;
-    pthread_mutex_lock(&slots_lock);
-    for (size_t i = (size_t)(from - blocks); i < used && !found; i++)
-        if (is_block(&blocks[i]) && blocks[i].owner == heap->id) found = &blocks[i];
-    pthread_mutex_unlock(&slots_lock);
-    return found;
+    if (heap->lock && !blocks_is_entered(heap)) pthread_mutex_unlock(heap->lock);
 }
 
 /* ---- what stands behind a block */
 
 static struct block *block_of(const struct heap_file *file) {
-    struct block *block = next_block(file->heap, blocks);
+    struct block *block = blocks_next(file->heap, heap_blocks.all);
     while (block && (block->ino != file->ino || block->dev != file->dev))
-        block = next_block(file->heap, block + 1);
+        block = blocks_next(file->heap, block + 1);
     return block;
 }
 
@@ -289,8 +71,8 @@ static bool can_be_of(struct heap_file *file, const struct block *block, size_t 
 
 /* A block without a file that begins as this one, and has room for so many of its bytes. */
 static struct block *find_block(struct heap_file *file, size_t end) {
-    struct block *block = next_block(file->heap, blocks);
-    while (block && !can_be_of(file, block, end)) block = next_block(file->heap, block + 1);
+    struct block *block = blocks_next(file->heap, heap_blocks.all);
+    while (block && !can_be_of(file, block, end)) block = blocks_next(file->heap, block + 1);
     if (!block) return NULL;
     block->ino = file->ino;
     block->dev = file->dev;
@@ -300,25 +82,25 @@ static struct block *find_block(struct heap_file *file, size_t end) {
 /* How many bytes a step takes, at least. A new descriptor makes a mapping of its own, of which a
  * process has a bounded number: so it brings a part of what the file's others have. */
 static size_t least_step(const struct heap_file *file, const struct block *block, bool all) {
-    size_t step = all ? page : HEAP_STEP, part = block->settled / PART_OF_OTHERS;
+    size_t step = all ? heap_blocks.page : HEAP_STEP, part = block->settled / PART_OF_OTHERS;
     return file->is_mapped || part < step ? step : part;
 }
 
 /* Puts one step of the file behind its block: whether that was done. */
 static bool back_step(struct heap_file *file, size_t end, bool all) {
     struct block *block = block_of(file);
-    if (!block && end >= (all ? page : HEAP_STEP)) block = find_block(file, end);
+    if (!block && end >= (all ? heap_blocks.page : HEAP_STEP)) block = find_block(file, end);
     file->next = end + STEPS_BETWEEN_TRIES * HEAP_STEP;
     if (!block) return false;
     size_t from = whole_pages(block->settled), step = least_step(file, block, all);
     size_t to = least(least(end, block->size), from + HEAP_STEP);
-    if (to < from + page || end < from + step) return file->next = from + step, false;
+    if (to < from + heap_blocks.page || end < from + step) return file->next = from + step, false;
     if (!are_same(file, start_of(block), from, to)) return false;
     if (!map_over(file, block, from, to)) return false;
-    if (block->backed < to) say(block, block->size, to);
+    if (block->backed < to) blocks_say(block, block->size, to);
     block->settled = to;
     file->backed = block->backed;
-    file->next = to + (all ? page : HEAP_STEP);
+    file->next = to + (all ? heap_blocks.page : HEAP_STEP);
     file->is_mapped = true;
     return true;
 }
@@ -327,7 +109,7 @@ static bool back_step(struct heap_file *file, size_t end, bool all) {
  * whether nothing is left to be done after so many steps. */
 static bool back(struct heap_file *file, bool all, int steps) {
     struct stat found;
-    if (!arena || fstat(file->fd, &found)) return true;
+    if (!heap_blocks.arena || fstat(file->fd, &found)) return true;
     size_t end = whole_pages(least(file->safe, (size_t)found.st_size));
     bool is_done = true;
     for (; is_done && steps; steps--) {
@@ -347,7 +129,7 @@ static int own_from(struct block *block, size_t from) {
     if (copy == MAP_FAILED) return ENOMEM;
     memcpy(copy, at, len);
     if (!move_over(copy, len, at)) return ENOMEM;
-    say(block, block->size, from);
+    blocks_say(block, block->size, from);
     if (!from) block->ino = 0;
     return 0;
 }
@@ -421,7 +203,7 @@ static void own_written(struct heap_file *file, uint64_t at, size_t len) {
         volatile uint8_t *bytes = start_of(block);
         size_t end = least(pages_to(at + len), block->backed);
         /* A page that is written is the block's own, whatever it is written with. */
-        for (size_t i = whole_pages(at); i < end; i += page) bytes[i] = bytes[i];
+        for (size_t i = whole_pages(at); i < end; i += heap_blocks.page) bytes[i] = bytes[i];
         block->settled = least(block->settled, at);
         file->next = 0;
     }
@@ -467,9 +249,9 @@ void heap_let_go(struct heap_file *file) {
 
 /* A block without a file that has these bytes. */
 static struct block *find_copy(struct heap *heap, const uint8_t *bytes, size_t len) {
-    struct block *block = next_block(heap, blocks);
+    struct block *block = blocks_next(heap, heap_blocks.all);
     while (block && (block->ino || block->size < len || memcmp(start_of(block), bytes, len)))
-        block = next_block(heap, block + 1);
+        block = blocks_next(heap, block + 1);
     return block;
 }
 
@@ -479,7 +261,7 @@ static bool put_over(const struct heap_file *file, uint8_t *mapped, size_t end) 
     if (!block || mprotect(mapped, end, BOTH)) return false;
     madvise(mapped, end, file->heap->at_random ? MADV_RANDOM : MADV_NORMAL);
     if (!move_over(mapped, end, start_of(block))) return true;
-    say(block, block->size, end);
+    blocks_say(block, block->size, end);
     block->settled = end;
     block->ino = file->ino;
     block->dev = file->dev;
@@ -489,7 +271,7 @@ static bool put_over(const struct heap_file *file, uint8_t *mapped, size_t end) 
 void heap_loaded(struct heap *heap, int fd, uint8_t *mapped, size_t len) {
     struct heap_file file;
     heap_take_up(&file, heap, fd);
-    size_t end = file.heap && arena ? whole_pages(len) : 0, taken = 0;
+    size_t end = file.heap && heap_blocks.arena ? whole_pages(len) : 0, taken = 0;
     keep_out(heap);
     if (end && put_over(&file, mapped, end)) taken = end;
     let_in(heap);
@@ -501,30 +283,30 @@ void heap_loaded(struct heap *heap, int fd, uint8_t *mapped, size_t len) {
 bool heap_lose_page(void *at) {
     if (!is_large(at)) return false;
     struct block *block = block_around(at);
-    uint8_t *lost = (uint8_t *)((uintptr_t)at & ~(uintptr_t)(page - 1));
+    uint8_t *lost = (uint8_t *)((uintptr_t)at & ~(uintptr_t)(heap_blocks.page - 1));
     if (!block->slots || (size_t)(lost - start_of(block)) >= block->backed) return false;
     block->is_lost = true;
-    return mmap(lost, page, BOTH, MAP_FIXED | OWN, -1, 0) != MAP_FAILED;
+    return mmap(lost, heap_blocks.page, BOTH, MAP_FIXED | OWN, -1, 0) != MAP_FAILED;
 }
 
 bool heap_opening_lost(struct heap *heap) {
     if (!heap->id || heap->was_opened) return false;
     heap->was_opened = true;
-    struct block *block = next_block(heap, blocks);
-    while (block && !block->is_lost) block = next_block(heap, block + 1);
+    struct block *block = blocks_next(heap, heap_blocks.all);
+    while (block && !block->is_lost) block = blocks_next(heap, block + 1);
     return block;
 }
 
 /* ---- copies of what may be on the disk alone */
 
-/* Asks for the pages of these bytes that have a file behind them, where they are several. Who copies
- * is let in by the block's log. */
+/* Asks for the pages of these bytes that have a file behind them, where they are several. Who
+ * copies is let in by the block's log. */
 static void ask_for(const uint8_t *bytes, size_t len) {
     const struct block *block = block_around(bytes);
     uint8_t *start = start_of(block);
     size_t from = (size_t)(bytes - start), at = whole_pages(from);
     size_t end = least(pages_to(from + len), block->backed);
-    if (end > at + page) madvise(start + at, end - at, MADV_WILLNEED);
+    if (end > at + heap_blocks.page) madvise(start + at, end - at, MADV_WILLNEED);
 }
 
 static void *copy_asked(void *to, const void *from, size_t len) {
@@ -540,14 +322,15 @@ static void *move_asked(void *to, const void *from, size_t len) {
 typedef void *copy_call(void *, const void *, size_t);
 static _Atomic(copy_call *) copy = memcpy, move = memmove;
 
-/* Counts the logs whose reads are expected at random. While there is one, all logs' copies are asked for. */
+/* Counts the logs whose reads are expected at random. While there is one, all logs' copies are
+ * asked for. */
 static void count_random(int more) {
     static int count;
-    pthread_mutex_lock(&slots_lock);
+    pthread_mutex_lock(&heap_blocks.lock);
     count += more;
     atomic_store(&copy, count ? copy_asked : memcpy);
     atomic_store(&move, count ? move_asked : memmove);
-    pthread_mutex_unlock(&slots_lock);
+    pthread_mutex_unlock(&heap_blocks.lock);
 }
 
 void *heap_copy(void *to, const void *from, size_t len) {
@@ -558,61 +341,15 @@ void *heap_move(void *to, const void *from, size_t len) {
     return atomic_load_explicit(&move, memory_order_relaxed)(to, from, len);
 }
 
-/* ---- settings, figures, tests */
-
 void heap_expect_reads(struct heap *heap, bool at_random) {
     if (!heap->id) return;
     int advice = at_random ? MADV_RANDOM : MADV_NORMAL;
     keep_out(heap);
+    bool is_so = heap->at_random == at_random;
     count_random(at_random - heap->at_random);
     heap->at_random = at_random;
-    struct block *block = next_block(heap, blocks);
-    for (; block; block = next_block(heap, block + 1))
+    struct block *block = is_so ? NULL : blocks_next(heap, heap_blocks.all);
+    for (; block; block = blocks_next(heap, block + 1))
         if (block->backed) madvise(start_of(block), block->backed, advice);
     let_in(heap);
 }
-
-void heap_stat(size_t *count, size_t *bytes, size_t *backed) {
-    *count = *bytes = *backed = 0;
-    pthread_mutex_lock(&slots_lock);
-    for (size_t i = 0; i < used; i++) {
-        if (!is_block(&blocks[i])) continue;
-        ++*count;
-        *bytes += blocks[i].size;
-        *backed += blocks[i].backed;
-    }
-    pthread_mutex_unlock(&slots_lock);
-}
-
-/* A block may be freed meanwhile, and another one stand there, of which no byte is lost either. */
-void heap_page_out(void) {
-    for (size_t i = 0; i < MOST_SLOTS; i++) {
-        pthread_mutex_lock(&slots_lock);
-        size_t len = i < used && is_block(&blocks[i]) ? blocks[i].backed : 0;
-        pthread_mutex_unlock(&slots_lock);
-        if (len) madvise(start_of(&blocks[i]), len, MADV_PAGEOUT);
-    }
-}
-
-/* ---- what the proved part allocates by, in place of the kit's libc/c/heap.c */
-
-struct got {
-    uint64_t is_got;
-    void *at;
-};
-
-static struct got got_of(void *at) {
-    static uint8_t nothing[16];
-    return (struct got){at != NULL, at ? at : nothing};
-}
-
-struct got rattle_alloc(size_t size, size_t align) {
-    size_t some = size ? size : align;
-    return got_of(some < HEAP_LARGE ? malloc(some) : heap_alloc(some));
-}
-
-struct got rattle_realloc(void *at, size_t old, size_t size, size_t align) {
-    return got_of(heap_realloc(at, old, size ? size : align));
-}
-
-void rattle_dealloc(void *at) { heap_free(at); }

@@ -55,6 +55,8 @@ static void heap_let_go(struct heap_file *file) {
     if (fdatasync(file->fd)) abort();
 }
 
+static void heap_catch_up(struct heap *heap, struct heap_file *file) { (void)heap, (void)file; }
+
 /* An opening syncs each file before it reads it. */
 static void heap_loaded(struct heap *heap, int fd, uint8_t *mapped, size_t len) {
     (void)heap;

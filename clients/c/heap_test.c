@@ -183,6 +183,10 @@ static void sync_it(struct log *log, struct file *file) {
     heap_synced(&file->at);
 }
 
+static void catch_up(struct log *log, struct file *file) {
+    heap_catch_up(&log->heap, &file->at);
+}
+
 static void take_pages_back(struct log *log, struct file *file) {
     (void)file;
     if (!below(log, 4)) heap_page_out();
@@ -251,7 +255,7 @@ static const struct {
 } changes[] = {
     {6, write_some}, {2, write_behind},    {1, cut},           {1, lengthen},
     {3, sync_it},    {1, let_go},          {1, shrink},        {1, load_anew},
-    {1, replace},    {1, take_pages_back}, {1, look_at_files},
+    {1, replace},    {1, take_pages_back}, {1, look_at_files}, {1, catch_up},
 };
 
 static void change(struct log *log) {

@@ -28,6 +28,7 @@ void raft_c_write_once(raft_c_handle *, const uint8_t *, size_t, const uint64_t 
 void raft_c_sync(raft_c_handle *);
 void raft_c_compact_to(raft_c_handle *, uint64_t, uint64_t);
 void raft_c_must_rewrite_append_queue(raft_c_handle *);
+void raft_c_must_rewrite_append_groups(raft_c_handle *, uint64_t, uint64_t, uint64_t);
 void raft_c_must_rewrite_rewrite_queue(raft_c_handle *);
 void raft_c_must_purge_all_stale(raft_c_handle *);
 void raft_c_purge_expired_files(raft_c_handle *, uint64_t);
@@ -51,6 +52,7 @@ enum parts_kind {
     PARTS_SYNC,
     PARTS_COMPACT_TO,
     PARTS_REWRITE_APPEND,
+    PARTS_REWRITE_GROUPS,
     PARTS_REWRITE_REWRITE,
     PARTS_PURGE_STALE,
     PARTS_PURGE_EXPIRED,
@@ -80,9 +82,12 @@ struct parts_change {
         struct { /* of a compaction */
             uint64_t group, index;
         };
+        struct { /* of a rewriting of some groups */
+            uint64_t watermark, from, budget;
+        };
     };
     char *text; /* of a failure, where there was memory for it; the caller frees it */
-    uint64_t found;
+    uint64_t found, found_too;
     raftlog_bytes *answer; /* NULL where a number or nothing is answered */
 };
 

@@ -212,6 +212,20 @@ int raftlog_must_rewrite_append_queue(raftlog *log, uint64_t *count) {
     return counted(log, (struct parts_change){.kind = PARTS_REWRITE_APPEND}, count);
 }
 
+int raftlog_must_rewrite_append_groups(raftlog *log, uint64_t *watermark, uint64_t *group,
+                                       uint64_t budget) {
+    if (!log || !watermark || !group) return refuse(log, RAFTLOG_INVALID);
+    struct parts_change some = {.kind = PARTS_REWRITE_GROUPS,
+                                .watermark = *watermark,
+                                .from = *group,
+                                .budget = budget};
+    int code = change(log, &some);
+    if (code) return code;
+    *group = some.found;
+    *watermark = some.found_too;
+    return RAFTLOG_OK;
+}
+
 int raftlog_must_rewrite_rewrite_queue(raftlog *log, uint64_t *count) {
     return counted(log, (struct parts_change){.kind = PARTS_REWRITE_REWRITE}, count);
 }

@@ -198,7 +198,7 @@ const char *raftlog_code_text(int code);
 
 /* ---- memory
  *
- * The index is in memory: 56 bytes an entry, and keys with their values. So is what was written since
+ * The index is in memory: 40 bytes an entry, and keys with their values. So is what was written since
  * the last sync, and during a purge twice RAFTLOG_PURGE_BYTES. The rest of the log files is mapped: the
  * system takes its memory back where it needs it, and reads it again from the files when it is asked
  * for. */
@@ -213,7 +213,7 @@ int raftlog_survive_bus_errors(void);
 /* How entries will be read that are no longer in memory. In order, which is the default: with each
  * read the system reads ahead, as far as the disk's read_ahead_kb says (128 KB, or some MB). At
  * random: no more than is asked for, in one read; asking costs half a microsecond where the entry is
- * in memory. */
+ * in memory. A purge reads at random by itself. */
 int raftlog_expect_reads(raftlog *log, bool at_random);
 
 /* ---- batches */
@@ -288,6 +288,16 @@ int raftlog_purge_expired_files(raftlog *log, raftlog_bytes *groups);
 int raftlog_must_rewrite_append_queue(raftlog *log, uint64_t *count);
 int raftlog_must_rewrite_rewrite_queue(raftlog *log, uint64_t *count);
 int raftlog_must_purge_all_stale(raftlog *log, uint64_t *count);
+/* The first of them in short calls, between which others write: it drops no file, and writes again what the groups from
+ * `*group` on have in the Append queue's files up to the one of the number `*watermark`, as many groups as have `budget`
+ * bytes there together, but one at least, whatever it has. It puts there from which group the next call goes on, 0 where
+ * none is left, and where `*watermark` was greater the number of the last file. On a failure both stay.
+ *   uint64_t watermark = UINT64_MAX, group = 0;
+ *   do code = raftlog_must_rewrite_append_groups(log, &watermark, &group, 1 << 20);
+ *   while (code == RAFTLOG_OK && group);
+ *   if (code == RAFTLOG_OK) code = raftlog_must_purge_all_stale(log, NULL);
+ * Then all of these files are gone, and of what was written meanwhile nothing was written again. */
+int raftlog_must_rewrite_append_groups(raftlog *log, uint64_t *watermark, uint64_t *group, uint64_t budget);
 
 /* ---- reads, which change nothing that the log holds */
 

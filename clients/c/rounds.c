@@ -117,6 +117,9 @@ static void call(raft_c_handle *handle, const struct parts_change *change, bool 
     case PARTS_SYNC: raft_c_sync(handle); break;
     case PARTS_COMPACT_TO: raft_c_compact_to(handle, change->group, change->index); break;
     case PARTS_REWRITE_APPEND: raft_c_must_rewrite_append_queue(handle); break;
+    case PARTS_REWRITE_GROUPS:
+        raft_c_must_rewrite_append_groups(handle, change->watermark, change->from, change->budget);
+        break;
     case PARTS_REWRITE_REWRITE: raft_c_must_rewrite_rewrite_queue(handle); break;
     case PARTS_PURGE_STALE: raft_c_must_purge_all_stale(handle); break;
     /* No file is kept for anybody. */
@@ -125,15 +128,26 @@ static void call(raft_c_handle *handle, const struct parts_change *change, bool 
     }
 }
 
+/* A purge reads the entries of one group after the other, which stand far apart: what the system would
+ * read around each of them is many times as much. */
+static void call_purge(raftlog *log, const struct parts_change *change) {
+    bool was_random = log->heap.at_random;
+    heap_expect_reads(&log->heap, true);
+    log->obeys_ahead = true;
+    call(&log->handle, change, false);
+    log->obeys_ahead = false;
+    heap_expect_reads(&log->heap, was_random);
+}
+
 /* Hands a change to the proved part, and takes its answer, which the next call writes over: what
  * the log has done, if the round's orders are carried out. */
 static void hand_over(raftlog *log, struct parts_change *change, bool sync) {
     pthread_mutex_lock(&log->lock);
     log->handed = atomic_load_explicit(&log->done, memory_order_relaxed) + 1;
     touch_all(log, change);
-    log->obeys_ahead = parts_is_purge(change);
     parts_enter(log);
-    call(&log->handle, change, sync);
+    if (parts_is_purge(change)) call_purge(log, change);
+    else call(&log->handle, change, sync);
     change->code = raft_c_settle(&log->handle, true);
     parts_leave();
     if (change->code) {
@@ -142,8 +156,7 @@ static void hand_over(raftlog *log, struct parts_change *change, bool sync) {
         uint64_t len = raft_c_answer(&log->handle, change->answer->data, change->answer->room);
         if (!parts_take_answer(log, change->answer, len)) change->code = RAFTLOG_NO_MEMORY;
     } else if (change->kind >= PARTS_COMPACT_TO) {
-        uint64_t other;
-        raft_c_numbers(&log->handle, &change->found, &other);
+        raft_c_numbers(&log->handle, &change->found, &change->found_too);
     }
     pthread_mutex_unlock(&log->lock);
 }

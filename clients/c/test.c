@@ -217,6 +217,53 @@ static void once(raftlog *log) {
     raftlog_batch_free(batch);
 }
 
+struct aside {
+    raftlog *log;
+    uint32_t from;
+};
+
+/* Puts 500 values of 1000 bytes into twenty groups */
+static void *put_aside(void *of) {
+    struct aside *aside = of;
+    raftlog_batch *batch = raftlog_batch_new();
+    char value[1000] = {0};
+    for (uint32_t i = aside->from; i < aside->from + 500; i++)
+        CHECK(raftlog_batch_put(batch, 50 + i % 20, &i, sizeof i, value, sizeof value) == 0 && raftlog_write(aside->log, batch, false) == 0);
+    raftlog_batch_free(batch);
+    return NULL;
+}
+
+/* A purge in short calls, one for each group that is put aside, while another thread writes */
+static void short_purges(raftlog *log) {
+    struct aside first = {log, 0}, meanwhile = {log, 500};
+    pthread_t writer;
+    raftlog_bytes bytes = {0};
+    raftlog_slice key, value;
+    uint64_t watermark = UINT64_MAX, group = 0, before, last, count;
+    int purges = 0, pairs = 0;
+    put_aside(&first);
+    CHECK(!pthread_create(&writer, NULL, put_aside, &meanwhile));
+    do {
+        before = group, last = watermark;
+        CHECK(raftlog_must_rewrite_append_groups(log, &watermark, &group, 25000) == 0);
+        CHECK((!group || group > before) && (!purges++ || watermark == last));
+    } while (group);
+    pthread_join(writer, NULL);
+    CHECK(purges >= 20 && watermark != UINT64_MAX);
+    CHECK(raftlog_must_purge_all_stale(log, &count) == 0 && count >= 1);
+    for (group = 50; group < 70; group++) {
+        size_t at = 0;
+        CHECK(raftlog_scan(log, group, NULL, NULL, false, 0, &bytes) == 0);
+        while (raftlog_next_pair(&bytes, &at, &key, &value)) pairs += value.len == 1000;
+    }
+    CHECK(pairs == 1000);
+    group = 3;
+    CHECK(raftlog_must_rewrite_append_groups(log, NULL, &group, 0) == RAFTLOG_INVALID && group == 3);
+    CHECK(raftlog_must_rewrite_append_groups(log, &watermark, NULL, 0) == RAFTLOG_INVALID);
+    CHECK(raftlog_must_rewrite_append_groups(NULL, &watermark, &group, 0) == RAFTLOG_INVALID);
+    raftlog_bytes_free(&bytes);
+}
+
 static void calls(raftlog *log) {
     keys(log);
     scans(log);
@@ -225,6 +272,7 @@ static void calls(raftlog *log) {
     groups(log);
     bad_arguments(log);
     once(log);
+    short_purges(log);
 }
 
 static void *put_many(void *of) {

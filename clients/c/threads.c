@@ -104,7 +104,7 @@ static int write_once(struct writer *w, uint64_t i) {
 }
 
 static int compact_and_purge(struct writer *w, uint64_t i) {
-    uint64_t count, upto = i - 4;
+    uint64_t count, upto = i - 4, watermark = UINT64_MAX, group = i % 4;
     if (i % 8 == 0) {
         IS(raftlog_compact_to(w->log, w->group, upto, &count), RAFTLOG_OK);
         CHECK(count == (w->first < upto ? upto - w->first : 0));
@@ -114,6 +114,8 @@ static int compact_and_purge(struct writer *w, uint64_t i) {
         IS(raftlog_purge_expired_files(w->log, &w->bytes), RAFTLOG_OK);
     if (w->group == 2 && i % 16 == 5)
         IS(raftlog_must_rewrite_append_queue(w->log, NULL), RAFTLOG_OK);
+    if (w->group == 2 && i % 16 == 13)
+        IS(raftlog_must_rewrite_append_groups(w->log, &watermark, &group, 1000), RAFTLOG_OK);
     if (w->group == 3 && i % 16 == 7)
         IS(raftlog_must_rewrite_rewrite_queue(w->log, NULL), RAFTLOG_OK);
     if (w->group == 4 && i % 16 == 9) IS(raftlog_must_purge_all_stale(w->log, &count), RAFTLOG_OK);

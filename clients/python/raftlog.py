@@ -62,6 +62,7 @@ for _name, _result, _arguments in [
     ("last_index", c_int, [c_void_p, c_uint64, POINTER(c_uint64)]),
     ("compact_to", c_int, [c_void_p, c_uint64, c_uint64, POINTER(c_uint64)]),
     ("must_rewrite_append_queue", c_int, [c_void_p, POINTER(c_uint64)]),
+    ("must_rewrite_append_groups", c_int, [c_void_p, POINTER(c_uint64), POINTER(c_uint64), c_uint64]),
     ("must_rewrite_rewrite_queue", c_int, [c_void_p, POINTER(c_uint64)]),
     ("must_purge_all_stale", c_int, [c_void_p, POINTER(c_uint64)]),
     ("purge_expired_files", c_int, [c_void_p, POINTER(_Bytes)]),
@@ -253,6 +254,15 @@ class Engine:
     def must_rewrite_append_queue(self):
         """Writes what stands in the log files of the Append queue to the Rewrite queue, drops them, and says how many."""
         return self._count("must_rewrite_append_queue")
+
+    def must_rewrite_append_groups(self, watermark, group, budget):
+        """Does what must_rewrite_append_queue does in short calls, between which others write, but for the files:
+        must_purge_all_stale drops them behind the last call. Writes again what the groups from one on have in the Append
+        queue's files up to the one of the number watermark (2**64 - 1 in the first call), as many groups as have budget
+        bytes there together, but one at least. Answers the watermark and the group of the next call, None behind the last."""
+        watermark, group = c_uint64(watermark), c_uint64(group)
+        self._call("must_rewrite_append_groups", byref(watermark), byref(group), c_uint64(budget))
+        return watermark.value, group.value or None
 
     def must_rewrite_rewrite_queue(self):
         """Writes what stands in the log files of the Rewrite queue to a new one, drops them, and says how many."""

@@ -47,6 +47,9 @@ package raftlog
 // static int must_rewrite_append_queue(raftlog *log, uint64_t *count, char **text) {
 //     return told(log, raftlog_must_rewrite_append_queue(log, count), text);
 // }
+// static int must_rewrite_append_groups(raftlog *log, uint64_t *watermark, uint64_t *group, uint64_t budget, char **text) {
+//     return told(log, raftlog_must_rewrite_append_groups(log, watermark, group, budget), text);
+// }
 // static int must_rewrite_rewrite_queue(raftlog *log, uint64_t *count, char **text) {
 //     return told(log, raftlog_must_rewrite_rewrite_queue(log, count), text);
 // }
@@ -412,6 +415,22 @@ func (e *Engine) MustRewriteAppendQueue() (uint64, error) {
 	return e.counted(func(log *C.raftlog, c *call) C.int {
 		return C.must_rewrite_append_queue(log, &c.first, &c.text)
 	})
+}
+
+// MustRewriteAppendGroups does what MustRewriteAppendQueue does in short calls, between which others write, but for the
+// files: MustPurgeAllStale drops them behind the last call. It writes again what the groups from one on have in the Append
+// queue's files up to the one of the number watermark (math.MaxUint64 in the first call), as many groups as have budget
+// bytes there together, but one at least. It answers the watermark and the group of the next call, 0 behind the last one.
+func (e *Engine) MustRewriteAppendGroups(watermark, group, budget uint64) (uint64, uint64, error) {
+	c, _, err := e.do(func(log *C.raftlog, c *call) C.int {
+		c.first, c.last = C.uint64_t(watermark), C.uint64_t(group)
+		return C.must_rewrite_append_groups(log, &c.first, &c.last, C.uint64_t(budget), &c.text)
+	})
+	defer c.end()
+	if err != nil {
+		return watermark, group, err
+	}
+	return uint64(c.first), uint64(c.last), nil
 }
 
 // MustRewriteRewriteQueue writes what stands in the log files of the Rewrite queue to a new one, and drops them; it

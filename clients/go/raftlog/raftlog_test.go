@@ -3,6 +3,7 @@ package raftlog
 import (
 	"bytes"
 	"encoding/binary"
+	"math"
 	"path/filepath"
 	"strings"
 	"sync"
@@ -73,6 +74,13 @@ func exercise(t *testing.T, log *Engine) {
 	must(t, log.Sync())
 	if groups, err := log.PurgeExpiredFiles(); err != nil || len(groups) != 0 {
 		t.Fatal(groups, err)
+	}
+	watermark, group, err := log.MustRewriteAppendGroups(math.MaxUint64, 0, 0)
+	for err == nil && group != 0 {
+		watermark, group, err = log.MustRewriteAppendGroups(watermark, group, 0)
+	}
+	if watermark == math.MaxUint64 || err != nil {
+		t.Fatal(watermark, err)
 	}
 	if _, err = log.MustRewriteAppendQueue(); err != nil {
 		t.Fatal(err)

@@ -519,6 +519,16 @@ impl Engine {
         Ok(count)
     }
 
+    /// Does what `must_rewrite_append_queue` does in short calls, between which others write, but for the files:
+    /// `must_purge_all_stale` drops them behind the last call. Writes again what the groups from one on have in the Append
+    /// queue's files up to the one of the number `watermark` (`u64::MAX` in the first call), as many groups as have
+    /// `budget` bytes there together, but one at least. Says the watermark and the group of the next call, if there is one.
+    pub fn must_rewrite_append_groups(&self, watermark: u64, group: u64, budget: u64) -> Result<(u64, Option<u64>)> {
+        let (mut watermark, mut group) = (watermark, group);
+        self.done(unsafe { sys::raftlog_must_rewrite_append_groups(self.log, &mut watermark, &mut group, budget) })?;
+        Ok((watermark, (group != 0).then_some(group)))
+    }
+
     /// Writes what stands in the log files of the Rewrite queue to a new one, drops them, and says how many.
     pub fn must_rewrite_rewrite_queue(&self) -> Result<u64> {
         let mut count = 0;

@@ -41,6 +41,10 @@ fn exercise(log: &Engine) {
     log.sync().unwrap();
     log.must_purge_all_stale().unwrap();
     assert_eq!(log.purge_expired_files().unwrap(), []);
+    let (watermark, mut next) = log.must_rewrite_append_groups(u64::MAX, 0, 0).unwrap();
+    while let Some(group) = next {
+        next = log.must_rewrite_append_groups(watermark, group, 0).unwrap().1;
+    }
     log.must_rewrite_append_queue().unwrap();
     log.must_rewrite_rewrite_queue().unwrap();
     assert_eq!(log.last_index(7).unwrap(), Some(14));

@@ -177,6 +177,30 @@ pub extern "C" fn raft_c_must_rewrite_append_queue(alloc: Global, handle: &mut H
     change(alloc, handle, Change::RewriteAppendQueue);
 }
 
+/// Writes what groups have in the log files of the Append queue, up to one of this number, or its last
+/// one, to the Rewrite queue, and drops none: of the known groups from one on as many as have `budget`
+/// bytes there together, but one at least. The first number is the group from which a next call goes
+/// on, 0 where none is left, and the second one that of the last of these files.
+#[unsafe(no_mangle)]
+pub extern "C" fn raft_c_must_rewrite_append_groups(
+    alloc: Global,
+    handle: &mut Handle,
+    watermark: u64,
+    from: u64,
+    budget: u64,
+)
+    requires { IsSome handle.old.value }
+    ensures some { IsSome handle.new.value }
+    ensures waits { WaitsAfter (Change.RewriteAppendGroups watermark from budget)
+        handle.old.value handle.new.value }
+{
+    change(
+        alloc,
+        handle,
+        Change::RewriteAppendGroups(watermark, from, budget),
+    );
+}
+
 /// Writes what stands in the log files of the Rewrite queue to a new one, and drops them. The first
 /// number is how many they were.
 #[unsafe(no_mangle)]

@@ -1,10 +1,10 @@
 -- What calls on an open log do and answer, by what its engine holds.
 use Rattle.std.specs.Borrow.{Bor}
 use Rattle.std.specs.Option.{option_copied}
-use Rattle.std.specs.Prelude.{◌≡◌, ◌+◌, ℕ, Bool, true, false, List, [], length, Option, Some, None, Ok, drop, option_map, zip}
+use Rattle.std.specs.Prelude.{◌≡◌, ◌+◌, ℕ, Bool, true, false, List, [], length, Option, Some, None, Ok, drop, option_map, min, unwrap_or, zip}
 use Rattle.raft_env.specs.declared.env.FileSystem.{Ghosts}
 use Rattle.raft_crash_laws.specs.Crash.{pending_of, written_batch}
-use Rattle.raft_pipes.specs.PipeState.{PipeState}
+use Rattle.raft_pipes.specs.PipeState.{PipeState, last_seq}
 use Rattle.raft_purge.specs.Scope.{HasRewritten}
 use Rattle.raft_purge.specs.declared.append_queue.AppendScope.{AppendScope}
 use Rattle.raft_records.specs.Contents.{Contents, after_batch, first_index_of, last_index_of}
@@ -13,6 +13,7 @@ use Rattle.raft_once.specs.Numbers.{Pair, has_numbers, shown}
 use Rattle.raft_c_batch.specs.Batch.{entries_bytes, read_batch}
 use Rattle.raft_c_batch.specs.Parts.{numbers_bytes, pairs_bytes}
 use Rattle.raft_log_engine.specs.Advance.{Advances, state_of}
+use Rattle.raft_log_engine.specs.AppendGroups.{RewritesGroups}
 use Rattle.raft_log_engine.specs.Durability.{HasWritten, after_call, durability_of}
 use Rattle.raft_log_engine.specs.Engine.{contents_of, has_groups_together, is_known_in, queue_of, rewrite_queue_of}
 use Rattle.raft_log_engine.specs.Expired.{HasPurgedExpired}
@@ -25,7 +26,7 @@ use Rattle.raft_log_engine.specs.declared.engine.Engine.{Engine}
 use Rattle.raft_c_log.specs.Limit.{limited, max_of}
 use Rattle.raft_c_log.specs.declared.answer.Answer.{Answer}
 use Rattle.raft_c_log.specs.declared.calls.Change.{Change}
-use Rattle.raft_c_log.specs.declared.calls.Change.TheVariants.{Write, WriteOnce, Sync, CompactTo, RewriteAppendQueue, RewriteRewriteQueue, PurgeAllStale, PurgeExpired}
+use Rattle.raft_c_log.specs.declared.calls.Change.TheVariants.{Write, WriteOnce, Sync, CompactTo, RewriteAppendQueue, RewriteAppendGroups, RewriteRewriteQueue, PurgeAllStale, PurgeExpired}
 use Rattle.raft_c_log.specs.declared.calls.Fetch.{Fetch}
 use Rattle.raft_c_log.specs.declared.calls.Query.{Query}
 use Rattle.raft_c_log.specs.declared.calls.Query.TheVariants as query
@@ -116,6 +117,18 @@ module _ {F H R W : Type 0} {g : Ghosts F H R W} where
     pub purged : IsPurged queue_of old new answer
     pub files : HasRewritten all_files (queue_of old) (queue_of new)
 
+  -- nothing that it holds has changed, and all is synced. What the groups from one on, and before a next
+  -- one, had in the Append queue's files up to a watermark stands in the Rewrite queue; the first
+  -- number is the next group, or 0 where there is none, and the second one the last of these files
+  pub record HasRewrittenGroups (watermark from : ℕ) (old new : Engine F H R W g) (answer : Answer)
+      : Type 0 where
+    pub contents : contents_of new ≡ contents_of old
+    pub synced : durability_of new ≡ after_call [] true (durability_of old)
+    pub next : Option ℕ
+    pub groups : RewritesGroups watermark from (Ok next) old new
+    pub numbers :
+        answer.numbers ≡ (unwrap_or next 0, min watermark (last_seq (queue_of old)))
+
   -- the Rewrite queue begins with a new file, where the batches of its groups stood together
   pub record HasRewrittenRewrite (old new : Engine F H R W g) (answer : Answer) : Type 0 where
     pub purged : IsPurged rewrite_queue_of old new answer
@@ -144,6 +157,8 @@ module _ {F H R W : Type 0} {g : Ghosts F H R W} where
   HasChanged Sync old new answer = IsSynced old new
   HasChanged (CompactTo group index) old new answer = IsCompacted group index old new answer
   HasChanged RewriteAppendQueue old new answer = HasRewrittenAppend old new answer
+  HasChanged (RewriteAppendGroups watermark from budget) old new answer =
+      HasRewrittenGroups watermark from old new answer
   HasChanged RewriteRewriteQueue old new answer = HasRewrittenRewrite old new answer
   HasChanged PurgeAllStale old new answer = HasPurgedStale old new answer
   HasChanged (PurgeExpired barrier) old new answer = HasPurgedUpTo barrier old new answer

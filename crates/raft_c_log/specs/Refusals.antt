@@ -23,7 +23,7 @@ use Rattle.raft_log_engine.specs.Reads.{IsEntryRefusalAt, IsFetchFault, compact_
 use Rattle.raft_log_engine.specs.declared.engine.Engine.{Engine}
 use Rattle.raft_c_log.specs.Limit.{max_of}
 use Rattle.raft_c_log.specs.declared.calls.Change.{Change}
-use Rattle.raft_c_log.specs.declared.calls.Change.TheVariants.{Write, WriteOnce, Sync, CompactTo, RewriteAppendQueue, RewriteRewriteQueue, PurgeAllStale, PurgeExpired}
+use Rattle.raft_c_log.specs.declared.calls.Change.TheVariants.{Write, WriteOnce, Sync, CompactTo, RewriteAppendQueue, RewriteAppendGroups, RewriteRewriteQueue, PurgeAllStale, PurgeExpired}
 use Rattle.raft_c_log.specs.declared.calls.Query.{Query}
 use Rattle.raft_c_log.specs.declared.calls.Query.TheVariants as query
 
@@ -53,6 +53,7 @@ flight_of (WriteOnce bytes groups numbers sync) m =
 flight_of Sync m = []
 flight_of (CompactTo group index) m = pending_of m (compact_batch group index (m.entries group))
 flight_of RewriteAppendQueue m = []
+flight_of (RewriteAppendGroups watermark from budget) m = []
 flight_of RewriteRewriteQueue m = []
 flight_of PurgeAllStale m = []
 flight_of (PurgeExpired barrier) m = []
@@ -114,6 +115,8 @@ module _ {F H R W : Type 0} {g : Ghosts F H R W} where
       (IsAppendRefusal (folders_of old) (queue_of new) (has_failed new) (refusals_of old)
       (refusals_of new)) e
   IsChangeFault RewriteAppendQueue old new e = IsPurgeRefused ⊥ ⊥ old new e
+  IsChangeFault (RewriteAppendGroups watermark from budget) old new e =
+      IsPurgeRefused ⊥ ⊥ old new e
   IsChangeFault RewriteRewriteQueue old new e =
       IsPurgeRefused (HasOpenGroup new) (HasLastId new) old new e
   IsChangeFault PurgeAllStale old new e = IsPurgeRefused ⊥ ⊥ old new e

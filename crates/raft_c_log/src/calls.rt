@@ -14,6 +14,9 @@ pub enum Change<'a> {
     /// Of a group, the entries below an index go.
     CompactTo(u64, u64),
     RewriteAppendQueue,
+    /// .. of some groups, up to a log file: that file's number, the first group, and how many bytes of
+    /// theirs.
+    RewriteAppendGroups(u64, u64, u64),
     RewriteRewriteQueue,
     PurgeAllStale,
     /// A purge by the settings' thresholds, which drops no file from this number on.

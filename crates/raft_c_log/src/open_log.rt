@@ -79,10 +79,10 @@ impl<F: FileSystem> OpenLog<F> {
     ghost use Rattle.raft_log_engine.specs.Reads.{compact_batch, entry_of};
     ghost use Rattle.raft_crash_laws.specs.Crash.{pending_of};
     ghost use Rattle.raft_once.specs.Numbers.{shown};
-    ghost use Rattle.raft_c_log.specs.Calls.{HasAnswered, HasChanged, HasPurgedStale, HasPurgedUpTo, HasRewrittenAppend, HasRewrittenRewrite, IsCompacted, IsFetchAnswer, IsGroupsAnswer, IsScanAnswer, IsSpanAnswer, IsSynced, IsWrittenBy, IsWrittenOnceBy, answered};
+    ghost use Rattle.raft_c_log.specs.Calls.{HasAnswered, HasChanged, HasPurgedStale, HasPurgedUpTo, HasRewrittenAppend, HasRewrittenGroups, HasRewrittenRewrite, IsCompacted, IsFetchAnswer, IsGroupsAnswer, IsScanAnswer, IsSpanAnswer, IsSynced, IsWrittenBy, IsWrittenOnceBy, answered};
     ghost use Rattle.raft_c_log.specs.Outcomes.{HasEnded, IsReply};
     ghost use Rattle.raft_c_log.specs.Refusals.{IsChangeFault, IsQueryFault, IsPurgeRefused, IsRefusalFor, IsWriteFault, IsWriteOnceFault, KeepsLog, acting_in, flight_of, pending_in};
-    ghost use Rattle.raft_c_log.specs.declared.calls.Change.TheVariants.{CompactTo, PurgeAllStale, PurgeExpired, RewriteAppendQueue, RewriteRewriteQueue, Sync, Write};
+    ghost use Rattle.raft_c_log.specs.declared.calls.Change.TheVariants.{CompactTo, PurgeAllStale, PurgeExpired, RewriteAppendGroups, RewriteAppendQueue, RewriteRewriteQueue, Sync, Write};
     ghost use Rattle.raft_c_log.specs.declared.calls.Query.TheVariants as query;
 
     /// Carries a change out, and tells a code: 0 where that was done.
@@ -125,6 +125,9 @@ impl<F: FileSystem> OpenLog<F> {
             Change::Sync => self.sync(),
             Change::CompactTo(group, index) => self.compact_to(group, index, answer),
             Change::RewriteAppendQueue => self.rewrite_append_queue(answer),
+            Change::RewriteAppendGroups(watermark, from, budget) => {
+                self.rewrite_append_groups(watermark, from, budget, answer)
+            }
             Change::RewriteRewriteQueue => self.rewrite_rewrite_queue(answer),
             Change::PurgeAllStale => self.purge_all_stale(answer),
             Change::PurgeExpired(barrier) => self.purge_expired(barrier, answer),
@@ -246,6 +249,30 @@ impl<F: FileSystem> OpenLog<F> {
     {
         let count = self.engine.must_rewrite_append_queue(None, None)?;
         answer.numbers = (count as u64, 0);
+        Ok(())
+    }
+
+    #[tactic(auto, using(crate::proofs::CallLemmas::all_synced, crate::proofs::RefusalLemmas::keeps))]
+    fn rewrite_append_groups(
+        &mut self,
+        watermark: u64,
+        from: u64,
+        budget: u64,
+        answer: &mut Answer,
+    ) -> Result<(), Fault>
+        ensures ok { OnOk result (HasRewrittenGroups watermark from self.old.engine
+            self.new.engine answer.new) }
+        ensures err { OnErr result
+            (contents_of self.new.engine ≡ contents_of self.old.engine) }
+        ensures cause { IfErr result (IsChangeFault (RewriteAppendGroups watermark from budget)
+            self.old.engine self.new.engine) }
+        ensures keeps { KeepsLog [] self.old.engine self.new.engine }
+    {
+        let (_, last) = self.engine.file_spans().append;
+        let next = self
+            .engine
+            .must_rewrite_append_groups(watermark, from, budget)?;
+        answer.numbers = (next.unwrap_or(0), watermark.min(last));
         Ok(())
     }
 

@@ -42,6 +42,11 @@ pub mod shared {
     };
 }
 
+/// One sync for many threads over a shared engine.
+pub mod tickets {
+    pub use raft_tickets::{Desk, Durable, Front, Naming, Noted, Opened, Ticket, Tickets};
+}
+
 /// Lists of calls, trials of them with a crash, and all that a crash may leave after them.
 pub mod script {
     pub use raft_allowed::allowed;

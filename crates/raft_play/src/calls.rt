@@ -21,6 +21,8 @@ pub(crate) enum Call {
     Sync,
     CompactTo(u64, u64),
     RewriteAppend(Option<u64>, Option<u64>),
+    /// Of the Append queue's files up to one, what the groups from one on have there, within a budget.
+    RewriteGroups(FileSeq, u64, u64),
     RewriteRewrite,
     PurgeStale,
     Purge,
@@ -59,6 +61,11 @@ pub(crate) fn call_of(
         ["compact-to", group, index] => Call::CompactTo(number(group)?, number(index)?),
         ["rewrite", "append"] => Call::RewriteAppend(None, None),
         ["rewrite", "append", file, step] => Call::RewriteAppend(bound(file)?, bound(step)?),
+        ["rewrite", "groups", file, from, budget] => Call::RewriteGroups(
+            bound(file)?.unwrap_or(FileSeq::MAX),
+            number(from)?,
+            number(budget)?,
+        ),
         ["rewrite", "rewrite"] => Call::RewriteRewrite,
         ["rewrite", "stale"] => Call::PurgeStale,
         ["purge"] => Call::Purge,
@@ -105,6 +112,12 @@ pub(crate) fn outcome_of<F: FileSystem>(
         Call::CompactTo(group, index) => Outcome::Count(engine.compact_to(*group, *index)),
         Call::RewriteAppend(file, step) => {
             Outcome::Dropped(engine.must_rewrite_append_queue(*file, *step))
+        }
+        Call::RewriteGroups(file, from, budget) => {
+            match engine.must_rewrite_append_groups(*file, *from, *budget) {
+                Ok(next) => Outcome::Index(next),
+                Err(fault) => Outcome::Done(Err(fault)),
+            }
         }
         Call::RewriteRewrite => Outcome::Dropped(engine.must_rewrite_rewrite_queue()),
         Call::PurgeStale => Outcome::Dropped(engine.must_purge_all_stale()),

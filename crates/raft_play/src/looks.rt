@@ -3,6 +3,7 @@
 use crate::answer::{Answer, Unanswered};
 use crate::words::{Names, Spelled, bound, bytes_of, number};
 use raft_env::FileSystem;
+use raft_records::Message;
 use raft_test_rows::{Engine, Outcome, TextEntry, state_of};
 use std::alloc::{AllocError, Global};
 
@@ -101,7 +102,43 @@ fn messages<F: FileSystem>(
     handed.answer()
 }
 
-// What a fetch answers, and how many entries it hands over.
+// Whether the bytes that an engine lends of an entry are those of the one that it copied.
+fn lends<F: FileSystem>(
+    alloc: Global,
+    engine: &mut Engine<F>,
+    group: u64,
+    index: u64,
+    copied: Option<&TextEntry>,
+) -> Result<bool, Unanswered> {
+    let place = engine.load_entry(group, index)?;
+    let (Some(place), Some(entry)) = (place, copied) else {
+        return Ok(place.is_none() && copied.is_none());
+    };
+    let mut bytes = Vec::new(alloc);
+    entry.to_bytes(&mut bytes)?;
+    Ok(engine.loaded(place) == bytes.as_slice())
+}
+
+fn lent_differs(alloc: Global) -> Result<Answer, Unanswered> {
+    Ok(Answer::Text(String::from_str(alloc, "lent differs")?))
+}
+
+// An entry, which is also lent.
+fn entry_at<F: FileSystem>(
+    alloc: Global,
+    engine: &mut Engine<F>,
+    group: u64,
+    index: u64,
+) -> Result<Answer, Unanswered> {
+    let copied = engine.get_entry::<TextEntry>(group, index)?;
+    if lends(alloc, engine, group, index, copied.as_ref())? {
+        Ok(Answer::Outcome(Outcome::Entry(Ok(copied))))
+    } else {
+        lent_differs(alloc)
+    }
+}
+
+// What a fetch answers, and how many entries it hands over. Each of them is also lent.
 fn fetched<F: FileSystem>(
     alloc: Global,
     engine: &mut Engine<F>,
@@ -117,6 +154,11 @@ fn fetched<F: FileSystem>(
     };
     let mut entries: Vec<TextEntry> = Vec::new(alloc);
     let count = engine.fetch_entries_to::<TextEntry>(group, begin, end, most, &mut entries)?;
+    for entry in &entries {
+        if !lends(alloc, engine, group, entry.index, Some(entry))? {
+            return lent_differs(alloc);
+        }
+    }
     Ok(Answer::Pair(count as u64, entries.len() as u64))
 }
 
@@ -133,10 +175,7 @@ pub(crate) fn answer<F: FileSystem>(
             let key = bytes_of(alloc, names, key)?;
             Answer::Outcome(Outcome::Value(engine.get(number(group)?, &key)))
         }
-        ["entry", group, index] => {
-            let (group, index) = (number(group)?, number(index)?);
-            Answer::Outcome(Outcome::Entry(engine.get_entry::<TextEntry>(group, index)))
-        }
+        ["entry", group, index] => entry_at(alloc, engine, number(group)?, number(index)?)?,
         ["message-at", group, key] => {
             let key = bytes_of(alloc, names, key)?;
             let message = engine.get_message::<TextEntry>(number(group)?, &key);
