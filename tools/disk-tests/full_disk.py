@@ -40,9 +40,10 @@ class FullDisk(Tests):
         return self.run(self.folder, *words, "--settings", self.settings)
 
     def fill(self):
-        """Nothing counts in the log's first files, and no block of the disk is free."""
-        for _ in range(8):
-            self.do("load", 20, 400)
+        """Nothing counts but in the log's last file, and no block of the disk is free."""
+        # A file has room for 39 keys.
+        for _ in range(13):
+            self.do("load", 13, 400)
         self.told = self.do("list").stdout
         with open(self.filler, "ab", buffering=0) as file:
             try:
@@ -108,7 +109,7 @@ class FullDisk(Tests):
         self.keeps_all("behind a repair")
 
     def purged(self):
-        """A purge frees space, also where there is an empty file."""
+        """A purge that writes nothing frees space, also where there is an empty file."""
         add(os.path.join(self.folder, f"{self.last() + 1:016}.raftlog"), b"")
         count = len(logs_in(self.folder))
         ran = self.do("purge")
