@@ -3,32 +3,36 @@
 //! they showed.
 #![tactic(auto)]
 
-mod batches;
 mod blocks;
 mod calls;
 mod disk;
+mod entries;
 mod files;
 mod log;
 mod measure;
+mod openings;
 mod parts;
-mod reads;
+mod purges;
+mod shared;
+mod steady;
 mod system;
 mod workload;
 
-use anyhow::Result;
+use anyhow::{Result, bail};
+use measure::WorkersHost;
 use std::env;
 use system::print_system;
-use workload::{Amount, SMALL, run_named};
+use workload::{Amount, SMALL, Workload};
 
 fn main(rt: HostRuntime) -> Result<()> {
     let words = words(&rt)?;
     print_system(&rt)?;
     match words.as_slice() {
-        [] => run_named(&rt, None, SMALL),
+        [] => run_all(&rt),
         [word, folder, rest @ ..] if word.as_str() == "disk" => {
             disk::run_in(rt, folder.as_str(), amount(rest)?)
         }
-        [name, rest @ ..] => run_named(&rt, Some(name.as_str()), amount(rest)?),
+        [name, rest @ ..] => run_named(&rt, name.as_str(), amount(rest)?),
     }
 }
 
@@ -51,4 +55,18 @@ fn amount(words: &[String]) -> Result<Amount> {
         amount.size = size.as_str().parse()?;
     }
     Ok(amount)
+}
+
+fn run_named<R: WorkersHost>(rt: &R, name: &str, amount: Amount) -> Result<()> {
+    match Workload::named(name) {
+        Some(workload) => workload.run(rt, amount),
+        None => bail!("usage: raftbench [WORKLOAD [COUNT [SIZE]] | disk FOLDER [COUNT [SIZE]]]"),
+    }
+}
+
+fn run_all<R: WorkersHost>(rt: &R) -> Result<()> {
+    for workload in &Workload::ALL {
+        workload.run(rt, SMALL)?;
+    }
+    Ok(())
 }
