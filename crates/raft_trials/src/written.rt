@@ -21,7 +21,7 @@ enum Reply {
 }
 
 /// An operation, the numbers of a write that acts once, and how it is answered.
-struct Step([Plan; 1], &'static [(u64, u64)], Reply);
+struct Step(&'static [Plan], &'static [(u64, u64)], Reply);
 
 /// A group's number; its entries' first index, and words of one byte each from there on; its pairs.
 #[derive(Clone, Copy)]
@@ -59,12 +59,12 @@ const CASES: [Case; 6] = [
         "nothing is synced: each prefix",
         &[
             Step(
-                [Plan::Write(&[Change::Put(1, b"a", &[1])], false)],
+                &[Plan::Write(&[Change::Put(1, b"a", &[1])], false)],
                 &[],
                 Reply::Written,
             ),
             Step(
-                [Plan::Write(&[Change::Put(1, b"b", &[2])], false)],
+                &[Plan::Write(&[Change::Put(1, b"b", &[2])], false)],
                 &[],
                 Reply::Written,
             ),
@@ -76,7 +76,7 @@ const CASES: [Case; 6] = [
         "of a group any choice, but for entries that don't follow those that are there",
         &[
             Step(
-                [Plan::Write(
+                &[Plan::Write(
                     &[Change::Put(1, b"a", &[1]), Change::Entries(2, 1, 2, b"w")],
                     true,
                 )],
@@ -84,7 +84,7 @@ const CASES: [Case; 6] = [
                 Reply::Written,
             ),
             Step(
-                [Plan::WriteGroup(&[
+                &[Plan::WriteGroup(&[
                     (&[Change::Put(1, b"b", &[2])], false),
                     (&[Change::Entries(2, 5, 5, b"w")], false),
                     (&[Change::Put(1, b"c", &[3])], true),
@@ -105,21 +105,21 @@ const CASES: [Case; 6] = [
         "entries over others, a compaction, and a clean by a write that fails",
         &[
             Step(
-                [Plan::Write(&[Change::Entries(3, 1, 4, b"w")], false)],
+                &[Plan::Write(&[Change::Entries(3, 1, 4, b"w")], false)],
                 &[],
                 Reply::Written,
             ),
             Step(
-                [Plan::WriteGroup(&[
+                &[Plan::WriteGroup(&[
                     (&[Change::Entries(3, 3, 3, b"x")], true),
                     (&[Change::Entries(3, 9, 9, b"x")], false),
                 ])],
                 &[],
                 Reply::Grouped,
             ),
-            Step([Plan::CompactTo(3, 3)], &[], Reply::Compacted),
+            Step(&[Plan::CompactTo(3, 3)], &[], Reply::Compacted),
             Step(
-                [Plan::Write(&[Change::Clean(3)], false)],
+                &[Plan::Write(&[Change::Clean(3)], false)],
                 &[],
                 Reply::Failed,
             ),
@@ -131,22 +131,22 @@ const CASES: [Case; 6] = [
         "numbers act once, also the one in flight, and no image shows them",
         &[
             Step(
-                [Plan::Write(&[Change::Put(1, b"a", &[1])], true)],
+                &[Plan::Write(&[Change::Put(1, b"a", &[1])], true)],
                 &[(1, 5)],
                 Reply::Written,
             ),
             Step(
-                [Plan::Write(&[Change::Put(1, b"a", &[9])], false)],
+                &[Plan::Write(&[Change::Put(1, b"a", &[9])], false)],
                 &[(1, 5)],
                 Reply::Old,
             ),
             Step(
-                [Plan::Write(&[Change::Put(1, b"b", &[2])], false)],
+                &[Plan::Write(&[Change::Put(1, b"b", &[2])], false)],
                 &[(1, 6), (2, 1)],
                 Reply::Written,
             ),
             Step(
-                [Plan::Write(&[Change::Put(1, b"c", &[3])], true)],
+                &[Plan::Write(&[Change::Put(1, b"c", &[3])], true)],
                 &[(1, 7)],
                 Reply::Failed,
             ),
@@ -158,17 +158,17 @@ const CASES: [Case; 6] = [
         "a clean forgets the number: what is in flight with it may act",
         &[
             Step(
-                [Plan::Write(&[Change::Put(1, b"a", &[9])], true)],
+                &[Plan::Write(&[Change::Put(1, b"a", &[9])], true)],
                 &[(1, 5)],
                 Reply::Written,
             ),
             Step(
-                [Plan::Write(&[Change::Clean(1)], true)],
+                &[Plan::Write(&[Change::Clean(1)], true)],
                 &[],
                 Reply::Written,
             ),
             Step(
-                [Plan::Write(&[Change::Put(1, b"a", &[1])], true)],
+                &[Plan::Write(&[Change::Put(1, b"a", &[1])], true)],
                 &[(1, 5)],
                 Reply::Failed,
             ),
@@ -180,12 +180,12 @@ const CASES: [Case; 6] = [
         "an ordinary write changes no number, and so nothing of it is in flight",
         &[
             Step(
-                [Plan::Write(&[Change::Put(1, b"a", &[1])], true)],
+                &[Plan::Write(&[Change::Put(1, b"a", &[1])], true)],
                 &[(1, 5)],
                 Reply::Written,
             ),
             Step(
-                [Plan::Write(
+                &[Plan::Write(
                     &[Change::Put(1, b"b", &[2]), Change::Put(1, NUMBER, &[])],
                     true,
                 )],
@@ -201,7 +201,7 @@ const CASES: [Case; 6] = [
 fn ops_in(alloc: Global, steps: &[Step]) -> Result<Vec<Op>, AllocError> {
     let mut ops = Vec::new(alloc);
     for step in steps {
-        for op in ops_of(alloc, &step.0)? {
+        for op in ops_of(alloc, step.0)? {
             ops.push(numbered(alloc, op, step.1)?)?;
         }
     }
