@@ -1,16 +1,21 @@
 -- Tables of one group in pairs.
-use Rattle.std.proofs.Common.{◌≡◌, ℕ, suc, ◌+◌, ◌<◌, ◌==◌, nat_eq, length, get_or, Bool, true, false, cond, List, [], ◌∷◌, ◌++◌, Option, Some, None, Result, Ok, Err, refl, sym, ◌∙◌, ap, subst, arith}
+use Rattle.std.proofs.Common.{◌≡◌, ℕ, suc, ◌+◌, ◌-◌, ◌<◌, ◌≤◌, ◌==◌, nat_eq, length, get_or, Bool, true, false, cond, List, [], ◌∷◌, ◌++◌, Option, Some, None, Result, Ok, Err, refl, sym, ◌∙◌, ap, subst, arith}
+use Rattle.std.proofs.lemmas.Map.Entries.{lookup_head}
+use Rattle.std.specs.Cmp.{nat_eq_equiv}
 use Rattle.std.specs.List.{AllByRecursion, AllZip, IsDistinct}
-use Rattle.std.specs.Map.{keys_of}
+use Rattle.std.specs.Map.{keys_of, lookup}
+use Rattle.std.specs.Option.{option_map}
 use Rattle.std.specs.Prelude.{IfOk, OnOk}
-use Rattle.std.specs.declared.alloc.AllocError.{AllocError}
-use Rattle.raft_tables.specs.Pairs.{ArePaired, IsJoinedAt, IsPaired, IsPairJoined, WasJoined, joined_total, left_of_result, newer_table, older_table, over, paired_total}
-use Rattle.raft_tables.specs.Recovering.{IsJoined, IsTableJoined}
+use Rattle.raft_base.specs.declared.pipe_log.LogQueue.TheVariants.{Rewrite}
+use Rattle.raft_tables.specs.Counters.{count_after}
+use Rattle.raft_tables.specs.Pairs.{ArePaired, ArePut, IsJoinedAt, IsPairJoined, WasJoined, joined_total, left_of_result, newer_table, older_table, over, paired_total}
+use Rattle.raft_tables.specs.Recovering.{IsJoined, IsTableJoined, rewritten_total}
 use Rattle.raft_tables.specs.Table.{TableView, rewritten_in, table_of}
-use Rattle.raft_tables.specs.Tables.{Tables, or_empty, with_table}
+use Rattle.raft_tables.specs.Tables.{Tables, or_empty, tables_of, with_table}
 use Rattle.raft_tables.specs.declared.memtable.MemTable.{MemTable}
+use Rattle.raft_tables.specs.declared.memtables.MemTables.{MemTables}
 use Rattle.raft_tables.specs.declared.pairs.Pair.{Pair}
-use Rattle.raft_tables.proofs.JoiningLemmas.{eq_from_test, option_or-none, tables_in, tables_in-rest, with_entries-nothing}
+use Rattle.raft_tables.proofs.JoiningLemmas.{count_rest, eq_from_test, option_or-none, tables_in, tables_in-rest, with_entries-nothing}
 
 over-append : (table : Pair → TableView) (xs ys : List Pair) (t : Tables) → over table (xs ++ ys) t ≡ over table xs (over table ys t)
 over-append table [] ys t = refl
@@ -83,14 +88,14 @@ paired_set ps e es a b distinct none is = over-both ps (tables_in (e ∷ es)) a 
     at g j true here joined first = subst (λ o. IsJoinedAt (tables_in (e ∷ es) g) o j) (sym (ap a (eq_from_test g e.0 here) ∙ none)) (subst (λ o. IsJoinedAt o None j) (sym first) (joined_set (table_of e.1) j joined))
     at g j false here joined first = joined
 
-    first_at : (g : ℕ) (c : Bool) → (g == e.0) ≡ c → tables_in (e ∷ es) g ≡ cond c (Some (table_of e.1)) (tables_in es g)
-    first_at g true here = rw here at refl
-    first_at g false here = rw here at refl
+    first_at : (g : ℕ) (c : Bool) → option_map table_of (cond c (Some e.1) (lookup (nat_eq g) es)) ≡ cond c (Some (table_of e.1)) (option_map table_of (lookup (nat_eq g) es))
+    first_at g true = refl
+    first_at g false = refl
 
     step : (g : ℕ) (j : Option TableView) → IsJoinedAt (tables_in es g) (b g) j → IsJoinedAt (tables_in (e ∷ es) g) (a g) j
     step g j joined = at g j (g == e.0) refl
         (subst (λ (t : Tables). IsJoinedAt (t g) (with_table e.0 (Some (table_of e.1)) a g) j) (tables_in-rest e es distinct) (subst (λ (t : Tables). IsJoinedAt (tables_in es g) (t g) j) is joined))
-        (first_at g (g == e.0) refl)
+        (first_at g (g == e.0))
 
 -- the older table of the first group was paired
 pub paired_more : (ps : List Pair) (p : Pair) (e : ℕ × MemTable) (es : List (ℕ × MemTable)) (a b : Tables) (w : Option TableView) → IsDistinct nat_eq (keys_of (e ∷ es)) → p.group ≡ e.0 → p.older ≡ e.1 → a e.0 ≡ Some (newer_table p) → b ≡ with_table e.0 w a
@@ -101,7 +106,7 @@ paired_more ps p e es a b w distinct named older there is g j joined =
     (subst (λ (t : Tables). IsJoinedAt (t g) (over newer_table (ps ++ p ∷ []) b g) j) (over-taken older_table ps p e.0 None (tables_in (e ∷ es)) (tables_in es) named first (tables_in-rest e es distinct)) joined)
   where
     first : tables_in (e ∷ es) e.0 ≡ Some (older_table p)
-    first = _
+    first = ap (option_map table_of) (lookup_head (nat_eq e.0) e es (nat_eq_equiv.refl e.0)) ∙ ap (λ t. Some (table_of t)) (sym older)
 
 -- once all pairs were joined
 pub pairs_joined : (ps qs : List Pair) → AllZip IsPairJoined ps qs → AllByRecursion WasJoined qs → (t : Tables) (g : ℕ) → IsJoinedAt (over older_table ps (λ _. None) g) (over newer_table ps t g) (over newer_table qs t g)
@@ -149,13 +154,29 @@ pub all_joined : (older newer t n : Tables) (ps qs : List Pair) → ArePaired ol
 all_joined older newer t n ps qs paired zip was is =
     joined_of_all older newer n (λ g. paired g (n g) (subst (λ (u : Tables). IsJoinedAt (over older_table ps (λ _. None) g) (over newer_table ps t g) (u g)) (sym is) (pairs_joined ps qs zip was t g)))
 
+abbrev pub IsPutBelow : MemTables → MemTables → MemTables → ℕ → Type 0
+IsPutBelow older newer n left =
+    IsJoined (tables_of older) (tables_of newer) (tables_of n)
+    × (left ≡ count_after Rewrite (rewritten_total older + rewritten_total newer - rewritten_total n) 0)
+    × (rewritten_total n ≤ rewritten_total older + rewritten_total newer)
+
+pub all_put : (older newer t n : MemTables) (ps qs items : List Pair) (left : ℕ) → ArePaired (tables_of older) (tables_of newer) ps (tables_of t) → paired_total ps + rewritten_total t ≡ rewritten_total older + rewritten_total newer
+    → AllZip IsPairJoined ps qs → items ≡ qs → ArePut items t n left → IsPutBelow older newer n left
+all_put older newer t n ps qs items left paired total zip are put =
+    let was : AllByRecursion WasJoined qs = subst (AllByRecursion WasJoined) are put.joined in
+    let sum : put.count + rewritten_total n ≡ rewritten_total older + rewritten_total newer = omega (arith, put.total, ap joined_total are, pairs_total ps qs zip was, total) in (
+      all_joined (tables_of older) (tables_of newer) (tables_of t) (tables_of n) ps qs paired zip was (put.tables ∙ ap (λ xs. over newer_table xs (tables_of t)) are),
+      put.left_is ∙ count_rest (rewritten_total older + rewritten_total newer) (rewritten_total n) put.count sum,
+      omega (arith, sum),
+    )
+
 pub on_ok_of : {T E X : Type 0} (r : Result T E) (P : T → Type 0) → ((v : T) → P v → X) → IfOk r P → OnOk r X
 on_ok_of (Ok v) P gives is = gives v is
 on_ok_of (Err e) P gives is = tt
 
 -- what holds at each place of two lists of one length
-pub zip_from_places : {A B : Type 0} (R : A → B → Type 0) (xs : List A) (ys : List B) → length ys ≡ length xs → ((i : ℕ) (d : A) (e : B) → i < length xs → R (get_or xs i d) (get_or ys i e)) → AllZip R xs ys
+pub zip_from_places : {A : Type 0} (R : A → A → Type 0) (xs ys : List A) → length ys ≡ length xs → ((i : ℕ) (d : A) → i < length xs → R (get_or xs i d) (get_or ys i d)) → AllZip R xs ys
 zip_from_places R [] [] len each = tt
 zip_from_places R [] (y ∷ ys) len each = cc
 zip_from_places R (x ∷ xs) [] len each = cc
-zip_from_places R (x ∷ xs) (y ∷ ys) len each = (each 0 x y (omega arith), zip_from_places R xs ys (omega (arith, len)) (λ i d e lt. each (suc i) d e (omega (arith, lt))))
+zip_from_places R (x ∷ xs) (y ∷ ys) len each = (each 0 x (omega arith), zip_from_places R xs ys (omega (arith, len)) (λ i d lt. each (suc i) d (omega (arith, lt))))

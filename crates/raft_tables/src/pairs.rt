@@ -92,8 +92,9 @@ impl MemTables {
                 newer,
                 left: more,
             } = pair;
-            left = left.saturating_add(more?);
-            left = left.saturating_add(self.set_table(group, newer)?);
+            let more = more?;
+            let replaced = self.set_table(group, newer)?;
+            left = left.saturating_add(more).saturating_add(replaced);
         }
         Ok(left)
     }
