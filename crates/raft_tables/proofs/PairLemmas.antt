@@ -71,12 +71,12 @@ joined_of_all l a j at = record {
 over-both : (ps : List Pair) (l a m b : Tables) → ((g : ℕ) (j : Option TableView) → IsJoinedAt (m g) (b g) j → IsJoinedAt (l g) (a g) j) → (g : ℕ) (j : Option TableView)
     → IsJoinedAt (over older_table ps m g) (over newer_table ps b g) j → IsJoinedAt (over older_table ps l g) (over newer_table ps a g) j
 over-both [] l a m b step g j is = step g j is
-over-both (p ∷ ps) l a m b step g j is = at (g == p.group) is
+over-both (p ∷ ps) l a m b step g j is = at (over-both ps l a m b step g j) (g == p.group) is
   where
-    at : (c : Bool) → IsJoinedAt (cond c (Some (older_table p)) (over older_table ps m g)) (cond c (Some (newer_table p)) (over newer_table ps b g)) j
+    at : (IsJoinedAt (over older_table ps m g) (over newer_table ps b g) j → IsJoinedAt (over older_table ps l g) (over newer_table ps a g) j) → (c : Bool) → IsJoinedAt (cond c (Some (older_table p)) (over older_table ps m g)) (cond c (Some (newer_table p)) (over newer_table ps b g)) j
         → IsJoinedAt (cond c (Some (older_table p)) (over older_table ps l g)) (cond c (Some (newer_table p)) (over newer_table ps a g)) j
-    at true here = here
-    at false here = over-both ps l a m b step g j here
+    at others true here = here
+    at others false here = others here
 
 -- the older table of the first group was set, where the group had none
 pub paired_set : (ps : List Pair) (e : ℕ × MemTable) (es : List (ℕ × MemTable)) (a b : Tables) → IsDistinct nat_eq (keys_of (e ∷ es)) → a e.0 ≡ None → b ≡ with_table e.0 (Some (table_of e.1)) a
@@ -115,14 +115,14 @@ pairs_joined [] (q ∷ qs) zip was t g = absurd zip
 pairs_joined (p ∷ ps) [] zip was t g = absurd zip
 pairs_joined (p ∷ ps) (q ∷ qs) zip was t g =
     subst (λ n. IsJoinedAt (with_table p.group (Some (older_table p)) (over older_table ps (λ _. None)) g) (with_table p.group (Some (newer_table p)) (over newer_table ps t) g) (with_table n (Some (newer_table q)) (over newer_table qs t) g)) (sym zip.0.group)
-    (at (g == p.group))
+    (at (pairs_joined ps qs zip.1 was.1 t g) (g == p.group))
   where
     one : IsJoinedAt (Some (older_table p)) (Some (newer_table p)) (Some (newer_table q))
     one = let ok = rw was.0.1 at zip.0.ok in joined_both (older_table p) (newer_table p) (newer_table q) ok.0
 
-    at : (c : Bool) → IsJoinedAt (cond c (Some (older_table p)) (over older_table ps (λ _. None) g)) (cond c (Some (newer_table p)) (over newer_table ps t g)) (cond c (Some (newer_table q)) (over newer_table qs t g))
-    at true = one
-    at false = pairs_joined ps qs zip.1 was.1 t g
+    at : IsJoinedAt (over older_table ps (λ _. None) g) (over newer_table ps t g) (over newer_table qs t g) → (c : Bool) → IsJoinedAt (cond c (Some (older_table p)) (over older_table ps (λ _. None) g)) (cond c (Some (newer_table p)) (over newer_table ps t g)) (cond c (Some (newer_table q)) (over newer_table qs t g))
+    at others true = one
+    at others false = others
 
 -- how many stand in the Rewrite queue
 
