@@ -4,7 +4,7 @@ use crate::steps::{GROUP, KEY, Step, items_of};
 use raft_builder::MergingMachine;
 use raft_opening::ReplayMachine;
 use raft_records::{Fault, FileId, LogQueue};
-use raft_replay::{Read, RecoveryMachine, read_of};
+use raft_replay::{InOrder, Joining, Read, RecoveryMachine, SideBySide, read_of};
 use std::alloc::Global;
 use std::test::Fail;
 
@@ -100,7 +100,7 @@ fn replay(
 }
 
 /// What is read where the chunks are given to a machine each, or to one.
-fn read(alloc: Global, case: &Case, apart: bool) -> Result<Read, Fault> {
+fn read<J: Joining>(joining: &J, alloc: Global, case: &Case, apart: bool) -> Result<Read, Fault> {
     let mut rewritten = RecoveryMachine::new(alloc);
     replay(alloc, &mut rewritten, LogQueue::Rewrite, case.rewritten)?;
     let mut appended = RecoveryMachine::new(alloc);
@@ -112,11 +112,16 @@ fn read(alloc: Global, case: &Case, apart: bool) -> Result<Read, Fault> {
     } else {
         replay(alloc, &mut appended, LogQueue::Append, case.newer)?;
     }
-    read_of(appended, rewritten)
+    read_of(joining, appended, rewritten)
 }
 
-fn is_as_said(alloc: Global, case: &Case, apart: bool) -> Result<bool, Fault> {
-    let read = read(alloc, case, apart)?;
+fn is_as_said<J: Joining>(
+    joining: &J,
+    alloc: Global,
+    case: &Case,
+    apart: bool,
+) -> Result<bool, Fault> {
+    let read = read(joining, alloc, case, apart)?;
     let tables = &read.tables;
     let indexes = match (tables.first_index(GROUP), tables.last_index(GROUP)) {
         (Some(first), Some(last)) => Some((first, last)),
@@ -129,7 +134,26 @@ fn is_as_said(alloc: Global, case: &Case, apart: bool) -> Result<bool, Fault> {
 fn chunks_are_read_as_one(rt: HostRuntime) -> Result<(), Fail> {
     for case in &CASES {
         for apart in [false, true] {
-            assert!(rt; is_as_said(rt.alloc(), case, apart)?, "{}", case.name);
+            assert!(rt;
+                is_as_said(&InOrder, rt.alloc(), case, apart)?,
+                "{}",
+                case.name
+            );
+        }
+    }
+    Ok(())
+}
+
+#[test]
+fn threads_join_chunks_as_one_does(rt: HostRuntime) -> Result<(), Fail> {
+    for case in &CASES {
+        for threads in [0, 1, 4] {
+            let joining = SideBySide { rt: &rt, threads };
+            assert!(rt;
+                is_as_said(&joining, rt.alloc(), case, true)?,
+                "{}, {threads} threads",
+                case.name
+            );
         }
     }
     Ok(())
