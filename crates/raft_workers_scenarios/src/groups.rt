@@ -4,9 +4,10 @@ use crate::steps::{KEY, entry};
 use raft_builder::MergingMachine;
 use raft_opening::ReplayMachine;
 use raft_records::{Fault, FileId, KeyValue, LogItem, LogItemContent, LogQueue};
-use raft_replay::{Joining, Read, RecoveryMachine, SideBySide, read_of};
+use raft_replay::{Read, RecoveryMachine, SideBySide, read_of};
 use std::alloc::{AllocError, Global};
 use std::test::Fail;
+use std::thread::Threads;
 
 /// The groups of each chunk, from the first to the last. Each has entries with the indexes 1 to 3 of
 /// the first chunk, 3 and 4 of the second, and a key with the chunk's number as its value.
@@ -35,7 +36,7 @@ fn items(alloc: Global, group: u64, chunk: u8) -> Result<Vec<LogItem>, AllocErro
     Ok(items)
 }
 
-fn read<J: Joining>(joining: &J, alloc: Global) -> Result<Read, Fault> {
+fn read<R: Threads + Sync>(rt: &R, alloc: Global, threads: usize) -> Result<Read, Fault> {
     let mut all = RecoveryMachine::new(alloc);
     for (chunk, (first, last)) in (0u8..3).zip(CHUNKS.iter()) {
         let mut machine = RecoveryMachine::new(alloc);
@@ -45,7 +46,11 @@ fn read<J: Joining>(joining: &J, alloc: Global) -> Result<Read, Fault> {
         }
         all.merge(machine, LogQueue::Append)?;
     }
-    read_of(joining, all, RecoveryMachine::new(alloc))
+    read_of(
+        &SideBySide { rt, threads },
+        all,
+        RecoveryMachine::new(alloc),
+    )
 }
 
 /// Whether the group has what the last of its chunks put, over what it lets stand of the others.
@@ -62,17 +67,16 @@ fn is_as_said(read: &Read, group: u64) -> bool {
         && tables.last_index(group) == Some(last)
 }
 
-fn are_as_said<J: Joining>(joining: &J, alloc: Global) -> Result<bool, Fault> {
-    let read = read(joining, alloc)?;
+fn are_as_said(read: &Read) -> Result<bool, AllocError> {
     let groups = read.tables.groups()?;
-    Ok(groups.len() == 60 && groups.iter().all(|group| is_as_said(&read, *group)))
+    Ok(groups.len() == 60 && groups.iter().all(|group| is_as_said(read, *group)))
 }
 
 #[test]
 fn each_number_of_threads_joins_all_groups(rt: HostRuntime) -> Result<(), Fail> {
     for threads in THREADS {
-        let joining = SideBySide { rt: &rt, threads };
-        assert!(rt; are_as_said(&joining, rt.alloc())?, "{threads} threads");
+        let read = read(&rt, rt.alloc(), threads)?;
+        assert!(rt; are_as_said(&read)?, "{threads} threads");
     }
     Ok(())
 }
