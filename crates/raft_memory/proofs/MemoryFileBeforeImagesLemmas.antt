@@ -52,32 +52,37 @@ still_known (Some z) b x y same = refl
 still_known None true x y same = refl
 still_known None false x y same = sym (same refl)
 
-module _ (bytes : List ℕ) (saved : BeforeImages) (len : ℕ) (synced : List ℕ) (k : IsSaved bytes saved len synced) where
+module _ (bytes : List ℕ) (saved : BeforeImages) (stored len : ℕ) (synced : List ℕ) (k : IsSaved bytes saved stored len synced) where
   -- a change of what was saved before
   pub saved_again : (more : BeforeImages) (after : List ℕ) (from size : ℕ) → ((i : ℕ) → before_image_at more i ≡ option_or (before_image_at saved i) (cond (is_within from size i) (Some (get_or bytes i 0)) None))
-      → ((i : ℕ) → i < len → is_within from size i ≡ false → get_or after i 0 ≡ get_or bytes i 0) → IsSaved after more len synced
+      → ((i : ℕ) → i < stored → is_within from size i ≡ false → get_or after i 0 ≡ get_or bytes i 0) → IsSaved after more stored len synced
   saved_again more after from size added same = record {
     len_is = k.len_is;
     each = λ i h. k.each i h ∙ still_known (before_image_at saved i) (is_within from size i) (get_or bytes i 0) (get_or after i 0) (same i h) ∙ ap (λ (o : Option ℕ). unwrap_or o (get_or after i 0)) (sym (added i));
+    zeros = k.zeros;
   }
 
   -- bytes that hold the same at each place
-  pub saved_same : (stored : List ℕ) → ((i : ℕ) → get_or stored i 0 ≡ get_or bytes i 0) → IsSaved stored saved len synced
-  saved_same stored same = record { len_is = k.len_is; each = λ i h. k.each i h ∙ ap (unwrap_or (before_image_at saved i)) (sym (same i)) }
+  pub saved_same : (others : List ℕ) → ((i : ℕ) → get_or others i 0 ≡ get_or bytes i 0) → IsSaved others saved stored len synced
+  saved_same others same = record {
+    len_is = k.len_is;
+    each = λ i h. k.each i h ∙ ap (unwrap_or (before_image_at saved i)) (sym (same i));
+    zeros = k.zeros;
+  }
 
   pub saved_written : (more : BeforeImages) (at : ℕ) (given kept : List ℕ) → length kept ≤ length given
-      → ((i : ℕ) → before_image_at more i ≡ option_or (before_image_at saved i) (cond (is_within at (min len (at + length given) - at) i) (Some (get_or bytes i 0)) None)) → IsSaved (overlay bytes at kept) more len synced
-  saved_written more at given kept part added = saved_again more (overlay bytes at kept) at (min len (at + length given) - at) added (λ i h out.
+      → ((i : ℕ) → before_image_at more i ≡ option_or (before_image_at saved i) (cond (is_within at (min stored (at + length given) - at) i) (Some (get_or bytes i 0)) None)) → IsSaved (overlay bytes at kept) more stored len synced
+  saved_written more at given kept part added = saved_again more (overlay bytes at kept) at (min stored (at + length given) - at) added (λ i h out.
       let apart : is_within at (length given) i ≡ false = grind (arith, nat_tests) in
       overlaid_outside_part bytes at (length given) kept part i apart)
 
-  pub saved_cut : (more : BeforeImages) (from : ℕ) → ((i : ℕ) → before_image_at more i ≡ option_or (before_image_at saved i) (cond (is_within from (len - from) i) (Some (get_or bytes i 0)) None)) → IsSaved (take from bytes) more len synced
-  saved_cut more from added = saved_again more (take from bytes) from (len - from) added (λ i h out.
+  pub saved_cut : (more : BeforeImages) (from : ℕ) → ((i : ℕ) → before_image_at more i ≡ option_or (before_image_at saved i) (cond (is_within from (stored - from) i) (Some (get_or bytes i 0)) None)) → IsSaved (take from bytes) more stored len synced
+  saved_cut more from added = saved_again more (take from bytes) from (stored - from) added (λ i h out.
       let inside : i < from = grind (arith, nat_tests) in
       get_or-take from bytes i 0 inside)
 
-  pub saved_lengthened : (size : ℕ) → IsSaved (pad_to bytes size) saved len synced
-  saved_lengthened size = record { len_is = k.len_is; each = λ i h. k.each i h ∙ ap (unwrap_or (before_image_at saved i)) (sym (get_or-padded bytes size i)) }
+  pub saved_lengthened : (size : ℕ) → IsSaved (pad_to bytes size) saved stored len synced
+  saved_lengthened size = saved_same (pad_to bytes size) (λ i. get_or-padded bytes size i)
 
 -- a lengthening with zeros changes nothing before the new end
 cut_or_padded : (bytes : List ℕ) (n i : ℕ) → i < n → get_or (take n bytes ++ replicate (n - length bytes) 0) i 0 ≡ get_or bytes i 0
@@ -86,13 +91,19 @@ cut_or_padded bytes n i h = elim (cases_lt i (length bytes)) [
   | inr past ↦ ap (λ (l : List ℕ). get_or (l ++ replicate (n - length bytes) 0) i 0) (take_all n bytes (omega arith)) ∙ get_or-padded bytes n i
 ]
 
--- the bytes now with what was saved are those of the last sync
-pub restored : (bytes : List ℕ) (saved : BeforeImages) (len : ℕ) (synced resized after : List ℕ) → IsSaved bytes saved len synced → resized ≡ take len bytes ++ replicate (len - length bytes) 0 → length resized ≡ len → length after ≡ length resized
-    → ((i : ℕ) → i < length resized → get_or after i 0 ≡ unwrap_or (before_image_at saved i) (get_or resized i 0)) → after ≡ synced
-restored bytes saved len synced resized after k is resized_len after_len each =
+-- the bytes now with what was saved, and zeros behind them, are those of the last sync
+pub restored : (bytes : List ℕ) (saved : BeforeImages) (stored len : ℕ) (synced resized put after : List ℕ) → IsSaved bytes saved stored len synced
+    → resized ≡ take stored bytes ++ replicate (stored - length bytes) 0 → length resized ≡ stored → length put ≡ length resized
+    → ((i : ℕ) → i < length resized → get_or put i 0 ≡ unwrap_or (before_image_at saved i) (get_or resized i 0))
+    → after ≡ take len put ++ replicate (len - length put) 0 → length after ≡ len → after ≡ synced
+restored bytes saved stored len synced resized put after k is resized_len put_len each last last_len =
     same_number_lists _ _ (omega (arith, k.len_is)) (λ i h.
-    let inside : i < len = omega (arith, k.len_is) in
-    each i (omega arith) ∙ ap (unwrap_or (before_image_at saved i)) (ap (λ (l : List ℕ). get_or l i 0) is ∙ cut_or_padded bytes len i inside) ∙ sym (k.each i inside))
+    let within : i < len = omega arith in
+    let now = ap (λ (l : List ℕ). get_or l i 0) last ∙ cut_or_padded put len i within in
+    elim (cases_lt i stored) [
+      | inl inside ↦ now ∙ each i (omega arith) ∙ ap (unwrap_or (before_image_at saved i)) (ap (λ (l : List ℕ). get_or l i 0) is ∙ cut_or_padded bytes stored i inside) ∙ sym (k.each i inside)
+      | inr behind ↦ now ∙ get_or_past put i 0 (omega arith) ∙ sym (k.zeros i (omega arith))
+    ])
 
 -- the range before is put back
 module _ (places : List (ℕ × ℕ)) (saved : List ℕ) (k end : ℕ) (p : ℕ × ℕ) (inside : k < length places) (is : get_or places k p ≡ p) (end_is : end ≡ places_len (take (k + 1) places)) where

@@ -26,12 +26,13 @@ before_image_in (p ∷ places) bytes i =
 abbrev pub before_image_at : BeforeImages → ℕ → Option ℕ
 before_image_at saved = before_image_in saved.0 saved.1
 
--- the bytes of the last sync are those now, but for what was saved
-pub record IsSaved (bytes : List ℕ) (saved : BeforeImages) (len : ℕ)
+-- the bytes of the last sync are those now, but for what was saved, and from a place on zeros
+pub record IsSaved (bytes : List ℕ) (saved : BeforeImages) (stored len : ℕ)
     (synced : List ℕ) : Type 0 where
   pub len_is : length synced ≡ len
-  pub each : (i : ℕ) → i < len
+  pub each : (i : ℕ) → i < stored
       → slice_index synced i ≡ unwrap_or (before_image_at saved i) (slice_index bytes i)
+  pub zeros : (i : ℕ) → stored ≤ i → slice_index synced i ≡ 0
 
 -- outside the ranges the bytes are those of the last sync
 pub record Agree (ranges : List (ℕ × ℕ)) (bytes synced : List ℕ) : Type 0 where

@@ -7,6 +7,11 @@ ghost use Rattle.raft_memory.specs.MemoryFile.{before_image_at};
 use std::alloc::{AllocError, Global};
 use std::marker::Model;
 
+/// What is kept of the room for bytes, and for places.
+const KEPT_BYTES: usize = 64 << 10;
+
+const KEPT_PLACES: usize = 1 << 10;
+
 /// Bytes by their places in a file. A place that was saved twice has the byte of the first time.
 #[derive(Drop)]
 pub(crate) struct BeforeImages {
@@ -56,11 +61,14 @@ impl BeforeImages {
         Ok(())
     }
 
+    /// Forgets all. A log has many files, so a great room is given back.
     pub(crate) fn clear(&mut self)
         ensures { (i : ℕ) → before_image_at self.new i ≡ None }
     {
         self.places.clear();
+        self.places.shrink_to(KEPT_PLACES);
         self.bytes.clear();
+        self.bytes.shrink_to(KEPT_BYTES);
     }
 
     /// Puts what was saved where it stood.

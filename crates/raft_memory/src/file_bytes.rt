@@ -62,6 +62,7 @@ impl FileBytes {
     /// The first bytes, behind which there are zeros alone.
     pub(crate) fn stored(&self) -> &[u8]
         ensures each { (i : ℕ) → slice_index result.now i ≡ slice_index self.now i }
+        ensures padding { (i : ℕ) → length result.now ≤ i → slice_index self.now i ≡ 0 }
     {
         &self.stored
     }

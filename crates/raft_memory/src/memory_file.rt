@@ -17,6 +17,8 @@ use std::marker::Model;
 pub(crate) struct MemoryFile {
     bytes: FileBytes,
     synced_len: usize,
+    /// How many bytes of the last sync were stored. Zeros followed, which aren't saved.
+    synced_stored: usize,
     saved: BeforeImages,
     ranges: Vec<(usize, usize)>,
     least: usize,
@@ -31,7 +33,7 @@ impl Model for MemoryFile {
 
     ghost invariant = { λ s. IsFileOf s.bytes s.ghost_file.file.synced s.ranges.items s.least
         s.greatest s.ghost_file.file
-        × IsSaved s.bytes s.saved s.synced_len s.ghost_file.file.synced };
+        × IsSaved s.bytes s.saved s.synced_stored s.synced_len s.ghost_file.file.synced };
 }
 
 impl MemoryFile {
@@ -41,6 +43,7 @@ impl MemoryFile {
         MemoryFile {
             bytes: FileBytes::new(alloc),
             synced_len: 0,
+            synced_stored: 0,
             saved: BeforeImages::new(alloc),
             ranges: Vec::new(alloc),
             least: 0,
@@ -72,7 +75,7 @@ impl MemoryFile {
         ensures err { OnErr result (self.new ≡ self.old) }
     {
         self.ranges.reserve(1)?;
-        let end = self.synced_len.min(at + given.len());
+        let end = self.synced_stored.min(at + given.len());
         self.saved.save(self.bytes.stored(), at, end)?;
         self.bytes.overlay(at, kept)?;
         add_range(&mut self.ranges, at, given.len());
@@ -97,7 +100,8 @@ impl MemoryFile {
     {
         self.ranges.reserve(1)?;
         let from = size.min(self.bytes.len());
-        self.saved.save(self.bytes.stored(), from, self.synced_len)?;
+        self.saved
+            .save(self.bytes.stored(), from, self.synced_stored)?;
         add_range(&mut self.ranges, from, self.bytes.len() - from);
         self.bytes.truncate(from);
         self.least = self.least.min(from);
@@ -129,6 +133,7 @@ impl MemoryFile {
     {
         self.saved.clear();
         self.synced_len = self.bytes.len();
+        self.synced_stored = self.bytes.stored().len();
         self.ranges.clear();
         self.least = self.bytes.len();
         self.greatest = self.bytes.len();
@@ -153,6 +158,7 @@ impl MemoryFile {
         let ghost_file = GhostFile::after(&Step::Start(&bytes));
         MemoryFile {
             synced_len: bytes.len(),
+            synced_stored: bytes.len(),
             saved: BeforeImages::new(alloc),
             ranges: Vec::new(alloc),
             least: bytes.len(),
@@ -167,8 +173,9 @@ impl MemoryFile {
         ensures ok { IfOk result (λ synced. synced.items ≡ self.now.synced) }
     {
         let mut synced = self.bytes.stored().to_vec(alloc)?;
-        synced.resize(self.synced_len, 0)?;
+        synced.resize(self.synced_stored, 0)?;
         self.saved.restore(&mut synced);
+        synced.resize(self.synced_len, 0)?;
         Ok(synced)
     }
 

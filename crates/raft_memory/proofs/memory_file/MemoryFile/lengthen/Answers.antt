@@ -16,4 +16,4 @@ invariant_of-self-2 c =
     let low : c.min-self-inside.result ≡ min c.self.inside.least (max c.args.size (length bytes)) = c.min-self-inside.ensures ∙ ap (min c.self.inside.least) end in
     let high : c.max-self-inside.result ≡ max c.self.inside.greatest (max c.args.size (length bytes)) = c.max-self-inside.ensures ∙ ap (max c.self.inside.greatest) end in
     let file : c.after-self-inside.result.file ≡ file_after_resize c.lengthen.new.self c.self.inside.ghost_file.file = search rules in
-    rw (low, high, file, after) (kept, saved_lengthened _ _ _ _ c.self.invariant.1 c.args.size)
+    rw (low, high, file, after) (kept, saved_lengthened _ _ _ _ _ c.self.invariant.1 c.args.size)

@@ -15,6 +15,6 @@ invariant_of-self-2 c =
     let low : c.min-self-inside.result ≡ min c.self.inside.least (length c.overlay.new.self) = search rules in
     let high : c.max-self-inside.result ≡ max c.self.inside.greatest (longest_of c.args.is_done c.args.at (length c.args.given.now) (length c.overlay.new.self)) = search rules in
     let file : c.after-self-inside.result.file ≡ file_after_write c.args.at c.args.given.now c.args.is_done c.overlay.new.self c.self.inside.ghost_file.file = search rules in
-    let end : c.min-end.result ≡ min c.self.inside.synced_len (c.args.at + length c.args.given.now) = search rules in
-    let saved : IsSaved c.overlay.new.self c.save.new.self c.self.inside.synced_len c.self.inside.ghost_file.file.synced = rw after_is (saved_written _ _ _ _ c.self.invariant.1 c.save.new.self c.args.at c.args.given.now c.args.kept.now c.requires.part (λ i. rw (end, c.stored.ensures.each i) at (c.in_ok-save.ensures.ok i))) in
+    let end : c.min-end.result ≡ min c.self.inside.synced_stored (c.args.at + length c.args.given.now) = search rules in
+    let saved : IsSaved c.overlay.new.self c.save.new.self c.self.inside.synced_stored c.self.inside.synced_len c.self.inside.ghost_file.file.synced = rw after_is (saved_written _ _ _ _ _ c.self.invariant.1 c.save.new.self c.args.at c.args.given.now c.args.kept.now c.requires.part (λ i. rw (end, c.stored.ensures.each i) at (c.in_ok-save.ensures.ok i))) in
     rw (low, high, file) (kept, saved)
