@@ -16,7 +16,7 @@ use std::alloc::Global;
 
 /// Reserved files that are wanted.
 #[derive(Drop)]
-struct Wanted {
+struct Spares {
     config: Config,
     append_files: usize,
     /// How many there are, and how many there are to be.
@@ -64,7 +64,7 @@ pub(crate) fn make_ahead<F: ChangedFiles>(
 fn make_next<F: FileSystem>(
     alloc: Global,
     files: &mut F,
-    wanted: &Wanted,
+    wanted: &Spares,
     place: usize,
 ) -> Result<bool, Fault> {
     let config = &wanted.config;
@@ -92,7 +92,7 @@ fn wanted<F: FileSystem>(
     alloc: Global,
     files: &mut F,
     options: &Options<'_>,
-) -> Result<Option<Wanted>, Fault> {
+) -> Result<Option<Spares>, Fault> {
     let mut config = config(alloc, options)?;
     if options.changing.dry_run || !config.prefill_for_recycle || config.sanitize().is_err() {
         return Ok(None);
@@ -105,7 +105,7 @@ fn wanted<F: FileSystem>(
     if found >= count {
         return Ok(None);
     }
-    Ok(Some(Wanted {
+    Ok(Some(Spares {
         config,
         append_files,
         found,
