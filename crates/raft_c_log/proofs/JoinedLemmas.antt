@@ -1,7 +1,6 @@
 -- Calls on an open log join.
 use Rattle.std.proofs.Common.{◌≡◌, ◌⊎◌, ◌×◌, ◌∙◌, ◌++◌, ℕ, ℤ, Bool, true, false, List, [], ◌∷◌, Option, Some, None, Ok, Err, ap, append_assoc, arith, inl, inr, pos, refl, subst, sym, append-nil}
-use Rattle.std.specs.Prelude.{IsErrAnd, IsSomeAnd, Result, Vec, is_ok}
-use Rattle.std.specs.declared.alloc.Global.{Global}
+use Rattle.std.specs.Prelude.{IsErrAnd, IsSomeAnd, Result, zip}
 use Rattle.std.proofs.Math.Logic.{∥∥₁_map}
 use Rattle.std.proofs.lemmas.Bool.{cases_Bool}
 use Rattle.raft_base.specs.Fault.{fault_code}
@@ -19,7 +18,11 @@ use Rattle.raft_crash_laws.specs.Crash.{LeavesAllowed}
 use Rattle.raft_crash_laws.proofs.ContentsLemmas.{after-append}
 use Rattle.raft_log_engine.specs.Advance.{Advances, ChangesOnlyItsLog, LogState, StaysWithin, durable_in, state_of}
 use Rattle.raft_log_engine.specs.Durability.{Durability, HasOnlyRead, Progresses, StaysFailed, durability_of}
-use Rattle.raft_log_engine.specs.Engine.{IsAllSynced, base_of, contents_of, directory_of, durable_of, folders_of, found_of, has_failed, unsynced_of}
+use Rattle.raft_queues.specs.Dual.{DualState}
+use Rattle.raft_queues.specs.PassedOver.{StayPassedOver}
+use Rattle.raft_log_engine.specs.Calls.{IsCallersWrite}
+use Rattle.raft_log_engine.specs.Once.{IsWriteOnce}
+use Rattle.raft_log_engine.specs.Engine.{IsAllSynced, Memory, base_of, contents_of, directory_of, durable_of, folders_of, found_of, has_failed, unsynced_of}
 use Rattle.raft_log_engine.specs.PurgeCalls.{PurgesLog}
 use Rattle.raft_base.specs.declared.pipe_log.LogQueue.{LogQueue}
 use Rattle.raft_log_engine.specs.declared.engine.Engine.{Engine}
@@ -92,7 +95,7 @@ goes_then {old} {mid} {new} first second = record {
         ∙ after-append (found_contents old.folders old.begun) old.durability.base first.more
 
     back : (n : Directory) → LeavesAtLeast mid.folders (durable_in mid) n → LeavesAtLeast old.folders (durable_in old) n
-    back n = ∥∥₁_map (λ (done, more, leaves). (first.more ++ done, more,
+    back n left = ∥∥₁_map left (λ (done, more, leaves). (first.more ++ done, more,
         subst (λ (m : Contents). LeavesAllowed old.folders m more n) (ap (λ (m : Contents). after_batches m done) grown ∙ sym (after-append (durable_in old) first.more done))
         (subst (λ (f : Folders). LeavesAllowed f (after_batches (durable_in mid) done) more n) first.only.folders leaves)))
 
@@ -115,8 +118,8 @@ module _ {F H R W : Type 0} {g : Ghosts F H R W} where
         begun = read.begun;
         others = λ path other reserved. ap (λ (n : Directory). file_at n path) read.files;
         passed = λ queue path over. ap (λ (n : Directory). file_at n path) read.files;
-        still = λ stands queue path over. rw read.pipes over;
-        together = ap (λ m. m.groups.together) read.memory;
+        still = λ stands. subst (λ (d : DualState). StayPassedOver old.pipes d) (sym read.pipes) (λ queue path over. over);
+        together = ap (λ (m : Memory). m.groups.together) read.memory;
       })
       (inl (refl, refl, read.state))
       (reads_moves (engine_leaves old) (record { same_files = read.files; same_moments = read.moments; no_fewer = read.refusals }))
@@ -139,9 +142,9 @@ module _ {F H R W : Type 0} {g : Ghosts F H R W} where
 
   goes_called : (change : Change) {outcome : Result (Unit {0}) Fault} {old new : Engine F H R W g} {answer : Answer} → IsCalled change outcome old new answer → GoesOn (state_of old) (state_of new)
   goes_called (Write bytes sync) (inl off) = goes_still off.1
-  goes_called (Write bytes sync) (inr call) = goes_batch (λ items rest result write. goes_advance write.call.advance (λ gone. (write.call.unchanged gone).0)) (read_batch bytes.now) call
+  goes_called (Write bytes sync) {old = old} {new = new} (inr call) = goes_batch {Clause = λ items rest. IsCallersWrite items rest sync old new} (λ items rest result write. goes_advance write.call.advance (λ gone. (write.call.unchanged gone).0)) (read_batch bytes.now) call
   goes_called (WriteOnce bytes groups numbers sync) (inl off) = goes_still off.1
-  goes_called (WriteOnce bytes groups numbers sync) (inr call) = goes_batch (λ items rest result write. goes_advance write.advance write.unchanged) (read_batch bytes.now) call
+  goes_called (WriteOnce bytes groups numbers sync) {old = old} {new = new} (inr call) = goes_batch {Clause = λ items rest. IsWriteOnce items rest (zip groups.now numbers.now) sync old new} (λ items rest result write. goes_advance write.advance write.unchanged) (read_batch bytes.now) call
   goes_called Sync call = goes_advance call.advance call.unchanged
   goes_called (CompactTo group index) call = goes_advance call.clause.advance call.clause.unchanged
   goes_called RewriteAppendQueue call = goes_purge call.clause.log call.clause.unchanged
@@ -149,7 +152,7 @@ module _ {F H R W : Type 0} {g : Ghosts F H R W} where
   goes_called RewriteRewriteQueue call = goes_purge call.clause.log call.clause.unchanged
   goes_called PurgeAllStale call = goes_purge call.clause.log call.clause.unchanged
   goes_called (PurgeExpired barrier) (inl call) = goes_purge call.clause.log call.clause.unchanged
-  goes_called (PurgeExpired barrier) (inr untold) = goes_purge untold.1.1.log untold.1.1.unchanged
+  goes_called (PurgeExpired barrier) (inr untold) = goes_purge untold.2.log untold.2.unchanged
 
   goes_answered : (asked : Asked) {old new : Engine F H R W g} → IsAnswered asked old new → GoesOn (state_of old) (state_of new)
   goes_answered (inl change) call = goes_called change call.2.called
@@ -167,6 +170,9 @@ module _ {F H R W : Type 0} {g : Ghosts F H R W} where
       let done = progress_covered a flight (durability_of old) (durability_of new) progress in
       (done.0, (sym (ap (λ (l : List Batch). after_batches (found_of new) (base_of new ++ l)) done.1 ∙ ap (after_batches (found_of new)) (append-nil (base_of new))), done.1))
 
+  covered_if : {a flight : List Batch} {c : Bool} {old new : Engine F H R W g} → c ≡ true → Progresses a c flight (durability_of old) (durability_of new) → (has_failed new ≡ false) × IsAllSynced new
+  covered_if {a} {flight} {c} {old} {new} asks progress = covered (subst (λ (d : Bool). Progresses a d flight (durability_of old) (durability_of new)) asks progress)
+
   of_batch : {P : Type 0} {Clause : Batch → Batch → Result ℕ Fault → Type 0} {done : Unit {0}} → ((items rest : Batch) (len : ℕ) → Clause items rest (Ok len) → P) → (taken : Option Batch) → IsSomeAnd taken (IsBatchCall Clause (Ok done)) → P
   of_batch each None call = absurd call
   of_batch each (Some items) call = let ok = answered call.1.result call.1.clause call.1.comes in each items call.0 ok.0 ok.1
@@ -178,10 +184,10 @@ module _ {F H R W : Type 0} {g : Ghosts F H R W} where
   covered_call : (change : Change) {done : Unit {0}} {old new : Engine F H R W g} {answer : Answer} → is_covering change ≡ true → IsCalled change (Ok done) old new answer → (has_failed new ≡ false) × IsAllSynced new
   covered_call (Write bytes sync) asks (inl off) = absurd off.0
   covered_call (Write bytes sync) {old = old} {new = new} asks (inr call) =
-      of_batch (λ items rest len write. covered (subst (λ (c : Bool). Progresses _ c _ (durability_of old) (durability_of new)) asks write.call.advance.progress)) (read_batch bytes.now) call
+      of_batch {Clause = λ items rest. IsCallersWrite items rest sync old new} (λ items rest len write. covered_if asks write.call.advance.progress) (read_batch bytes.now) call
   covered_call (WriteOnce bytes groups numbers sync) asks (inl off) = absurd off.0
   covered_call (WriteOnce bytes groups numbers sync) {old = old} {new = new} asks (inr call) =
-      of_batch (λ items rest len write. covered (subst (λ (c : Bool). Progresses _ c _ (durability_of old) (durability_of new)) asks write.advance.progress)) (read_batch bytes.now) call
+      of_batch {Clause = λ items rest. IsWriteOnce items rest (zip groups.now numbers.now) sync old new} (λ items rest len write. covered_if asks write.advance.progress) (read_batch bytes.now) call
   covered_call Sync asks call = covered call.advance.progress
   covered_call (CompactTo group index) asks call = absurd (let clash = asks in cc)
   covered_call RewriteAppendQueue asks call = covered_purge (answered call.result call.clause call.comes).1.log

@@ -163,8 +163,10 @@ impl<F: FileSystem> OpenLog<F> {
             ⊎ IsSomeAnd taken (IsBatchCall (λ items rest. IsWriteOnce items rest
             (zip groups.now numbers.now) sync self.old.engine self.new.engine) result) }
     {
-        let pairs = pairs_in(self.alloc, groups, numbers)?;
-        self.write_numbered(bytes, &pairs, sync)
+        match pairs_in(self.alloc, groups, numbers) {
+            Ok(pairs) => self.write_numbered(bytes, &pairs, sync),
+            Err(fault) => Err(fault),
+        }
     }
 
     fn write_numbered(
@@ -196,18 +198,26 @@ impl<F: FileSystem> OpenLog<F> {
         ensures called { IsCalled (CompactTo group index) result self.old.engine self.new.engine
             answer.new }
     {
-        let count = self.engine.compact_to(group, index)?;
-        answer.numbers = (count, 0);
-        Ok(())
+        match self.engine.compact_to(group, index) {
+            Ok(count) => {
+                answer.numbers = (count, 0);
+                Ok(())
+            }
+            Err(fault) => Err(fault),
+        }
     }
 
     fn rewrite_append_queue(&mut self, answer: &mut Answer) -> Result<(), Fault>
         ensures called { IsCalled RewriteAppendQueue result self.old.engine self.new.engine
             answer.new }
     {
-        let count = self.engine.must_rewrite_append_queue(None, None)?;
-        answer.numbers = (count as u64, 0);
-        Ok(())
+        match self.engine.must_rewrite_append_queue(None, None) {
+            Ok(count) => {
+                answer.numbers = (count as u64, 0);
+                Ok(())
+            }
+            Err(fault) => Err(fault),
+        }
     }
 
     fn rewrite_append_groups(
@@ -221,38 +231,57 @@ impl<F: FileSystem> OpenLog<F> {
             self.old.engine self.new.engine answer.new }
     {
         let (_, last) = self.engine.file_spans().append;
-        let next = self
+        match self
             .engine
-            .must_rewrite_append_groups(watermark, from, budget)?;
-        answer.numbers = (next.unwrap_or(0), watermark.min(last));
-        Ok(())
+            .must_rewrite_append_groups(watermark, from, budget)
+        {
+            Ok(next) => {
+                answer.numbers = (next.unwrap_or(0), watermark.min(last));
+                Ok(())
+            }
+            Err(fault) => Err(fault),
+        }
     }
 
     fn rewrite_rewrite_queue(&mut self, answer: &mut Answer) -> Result<(), Fault>
         ensures called { IsCalled RewriteRewriteQueue result self.old.engine self.new.engine
             answer.new }
     {
-        let count = self.engine.must_rewrite_rewrite_queue()?;
-        answer.numbers = (count as u64, 0);
-        Ok(())
+        match self.engine.must_rewrite_rewrite_queue() {
+            Ok(count) => {
+                answer.numbers = (count as u64, 0);
+                Ok(())
+            }
+            Err(fault) => Err(fault),
+        }
     }
 
     fn purge_all_stale(&mut self, answer: &mut Answer) -> Result<(), Fault>
         ensures called { IsCalled PurgeAllStale result self.old.engine self.new.engine answer.new }
     {
-        let count = self.engine.must_purge_all_stale()?;
-        answer.numbers = (count as u64, 0);
-        Ok(())
+        match self.engine.must_purge_all_stale() {
+            Ok(count) => {
+                answer.numbers = (count as u64, 0);
+                Ok(())
+            }
+            Err(fault) => Err(fault),
+        }
     }
 
     fn purge_expired(&mut self, barrier: u64, answer: &mut Answer) -> Result<(), Fault>
         ensures called { IsCalled (PurgeExpired barrier) result self.old.engine self.new.engine
             answer.new }
     {
-        let asked = self.engine.purge_expired_files(barrier)?;
-        answer.bytes.clear();
-        push_numbers(&mut answer.bytes, &asked)?;
-        Ok(())
+        match self.engine.purge_expired_files(barrier) {
+            Ok(asked) => {
+                answer.bytes.clear();
+                match push_numbers(&mut answer.bytes, &asked) {
+                    Ok(()) => Ok(()),
+                    Err(_) => Err(Fault::Memory),
+                }
+            }
+            Err(fault) => Err(fault),
+        }
     }
 
     // Reads. Answers whether what was asked for is there.
