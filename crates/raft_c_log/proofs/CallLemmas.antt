@@ -28,6 +28,13 @@ call_ok x clause told = record { result = Ok x; clause = clause; comes = told }
 pub call_err : {T : Type 0} {Clause : Result T Fault → Type 0} {Told : T → Type 0} {e : Fault} → Clause (Err e) → IsCall Clause Told (Err e)
 call_err {e = e} clause = record { result = Err e; clause = clause; comes = refl }
 
+-- what a result comes to, of which nothing is told
+pub comes_ok : {T : Type 0} {result : Result T Fault} {x : T} {done : Unit {0}} → result ≡ Ok x → ComesTo (λ _. Unit {0}) result (Ok done)
+comes_ok {T} {done = done} is = subst (λ (r : Result T Fault). ComesTo (λ _. Unit {0}) r (Ok done)) (sym is) tt
+
+pub comes_err : {T : Type 0} (Told : T → Type 0) {result : Result T Fault} {e : Fault} → result ≡ Err e → ComesTo Told result (Err e)
+comes_err {T} Told {e = e} is = subst (λ (r : Result T Fault). ComesTo Told r (Err e)) (sym is) refl
+
 -- a refused call tells nothing
 untold : {T : Type 0} {Clause : Result T Fault → Type 0} {Told Said : T → Type 0} {e : Fault} → IsCall Clause Told (Err e) → IsCall Clause Said (Err e)
 untold {T} {Clause} {Told} {Said} {e} call = record { result = call.result; clause = call.clause; comes = by call.result call.comes }
@@ -36,22 +43,22 @@ untold {T} {Clause} {Told} {Said} {e} call = record { result = call.result; clau
     by (Ok x) comes = absurd comes
     by (Err f) comes = comes
 
-module _ {F H R W : Type 0} {g : Ghosts F H R W} {old new : Engine F H R W g} where
-  pub refused_any : (change : Change) {e : Fault} {a b : Answer} → IsCalled change (Err e) old new a → IsCalled change (Err e) old new b
-  refused_any (Write bytes sync) call = call
-  refused_any (WriteOnce bytes groups numbers sync) call = call
-  refused_any Sync call = call
-  refused_any (CompactTo group index) call = untold call
-  refused_any RewriteAppendQueue call = untold call
-  refused_any (RewriteAppendGroups watermark from budget) call = untold call
-  refused_any RewriteRewriteQueue call = untold call
-  refused_any PurgeAllStale call = untold call
-  refused_any (PurgeExpired barrier) (inl call) = inl (untold call)
-  refused_any (PurgeExpired barrier) (inr call) = inr call
+module _ {F H R W : Type 0} {g : Ghosts F H R W} (old new : Engine F H R W g) where
+  pub refused_any : (change : Change) (e : Fault) (a b : Answer) → IsCalled change (Err e) old new a → IsCalled change (Err e) old new b
+  refused_any (Write bytes sync) e a b call = call
+  refused_any (WriteOnce bytes groups numbers sync) e a b call = call
+  refused_any Sync e a b call = call
+  refused_any (CompactTo group index) e a b call = untold call
+  refused_any RewriteAppendQueue e a b call = untold call
+  refused_any (RewriteAppendGroups watermark from budget) e a b call = untold call
+  refused_any RewriteRewriteQueue e a b call = untold call
+  refused_any PurgeAllStale e a b call = untold call
+  refused_any (PurgeExpired barrier) e a b (inl call) = inl (untold call)
+  refused_any (PurgeExpired barrier) e a b (inr call) = inr call
 
   -- the batch that was taken was written, or the engine refused it
-  pub wrote : {mid : Engine F H R W g} {Unfit : Fault → Type 0} (Clause : Engine F H R W g → Batch → Batch → Result ℕ Fault → Type 0) {taken : Option Batch} {items rest : Batch} {result : Result ℕ Fault} {outcome : Result (Unit {0}) Fault}
+  pub wrote : {mid : Engine F H R W g} (Unfit : Fault → Type 0) (Clause : Engine F H R W g → Batch → Batch → Result ℕ Fault → Type 0) {taken : Option Batch} {items rest : Batch} (result : Result ℕ Fault) (outcome : Result (Unit {0}) Fault)
       → new ≡ mid → taken ≡ Some items → ComesTo (λ _. Unit {0}) result outcome → Clause mid items rest result → IsKeptOff Unfit outcome old new ⊎ IsSomeAnd taken (IsBatchCall (Clause new) outcome)
-  wrote Clause {taken} {items} {rest} {result} {outcome} same is comes clause =
+  wrote Unfit Clause {taken} {items} {rest} result outcome same is comes clause =
       inr (subst (λ (t : Option Batch). IsSomeAnd t (IsBatchCall (Clause new) outcome)) (sym is)
       (rest, record { result = result; clause = subst (λ (e : Engine F H R W g). Clause e items rest result) (sym same) clause; comes = comes }))

@@ -1,6 +1,6 @@
 -- Calls on an open log join.
-use Rattle.std.proofs.Common.{◌≡◌, ◌⊎◌, ◌×◌, ◌∙◌, ◌++◌, ℕ, ℤ, Bool, true, false, List, [], ◌∷◌, Option, Some, None, Ok, Err, ap, append_assoc, arith, inl, inr, pos, refl, subst, sym, append-nil}
-use Rattle.std.specs.Prelude.{IsErrAnd, IsSomeAnd, Result, zip}
+use Rattle.std.proofs.Common.{◌≡◌, ◌⊎◌, ◌∙◌, ◌++◌, ℕ, ℤ, Bool, true, false, List, [], ◌∷◌, Option, Some, None, Ok, Err, ap, append_assoc, arith, inl, inr, pos, refl, subst, sym, append-nil}
+use Rattle.std.specs.Prelude.{IsErrAnd, IsSomeAnd, Result, is_ok, zip}
 use Rattle.std.proofs.Math.Logic.{∥∥₁_map}
 use Rattle.std.proofs.lemmas.Bool.{cases_Bool}
 use Rattle.raft_base.specs.Fault.{fault_code}
@@ -14,14 +14,14 @@ use Rattle.raft_pipes.specs.Folder.{LeavesOtherFiles}
 use Rattle.raft_records.specs.Contents.{Contents, after_batches}
 use Rattle.raft_records.specs.Item.{Batch}
 use Rattle.raft_crash_laws.specs.Contents.{found_contents}
-use Rattle.raft_crash_laws.specs.Crash.{LeavesAllowed}
+use Rattle.raft_crash_laws.specs.Crash.{LeavesAllowed, pending_of, written_batch}
 use Rattle.raft_crash_laws.proofs.ContentsLemmas.{after-append}
 use Rattle.raft_log_engine.specs.Advance.{Advances, ChangesOnlyItsLog, LogState, StaysWithin, durable_in, state_of}
 use Rattle.raft_log_engine.specs.Durability.{Durability, HasOnlyRead, Progresses, StaysFailed, durability_of}
 use Rattle.raft_queues.specs.Dual.{DualState}
 use Rattle.raft_queues.specs.PassedOver.{StayPassedOver}
 use Rattle.raft_log_engine.specs.Calls.{IsCallersWrite}
-use Rattle.raft_log_engine.specs.Once.{IsWriteOnce}
+use Rattle.raft_log_engine.specs.Once.{IsWriteOnce, acting_batch}
 use Rattle.raft_log_engine.specs.Engine.{IsAllSynced, Memory, base_of, contents_of, directory_of, durable_of, folders_of, found_of, has_failed, unsynced_of}
 use Rattle.raft_log_engine.specs.PurgeCalls.{PurgesLog}
 use Rattle.raft_base.specs.declared.pipe_log.LogQueue.{LogQueue}
@@ -57,9 +57,9 @@ progress_covered a flight old new (inr (inr fails)) = absurd (let clash = fails.
 at_least : (folders : Folders) (m : Contents) (batches : List Batch) (n : Directory) → LeavesAllowed folders m batches n → LeavesAtLeast folders m n
 at_least folders m batches n allowed = ∣ ([], batches, allowed) ∣₁
 
-goes_by : {a : List Batch} {c : Bool} {flight batches : List Batch} {old new : LogState} → ChangesOnlyItsLog old new → Progresses a c flight old.durability new.durability → StaysWithin (LeavesAllowed old.folders (durable_in old) batches) old new
+goes_by : (a : List Batch) (c : Bool) (flight batches : List Batch) {old new : LogState} → ChangesOnlyItsLog old new → Progresses a c flight old.durability new.durability → StaysWithin (LeavesAllowed old.folders (durable_in old) batches) old new
     → (old.durability.failed ≡ true → (new.durability.failed ≡ true) × (new.files ≡ old.files)) → GoesOn old new
-goes_by {a} {c} {flight} {batches} {old} {new} only progress moments rests =
+goes_by a c flight batches {old} {new} only progress moments rests =
     let durable = progress_durable a c flight old.durability new.durability progress in
     record {
       only = only;
@@ -100,9 +100,12 @@ goes_then {old} {mid} {new} first second = record {
         (subst (λ (f : Folders). LeavesAllowed f (after_batches (durable_in mid) done) more n) first.only.folders leaves)))
 
 -- the result of a call that is done
-answered : {T : Type 0} {Clause : Result T Fault → Type 0} {Told : T → Type 0} {done : Unit {0}} (result : Result T Fault) → Clause result → ComesTo Told result (Ok done) → (x : T) × Clause (Ok x)
-answered (Ok x) clause told = (x, clause)
-answered (Err e) clause told = absurd told
+answered : {T : Type 0} {Clause : Result T Fault → Type 0} {Told : T → Type 0} {done : Unit {0}} → IsCall Clause Told (Ok done) → (x : T) × Clause (Ok x)
+answered {T} {Clause} {Told} {done} call = by call.result call.clause call.comes
+  where
+    by : (result : Result T Fault) → Clause result → ComesTo Told result (Ok done) → (x : T) × Clause (Ok x)
+    by (Ok x) clause told = (x, clause)
+    by (Err e) clause told = absurd told
 
 -- One call.
 
@@ -111,7 +114,7 @@ module _ {F H R W : Type 0} {g : Ghosts F H R W} where
   rests_as stays gone = ((stays gone).failed, (stays gone).files)
 
   goes_read : {old new : Engine F H R W g} → HasOnlyRead old new → GoesOn (state_of old) (state_of new)
-  goes_read {old} {new} read = goes_by {a = []} {c = false} {flight = []} {batches = unsynced_of old}
+  goes_read {old} {new} read = goes_by [] false [] (unsynced_of old)
       (record {
         folders = read.folders;
         settings = read.settings;
@@ -129,77 +132,77 @@ module _ {F H R W : Type 0} {g : Ghosts F H R W} where
   goes_still {old} {new} same = subst (λ (e : Engine F H R W g). GoesOn (state_of old) (state_of e)) (sym same) (goes_read (record { files = refl; moments = refl; refusals = (omega arith, omega arith); folders = refl; state = refl; begun = refl; settings = refl; pipes = refl; memory = refl }))
 
   goes_advance : {a : List Batch} {c : Bool} {flight : List Batch} {old new : Engine F H R W g} → Advances a c flight (state_of old) (state_of new) → (has_failed old ≡ true → StaysFailed old new) → GoesOn (state_of old) (state_of new)
-  goes_advance advance stays = goes_by advance.only.log advance.progress advance.any_moment (rests_as stays)
+  goes_advance {a} {c} {flight} {old} advance stays = goes_by a c flight (unsynced_of old ++ flight) advance.only.log advance.progress advance.any_moment (rests_as stays)
 
-  goes_purge : {T : Type 0} {queue : LogQueue} {open no_id : Type 0} {result : Result T Fault} {old new : Engine F H R W g} → PurgesLog queue open no_id result old new → (has_failed old ≡ true → StaysFailed old new) → GoesOn (state_of old) (state_of new)
-  goes_purge log stays = goes_by log.others log.progress log.any_moment (rests_as stays)
+  goes_purge : {T : Type 0} {queue : LogQueue} {ends_open no_id : Type 0} {result : Result T Fault} {old new : Engine F H R W g} → PurgesLog queue ends_open no_id result old new → (has_failed old ≡ true → StaysFailed old new) → GoesOn (state_of old) (state_of new)
+  goes_purge {result = result} {old = old} log stays = goes_by [] (is_ok result) [] (unsynced_of old) log.others log.progress log.any_moment (rests_as stays)
 
   -- a call with the batch that was taken
-  goes_batch : {old new : Engine F H R W g} {Clause : Batch → Batch → Result ℕ Fault → Type 0} → ((items rest : Batch) (result : Result ℕ Fault) → Clause items rest result → GoesOn (state_of old) (state_of new))
-      → (taken : Option Batch) {outcome : Result (Unit {0}) Fault} → IsSomeAnd taken (IsBatchCall Clause outcome) → GoesOn (state_of old) (state_of new)
-  goes_batch each None call = absurd call
-  goes_batch each (Some items) call = each items call.0 call.1.result call.1.clause
+  goes_batch : (old new : Engine F H R W g) (Clause : Batch → Batch → Result ℕ Fault → Type 0) (outcome : Result (Unit {0}) Fault) → ((items rest : Batch) (result : Result ℕ Fault) → Clause items rest result → GoesOn (state_of old) (state_of new))
+      → (taken : Option Batch) → IsSomeAnd taken (IsBatchCall Clause outcome) → GoesOn (state_of old) (state_of new)
+  goes_batch old new Clause outcome each None call = absurd call
+  goes_batch old new Clause outcome each (Some items) call = each items call.0 call.1.result call.1.clause
 
-  goes_called : (change : Change) {outcome : Result (Unit {0}) Fault} {old new : Engine F H R W g} {answer : Answer} → IsCalled change outcome old new answer → GoesOn (state_of old) (state_of new)
-  goes_called (Write bytes sync) (inl off) = goes_still off.1
-  goes_called (Write bytes sync) {old = old} {new = new} (inr call) = goes_batch {Clause = λ items rest. IsCallersWrite items rest sync old new} (λ items rest result write. goes_advance write.call.advance (λ gone. (write.call.unchanged gone).0)) (read_batch bytes.now) call
-  goes_called (WriteOnce bytes groups numbers sync) (inl off) = goes_still off.1
-  goes_called (WriteOnce bytes groups numbers sync) {old = old} {new = new} (inr call) = goes_batch {Clause = λ items rest. IsWriteOnce items rest (zip groups.now numbers.now) sync old new} (λ items rest result write. goes_advance write.advance write.unchanged) (read_batch bytes.now) call
-  goes_called Sync call = goes_advance call.advance call.unchanged
-  goes_called (CompactTo group index) call = goes_advance call.clause.advance call.clause.unchanged
-  goes_called RewriteAppendQueue call = goes_purge call.clause.log call.clause.unchanged
-  goes_called (RewriteAppendGroups watermark from budget) call = goes_purge call.clause.log call.clause.unchanged
-  goes_called RewriteRewriteQueue call = goes_purge call.clause.log call.clause.unchanged
-  goes_called PurgeAllStale call = goes_purge call.clause.log call.clause.unchanged
-  goes_called (PurgeExpired barrier) (inl call) = goes_purge call.clause.log call.clause.unchanged
-  goes_called (PurgeExpired barrier) (inr untold) = goes_purge untold.2.log untold.2.unchanged
+  goes_called : (change : Change) (outcome : Result (Unit {0}) Fault) (old new : Engine F H R W g) (answer : Answer) → IsCalled change outcome old new answer → GoesOn (state_of old) (state_of new)
+  goes_called (Write bytes sync) outcome old new answer (inl off) = goes_still off.1
+  goes_called (Write bytes sync) outcome old new answer (inr call) = goes_batch old new (λ items rest. IsCallersWrite items rest sync old new) outcome (λ items rest result write. goes_advance write.call.advance (λ gone. (write.call.unchanged gone).0)) (read_batch bytes.now) call
+  goes_called (WriteOnce bytes groups numbers sync) outcome old new answer (inl off) = goes_still off.1
+  goes_called (WriteOnce bytes groups numbers sync) outcome old new answer (inr call) = goes_batch old new (λ items rest. IsWriteOnce items rest (zip groups.now numbers.now) sync old new) outcome (λ items rest result write. goes_advance write.advance write.unchanged) (read_batch bytes.now) call
+  goes_called Sync outcome old new answer call = goes_advance call.advance call.unchanged
+  goes_called (CompactTo group index) outcome old new answer call = goes_advance call.clause.advance call.clause.unchanged
+  goes_called RewriteAppendQueue outcome old new answer call = goes_purge call.clause.log call.clause.unchanged
+  goes_called (RewriteAppendGroups watermark from budget) outcome old new answer call = goes_purge call.clause.log call.clause.unchanged
+  goes_called RewriteRewriteQueue outcome old new answer call = goes_purge call.clause.log call.clause.unchanged
+  goes_called PurgeAllStale outcome old new answer call = goes_purge call.clause.log call.clause.unchanged
+  goes_called (PurgeExpired barrier) outcome old new answer (inl call) = goes_purge call.clause.log call.clause.unchanged
+  goes_called (PurgeExpired barrier) outcome old new answer (inr untold) = goes_purge untold.2.log untold.2.unchanged
 
-  goes_answered : (asked : Asked) {old new : Engine F H R W g} → IsAnswered asked old new → GoesOn (state_of old) (state_of new)
-  goes_answered (inl change) call = goes_called change call.2.called
-  goes_answered (inr q) call = goes_read call.2.only
+  goes_answered : (asked : Asked) (old new : Engine F H R W g) → IsAnswered asked old new → GoesOn (state_of old) (state_of new)
+  goes_answered (inl change) old new call = goes_called change call.2.outcome old new call.1 call.2.called
+  goes_answered (inr q) old new call = goes_read call.2.only
 
   -- .. and many
   pub goes_on : (asked : List Asked) (old new : Engine F H R W g) → AreAnswered asked old new → GoesOn (state_of old) (state_of new)
   goes_on [] old new same = goes_still same
-  goes_on (one ∷ more) old new calls = goes_then (goes_answered one calls.1) (goes_on more calls.0 new calls.2)
+  goes_on (one ∷ more) old new calls = goes_then (goes_answered one old calls.0 calls.1) (goes_on more calls.0 new calls.2)
 
   -- A call that makes sure of all.
 
-  covered : {a flight : List Batch} {old new : Engine F H R W g} → Progresses a true flight (durability_of old) (durability_of new) → (has_failed new ≡ false) × IsAllSynced new
-  covered {a} {flight} {old} {new} progress =
+  covered : (a flight : List Batch) (old new : Engine F H R W g) → Progresses a true flight (durability_of old) (durability_of new) → (has_failed new ≡ false) × IsAllSynced new
+  covered a flight old new progress =
       let done = progress_covered a flight (durability_of old) (durability_of new) progress in
       (done.0, (sym (ap (λ (l : List Batch). after_batches (found_of new) (base_of new ++ l)) done.1 ∙ ap (after_batches (found_of new)) (append-nil (base_of new))), done.1))
 
-  covered_if : {a flight : List Batch} {c : Bool} {old new : Engine F H R W g} → c ≡ true → Progresses a c flight (durability_of old) (durability_of new) → (has_failed new ≡ false) × IsAllSynced new
-  covered_if {a} {flight} {c} {old} {new} asks progress = covered (subst (λ (d : Bool). Progresses a d flight (durability_of old) (durability_of new)) asks progress)
+  covered_if : (a flight : List Batch) (c : Bool) (old new : Engine F H R W g) → c ≡ true → Progresses a c flight (durability_of old) (durability_of new) → (has_failed new ≡ false) × IsAllSynced new
+  covered_if a flight c old new asks progress = covered a flight old new (subst (λ (d : Bool). Progresses a d flight (durability_of old) (durability_of new)) asks progress)
 
-  of_batch : {P : Type 0} {Clause : Batch → Batch → Result ℕ Fault → Type 0} {done : Unit {0}} → ((items rest : Batch) (len : ℕ) → Clause items rest (Ok len) → P) → (taken : Option Batch) → IsSomeAnd taken (IsBatchCall Clause (Ok done)) → P
-  of_batch each None call = absurd call
-  of_batch each (Some items) call = let ok = answered call.1.result call.1.clause call.1.comes in each items call.0 ok.0 ok.1
+  of_batch : {P : Type 0} (Clause : Batch → Batch → Result ℕ Fault → Type 0) (done : Unit {0}) → ((items rest : Batch) (len : ℕ) → Clause items rest (Ok len) → P) → (taken : Option Batch) → IsSomeAnd taken (IsBatchCall Clause (Ok done)) → P
+  of_batch Clause done each None call = absurd call
+  of_batch Clause done each (Some items) call = let ok = answered call.1 in each items call.0 ok.0 ok.1
 
   -- .. of a purge
-  covered_purge : {T : Type 0} {queue : LogQueue} {open no_id : Type 0} {old new : Engine F H R W g} {x : T} → PurgesLog queue open no_id (Ok x) old new → (has_failed new ≡ false) × IsAllSynced new
-  covered_purge log = covered log.progress
+  covered_purge : {T : Type 0} {queue : LogQueue} {ends_open no_id : Type 0} {old new : Engine F H R W g} {x : T} → PurgesLog queue ends_open no_id (Ok x) old new → (has_failed new ≡ false) × IsAllSynced new
+  covered_purge {old = old} {new = new} log = covered [] [] old new log.progress
 
-  covered_call : (change : Change) {done : Unit {0}} {old new : Engine F H R W g} {answer : Answer} → is_covering change ≡ true → IsCalled change (Ok done) old new answer → (has_failed new ≡ false) × IsAllSynced new
-  covered_call (Write bytes sync) asks (inl off) = absurd off.0
-  covered_call (Write bytes sync) {old = old} {new = new} asks (inr call) =
-      of_batch {Clause = λ items rest. IsCallersWrite items rest sync old new} (λ items rest len write. covered_if asks write.call.advance.progress) (read_batch bytes.now) call
-  covered_call (WriteOnce bytes groups numbers sync) asks (inl off) = absurd off.0
-  covered_call (WriteOnce bytes groups numbers sync) {old = old} {new = new} asks (inr call) =
-      of_batch {Clause = λ items rest. IsWriteOnce items rest (zip groups.now numbers.now) sync old new} (λ items rest len write. covered_if asks write.advance.progress) (read_batch bytes.now) call
-  covered_call Sync asks call = covered call.advance.progress
-  covered_call (CompactTo group index) asks call = absurd (let clash = asks in cc)
-  covered_call RewriteAppendQueue asks call = covered_purge (answered call.result call.clause call.comes).1.log
-  covered_call (RewriteAppendGroups watermark from budget) asks call = covered_purge (answered call.result call.clause call.comes).1.log
-  covered_call RewriteRewriteQueue asks call = covered_purge (answered call.result call.clause call.comes).1.log
-  covered_call PurgeAllStale asks call = covered_purge (answered call.result call.clause call.comes).1.log
-  covered_call (PurgeExpired barrier) asks (inl call) = covered_purge (answered call.result call.clause call.comes).1.log
-  covered_call (PurgeExpired barrier) asks (inr untold) = absurd (let clash = untold.0 in cc)
+  covered_call : (change : Change) (done : Unit {0}) (old new : Engine F H R W g) (answer : Answer) → is_covering change ≡ true → IsCalled change (Ok done) old new answer → (has_failed new ≡ false) × IsAllSynced new
+  covered_call (Write bytes sync) done old new answer asks (inl off) = absurd off.0
+  covered_call (Write bytes sync) done old new answer asks (inr call) =
+      of_batch (λ items rest. IsCallersWrite items rest sync old new) done (λ items rest len write. covered_if (written_batch items) (pending_of (contents_of old) items) sync old new asks write.call.advance.progress) (read_batch bytes.now) call
+  covered_call (WriteOnce bytes groups numbers sync) done old new answer asks (inl off) = absurd off.0
+  covered_call (WriteOnce bytes groups numbers sync) done old new answer asks (inr call) =
+      of_batch (λ items rest. IsWriteOnce items rest (zip groups.now numbers.now) sync old new) done (λ items rest len write. let acting = acting_batch (contents_of old) items (zip groups.now numbers.now) in covered_if (written_batch acting) (pending_of (contents_of old) acting) sync old new asks write.advance.progress) (read_batch bytes.now) call
+  covered_call Sync done old new answer asks call = covered [] [] old new call.advance.progress
+  covered_call (CompactTo group index) done old new answer asks call = absurd (let clash = asks in cc)
+  covered_call RewriteAppendQueue done old new answer asks call = covered_purge (answered call).1.log
+  covered_call (RewriteAppendGroups watermark from budget) done old new answer asks call = covered_purge (answered call).1.log
+  covered_call RewriteRewriteQueue done old new answer asks call = covered_purge (answered call).1.log
+  covered_call PurgeAllStale done old new answer asks call = covered_purge (answered call).1.log
+  covered_call (PurgeExpired barrier) done old new answer asks (inl call) = covered_purge (answered call).1.log
+  covered_call (PurgeExpired barrier) done old new answer asks (inr untold) = absurd (let clash = untold.0 in cc)
 
   pub covered_ended : (change : Change) (answer : Answer) (old new : Engine F H R W g) → is_covering change ≡ true → HasEnded change (pos 0) old new answer → (has_failed new ≡ false) × IsAllSynced new
   covered_ended change answer old new asks ended = by ended.outcome ended.code_is ended.called
     where
       by : (outcome : Result (Unit {0}) Fault) → pos 0 ≡ code_of outcome → IsCalled change outcome old new answer → (has_failed new ≡ false) × IsAllSynced new
-      by (Ok done) is called = covered_call change asks called
+      by (Ok done) is called = covered_call change done old new answer asks called
       by (Err e) is called = absurd (let some = fault_code_some e in let none : 0 ≡ fault_code e = (let same = is in cc) in omega (arith, some, none))

@@ -74,7 +74,9 @@ impl Losses {
         let append = find_kept(alloc, folders, LogQueue::Append, file_system)?;
         let rewrite_passed = find_passed(alloc, folders, &rewrite.found, file_system)?;
         let append_passed = find_passed(alloc, folders, &append.found, file_system)?;
-        let fails = rewrite.fails(alloc, mode)? || append.fails(alloc, mode)?;
+        let rewrite_fails = rewrite.fails(alloc, mode)?;
+        let append_fails = append.fails(alloc, mode)?;
+        let fails = rewrite_fails || append_fails;
         let cuts = cuts_where(alloc, mode, fails, &rewrite.found, &append.found)?;
         Ok(Losses {
             fails,

@@ -6,4 +6,4 @@ use Rattle.raft_inspect.proofs.losses.Passed.of.Given as goal
 -- it is of this queue, and counts none so far just where none holds anything
 abbrev pub invariant-loop-check : goal.invariant-loop-check
 invariant-loop-check l =
-    (l.passed.queue ≡ l.queue) × ((l.passed.files ≡ 0) ↔ (list_all holds_nothing (take l.check-index l.checks) ≡ true))
+    (l.passed.queue ≡ l.fn.queue) × ((l.passed.files ≡ 0) ↔ (list_all holds_nothing (take l.check-index l.checks) ≡ true))
