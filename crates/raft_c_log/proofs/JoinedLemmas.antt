@@ -155,7 +155,7 @@ module _ {F H R W : Type 0} {g : Ghosts F H R W} where
   goes_called RewriteRewriteQueue outcome old new answer call = goes_purge call.clause.log call.clause.unchanged
   goes_called PurgeAllStale outcome old new answer call = goes_purge call.clause.log call.clause.unchanged
   goes_called (PurgeExpired barrier) outcome old new answer (inl call) = goes_purge call.clause.log call.clause.unchanged
-  goes_called (PurgeExpired barrier) outcome old new answer (inr untold) = goes_purge untold.2.log untold.2.unchanged
+  goes_called (PurgeExpired barrier) outcome old new answer (inr untold) = goes_purge untold.1.1.log untold.1.1.unchanged
 
   goes_answered : (asked : Asked) (old new : Engine F H R W g) → IsAnswered asked old new → GoesOn (state_of old) (state_of new)
   goes_answered (inl change) old new call = goes_called change call.2.outcome old new call.1 call.2.called

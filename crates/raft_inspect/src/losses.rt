@@ -1,5 +1,5 @@
 //! What an opening of both queues would lose.
-ghost use Rattle.std.specs.Prelude.{◌≡◌, ◌++◌, ◌⊎◌, ◌↔◌, ◌<◌, [], drop, false, map, true, Contains, IfOk};
+ghost use Rattle.std.specs.Prelude.{◌≡◌, ◌++◌, ◌⊎◌, ◌↔◌, ◌||◌, ◌<◌, [], drop, false, map, true, Contains, IfOk};
 ghost use Rattle.std.specs.List.{cons_option};
 ghost use Rattle.std.specs.String.{string_bytes};
 ghost use Rattle.raft_env.specs.Moments.{OnlyReads};
@@ -76,7 +76,7 @@ impl Losses {
         let append_passed = find_passed(alloc, folders, &append.found, file_system)?;
         let rewrite_fails = rewrite.fails(alloc, mode)?;
         let append_fails = append.fails(alloc, mode)?;
-        let fails = rewrite_fails || append_fails;
+        let fails = either(rewrite_fails, append_fails);
         let cuts = cuts_where(alloc, mode, fails, &rewrite.found, &append.found)?;
         Ok(Losses {
             fails,
@@ -96,6 +96,13 @@ impl KeptFiles {
         let plan = plan_opening(alloc, mode, &self.found.checks)?;
         Ok(plan.contains(&Planned::Fail) || !self.are_single)
     }
+}
+
+// Whether one of both queues is to fail.
+fn either(rewrite: bool, append: bool) -> bool
+    ensures value { result ≡ (rewrite || append) }
+{
+    rewrite || append
 }
 
 // Of both queues, and nothing where the opening fails.
