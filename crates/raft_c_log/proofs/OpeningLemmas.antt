@@ -1,5 +1,5 @@
 -- How an opening with a text's settings goes, by how the engine opens.
-use Rattle.std.proofs.Common.{◌≡◌, ◌⊎◌, ℕ, List, Ok, Err, IfErr, ap, inl, inr, subst}
+use Rattle.std.proofs.Common.{◌≡◌, ◌⊎◌, ℕ, List, Ok, Err, IfErr, ap, inl, inr, refl, subst}
 use Rattle.std.specs.Prelude.{Result, ℤ, pos}
 use Rattle.raft_base.specs.Fault.{fault_code}
 use Rattle.raft_base.specs.declared.errors.Fault.{Fault}
@@ -18,7 +18,7 @@ text_refused is (Err e) refused = inr (subst (λ (t : List ℕ). IsLoneReadRefus
 
 module _ {F H R W : Type 0} {g : Ghosts F H R W} {text : List ℕ} {found : F} where
   pub opened_by : (e : Engine F H R W g) → OpensBy text found (Ok e) → IsOpenedBy text (g.directory found) e
-  opened_by e (inl by) = record { settings = by.settings; read = by.read; contents = by.opens.opened.contents; new = by.opens.opened.ok }
+  opened_by e (inl by) = record { settings = by.settings; read = by.read; found = found; found_in = refl; opens = by.opens }
   opened_by e (inr refused) = absurd (let clash = refused.2 in cc)
 
   pub opening_keeps : (e : Engine F H R W g) → OpensBy text found (Ok e) → KeepsNamed text (g.directory found) (g.moments found) (moments_of e) (directory_of e)

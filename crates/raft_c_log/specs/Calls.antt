@@ -1,29 +1,28 @@
 -- What calls on an open log do and answer, by what its engine holds.
 use Rattle.std.specs.Borrow.{Bor}
 use Rattle.std.specs.Option.{option_copied}
-use Rattle.std.specs.Prelude.{◌≡◌, ◌+◌, ℕ, Bool, true, false, List, [], length, Option, Some, None, Ok, drop, option_map, min, unwrap_or, zip}
+use Rattle.std.specs.Prelude.{◌≡◌, ◌⊎◌, ℕ, Bool, true, false, List, [], length, Option, Some, None, Result, Ok, Err, IsErrAnd, IsSomeAnd, Vec, drop, min, option_map, unwrap_or, zip}
+use Rattle.std.specs.declared.alloc.Global.{Global}
+use Rattle.raft_base.specs.declared.errors.Fault.{Fault}
+use Rattle.raft_base.specs.declared.errors.Fault.TheVariants.{Memory}
 use Rattle.raft_env.specs.declared.env.FileSystem.{Ghosts}
-use Rattle.raft_crash_laws.specs.Crash.{pending_of, written_batch}
-use Rattle.raft_pipes.specs.PipeState.{PipeState, last_seq}
-use Rattle.raft_purge.specs.Scope.{HasRewritten}
-use Rattle.raft_purge.specs.declared.append_queue.AppendScope.{AppendScope}
-use Rattle.raft_records.specs.Contents.{Contents, after_batch, first_index_of, last_index_of}
+use Rattle.raft_pipes.specs.PipeState.{last_seq}
+use Rattle.raft_records.specs.Contents.{Contents, first_index_of, last_index_of}
 use Rattle.raft_records.specs.Item.{Batch, Entry}
-use Rattle.raft_once.specs.Numbers.{Pair, has_numbers, shown}
-use Rattle.raft_c_batch.specs.Batch.{entries_bytes, read_batch}
+use Rattle.raft_once.specs.Numbers.{shown}
+use Rattle.raft_c_batch.specs.Batch.{IsBatchRefusal, entries_bytes, read_batch}
 use Rattle.raft_c_batch.specs.Parts.{numbers_bytes, pairs_bytes}
-use Rattle.raft_log_engine.specs.Advance.{Advances, state_of}
-use Rattle.raft_log_engine.specs.AppendGroups.{RewritesGroups}
-use Rattle.raft_log_engine.specs.Durability.{HasWritten, after_call, durability_of}
-use Rattle.raft_log_engine.specs.Engine.{contents_of, has_groups_together, is_known_in, queue_of, rewrite_queue_of}
-use Rattle.raft_log_engine.specs.Expired.{HasPurgedExpired}
+use Rattle.raft_log_engine.specs.Calls.{IsCallersWrite, IsCompaction, IsSync}
+use Rattle.raft_log_engine.specs.Engine.{contents_of, is_known_in, queue_of}
 use Rattle.raft_log_engine.specs.Image.{IsWithout}
 use Rattle.raft_log_engine.specs.Once.{IsWriteOnce}
-use Rattle.raft_log_engine.specs.Purge.{HasDroppedStale, HasRenewed, tables_in}
-use Rattle.raft_log_engine.specs.Reads.{IsFetchable, IsGroupList, compact_batch, compact_count, entries_to_fetch, entry_of}
+use Rattle.raft_log_engine.specs.PurgeCalls.{IsAppendRewrite, IsExpiry, IsRewriteRewrite, IsStalePurge}
+use Rattle.raft_log_engine.specs.Reads.{IsFetchable, IsGroupList, entries_to_fetch, entry_of}
 use Rattle.raft_log_engine.specs.Scan.{IsScan}
 use Rattle.raft_log_engine.specs.declared.engine.Engine.{Engine}
+use Rattle.raft_c_log.specs.Groups.{IsGroupsRewrite}
 use Rattle.raft_c_log.specs.Limit.{limited, max_of}
+use Rattle.raft_c_log.specs.Refusals.{IsBytesRefusal}
 use Rattle.raft_c_log.specs.declared.answer.Answer.{Answer}
 use Rattle.raft_c_log.specs.declared.calls.Change.{Change}
 use Rattle.raft_c_log.specs.declared.calls.Change.TheVariants.{Write, WriteOnce, Sync, CompactTo, RewriteAppendQueue, RewriteAppendGroups, RewriteRewriteQueue, PurgeAllStale, PurgeExpired}
@@ -31,10 +30,6 @@ use Rattle.raft_c_log.specs.declared.calls.Fetch.{Fetch}
 use Rattle.raft_c_log.specs.declared.calls.Query.{Query}
 use Rattle.raft_c_log.specs.declared.calls.Query.TheVariants as query
 use Rattle.raft_c_log.specs.declared.calls.Scan.{Scan}
-
--- the Append queue is rewritten to its end
-abbrev pub all_files : AppendScope
-all_files = record { watermark = None; step = None }
 
 -- bytes that were found
 abbrev pub answered : Bool → List ℕ → Option (List ℕ)
@@ -73,95 +68,65 @@ IsSpanAnswer entries numbers true =
     (first_index_of entries ≡ Some numbers.0) × (last_index_of entries ≡ Some numbers.1)
 IsSpanAnswer entries numbers false = first_index_of entries ≡ None
 
+-- Changes.
+
+-- a call's result came to this outcome: Told holds of what it answered, or the fault is the same
+abbrev pub ComesTo : {T : Type 0} → (T → Type 0) → Result T Fault → Result (Unit {0}) Fault → Type 0
+ComesTo Told (Ok x) (Ok done) = Told x
+ComesTo Told (Err e) (Err f) = f ≡ e
+ComesTo Told _ _ = ⊥
+
+-- a call of the engine with this clause came to this outcome
+pub record IsCall {T : Type 0} (Clause : Result T Fault → Type 0) (Told : T → Type 0)
+    (outcome : Result (Unit {0}) Fault) : Type 0 where
+  pub result : Result T Fault
+  pub clause : Clause result
+  pub comes : ComesTo Told result outcome
+
+-- .. with the batch that was taken, which has the rest after it
+abbrev pub IsBatchCall : (Batch → Batch → Result ℕ Fault → Type 0) → Result (Unit {0}) Fault → Batch
+    → Type 0
+IsBatchCall Clause outcome items =
+    (rest : Batch) × IsCall (Clause items rest) (λ _. Unit {0}) outcome
+
 module _ {F H R W : Type 0} {g : Ghosts F H R W} where
-  -- the batch of these bytes was written, as an engine writes it
-  pub record IsWrittenBy (bytes : List ℕ) (sync : Bool) (old new : Engine F H R W g) : Type 0 where
-    pub items : Batch
-    pub read : read_batch bytes ≡ Some items
-    pub plain : has_numbers items ≡ false
-    pub len : ℕ
-    pub written : HasWritten items [] old new len
-    pub advance : Advances (written_batch items) sync (pending_of (contents_of old) items)
-        (state_of old) (state_of new)
+  -- a call was refused before it reached the engine
+  abbrev pub IsKeptOff : (Fault → Type 0) → Result (Unit {0}) Fault → Engine F H R W g
+      → Engine F H R W g → Type 0
+  IsKeptOff Unfit outcome old new = IsErrAnd outcome Unfit × (new ≡ old)
 
-  -- .. with numbers, so that it acts once
-  pub record IsWrittenOnceBy (bytes : List ℕ) (pairs : List Pair) (sync : Bool)
-      (old new : Engine F H R W g) : Type 0 where
-    pub items : Batch
-    pub read : read_batch bytes ≡ Some items
-    pub len : ℕ
-    pub written : IsWriteOnce items [] pairs sync old new (Ok len)
+  -- a change is a call of the engine that came to this outcome, by the clause of that call itself, and the
+  -- answer tells what the engine answered. Bytes of no batch don't reach the engine. Without memory for
+  -- them the groups that a purge answers aren't told
+  abbrev pub IsCalled : Change → Result (Unit {0}) Fault → Engine F H R W g → Engine F H R W g → Answer
+      → Type 0
+  IsCalled (Write bytes sync) outcome old new answer =
+      IsKeptOff (IsBytesRefusal (read_batch bytes.now)) outcome old new
+      ⊎ IsSomeAnd (read_batch bytes.now)
+      (IsBatchCall (λ items rest. IsCallersWrite items rest sync old new) outcome)
+  IsCalled (WriteOnce bytes groups numbers sync) outcome old new answer =
+      IsKeptOff (λ e. IsBytesRefusal (read_batch bytes.now) e ⊎ (e ≡ Memory)) outcome old new
+      ⊎ IsSomeAnd (read_batch bytes.now) (IsBatchCall
+      (λ items rest. IsWriteOnce items rest (zip groups.now numbers.now) sync old new) outcome)
+  IsCalled Sync outcome old new answer = IsSync old new outcome
+  IsCalled (CompactTo group index) outcome old new answer =
+      IsCall (IsCompaction group index old new) (λ count. answer.numbers.0 ≡ count) outcome
+  IsCalled RewriteAppendQueue outcome old new answer =
+      IsCall (IsAppendRewrite None None old new) (λ count. answer.numbers.0 ≡ count) outcome
+  IsCalled (RewriteAppendGroups watermark from budget) outcome old new answer =
+      IsCall (IsGroupsRewrite watermark from budget old new)
+      (λ next. answer.numbers ≡ (unwrap_or next 0, min watermark (last_seq (queue_of old)))) outcome
+  IsCalled RewriteRewriteQueue outcome old new answer =
+      IsCall (IsRewriteRewrite old new) (λ count. answer.numbers.0 ≡ count) outcome
+  IsCalled PurgeAllStale outcome old new answer =
+      IsCall (IsStalePurge old new) (λ count. answer.numbers.0 ≡ count) outcome
+  IsCalled (PurgeExpired barrier) outcome old new answer =
+      IsCall (IsExpiry barrier old new)
+      (λ asked. answer.bytes.items ≡ numbers_bytes asked.items) outcome
+      ⊎ ((outcome ≡ Err Memory)
+      × ((asked : Vec ℕ Global) × IsExpiry barrier old new (Ok asked)))
 
-  -- what was written is on the disk
-  pub record IsSynced (old new : Engine F H R W g) : Type 0 where
-    pub contents : contents_of new ≡ contents_of old
-    pub advance : Advances [] true [] (state_of old) (state_of new)
-
-  -- the entries below an index are gone, and the first number tells how many they were
-  pub record IsCompacted (group index : ℕ) (old new : Engine F H R W g) (answer : Answer)
-      : Type 0 where
-    pub count : answer.numbers.0 ≡ compact_count index ((contents_of old).entries group)
-    pub contents : contents_of new ≡ after_batch (contents_of old)
-        (compact_batch group index ((contents_of old).entries group))
-
-  -- nothing that it holds has changed, and all is synced; the first number tells how many files of a
-  -- queue are gone
-  pub record IsPurged (queue_in : Engine F H R W g → PipeState) (old new : Engine F H R W g)
-      (answer : Answer) : Type 0 where
-    pub contents : contents_of new ≡ contents_of old
-    pub synced : durability_of new ≡ after_call [] true (durability_of old)
-    pub count : (queue_in old).first + answer.numbers.0 ≡ (queue_in new).first
-
-  -- nothing is left of the Append queue's files but what stands in new ones
-  pub record HasRewrittenAppend (old new : Engine F H R W g) (answer : Answer) : Type 0 where
-    pub purged : IsPurged queue_of old new answer
-    pub files : HasRewritten all_files (queue_of old) (queue_of new)
-
-  -- nothing that it holds has changed, and all is synced. What the groups from one on, and before a next
-  -- one, had in the Append queue's files up to a watermark stands in the Rewrite queue; the first
-  -- number is the next group, or 0 where there is none, and the second one the last of these files
-  pub record HasRewrittenGroups (watermark from : ℕ) (old new : Engine F H R W g) (answer : Answer)
-      : Type 0 where
-    pub contents : contents_of new ≡ contents_of old
-    pub synced : durability_of new ≡ after_call [] true (durability_of old)
-    pub next : Option ℕ
-    pub groups : RewritesGroups watermark from (Ok next) old new
-    pub numbers :
-        answer.numbers ≡ (unwrap_or next 0, min watermark (last_seq (queue_of old)))
-
-  -- the Rewrite queue begins with a new file, where the batches of its groups stood together
-  pub record HasRewrittenRewrite (old new : Engine F H R W g) (answer : Answer) : Type 0 where
-    pub purged : IsPurged rewrite_queue_of old new answer
-    pub files : HasRenewed (has_groups_together old) (rewrite_queue_of old) (rewrite_queue_of new)
-
-  -- both queues begin with a file in which something stands
-  pub record HasPurgedStale (old new : Engine F H R W g) (answer : Answer) : Type 0 where
-    pub purged : IsPurged queue_of old new answer
-    pub files : HasDroppedStale (has_groups_together old) (tables_in old) (queue_of old)
-        (rewrite_queue_of old) (queue_of new) (rewrite_queue_of new)
-
-  -- nothing that it holds has changed, and all is synced; the answer tells of which groups a compaction is
-  -- asked for
-  pub record HasPurgedUpTo (barrier : ℕ) (old new : Engine F H R W g) (answer : Answer) : Type 0 where
-    pub contents : contents_of new ≡ contents_of old
-    pub synced : durability_of new ≡ after_call [] true (durability_of old)
-    pub asked : List ℕ
-    pub purged : HasPurgedExpired barrier old new asked
-    pub bytes : answer.bytes.items ≡ numbers_bytes asked
-
-  -- what a change did
-  abbrev pub HasChanged : Change → Engine F H R W g → Engine F H R W g → Answer → Type 0
-  HasChanged (Write bytes sync) old new answer = IsWrittenBy bytes.now sync old new
-  HasChanged (WriteOnce bytes groups numbers sync) old new answer =
-      IsWrittenOnceBy bytes.now (zip groups.now numbers.now) sync old new
-  HasChanged Sync old new answer = IsSynced old new
-  HasChanged (CompactTo group index) old new answer = IsCompacted group index old new answer
-  HasChanged RewriteAppendQueue old new answer = HasRewrittenAppend old new answer
-  HasChanged (RewriteAppendGroups watermark from budget) old new answer =
-      HasRewrittenGroups watermark from old new answer
-  HasChanged RewriteRewriteQueue old new answer = HasRewrittenRewrite old new answer
-  HasChanged PurgeAllStale old new answer = HasPurgedStale old new answer
-  HasChanged (PurgeExpired barrier) old new answer = HasPurgedUpTo barrier old new answer
+  -- Queries.
 
   -- the known groups
   abbrev pub IsGroupsAnswer : Engine F H R W g → List ℕ → Type 0

@@ -1,5 +1,5 @@
 -- What an opening with settings as text hands back.
-use Rattle.std.specs.Prelude.{◌≡◌, ◌⊎◌, ℕ, List, ℤ, pos, Result, Err}
+use Rattle.std.specs.Prelude.{◌≡◌, ◌⊎◌, ℕ, List, ℤ, pos, Result, Ok, Err}
 use Rattle.raft_base.specs.Fault.{fault_code}
 use Rattle.raft_base.specs.declared.errors.Fault.{Fault}
 use Rattle.raft_config.specs.Folders.{folders_in}
@@ -9,11 +9,9 @@ use Rattle.raft_env.specs.Directory.{Directory}
 use Rattle.raft_env.specs.Moments.{HoldsThroughout}
 use Rattle.raft_env.specs.Refusal.{Refusals}
 use Rattle.raft_env.specs.declared.env.FileSystem.{Ghosts}
-use Rattle.raft_crash_laws.specs.Contents.{contents_at}
 use Rattle.raft_crash_laws.specs.Crash.{StillRecovers}
 use Rattle.raft_crash_laws.specs.Queues.{IsOpeningRefusal}
-use Rattle.raft_log_engine.specs.Engine.{contents_of}
-use Rattle.raft_log_engine.specs.Opening.{IsNewIn, Opens}
+use Rattle.raft_log_engine.specs.Opening.{Opens}
 use Rattle.raft_log_engine.specs.declared.engine.Engine.{Engine}
 use Rattle.raft_log_engine.specs.declared.engine.Refused.{Refused}
 use Rattle.raft_settings.specs.Reading.{IsLoneReadRefusal, ReadsAlone}
@@ -41,12 +39,13 @@ pub record IsUnopened (text : List ℕ) (code : ℤ) (n : Directory) (old new : 
       ⊎ IsOpeningRefusal settings.recovery_mode (folders_in settings) n old new fails))
 
 module _ {F H R W : Type 0} {g : Ghosts F H R W} where
-  -- an engine that holds what stands in the folders that a text names
+  -- an engine that was opened with a text's settings, as it opens with these, of files in these folders
   pub record IsOpenedBy (text : List ℕ) (n : Directory) (e : Engine F H R W g) : Type 0 where
     pub settings : Config
     pub read : ReadsAlone text settings
-    pub contents : contents_of e ≡ contents_at (folders_in settings) n
-    pub new : IsNewIn (folders_in settings) e
+    pub found : F
+    pub found_in : g.directory found ≡ n
+    pub opens : Opens settings found (Ok e)
 
   -- files are opened with a text's settings, as an engine opens them
   pub record OpensWithText (text : List ℕ) (found : F) (result : Result (Engine F H R W g) (Refused F))

@@ -1,22 +1,29 @@
 -- What calls on an open log come to, by their codes.
-use Rattle.std.specs.Prelude.{◌≡◌, true, false, ℤ, pos}
+use Rattle.std.specs.Prelude.{◌≡◌, true, false, Result, Ok, Err, ℤ, pos}
+use Rattle.raft_base.specs.Fault.{fault_code}
+use Rattle.raft_base.specs.declared.errors.Fault.{Fault}
 use Rattle.raft_env.specs.declared.env.FileSystem.{Ghosts}
 use Rattle.raft_log_engine.specs.Durability.{HasOnlyRead}
 use Rattle.raft_log_engine.specs.Engine.{contents_of}
 use Rattle.raft_log_engine.specs.declared.engine.Engine.{Engine}
-use Rattle.raft_c_log.specs.Calls.{HasAnswered, HasChanged}
-use Rattle.raft_c_log.specs.Refusals.{IsRefused, IsUnanswered, KeepsLog, flight_of}
+use Rattle.raft_c_log.specs.Calls.{HasAnswered, IsCalled}
+use Rattle.raft_c_log.specs.Refusals.{IsUnanswered}
 use Rattle.raft_c_log.specs.declared.answer.Answer.{Answer}
 use Rattle.raft_c_log.specs.declared.calls.Change.{Change}
 use Rattle.raft_c_log.specs.declared.calls.Query.{Query}
 
+-- 0 where a call is done, else the code of its fault
+abbrev pub code_of : Result (Unit {0}) Fault → ℤ
+code_of (Ok done) = pos 0
+code_of (Err e) = pos (fault_code e)
+
 module _ {F H R W : Type 0} {g : Ghosts F H R W} where
-  -- a change ended with this code: 0 where it is done
+  -- a change ended with this code, and did to the engine what the engine's clause of the call says
   pub record HasEnded (change : Change) (code : ℤ) (old new : Engine F H R W g) (answer : Answer)
       : Type 0 where
-    pub ok : code ≡ pos 0 → HasChanged change old new answer
-    pub err : (code ≡ pos 0 → ⊥) → IsRefused change code old new
-    pub keeps : KeepsLog (flight_of change (contents_of old)) old new
+    pub outcome : Result (Unit {0}) Fault
+    pub code_is : code ≡ code_of outcome
+    pub called : IsCalled change outcome old new answer
 
   -- a query is answered with this code: 0 where what it asks for is there, 20 where it isn't. The log
   -- stays

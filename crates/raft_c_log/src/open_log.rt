@@ -1,5 +1,5 @@
 //! An engine whose calls are asked for by values.
-ghost use Rattle.std.specs.Prelude.{◌≡◌, [], None, drop, false, true, option_map, IfErr, IfOk, IsErr, MatchResult, OnErr, OnOk, pos, zip};
+ghost use Rattle.std.specs.Prelude.{◌≡◌, ◌⊎◌, [], drop, false, true, option_map, IfErr, IfOk, IsSomeAnd, MatchResult, OnOk, pos, zip};
 ghost use Rattle.std.proofs.Props.{props};
 ghost use Rattle.raft_base.specs.declared.errors.Fault.TheVariants.{Memory};
 ghost use Rattle.raft_c_batch.specs.Batch.{read_batch};
@@ -74,15 +74,16 @@ impl<F: FileSystem + Drop> OpenLog<F> {
 }
 
 impl<F: FileSystem> OpenLog<F> {
+    ghost use Rattle.raft_log_engine.specs.Calls.{IsCallersWrite};
     ghost use Rattle.raft_log_engine.specs.Durability.{HasOnlyRead};
-    ghost use Rattle.raft_log_engine.specs.Engine.{contents_of, has_failed, is_known_in};
-    ghost use Rattle.raft_log_engine.specs.Reads.{compact_batch, entry_of};
-    ghost use Rattle.raft_crash_laws.specs.Crash.{pending_of};
+    ghost use Rattle.raft_log_engine.specs.Engine.{contents_of, has_failed};
+    ghost use Rattle.raft_log_engine.specs.Once.{IsWriteOnce};
+    ghost use Rattle.raft_log_engine.specs.Reads.{entry_of};
     ghost use Rattle.raft_once.specs.Numbers.{shown};
-    ghost use Rattle.raft_c_log.specs.Calls.{HasAnswered, HasChanged, HasPurgedStale, HasPurgedUpTo, HasRewrittenAppend, HasRewrittenGroups, HasRewrittenRewrite, IsCompacted, IsFetchAnswer, IsGroupsAnswer, IsScanAnswer, IsSpanAnswer, IsSynced, IsWrittenBy, IsWrittenOnceBy, answered};
+    ghost use Rattle.raft_c_log.specs.Calls.{HasAnswered, IsBatchCall, IsCalled, IsFetchAnswer, IsGroupsAnswer, IsKeptOff, IsScanAnswer, IsSpanAnswer, answered};
     ghost use Rattle.raft_c_log.specs.Outcomes.{HasEnded, IsReply};
-    ghost use Rattle.raft_c_log.specs.Refusals.{IsChangeFault, IsQueryFault, IsPurgeRefused, IsRefusalFor, IsWriteFault, IsWriteOnceFault, KeepsLog, acting_in, flight_of, pending_in};
-    ghost use Rattle.raft_c_log.specs.declared.calls.Change.TheVariants.{CompactTo, PurgeAllStale, PurgeExpired, RewriteAppendGroups, RewriteAppendQueue, RewriteRewriteQueue, Sync, Write};
+    ghost use Rattle.raft_c_log.specs.Refusals.{IsBytesRefusal, IsQueryFault, IsRefusalFor};
+    ghost use Rattle.raft_c_log.specs.declared.calls.Change.TheVariants.{CompactTo, PurgeAllStale, PurgeExpired, RewriteAppendGroups, RewriteAppendQueue, RewriteRewriteQueue};
     ghost use Rattle.raft_c_log.specs.declared.calls.Query.TheVariants as query;
 
     /// Carries a change out, and tells a code: 0 where that was done.
@@ -108,21 +109,14 @@ impl<F: FileSystem> OpenLog<F> {
 
     // Carries a change out.
     fn changed(&mut self, change: Change<'_>, answer: &mut Answer) -> Result<(), Fault>
-        ensures ok { OnOk result (HasChanged change.entry self.old.engine self.new.engine
-            answer.new) }
-        ensures err { OnErr result (has_failed self.new.engine ≡ false
-            → contents_of self.new.engine ≡ contents_of self.old.engine) }
-        ensures cause { IfErr result (IsChangeFault change.entry self.old.engine
-            self.new.engine) }
-        ensures keeps { KeepsLog (flight_of change.entry (contents_of self.old.engine))
-            self.old.engine self.new.engine }
+        ensures called { IsCalled change.entry result self.old.engine self.new.engine answer.new }
     {
         match change {
             Change::Write(batch, sync) => self.write(batch, sync),
             Change::WriteOnce(batch, groups, numbers, sync) => {
                 self.write_once(batch, groups, numbers, sync)
             }
-            Change::Sync => self.sync(),
+            Change::Sync => self.engine.sync(),
             Change::CompactTo(group, index) => self.compact_to(group, index, answer),
             Change::RewriteAppendQueue => self.rewrite_append_queue(answer),
             Change::RewriteAppendGroups(watermark, from, budget) => {
@@ -136,15 +130,10 @@ impl<F: FileSystem> OpenLog<F> {
 
     // Writes the batch of these bytes.
     fn write(&mut self, bytes: &[u8], sync: bool) -> Result<(), Fault>
-        ensures ok { OnOk result (IsWrittenBy bytes.now sync self.old.engine self.new.engine) }
-        ensures err { OnErr result (has_failed self.new.engine ≡ false
-            → contents_of self.new.engine ≡ contents_of self.old.engine) }
-        ensures refused { read_batch bytes.now ≡ None
-            → IsErr result × (self.new.engine ≡ self.old.engine) }
-        ensures cause { IfErr result (IsWriteFault (read_batch bytes.now) self.old.engine
-            self.new.engine) }
-        ensures keeps { KeepsLog (pending_in (contents_of self.old.engine)
-            (read_batch bytes.now)) self.old.engine self.new.engine }
+        ensures called { let taken = read_batch bytes.now in
+            IsKeptOff (IsBytesRefusal taken) result self.old.engine self.new.engine
+            ⊎ IsSomeAnd taken (IsBatchCall (λ items rest.
+            IsCallersWrite items rest sync self.old.engine self.new.engine) result) }
     {
         let done = match add_items(self.alloc, &mut self.batch, bytes) {
             Ok(()) => self.engine.write(&mut self.batch, sync),
@@ -168,18 +157,16 @@ impl<F: FileSystem> OpenLog<F> {
         numbers: &[u64],
         sync: bool,
     ) -> Result<(), Fault>
-        ensures ok { OnOk result (IsWrittenOnceBy bytes.now (zip groups.now numbers.now) sync
-            self.old.engine self.new.engine) }
-        ensures err { OnErr result (has_failed self.new.engine ≡ false
-            → contents_of self.new.engine ≡ contents_of self.old.engine) }
-        ensures cause { IfErr result (IsWriteOnceFault (read_batch bytes.now)
-            (zip groups.now numbers.now) sync self.old.engine self.new.engine) }
-        ensures keeps { KeepsLog (acting_in (contents_of self.old.engine)
-            (read_batch bytes.now) (zip groups.now numbers.now)) self.old.engine
-            self.new.engine }
+        ensures called { let taken = read_batch bytes.now in
+            IsKeptOff (λ e. IsBytesRefusal taken e ⊎ (e ≡ Memory)) result self.old.engine
+            self.new.engine
+            ⊎ IsSomeAnd taken (IsBatchCall (λ items rest. IsWriteOnce items rest
+            (zip groups.now numbers.now) sync self.old.engine self.new.engine) result) }
     {
-        let pairs = pairs_in(self.alloc, groups, numbers)?;
-        self.write_numbered(bytes, &pairs, sync)
+        match pairs_in(self.alloc, groups, numbers) {
+            Ok(pairs) => self.write_numbered(bytes, &pairs, sync),
+            Err(fault) => Err(fault),
+        }
     }
 
     fn write_numbered(
@@ -188,14 +175,10 @@ impl<F: FileSystem> OpenLog<F> {
         pairs: &[(u64, u64)],
         sync: bool,
     ) -> Result<(), Fault>
-        ensures ok { OnOk result (IsWrittenOnceBy bytes.now pairs.now sync self.old.engine
-            self.new.engine) }
-        ensures err { OnErr result (has_failed self.new.engine ≡ false
-            → contents_of self.new.engine ≡ contents_of self.old.engine) }
-        ensures cause { IfErr result (IsWriteOnceFault (read_batch bytes.now) pairs.now sync
-            self.old.engine self.new.engine) }
-        ensures keeps { KeepsLog (acting_in (contents_of self.old.engine) (read_batch bytes.now)
-            pairs.now) self.old.engine self.new.engine }
+        ensures called { let taken = read_batch bytes.now in
+            IsKeptOff (IsBytesRefusal taken) result self.old.engine self.new.engine
+            ⊎ IsSomeAnd taken (IsBatchCall (λ items rest.
+            IsWriteOnce items rest pairs.now sync self.old.engine self.new.engine) result) }
     {
         let done = match add_items(self.alloc, &mut self.batch, bytes) {
             Ok(()) => self.engine.write_once(&mut self.batch, pairs, sync),
@@ -211,48 +194,32 @@ impl<F: FileSystem> OpenLog<F> {
         }
     }
 
-    #[tactic(auto, using(crate::proofs::RefusalLemmas::keeps))]
-    fn sync(&mut self) -> Result<(), Fault>
-        ensures ok { OnOk result (IsSynced self.old.engine self.new.engine) }
-        ensures err { OnErr result
-            (contents_of self.new.engine ≡ contents_of self.old.engine) }
-        ensures cause { IfErr result (IsChangeFault Sync self.old.engine self.new.engine) }
-        ensures keeps { KeepsLog [] self.old.engine self.new.engine }
-    {
-        self.engine.sync()
-    }
-
-    #[tactic(auto, using(crate::proofs::RefusalLemmas::keeps))]
     fn compact_to(&mut self, group: u64, index: u64, answer: &mut Answer) -> Result<(), Fault>
-        ensures ok { OnOk result (IsCompacted group index self.old.engine self.new.engine
-            answer.new) }
-        ensures err { OnErr result (has_failed self.new.engine ≡ false
-            → contents_of self.new.engine ≡ contents_of self.old.engine) }
-        ensures cause { IfErr result (IsChangeFault (CompactTo group index) self.old.engine
-            self.new.engine) }
-        ensures keeps { let m = contents_of self.old.engine in
-            KeepsLog (pending_of m (compact_batch group index (m.entries group)))
-            self.old.engine self.new.engine }
+        ensures called { IsCalled (CompactTo group index) result self.old.engine self.new.engine
+            answer.new }
     {
-        let count = self.engine.compact_to(group, index)?;
-        answer.numbers = (count, 0);
-        Ok(())
+        match self.engine.compact_to(group, index) {
+            Ok(count) => {
+                answer.numbers = (count, 0);
+                Ok(())
+            }
+            Err(fault) => Err(fault),
+        }
     }
 
-    #[tactic(auto, using(crate::proofs::CallLemmas::all_synced, crate::proofs::RefusalLemmas::keeps))]
     fn rewrite_append_queue(&mut self, answer: &mut Answer) -> Result<(), Fault>
-        ensures ok { OnOk result (HasRewrittenAppend self.old.engine self.new.engine answer.new) }
-        ensures err { OnErr result
-            (contents_of self.new.engine ≡ contents_of self.old.engine) }
-        ensures cause { IfErr result (IsChangeFault RewriteAppendQueue self.old.engine self.new.engine) }
-        ensures keeps { KeepsLog [] self.old.engine self.new.engine }
+        ensures called { IsCalled RewriteAppendQueue result self.old.engine self.new.engine
+            answer.new }
     {
-        let count = self.engine.must_rewrite_append_queue(None, None)?;
-        answer.numbers = (count as u64, 0);
-        Ok(())
+        match self.engine.must_rewrite_append_queue(None, None) {
+            Ok(count) => {
+                answer.numbers = (count as u64, 0);
+                Ok(())
+            }
+            Err(fault) => Err(fault),
+        }
     }
 
-    #[tactic(auto, using(crate::proofs::CallLemmas::all_synced, crate::proofs::RefusalLemmas::keeps))]
     fn rewrite_append_groups(
         &mut self,
         watermark: u64,
@@ -260,62 +227,61 @@ impl<F: FileSystem> OpenLog<F> {
         budget: u64,
         answer: &mut Answer,
     ) -> Result<(), Fault>
-        ensures ok { OnOk result (HasRewrittenGroups watermark from self.old.engine
-            self.new.engine answer.new) }
-        ensures err { OnErr result
-            (contents_of self.new.engine ≡ contents_of self.old.engine) }
-        ensures cause { IfErr result (IsChangeFault (RewriteAppendGroups watermark from budget)
-            self.old.engine self.new.engine) }
-        ensures keeps { KeepsLog [] self.old.engine self.new.engine }
+        ensures called { IsCalled (RewriteAppendGroups watermark from budget) result
+            self.old.engine self.new.engine answer.new }
     {
         let (_, last) = self.engine.file_spans().append;
-        let next = self
+        match self
             .engine
-            .must_rewrite_append_groups(watermark, from, budget)?;
-        answer.numbers = (next.unwrap_or(0), watermark.min(last));
-        Ok(())
+            .must_rewrite_append_groups(watermark, from, budget)
+        {
+            Ok(next) => {
+                answer.numbers = (next.unwrap_or(0), watermark.min(last));
+                Ok(())
+            }
+            Err(fault) => Err(fault),
+        }
     }
 
-    #[tactic(auto, using(crate::proofs::CallLemmas::all_synced, crate::proofs::RefusalLemmas::keeps))]
     fn rewrite_rewrite_queue(&mut self, answer: &mut Answer) -> Result<(), Fault>
-        ensures ok { OnOk result (HasRewrittenRewrite self.old.engine self.new.engine answer.new) }
-        ensures err { OnErr result
-            (contents_of self.new.engine ≡ contents_of self.old.engine) }
-        ensures cause { IfErr result (IsChangeFault RewriteRewriteQueue self.old.engine self.new.engine) }
-        ensures keeps { KeepsLog [] self.old.engine self.new.engine }
+        ensures called { IsCalled RewriteRewriteQueue result self.old.engine self.new.engine
+            answer.new }
     {
-        let count = self.engine.must_rewrite_rewrite_queue()?;
-        answer.numbers = (count as u64, 0);
-        Ok(())
+        match self.engine.must_rewrite_rewrite_queue() {
+            Ok(count) => {
+                answer.numbers = (count as u64, 0);
+                Ok(())
+            }
+            Err(fault) => Err(fault),
+        }
     }
 
-    #[tactic(auto, using(crate::proofs::CallLemmas::all_synced, crate::proofs::RefusalLemmas::keeps))]
     fn purge_all_stale(&mut self, answer: &mut Answer) -> Result<(), Fault>
-        ensures ok { OnOk result (HasPurgedStale self.old.engine self.new.engine answer.new) }
-        ensures err { OnErr result
-            (contents_of self.new.engine ≡ contents_of self.old.engine) }
-        ensures cause { IfErr result (IsChangeFault PurgeAllStale self.old.engine self.new.engine) }
-        ensures keeps { KeepsLog [] self.old.engine self.new.engine }
+        ensures called { IsCalled PurgeAllStale result self.old.engine self.new.engine answer.new }
     {
-        let count = self.engine.must_purge_all_stale()?;
-        answer.numbers = (count as u64, 0);
-        Ok(())
+        match self.engine.must_purge_all_stale() {
+            Ok(count) => {
+                answer.numbers = (count as u64, 0);
+                Ok(())
+            }
+            Err(fault) => Err(fault),
+        }
     }
 
-    #[tactic(auto, using(crate::proofs::CallLemmas::all_synced, crate::proofs::RefusalLemmas::keeps))]
     fn purge_expired(&mut self, barrier: u64, answer: &mut Answer) -> Result<(), Fault>
-        ensures ok { OnOk result (HasPurgedUpTo barrier self.old.engine self.new.engine
-            answer.new) }
-        ensures err { OnErr result
-            (contents_of self.new.engine ≡ contents_of self.old.engine) }
-        ensures cause { IfErr result (IsChangeFault (PurgeExpired barrier) self.old.engine
-            self.new.engine) }
-        ensures keeps { KeepsLog [] self.old.engine self.new.engine }
+        ensures called { IsCalled (PurgeExpired barrier) result self.old.engine self.new.engine
+            answer.new }
     {
-        let asked = self.engine.purge_expired_files(barrier)?;
-        answer.bytes.clear();
-        push_numbers(&mut answer.bytes, &asked)?;
-        Ok(())
+        match self.engine.purge_expired_files(barrier) {
+            Ok(asked) => {
+                answer.bytes.clear();
+                match push_numbers(&mut answer.bytes, &asked) {
+                    Ok(()) => Ok(()),
+                    Err(_) => Err(Fault::Memory),
+                }
+            }
+            Err(fault) => Err(fault),
+        }
     }
 
     // Reads. Answers whether what was asked for is there.

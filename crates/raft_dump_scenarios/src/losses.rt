@@ -60,6 +60,25 @@ const GAP: &[FileParts] = &[
     ("a/0000000000000003.raftlog", &[HEADER, PUT]),
 ];
 
+/// .. and that of number 1 holds nothing.
+const EMPTY_GAP: &[FileParts] = &[
+    (FIRST, &[HEADER, ZEROS]),
+    ("a/0000000000000003.raftlog", &[HEADER, PUT]),
+];
+
+/// The number 1 stands in both folders.
+const DOUBLED: &[FileParts] = &[
+    (FIRST, &[HEADER, PUT]),
+    ("b/0000000000000001.raftlog", &[HEADER, PUT, TORN]),
+];
+
+/// Names that are no log files', or not as these are built.
+const STRANGE: &[FileParts] = &[
+    (FIRST, &[HEADER, PUT]),
+    ("a/3.raftlog", &[HEADER, PUT]),
+    ("a/0000000000000004.raftlog.old", &[HEADER, PUT]),
+];
+
 const PASSED: Passed = Passed {
     queue: LogQueue::Append,
     files: 1,
@@ -77,7 +96,7 @@ const EARLIER: WantedCut = WantedCut(FIRST, 89, 4, Some(Unexplained::Earlier));
 
 const RECORDS: WantedCut = WantedCut(FIRST, 89, 32, Some(Unexplained::Records));
 
-static CASES: [Case; 10] = [
+static CASES: [Case; 13] = [
     Case(WHOLE, TAIL, false, &[], &[]),
     Case(WHOLE, ABSOLUTE, true, &[], &[]),
     Case(TORN_END, ABSOLUTE, true, &[], &[]),
@@ -88,6 +107,9 @@ static CASES: [Case; 10] = [
     Case(TORN_MIDDLE, TAIL, false, &[RECORDS], &[]),
     Case(GAP, TAIL, false, &[], &[PASSED]),
     Case(GAP, ABSOLUTE, false, &[], &[PASSED]),
+    Case(EMPTY_GAP, TAIL, false, &[], &[]),
+    Case(DOUBLED, ANY, true, &[], &[PASSED]),
+    Case(STRANGE, ABSOLUTE, false, &[], &[]),
 ];
 
 /// A last file whose header found no space.

@@ -1,4 +1,5 @@
 pub mod Behind
 pub mod Checks
 pub mod Cuts
+pub mod Kept
 pub mod Losses

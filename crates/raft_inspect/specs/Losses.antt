@@ -1,37 +1,49 @@
 -- What an opening loses of the log files of both queues.
-use Rattle.std.specs.Prelude.{◌≡◌, ◌⊎◌, ◌++◌, true, false, List, [], map, drop, Contains}
+use Rattle.std.specs.Prelude.{◌≡◌, ◌⊎◌, ◌↔◌, ◌++◌, true, false, List, [], Option, map, Contains}
+use Rattle.std.specs.List.{cons_option}
 use Rattle.raft_base.specs.declared.pipe_log.LogQueue.{LogQueue}
 use Rattle.raft_base.specs.declared.pipe_log.LogQueue.TheVariants.{Append, Rewrite}
-use Rattle.raft_env.specs.Directory.{Directory}
+use Rattle.raft_env.specs.Directory.{Directory, Path}
+use Rattle.raft_config.specs.Folders.{folders_in}
+use Rattle.raft_config.specs.declared.config.Config.{Config}
 use Rattle.raft_config.specs.declared.config.RecoveryMode.{RecoveryMode}
 use Rattle.raft_dump.specs.Check.{plan_of}
 use Rattle.raft_dump.specs.declared.plan.Planned.TheVariants.{Fail}
-use Rattle.raft_inspect.specs.Checks.{AreChecksOf}
+use Rattle.raft_pipes.specs.Numbered.{AreSingle}
 use Rattle.raft_inspect.specs.Cuts.{CutPlace, cuts_in, place_of}
+use Rattle.raft_inspect.specs.Kept.{AreKeptOf, ArePassedOf, folders_there}
+use Rattle.raft_inspect.specs.declared.kept.KeptFiles.{KeptFiles}
 use Rattle.raft_inspect.specs.declared.losses.Losses.{Losses}
-use Rattle.raft_inspect.specs.declared.queue_files.QueueFiles.{QueueFiles}
+use Rattle.raft_inspect.specs.declared.losses.Passed.{Passed}
 
--- log files of this queue, and what can be read of each
-pub record AreFilesOf (n : Directory) (queue : LogQueue) (found : QueueFiles) : Type 0 where
-  pub queue_is : found.queue ≡ queue
-  pub checks : AreChecksOf n found.files.items found.checks.items
+-- an opening that keeps these files fails: it is planned to, or a number stands in two folders
+abbrev pub IsToFail : RecoveryMode → List Path → LogQueue → Directory → KeptFiles → Type 0
+IsToFail mode folders queue n kept = Contains (plan_of mode kept.found.checks.items) Fail
+    ⊎ (AreSingle folders queue n → ⊥)
 
--- an opening that keeps these files is planned to fail
-abbrev pub IsPlannedToFail : RecoveryMode → QueueFiles → Type 0
-IsPlannedToFail mode found = Contains (plan_of mode (drop found.passed found.checks.items)) Fail
+-- what it cuts off of them, where it doesn't
+abbrev pub cuts_by : RecoveryMode → KeptFiles → List CutPlace
+cuts_by mode kept = cuts_in mode kept.found.files.items kept.found.checks.items
 
--- what it cuts off of those that it keeps, where it doesn't fail
-abbrev pub cuts_by : RecoveryMode → QueueFiles → List CutPlace
-cuts_by mode found =
-    cuts_in mode (drop found.passed found.files.items) (drop found.passed found.checks.items)
-
--- what an opening in this mode loses of the files of both queues
-pub record AreLossesOf (mode : RecoveryMode) (n : Directory) (losses : Losses) : Type 0 where
-  pub rewrite : QueueFiles
-  pub append : QueueFiles
-  pub are_rewrite : AreFilesOf n Rewrite rewrite
-  pub are_append : AreFilesOf n Append append
-  pub fails : IsPlannedToFail mode rewrite ⊎ IsPlannedToFail mode append → losses.fails ≡ true
+-- what an opening in this mode loses of the files of both queues in these folders
+pub record AreLossesIn (mode : RecoveryMode) (folders : List Path) (n : Directory)
+    (losses : Losses) : Type 0 where
+  pub rewrite : KeptFiles
+  pub append : KeptFiles
+  pub are_rewrite : AreKeptOf folders Rewrite n rewrite
+  pub are_append : AreKeptOf folders Append n append
+  pub fails : losses.fails ≡ true
+      ↔ (IsToFail mode folders Rewrite n rewrite ⊎ IsToFail mode folders Append n append)
   pub none : losses.fails ≡ true → map place_of losses.cuts.items ≡ []
   pub cuts : losses.fails ≡ false
       → map place_of losses.cuts.items ≡ cuts_by mode rewrite ++ cuts_by mode append
+  pub rewrite_passed : Option Passed
+  pub append_passed : Option Passed
+  pub passed : losses.passed.items ≡ cons_option rewrite_passed (cons_option append_passed [])
+  pub of_rewrite : ArePassedOf folders Rewrite n rewrite_passed
+  pub of_append : ArePassedOf folders Append n append_passed
+
+-- .. in those of the settings' folders that are there
+abbrev pub AreLossesOf : Config → Directory → Losses → Type 0
+AreLossesOf config n losses =
+    AreLossesIn config.recovery_mode (folders_there (folders_in config) n) n losses

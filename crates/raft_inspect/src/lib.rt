@@ -6,6 +6,7 @@ mod behind;
 mod cuts;
 mod filter;
 mod items;
+mod kept;
 mod lines;
 mod losses;
 mod outlook;

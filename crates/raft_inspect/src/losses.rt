@@ -1,13 +1,19 @@
 //! What an opening of both queues would lose.
-ghost use Rattle.std.specs.Prelude.{◌≡◌, ◌++◌, [], false, map, true, IfOk};
+ghost use Rattle.std.specs.Prelude.{◌≡◌, ◌++◌, ◌⊎◌, ◌↔◌, ◌||◌, ◌<◌, [], drop, false, map, true, Contains, IfOk};
+ghost use Rattle.std.specs.List.{cons_option};
+ghost use Rattle.std.specs.String.{string_bytes};
 ghost use Rattle.raft_env.specs.Moments.{OnlyReads};
-ghost use Rattle.raft_inspect.specs.Cuts.{place_of};
-ghost use Rattle.raft_inspect.specs.Losses.{AreLossesOf, IsPlannedToFail, cuts_by};
+ghost use Rattle.raft_dump.specs.Check.{plan_of};
+ghost use Rattle.raft_dump.specs.declared.plan.Planned.TheVariants.{Fail};
+ghost use Rattle.raft_inspect.specs.Cuts.{cuts_in, place_of};
+ghost use Rattle.raft_inspect.specs.Kept.{IsPassedTold, holds_nothing};
+ghost use Rattle.raft_inspect.specs.Losses.{AreLossesIn, AreLossesOf};
 
 use crate::cuts::Cut;
-use crate::queue_files::{QueueFiles, inspect};
+use crate::kept::{KeptFiles, find_kept, find_passed, folders_there};
+use crate::queue_files::QueueFiles;
 use raft_config::{Config, RecoveryMode};
-use raft_dump::FileCheck;
+use raft_dump::{FileCheck, Planned, plan_opening};
 use raft_env::FileSystem;
 use raft_records::{Fault, LogQueue};
 use std::alloc::{AllocError, Global};
@@ -44,49 +50,59 @@ impl Losses {
         file_system: &mut F,
     ) -> Result<Losses, Fault>
         ensures value { IfOk result
-            (AreLossesOf config.now.recovery_mode (F.directory file_system.old)) }
+            (AreLossesOf config.now (F.directory file_system.old)) }
         ensures unchanged { OnlyReads F.directory F.moments F.refusals_of
             file_system.old file_system.new }
     {
-        let folders = folders_of(alloc, config)?;
-        let mode = config.recovery_mode;
-        let rewrite = inspect(alloc, file_system, &folders, LogQueue::Rewrite)?;
-        let append = inspect(alloc, file_system, &folders, LogQueue::Append)?;
-        let passed = passed_of(alloc, &rewrite, &append)?;
-        let fails = fails_at(alloc, mode, &rewrite, &append)?;
-        let cuts = cuts_where(alloc, mode, fails, &rewrite, &append)?;
+        let folders = folders_there(alloc, config, file_system)?;
+        Losses::find_in(alloc, config.recovery_mode, &folders, file_system)
+    }
+
+    // .. of the log's files in these folders, which are there.
+    fn find_in<F: FileSystem>(
+        alloc: Global,
+        mode: RecoveryMode,
+        folders: &[String],
+        file_system: &mut F,
+    ) -> Result<Losses, Fault>
+        ensures value { IfOk result (AreLossesIn mode (map string_bytes folders.now)
+            (F.directory file_system.old)) }
+        ensures unchanged { OnlyReads F.directory F.moments F.refusals_of
+            file_system.old file_system.new }
+    {
+        let rewrite = find_kept(alloc, folders, LogQueue::Rewrite, file_system)?;
+        let append = find_kept(alloc, folders, LogQueue::Append, file_system)?;
+        let rewrite_passed = find_passed(alloc, folders, &rewrite.found, file_system)?;
+        let append_passed = find_passed(alloc, folders, &append.found, file_system)?;
+        let rewrite_fails = rewrite.fails(alloc, mode)?;
+        let append_fails = append.fails(alloc, mode)?;
+        let fails = either(rewrite_fails, append_fails);
+        let cuts = cuts_where(alloc, mode, fails, &rewrite.found, &append.found)?;
         Ok(Losses {
             fails,
             cuts,
-            passed,
+            passed: those_told(alloc, rewrite_passed, append_passed)?,
         })
     }
 }
 
-// The settings' folders, each once.
-fn folders_of<'a>(alloc: Global, config: &'a Config) -> Result<Vec<&'a str>, AllocError> {
-    let mut folders = vec![in alloc; config.dir.as_str()]?;
-    if let Some(spill) = &config.spill_dir {
-        if *spill != config.dir {
-            folders.push(spill.as_str())?;
-        }
+impl KeptFiles {
+    // Whether an opening that keeps them fails for what they hold, or for two of one number.
+    fn fails(&self, alloc: Global, mode: RecoveryMode) -> Result<bool, Fault>
+        ensures value { IfOk result (λ fails. fails ≡ true
+            ↔ (Contains (plan_of mode self.now.found.checks.items) Fail
+            ⊎ (self.now.are_single ≡ false))) }
+    {
+        let plan = plan_opening(alloc, mode, &self.found.checks)?;
+        Ok(plan.contains(&Planned::Fail) || !self.are_single)
     }
-    Ok(folders)
 }
 
-fn fails_at(
-    alloc: Global,
-    mode: RecoveryMode,
-    rewrite: &QueueFiles,
-    append: &QueueFiles,
-) -> Result<bool, Fault>
-    ensures rewrite { IfOk result (λ fails. IsPlannedToFail mode rewrite.now → fails ≡ true) }
-    ensures append { IfOk result (λ fails. IsPlannedToFail mode append.now → fails ≡ true) }
+// Whether one of both queues is to fail.
+fn either(rewrite: bool, append: bool) -> bool
+    ensures value { result ≡ (rewrite || append) }
 {
-    if rewrite.fails(alloc, mode)? {
-        return Ok(true);
-    }
-    append.fails(alloc, mode)
+    rewrite || append
 }
 
 // Of both queues, and nothing where the opening fails.
@@ -99,7 +115,10 @@ fn cuts_where(
 ) -> Result<Vec<Cut>, AllocError>
     ensures fails { IfOk result (λ cuts. fails ≡ true → map place_of cuts.items ≡ []) }
     ensures cuts { IfOk result (λ cuts. fails ≡ false → map place_of cuts.items
-        ≡ cuts_by mode rewrite.now ++ cuts_by mode append.now) }
+        ≡ cuts_in mode (drop rewrite.now.passed rewrite.now.files.items)
+        (drop rewrite.now.passed rewrite.now.checks.items)
+        ++ cuts_in mode (drop append.now.passed append.now.files.items)
+        (drop append.now.passed append.now.checks.items)) }
 {
     let mut cuts = Vec::new(alloc);
     if fails {
@@ -110,18 +129,23 @@ fn cuts_where(
     Ok(cuts)
 }
 
-fn passed_of(
+// What is told of either queue.
+fn those_told(
     alloc: Global,
-    rewrite: &QueueFiles,
-    append: &QueueFiles,
-) -> Result<Vec<Passed>, AllocError> {
-    let mut passed = Vec::new(alloc);
-    for found in [rewrite, append] {
-        if let Some(each) = found.passed() {
-            passed.push(each)?;
-        }
+    rewrite: Option<Passed>,
+    append: Option<Passed>,
+) -> Result<Vec<Passed>, AllocError>
+    ensures value { IfOk result (λ told. told.items
+        ≡ cons_option rewrite (cons_option append [])) }
+{
+    let mut told = Vec::new(alloc);
+    if let Some(passed) = rewrite {
+        told.push(passed)?;
     }
-    Ok(passed)
+    if let Some(passed) = append {
+        told.push(passed)?;
+    }
+    Ok(told)
 }
 
 impl QueueFiles {
@@ -134,7 +158,9 @@ impl QueueFiles {
 impl Passed {
     /// Those that hold something of the files that an opening of a queue passes over, which are by
     /// number.
-    pub fn of(queue: LogQueue, checks: &[FileCheck]) -> Option<Passed> {
+    pub fn of(queue: LogQueue, checks: &[FileCheck]) -> Option<Passed>
+        ensures told { IsPassedTold queue checks.now result }
+    {
         let last = checks.last()?.id.seq;
         let mut passed = Passed {
             queue,
@@ -154,7 +180,11 @@ impl Passed {
         }
     }
 
-    fn add(&mut self, check: &FileCheck) {
+    fn add(&mut self, check: &FileCheck)
+        ensures queue { self.new.queue ≡ self.old.queue }
+        ensures none { holds_nothing check.now ≡ true → self.new.files ≡ self.old.files }
+        ensures some { holds_nothing check.now ≡ false → 0 < self.new.files }
+    {
         if holds_nothing(check) {
             return;
         }
@@ -165,6 +195,8 @@ impl Passed {
 }
 
 // Whether a header or zeros are all that a file has.
-fn holds_nothing(check: &FileCheck) -> bool {
+fn holds_nothing(check: &FileCheck) -> bool
+    ensures value { result ≡ holds_nothing check.now }
+{
     check.records == 0 && (check.stop.is_none() || check.zeros)
 }

@@ -1,5 +1,6 @@
 //! The log files of a queue, and what can be read of them.
 ghost use Rattle.std.specs.Prelude.{◌≡◌, Contains, IfErr, IfOk, drop, true};
+ghost use Rattle.std.specs.List.Sorted.{IsPermutation};
 ghost use Rattle.raft_base.specs.declared.errors.Fault.TheVariants.{Memory};
 ghost use Rattle.raft_env.specs.Moments.{OnlyReads};
 ghost use Rattle.raft_dump.specs.Check.{plan_of};
@@ -44,7 +45,7 @@ pub fn inspect<F: FileSystem>(
     Ok(QueueFiles::new(queue, files, checks))
 }
 
-fn checks_of<F: FileSystem>(
+pub(crate) fn checks_of<F: FileSystem>(
     alloc: Global,
     file_system: &mut F,
     files: &[LogFile],
@@ -90,7 +91,9 @@ fn add_files<F: FileSystem>(
 
 impl QueueFiles {
     /// Puts files of one queue in the order of their numbers.
-    pub fn sort(files: &mut Vec<LogFile>) -> Result<(), AllocError> {
+    pub fn sort(files: &mut Vec<LogFile>) -> Result<(), AllocError>
+        ensures same { IsPermutation files.old.items files.new.items }
+    {
         files.sort_by_key(|file| file.id.seq)
     }
 

@@ -1,0 +1,12 @@
+use Rattle.std.proofs.Common.{◌≡◌, map, take}
+use Rattle.std.specs.String.{string_bytes}
+use Rattle.raft_env.specs.Moments.{OnlyReads}
+use Rattle.raft_dump.specs.LogFiles.{place_of}
+use Rattle.raft_inspect.specs.Kept.{all_in}
+use Rattle.raft_inspect.proofs.kept.all_files.Given as goal
+
+-- the files of the folders so far
+abbrev pub invariant-loop-folder : goal.invariant-loop-folder
+invariant-loop-folder g l =
+    OnlyReads g.F.FileSystem.directory g.F.FileSystem.moments g.F.FileSystem.refusals_of l.fn.file_system l.file_system
+    × (map place_of l.files.items ≡ all_in (map string_bytes (take l.folder-index l.folders)) l.queue (g.F.FileSystem.directory l.fn.file_system))

@@ -1,0 +1,66 @@
+-- Which log files of a queue an opening keeps, and which it passes over.
+use Rattle.std.specs.Prelude.{◌≡◌, ◌↔◌, ℕ, ◌&&◌, ◌||◌, ◌==◌, Bool, true, false, not, nat_le, List, [], ◌∷◌, Option, Some, None, filter, is_none, map}
+use Rattle.std.specs.List.{filter_map, flat_map, list_all}
+use Rattle.std.specs.List.Sorted.{IsPermutation}
+use Rattle.std.specs.Str.{bytes_eq}
+use Rattle.raft_base.specs.declared.pipe_log.FileId.{FileId}
+use Rattle.raft_base.specs.declared.pipe_log.LogQueue.{LogQueue}
+use Rattle.raft_env.specs.Directory.{Directory, Path, names_in}
+use Rattle.raft_config.specs.Folders.{Folders, all_of}
+use Rattle.raft_dump.specs.LogFiles.{file_named, place_of}
+use Rattle.raft_dump.specs.declared.check.FileCheck.{FileCheck}
+use Rattle.raft_dump.specs.declared.files.LogFile.{LogFile}
+use Rattle.raft_pipes.specs.Numbered.{AreSingle, in_queue, kept_files}
+use Rattle.raft_inspect.specs.Checks.{AreChecksOf}
+use Rattle.raft_inspect.specs.declared.kept.KeptFiles.{KeptFiles}
+use Rattle.raft_inspect.specs.declared.losses.Passed.{Passed}
+
+-- those of the settings' folders that are there
+abbrev pub folders_there : Folders → Directory → List Path
+folders_there folders n = filter n.is_folder (all_of folders)
+
+-- the log files of a queue in these folders that an opening keeps, by number
+abbrev pub kept_in : List Path → LogQueue → Directory → List (FileId × Path)
+kept_in folders queue n = map (λ f. (in_queue queue f.0, f.1)) (kept_files folders queue n)
+
+-- these are kept, none of them passed over, and so much can be read of each
+pub record AreKeptOf (folders : List Path) (queue : LogQueue) (n : Directory) (kept : KeptFiles)
+    : Type 0 where
+  pub queue_is : kept.found.queue ≡ queue
+  pub all : kept.found.passed ≡ 0
+  pub files : map place_of kept.found.files.items ≡ kept_in folders queue n
+  pub checks : AreChecksOf n kept.found.files.items kept.found.checks.items
+  pub single : kept.are_single ≡ true ↔ AreSingle folders queue n
+
+-- all log files of a queue there, folder after folder
+abbrev pub all_in : List Path → LogQueue → Directory → List (FileId × Path)
+all_in folders queue n =
+    flat_map (λ folder. filter_map (file_named folder queue) (names_in folder n)) folders
+
+-- whether an opening that keeps these passes a file over: it is another one, and of no greater number than
+-- the first of them
+abbrev pub is_passed : List (FileId × Path) → FileId × Path → Bool
+is_passed [] f = true
+is_passed (k ∷ kept) f = nat_le f.0.seq k.0.seq && not (bytes_eq f.1 k.1)
+
+-- a header or zeros are all that a file has
+abbrev pub holds_nothing : FileCheck → Bool
+holds_nothing c = (c.records == 0) && (is_none c.stop || c.zeros)
+
+-- what is told of files that are passed over: nothing where none of them holds anything
+abbrev pub IsPassedTold : LogQueue → List FileCheck → Option Passed → Type 0
+IsPassedTold queue checks None = list_all holds_nothing checks ≡ true
+IsPassedTold queue checks (Some p) =
+    (p.queue ≡ queue) × (list_all holds_nothing checks ≡ false)
+
+-- .. of those of a queue in these folders
+pub record ArePassedOf (folders : List Path) (queue : LogQueue) (n : Directory)
+    (told : Option Passed) : Type 0 where
+  pub listed : List LogFile
+  pub are : map place_of listed
+      ≡ filter (is_passed (kept_in folders queue n)) (all_in folders queue n)
+  pub files : List LogFile
+  pub sorted : IsPermutation listed files
+  pub checks : List FileCheck
+  pub read : AreChecksOf n files checks
+  pub is : IsPassedTold queue checks told
