@@ -1,14 +1,17 @@
 -- A call that was recorded, and the front that ends with it.
-use Rattle.std.proofs.Common.{◌≡◌, ◌∙◌, ℕ, List, [], ◌∷◌, ◌++◌, length, take, Option, Some, None, slice_get, sym, ap, subst}
+use Rattle.std.proofs.Common.{◌≡◌, ◌∙◌, ℕ, false, List, [], ◌∷◌, ◌++◌, length, take, Option, Some, None, Result, Ok, Err, slice_get, sym, ap, arith, length-append, subst}
 use Rattle.std.specs.Prelude.{IfSome, IfNone}
 use Rattle.raft_env.specs.declared.env.FileSystem.{Ghosts}
-use Rattle.raft_shared.specs.History.{Answer, Asked, Event}
-use Rattle.raft_shared.specs.Shared.{HasRecorded, history_of, receipts_of}
-use Rattle.raft_shared.specs.Words.{told_by}
+use Rattle.raft_base.specs.declared.errors.Fault.{Fault}
+use Rattle.raft_records.specs.Item.{Batch}
+use Rattle.raft_log_engine.specs.Calls.{IsCallersWrite}
+use Rattle.raft_shared.specs.History.{Answer, Asked, Event, Size}
+use Rattle.raft_shared.specs.Shared.{HasRecorded, RecordsWrite, engine_of, history_of, receipts_of}
+use Rattle.raft_shared.specs.Words.{answer_by, told_by}
 use Rattle.raft_shared.specs.declared.call.Receipt.{Receipt}
 use Rattle.raft_shared.specs.declared.seat.Seat.{Seat}
 use Rattle.raft_shared.specs.declared.shared.Shared.{Shared}
-use Rattle.raft_tickets.specs.Calls.{IsTold, event_by}
+use Rattle.raft_tickets.specs.Calls.{IsTold, IsToldAt, IsToldNothing, event_by}
 use Rattle.raft_tickets.proofs.Fronts.{begins_itself, begins_still, begins_whole, get_last}
 
 module _ {F H R W : Type 0} {g : Ghosts F H R W} (asked : Asked) (answer : Answer) (old new : Shared F H R W g) (seat seat' : Seat) (receipt : Receipt) (h : HasRecorded asked answer old new seat seat' receipt) where
@@ -16,8 +19,17 @@ module _ {F H R W : Type 0} {g : Ghosts F H R W} (asked : Asked) (answer : Answe
   asked_is = ap (λ t. t.asked) h.receipt_is
 
   -- the seat has the receipt, with this answer
+  pub is_told_at : (said : Answer) → (told_by receipt).answer ≡ said → IsToldAt receipt.number asked said seat seat'
+  is_told_at said is = h.receipts ∙ ap (λ t. receipts_of seat ++ t ∷ []) (λ i. record { number = receipt.number; asked = asked_is i; answer = is i })
+
   pub is_told : (said : Answer) → (told_by receipt).answer ≡ said → IsTold asked said seat seat'
-  is_told said is = (receipt.number, h.receipts ∙ ap (λ t. receipts_of seat ++ t ∷ []) (λ i. record { number = receipt.number; asked = asked_is i; answer = is i }))
+  is_told said is = (receipt.number, is_told_at said is)
+
+  -- .. and was told something
+  pub is_heard : IsToldNothing seat seat' → ⊥
+  is_heard nothing =
+      let same : length (receipts_of seat) ≡ length (receipts_of seat ++ told_by receipt ∷ []) = ap length (sym nothing ∙ h.receipts) in
+      absurd (omega (arith, same, length-append (receipts_of seat) (told_by receipt ∷ [])))
 
   event_is : event_by seat.number receipt ≡ record { seat = seat.number; asked = asked; answer = answer }
   event_is = ap (λ t. record { seat = seat.number; asked = t.asked; answer = t.answer }) h.receipt_is
@@ -53,3 +65,12 @@ module _ {F H R W : Type 0} {g : Ghosts F H R W} (asked : Asked) (answer : Answe
 -- where nothing was recorded nothing changed
 pub begins_so : (old new front : List Event) → new ≡ old → take (length front) old ≡ front → take (length front) new ≡ front
 begins_so old new front same begun = ap (take (length front)) same ∙ begun
+
+-- what an accepted write leaves of its batch
+pub leaves_empty : {F H R W : Type 0} {g : Ghosts F H R W} (items rest : Batch) (old new : Shared F H R W g) (seat seat' : Seat) (receipt : Receipt) (size : ℕ) → RecordsWrite items rest false old new seat seat' receipt → (told_by receipt).answer ≡ Size (Ok size)
+    → rest ≡ []
+leaves_empty items rest old new seat seat' receipt size r is = at r.result r.write (sym (ap (λ t. t.answer) r.recorded.receipt_is) ∙ is)
+  where
+    at : (result : Result ℕ Fault) → IsCallersWrite items rest false (engine_of old) (engine_of new) result → Size (answer_by (λ n. n) result) ≡ Size (Ok size) → rest ≡ []
+    at (Ok n) w e = w.call.ok.emptied
+    at (Err f) w e = absurd (cc e)

@@ -53,12 +53,32 @@ abbrev pub IsWrittenAt : ℕ → ℕ → Batch → ℕ → List Event → Type 0
 IsWrittenAt number seat batch size events = slice_get events number
     ≡ Some (record { seat = seat; asked = Write batch false; answer = Size (Ok size) })
 
--- the seat was given one receipt more, of a call that was answered so
-abbrev pub IsTold : Asked → Answer → Seat → Seat → Type 0
-IsTold asked answer old new = (number : ℕ) × (receipts_of new
-    ≡ receipts_of old ++ record { number = number; asked = asked; answer = answer } ∷ [])
+-- the seat was given one receipt more: of a call at this place of the history that was answered so
+abbrev pub IsToldAt : ℕ → Asked → Answer → Seat → Seat → Type 0
+IsToldAt number asked answer old new = receipts_of new
+    ≡ receipts_of old ++ record { number = number; asked = asked; answer = answer } ∷ []
 
--- the engine wasn't asked, or the book has other calls, or the engine answered so, as the seat was told
+-- .. at some place
+abbrev pub IsTold : Asked → Answer → Seat → Seat → Type 0
+IsTold asked answer old new = (number : ℕ) × IsToldAt number asked answer old new
+
+-- the seat was told nothing
+abbrev pub IsToldNothing : Seat → Seat → Type 0
+IsToldNothing old new = receipts_of new ≡ receipts_of old
+
+-- the engine wasn't asked, for want of room in the history or of memory
+abbrev pub IsUnasked : Seat → Seat → Fault → Type 0
+IsUnasked old new e = ((e ≡ fault.TrailFull) ⊎ (e ≡ fault.Memory)) × IsToldNothing old new
+
+-- the engine answered, and the book has other calls there
+abbrev pub IsAstray : Asked → Seat → Seat → Fault → Type 0
+IsAstray asked old new e = (e ≡ fault.Layer) × ((said : Answer) × IsTold asked said old new)
+
+-- the engine wasn't asked; or it answered so, as the seat was told; or the book has other calls
 abbrev pub FailsAs : Asked → Answer → Seat → Seat → Fault → Type 0
-FailsAs asked answer old new e = (e ≡ fault.TrailFull) ⊎ (e ≡ fault.Memory) ⊎ (e ≡ fault.Layer)
-    ⊎ IsTold asked answer old new
+FailsAs asked answer old new e = IsUnasked old new e ⊎ IsTold asked answer old new
+    ⊎ IsAstray asked old new e
+
+-- the seat was told of the sync that was done, or another seat was
+abbrev pub MayBeToldSync : Seat → Seat → Type 0
+MayBeToldSync old new = IsToldNothing old new ⊎ IsTold Sync (Done (Ok tt)) old new

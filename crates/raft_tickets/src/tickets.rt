@@ -1,8 +1,8 @@
 //! The calls by which threads share a sync.
-ghost use Rattle.std.specs.Prelude.{◌≡◌, ◌⊎◌, [], false, Err, IfOk, IfErr};
+ghost use Rattle.std.specs.Prelude.{◌≡◌, ◌⊎◌, [], false, Some, Ok, Err, IfOk, IfErr, IfSome, OnOk, OnErr, slice_get};
 ghost use Rattle.raft_shared.specs.History.{Done, Get, Size, Sync, Write};
 ghost use Rattle.raft_shared.specs.Words.{reason_of, told_by};
-ghost use Rattle.raft_tickets.specs.Calls.{FailsAs, IsTold, IsWrittenAt};
+ghost use Rattle.raft_tickets.specs.Calls.{FailsAs, IsTold, IsToldAt, IsToldNothing, IsWrittenAt, MayBeToldSync, event_by};
 
 use crate::book::{Book, Naming, Opened};
 use crate::desk::{Desk, Noted};
@@ -52,9 +52,10 @@ impl<F: FileSystem, J: Naming> Tickets<F, J> {
         self.desk.lock(rt).seat()
     }
 
-    /// Writes a batch without a sync: a ticket for one, where the engine accepted it. Else it fails
-    /// as the engine answered, and as `TrailFull` and `Memory` where it wasn't asked. `Layer` is
-    /// for a book that has calls of another engine.
+    /// Writes a batch without a sync: a ticket for one, where the engine accepted it, which leaves
+    /// the batch empty. Else it fails as the engine answered, and as `TrailFull` and `Memory` where
+    /// it wasn't asked. `Layer` is for a book that has calls of another engine.
+    #[tactic(auto, using(crate::proofs::Noting::leaves_empty, crate::proofs::Noting::is_heard, crate::proofs::Noting::is_told_at, crate::proofs::Noting::is_told))]
     pub fn write<R: Wait>(
         &self,
         rt: &R,
@@ -63,8 +64,12 @@ impl<F: FileSystem, J: Naming> Tickets<F, J> {
     ) -> Result<Ticket<J>, Fault>
         ensures ok { IfOk result (λ ticket. IsWrittenAt ticket.number seat.old.number
             batch.old.items ticket.size ticket.front) }
+        ensures rest { OnOk result (batch.new.items ≡ []) }
+        ensures told { IfOk result (λ ticket. IsToldAt ticket.number (Write batch.old.items false)
+            (Size (Ok ticket.size)) seat.old seat.new) }
         ensures err { IfErr result (λ e. FailsAs (Write batch.old.items false)
             (Size (Err (reason_of e))) seat.old seat.new e) }
+        ensures unchanged { OnErr result (IsToldNothing seat.old seat.new → batch.new ≡ batch.old) }
         ensures seat { seat.new.number ≡ seat.old.number }
     {
         self.gate.lock(rt).announce();
@@ -88,6 +93,7 @@ impl<F: FileSystem, J: Naming> Tickets<F, J> {
         ticket: Ticket<J>,
     ) -> Result<Durable<J>, Fault>
         ensures ok { IfOk result (Answers ticket) }
+        ensures told { OnOk result (MayBeToldSync seat.old seat.new) }
         ensures err { IfErr result (λ e. FailsAs Sync (Done (Err (reason_of e))) seat.old seat.new
             e) }
         ensures seat { seat.new.number ≡ seat.old.number }
@@ -132,7 +138,9 @@ impl<F: FileSystem, J: Naming> Tickets<F, J> {
     }
 
     // A sync of the engine, with its place in the history.
+    #[tactic(auto, using(crate::proofs::Noting::is_told))]
     fn sync<R: Wait>(&self, rt: &R, seat: &mut Seat) -> Result<Covered<J>, Fault>
+        ensures ok { OnOk result (IsTold Sync (Done (Ok tt)) seat.old seat.new) }
         ensures err { IfErr result (λ e. FailsAs Sync (Done (Err (reason_of e))) seat.old seat.new
             e) }
         ensures seat { seat.new.number ≡ seat.old.number }
@@ -164,13 +172,15 @@ impl<F: FileSystem, J: Naming> Tickets<F, J> {
     ) -> Result<Durable<J>, Fault>
         ensures ok { IfOk result (λ durable. IsWrittenAt durable.number seat.old.number
             batch.old.items durable.size durable.front) }
+        ensures rest { OnOk result (batch.new.items ≡ []) }
         ensures seat { seat.new.number ≡ seat.old.number }
     {
         let ticket = self.write(rt, seat, batch)?;
         self.wait(rt, seat, ticket)
     }
 
-    /// `Shared::get`, for any thread.
+    /// `Shared::get`, for any thread, with the history up to it.
+    #[tactic(auto, using(crate::proofs::Noting::is_told_at))]
     pub fn get<R: Wait>(
         &self,
         rt: &R,
@@ -178,8 +188,12 @@ impl<F: FileSystem, J: Naming> Tickets<F, J> {
         group: u64,
         key: &[u8],
     ) -> Result<Noted<J>, Fault>
-        ensures ok { IfOk result (λ noted. IsTold (Get group key.now)
+        ensures ok { IfOk result (λ noted. IsToldAt noted.receipt.number (Get group key.now)
             (told_by noted.receipt).answer seat.old seat.new) }
+        ensures front { IfOk result (λ noted. IfSome noted.front (λ front.
+            slice_get front noted.receipt.number
+            ≡ Some (event_by seat.old.number noted.receipt))) }
+        ensures err { OnErr result (IsToldNothing seat.old seat.new) }
         ensures cause { IfErr result (λ e. (e ≡ Fault.TrailFull) ⊎ (e ≡ Fault.Memory)) }
         ensures seat { seat.new.number ≡ seat.old.number }
     {
