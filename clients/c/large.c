@@ -3,10 +3,11 @@
  * - write COUNT SYNC_EACH: batches of four entries, in turn to 100 groups; SYNC_EACH 0: no sync;
  * - turns COUNT FILE LIMIT: as many batches ten times, in turn with LIMIT in FILE, which bounds the
  *   memory, and with -1 there; a sync each 4 MB;
- * - read COUNT random|order: entries in no order, cold, beside bare preads, then all of each group,
- *   compared, by a log that expects reads at random or in order;
+ * - expect random|order: how entries will be read;
+ * - read COUNT: entries in no order, cold, beside bare preads;
+ * - all SECONDS: the entries of one group after the other, for so long at most;
  * - purge KEEP: all but so many entries of each group go.
- * SIZE: bytes of an entry, 1000 where it isn't set. */
+ * What is read is compared. SIZE: bytes of an entry, 1000 where it isn't set. */
 #include "heap.h"
 #include "raftlog.h"
 
@@ -161,9 +162,16 @@ static void write_batches(raftlog *log, uint64_t count, uint64_t sync_each) {
     tell("written, each entry", (double)count * PER_BATCH);
 }
 
+/* A bound below what is held is refused until enough of it was taken back. */
 static void bound_memory(const char *path, const char *bytes) {
-    FILE *file = fopen(path, "w");
-    if (!file || fputs(bytes, file) < 0 || fclose(file)) need(RAFTLOG_IO, path);
+    bool is_done = false;
+    for (int left = 300; !is_done && left; left--) {
+        FILE *file = fopen(path, "w");
+        is_done = file && fputs(bytes, file) >= 0;
+        is_done = file && !fclose(file) && is_done;
+        if (!is_done) usleep(100000);
+    }
+    need(is_done ? RAFTLOG_OK : RAFTLOG_IO, path);
 }
 
 static void write_in_turn(raftlog *log, uint64_t count, const char *file, const char *limit) {
@@ -180,10 +188,12 @@ static double read_one(raftlog *log, raftlog_bytes *bytes) {
     uint64_t group = 1 + random_below(GROUPS), first, last;
     need(raftlog_first_index(log, group, &first), "first_index");
     need(raftlog_last_index(log, group, &last), "last_index");
+    uint64_t index = first + random_below(last - first + 1);
     double from = now();
-    need(raftlog_get_entry(log, group, first + random_below(last - first + 1), bytes),
-         "get_entry");
-    return now() - from;
+    need(raftlog_get_entry(log, group, index, bytes), "get_entry");
+    double took = now() - from;
+    compare(group, &(raftlog_entry){index, bytes->data, bytes->len});
+    return took;
 }
 
 static double read_bare(void) {
@@ -230,20 +240,26 @@ static void read_at_random(raftlog *log, uint64_t count) {
     tell("read at random", (double)count);
 }
 
-static void read_in_order(raftlog *log) {
-    raftlog_bytes bytes = {0};
+/* Answers how many it read. */
+static uint64_t read_group(raftlog *log, uint64_t group, double until, raftlog_bytes *bytes) {
     uint64_t first, last, count = 0;
-    for (uint64_t group = 1; group <= GROUPS; group++) {
-        need(raftlog_first_index(log, group, &first), "first_index");
-        need(raftlog_last_index(log, group, &last), "last_index");
-        for (uint64_t at = first; at <= last; at += 100) {
-            uint64_t end = at + 100 < last + 1 ? at + 100 : last + 1;
-            need(raftlog_fetch_entries(log, group, at, end, 0, &bytes), "fetch");
-            raftlog_entry entry;
-            for (size_t next = 0; raftlog_next_entry(&bytes, &next, &entry); count++)
-                compare(group, &entry);
-        }
+    need(raftlog_first_index(log, group, &first), "first_index");
+    need(raftlog_last_index(log, group, &last), "last_index");
+    for (uint64_t at = first; at <= last && now() < until; at += 100) {
+        uint64_t end = at + 100 < last + 1 ? at + 100 : last + 1;
+        need(raftlog_fetch_entries(log, group, at, end, 0, bytes), "fetch");
+        raftlog_entry entry;
+        for (size_t next = 0; raftlog_next_entry(bytes, &next, &entry); count++)
+            compare(group, &entry);
     }
+    return count;
+}
+
+static void read_in_order(raftlog *log, double seconds) {
+    raftlog_bytes bytes = {0};
+    uint64_t count = 0;
+    for (uint64_t group = 1; group <= GROUPS; group++)
+        count += read_group(log, group, begun + seconds, &bytes);
     raftlog_bytes_free(&bytes);
     printf("entries that are right: %lu\n", (unsigned long)count);
     tell("fetched in order, each entry", (double)count);
@@ -261,13 +277,6 @@ static void purge(raftlog *log, uint64_t keep) {
     tell("rewritten", 1);
 }
 
-static void read_all(raftlog *log, const char *folder, uint64_t count, bool at_random) {
-    open_files(folder);
-    raftlog_expect_reads(log, at_random);
-    read_at_random(log, count);
-    read_in_order(log);
-}
-
 static uint64_t number(const char *text) { return strtoull(text, NULL, 10); }
 
 /* Does what a word says, and answers how many words that took: 0 where it is none. */
@@ -276,8 +285,11 @@ static int do_word(raftlog *log, const char *folder, int left, char **words) {
     if (left > 1 && !strcmp(*words, "purge")) return purge(log, count), 2;
     if (left > 2 && !strcmp(*words, "write"))
         return write_batches(log, count, number(words[2])), 3;
-    if (left > 2 && !strcmp(*words, "read"))
-        return read_all(log, folder, count, !strcmp(words[2], "random")), 3;
+    if (left > 1 && !strcmp(*words, "expect"))
+        return need(raftlog_expect_reads(log, !strcmp(words[1], "random")), "expect"), 2;
+    if (left > 1 && !strcmp(*words, "read"))
+        return open_files(folder), read_at_random(log, count), 2;
+    if (left > 1 && !strcmp(*words, "all")) return read_in_order(log, (double)count), 2;
     if (left > 3 && !strcmp(*words, "turns"))
         return write_in_turn(log, count, words[2], words[3]), 4;
     return 0;

@@ -281,7 +281,7 @@ static int obey_one(raftlog *log, size_t *place) {
     struct order order;
     char room[PATH_ROOM];
     if (!read_order(log, place, &order)) return EINVAL;
-    if (order.kind == WRITE) join(log, place, &order);
+    if (order.kind == WRITE && *place < log->given) join(log, place, &order);
     const char *path = text_of(room, order.path, order.path_len);
     int error = carry_out(log, &order, path);
     if (error) break_at(log, kind_text(order.kind), path, error);
