@@ -261,7 +261,8 @@ static void close_beside(const char *folder) {
     drop(folder);
 }
 
-/* Those that come while a round is handed over are of it, since its sync hasn't begun; a purge isn't. */
+/* Those that come while a round is handed over are of it, since its sync hasn't begun; a purge
+ * isn't. */
 static void come_late(const char *folder) {
     static struct call held, calls[5];
     char kinds[] = "w+ x w+ w p";

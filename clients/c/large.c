@@ -1,5 +1,5 @@
-/* A log larger than memory: `large FOLDER WORD..`, each word with what follows it. Pages that have a file
- * behind them are taken back TAKE_BACK times a second, if that is set. The words are
+/* A log larger than memory: `large FOLDER WORD..`, each word with what follows it. Pages that have
+ * a file behind them are taken back TAKE_BACK times a second, if that is set. The words are
  * - write COUNT SYNC_EACH: batches of four entries, in turn to 100 groups; SYNC_EACH 0: no sync;
  * - turns COUNT FILE LIMIT: as many batches ten times, in turn with LIMIT in FILE, which bounds the
  *   memory, and with -1 there; a sync each 4 MB;

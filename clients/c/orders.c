@@ -267,8 +267,8 @@ static bool goes_on(const struct order *write, const struct order *next) {
            && next->path_len == write->path_len && !memcmp(next->path, write->path, next->path_len);
 }
 
-/* Joins the short writes that follow to this one, which is carried out by one call then: their bytes are
- * moved behind its own, over orders that were read. */
+/* Joins the short writes that follow to this one, which is carried out by one call then: their bytes
+ * are moved behind its own, over orders that were read. */
 static void join(const raftlog *log, size_t *place, struct order *write) {
     struct order next;
     for (size_t end = *place; read_order(log, &end, &next) && goes_on(write, &next); *place = end) {

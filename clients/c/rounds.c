@@ -168,8 +168,8 @@ static void call(raft_c_handle *handle, const struct parts_change *change, bool 
     }
 }
 
-/* A purge reads the entries of one group after the other, which stand far apart: what the system would
- * read around each of them is many times as much. Answers how reads were expected before. */
+/* A purge reads the entries of one group after the other, which stand far apart: what the system
+ * would read around each of them is many times as much. Answers how reads were expected before. */
 static bool begin_purge(raftlog *log) {
     bool was_random = log->heap.at_random;
     heap_expect_reads(&log->heap, true);
