@@ -10,10 +10,11 @@ use Rattle.raft_config.specs.Sanitized.{IsContradiction, contradiction, sanitize
 use Rattle.raft_config.specs.declared.config.Config.{Config}
 use Rattle.raft_env.proofs.MomentsLemmas.{moves_none, moves_then_reads}
 use Rattle.raft_env.specs.Directory.{Directory}
-use Rattle.raft_env.specs.Moments.{OnlyReads}
-use Rattle.raft_env.specs.Refusal.{NoFewer}
+use Rattle.raft_env.specs.Moments.{MovesBy, OnlyReads}
+use Rattle.raft_env.specs.Refusal.{NoFewer, Refusals}
 use Rattle.raft_env.specs.declared.env.FileSystem.{Ghosts}
-use Rattle.raft_crash_laws.specs.Queues.{IsOpeningRefusal}
+use Rattle.raft_crash_laws.specs.Crash.{StillRecovers}
+use Rattle.raft_crash_laws.specs.Queues.{IsOpeningRefusal, LeavesReadableIn}
 use Rattle.raft_opening.proofs.OpenLemmas.{left_alone}
 use Rattle.raft_opening.specs.Folder.{LeavesAllButOpened}
 use Rattle.raft_opening.specs.Queue.{IsUntouched}
@@ -23,6 +24,10 @@ use Rattle.raft_log_engine.specs.Engine.{directory_of, moments_of, refusals_of}
 use Rattle.raft_log_engine.specs.Opening.{AnswersOpening, Opens, OpensWith}
 use Rattle.raft_log_engine.specs.declared.engine.Engine.{Engine}
 use Rattle.raft_log_engine.specs.declared.engine.Refused.{Refused}
+
+-- an opening may answer that memory is wanting
+pub answers_memory : (config : Config) (n : Directory) (before after : Refusals) (e : Fault) → e ≡ fault.Memory → IsOpeningRefusal config.recovery_mode (folders_in config) n before after e
+answers_memory config n before after e is = subst (IsOpeningRefusal config.recovery_mode (folders_in config) n before after) (sym is) (Append, tt)
 
 module _ {F H R W : Type 0} {g : Ghosts F H R W} where
   -- settings that don't contradict one another are used as sanitizing leaves them
@@ -37,6 +42,23 @@ module _ {F H R W : Type 0} {g : Ghosts F H R W} where
           (λ r. IsContradiction config r.fault ⊎ IsOpeningRefusal config.recovery_mode (folders_in config) (g.directory found) (g.refusals_of found) (g.refusals_of r.file_system) r.fault)
       by_result (Ok e) can = (clean, can)
       by_result (Err r) why = inr why
+
+  -- where memory is wanting to begin, nothing is opened
+  pub opens_begun : (config : Config) (found : F) (r : Refused F) → (r.fault ≡ fault.Memory) × (r.file_system ≡ found) → OpensWith {g = g} config found (Err r)
+  opens_begun config found r why = record {
+    contents = tt;
+    ok = tt;
+    rounds = tt;
+    value = tt;
+    settings = tt;
+    memory = tt;
+    durable = tt;
+    now = tt;
+    any_moment = subst (λ (f : F). MovesBy g.directory g.moments g.refusals_of (StillRecovers (folders_in config)) found f) (sym why.1) (moves_none (λ m batches kept. kept));
+    readable = subst (λ (f : F). MovesBy g.directory g.moments g.refusals_of (LeavesReadableIn (folders_in config)) found f) (sym why.1) (moves_none (λ queue. readable_same (folders_in config) queue (g.directory found) (g.directory found) (λ k path fits is. refl)));
+    unchanged = subst (λ (e : Fault). IsUntouched (g.directory found) (g.directory r.file_system) e) (sym why.0) tt;
+    others = subst (λ (f : F). LeavesAllButOpened (folders_in config) (g.directory found) (g.directory f)) (sym why.1) (λ q none reserved. refl);
+  }
 
   -- where they do, nothing is opened
   pub opens_contradictory : (config : Config) (found : F) (why : Fault) → IsContradiction config why → Opens {g = g} config found (Err (record { fault = why; file_system = found }))

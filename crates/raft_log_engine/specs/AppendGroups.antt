@@ -5,7 +5,8 @@ use Rattle.raft_base.specs.declared.errors.Fault.{Fault}
 use Rattle.raft_env.specs.declared.env.FileSystem.{Ghosts}
 use Rattle.raft_pipes.specs.PipeState.{last_seq}
 use Rattle.raft_purge.specs.Scope.{HasRotatedAt}
-use Rattle.raft_purge_rules.specs.NextGroups.{comes_before}
+use Rattle.raft_purge_rules.specs.NextGroups.{AreNextGroups, FitBudget, comes_before}
+use Rattle.raft_purge_rules.specs.declared.within_budget.NextGroups.{NextGroups}
 use Rattle.raft_purge_steps.specs.Emptied.{HasNoneToMove}
 use Rattle.raft_rewrite.specs.Emptied.{MovesOnly}
 use Rattle.raft_stale.specs.Scope.{HasLostFront}
@@ -27,10 +28,14 @@ pub record HasRewrittenFrom (watermark from : ℕ) (next : Option ℕ) (t t' : T
 module _ {F H R W : Type 0} {g : Ghosts F H R W} where
   -- up to the watermark, which is the last file at most: then the queue goes on to a next one. Both
   -- queues begin as before. What is refused loses no file in which something stands
-  pub record RewritesGroups (watermark from : ℕ) (result : Result (Option ℕ) Fault)
+  pub record RewritesGroups (watermark from budget : ℕ) (result : Result (Option ℕ) Fault)
       (old new : Engine F H R W g) : Type 0 where
     pub rewritten : IfOk result (λ next. HasRewrittenFrom (min watermark (last_seq (queue_of old))) from
         next (tables_of old.tables) (tables_of new.tables))
+    -- they are as many as fit the budget
+    pub fits : IfOk result (λ next. (x : NextGroups) × (x.next ≡ next)
+        × AreNextGroups from (tables_of old.tables) x
+        × FitBudget budget (min watermark (last_seq (queue_of old))) old.tables x)
     pub rotated : OnOk result (HasRotatedAt (min watermark (last_seq (queue_of old)))
         (queue_of old) (queue_of new))
     pub append : OnOk result ((queue_of new).first ≡ (queue_of old).first)

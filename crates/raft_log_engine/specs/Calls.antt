@@ -62,6 +62,7 @@ module _ {F H R W : Type 0} {g : Ghosts F H R W} where
     pub ok : IfOk result (λ answers. HasWrittenGroup sync batches rest old new answers.items)
     pub err : OnErr result (has_failed new ≡ false → (contents_of new ≡ contents_of old)
         × (rest ≡ batches) × ChangesNoFile old new)
+    pub same : OnErr result (has_failed new ≡ false → ChangesNothing old new)
     pub progress : MatchResult result
         (λ answers. Progresses (accepted_in answers.items batches) sync [] (durability_of old)
         (durability_of new))

@@ -95,8 +95,8 @@ pub fn the_damage_of_an_engine_is_detectable<F: FileSystem>(engine: &Engine<F>)
 }
 
 /// A next log file that a queue of an engine that hasn't failed goes on to has the settings' version
-/// and size, and purges keep so many files to be used again as the settings say: none where they don't
-/// recycle, and none of the Rewrite queue.
+/// and size, and purges have room for so many files to be used again as the settings say: none where
+/// they don't recycle, and none of the Rewrite queue.
 pub fn pipes_are_made_by_the_settings<F: FileSystem>(engine: &Engine<F>)
     ensures form { has_failed engine.now ≡ false
         → HaveForm (form_by (settings_of engine.now)) engine.now.pipes }

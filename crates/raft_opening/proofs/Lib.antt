@@ -21,3 +21,4 @@ pub mod SealedFileLemmas
 pub mod SettledFilesLemmas
 pub mod SettledQueueLemmas
 pub mod SingleLemmas
+pub mod SpanLemmas

@@ -21,7 +21,7 @@ use Rattle.raft_files.specs.Writer.{IsWriterOf, bytes_at, bytes_of}
 use Rattle.raft_pipes.specs.Blocks.{HasBlocks}
 use Rattle.raft_opening.specs.Files.{AreSettledFrom, HaveBlocks, IsSettledTo, LeavesAllBut}
 use Rattle.raft_pipes.specs.Files.{EachFile, IsDurable, IsOpenableFile}
-use Rattle.raft_pipes.specs.Folder.{HasFileFor, LeavesOthers, log_files_of, readable_of, readable_queue}
+use Rattle.raft_pipes.specs.Folder.{HasFileFor, IsQueueSpan, LeavesOthers, log_files_of, readable_of, readable_queue}
 use Rattle.raft_opening.specs.Folder.{first_file_of}
 use Rattle.raft_config.specs.Folders.{all_of, Folders}
 use Rattle.raft_opening.specs.LogFile.{bytes_kept, format_in, opened_bytes}
@@ -47,6 +47,7 @@ use Rattle.raft_pipes.proofs.PlacesLemmas.{found_is_path, found_stands, paths_of
 use Rattle.raft_pipes.proofs.PipeNamesLemmas.{length-sealed_paths}
 use Rattle.raft_pipes.proofs.QueueFilesLemmas.{all_push, last_behind}
 use Rattle.raft_pipes.proofs.SpareLemmas.{after_own}
+use Rattle.raft_opening.proofs.SpanLemmas.{span_kept}
 
 -- A file with the batches that could be read of it.
 
@@ -232,6 +233,26 @@ begun_queue queue p folders folder among old new folders_are queue_is first_is s
 
     no_bytes : bytes_at path old ≡ []
     no_bytes = ap bytes_of (no_first_file queue folders folder among old empty)
+
+-- The files that stand are the pipe's own.
+
+pub opened_span : (queue : LogQueue) (p : PipeState) (folders : Folders) (front : List (ℕ × Path)) (last : ℕ × Path) (replayed : List ReplayedLog) (old new : Directory) → p.queue ≡ queue → p.first ≡ (get_or (front ++ last ∷ []) 0 last).0 → sealed_paths p ≡ map (λ f. f.1) front
+    → log_files_of queue folders old ≡ front ++ last ∷ [] → AreSingle (all_of folders) queue old → AllZip (λ f r. r.id ≡ in_queue queue f.0) front replayed → AreSettledFrom old new (map (λ f. f.1) front) replayed → HasFile new last.1
+    → LeavesAllBut (map (λ f. f.1) (front ++ last ∷ [])) old new → IsQueueSpan queue folders new (p.first, last_seq p)
+opened_span queue p folders front last replayed old new queue_is first_is sealed_is is single ids settled stands others =
+    let run = numbered queue folders front last old new is single in
+    let at : p.first ≡ run.0 = first_is ∙ run_first (paths_of (all_of folders) queue old) run.0 (front ++ last ∷ []) last (omega (arith, length-append front (last ∷ []))) run.1.run in
+    let seq : last_seq p ≡ last.0 = ap (λ (i : FileId). i.seq) (last_of_pipe queue folders front last old new is single p queue_is first_is sealed_is) in
+    let each = each_file queue (λ path id. IsSettledTo path id (bytes_at path old) new) front replayed ids settled in
+    let span = span_kept (all_of folders) queue run.0 (map (opened_file queue old) front) last.0 last.1 new (files_opened queue folders front last old new is single each others stands) stands in
+    (span.0 ∙ ap Some (sym at), span.1 ∙ ap Some (sym seq))
+
+pub begun_span : (queue : LogQueue) (p : PipeState) (folders : Folders) (folder : Path) → Contains (all_of folders) folder → (old new : Directory) → p.first ≡ 1 → p.sealed ≡ [] → log_files_of queue folders old ≡ [] → HasFile new (path_of folder (first_file_of queue))
+    → LeavesOthers (path_of folder (first_file_of queue)) old new → IsQueueSpan queue folders new (p.first, last_seq p)
+begun_span queue p folders folder among old new first_is sealed_is empty stands others =
+    let span = span_kept (all_of folders) queue 1 [] 1 (path_of folder (first_file_of queue)) new (first_files queue folders folder among old new empty others) stands in
+    let last : 1 ≡ last_seq p = omega (arith, first_is, ap length sealed_is) in
+    (span.0 ∙ ap Some (sym first_is), span.1 ∙ ap Some last)
 
 -- Places.
 

@@ -1,5 +1,5 @@
 -- Which groups are rewritten next, within a budget.
-use Rattle.std.specs.Prelude.{◌≡◌, ◌<◌, ◌≤◌, ◌+◌, ◌⊎◌, ℕ, Bool, true, ◌&&◌, drop, nat_eq, nat_le, nat_lt, Option, None, Some, is_some}
+use Rattle.std.specs.Prelude.{◌≡◌, ◌<◌, ◌≤◌, ◌+◌, ◌⊎◌, ℕ, Bool, true, ◌&&◌, drop, length, nat_eq, nat_le, nat_lt, Option, None, Some, is_some}
 use Rattle.std.specs.List.{list_any, sum_by}
 use Rattle.std.specs.Option.{IfSome}
 use Rattle.raft_tables.specs.Tables.{Tables}
@@ -17,6 +17,8 @@ pub record AreNextGroups (from : ℕ) (t : Tables) (x : NextGroups) : Type 0 whe
   pub each : (g : ℕ) → list_any (nat_eq g) x.groups.items
       ≡ (is_some (t g) && (nat_le from g && comes_before x.next g))
   pub next : IfSome x.next (λ g. (from < g) × (is_some (t g) ≡ true))
+  -- none follows where there is none
+  pub some : IfSome x.next (λ g. 0 < length x.groups.items)
 
 -- they have at most so many bytes, or none but the first has any, and with the next one they have more
 pub record FitBudget (budget watermark : ℕ) (m : MemTables) (x : NextGroups) : Type 0 where

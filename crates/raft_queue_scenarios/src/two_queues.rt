@@ -131,6 +131,21 @@ static EMPTY_FILE: [Case; 1] = [Case {
     ],
 }];
 
+static HEADER_ALONE: [Case; 1] = [Case {
+    name: "a queue begins at its first file, also where that has no record",
+    stored: &[
+        ("data/0000000000000001.raftlog", &[HEADER]),
+        ("data/0000000000000002.raftlog", &[HEADER, PUT_2]),
+    ],
+    steps: &[Step::Scan, Step::ReadBoth(1, 0), Step::Cuts(&[])],
+    finished: Ok((2, 1)),
+    files: &[
+        ("data/0000000000000001.raftlog", 69),
+        ("data/0000000000000002.raftlog", 97),
+        ("data/0000000000000001.rewrite", 69),
+    ],
+}];
+
 static BROKEN_FILE: [Case; 1] = [Case {
     name: "a file before the last one is broken",
     stored: &[
@@ -153,8 +168,8 @@ static BROKEN_FILE: [Case; 1] = [Case {
 }];
 
 // A function is checked with all of each table that it names, and that grows with the square of the table.
-fn cases() -> [&'static [Case]; 4] {
-    [&REFUSED, &THREE_FILES, &EMPTY_FILE, &BROKEN_FILE]
+fn cases() -> [&'static [Case]; 5] {
+    [&REFUSED, &THREE_FILES, &EMPTY_FILE, &HEADER_ALONE, &BROKEN_FILE]
 }
 
 /// Counts batches.

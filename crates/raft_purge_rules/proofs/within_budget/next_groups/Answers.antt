@@ -27,6 +27,7 @@ returns-in-None-2-clause-value c =
     record {
       each = λ k. each_of_some from k g all groups ys (is_some (tables_of c.args.tables.now k)) split sorted (known k);
       next = (next_above from g all groups ys split sorted some, sym (known g) ∙ next_known from g all groups ys split);
+      some = some;
     }
 
 pub returns-in-None-2-clause-ascending : goal.returns-in-None-2-clause-ascending
@@ -48,6 +49,7 @@ returns-clause-value c =
     record {
       each = λ k. each_of_all from k all groups (is_some (tables_of c.args.tables.now k)) is (known k);
       next = tt;
+      some = tt;
     }
 
 pub returns-clause-ascending : goal.returns-clause-ascending

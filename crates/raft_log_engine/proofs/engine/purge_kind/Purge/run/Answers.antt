@@ -21,12 +21,12 @@ use Rattle.raft_tables.specs.Owed.{Owed}
 use Rattle.raft_tables.specs.Tables.{tables_of}
 use Rattle.raft_tables.specs.OwedMarks.{owed_of}
 use Rattle.raft_log_engine.proofs.PurgeFaultLemmas.{atomic_weaker, both_ok, or_unfit, refusal_weaker, stale_files, unfit_where}
-use Rattle.raft_log_engine.proofs.engine.purge_kind.run.Goals as goal
+use Rattle.raft_log_engine.proofs.engine.purge_kind.Purge.run.Goals as goal
 
 -- A log of the Append queue is kept whatever is known of atomic groups.
 
 pub returns-in-RewriteAppend-clause-log : goal.returns-in-RewriteAppend-clause-log
-returns-in-RewriteAppend-clause-log g c = still_at (λ _. known_groups c.args.groups.now) c.rewrite_append_queue.ensures.log
+returns-in-RewriteAppend-clause-log g c = still_at (λ _. known_groups c.args.groups.now) c.rewrite_append_queue.ensures.purges.log
 
 pub returns-in-RewriteAppend-clause-files : goal.returns-in-RewriteAppend-clause-files
 returns-in-RewriteAppend-clause-files g c =
@@ -35,7 +35,7 @@ returns-in-RewriteAppend-clause-files g c =
 -- One of the Rewrite queue is, whatever marks are owed.
 
 pub returns-in-RewriteRewrite-clause-log : goal.returns-in-RewriteRewrite-clause-log
-returns-in-RewriteRewrite-clause-log g c = still_at (λ _. owed_of c.args.owed.now) c.rewrite_rewrite_queue.ensures.log
+returns-in-RewriteRewrite-clause-log g c = still_at (λ _. owed_of c.args.owed.now) c.rewrite_rewrite_queue.ensures.purges.log
 
 pub returns-in-RewriteRewrite-clause-files : goal.returns-in-RewriteRewrite-clause-files
 returns-in-RewriteRewrite-clause-files g c =
@@ -52,10 +52,10 @@ returns-in-DropStale-clause-files g c =
 -- What each leaves where it is refused.
 
 pub returns-in-RewriteAppend-clause-front : goal.returns-in-RewriteAppend-clause-front
-returns-in-RewriteAppend-clause-front g c = rw c.in-RewriteAppend.is c.rewrite_append_queue.ensures.front
+returns-in-RewriteAppend-clause-front g c = rw c.in-RewriteAppend.is c.rewrite_append_queue.ensures.purges.front
 
 pub returns-in-RewriteRewrite-clause-front : goal.returns-in-RewriteRewrite-clause-front
-returns-in-RewriteRewrite-clause-front g c = rw c.in-RewriteRewrite.is c.rewrite_rewrite_queue.ensures.front
+returns-in-RewriteRewrite-clause-front g c = rw c.in-RewriteRewrite.is c.rewrite_rewrite_queue.ensures.purges.front
 
 pub returns-in-DropStale-clause-front : goal.returns-in-DropStale-clause-front
 returns-in-DropStale-clause-front g c = rw c.in-DropStale.is c.purge_all_stale.ensures.front
@@ -100,7 +100,7 @@ returns-in-RewriteAppend-clause-cause g c =
     let n = g.F.FileSystem.directory c.args.file_system.now in
     let Q = IsLog (log_of d t owed met n) in
     let P : LogValue → Type 0 = λ v. (k : KnownGroups) × IsLog (log_of d t owed k n) v in
-    rw c.in-RewriteAppend.is (IfErr-weaker c.rewrite_append_queue.result _ _ (refusal_weaker d c.rewrite_append_queue.new.pipes (g.F.FileSystem.directory c.rewrite_append_queue.new.file_system) (g.F.FileSystem.refusals_of c.args.file_system.now) (g.F.FileSystem.refusals_of c.rewrite_append_queue.new.file_system) (IsUnfitWhere P) (IsUnfitWhere Q) (unfit_where P Q (λ v held. (met, held)))) c.rewrite_append_queue.ensures.cause)
+    rw c.in-RewriteAppend.is (IfErr-weaker c.rewrite_append_queue.result _ _ (refusal_weaker d c.rewrite_append_queue.new.pipes (g.F.FileSystem.directory c.rewrite_append_queue.new.file_system) (g.F.FileSystem.refusals_of c.args.file_system.now) (g.F.FileSystem.refusals_of c.rewrite_append_queue.new.file_system) (IsUnfitWhere P) (IsUnfitWhere Q) (unfit_where P Q (λ v held. (met, held)))) c.rewrite_append_queue.ensures.purges.cause)
 
 pub returns-in-RewriteRewrite-clause-cause : goal.returns-in-RewriteRewrite-clause-cause
 returns-in-RewriteRewrite-clause-cause g c =
@@ -113,7 +113,7 @@ returns-in-RewriteRewrite-clause-cause g c =
     let P : LogValue → Type 0 = λ v. (o : Owed) × IsLog (log_of d t o met n) v in
     let groups = c.rewrite_rewrite_queue.new.groups in
     let n' = g.F.FileSystem.directory c.rewrite_rewrite_queue.new.file_system in
-    rw c.in-RewriteRewrite.is (IfErr-weaker c.rewrite_rewrite_queue.result _ _ (atomic_weaker d c.rewrite_rewrite_queue.new.pipes n' (g.F.FileSystem.refusals_of c.args.file_system.now) (g.F.FileSystem.refusals_of c.rewrite_rewrite_queue.new.file_system) (λ e. HasNoId groups e ⊎ IsUnfitWhere P e) (λ e. HasNoId groups e ⊎ IsUnfitWhere Q e) (or_unfit groups (IsUnfitWhere P) (IsUnfitWhere Q) (unfit_where P Q (λ v held. (owed, held))))) c.rewrite_rewrite_queue.ensures.cause)
+    rw c.in-RewriteRewrite.is (IfErr-weaker c.rewrite_rewrite_queue.result _ _ (atomic_weaker d c.rewrite_rewrite_queue.new.pipes n' (g.F.FileSystem.refusals_of c.args.file_system.now) (g.F.FileSystem.refusals_of c.rewrite_rewrite_queue.new.file_system) (λ e. HasNoId groups e ⊎ IsUnfitWhere P e) (λ e. HasNoId groups e ⊎ IsUnfitWhere Q e) (or_unfit groups (IsUnfitWhere P) (IsUnfitWhere Q) (unfit_where P Q (λ v held. (owed, held))))) c.rewrite_rewrite_queue.ensures.purges.cause)
 
 pub returns-in-DropStale-clause-cause : goal.returns-in-DropStale-clause-cause
 returns-in-DropStale-clause-cause g c = rw c.in-DropStale.is c.purge_all_stale.ensures.cause
@@ -125,10 +125,20 @@ pub rewrite_rewrite_queue-requires-clause-some : goal.rewrite_rewrite_queue-requ
 rewrite_rewrite_queue-requires-clause-some g c = λ κs within. ∥∥₁_map c.requires.some (λ x. (owed_of c.args.owed.now, x.0, x.1))
 
 pub returns-in-DropExpired-clause-files : goal.returns-in-DropExpired-clause-files
-returns-in-DropExpired-clause-files g c = rw c.in-DropExpired.is c.purge_expired.ensures.files
+returns-in-DropExpired-clause-files g c = rw c.in-DropExpired.is c.purge.ensures.files
 
 pub returns-in-DropExpired-clause-cause : goal.returns-in-DropExpired-clause-cause
-returns-in-DropExpired-clause-cause g c = rw c.in-DropExpired.is c.purge_expired.ensures.cause
+returns-in-DropExpired-clause-cause g c =
+    let d = c.args.pipes.now in
+    let t = tables_of c.args.tables.now in
+    let owed = owed_of c.args.owed.now in
+    let met = known_groups c.args.groups.now in
+    let n = g.F.FileSystem.directory c.args.file_system.now in
+    let Q = IsLog (log_of d t owed met n) in
+    let P : LogValue → Type 0 = λ v. (x : Unit {0}) × IsLog (log_of d t owed met n) v in
+    let groups = c.purge.new.met in
+    let n' = g.F.FileSystem.directory c.purge.new.file_system in
+    rw c.in-DropExpired.is (IfErr-weaker c.purge.result _ _ (atomic_weaker d c.purge.new.pipes n' (g.F.FileSystem.refusals_of c.args.file_system.now) (g.F.FileSystem.refusals_of c.purge.new.file_system) (λ e. HasNoId groups e ⊎ IsUnfitWhere P e) (λ e. HasNoId groups e ⊎ IsUnfitWhere Q e) (or_unfit groups (IsUnfitWhere P) (IsUnfitWhere Q) (unfit_where P Q (λ v held. (tt, held))))) c.purge.ensures.purges.cause)
 
 -- The cache, where it isn't lent.
 
@@ -141,7 +151,7 @@ returns-in-DropStale-clause-holds g c =
     if_stands_map c.purge_all_stale.result (Unit {0} → KeepsLog a b) _ (λ keeps. ∥∥₁_elim c.requires.some (hlevel props) (λ x. rest_log a b c.args.cache.now (keeps tt) x.0 x.1 c.requires.holds)) c.purge_all_stale.ensures.log.now
 
 pub returns-in-DropExpired-clause-first : goal.returns-in-DropExpired-clause-first
-returns-in-DropExpired-clause-first g c = rw c.in-DropExpired.is (on_err_of c.purge_expired.result _ c.purge_expired.ensures.first)
+returns-in-DropExpired-clause-first g c = rw c.in-DropExpired.is (on_err_of c.purge.result _ c.purge.ensures.first)
 
 -- Where nothing is to be rewritten.
 
@@ -155,7 +165,7 @@ pub returns-in-DropStale-clause-idle : goal.returns-in-DropStale-clause-idle
 returns-in-DropStale-clause-idle g c = rw c.in-DropStale.is (if_ok c.purge_all_stale.result _ (λ never. absurd never))
 
 pub returns-in-DropExpired-clause-idle : goal.returns-in-DropExpired-clause-idle
-returns-in-DropExpired-clause-idle g c = rw c.in-DropExpired.is c.purge_expired.ensures.idle
+returns-in-DropExpired-clause-idle g c = rw c.in-DropExpired.is c.purge.ensures.idle
 
 -- Which groups it leaves where they are.
 
@@ -169,21 +179,21 @@ pub returns-in-DropStale-clause-others : goal.returns-in-DropStale-clause-others
 returns-in-DropStale-clause-others g c = rw c.in-DropStale.is (if_ok c.purge_all_stale.result _ tt)
 
 pub returns-in-DropExpired-clause-others : goal.returns-in-DropExpired-clause-others
-returns-in-DropExpired-clause-others g c = rw c.in-DropExpired.is c.purge_expired.ensures.apart
+returns-in-DropExpired-clause-others g c = rw c.in-DropExpired.is c.purge.ensures.apart
 
 -- How what it writes is cut.
 
 pub returns-in-RewriteAppend-clause-cut : goal.returns-in-RewriteAppend-clause-cut
-returns-in-RewriteAppend-clause-cut g c = rw c.in-RewriteAppend.is (on_ok_weaker c.rewrite_append_queue.result (λ cut none. cut 0 (none_cut none)) c.rewrite_append_queue.ensures.cut)
+returns-in-RewriteAppend-clause-cut g c = rw c.in-RewriteAppend.is (on_ok_weaker c.rewrite_append_queue.result (λ cut none. cut 0 (none_cut none)) c.rewrite_append_queue.ensures.purges.cut)
 
 pub returns-in-RewriteRewrite-clause-cut : goal.returns-in-RewriteRewrite-clause-cut
-returns-in-RewriteRewrite-clause-cut g c = rw c.in-RewriteRewrite.is (on_ok_weaker c.rewrite_rewrite_queue.result (λ cut none. cut 0 (none_cut none)) c.rewrite_rewrite_queue.ensures.cut)
+returns-in-RewriteRewrite-clause-cut g c = rw c.in-RewriteRewrite.is (on_ok_weaker c.rewrite_rewrite_queue.result (λ cut none. cut 0 (none_cut none)) c.rewrite_rewrite_queue.ensures.purges.cut)
 
 pub returns-in-DropStale-clause-cut : goal.returns-in-DropStale-clause-cut
 returns-in-DropStale-clause-cut g c = rw c.in-DropStale.is (on_ok_weaker c.purge_all_stale.result (λ cut none. cut 0 (none_cut none)) c.purge_all_stale.ensures.cut)
 
 pub returns-in-DropExpired-clause-cut : goal.returns-in-DropExpired-clause-cut
-returns-in-DropExpired-clause-cut g c = rw c.in-DropExpired.is (on_ok_weaker c.purge_expired.result (λ cut none. cut 0 (none_cut none)) c.purge_expired.ensures.cut)
+returns-in-DropExpired-clause-cut g c = rw c.in-DropExpired.is (on_ok_weaker c.purge.result (λ cut none. cut 0 (none_cut none)) c.purge.ensures.purges.cut)
 
 -- What is counted, and what stays.
 
@@ -221,7 +231,7 @@ rewrite_append_groups-requires-clause-ascending g c = λ κs within.
     subst (λ (gs : List ℕ). IsStrictlySortedBy nat_cmp gs) (sym c.deref.ensures.value) c.in-RewriteGroups.some.ascending
 
 pub returns-in-RewriteGroups-clause-log : goal.returns-in-RewriteGroups-clause-log
-returns-in-RewriteGroups-clause-log g c = still_at (λ _. known_groups c.args.groups.now) c.rewrite_append_groups.ensures.log
+returns-in-RewriteGroups-clause-log g c = still_at (λ _. known_groups c.args.groups.now) c.rewrite_append_groups.ensures.purges.log
 
 pub returns-in-RewriteGroups-clause-files : goal.returns-in-RewriteGroups-clause-files
 returns-in-RewriteGroups-clause-files g c =
@@ -231,7 +241,7 @@ returns-in-RewriteGroups-clause-files g c =
     rw c.in-RewriteGroups.is (groups_left c.rewrite_append_groups.result c.in-RewriteGroups.some c.deref.result.now (tables_of c.args.tables.now) (tables_of c.rewrite_append_groups.new.tables) d.append d.rewrite d'.append d'.rewrite c.deref.ensures.value done.emptied done.rotated done.early done.rewrite)
 
 pub returns-in-RewriteGroups-clause-front : goal.returns-in-RewriteGroups-clause-front
-returns-in-RewriteGroups-clause-front g c = rw c.in-RewriteGroups.is c.rewrite_append_groups.ensures.front
+returns-in-RewriteGroups-clause-front g c = rw c.in-RewriteGroups.is c.rewrite_append_groups.ensures.purges.front
 
 pub returns-in-RewriteGroups-clause-first : goal.returns-in-RewriteGroups-clause-first
 returns-in-RewriteGroups-clause-first g c = rw c.in-RewriteGroups.is (on_err_of c.rewrite_append_groups.result _ c.rewrite_append_groups.ensures.first)
@@ -251,7 +261,7 @@ returns-in-RewriteGroups-clause-cause g c =
     let n = g.F.FileSystem.directory c.args.file_system.now in
     let Q = IsLog (log_of d t owed met n) in
     let P : LogValue → Type 0 = λ v. (k : KnownGroups) × IsLog (log_of d t owed k n) v in
-    rw c.in-RewriteGroups.is (IfErr-weaker c.rewrite_append_groups.result _ _ (refusal_weaker d c.rewrite_append_groups.new.pipes (g.F.FileSystem.directory c.rewrite_append_groups.new.file_system) (g.F.FileSystem.refusals_of c.args.file_system.now) (g.F.FileSystem.refusals_of c.rewrite_append_groups.new.file_system) (IsUnfitWhere P) (IsUnfitWhere Q) (unfit_where P Q (λ v held. (met, held)))) c.rewrite_append_groups.ensures.cause)
+    rw c.in-RewriteGroups.is (IfErr-weaker c.rewrite_append_groups.result _ _ (refusal_weaker d c.rewrite_append_groups.new.pipes (g.F.FileSystem.directory c.rewrite_append_groups.new.file_system) (g.F.FileSystem.refusals_of c.args.file_system.now) (g.F.FileSystem.refusals_of c.rewrite_append_groups.new.file_system) (IsUnfitWhere P) (IsUnfitWhere Q) (unfit_where P Q (λ v held. (met, held)))) c.rewrite_append_groups.ensures.purges.cause)
 
 pub returns-in-RewriteGroups-clause-idle : goal.returns-in-RewriteGroups-clause-idle
 returns-in-RewriteGroups-clause-idle g c = rw c.in-RewriteGroups.is (if_ok c.rewrite_append_groups.result _ (λ never. absurd never))
@@ -261,7 +271,7 @@ returns-in-RewriteGroups-clause-others g c =
     rw c.in-RewriteGroups.is (on_ok_weaker c.rewrite_append_groups.result (subst (λ (gs : List ℕ). KeepsOthers gs (tables_of c.args.tables.now) (tables_of c.rewrite_append_groups.new.tables)) c.deref.ensures.value) c.rewrite_append_groups.ensures.apart)
 
 pub returns-in-RewriteGroups-clause-cut : goal.returns-in-RewriteGroups-clause-cut
-returns-in-RewriteGroups-clause-cut g c = rw c.in-RewriteGroups.is (on_ok_weaker c.rewrite_append_groups.result (λ cut none. cut 0 (none_cut none)) c.rewrite_append_groups.ensures.cut)
+returns-in-RewriteGroups-clause-cut g c = rw c.in-RewriteGroups.is (on_ok_weaker c.rewrite_append_groups.result (λ cut none. cut 0 (none_cut none)) c.rewrite_append_groups.ensures.purges.cut)
 
 pub returns-in-RewriteGroups-clause-counted : goal.returns-in-RewriteGroups-clause-counted
 returns-in-RewriteGroups-clause-counted g c = λ is. absurd (let clash = sym c.in-RewriteGroups.is ∙ is in cc)

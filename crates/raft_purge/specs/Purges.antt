@@ -1,0 +1,50 @@
+-- What a purge makes of the log, and leaves of what it was lent.
+use Rattle.std.specs.Prelude.{◌≡◌, ◌+◌, ◌⊎◌, ℕ, IfErr, IfOk, List, OnOk, Result}
+use Rattle.raft_base.specs.declared.errors.Fault.{Fault}
+use Rattle.raft_base.specs.declared.pipe_log.LogQueue.{LogQueue}
+use Rattle.raft_env.specs.Directory.{Directory}
+use Rattle.raft_env.specs.Refusal.{Refusals}
+use Rattle.raft_entry_blocks.specs.Cache.{HoldsRestIn}
+use Rattle.raft_entry_blocks.specs.Recent.{KeptBlocks}
+use Rattle.raft_listeners.specs.declared.event_sink.EventSink.{Ghosts}
+use Rattle.raft_listeners.specs.declared.purge_events.PurgeEvents.{PurgeEvents}
+use Rattle.raft_queues.specs.Dual.{DualState, pipe_of}
+use Rattle.raft_tables.specs.declared.rewritten.GroupsMet.{GroupsMet}
+use Rattle.raft_crash_laws.specs.Index.{LogIndex}
+use Rattle.raft_purge_steps.specs.Keeping.{StillHolds}
+use Rattle.raft_purge_steps.specs.Steps.{IfStands, IsLog, LogValue, log_by}
+use Rattle.raft_purge_steps.specs.Unfit.{IsUnfitWhere}
+use Rattle.raft_purge_steps.specs.declared.fault.StepFault.{StepFault}
+use Rattle.raft_rewrite.specs.OpenGroup.{HasNoId, IsAtomicRefusal}
+use Rattle.raft_stale.specs.Dropping.{IfFails, KeepsFront}
+
+-- why a purge fails that writes atomic groups: also where no id is left for one
+abbrev pub IsGroupRefusal : GroupsMet → DualState → DualState → Directory → Refusals → Refusals
+    → (Fault → Type 0) → StepFault → Type 0
+IsGroupRefusal groups d d' n' old new IsUnfit =
+    IsAtomicRefusal d d' n' old new (λ e. HasNoId groups e ⊎ IsUnfit e)
+
+-- one of these stands in memory for the log
+abbrev pub IsLogBy : {X : Type 0} → (X → LogIndex) → DualState → Directory → LogValue → Type 0
+IsLogBy {X} i d n v = (x : X) × IsLog (log_by d (i x) n) v
+
+-- on files of which these are the directory, its moments and the refusals of calls
+module _ {F : Type 0} (directory : F → Directory) (moments : F → List Directory)
+    (refusals_of : F → Refusals) where
+  -- a purge keeps the log, whichever of these stand for it in memory. It answers how many files of a
+  -- queue it drops; where the log is in doubt that begins as before. The batches that were written are
+  -- cut so, and unless the log is in doubt the blocks that are kept are the log's. `Why` says why it
+  -- fails, of what it can't write
+  pub record Purges {X L : Type 0} {g : Ghosts L} (queue : LogQueue)
+      (Why : DualState → DualState → Directory → Refusals → Refusals → (Fault → Type 0) → StepFault
+      → Type 0)
+      (IsCutSo : PurgeEvents L g → PurgeEvents L g → Type 0) (result : Result ℕ StepFault)
+      (i i' : X → LogIndex) (d d' : DualState) (kept' : KeptBlocks) (old new : F)
+      (events events' : PurgeEvents L g) : Type 0 where
+    pub log : StillHolds directory moments refusals_of result i i' d d' old new events events'
+    pub value : IfOk result (λ count. (pipe_of queue d).first + count ≡ (pipe_of queue d').first)
+    pub front : IfFails result (KeepsFront queue d d')
+    pub cut : OnOk result (IsCutSo events events')
+    pub holds : IfStands result (HoldsRestIn d' (directory new) kept')
+    pub cause : IfErr result (Why d d' (directory new) (refusals_of old) (refusals_of new)
+        (IsUnfitWhere (IsLogBy i d (directory old))))
