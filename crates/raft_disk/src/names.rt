@@ -24,6 +24,11 @@ pub fn is_log_name(name: &str) -> bool
     are_digits(number) && is_log_end(end)
 }
 
+/// Whether a log file of this name waits to be used again.
+pub(crate) fn is_reserved_name(name: &str) -> bool {
+    name.ends_with(".reserved")
+}
+
 fn are_digits(number: &[u8]) -> bool
     ensures value { result ≡ list_all is_ascii_digit number.now }
 {

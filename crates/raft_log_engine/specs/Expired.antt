@@ -48,6 +48,7 @@ module _ {F H R W : Type 0} {g : Ghosts F H R W} where
     pub idle :
         needs_of e ≡ no_needs
         → (e'.pipes ≡ e.pipes) × (e'.tables ≡ e.tables) × (e'.stats ≡ e.stats)
+        × (e'.groups ≡ e.groups)
     pub rounds :
         (group : ℕ) → rounds_of e'.rounds group
         ≡ rounds_after (needs_of e).append

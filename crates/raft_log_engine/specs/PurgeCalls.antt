@@ -60,7 +60,7 @@ module _ {F H R W : Type 0} {g : Ghosts F H R W} where
         (LeavesBehind purge (queue_of old) (tables_of old.tables) (tables_of new.tables))
     pub apart : OnOk result (LeavesOthers purge (tables_of old.tables) (tables_of new.tables))
     pub idle : OnOk result (IsIdlePurge purge → (new.pipes ≡ old.pipes)
-        × (new.tables ≡ old.tables) × (new.stats ≡ old.stats))
+        × (new.tables ≡ old.tables) × (new.stats ≡ old.stats) × (new.groups ≡ old.groups))
     pub rounds : new.rounds ≡ old.rounds
     -- a rewriting of the Rewrite queue counts anew, and a drop of stale files moves and counts nothing
     pub counted : purge ≡ RewriteRewrite → OnOk result (deleted_count new.stats ≡ 0)

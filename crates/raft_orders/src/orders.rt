@@ -130,12 +130,18 @@ impl Disk for Orders {
 
     ghost file_path = { λ f. string_bytes f.path };
 
-    fn can_hold_file(&self, path: &str) -> bool {
-        is_plain(path)
+    fn check_file(&self, path: &str) -> Result<(), FsFault> {
+        if is_plain(path) {
+            return Ok(());
+        }
+        Err(FsFault::Io(IoKind::Other))
     }
 
-    fn can_hold_folder(&self, path: &str) -> bool {
-        path.is_empty() || is_plain(path)
+    fn check_folder(&self, path: &str) -> Result<(), FsFault> {
+        if path.is_empty() {
+            return Ok(());
+        }
+        self.check_file(path)
     }
 
     fn create(&mut self, path: &str) -> Result<(), FsFault> {
@@ -166,7 +172,7 @@ impl Disk for Orders {
         file.path.as_str()
     }
 
-    fn open(&self, path: &str) -> Result<OrderedFile, FsFault> {
+    fn open(&mut self, path: &str) -> Result<OrderedFile, FsFault> {
         match String::from_str(self.alloc, path) {
             Ok(path) => Ok(OrderedFile { path }),
             Err(_) => Err(FsFault::Memory),

@@ -16,4 +16,5 @@ pub use chunk_reach::{Reach, Starts};
 pub use group_reaches::Reaches;
 pub use machine::RecoveryMachine;
 pub use own_tables::AppendedBatches;
+pub use raft_tables::{InOrder, Joining, SideBySide};
 pub use reading::{Read, read_of};

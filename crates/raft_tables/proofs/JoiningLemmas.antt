@@ -23,14 +23,14 @@ use Rattle.raft_tables.specs.declared.memtables.MemTables.{MemTables}
 use Rattle.raft_tables.specs.declared.stats.GlobalStats.{GlobalStats}
 use Rattle.raft_tables.proofs.TablesLemmas.{Groups}
 
-eq_from_test : (a b : ℕ) → (a == b) ≡ true → a ≡ b
+pub eq_from_test : (a b : ℕ) → (a == b) ≡ true → a ≡ b
 eq_from_test a b same = grind (arith, common_steps)
 
-with_entries-nothing : (es : List (ℕ × EntryPlace)) → with_entries [] es ≡ es
+pub with_entries-nothing : (es : List (ℕ × EntryPlace)) → with_entries [] es ≡ es
 with_entries-nothing [] = refl
 with_entries-nothing (e ∷ es) = refl
 
-option_or-none : (o : Option StoredValue) → option_or o None ≡ o
+pub option_or-none : (o : Option StoredValue) → option_or o None ≡ o
 option_or-none None = refl
 option_or-none (Some v) = refl
 
@@ -75,7 +75,7 @@ join_step l a j group t v first table joined = record {
 abbrev pub tables_in : List (ℕ × MemTable) → Tables
 tables_in es group = option_map table_of (lookup (nat_eq group) es)
 
-tables_in-rest : (e : ℕ × MemTable) (es : List (ℕ × MemTable)) → IsDistinct nat_eq (keys_of (e ∷ es)) → tables_in es ≡ with_table e.0 None (tables_in (e ∷ es))
+pub tables_in-rest : (e : ℕ × MemTable) (es : List (ℕ × MemTable)) → IsDistinct nat_eq (keys_of (e ∷ es)) → tables_in es ≡ with_table e.0 None (tables_in (e ∷ es))
 tables_in-rest e es distinct = λ i g. at g (g == e.0) refl i
   where
     at : (g : ℕ) (b : Bool) → (g == e.0) ≡ b → option_map table_of (lookup (nat_eq g) es) ≡ cond b None (option_map table_of (cond b (Some e.1) (lookup (nat_eq g) es)))
@@ -109,6 +109,13 @@ total-insert m n group new old none is puts =
     let sum = sum_by_puts_entry (λ (t : MemTable). rewritten_in (table_of t)) nat_eq m.tables n group new old is puts in
     let nothing = ap (λ o. unwrap_or (option_map (λ (t : MemTable). rewritten_in (table_of t)) o) 0) (is ∙ sym none) in
     omega (arith, sum, nothing)
+
+pub total-put : (m : MemTables) (n : Groups) (group : ℕ) (new : MemTable) (old : Option MemTable) → old ≡ hash.get nat_eq m.tables group → hash.PutsEntry nat_eq m.tables n group new old
+    → unwrap_or (option_map (λ (t : MemTable). rewritten_in (table_of t)) old) 0 + rewritten_total (record { alloc = m.alloc; tables = n }) ≡ rewritten_in (table_of new) + rewritten_total m
+total-put m n group new old is puts =
+    let sum = sum_by_puts_entry (λ (t : MemTable). rewritten_in (table_of t)) nat_eq m.tables n group new old is puts in
+    let was = ap (λ o. unwrap_or (option_map (λ (t : MemTable). rewritten_in (table_of t)) o) 0) is in
+    omega (arith, sum, was)
 
 -- .. and so many more were placed there than left
 pub total-written : (m : MemTables) (n : Groups) (group : ℕ) (old new : MemTable) (left placed : ℕ) → Some old ≡ hash.get nat_eq m.tables group → n.entries ≡ set_value (nat_eq group) m.tables.entries new

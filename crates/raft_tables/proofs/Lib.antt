@@ -23,3 +23,4 @@ pub mod TakingLemmas
 pub mod WrittenLemmas
 pub mod GroupIdsLemmas
 pub mod AscendingLemmas
+pub mod PairLemmas

@@ -24,3 +24,4 @@ pub mod Moving
 pub mod ToMove
 pub mod Deleting
 pub mod Replayed
+pub mod Pairs

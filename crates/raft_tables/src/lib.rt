@@ -13,6 +13,7 @@ pub mod memtables;
 mod moving;
 pub mod owed;
 mod packed_place;
+mod pairs;
 pub mod recovering;
 pub mod rewritten;
 mod span;
@@ -21,6 +22,7 @@ mod validity;
 
 pub use entries::EntryTable;
 pub use group_ids::GroupIds;
+pub use joining::{InOrder, Joining, SideBySide};
 pub use memtable::{KeyAndValue, MemTable};
 pub use memtables::MemTables;
 pub use owed::OwedMarks;
