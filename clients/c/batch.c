@@ -54,19 +54,24 @@ void raftlog_batch_clear(raftlog_batch *batch) { batch->len = 0, batch->count = 
 
 bool raftlog_batch_is_empty(const raftlog_batch *batch) { return batch->count == 0; }
 
+static bool grow(raftlog_batch *batch, size_t wanted) {
+    if (wanted > SIZE_MAX / 2) return false;
+    size_t room = batch->room * 2;
+    if (room < wanted) room = wanted;
+    if (room < 256) room = 256;
+    uint8_t *data = realloc(batch->data, room);
+    if (!data) return false;
+    batch->data = data;
+    batch->room = room;
+    return true;
+}
+
 /* Makes room for an item, and before the first one for the number of them: where the item begins, or NULL. */
-static uint8_t *reserve(raftlog_batch *batch, size_t more) {
-    if (more > SIZE_MAX / 4 || batch->len > SIZE_MAX / 4) return NULL;
-    if (batch->room < batch->len + more + 8) {
-        size_t room = batch->room * 2;
-        if (room < batch->len + more + 8) room = batch->len + more + 8;
-        if (room < 256) room = 256;
-        uint8_t *data = realloc(batch->data, room);
-        if (!data) return NULL;
-        batch->data = data;
-        batch->room = room;
-    }
-    return batch->data + (batch->len ? batch->len : 8);
+static inline uint8_t *reserve(raftlog_batch *batch, size_t more) {
+    size_t at = batch->len ? batch->len : 8;
+    bool has_room = batch->room > at && batch->room - at >= more;
+    if (!has_room && (more > SIZE_MAX / 4 || !grow(batch, at + more))) return NULL;
+    return batch->data + at;
 }
 
 /* These put something at a place of a batch, and answer the place behind it. */

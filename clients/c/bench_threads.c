@@ -1,6 +1,6 @@
 /* Synced puts by many threads, and a get beside them: `bench_threads FOLDER [WORD=NUMBER]..`. Of
- * each number of threads each store has its turn, again and again; the best turn counts, with its
- * spread.
+ * each number of threads each store has its turn, again and again; told are the best turn, and the
+ * puts of the middle one.
  *   seconds=1   of a turn        turns=3      of each store       threads=0    1, 4, 16 and 64
  *   sync-us=0   a disk of our own: a sync takes so long, below 0 no time, and nothing goes to the disk
  *   pause-us=0  the most that a writer waits between its puts
@@ -23,7 +23,7 @@
 #include <time.h>
 #include <unistd.h>
 
-enum { MOST = 64, STORES = 5, KEYS = 1000, TIMES = 1 << 16 };
+enum { MOST = 64, STORES = 5, KEYS = 1000, TIMES = 1 << 16, TURNS = 100 };
 
 static struct {
     long seconds, turns, threads, sync_us, pause_us, reads, peers, fill;
@@ -254,20 +254,25 @@ static void fill(const struct store **stores, const char *folder) {
 
 /* ---- all of them */
 
+static double middle_of(float *some, long count) {
+    qsort(some, (size_t)count, sizeof *some, by_size);
+    return (double)some[count / 2];
+}
+
 static void compare(const struct store **stores, const char *folder, long threads) {
+    static float puts[STORES][TURNS];
     struct result best[STORES] = {0};
-    double least[STORES];
     for (long t = 0; t < set.turns; t++)
         for (int s = 0; stores[s]; s++) {
             struct result one = turn(stores[s], folder, threads);
             bool is_best =
-                set.reads && threads ? !t || one.middle < best[s].middle : one.puts > best[s].puts;
-            if (!t || one.puts < least[s]) least[s] = one.puts;
+                set.reads && threads ? one.middle < best[s].middle : one.puts > best[s].puts;
+            puts[s][t] = (float)one.puts;
             if (!t || is_best) best[s] = one;
         }
     for (int s = 0; stores[s]; s++)
         printf("%7ld %-8s %9.0f %9.0f %9.0f %9.2f %9.1f %9.1f\n", threads, stores[s]->name,
-               best[s].puts, least[s], best[s].syncs,
+               best[s].puts, middle_of(puts[s], set.turns), best[s].syncs,
                best[s].syncs > 0 ? best[s].puts / best[s].syncs : 0, best[s].middle,
                best[s].worst);
 }
@@ -290,7 +295,8 @@ static bool parse(int argc, char **argv) {
         }
         if (!is_known) return fprintf(stderr, "no such word: %s\n", argv[i]), false;
     }
-    return argc > 1 && set.seconds > 0 && set.threads <= MOST;
+    return argc > 1 && set.seconds > 0 && set.threads <= MOST && set.turns > 0
+           && set.turns <= TURNS;
 }
 
 int main(int argc, char **argv) {
@@ -312,7 +318,7 @@ int main(int argc, char **argv) {
             }
     }
     if (set.fill) return fill(stores, argv[1]), 0;
-    printf("threads store       puts/s     least   syncs/s puts/sync  %s\n",
+    printf("threads store       puts/s    middle   syncs/s puts/sync  %s\n",
            set.reads ? "get: middle, slowest 1% us" : "put: middle, slowest 1% us");
     if (set.reads) compare(stores, argv[1], 0);
     long counts[] = {1, 4, 16, 64};

@@ -9,10 +9,37 @@
 atomic_int faults_left, faults_orders_left, faults_syncs;
 int faults_error = EIO;
 
-static pthread_mutex_t gate = PTHREAD_MUTEX_INITIALIZER;
+static pthread_mutex_t lock = PTHREAD_MUTEX_INITIALIZER;
 static pthread_cond_t moved = PTHREAD_COND_INITIALIZER;
-static bool is_shut;
-static int at_gate;
+
+/* Calls of a kind wait while it is shut. */
+struct gate {
+    bool is_shut;
+    int waiting;
+};
+static struct gate syncs, orders;
+
+static void hold(struct gate *gate, bool holds) {
+    pthread_mutex_lock(&lock);
+    gate->is_shut = holds;
+    pthread_cond_broadcast(&moved);
+    pthread_mutex_unlock(&lock);
+}
+
+static void await(const struct gate *gate) {
+    pthread_mutex_lock(&lock);
+    while (!gate->waiting) pthread_cond_wait(&moved, &lock);
+    pthread_mutex_unlock(&lock);
+}
+
+static void pass(struct gate *gate) {
+    pthread_mutex_lock(&lock);
+    gate->waiting++;
+    pthread_cond_broadcast(&moved);
+    while (gate->is_shut) pthread_cond_wait(&moved, &lock);
+    gate->waiting--;
+    pthread_mutex_unlock(&lock);
+}
 
 static int fails_at(atomic_int *turn) {
     int left = atomic_load(turn);
@@ -24,18 +51,10 @@ static int fails_at(atomic_int *turn) {
 
 static int fails(void) { return fails_at(&faults_left); }
 
-void faults_hold_syncs(bool holds) {
-    pthread_mutex_lock(&gate);
-    is_shut = holds;
-    pthread_cond_broadcast(&moved);
-    pthread_mutex_unlock(&gate);
-}
-
-void faults_await_sync(void) {
-    pthread_mutex_lock(&gate);
-    while (!at_gate) pthread_cond_wait(&moved, &gate);
-    pthread_mutex_unlock(&gate);
-}
+void faults_hold_syncs(bool holds) { hold(&syncs, holds); }
+void faults_await_sync(void) { await(&syncs); }
+void faults_hold_orders(bool holds) { hold(&orders, holds); }
+void faults_await_order(void) { await(&orders); }
 
 ssize_t __real_pwrite(int fd, const void *bytes, size_t len, off_t at);
 ssize_t __wrap_pwrite(int fd, const void *bytes, size_t len, off_t at) {
@@ -47,17 +66,13 @@ ssize_t __wrap_pwrite(int fd, const void *bytes, size_t len, off_t at) {
 
 ssize_t __real_parts_give(int to, const void *order, size_t len);
 ssize_t __wrap_parts_give(int to, const void *order, size_t len) {
+    pass(&orders);
     return fails_at(&faults_orders_left) ? -1 : __real_parts_give(to, order, len);
 }
 
 int __real_fdatasync(int fd);
 int __wrap_fdatasync(int fd) {
-    pthread_mutex_lock(&gate);
-    at_gate++;
-    pthread_cond_broadcast(&moved);
-    while (is_shut) pthread_cond_wait(&moved, &gate);
-    at_gate--;
-    pthread_mutex_unlock(&gate);
+    pass(&syncs);
     if (fails() || __real_fdatasync(fd)) return -1;
     atomic_fetch_add(&faults_syncs, 1);
     return 0;

@@ -1,6 +1,5 @@
-/* File calls of the library that fail, and syncs that wait, for tests. The linker hands the calls
- * over
- * (`--wrap`). */
+/* File calls of the library that fail, and syncs and orders that wait, for tests. The linker hands the
+ * calls over (`--wrap`). */
 #ifndef FAULTS_H
 #define FAULTS_H
 
@@ -23,5 +22,9 @@ void faults_hold_syncs(bool holds);
 
 /* Waits until one waits. */
 void faults_await_sync(void);
+
+/* The same of the orders of the proved part. */
+void faults_hold_orders(bool holds);
+void faults_await_order(void);
 
 #endif

@@ -261,6 +261,39 @@ static void close_beside(const char *folder) {
     drop(folder);
 }
 
+/* Those that come while a round is handed over are of it, since its sync hasn't begun; a purge
+ * isn't. */
+static void come_late(const char *folder) {
+    static struct call held, calls[5];
+    char kinds[] = "w+ x w+ w p";
+    raftlog *log = open_at(folder);
+    raftlog_counts before, after;
+    hold(log, &held);
+    CHECK(!raftlog_stats(log, &before));
+    int count = calls_of(kinds, log, calls), syncs = atomic_load(&faults_syncs);
+    begin(&calls[0]);
+    settle(&calls[0]);
+    faults_hold_orders(true);
+    faults_hold_syncs(false);
+    faults_await_order();
+    for (int i = 1; i < count; i++) {
+        begin(&calls[i]);
+        settle(&calls[i]);
+    }
+    faults_hold_syncs(true);
+    faults_hold_orders(false);
+    faults_await_sync();
+    CHECK(atomic_load(&faults_syncs) == syncs + 1);
+    faults_hold_syncs(false);
+    end(&held);
+    for (int i = 0; i < count; i++) end(&calls[i]);
+    CHECK(!raftlog_stats(log, &after) && after.rounds - before.rounds == 3
+          && after.largest_round == 4 && calls[1].code == RAFTLOG_INVALID);
+    CHECK(!raftlog_close(log));
+    finds(folder, calls, count);
+    drop(folder);
+}
+
 int main(int argc, char **argv) {
     char line[400];
     FILE *rows = argc == 3 ? fopen(argv[2], "r") : NULL;
@@ -276,6 +309,8 @@ int main(int argc, char **argv) {
     fclose(rows);
     row = "the close";
     close_beside(argv[1]);
+    row = "those that come late";
+    come_late(argv[1]);
     printf("ok, %d rows\n", played);
     return 0;
 }

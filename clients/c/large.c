@@ -1,9 +1,13 @@
-/* A log larger than memory: `large FOLDER WORDS`. Pages that have a file behind them are taken
- * back TAKE_BACK times a second, if that is set. The words are
- * - write COUNT SYNC_EACH: batches of four entries, in turn to 100 groups;
- * - read COUNT [random]: entries in no order, cold, beside bare preads; then all in order, compared;
+/* A log larger than memory: `large FOLDER WORD..`, each word with what follows it. Pages that have
+ * a file behind them are taken back TAKE_BACK times a second, if that is set. The words are
+ * - write COUNT SYNC_EACH: batches of four entries, in turn to 100 groups; SYNC_EACH 0: no sync;
+ * - turns COUNT FILE LIMIT: as many batches ten times, in turn with LIMIT in FILE, which bounds the
+ *   memory, and with -1 there; a sync each 4 MB;
+ * - expect random|order: how entries will be read;
+ * - read COUNT: entries in no order, cold, beside bare preads;
+ * - all SECONDS: the entries of one group after the other, for so long at most;
  * - purge KEEP: all but so many entries of each group go.
- * SIZE: bytes of an entry, 1000 where it isn't set. */
+ * What is read is compared. SIZE: bytes of an entry, 1000 where it isn't set. */
 #include "heap.h"
 #include "raftlog.h"
 
@@ -107,6 +111,7 @@ static int log_files[FILES], log_file_count;
 static off_t log_file_sizes[FILES];
 
 static void open_files(const char *folder) {
+    while (log_file_count) close(log_files[--log_file_count]);
     DIR *dir = opendir(folder);
     for (struct dirent *entry; dir && (entry = readdir(dir)) && log_file_count < FILES;) {
         char path[1000];
@@ -130,7 +135,8 @@ static void make_cold(void) {
 
 /* ---- what is measured */
 
-static void write_batches(raftlog *log, uint64_t count, uint64_t sync_each) {
+/* The longest write, in seconds. */
+static double write_some(raftlog *log, uint64_t count, uint64_t sync_each) {
     static uint8_t values[PER_BATCH][MOST_SIZE];
     double longest = 0;
     raftlog_batch *batch = raftlog_batch_new();
@@ -148,18 +154,46 @@ static void write_batches(raftlog *log, uint64_t count, uint64_t sync_each) {
         if (longest < now() - from) longest = now() - from;
     }
     raftlog_batch_free(batch);
-    printf("the longest write: %.1f ms\n", longest * 1e3);
+    return longest;
+}
+
+static void write_batches(raftlog *log, uint64_t count, uint64_t sync_each) {
+    printf("the longest write: %.1f ms\n", write_some(log, count, sync_each) * 1e3);
     tell("written, each entry", (double)count * PER_BATCH);
+}
+
+/* A bound below what is held is refused until enough of it was taken back. */
+static void bound_memory(const char *path, const char *bytes) {
+    bool is_done = false;
+    for (int left = 300; !is_done && left; left--) {
+        FILE *file = fopen(path, "w");
+        is_done = file && fputs(bytes, file) >= 0;
+        is_done = file && !fclose(file) && is_done;
+        if (!is_done) usleep(100000);
+    }
+    need(is_done ? RAFTLOG_OK : RAFTLOG_IO, path);
+}
+
+static void write_in_turn(raftlog *log, uint64_t count, const char *file, const char *limit) {
+    for (int turn = 0; turn < 10; turn++) {
+        bound_memory(file, turn % 2 ? "-1" : limit);
+        begun = now();
+        write_some(log, count, (4 << 20) / block_size());
+        tell(turn % 2 ? "without it" : "under the limit", (double)count * PER_BATCH);
+    }
+    bound_memory(file, limit);
 }
 
 static double read_one(raftlog *log, raftlog_bytes *bytes) {
     uint64_t group = 1 + random_below(GROUPS), first, last;
     need(raftlog_first_index(log, group, &first), "first_index");
     need(raftlog_last_index(log, group, &last), "last_index");
+    uint64_t index = first + random_below(last - first + 1);
     double from = now();
-    need(raftlog_get_entry(log, group, first + random_below(last - first + 1), bytes),
-         "get_entry");
-    return now() - from;
+    need(raftlog_get_entry(log, group, index, bytes), "get_entry");
+    double took = now() - from;
+    compare(group, &(raftlog_entry){index, bytes->data, bytes->len});
+    return took;
 }
 
 static double read_bare(void) {
@@ -206,20 +240,26 @@ static void read_at_random(raftlog *log, uint64_t count) {
     tell("read at random", (double)count);
 }
 
-static void read_in_order(raftlog *log) {
-    raftlog_bytes bytes = {0};
+/* Answers how many it read. */
+static uint64_t read_group(raftlog *log, uint64_t group, double until, raftlog_bytes *bytes) {
     uint64_t first, last, count = 0;
-    for (uint64_t group = 1; group <= GROUPS; group++) {
-        need(raftlog_first_index(log, group, &first), "first_index");
-        need(raftlog_last_index(log, group, &last), "last_index");
-        for (uint64_t at = first; at <= last; at += 100) {
-            uint64_t end = at + 100 < last + 1 ? at + 100 : last + 1;
-            need(raftlog_fetch_entries(log, group, at, end, 0, &bytes), "fetch");
-            raftlog_entry entry;
-            for (size_t next = 0; raftlog_next_entry(&bytes, &next, &entry); count++)
-                compare(group, &entry);
-        }
+    need(raftlog_first_index(log, group, &first), "first_index");
+    need(raftlog_last_index(log, group, &last), "last_index");
+    for (uint64_t at = first; at <= last && now() < until; at += 100) {
+        uint64_t end = at + 100 < last + 1 ? at + 100 : last + 1;
+        need(raftlog_fetch_entries(log, group, at, end, 0, bytes), "fetch");
+        raftlog_entry entry;
+        for (size_t next = 0; raftlog_next_entry(bytes, &next, &entry); count++)
+            compare(group, &entry);
     }
+    return count;
+}
+
+static void read_in_order(raftlog *log, double seconds) {
+    raftlog_bytes bytes = {0};
+    uint64_t count = 0;
+    for (uint64_t group = 1; group <= GROUPS; group++)
+        count += read_group(log, group, begun + seconds, &bytes);
     raftlog_bytes_free(&bytes);
     printf("entries that are right: %lu\n", (unsigned long)count);
     tell("fetched in order, each entry", (double)count);
@@ -237,15 +277,32 @@ static void purge(raftlog *log, uint64_t keep) {
     tell("rewritten", 1);
 }
 
+static uint64_t number(const char *text) { return strtoull(text, NULL, 10); }
+
+/* Does what a word says, and answers how many words that took: 0 where it is none. */
+static int do_word(raftlog *log, const char *folder, int left, char **words) {
+    uint64_t count = left > 1 ? number(words[1]) : 0;
+    if (left > 1 && !strcmp(*words, "purge")) return purge(log, count), 2;
+    if (left > 2 && !strcmp(*words, "write"))
+        return write_batches(log, count, number(words[2])), 3;
+    if (left > 1 && !strcmp(*words, "expect"))
+        return need(raftlog_expect_reads(log, !strcmp(words[1], "random")), "expect"), 2;
+    if (left > 1 && !strcmp(*words, "read"))
+        return open_files(folder), read_at_random(log, count), 2;
+    if (left > 1 && !strcmp(*words, "all")) return read_in_order(log, (double)count), 2;
+    if (left > 3 && !strcmp(*words, "turns"))
+        return write_in_turn(log, count, words[2], words[3]), 4;
+    return 0;
+}
+
 int main(int argc, char **argv) {
-    if (argc < 4) return 2;
+    if (argc < 2) return 2;
     char text[300];
     raftlog *log;
     pthread_t thread;
-    const char *times = getenv("TAKE_BACK"), *what = argv[2];
+    const char *times = getenv("TAKE_BACK");
     long each = times ? atol(times) : 0;
-    uint64_t count = strtoull(argv[3], NULL, 10);
-    if (getenv("SIZE")) size = strtoull(getenv("SIZE"), NULL, 10);
+    if (getenv("SIZE")) size = number(getenv("SIZE"));
     if (size < 16 || size > MOST_SIZE) return 2;
     fill_some();
     if (each > 0 && pthread_create(&thread, NULL, take_back, &each)) return 1;
@@ -253,15 +310,8 @@ int main(int argc, char **argv) {
     int code = raftlog_open(argv[1], NULL, &log, text, sizeof text);
     if (code) return printf("%s\n", text), 1;
     tell("opened", 1);
-    uint64_t sync_each = argc > 4 ? strtoull(argv[4], NULL, 10) : 0;
-    if (!strcmp(what, "write")) write_batches(log, count, sync_each);
-    if (!strcmp(what, "purge")) purge(log, count);
-    if (!strcmp(what, "read")) {
-        open_files(argv[1]);
-        raftlog_expect_reads(log, argc > 4);
-        read_at_random(log, count);
-        read_in_order(log);
-    }
+    for (int at = 2, took; at < argc; at += took)
+        if (!(took = do_word(log, argv[1], argc - at, argv + at))) return 2;
     need(raftlog_close(log), "close");
     tell("closed", 1);
     printf("written to the disk: %ld MB\n", number_of("/proc/self/io", "write_bytes") >> 20);

@@ -19,8 +19,11 @@ enum { ORDERS_BEGIN = 1 << 16, ORDERS_KEPT = 1 << 21 };
 /* What is ordered, as crates/raft_orders numbers it. */
 enum { CREATE = 1, DELETE, RENAME, MAKE_FOLDER, WRITE, TRUNCATE, ALLOCATE, SYNC };
 
-/* A byte, a number and two lengths stand before the parts of an order. */
-enum { HEAD = 25 };
+/* A byte, a number and two lengths stand before the parts of an order; room for a path. */
+enum { HEAD = 25, PATH_ROOM = 4096 };
+
+/* The longest write that is joined to the one before it. */
+enum { JOINED = 1 << 14 };
 
 char *parts_joined(const char *folder, const char *name) {
     size_t len = strlen(folder) + strlen(name) + 2;
@@ -194,22 +197,33 @@ static int order_names(raftlog *log, int kind, const char *path, const char *to)
     return error;
 }
 
-static int carry_out(raftlog *log, int kind, uint64_t number, const char *first, const uint8_t *second, size_t len) {
-    if (kind < WRITE) {
-        char *to = malloc(len + 1);
-        if (!to) return ENOMEM;
-        memcpy(to, second, len);
-        to[len] = 0;
-        int error = order_names(log, kind, first, to);
-        free(to);
-        return error;
+/* An order as it was given: `bytes` are those of a write, or of a name. */
+struct order {
+    int kind;
+    uint64_t number;
+    const uint8_t *path, *bytes;
+    size_t path_len, len;
+};
+
+/* The text of these bytes, ended by a NUL, in a room that has place for it. */
+static const char *text_of(char *room, const uint8_t *bytes, size_t len) {
+    memcpy(room, bytes, len);
+    room[len] = 0;
+    return room;
+}
+
+static int carry_out(raftlog *log, const struct order *order, const char *path) {
+    if (order->kind < WRITE) {
+        char to[PATH_ROOM];
+        if (order->len >= sizeof to) return EINVAL;
+        return order_names(log, order->kind, path, text_of(to, order->bytes, order->len));
     }
-    int error = open_file(log, first);
+    int error = open_file(log, path);
     if (error) return error;
-    switch (kind) {
-    case WRITE: return write_file(log, second, len, number);
-    case TRUNCATE: return cut_file(log, first, number);
-    case ALLOCATE: return resize(log, number, false);
+    switch (order->kind) {
+    case WRITE: return write_file(log, order->bytes, order->len, order->number);
+    case TRUNCATE: return cut_file(log, path, order->number);
+    case ALLOCATE: return resize(log, order->number, false);
     case SYNC: return sync_file(log);
     default: return EINVAL;
     }
@@ -235,17 +249,42 @@ static void break_at(raftlog *log, const char *doing, const char *path, int erro
     parts_break(log, why);
 }
 
-/* Carries out the order at a place of those up to the end, and tells how long it is. */
-static int obey_one(raftlog *log, const uint8_t *at, size_t left, size_t *len) {
-    char path[4096];
-    if (left < HEAD) return EINVAL;
-    uint64_t number = parts_number(at + 1), first = parts_number(at + 9), second = parts_number(at + 17);
-    if (first >= sizeof path || left - HEAD < first || left - HEAD - first < second) return EINVAL;
-    memcpy(path, at + HEAD, first);
-    path[first] = 0;
-    *len = HEAD + first + second;
-    int error = carry_out(log, *at, number, path, at + HEAD + first, second);
-    if (error) break_at(log, kind_text(*at), path, error);
+/* Reads the order at a place, and goes behind it: false where there is none. */
+static bool read_order(const raftlog *log, size_t *place, struct order *order) {
+    const uint8_t *at = log->orders + *place;
+    size_t left = log->given - *place;
+    if (left < HEAD) return false;
+    uint64_t first = parts_number(at + 9), second = parts_number(at + 17);
+    if (first >= PATH_ROOM || left - HEAD < first || left - HEAD - first < second) return false;
+    *order = (struct order){*at, parts_number(at + 1), at + HEAD, at + HEAD + first, first, second};
+    *place += HEAD + first + second;
+    return true;
+}
+
+/* Whether a write goes on where the one before it ends. */
+static bool goes_on(const struct order *write, const struct order *next) {
+    return next->kind == WRITE && next->number == write->number + write->len && next->len <= JOINED
+           && next->path_len == write->path_len && !memcmp(next->path, write->path, next->path_len);
+}
+
+/* Joins the short writes that follow to this one, which is carried out by one call then: their bytes
+ * are moved behind its own, over orders that were read. */
+static void join(const raftlog *log, size_t *place, struct order *write) {
+    struct order next;
+    for (size_t end = *place; read_order(log, &end, &next) && goes_on(write, &next); *place = end) {
+        memmove(log->orders + (write->bytes - log->orders) + write->len, next.bytes, next.len);
+        write->len += next.len;
+    }
+}
+
+static int obey_one(raftlog *log, size_t *place) {
+    struct order order;
+    char room[PATH_ROOM];
+    if (!read_order(log, place, &order)) return EINVAL;
+    if (order.kind == WRITE && *place < log->given) join(log, place, &order);
+    const char *path = text_of(room, order.path, order.path_len);
+    int error = carry_out(log, &order, path);
+    if (error) break_at(log, kind_text(order.kind), path, error);
     return error;
 }
 
@@ -255,11 +294,7 @@ static int obey_all(raftlog *log) {
         error = EIO;
         break_at(log, "reading", "a log file again", error);
     }
-    for (size_t at = 0; !error && at < log->given;) {
-        size_t len = 0;
-        error = obey_one(log, log->orders + at, log->given - at, &len);
-        at += len;
-    }
+    for (size_t place = 0; !error && place < log->given;) error = obey_one(log, &place);
     if (error) break_at(log, "reading", "the orders of a round", error);
     log->given = 0;
     return error;

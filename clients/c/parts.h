@@ -73,6 +73,7 @@ struct parts_change {
     struct parts_change *older, *newer;
     bool sync;
     int code; /* its answer */
+    char *text; /* of a failure, where there was memory for it; the caller frees it */
     union {
         struct { /* of the first two kinds */
             const uint8_t *bytes;
@@ -85,10 +86,11 @@ struct parts_change {
         struct { /* of a rewriting of some groups */
             uint64_t watermark, from, budget;
         };
+        raftlog_bytes *answer; /* of a purge by thresholds */
+        struct {               /* once it is done, of all kinds from a compaction on but that one */
+            uint64_t found, found_too;
+        };
     };
-    char *text; /* of a failure, where there was memory for it; the caller frees it */
-    uint64_t found, found_too;
-    raftlog_bytes *answer; /* NULL where a number or nothing is answered */
 };
 
 static inline bool parts_is_batch(const struct parts_change *change) {

@@ -20,9 +20,10 @@
  *
  * Rounds. Changes (all calls from `raftlog_write` to the purges) that come while others are carried out
  * wait, and are taken in the order in which they came. The thread of the first that waits carries them
- * out, as a round: each is done or refused by itself, after those before it; then all their changes of
- * files are made, with one sync at the end where one of them that is done asked for a sync; then each is
- * answered. So writers that come at once share a sync, and one that comes alone has a round of its own.
+ * out, as a round, and with them those that come before the round's sync: each is done or refused by
+ * itself, after those before it; then all their changes of files are made, with one sync at the end
+ * where one of them that is done asked for a sync; then each is answered. So writers that come at once
+ * share a sync, and one that comes alone has a round of its own.
  *   A round has at most RAFTLOG_ROUND_CHANGES changes, and RAFTLOG_ROUND_BYTES bytes of batches or one
  * batch that is longer; a purge is a round of its own.
  *   A write without a sync that comes while a sync runs waits for its end, since the changes of files

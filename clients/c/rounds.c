@@ -91,15 +91,55 @@ static void touch_all(raftlog *log, const struct parts_change *change) {
     for (size_t i = 0; once && i < once->count; i++) touch(log, once->groups[i]);
 }
 
-/* ---- a round */
+/* ---- who is of a round */
 
 struct round {
     struct parts_change *first, *last;
+    size_t changes, bytes; /* of batches */
+    size_t synced;         /* changes that asked for a sync and are done */
 };
 
 static struct parts_change *after(const struct round *round, const struct parts_change *change) {
     return change == round->last ? NULL : change->newer;
 }
+
+/* Links those from the newest one back to one that stands. */
+static void link_newer(struct parts_change *newest, const struct parts_change *back_to) {
+    for (; newest != back_to && newest->older->newer != newest; newest = newest->older)
+        newest->older->newer = newest;
+}
+
+static bool is_alone(const struct parts_change *change) {
+    return change->kind >= PARTS_REWRITE_APPEND;
+}
+
+static size_t size_of(const struct parts_change *change) {
+    return parts_is_batch(change) ? change->len : 0;
+}
+
+/* Takes as many of those that wait behind the round as it has room for: whether there was one. */
+static bool take_more(raftlog *log, struct round *round) {
+    struct parts_change *newest = atomic_load(&log->newest), *last = round->last;
+    link_newer(newest, last);
+    while (round->last != newest && !is_alone(round->first) && !is_alone(round->last->newer)
+           && round->changes < RAFTLOG_ROUND_CHANGES
+           && round->bytes + size_of(round->last->newer) <= RAFTLOG_ROUND_BYTES) {
+        round->last = round->last->newer;
+        round->bytes += size_of(round->last);
+        round->changes++;
+    }
+    return round->last != last;
+}
+
+/* The first of those that wait, and those behind it. Where nobody led when it came, it is the only
+ * one. */
+static inline struct round take(raftlog *log, struct parts_change *first) {
+    struct round round = {first, first, 1, size_of(first), 0};
+    if (first->older) take_more(log, &round);
+    return round;
+}
+
+/* ---- a round */
 
 static void write_once(raft_c_handle *handle, const struct parts_change *change, bool sync) {
     static const uint64_t no_number[1];
@@ -128,13 +168,16 @@ static void call(raft_c_handle *handle, const struct parts_change *change, bool 
     }
 }
 
-/* A purge reads the entries of one group after the other, which stand far apart: what the system would
- * read around each of them is many times as much. */
-static void call_purge(raftlog *log, const struct parts_change *change) {
+/* A purge reads the entries of one group after the other, which stand far apart: what the system
+ * would read around each of them is many times as much. Answers how reads were expected before. */
+static bool begin_purge(raftlog *log) {
     bool was_random = log->heap.at_random;
     heap_expect_reads(&log->heap, true);
     log->obeys_ahead = true;
-    call(&log->handle, change, false);
+    return was_random;
+}
+
+static void end_purge(raftlog *log, bool was_random) {
     log->obeys_ahead = false;
     heap_expect_reads(&log->heap, was_random);
 }
@@ -144,15 +187,17 @@ static void call_purge(raftlog *log, const struct parts_change *change) {
 static void hand_over(raftlog *log, struct parts_change *change, bool sync) {
     pthread_mutex_lock(&log->lock);
     log->handed = atomic_load_explicit(&log->done, memory_order_relaxed) + 1;
-    touch_all(log, change);
+    /* In memory no read waits for a disk. */
+    if (log->folder) touch_all(log, change);
     parts_enter(log);
-    if (parts_is_purge(change)) call_purge(log, change);
-    else call(&log->handle, change, sync);
+    bool is_purge = parts_is_purge(change), was_random = is_purge && begin_purge(log);
+    call(&log->handle, change, sync);
+    if (is_purge) end_purge(log, was_random);
     change->code = raft_c_settle(&log->handle, true);
     parts_leave();
     if (change->code) {
         change->text = parts_answered_text(log);
-    } else if (change->answer) {
+    } else if (change->kind == PARTS_PURGE_EXPIRED) {
         uint64_t len = raft_c_answer(&log->handle, change->answer->data, change->answer->room);
         if (!parts_take_answer(log, change->answer, len)) change->code = RAFTLOG_NO_MEMORY;
     } else if (change->kind >= PARTS_COMPACT_TO) {
@@ -169,7 +214,8 @@ static void fail(struct parts_change *change, int code, const char *text) {
 
 /* What the round changed in memory is given up with the log, and so are its refusals, which spoke
  * of it: nobody was answered. */
-static void give_up(raftlog *log, const struct round *round) {
+static void give_up(raftlog *log, struct round *round) {
+    round->synced = 0;
     pthread_mutex_lock(&log->lock);
     raft_c_settle(&log->handle, false);
     pthread_mutex_unlock(&log->lock);
@@ -196,42 +242,40 @@ static bool sync_round(raftlog *log) {
     return !sync.code;
 }
 
-/* A round of many: all of them have their answers then. */
-static void carry_out_many(raftlog *log, const struct round *round) {
-    bool syncs = false;
-    for (struct parts_change *at = round->first; at; at = after(round, at)) {
+/* A round of several: all of them have their answers then. Those that were answered last come back
+ * while it is handed over: its sync is for them too. */
+static void carry_out_many(raftlog *log, struct round *round) {
+    for (struct parts_change *at = round->first;; at = at->newer) {
         /* A sync is the round's own. */
         if (at->kind != PARTS_SYNC) hand_over(log, at, false);
-        syncs |= at->sync && !at->code;
+        round->synced += at->sync && !at->code;
+        if (at == round->last && !(round->synced && take_more(log, round))) break;
     }
-    if ((syncs && !sync_round(log)) || !obey(log, syncs)) give_up(log, round);
+    bool is_synced = !round->synced || sync_round(log);
+    if (!is_synced || !obey(log, round->synced)) give_up(log, round);
 }
 
-static inline void carry_out(raftlog *log, const struct round *round) {
+static inline void carry_out(raftlog *log, struct round *round) {
     struct parts_change *first = round->first;
     if (*log->broken) {
         for (struct parts_change *at = first; at; at = after(round, at))
             fail(at, RAFTLOG_FAILED, log->broken);
-    } else if (first == round->last) {
+    } else if (!first->older || is_alone(first)) {
         hand_over(log, first, first->sync);
-        if (!obey(log, first->sync && !first->code)) give_up(log, round);
+        round->synced = first->sync && !first->code;
+        if (!obey(log, round->synced)) give_up(log, round);
         else if (parts_is_purge(first)) heap_catch_up(&log->heap, &log->behind);
     } else {
         carry_out_many(log, round);
     }
 }
 
-static void count(raftlog *log, const struct round *round) {
+static inline void count(raftlog *log, const struct round *round) {
     struct parts_counts *counts = &log->counts;
-    uint64_t changes = 0, synced = 0;
-    for (const struct parts_change *at = round->first; at; at = after(round, at)) {
-        changes++;
-        synced += at->sync && !at->code;
-    }
-    parts_add(&counts->changes, changes);
-    if (synced) parts_add(&counts->synced_changes, synced);
+    parts_add(&counts->changes, round->changes);
+    if (round->synced) parts_add(&counts->synced_changes, round->synced);
     uint64_t largest = atomic_load_explicit(&counts->largest_round, memory_order_relaxed);
-    if (largest < changes) parts_add(&counts->largest_round, changes - largest);
+    if (largest < round->changes) parts_add(&counts->largest_round, round->changes - largest);
 }
 
 /* ---- the queue */
@@ -244,38 +288,6 @@ static struct parts_change *put_in_queue(raftlog *log, struct parts_change *mine
         mine->older = newest;
     } while (!atomic_compare_exchange_weak(&log->newest, &newest, mine));
     return mine->older;
-}
-
-/* Links those from the newest one back to one that stands. */
-static void link_newer(struct parts_change *newest, const struct parts_change *back_to) {
-    for (; newest != back_to && newest->older->newer != newest; newest = newest->older)
-        newest->older->newer = newest;
-}
-
-static bool is_alone(const struct parts_change *change) {
-    return change->kind >= PARTS_REWRITE_APPEND;
-}
-
-static size_t size_of(const struct parts_change *change) {
-    return parts_is_batch(change) ? change->len : 0;
-}
-
-/* The first of those that wait, and as many behind it as a round has. Where nobody led when the first
- * came, it is the only one. */
-static inline struct round take(raftlog *log, struct parts_change *first) {
-    struct round round = {first, first};
-    if (!first->older) return round;
-    struct parts_change *newest = atomic_load(&log->newest);
-    size_t changes = 1, bytes = size_of(first);
-    link_newer(newest, first);
-    while (round.last != newest && !is_alone(first) && !is_alone(round.last->newer)
-           && changes < RAFTLOG_ROUND_CHANGES
-           && bytes + size_of(round.last->newer) <= RAFTLOG_ROUND_BYTES) {
-        round.last = round.last->newer;
-        bytes += size_of(round.last);
-        changes++;
-    }
-    return round;
 }
 
 /* Those of all logs that wait until a round is over. */
@@ -362,7 +374,7 @@ bool parts_close(raftlog *log, int *code) {
         int reading;
         while ((reading = atomic_load(&log->reading)) != PARTS_CLOSING)
             sleep_while(&log->reading, reading);
-        carry_out(log, &(struct round){&mine, &mine});
+        carry_out(log, &(struct round){.first = &mine, .last = &mine});
         struct parts_change *late = atomic_exchange(&log->newest, &closed), *older;
         for (; late != &mine; late = older) {
             older = late->older;

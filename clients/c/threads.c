@@ -263,25 +263,26 @@ static void fail(const char *folder) {
         faults_error = errors[e];
         for (turn = 1; fail_at(folder, 16, e == 0); turn += turn < 20 ? 1 : 7) last = turn;
         for (turn = 1; turn < 60 && fail_at(folder, 4, e == 1); turn += 3) {}
+        for (turn = 2; turn < 60 && fail_at(folder, e ? 1 : 64, e == 0); turn += 9) {}
     }
     turn = 0;
     printf("file calls up to %d failed in turn\n", last);
 }
 
-/* Processes of sixteen threads are killed: what was answered stands. */
+/* Processes of 1, 4, 16 and 64 threads in turn are killed: what was answered stands. */
 static void be_killed(const char *folder, int times) {
-    enum { THREADS = 16 };
-    _Atomic uint64_t *answered = mmap(NULL, THREADS * sizeof *answered, PROT_READ | PROT_WRITE,
+    _Atomic uint64_t *answered = mmap(NULL, MOST * sizeof *answered, PROT_READ | PROT_WRITE,
                                       MAP_SHARED | MAP_ANONYMOUS, -1, 0);
     CHECK(answered != MAP_FAILED);
     uint64_t all = 0;
     for (int i = 0; i < times; i++) {
-        for (int t = 0; t < THREADS; t++) atomic_store(&answered[t], 0);
+        uint64_t threads = 1u << 2 * (i % 4);
+        for (int t = 0; t < MOST; t++) atomic_store(&answered[t], 0);
         pid_t child = fork();
         CHECK(child >= 0);
         if (!child) {
-            struct writer w[THREADS];
-            run(open_at(folder), THREADS, UINT64_MAX, i % 2, w, answered);
+            struct writer w[MOST];
+            run(open_at(folder), threads, UINT64_MAX, i / 4 % 2, w, answered);
             _exit(0);
         }
         usleep(30000 + 7000 * i);
@@ -289,9 +290,9 @@ static void be_killed(const char *folder, int times) {
         CHECK(!kill(child, SIGKILL) && waitpid(child, &status, 0) == child);
         CHECK(WIFSIGNALED(status));
         raftlog *log = open_at(folder);
-        finds(log, THREADS, answered);
+        finds(log, threads, answered);
         CHECK(!raftlog_close(log));
-        for (int t = 0; t < THREADS; t++) all += answered[t];
+        for (uint64_t t = 0; t < threads; t++) all += answered[t];
         drop(folder);
     }
     printf("killed %d times, %llu answered entries found\n", times, (unsigned long long)all);
@@ -310,7 +311,7 @@ int main(int argc, char **argv) {
                 storm(folder, threads, 320 / threads, true);
                 storm(folder, threads, 1280 / threads, false);
             }
-        else if (!strcmp(words[i], "kill")) be_killed(folder, 12);
+        else if (!strcmp(words[i], "kill")) be_killed(folder, 16);
         else if (!strcmp(words[i], "fail")) fail(folder);
         else return fputs("threads FOLDER [storm|kill|fail]..\n", stderr), 2;
     }

@@ -182,8 +182,8 @@ impl Passed {
 
     fn add(&mut self, check: &FileCheck)
         ensures queue { self.new.queue ≡ self.old.queue }
-        ensures none { holds_nothing check.now ≡ true → self.new.files ≡ self.old.files }
-        ensures some { holds_nothing check.now ≡ false → 0 < self.new.files }
+        ensures adds_none { holds_nothing check.now ≡ true → self.new.files ≡ self.old.files }
+        ensures adds_one { holds_nothing check.now ≡ false → 0 < self.new.files }
     {
         if holds_nothing(check) {
             return;

@@ -92,7 +92,7 @@ fn add_files<F: FileSystem>(
 impl QueueFiles {
     /// Puts files of one queue in the order of their numbers.
     pub fn sort(files: &mut Vec<LogFile>) -> Result<(), AllocError>
-        ensures same { IsPermutation files.old.items files.new.items }
+        ensures unchanged { IsPermutation files.old.items files.new.items }
     {
         files.sort_by_key(|file| file.id.seq)
     }

@@ -16,7 +16,7 @@ loop-check-preserved c =
     (
       c.add.ensures.queue ∙ c.loop-check.invariant.0,
       subst (λ (front : List FileCheck). (c.add.new.self.files ≡ 0) ↔ (list_all holds_nothing front ≡ true)) (sym grown)
-      (counted_more holds_nothing (take i checks) check _ _ c.loop-check.invariant.1 c.add.ensures.none c.add.ensures.some),
+      (counted_more holds_nothing (take i checks) check _ _ c.loop-check.invariant.1 c.add.ensures.adds_none c.add.ensures.adds_one),
     )
 
 pub returns-then-passed-eq0 : goal.returns-then-passed-eq0
