@@ -4,7 +4,6 @@
 
 mod answer;
 mod calls;
-pub mod laws;
 mod numbers;
 mod open_log;
 mod opening;
