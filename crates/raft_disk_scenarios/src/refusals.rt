@@ -47,7 +47,7 @@ static CASES: [Case; 7] = [
     Case(Step::Delete("none"), None),
 ];
 
-fn take<F: FileSystem>(files: &mut F, step: &Step) -> Result<(), FsFault> {
+fn take(files: &mut DiskFileSystem, step: &Step) -> Result<(), FsFault> {
     match step {
         Step::Create(path) => files.create(path).map(|_| ()),
         Step::MakeDir(path) => files.make_dir(path),
@@ -55,7 +55,10 @@ fn take<F: FileSystem>(files: &mut F, step: &Step) -> Result<(), FsFault> {
         Step::Delete(path) => files.delete(path),
         Step::Writer(path) => {
             let handle = files.open(path, Permission::ReadWrite)?;
-            files.new_writer(&handle).map(|_| ())
+            match files.new_writer(&handle) {
+                Ok(_) => Ok(()),
+                Err(fault) => Err(fault),
+            }
         }
     }
 }
