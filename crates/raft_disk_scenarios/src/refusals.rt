@@ -32,10 +32,7 @@ enum Step {
 }
 
 /// A call, what can't be done, with what, and the system's text; none where the system wasn't asked.
-struct Case(
-    Step,
-    Option<(&'static str, &'static str, &'static str)>,
-);
+struct Case(Step, Option<(&'static str, &'static str, &'static str)>);
 
 static CASES: [Case; 7] = [
     Case(Step::Create(LONG), Some(("made", LONG, TOO_LONG))),

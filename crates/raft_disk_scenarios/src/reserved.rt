@@ -19,7 +19,11 @@ const KEPT: &[u8] = b"kept";
 fn make(rt: &HostRuntime, folder: &str) -> Result<(), Fail> {
     fs::create_dir(rt, format!(in rt.alloc(); "{folder}/s")?.as_str())?;
     for name in [LOG, RESERVED, OTHER] {
-        fs::write(rt, format!(in rt.alloc(); "{folder}/{name}")?.as_str(), KEPT)?;
+        fs::write(
+            rt,
+            format!(in rt.alloc(); "{folder}/{name}")?.as_str(),
+            KEPT,
+        )?;
     }
     Ok(())
 }
@@ -48,10 +52,16 @@ fn passed_over(rt: HostRuntime, folder: &str) -> Result<[bool; 4], Fail> {
     let mut files = DiskFileSystem::open_without_reserved(rt, folder, Some("s"))?;
     let first = is_out_of_reach(&mut files) && stand(&rt, folder)?;
     files.delete_reserved()?;
-    let second = bytes_at(&rt, folder, RESERVED)?.is_none() && bytes_at(&rt, folder, OTHER)?.is_none();
+    let second = bytes_at(&rt, folder, RESERVED)?.is_none()
+        && bytes_at(&rt, folder, OTHER)?.is_none();
     let third = files.create(RESERVED).is_ok();
     files.delete_reserved()?;
-    Ok([first, second, third, bytes_at(&rt, folder, RESERVED)?.is_some()])
+    Ok([
+        first,
+        second,
+        third,
+        bytes_at(&rt, folder, RESERVED)?.is_some(),
+    ])
 }
 
 #[test]

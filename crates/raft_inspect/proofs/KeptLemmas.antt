@@ -33,10 +33,10 @@ folder_more queue n front more folder now after is was grown =
     let listed : Path → List Place = λ path. filter_map (file_named path queue) (names_in path n) in
     grown ∙ ap (λ (fs : List Place). fs ++ listed (string_bytes folder)) was
     ∙ sym (
-      ap (λ (fs : List (String Global)). all_in (map string_bytes fs) queue n) is
-      ∙ ap (λ (fs : List Path). all_in fs queue n) (map-append string_bytes front (folder ∷ []))
-      ∙ flat_map-append listed (map string_bytes front) (string_bytes folder ∷ [])
-      ∙ ap (λ (fs : List Place). all_in (map string_bytes front) queue n ++ fs) (append-nil (listed (string_bytes folder)))
+    ap (λ (fs : List (String Global)). all_in (map string_bytes fs) queue n) is
+    ∙ ap (λ (fs : List Path). all_in fs queue n) (map-append string_bytes front (folder ∷ []))
+    ∙ flat_map-append listed (map string_bytes front) (string_bytes folder ∷ [])
+    ∙ ap (λ (fs : List Place). all_in (map string_bytes front) queue n ++ fs) (append-nil (listed (string_bytes folder)))
     )
 
 and_true : (b : Bool) → (b && true) ≡ b

@@ -169,7 +169,13 @@ static BROKEN_FILE: [Case; 1] = [Case {
 
 // A function is checked with all of each table that it names, and that grows with the square of the table.
 fn cases() -> [&'static [Case]; 5] {
-    [&REFUSED, &THREE_FILES, &EMPTY_FILE, &HEADER_ALONE, &BROKEN_FILE]
+    [
+        &REFUSED,
+        &THREE_FILES,
+        &EMPTY_FILE,
+        &HEADER_ALONE,
+        &BROKEN_FILE,
+    ]
 }
 
 /// Counts batches.

@@ -12,11 +12,10 @@ loop-check-preserved c =
     let checks = c.args.checks.now in
     let i = c.loop-check.check-index in
     let check = c.check-item.result in
-    let grown : take (i + 1) checks ≡ take i checks ++ check ∷ [] = take_more checks i check (omega (arith, c.loop-check-test.true)) ∙ ap (λ (x : FileCheck). take i checks ++ x ∷ []) (sym c.check-item.is) in
-    (
+    let grown : take (i + 1) checks ≡ take i checks ++ check ∷ [] = take_more checks i check (omega (arith, c.loop-check-test.true)) ∙ ap (λ (x : FileCheck). take i checks ++ x ∷ []) (sym c.check-item.is) in (
       c.add.ensures.queue ∙ c.loop-check.invariant.0,
       subst (λ (front : List FileCheck). (c.add.new.self.files ≡ 0) ↔ (list_all holds_nothing front ≡ true)) (sym grown)
-      (counted_more holds_nothing (take i checks) check _ _ c.loop-check.invariant.1 c.add.ensures.adds_none c.add.ensures.adds_one),
+          (counted_more holds_nothing (take i checks) check _ _ c.loop-check.invariant.1 c.add.ensures.adds_none c.add.ensures.adds_one),
     )
 
 pub returns-then-passed-eq0 : goal.returns-then-passed-eq0
@@ -30,6 +29,9 @@ returns-else-passed-eq0 c =
     let checks = c.args.checks.now in
     let whole : take c.loop-check.check-index checks ≡ checks = take_all c.loop-check.check-index checks (omega (arith, c.loop-check-test.false)) in
     record {
-      told = (c.loop-check.invariant.0, subst (λ (all : List FileCheck). list_all holds_nothing all ≡ false) whole
-      (false_from_ne_true _ (λ every. absurd (let none = c.loop-check.invariant.1.1 every in let some = c.if-passed-eq0.false in omega (arith, none, some)))));
+      told = (
+        c.loop-check.invariant.0,
+        subst (λ (all : List FileCheck). list_all holds_nothing all ≡ false) whole
+            (false_from_ne_true _ (λ every. absurd (let none = c.loop-check.invariant.1.1 every in let some = c.if-passed-eq0.false in omega (arith, none, some)))),
+      );
     }
