@@ -2,7 +2,6 @@
 #![tactic(auto)]
 
 mod absent;
-mod changed;
 mod changes;
 mod dumps;
 mod entries;
@@ -20,6 +19,7 @@ mod repair;
 mod spares;
 mod stat;
 mod stored;
+mod trial;
 mod waiting;
 mod writing;
 

@@ -1,6 +1,5 @@
 //! Commands that change a log.
 
-use crate::changed::ChangedFiles;
 use crate::changes::{Change, write};
 use crate::entries::{append, compact};
 use crate::guard::{give_back, guard, note_taken};
@@ -9,11 +8,12 @@ use crate::numbered::load;
 use crate::opening::{close, open};
 use crate::purging::purge;
 use crate::repair::repair;
-use crate::spares::make_ahead;
+use crate::spares::note_prefill;
+use crate::trial::tell_refusal;
 use crate::waiting::open_folder;
-use anyhow::{Result, anyhow};
+use anyhow::{Error, Result, anyhow};
 use raft_command_line::{Request, Verb};
-use raft_console::{Output, Progress, Status, bytes_of, failure};
+use raft_console::{Output, Progress, Status, bytes_of, failure, is_refusal};
 use raft_env::FileSystem;
 use raft_log_engine::Engine;
 use raft_looks::Folder;
@@ -33,11 +33,20 @@ pub fn change<R: Threads + Sync>(
     }
     let files = open_folder(rt, request)?;
     let changed = change_files(&rt, threads, files, request);
-    if changed.is_err() {
+    if let Err(error) = &changed {
         // What can't be told hides no error.
-        let _ = tell_hindrances(rt, request);
+        let _ = tell_causes(rt, request, error);
     }
     changed
+}
+
+// What the system says, where a change failed.
+fn tell_causes(rt: HostRuntime, request: &Request<'_>, error: &Error) -> Result<()> {
+    tell_hindrances(rt, request)?;
+    if is_refusal(rt.alloc(), error)? {
+        tell_refusal(&rt, request.folder)?;
+    }
+    Ok(())
 }
 
 // What the system refuses of the log's own files, where a change failed.
@@ -65,7 +74,7 @@ fn change_image<R: Threads + Sync>(
     }
 }
 
-fn change_files<R: Threads + Sync, F: ChangedFiles + Drop>(
+fn change_files<R: Threads + Sync, F: FileSystem + Drop>(
     rt: &HostRuntime,
     threads: &R,
     mut files: F,
@@ -78,7 +87,7 @@ fn change_files<R: Threads + Sync, F: ChangedFiles + Drop>(
     let Some(taken) = guard(rt, &mut files, request)? else {
         return Ok(Status::Refused);
     };
-    make_ahead(rt, &mut files, &request.options)?;
+    note_prefill(rt, &mut files, &request.options)?;
     let changed = match &request.verb {
         Verb::Purge(which) => purge(rt, threads, files, *which, &request.options, &mut out),
         _ => change_log(rt, threads, files, request, &mut out),
@@ -96,7 +105,7 @@ fn change_files<R: Threads + Sync, F: ChangedFiles + Drop>(
     }
 }
 
-fn change_log<R: Threads + Sync, F: ChangedFiles + Drop>(
+fn change_log<R: Threads + Sync, F: FileSystem + Drop>(
     rt: &HostRuntime,
     threads: &R,
     files: F,
@@ -104,12 +113,9 @@ fn change_log<R: Threads + Sync, F: ChangedFiles + Drop>(
     out: &mut Output,
 ) -> Result<Status> {
     let mut engine = open(rt, threads, files, &request.options)?;
-    if let Err(error) = carry_out(rt, &mut engine, request, out) {
-        engine.give_up().tell_refusal(rt)?;
-        return Err(error);
-    }
+    carry_out(rt, &mut engine, request, out)?;
     if request.sync {
-        close(rt, engine)?;
+        close(engine)?;
     }
     Ok(Status::Done)
 }

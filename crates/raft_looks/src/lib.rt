@@ -4,7 +4,6 @@
 
 mod checking;
 mod dumping;
-mod faults;
 mod folder;
 mod hindrances;
 mod reserved;
@@ -12,7 +11,6 @@ mod source;
 
 pub use checking::check;
 pub use dumping::dump;
-pub use faults::{tell_refusal, told};
 pub use folder::{Folder, ReservedFile};
 pub use hindrances::Hindrance;
 pub use reserved::is_reserved;

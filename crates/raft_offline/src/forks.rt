@@ -2,7 +2,7 @@
 
 use crate::copies::{Copy, planned};
 use crate::passed::tell_passed;
-use anyhow::{Result, anyhow};
+use anyhow::{Result, anyhow, bail};
 use raft_command_line::Request;
 use raft_commands::config;
 use raft_config::Config;
@@ -11,7 +11,6 @@ use raft_disk::{DiskFileSystem, FolderView, OpenFault, image_of};
 use raft_env::{FileSystem, FsFault};
 use raft_fork::FORK_MARK;
 use raft_inspect::Word;
-use raft_looks::{tell_refusal, told};
 use std::alloc::Global;
 use std::io::ErrorKind;
 
@@ -31,23 +30,19 @@ pub(crate) const BEFORE_NAME: &str = "target/";
 pub fn fork_folder(rt: HostRuntime, request: &Request<'_>, target: &str) -> Result<Status> {
     let source = match FolderView::open(rt, request.folder) {
         Ok(source) => source,
-        Err(fault) => return Err(told(&rt, &fault)),
+        Err(fault) => bail!("{fault}"),
     };
     if source.is_in_use() {
-        return Err(anyhow!("it is open already").context(request.folder));
+        bail!("{}: it is open already", request.folder);
     }
     let settings = config(rt.alloc(), &request.options)?;
     let copies = plan(rt, &source, target, &settings)?;
     tell_passed(&rt, &source, &settings, &copies)?;
-    let mut files = match DiskFileSystem::open_with(rt, target, None) {
+    let files = match DiskFileSystem::open_with(rt, target, None) {
         Ok(files) => files,
-        Err(fault) => return Err(told(&rt, &fault)),
+        Err(fault) => bail!("{fault}"),
     };
-    let copied = copy_all(rt, &source, &copies, &mut files, request);
-    if copied.is_err() {
-        tell_refusal(&rt, &files)?;
-    }
-    copied
+    copy_all(rt, &source, &copies, files, request)
 }
 
 // Decides by the names of the files alone which are copied.
@@ -55,16 +50,16 @@ fn plan(rt: HostRuntime, source: &FolderView, target: &str, config: &Config) -> 
     let alloc = rt.alloc();
     let mut files = Vec::new(alloc);
     let mut folders = vec![in alloc; String::from_str(alloc, SOURCE)?]?;
-    add_names(&rt, source, "", SOURCE, &mut files)?;
+    add_names(alloc, source, "", SOURCE, &mut files)?;
     if let Some(spill) = &config.spill_dir {
         let place = format!(in alloc; "{SOURCE}/{spill}")?;
-        add_names(&rt, source, spill.as_str(), place.as_str(), &mut files)?;
+        add_names(alloc, source, spill.as_str(), place.as_str(), &mut files)?;
         folders.push(place)?;
     }
     add_target(rt, target, &mut files)?;
     let mut image = match image_of(alloc, files, folders) {
         Ok(image) => image,
-        Err(fault) => return Err(told(&rt, &fault)),
+        Err(fault) => bail!("{fault}"),
     };
     match planned(alloc, config, &mut image) {
         Ok(copies) => Ok(copies),
@@ -76,16 +71,15 @@ type Named = (String, Vec<u8>);
 
 // Adds the names of the files in a folder, each of a file without bytes.
 fn add_names(
-    rt: &HostRuntime,
+    alloc: Global,
     view: &FolderView,
     folder: &str,
     place: &str,
     files: &mut Vec<Named>,
 ) -> Result<()> {
-    let alloc = rt.alloc();
     let names = match view.names(folder) {
         Ok(names) => names,
-        Err(fault) => return Err(told(rt, &fault)),
+        Err(fault) => bail!("{fault}"),
     };
     for name in &names {
         let path = format!(in alloc; "{place}/{name}")?;
@@ -97,49 +91,49 @@ fn add_names(
 // .. of the target, where it is there.
 fn add_target(rt: HostRuntime, target: &str, files: &mut Vec<Named>) -> Result<()> {
     match FolderView::open(rt, target) {
-        Ok(view) => add_names(&rt, &view, "", TARGET, files),
+        Ok(view) => add_names(rt.alloc(), &view, "", TARGET, files),
         Err(OpenFault::Io(_, e)) if e.kind() == ErrorKind::NotFound => Ok(()),
-        Err(fault) => Err(told(&rt, &fault)),
+        Err(fault) => Err(anyhow!("{fault}")),
     }
 }
 
-fn copy_all<F: FileSystem>(
+fn copy_all<F: FileSystem + Drop>(
     rt: HostRuntime,
     source: &FolderView,
     copies: &[Copy],
-    files: &mut F,
+    mut files: F,
     request: &Request<'_>,
 ) -> Result<Status> {
     let mut progress = Progress::new(rt, request.options.quiet)?;
     let mut out = Output::new(rt, &request.options);
-    done(rt.alloc(), FORK_MARK, put_file(files, FORK_MARK, &[]))?;
+    told(rt.alloc(), FORK_MARK, put_file(&mut files, FORK_MARK, &[]))?;
     for (place, copy) in copies.iter().enumerate() {
         progress.at("files copied", place as u64, copies.len() as u64)?;
-        copy_file(&rt, source, copy, files)?;
+        copy_file(rt.alloc(), source, copy, &mut files)?;
         out.line(&[("copied", Word::Text(copy.name.as_str()))])?;
     }
     let removed = files.delete(FORK_MARK);
-    done(rt.alloc(), FORK_MARK, removed)?;
+    told(rt.alloc(), FORK_MARK, removed)?;
     out.print()?;
     Ok(Status::Done)
 }
 
 fn copy_file<F: FileSystem>(
-    rt: &HostRuntime,
+    alloc: Global,
     source: &FolderView,
     copy: &Copy,
     files: &mut F,
 ) -> Result<()> {
     let bytes = match source.read(copy.from.as_str()) {
         Ok(bytes) => bytes,
-        Err(fault) => return Err(told(rt, &fault)),
+        Err(fault) => bail!("{fault}"),
     };
     let name = copy.name.as_str();
-    done(rt.alloc(), name, put_file(files, name, &bytes))
+    told(alloc, name, put_file(files, name, &bytes))
 }
 
-fn done(alloc: Global, path: &str, called: Result<(), FsFault>) -> Result<()> {
-    match called {
+fn told(alloc: Global, path: &str, done: Result<(), FsFault>) -> Result<()> {
+    match done {
         Ok(()) => Ok(()),
         Err(fault) => {
             let fault = fault.with_path(alloc, path);
