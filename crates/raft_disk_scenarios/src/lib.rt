@@ -11,8 +11,4 @@ mod openings;
 #[cfg(test)]
 mod reads;
 #[cfg(test)]
-mod refusals;
-#[cfg(test)]
-mod reserved;
-#[cfg(test)]
 mod views;
