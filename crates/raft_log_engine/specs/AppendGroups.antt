@@ -1,6 +1,8 @@
 -- What a rewriting of the next groups of the Append queue answers, and what it leaves.
 use Rattle.std.specs.Prelude.{◌≡◌, ◌<◌, ◌&&◌, ℕ, min, true, false, nat_le, is_some, IfOk, OnErr, OnOk, Option, None, Some, Result}
+use Rattle.std.specs.List.Sorted.{IsStrictlySortedBy}
 use Rattle.std.specs.Option.{IfSome}
+use Rattle.std.specs.Ordering.{nat_cmp}
 use Rattle.raft_base.specs.declared.errors.Fault.{Fault}
 use Rattle.raft_env.specs.declared.env.FileSystem.{Ghosts}
 use Rattle.raft_pipes.specs.PipeState.{last_seq}
@@ -32,8 +34,9 @@ module _ {F H R W : Type 0} {g : Ghosts F H R W} where
       (old new : Engine F H R W g) : Type 0 where
     pub rewritten : IfOk result (λ next. HasRewrittenFrom (min watermark (last_seq (queue_of old))) from
         next (tables_of old.tables) (tables_of new.tables))
-    -- they are as many as fit the budget
+    -- they, in ascending order, are as many as fit the budget
     pub fits : IfOk result (λ next. (x : NextGroups) × (x.next ≡ next)
+        × IsStrictlySortedBy nat_cmp x.groups.items
         × AreNextGroups from (tables_of old.tables) x
         × FitBudget budget (min watermark (last_seq (queue_of old))) old.tables x)
     pub rotated : OnOk result (HasRotatedAt (min watermark (last_seq (queue_of old)))
