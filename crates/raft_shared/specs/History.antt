@@ -15,6 +15,8 @@ pub data Asked : Type 0 where
   -- .. with numbers of groups, that it acts once
   WriteOnce : (batch : Batch) (pairs : List Pair) (sync : Bool) → Asked
   Sync : Asked
+  -- a purge by watermarks, with its barrier
+  Purge : (barrier : ℕ) → Asked
   Get : (group : ℕ) (key : List ℕ) → Asked
   First : (group : ℕ) → Asked
   Last : (group : ℕ) → Asked
@@ -115,6 +117,23 @@ IsOnceAnswer false false true m ended batch pairs sync answer fails =
 IsOnceAnswer false false false m ended batch pairs sync answer fails =
     IsRefusedAs StaleNumber answer fails
 
+-- a purge is refused by storage, without a path, or for want of memory; since something of the contents has
+-- no record, or numbers of log files have ended or ids of atomic groups; or to be tried again for want of
+-- space, which fails the engine
+abbrev pub IsRefusedPurge : Reason → Bool → Type 0
+IsRefusedPurge (Io kind path) fails = path ≡ []
+IsRefusedPurge TryAgain fails = fails ≡ true
+IsRefusedPurge Memory fails = Unit {0}
+IsRefusedPurge Range fails = Unit {0}
+IsRefusedPurge Invalid fails = Unit {0}
+IsRefusedPurge reason fails = ⊥
+
+-- .. a purge
+abbrev pub IsPurgeAnswer : Answer → Bool → Type 0
+IsPurgeAnswer (Done (Ok _)) fails = fails ≡ false
+IsPurgeAnswer (Done (Err reason)) fails = IsRefusedPurge reason fails
+IsPurgeAnswer answer fails = ⊥
+
 -- .. a sync
 abbrev pub IsSyncAnswer : Answer → Bool → Type 0
 IsSyncAnswer (Done (Ok _)) fails = fails ≡ false
@@ -140,6 +159,7 @@ IsAnswer m ended (WriteOnce batch pairs sync) answer fails =
     IsOnceAnswer (are_unfit pairs) (are_old m pairs) (are_new m pairs) m ended batch pairs sync
     answer fails
 IsAnswer m ended Sync answer fails = IsSyncAnswer answer fails
+IsAnswer m ended (Purge barrier) answer fails = IsPurgeAnswer answer fails
 IsAnswer m ended (Get group key) answer fails =
     IsGetAnswer ((shown m).value group key) answer fails
 IsAnswer m ended (First group) answer fails =
@@ -152,6 +172,7 @@ abbrev pub IsAnswerOfFailed : Asked → Answer → Type 0
 IsAnswerOfFailed (Write batch sync) answer = answer ≡ Size (Err Failed)
 IsAnswerOfFailed (WriteOnce batch pairs sync) answer = answer ≡ Size (Err Failed)
 IsAnswerOfFailed Sync answer = answer ≡ Done (Err Failed)
+IsAnswerOfFailed (Purge barrier) answer = answer ≡ Done (Err Failed)
 IsAnswerOfFailed (Get group key) answer = answer ≡ Value (Err Failed)
 IsAnswerOfFailed (First group) answer = (index : Option ℕ) × (answer ≡ Index index)
 IsAnswerOfFailed (Last group) answer = (index : Option ℕ) × (answer ≡ Index index)

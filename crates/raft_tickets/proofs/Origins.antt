@@ -1,0 +1,42 @@
+-- No call of a shared engine changes where it comes from.
+use Rattle.std.proofs.Common.{◌≡◌, ◌∙◌, Option, Some, ap, refl, sym}
+use Rattle.raft_env.specs.declared.env.FileSystem.{Ghosts}
+use Rattle.raft_log_engine.specs.Advance.{ChangesOnlyItsLog, state_of}
+use Rattle.raft_log_engine.specs.Engine.{begun_of, settings_of}
+use Rattle.raft_shared.specs.Shared.{IsButSeats, IsSameShared, base_of, engine_of, had_failed, limit_of, refusals_at_new}
+use Rattle.raft_shared.specs.declared.shared.Shared.{Shared}
+use Rattle.raft_tickets.specs.Origin.{Origin, origin_of}
+
+module _ {F H R W : Type 0} {g : Ghosts F H R W} (origin : Option Origin) (old new : Shared F H R W g) (is : origin ≡ Some (origin_of old)) where
+  -- a call that changes only the engine's log
+  pub origin_kept : IsSameShared old new → ChangesOnlyItsLog (state_of (engine_of old)) (state_of (engine_of new)) → origin ≡ Some (origin_of new)
+  origin_kept same only = is ∙ sym (λ i. Some (record {
+    settings = only.settings i;
+    begun = only.begun i;
+    base = same.base i;
+    failed = same.failed i;
+    refusals = same.refusals i;
+    limit = same.limit i;
+  }))
+
+  -- .. that leaves the engine
+  pub origin_so : IsSameShared old new → engine_of new ≡ engine_of old → origin ≡ Some (origin_of new)
+  origin_so same engine = is ∙ sym (λ i. Some (record {
+    settings = settings_of (engine i);
+    begun = begun_of (engine i);
+    base = same.base i;
+    failed = same.failed i;
+    refusals = same.refusals i;
+    limit = same.limit i;
+  }))
+
+  -- a seat was given
+  pub origin_seated : IsButSeats old new → origin ≡ Some (origin_of new)
+  origin_seated same = is ∙ sym (λ i. Some (record {
+    settings = settings_of (same.engine i);
+    begun = begun_of (same.engine i);
+    base = same.base i;
+    failed = same.failed i;
+    refusals = same.refusals i;
+    limit = same.limit i;
+  }))
