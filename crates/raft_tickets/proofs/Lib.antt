@@ -4,5 +4,6 @@ pub mod Durability
 pub mod Noting
 pub mod Witnesses
 pub mod Telling
+pub mod Turns
 pub mod Origins
 pub mod Crossing

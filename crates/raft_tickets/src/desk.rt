@@ -1,5 +1,5 @@
 //! A shared engine, beside the front that its history is.
-ghost use Rattle.std.specs.Prelude.{◌≡◌, ◌⊎◌, ◌↔◌, ◌≤◌, ◌++◌, ◌∷◌, [], false, true, Err, length, map, take, OnErr, IfOk, IfErr, IfNone, IfSome, IsOk, IsSomeAnd, Some, slice_get, if◌then◌else◌};
+ghost use Rattle.std.specs.Prelude.{◌≡◌, ◌⊎◌, ◌↔◌, ◌≤◌, ◌+◌, ◌-◌, ◌^◌, ◌++◌, ◌∷◌, [], false, true, Err, length, map, take, OnErr, IfOk, IfErr, IfNone, IfSome, IsOk, IsSomeAnd, Some, slice_get, if◌then◌else◌};
 ghost use Rattle.std.proofs.Props.{props};
 ghost use mathlib.Core.List.{IsPrefix};
 ghost use Rattle.raft_shared.specs.Shared.{history_of};
@@ -36,7 +36,7 @@ pub struct Noted<J: Naming> {
 
 impl<F: FileSystem, J: Naming> Desk<F, J> {
     ghost use Rattle.raft_shared.specs.Settled.{AreSettled};
-    ghost use Rattle.raft_shared.specs.Shared.{HasRecordedNothing, IsButSeats, RecordsGet, RecordsPurge, RecordsSync, RecordsWrite, engine_of, limit_of, receipts_of};
+    ghost use Rattle.raft_shared.specs.Shared.{HasRecordedNothing, IsButSeats, RecordsGet, RecordsPurge, RecordsSync, RecordsWrite, engine_of, limit_of, receipts_of, seats_of};
 
     /// An engine that was just shared, with the front of a book that was just opened.
     pub(crate) fn new(shared: Shared<F>, front: Front<J>) -> Desk<F, J>
@@ -53,7 +53,12 @@ impl<F: FileSystem, J: Naming> Desk<F, J> {
 
     /// `Shared::seat`.
     pub fn seat(&mut self) -> Result<Seat, Fault>
-        ensures ok { IfOk result (λ seat. receipts_of seat ≡ []) }
+        ensures ok { IfOk result (λ seat. (seat.number ≡ seats_of self.old.shared)
+            × (receipts_of seat ≡ [])
+            × (seats_of self.new.shared ≡ seats_of self.old.shared + 1)) }
+        ensures err { IfErr result (λ fault. (fault ≡ Fault.Range)
+            × (seats_of self.old.shared ≡ 2 ^ 64 - 1)
+            × (seats_of self.new.shared ≡ seats_of self.old.shared)) }
         ensures unchanged { IsButSeats self.old.shared self.new.shared }
     {
         self.shared.seat()

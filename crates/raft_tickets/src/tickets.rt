@@ -50,6 +50,7 @@ impl<F: FileSystem, J: Naming> Tickets<F, J> {
     /// `Shared::seat`.
     pub fn seat<R: Wait>(&self, rt: &R) -> Result<Seat, Fault>
         ensures ok { IfOk result (λ seat. receipts_of seat ≡ []) }
+        ensures cause { IfErr result (λ e. e ≡ Fault.Range) }
     {
         self.desk.lock(rt).seat()
     }
