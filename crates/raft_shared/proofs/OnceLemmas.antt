@@ -1,5 +1,5 @@
 -- What the engine says of a numbered write makes it legal in a history.
-use Rattle.std.proofs.Common.{◌≡◌, ◌∙◌, ◌⊎◌, ◌≤◌, inl, inr, ℕ, cond, Bool, true, false, List, [], ◌∷◌, Some, Result, Ok, Err, IfErr, IsErrAnd, arith, refl, subst, sym, ap}
+use Rattle.std.proofs.Common.{◌≡◌, ◌∙◌, ◌⊎◌, ◌≤◌, inl, inr, ℕ, cond, Bool, true, false, List, [], ◌∷◌, Result, Ok, Err, IfErr, IsErrAnd, arith, refl, subst, sym, ap}
 use Rattle.std.specs.Prelude.{nat_le, nat_lt}
 use Rattle.std.proofs.lemmas.Bool.{and_parts, false≢true, leb-true, ltb-true}
 use Rattle.raft_base.specs.Fault.{fault_code}
@@ -12,15 +12,14 @@ use Rattle.raft_pipes.specs.PipeState.{last_seq}
 use Rattle.raft_pipes.specs.Queue.{NamesLog}
 use Rattle.raft_records.specs.Contents.{Contents, after_batch}
 use Rattle.raft_records.specs.Item.{Batch}
-use Rattle.raft_records.specs.Validity.{IsValidBatch, batch_refusal}
-use Rattle.raft_once.specs.Numbers.{Pair, are_new, are_old, are_unfit, has_numbers, meets_number, number_of, numbered}
+use Rattle.raft_once.specs.Numbers.{Pair, are_new, are_old, are_unfit, meets_number, number_of, numbered}
 use Rattle.raft_once.proofs.BatchLemmas.{numbered_refusal, plain_meets_none}
 use Rattle.raft_log_engine.specs.Calls.{IsWrite}
 use Rattle.raft_log_engine.specs.Engine.{contents_of, folders_of, has_failed, queue_of, refusals_of}
 use Rattle.raft_log_engine.specs.Once.{IsActingOnce, IsOldOnce, IsOnceRefusal, IsRefusedOnce, IsStaleOnce, IsUnfitOnce, IsWriteOnce}
 use Rattle.raft_log_engine.specs.declared.engine.Engine.{Engine}
 use Rattle.raft_shared.specs.Begun.{CountsRefusals, lacks_numbers, lacks_numbers_in}
-use Rattle.raft_shared.specs.History.{Answer, Event, IsCallersAnswer, IsLegalCall, IsOldAnswer, IsOnceAnswer, Size, WriteOnce, after_event, is_storage_refusal, refused}
+use Rattle.raft_shared.specs.History.{Answer, IsCallersAnswer, IsLegalCall, IsOldAnswer, IsOnceAnswer, Size, WriteOnce, after_event, is_storage_refusal, refused}
 use Rattle.raft_shared.specs.Words.{answer_by, reason_of, without_path}
 use Rattle.raft_shared.proofs.CallLemmas.{call_ends, counts_none, err_is, refused_invalid, write_answered, write_counts, write_goes_on}
 

@@ -1,6 +1,7 @@
 -- What the engine says of a purge by watermarks makes it legal in a history.
-use Rattle.std.proofs.Common.{◌≡◌, ◌∙◌, inl, inr, ℕ, cond, Bool, true, false, List, [], ◌∷◌, Result, Ok, Err, arith, refl, sym, ap}
-use Rattle.std.specs.Prelude.{Vec, not, ◌&&◌, is_ok}
+use Rattle.std.proofs.Common.{◌≡◌, ◌∙◌, inl, inr, ℕ, cond, Bool, true, false, List, [], ◌∷◌, Result, Ok, Err, refl, sym, ap}
+use Rattle.std.specs.Prelude.{IfOk, OnErr, Vec, not, ◌&&◌}
+use Rattle.std.specs.Result.{result_unwrap_or}
 use Rattle.std.proofs.lemmas.Bool.{false≢true}
 use Rattle.std.specs.declared.alloc.Global.{Global}
 use Rattle.raft_base.specs.declared.errors.Fault.{Fault}
@@ -62,6 +63,15 @@ module _ (m : Contents) (append rewrite : PipeState) (ends_open no_id : Type 0) 
   counts_purge seat barrier fault.TrailFull cause fewer = absurd cause
   counts_purge seat barrier fault.Layer cause fewer = absurd cause
   counts_purge seat barrier fault.StaleNumber cause fewer = absurd cause
+
+-- the groups that are told: those that were asked for, or none
+pub groups_asked : (result : Result (Vec ℕ Global) Fault) (none told : Vec ℕ Global) → told ≡ result_unwrap_or result none → IfOk result (λ groups. told.items ≡ groups.items)
+groups_asked (Ok groups) none told is = ap (λ (v : Vec ℕ Global). v.items) is
+groups_asked (Err e) none told is = tt
+
+pub none_asked : (result : Result (Vec ℕ Global) Fault) (none told : Vec ℕ Global) → told ≡ result_unwrap_or result none → none.items ≡ [] → OnErr result (told.items ≡ [])
+none_asked (Ok groups) none told is empty = tt
+none_asked (Err e) none told is empty = ap (λ (v : Vec ℕ Global). v.items) is ∙ empty
 
 module _ {F H R W : Type 0} {g : Ghosts F H R W} (barrier : ℕ) (old new : Engine F H R W g) where
   -- an engine that stands after a purge stood before it

@@ -127,7 +127,7 @@ module _ {F H R W : Type 0} {g : Ghosts F H R W} where
       (asked : List ℕ) (receipt : Receipt) : Type 0 where
     pub result : Result (Vec ℕ Global) Fault
     pub purge : IsExpiry barrier (engine_of old) (engine_of new) result
-    pub asked : IfOk result (λ groups. asked ≡ groups.items)
+    pub groups : IfOk result (λ groups. asked ≡ groups.items)
     pub none : OnErr result (asked ≡ [])
     pub ended : had_ended new ≡ (if has_failed (engine_of new) then had_ended old
         else lacks_numbers (engine_of new))

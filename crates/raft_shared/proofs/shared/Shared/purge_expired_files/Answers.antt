@@ -4,7 +4,7 @@ use Rattle.raft_log_engine.specs.Engine.{refusals_of}
 use Rattle.raft_shared.specs.Begun.{contents_in, failed_in, lacks_numbers_in, refusals_in}
 use Rattle.raft_shared.specs.Words.{asked_of, told_by}
 use Rattle.raft_shared.proofs.CallLemmas.{write_ended, write_numbers}
-use Rattle.raft_shared.proofs.PurgeLemmas.{purge_counts, purge_ends, purge_is_legal, purge_leaves}
+use Rattle.raft_shared.proofs.PurgeLemmas.{groups_asked, none_asked, purge_counts, purge_ends, purge_is_legal, purge_leaves}
 use Rattle.raft_shared.proofs.SharedLemmas.{event_is, has_recorded, left_after, stays_counted, stays_legal, told_is}
 use Rattle.raft_shared.proofs.shared.Shared.purge_expired_files.Goals as goal
 
@@ -31,8 +31,8 @@ returns-clause-ok g c =
     record {
       result = c.purge_expired_files-purged.result;
       purge = purged;
-      asked = c.unwrap_or.ensures;
-      none = c.unwrap_or.ensures;
+      groups = groups_asked _ _ _ c.unwrap_or.ensures;
+      none = none_asked _ _ _ c.unwrap_or.ensures c.new.ensures.items;
       ended = write_ended c.purge_expired_files-purged.new.engine c.args.self.now.written.items c.note_write.new.written.items c.note_write.ensures.value;
       recorded = has_recorded _ _ _ _ _ _ _ _ _ (record { base = refl; failed = refl; refusals = refl; limit = refl; seats = refl }) c.record-receipt.ensures.trail (event_is _ _ _ (record { seat = c.make_room.new.seat.number; call = c.in_ok-calls.calls.recorded; reply = c.of_purge.result }) c.in_ok-make_room.ensures.unchanged.0 (ap asked_of calls.0) c.of_purge.ensures.value)
           (c.record-receipt.ensures.number ∙ c.in_ok-make_room.ensures.unchanged.0) _ c.record-receipt.ensures.receipts c.in_ok-make_room.ensures.unchanged.1
