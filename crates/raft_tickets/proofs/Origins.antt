@@ -2,7 +2,9 @@
 use Rattle.std.proofs.Common.{◌≡◌, ◌∙◌, Option, Some, ap, refl, sym}
 use Rattle.raft_env.specs.declared.env.FileSystem.{Ghosts}
 use Rattle.raft_log_engine.specs.Advance.{ChangesOnlyItsLog, state_of}
-use Rattle.raft_log_engine.specs.Engine.{begun_of, settings_of}
+use Rattle.raft_log_engine.specs.Engine.{found_of, settings_of}
+use Rattle.raft_crash_laws.specs.Contents.{found_contents}
+use Rattle.raft_config.specs.Folders.{folders_in}
 use Rattle.raft_shared.specs.Shared.{IsButSeats, IsSameShared, base_of, engine_of, had_failed, limit_of, refusals_at_new}
 use Rattle.raft_shared.specs.declared.shared.Shared.{Shared}
 use Rattle.raft_tickets.specs.Origin.{Origin, origin_of}
@@ -12,7 +14,7 @@ module _ {F H R W : Type 0} {g : Ghosts F H R W} (origin : Option Origin) (old n
   pub origin_kept : IsSameShared old new → ChangesOnlyItsLog (state_of (engine_of old)) (state_of (engine_of new)) → origin ≡ Some (origin_of new)
   origin_kept same only = is ∙ sym (λ i. Some (record {
     settings = only.settings i;
-    begun = only.begun i;
+    found = found_contents (folders_in (only.settings i)) (only.begun i);
     base = same.base i;
     failed = same.failed i;
     refusals = same.refusals i;
@@ -23,7 +25,7 @@ module _ {F H R W : Type 0} {g : Ghosts F H R W} (origin : Option Origin) (old n
   pub origin_so : IsSameShared old new → engine_of new ≡ engine_of old → origin ≡ Some (origin_of new)
   origin_so same engine = is ∙ sym (λ i. Some (record {
     settings = settings_of (engine i);
-    begun = begun_of (engine i);
+    found = found_of (engine i);
     base = same.base i;
     failed = same.failed i;
     refusals = same.refusals i;
@@ -34,7 +36,7 @@ module _ {F H R W : Type 0} {g : Ghosts F H R W} (origin : Option Origin) (old n
   pub origin_seated : IsButSeats old new → origin ≡ Some (origin_of new)
   origin_seated same = is ∙ sym (λ i. Some (record {
     settings = settings_of (same.engine i);
-    begun = begun_of (same.engine i);
+    found = found_of (same.engine i);
     base = same.base i;
     failed = same.failed i;
     refusals = same.refusals i;

@@ -1,5 +1,6 @@
 -- What a refused write leaves of its batch, and what a seat is told of a write and then of a sync.
 use Rattle.std.proofs.Common.{◌≡◌, ◌∙◌, inl, inr, ℕ, Bool, true, false, List, [], ◌∷◌, ◌++◌, length, Result, Ok, Err, arith, append_assoc, length-append, refl, sym, ap}
+use Rattle.std.specs.Prelude.{OnErr}
 use Rattle.std.proofs.lemmas.Bool.{false≢true}
 use Rattle.std.proofs.lemmas.List.{append-nil, append_cancel_left}
 use Rattle.raft_base.specs.declared.errors.Fault.{Fault}
@@ -60,6 +61,10 @@ module _ {F H R W : Type 0} {g : Ghosts F H R W} where
       let answer : said ≡ Size (answer_by (λ n. n) r.result) = ap (λ (t : Told). t.answer) (sym one ∙ r.recorded.receipt_is) in
       items_kept items rest _ _ r.result r.write (ap is_kept_after (sym answer) ∙ is)
 
+pub on_err : {T E : Type 0} (r : Result T E) (P : Type 0) → P → OnErr r P
+on_err (Ok x) P p = tt
+on_err (Err e) P p = p
+
 -- where the items are as before nothing else matters
 pub keeps_same : (items rest : Batch) (seat seat' : Seat) → rest ≡ items → KeepsRefused items rest seat seat'
 keeps_same items rest seat seat' same said told is = same
@@ -68,11 +73,11 @@ keeps_same items rest seat seat' same said told is = same
 later_of : (mid new : Seat) (asked : Asked) (answer : Answer) (e : Fault) → FailsAs asked answer mid new e → (later : List Told) × (receipts_of new ≡ receipts_of mid ++ later)
 later_of mid new asked answer e (inl (why, same)) = ([], same ∙ sym (append-nil (receipts_of mid)))
 later_of mid new asked answer e (inr (inl (number, told))) = (record { number = number; asked = asked; answer = answer } ∷ [], told)
-later_of mid new asked answer e (inr (inr (layer, said, number, told))) = (record { number = number; asked = asked; answer = said } ∷ [], told)
+later_of mid new asked answer e (inr (inr (layer, astray))) = (record { number = astray.1.0; asked = asked; answer = astray.0 } ∷ [], astray.1.1)
 
 -- a write that was accepted, and then a call that failed
 module _ (items : Batch) (old mid new : Seat) (number size : ℕ) (told : IsToldAt number (Write items false) (Size (Ok size)) old mid) (asked : Asked) (answer : Answer) (e : Fault) (fails : FailsAs asked answer mid new e) where
-  first : Told
+  abbrev first : Told
   first = record { number = number; asked = Write items false; answer = Size (Ok size) }
 
   in_turn : (later : List Told) → receipts_of new ≡ receipts_of mid ++ later → receipts_of new ≡ receipts_of old ++ (first ∷ later)

@@ -234,9 +234,9 @@ impl<F: FileSystem, J: Naming> Tickets<F, J> {
             .purge_expired_files(&self.book, seat, barrier)
     }
 
-    /// The engine and its history, when no thread needs them any more. It comes from where that came
-    /// from which was handed in: it has its settings and what its opening found, and its history
-    /// begins with what that held.
+    /// The engine and its history, when no thread needs them any more. It comes from where the one came
+    /// from that was handed in: it has its settings and what its opening found, and its history begins
+    /// with what that held.
     pub fn into_desk(self) -> Desk<F, J>
         ensures origin { J.origin ≡ Some (origin_of result.shared) }
     {
