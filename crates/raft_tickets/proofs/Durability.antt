@@ -1,5 +1,5 @@
 -- What calls of a shared engine make of what is durable.
-use Rattle.std.proofs.Common.{◌≡◌, ◌∙◌, inl, inr, ℕ, suc, ◌+◌, ◌≤◌, Bool, true, false, List, [], ◌∷◌, ◌++◌, length, take, Option, None, Some, Result, Ok, Err, refl, sym, ap, subst, arith, length-append}
+use Rattle.std.proofs.Common.{◌≡◌, ◌∙◌, inl, inr, ℕ, suc, ◌+◌, Bool, true, false, List, [], ◌∷◌, ◌++◌, length, take, Option, None, Some, Result, Ok, Err, refl, sym, ap, subst, arith, length-append}
 use Rattle.std.specs.Prelude.{if◌then◌else◌, Vec}
 use Rattle.std.specs.declared.alloc.Global.{Global}
 use Rattle.std.proofs.lemmas.Bool.{false≢true}
@@ -12,7 +12,7 @@ use Rattle.raft_log_engine.specs.Advance.{ChangesOnlyItsLog, durable_in, state_o
 use Rattle.raft_log_engine.specs.Calls.{IsSync}
 use Rattle.raft_log_engine.specs.PurgeCalls.{IsExpiry}
 use Rattle.raft_log_engine.specs.Durability.{Durability, Progresses, covered_by, durability_of}
-use Rattle.raft_log_engine.specs.Engine.{base_of as synced_of, contents_of, durable_of, found_of, has_failed, unsynced_of}
+use Rattle.raft_log_engine.specs.Engine.{base_of as synced_of, contents_of, durable_of, found_of, has_failed}
 use Rattle.raft_log_engine.specs.declared.engine.Engine.{Engine}
 use Rattle.raft_log_engine.proofs.ProgressLemmas.{ProgressCases, progress_cases}
 use Rattle.raft_shared.specs.History.{Done, Event, after_events}

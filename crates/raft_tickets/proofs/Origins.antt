@@ -1,11 +1,11 @@
 -- No call of a shared engine changes where it comes from.
-use Rattle.std.proofs.Common.{◌≡◌, ◌∙◌, Option, Some, ap, refl, sym}
+use Rattle.std.proofs.Common.{◌≡◌, ◌∙◌, Option, Some, sym}
 use Rattle.raft_env.specs.declared.env.FileSystem.{Ghosts}
 use Rattle.raft_log_engine.specs.Advance.{ChangesOnlyItsLog, state_of}
 use Rattle.raft_log_engine.specs.Engine.{found_of, settings_of}
 use Rattle.raft_crash_laws.specs.Contents.{found_contents}
 use Rattle.raft_config.specs.Folders.{folders_in}
-use Rattle.raft_shared.specs.Shared.{IsButSeats, IsSameShared, base_of, engine_of, had_failed, limit_of, refusals_at_new}
+use Rattle.raft_shared.specs.Shared.{IsButSeats, IsSameShared, engine_of}
 use Rattle.raft_shared.specs.declared.shared.Shared.{Shared}
 use Rattle.raft_tickets.specs.Origin.{Origin, origin_of}
 

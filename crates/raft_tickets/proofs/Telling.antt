@@ -21,7 +21,7 @@ use Rattle.raft_shared.specs.Words.{Told, answer_by, reason_of, told_by, without
 use Rattle.raft_shared.specs.declared.call.Receipt.{Receipt}
 use Rattle.raft_shared.specs.declared.seat.Seat.{Seat}
 use Rattle.raft_shared.specs.declared.shared.Shared.{Shared}
-use Rattle.raft_tickets.specs.Calls.{FailsAs, IsTold, IsToldAt, IsToldNothing, KeepsRefused, is_kept_after}
+use Rattle.raft_tickets.specs.Calls.{FailsAs, IsToldAt, IsToldNothing, KeepsRefused, is_kept_after}
 
 -- after such a refusal an engine stands that stood before
 stands : (folders : Folders) (p : PipeState) (m : Contents) (items : Batch) (fails : Bool) (old new : Refusals) (e : Fault) → IsWriteRefusal folders p m items fails old new e → is_kept_after (Size (Err (without_path (reason_of e)))) ≡ true → fails ≡ false

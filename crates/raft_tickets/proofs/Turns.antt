@@ -1,5 +1,5 @@
 -- A write, and then a wait for its ticket.
-use Rattle.std.proofs.Common.{◌≡◌, ◌∙◌, inr, ℕ, false, [], ◌∷◌, ◌++◌, Result, Ok, Err, sym}
+use Rattle.std.proofs.Common.{◌≡◌, ◌∙◌, inr, false, [], ◌∷◌, ◌++◌, Result, Ok, Err, sym}
 use Rattle.std.specs.Prelude.{IfErr, IfOk, OnErr, OnOk}
 use Rattle.raft_base.specs.declared.errors.Fault.{Fault}
 use Rattle.raft_records.specs.Item.{Batch}

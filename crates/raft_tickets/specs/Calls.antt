@@ -5,7 +5,7 @@ use Rattle.raft_base.specs.declared.errors.Fault.TheVariants as fault
 use Rattle.raft_records.specs.Item.{Batch}
 use Rattle.raft_shared.specs.History.{Answer, Asked, Done, Event, Io, Memory, Size, Sync, Write}
 use Rattle.raft_shared.specs.Shared.{receipts_of}
-use Rattle.raft_shared.specs.Words.{Told, reason_of, told_by}
+use Rattle.raft_shared.specs.Words.{reason_of, told_by}
 use Rattle.raft_shared.specs.declared.call.Receipt.{Receipt}
 use Rattle.raft_shared.specs.declared.seat.Seat.{Seat}
 
