@@ -107,11 +107,13 @@ abbrev pub IsIdlePurge : Purge → Type 0
 IsIdlePurge (DropExpired x) = IsIdle x
 IsIdlePurge _ = ⊥
 
--- what stands behind the watermark of a rewriting of the Append queue isn't moved
+-- what stands behind the watermark of a rewriting of the Append queue isn't moved, and by one of the
+-- Rewrite queue nothing that stands in the Append queue
 abbrev pub LeavesBehind : Purge → PipeState → Tables → Tables → Type 0
 LeavesBehind (RewriteAppend scope) append t t' =
     MovesOnly (Some (watermark_in scope (last_seq append))) t t'
 LeavesBehind (RewriteGroups x) append t t' = MovesOnly (Some x.watermark) t t'
+LeavesBehind RewriteRewrite append t t' = MovesOnly None t t'
 LeavesBehind _ append t t' = Unit {0}
 
 -- a rewriting of the Rewrite queue may leave an atomic group there that isn't ended, no other purge

@@ -84,7 +84,7 @@ pub returns-in-RewriteAppend-clause-tables : goal.returns-in-RewriteAppend-claus
 returns-in-RewriteAppend-clause-tables g c = rw c.in-RewriteAppend.is c.rewrite_append_queue.ensures.only
 
 pub returns-in-RewriteRewrite-clause-tables : goal.returns-in-RewriteRewrite-clause-tables
-returns-in-RewriteRewrite-clause-tables g c = rw c.in-RewriteRewrite.is (if_ok c.rewrite_rewrite_queue.result _ tt)
+returns-in-RewriteRewrite-clause-tables g c = rw c.in-RewriteRewrite.is c.rewrite_rewrite_queue.ensures.only
 
 pub returns-in-DropStale-clause-tables : goal.returns-in-DropStale-clause-tables
 returns-in-DropStale-clause-tables g c = rw c.in-DropStale.is (if_ok c.purge_all_stale.result _ tt)
