@@ -1,5 +1,5 @@
 -- What the purges of an engine make of it, each of them once, with listeners and without.
-use Rattle.std.specs.Prelude.{◌≡◌, ◌↔◌, ℕ, true, false, [], Err, IfErr, IfOk, OnErr, OnOk, Option, Result, Some, Vec, is_ok}
+use Rattle.std.specs.Prelude.{◌≡◌, ◌↔◌, ◌⊎◌, ℕ, true, false, [], Err, IfErr, IfOk, OnErr, OnOk, Option, Result, Some, Vec, is_ok}
 use Rattle.std.specs.List.Sorted.{IsStrictlySortedBy}
 use Rattle.std.specs.Ordering.{nat_cmp}
 use Rattle.std.specs.declared.alloc.Global.{Global}
@@ -19,7 +19,7 @@ use Rattle.raft_log_engine.specs.Durability.{Progresses, StaysFailed, durability
 use Rattle.raft_log_engine.specs.Engine.{contents_of, directory_of, durable_of, folders_of, has_failed, memory_of, queue_of, refusals_of, rewrite_queue_of, has_groups_together, spans_of, unsynced_of}
 use Rattle.raft_log_engine.specs.Events.{AreRecordsCut, HearsPurge}
 use Rattle.raft_log_engine.specs.Expired.{AsksBarrier, HasPurgedExpired}
-use Rattle.raft_log_engine.specs.Purge.{HasFreed, HasLastId, HasLostSome, HasOpenGroup, HasPurged, IsFailureCause, IsIdlePurge, IsPurgeFault, LacksId, LeavesBehind, LeavesOpen, LeavesOthers, queue_freed}
+use Rattle.raft_log_engine.specs.Purge.{HasFreed, HasLastId, HasLostSome, HasOpenGroup, HasPurged, IsFailureCause, IsIdlePurge, IsPurgeFault, LacksId, LeavesBehind, LeavesOpen, LeavesOthers, OwesTooMuch, queue_freed}
 use Rattle.raft_log_engine.specs.declared.engine.Engine.{Engine}
 use Rattle.raft_log_engine.specs.declared.engine.purge_kind.Purge.{Purge}
 use Rattle.raft_log_engine.specs.declared.engine.purge_kind.Purge.TheVariants.{DropStale, RewriteAppend, RewriteRewrite}
@@ -42,8 +42,8 @@ module _ {F H R W : Type 0} {g : Ghosts F H R W} where
         (directory_of new) (refusals_of old) (refusals_of new))
     pub cause :
         has_failed old ≡ false → IfErr result (IsPurgeFault (contents_of old) (queue_of new)
-        (rewrite_queue_of new) ends_open no_id (folders_of old) (has_failed new)
-        (refusals_of old) (refusals_of new))
+        (rewrite_queue_of new) ends_open (no_id ⊎ OwesTooMuch old new) (folders_of old)
+        (has_failed new) (refusals_of old) (refusals_of new))
 
   -- which files it leaves, how many it answers, and what it moves; it counts no rounds. What is refused
   -- has lost those files at most
