@@ -7,7 +7,7 @@
  * - read COUNT: entries in no order, cold, in turn with two bare preads of as many bytes;
  * - all SECONDS: the entries of one group after the other, for so long at most;
  * - purge KEEP: all but so many entries of each group go.
- * What is read is compared. SIZE: bytes of an entry, 1000 where it isn't set. */
+ * What is read is compared. SIZE: bytes of an entry, 1000 where it isn't set; SETTINGS: the log's. */
 #include "heap.h"
 #include "raftlog.h"
 
@@ -333,7 +333,7 @@ int main(int argc, char **argv) {
     fill_some();
     if (each > 0 && pthread_create(&thread, NULL, take_back, &each)) return 1;
     begun = now();
-    int code = raftlog_open(argv[1], NULL, &log, text, sizeof text);
+    int code = raftlog_open(argv[1], getenv("SETTINGS"), &log, text, sizeof text);
     if (code) return printf("%s\n", text), 1;
     tell("opened", 1);
     for (int at = 2, took; at < argc; at += took)

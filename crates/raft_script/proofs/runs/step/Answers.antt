@@ -1,4 +1,4 @@
-use Rattle.std.proofs.Common.{◌≡◌, ◌⊎◌, ◌∙◌, ◌∷◌, [], true, List, Option, Some, ap, map, refl, rules, subst, sym}
+use Rattle.std.proofs.Common.{◌≡◌, ◌⊎◌, ◌∙◌, ◌∷◌, [], true, ℕ, List, Option, Some, ap, map, refl, rules, subst, sym}
 use Rattle.std.specs.Prelude.{unwrap_or}
 use Rattle.raft_records.specs.Contents.{Contents, first_index_of, last_index_of}
 use Rattle.raft_records.specs.Item.{Batch}
@@ -7,6 +7,7 @@ use Rattle.raft_log_engine.specs.Engine.{contents_of, directory_of, folders_of, 
 use Rattle.raft_script.proofs.CalledLemmas.{called_once, called_write, unbuilt_group, unbuilt_once, unbuilt_write}
 use Rattle.raft_script.specs.Batches.{Part, batch_of_acts, batches_of_parts, items_of_acts}
 use Rattle.raft_script.specs.Durability.{Does}
+use Rattle.raft_script.specs.ReadCalls.{IsGet}
 use Rattle.raft_script.specs.Run.{IsUnbuilt, IsUnbuiltGroup}
 use Rattle.raft_crash_laws.specs.Crash.{pending_of}
 use Rattle.raft_log_engine.specs.Cause.{plain_part}
@@ -501,22 +502,31 @@ pub returns-in-Sync-clause-called : goal.returns-in-Sync-clause-called
 returns-in-Sync-clause-called g c = rw c.in-Sync.is c.sync.ensures
 
 pub returns-in-Get-clause-called : goal.returns-in-Get-clause-called
-returns-in-Get-clause-called g c = rw c.in-Get.is refl
+returns-in-Get-clause-called g c =
+    let read = c.get.ensures in
+    let key = c.deref-in-Get.ensures.value in
+    let bytes : c.deref-in-Get.result.now ≡ c.in-Get.key.items = key in
+    rw c.in-Get.is (subst (λ (k : List ℕ). IsGet c.in-Get.group k c.args.engine.now c.args.engine.now c.get.result) bytes
+    (record { same = refl; value = read.value; failed = read.failed; cause = read.cause; memory = read.memory }))
 
 pub returns-in-CompactTo-clause-called : goal.returns-in-CompactTo-clause-called
 returns-in-CompactTo-clause-called g c = rw c.in-CompactTo.is c.compact_to.ensures
 
 pub returns-in-Entry-clause-called : goal.returns-in-Entry-clause-called
-returns-in-Entry-clause-called g c = rw c.in-Entry.is c.get_entry.ensures.unchanged
+returns-in-Entry-clause-called g c =
+    let read = c.get_entry.ensures in
+    rw c.in-Entry.is (record { unchanged = read.unchanged; value = read.value; failed = read.failed; cause = read.cause; memory = read.memory })
 
 pub returns-in-First-clause-called : goal.returns-in-First-clause-called
-returns-in-First-clause-called g c = rw c.in-First.is refl
+returns-in-First-clause-called g c = rw c.in-First.is (record { same = refl; value = c.first_index.ensures.value })
 
 pub returns-in-Last-clause-called : goal.returns-in-Last-clause-called
-returns-in-Last-clause-called g c = rw c.in-Last.is refl
+returns-in-Last-clause-called g c = rw c.in-Last.is (record { same = refl; value = c.last_index.ensures.value })
 
 pub returns-in-Groups-clause-called : goal.returns-in-Groups-clause-called
-returns-in-Groups-clause-called g c = rw c.in-Groups.is refl
+returns-in-Groups-clause-called g c =
+    let read = c.raft_groups.ensures in
+    rw c.in-Groups.is (record { same = refl; value = read.value; failed = read.failed; cause = read.cause })
 
 pub returns-in-RewriteAppend-clause-called : goal.returns-in-RewriteAppend-clause-called
 returns-in-RewriteAppend-clause-called g c =

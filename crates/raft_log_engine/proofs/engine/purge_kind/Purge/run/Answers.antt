@@ -211,16 +211,19 @@ returns-in-DropExpired-clause-cut g c = rw c.in-DropExpired.is (on_ok_weaker c.p
 -- What is counted, and what stays.
 
 pub returns-in-RewriteAppend-clause-counted : goal.returns-in-RewriteAppend-clause-counted
-returns-in-RewriteAppend-clause-counted g c = λ is. absurd (let clash = sym c.in-RewriteAppend.is ∙ is in cc)
+returns-in-RewriteAppend-clause-counted g c = rw c.in-RewriteAppend.is (λ never. absurd never)
 
 pub returns-in-RewriteRewrite-clause-counted : goal.returns-in-RewriteRewrite-clause-counted
-returns-in-RewriteRewrite-clause-counted g c = λ is. c.rewrite_rewrite_queue.ensures.stats
+returns-in-RewriteRewrite-clause-counted g c = rw c.in-RewriteRewrite.is (λ only. c.rewrite_rewrite_queue.ensures.stats)
 
 pub returns-in-DropStale-clause-counted : goal.returns-in-DropStale-clause-counted
-returns-in-DropStale-clause-counted g c = λ is. absurd (let clash = sym c.in-DropStale.is ∙ is in cc)
+returns-in-DropStale-clause-counted g c = rw c.in-DropStale.is (λ never. absurd never)
+
+pub returns-in-DropExpired-clause-tables : goal.returns-in-DropExpired-clause-tables
+returns-in-DropExpired-clause-tables g c = rw c.in-DropExpired.is c.purge.ensures.only
 
 pub returns-in-DropExpired-clause-counted : goal.returns-in-DropExpired-clause-counted
-returns-in-DropExpired-clause-counted g c = λ is. absurd (let clash = sym c.in-DropExpired.is ∙ is in cc)
+returns-in-DropExpired-clause-counted g c = rw c.in-DropExpired.is (λ only. on_ok_weaker c.purge.result (λ stats. stats only.0 only.1) c.purge.ensures.stats)
 
 pub returns-in-RewriteAppend-clause-stale : goal.returns-in-RewriteAppend-clause-stale
 returns-in-RewriteAppend-clause-stale g c = λ is. absurd (let clash = sym c.in-RewriteAppend.is ∙ is in cc)
@@ -288,7 +291,7 @@ pub returns-in-RewriteGroups-clause-cut : goal.returns-in-RewriteGroups-clause-c
 returns-in-RewriteGroups-clause-cut g c = rw c.in-RewriteGroups.is (on_ok_weaker c.rewrite_append_groups.result (λ cut none. cut 0 (none_cut none)) c.rewrite_append_groups.ensures.purges.cut)
 
 pub returns-in-RewriteGroups-clause-counted : goal.returns-in-RewriteGroups-clause-counted
-returns-in-RewriteGroups-clause-counted g c = λ is. absurd (let clash = sym c.in-RewriteGroups.is ∙ is in cc)
+returns-in-RewriteGroups-clause-counted g c = rw c.in-RewriteGroups.is (λ never. absurd never)
 
 pub returns-in-RewriteGroups-clause-stale : goal.returns-in-RewriteGroups-clause-stale
 returns-in-RewriteGroups-clause-stale g c = λ is. absurd (let clash = sym c.in-RewriteGroups.is ∙ is in cc)
