@@ -18,7 +18,7 @@ use Rattle.raft_tables.specs.declared.memtables.MemTables.{MemTables}
 use Rattle.raft_tables.specs.declared.rewritten.GroupsMet.{GroupsMet}
 use Rattle.raft_rewrite.specs.Apart.{KeepsOthers}
 use Rattle.raft_stale.specs.Dropping.{HasDroppedOld, HasDroppedSome}
-use Rattle.raft_purge.specs.Expired.{HasDroppedExpired, IsIdle, MovesExpired}
+use Rattle.raft_purge.specs.Expired.{HasDroppedExpired, IsIdle, MovesDue}
 use Rattle.raft_purge_steps.specs.Faults.{HaveOwedNoRecord, IsByChange, IsPurgeRefusal}
 use Rattle.raft_rewrite.specs.OpenGroup.{EndsOpen, HasNoId, IsAtomicRefusal}
 use Rattle.raft_rewrite.specs.Emptied.{MovesOnly}
@@ -115,7 +115,7 @@ LeavesBehind (RewriteAppend scope) append t t' =
     MovesOnly (Some (watermark_in scope (last_seq append))) t t'
 LeavesBehind (RewriteGroups x) append t t' = MovesOnly (Some x.watermark) t t'
 LeavesBehind RewriteRewrite append t t' = MovesOnly None t t'
-LeavesBehind (DropExpired x) append t t' = x.renews ≡ false → MovesExpired x.watermark t t'
+LeavesBehind (DropExpired x) append t t' = MovesDue x.renews x.watermark t t'
 LeavesBehind _ append t t' = Unit {0}
 
 -- only the Rewrite queue is rewritten: it counts anew what left it

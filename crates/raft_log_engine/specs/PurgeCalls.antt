@@ -10,7 +10,7 @@ use Rattle.raft_base.specs.declared.pipe_log.LogQueue.TheVariants.{Append}
 use Rattle.raft_base.specs.declared.pipe_log.LogQueue.{LogQueue}
 use Rattle.raft_env.specs.declared.env.FileSystem.{Ghosts}
 use Rattle.raft_listeners.specs.Heard.{HasHeard, Heard}
-use Rattle.raft_purge.specs.Expired.{MovesExpired}
+use Rattle.raft_purge.specs.Expired.{MovesDue}
 use Rattle.raft_tables.specs.Counters.{deleted_count}
 use Rattle.raft_tables.specs.Tables.{tables_of}
 use Rattle.raft_crash_laws.specs.Crash.{LeavesAllowed}
@@ -96,10 +96,10 @@ module _ {F H R W : Type 0} {g : Ghosts F H R W} where
     pub ascending : IfOk result (λ asked. IsStrictlySortedBy nat_cmp asked.items)
     pub rounds : OnErr result (new.rounds ≡ old.rounds)
     pub first : OnErr result (HasLostFront (Some barrier) new.tables (queue_of old) (queue_of new))
-    -- where only the Append queue was due nothing behind its watermark moves; where only the Rewrite
-    -- queue was, it counts anew what left it
-    pub moved : OnOk result ((needs_of old).rewrite ≡ false
-        → MovesExpired (option_map (λ w. w.rewrite) (needs_of old).append) (tables_of old.tables)
+    -- what stands in the Rewrite queue moves where that was due, then what stands up to the watermark of
+    -- the Append queue where that was; where only the Rewrite queue was, it counts anew what left it
+    pub moved : OnOk result (MovesDue (needs_of old).rewrite
+        (option_map (λ w. w.rewrite) (needs_of old).append) (tables_of old.tables)
         (tables_of new.tables))
     pub counted : OnOk result ((needs_of old).rewrite ≡ true → (needs_of old).append ≡ None
         → deleted_count new.stats ≡ 0)
