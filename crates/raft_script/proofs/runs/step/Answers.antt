@@ -1,4 +1,4 @@
-use Rattle.std.proofs.Common.{◌≡◌, ◌∙◌, ◌∷◌, [], true, ℕ, List, Option, Some, ap, map, refl, rules, subst, sym}
+use Rattle.std.proofs.Common.{◌≡◌, ◌⊎◌, ◌∙◌, ◌∷◌, [], true, ℕ, List, Option, Some, ap, map, refl, rules, subst, sym}
 use Rattle.std.specs.Prelude.{unwrap_or}
 use Rattle.raft_records.specs.Contents.{Contents, first_index_of, last_index_of}
 use Rattle.raft_records.specs.Item.{Batch}
@@ -26,7 +26,7 @@ use Rattle.raft_script.proofs.PassedLemmas.{passes_none, passes_read}
 use Rattle.raft_script.proofs.ProgressLemmas.{purge_stands}
 use Rattle.raft_script.proofs.RunLemmas.{compaction_answered, compaction_fails, entry_answered, entry_rose, groups_answered, purge_answered, purge_fails, purge_rose, renewal_fails, steady_by, sync_fails, write_answered}
 use Rattle.raft_script.proofs.RefusalLemmas.{compaction_rose, sync_rose, write_rose}
-use Rattle.raft_log_engine.specs.Purge.{HasLastId, HasOpenGroup}
+use Rattle.raft_log_engine.specs.Purge.{HasLastId, HasOpenGroup, OwesTooMuch}
 use Rattle.raft_records.specs.Batch.{BatchView}
 use Rattle.raft_script.proofs.GroupLemmas.{called_group, does_group, group_answered, group_fails, group_refuses, unbuilt_answered, unbuilt_fails}
 use Rattle.raft_script.proofs.runs.step.Given.{Over}
@@ -187,21 +187,21 @@ returns-in-RewriteAppend-clause-value g c =
     let e = c.args.engine.now in
     let n = c.must_rewrite_append_queue.new.self in
     let purged = c.must_rewrite_append_queue.ensures in
-    rw c.in-RewriteAppend.is (λ m known same same_known. purge_answered (contents_of e) (queue_of n) (rewrite_queue_of n) ⊥ ⊥ (has_failed e) (has_failed n) (folders_of e) (refusals_of e) (refusals_of n) c.must_rewrite_append_queue.result purged.failed purged.log.cause m same)
+    rw c.in-RewriteAppend.is (λ m known same same_known. purge_answered (contents_of e) (queue_of n) (rewrite_queue_of n) ⊥ (⊥ ⊎ OwesTooMuch e n) (has_failed e) (has_failed n) (folders_of e) (refusals_of e) (refusals_of n) c.must_rewrite_append_queue.result purged.failed purged.log.cause m same)
 
 pub returns-in-RewriteAppend-clause-failed : goal.returns-in-RewriteAppend-clause-failed
 returns-in-RewriteAppend-clause-failed g c =
     let e = c.args.engine.now in
     let n = c.must_rewrite_append_queue.new.self in
     let purged = c.must_rewrite_append_queue.ensures in
-    rw c.in-RewriteAppend.is (purge_fails (contents_of e) (queue_of n) (rewrite_queue_of n) ⊥ ⊥ (has_failed e) (has_failed n) (folders_of e) (refusals_of e) (refusals_of n) c.must_rewrite_append_queue.result purged.failed purged.log.cause (λ there. there) (purge_stands c.must_rewrite_append_queue.result (durability_of e) (durability_of n) purged.log.progress) (λ gone. (purged.unchanged gone).failed))
+    rw c.in-RewriteAppend.is (purge_fails (contents_of e) (queue_of n) (rewrite_queue_of n) ⊥ (⊥ ⊎ OwesTooMuch e n) (has_failed e) (has_failed n) (folders_of e) (refusals_of e) (refusals_of n) c.must_rewrite_append_queue.result purged.failed purged.log.cause (λ there. there) (purge_stands c.must_rewrite_append_queue.result (durability_of e) (durability_of n) purged.log.progress) (λ gone. (purged.unchanged gone).failed))
 
 pub returns-in-RewriteAppend-clause-cause : goal.returns-in-RewriteAppend-clause-cause
 returns-in-RewriteAppend-clause-cause g c =
     let e = c.args.engine.now in
     let n = c.must_rewrite_append_queue.new.self in
     let purged = c.must_rewrite_append_queue.ensures in
-    (purged.log.any_moment.no_fewer, purge_rose (contents_of e) (queue_of n) (rewrite_queue_of n) ⊥ ⊥ (has_failed e) (has_failed n) (folders_of e) (refusals_of e) (refusals_of n) c.must_rewrite_append_queue.result purged.failed purged.log.cause)
+    (purged.log.any_moment.no_fewer, purge_rose (contents_of e) (queue_of n) (rewrite_queue_of n) ⊥ (⊥ ⊎ OwesTooMuch e n) (has_failed e) (has_failed n) (folders_of e) (refusals_of e) (refusals_of n) c.must_rewrite_append_queue.result purged.failed purged.log.cause)
 
 pub returns-in-RewriteAppend-clause-progress : goal.returns-in-RewriteAppend-clause-progress
 returns-in-RewriteAppend-clause-progress g c =
@@ -215,21 +215,21 @@ returns-in-RewriteRewrite-clause-value g c =
     let e = c.args.engine.now in
     let n = c.must_rewrite_rewrite_queue.new.self in
     let purged = c.must_rewrite_rewrite_queue.ensures in
-    rw c.in-RewriteRewrite.is (λ m known same same_known. purge_answered (contents_of e) (queue_of n) (rewrite_queue_of n) (HasOpenGroup n) (HasLastId n) (has_failed e) (has_failed n) (folders_of e) (refusals_of e) (refusals_of n) c.must_rewrite_rewrite_queue.result purged.failed purged.log.cause m same)
+    rw c.in-RewriteRewrite.is (λ m known same same_known. purge_answered (contents_of e) (queue_of n) (rewrite_queue_of n) (HasOpenGroup n) (HasLastId n ⊎ OwesTooMuch e n) (has_failed e) (has_failed n) (folders_of e) (refusals_of e) (refusals_of n) c.must_rewrite_rewrite_queue.result purged.failed purged.log.cause m same)
 
 pub returns-in-RewriteRewrite-clause-failed : goal.returns-in-RewriteRewrite-clause-failed
 returns-in-RewriteRewrite-clause-failed g c =
     let e = c.args.engine.now in
     let n = c.must_rewrite_rewrite_queue.new.self in
     let purged = c.must_rewrite_rewrite_queue.ensures in
-    rw c.in-RewriteRewrite.is (renewal_fails (contents_of e) (queue_of n) (rewrite_queue_of n) (HasOpenGroup n) (HasLastId n) (has_failed e) (has_failed n) (folders_of e) (refusals_of e) (refusals_of n) c.must_rewrite_rewrite_queue.result purged.failed purged.log.cause (purge_stands c.must_rewrite_rewrite_queue.result (durability_of e) (durability_of n) purged.log.progress) (λ gone. (purged.unchanged gone).failed))
+    rw c.in-RewriteRewrite.is (renewal_fails (contents_of e) (queue_of n) (rewrite_queue_of n) (HasOpenGroup n) (HasLastId n ⊎ OwesTooMuch e n) (has_failed e) (has_failed n) (folders_of e) (refusals_of e) (refusals_of n) c.must_rewrite_rewrite_queue.result purged.failed purged.log.cause (purge_stands c.must_rewrite_rewrite_queue.result (durability_of e) (durability_of n) purged.log.progress) (λ gone. (purged.unchanged gone).failed))
 
 pub returns-in-RewriteRewrite-clause-cause : goal.returns-in-RewriteRewrite-clause-cause
 returns-in-RewriteRewrite-clause-cause g c =
     let e = c.args.engine.now in
     let n = c.must_rewrite_rewrite_queue.new.self in
     let purged = c.must_rewrite_rewrite_queue.ensures in
-    (purged.log.any_moment.no_fewer, purge_rose (contents_of e) (queue_of n) (rewrite_queue_of n) (HasOpenGroup n) (HasLastId n) (has_failed e) (has_failed n) (folders_of e) (refusals_of e) (refusals_of n) c.must_rewrite_rewrite_queue.result purged.failed purged.log.cause)
+    (purged.log.any_moment.no_fewer, purge_rose (contents_of e) (queue_of n) (rewrite_queue_of n) (HasOpenGroup n) (HasLastId n ⊎ OwesTooMuch e n) (has_failed e) (has_failed n) (folders_of e) (refusals_of e) (refusals_of n) c.must_rewrite_rewrite_queue.result purged.failed purged.log.cause)
 
 pub returns-in-RewriteRewrite-clause-progress : goal.returns-in-RewriteRewrite-clause-progress
 returns-in-RewriteRewrite-clause-progress g c =
@@ -243,21 +243,21 @@ returns-in-PurgeStale-clause-value g c =
     let e = c.args.engine.now in
     let n = c.must_purge_all_stale.new.self in
     let purged = c.must_purge_all_stale.ensures in
-    rw c.in-PurgeStale.is (λ m known same same_known. purge_answered (contents_of e) (queue_of n) (rewrite_queue_of n) ⊥ ⊥ (has_failed e) (has_failed n) (folders_of e) (refusals_of e) (refusals_of n) c.must_purge_all_stale.result purged.failed purged.log.cause m same)
+    rw c.in-PurgeStale.is (λ m known same same_known. purge_answered (contents_of e) (queue_of n) (rewrite_queue_of n) ⊥ (⊥ ⊎ OwesTooMuch e n) (has_failed e) (has_failed n) (folders_of e) (refusals_of e) (refusals_of n) c.must_purge_all_stale.result purged.failed purged.log.cause m same)
 
 pub returns-in-PurgeStale-clause-failed : goal.returns-in-PurgeStale-clause-failed
 returns-in-PurgeStale-clause-failed g c =
     let e = c.args.engine.now in
     let n = c.must_purge_all_stale.new.self in
     let purged = c.must_purge_all_stale.ensures in
-    rw c.in-PurgeStale.is (purge_fails (contents_of e) (queue_of n) (rewrite_queue_of n) ⊥ ⊥ (has_failed e) (has_failed n) (folders_of e) (refusals_of e) (refusals_of n) c.must_purge_all_stale.result purged.failed purged.log.cause (λ there. there) (purge_stands c.must_purge_all_stale.result (durability_of e) (durability_of n) purged.log.progress) (λ gone. (purged.unchanged gone).failed))
+    rw c.in-PurgeStale.is (purge_fails (contents_of e) (queue_of n) (rewrite_queue_of n) ⊥ (⊥ ⊎ OwesTooMuch e n) (has_failed e) (has_failed n) (folders_of e) (refusals_of e) (refusals_of n) c.must_purge_all_stale.result purged.failed purged.log.cause (λ there. there) (purge_stands c.must_purge_all_stale.result (durability_of e) (durability_of n) purged.log.progress) (λ gone. (purged.unchanged gone).failed))
 
 pub returns-in-PurgeStale-clause-cause : goal.returns-in-PurgeStale-clause-cause
 returns-in-PurgeStale-clause-cause g c =
     let e = c.args.engine.now in
     let n = c.must_purge_all_stale.new.self in
     let purged = c.must_purge_all_stale.ensures in
-    (purged.log.any_moment.no_fewer, purge_rose (contents_of e) (queue_of n) (rewrite_queue_of n) ⊥ ⊥ (has_failed e) (has_failed n) (folders_of e) (refusals_of e) (refusals_of n) c.must_purge_all_stale.result purged.failed purged.log.cause)
+    (purged.log.any_moment.no_fewer, purge_rose (contents_of e) (queue_of n) (rewrite_queue_of n) ⊥ (⊥ ⊎ OwesTooMuch e n) (has_failed e) (has_failed n) (folders_of e) (refusals_of e) (refusals_of n) c.must_purge_all_stale.result purged.failed purged.log.cause)
 
 pub returns-in-PurgeStale-clause-progress : goal.returns-in-PurgeStale-clause-progress
 returns-in-PurgeStale-clause-progress g c =
@@ -271,21 +271,21 @@ returns-in-Purge-clause-value g c =
     let e = c.args.engine.now in
     let n = c.purge_expired_files.new.self in
     let purged = c.purge_expired_files.ensures in
-    rw c.in-Purge.is (λ m known same same_known. purge_answered (contents_of e) (queue_of n) (rewrite_queue_of n) (HasOpenGroup n) (HasLastId n) (has_failed e) (has_failed n) (folders_of e) (refusals_of e) (refusals_of n) c.purge_expired_files.result purged.failed purged.log.cause m same)
+    rw c.in-Purge.is (λ m known same same_known. purge_answered (contents_of e) (queue_of n) (rewrite_queue_of n) (HasOpenGroup n) (HasLastId n ⊎ OwesTooMuch e n) (has_failed e) (has_failed n) (folders_of e) (refusals_of e) (refusals_of n) c.purge_expired_files.result purged.failed purged.log.cause m same)
 
 pub returns-in-Purge-clause-failed : goal.returns-in-Purge-clause-failed
 returns-in-Purge-clause-failed g c =
     let e = c.args.engine.now in
     let n = c.purge_expired_files.new.self in
     let purged = c.purge_expired_files.ensures in
-    rw c.in-Purge.is (renewal_fails (contents_of e) (queue_of n) (rewrite_queue_of n) (HasOpenGroup n) (HasLastId n) (has_failed e) (has_failed n) (folders_of e) (refusals_of e) (refusals_of n) c.purge_expired_files.result purged.failed purged.log.cause (purge_stands c.purge_expired_files.result (durability_of e) (durability_of n) purged.log.progress) (λ gone. (purged.unchanged gone).failed))
+    rw c.in-Purge.is (renewal_fails (contents_of e) (queue_of n) (rewrite_queue_of n) (HasOpenGroup n) (HasLastId n ⊎ OwesTooMuch e n) (has_failed e) (has_failed n) (folders_of e) (refusals_of e) (refusals_of n) c.purge_expired_files.result purged.failed purged.log.cause (purge_stands c.purge_expired_files.result (durability_of e) (durability_of n) purged.log.progress) (λ gone. (purged.unchanged gone).failed))
 
 pub returns-in-Purge-clause-cause : goal.returns-in-Purge-clause-cause
 returns-in-Purge-clause-cause g c =
     let e = c.args.engine.now in
     let n = c.purge_expired_files.new.self in
     let purged = c.purge_expired_files.ensures in
-    (purged.log.any_moment.no_fewer, purge_rose (contents_of e) (queue_of n) (rewrite_queue_of n) (HasOpenGroup n) (HasLastId n) (has_failed e) (has_failed n) (folders_of e) (refusals_of e) (refusals_of n) c.purge_expired_files.result purged.failed purged.log.cause)
+    (purged.log.any_moment.no_fewer, purge_rose (contents_of e) (queue_of n) (rewrite_queue_of n) (HasOpenGroup n) (HasLastId n ⊎ OwesTooMuch e n) (has_failed e) (has_failed n) (folders_of e) (refusals_of e) (refusals_of n) c.purge_expired_files.result purged.failed purged.log.cause)
 
 pub returns-in-Purge-clause-progress : goal.returns-in-Purge-clause-progress
 returns-in-Purge-clause-progress g c =
