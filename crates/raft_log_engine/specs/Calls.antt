@@ -44,6 +44,8 @@ module _ {F H R W : Type 0} {g : Ghosts F H R W} where
         → (sync ≡ false → (result ≡ Ok 0) × ChangesNoFile old new)
         × IfErr result (FailsCountedAt (NamesLog (folders_of old)) (refusals_of old)
         (refusals_of new))
+    -- of no items a refused sync fails it
+    pub halts : items ≡ [] → OnErr result (has_failed new ≡ true)
 
   -- .. by a caller, who changes no group's number
   pub record IsCallersWrite (items rest : Batch) (sync : Bool) (old new : Engine F H R W g)
@@ -109,7 +111,7 @@ module _ {F H R W : Type 0} {g : Ghosts F H R W} where
         → IsAppendRefusal (folders_of old) (queue_of new) (has_failed new) (refusals_of old)
         (refusals_of new) e)
     pub memory : has_failed old ≡ false → (contents_of old).entries group ≡ []
-        → (result ≡ Ok 0) × ChangesNoFile old new
+        → (result ≡ Ok 0) × ChangesNothing old new
 
   -- a sync
   pub record IsSync (old new : Engine F H R W g) (result : Result (Unit {0}) Fault) : Type 0 where
