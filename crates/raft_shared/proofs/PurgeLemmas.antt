@@ -1,5 +1,5 @@
 -- What the engine says of a purge by watermarks makes it legal in a history.
-use Rattle.std.proofs.Common.{◌≡◌, ◌∙◌, inl, inr, ℕ, cond, Bool, true, false, List, [], ◌∷◌, Result, Ok, Err, refl, sym, ap}
+use Rattle.std.proofs.Common.{◌≡◌, ◌∙◌, ◌⊎◌, inl, inr, ℕ, cond, Bool, true, false, List, [], ◌∷◌, Result, Ok, Err, refl, sym, ap}
 use Rattle.std.specs.Prelude.{IfOk, OnErr, Vec, not, ◌&&◌}
 use Rattle.std.specs.Result.{result_unwrap_or}
 use Rattle.std.proofs.lemmas.Bool.{false≢true}
@@ -13,7 +13,7 @@ use Rattle.raft_pipes.specs.PipeState.{PipeState}
 use Rattle.raft_records.specs.Contents.{Contents}
 use Rattle.raft_log_engine.specs.Durability.{durability_of}
 use Rattle.raft_log_engine.specs.Engine.{contents_of, folders_of, has_failed, queue_of, refusals_of, rewrite_queue_of}
-use Rattle.raft_log_engine.specs.Purge.{HasLastId, HasOpenGroup, IsPurgeFault}
+use Rattle.raft_log_engine.specs.Purge.{HasLastId, HasOpenGroup, IsPurgeFault, OwesTooMuch}
 use Rattle.raft_log_engine.specs.PurgeCalls.{IsExpiry}
 use Rattle.raft_log_engine.specs.declared.engine.Engine.{Engine}
 use Rattle.raft_log_engine.proofs.ProgressLemmas.{ProgressCases, progress_cases}
@@ -100,7 +100,7 @@ module _ {F H R W : Type 0} {g : Ghosts F H R W} (barrier : ℕ) (old new : Engi
           → IsLegalCall m ended was (record { seat = seat; asked = Purge barrier; answer = Done (answer_by (λ _. tt) result) }) (has_failed new)
       at true is result p = (ap (λ r. Done (answer_by (λ _. tt) r)) (p.failed.1 is), (p.unchanged is).failed)
       at false is (Ok groups) p = stands_answered groups p
-      at false is (Err e) p = refused_purge (contents_of old) (queue_of new) (rewrite_queue_of new) (HasOpenGroup new) (HasLastId new) (folders_of old) (has_failed new) (refusals_of old) (refusals_of new) e (p.log.cause is)
+      at false is (Err e) p = refused_purge (contents_of old) (queue_of new) (rewrite_queue_of new) (HasOpenGroup new) (HasLastId new ⊎ OwesTooMuch old new) (folders_of old) (has_failed new) (refusals_of old) (refusals_of new) e (p.log.cause is)
 
   -- no numbers have ended before a purge of an engine that stands
   pub purge_ends : (result : Result (Vec ℕ Global) Fault) → IsExpiry barrier old new result → is_out_of_numbers old ≡ false
@@ -125,4 +125,4 @@ module _ {F H R W : Type 0} {g : Ghosts F H R W} (barrier : ℕ) (old new : Engi
     where
       at : (was : Bool) → has_failed old ≡ was → CountsRefusals (record { seat = seat; asked = Purge barrier; answer = Done (Err (without_path (reason_of e))) } ∷ []) (refusals_of old) (refusals_of new)
       at true is = rw (err_is (p.failed.1 is)) (counts_none p.log.any_moment.no_fewer)
-      at false is = counts_purge (contents_of old) (queue_of new) (rewrite_queue_of new) (HasOpenGroup new) (HasLastId new) (folders_of old) (has_failed new) (refusals_of old) (refusals_of new) seat barrier e (p.log.cause is) p.log.any_moment.no_fewer
+      at false is = counts_purge (contents_of old) (queue_of new) (rewrite_queue_of new) (HasOpenGroup new) (HasLastId new ⊎ OwesTooMuch old new) (folders_of old) (has_failed new) (refusals_of old) (refusals_of new) seat barrier e (p.log.cause is) p.log.any_moment.no_fewer

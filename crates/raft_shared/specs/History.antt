@@ -62,7 +62,7 @@ after_events m events = fold after_event m events
 
 -- the write of a batch is refused for that alone, or of a valid batch by storage, without a path, for
 -- want of memory, or since its record is too long or numbers of log files have ended; the engine may
--- fail by storage or for want of memory
+-- fail by storage or for want of memory, and does where there was nothing but a sync
 abbrev pub IsRefusedWrite : Contents → Bool → Batch → Reason → Bool → Type 0
 IsRefusedWrite m ended batch Gap fails =
     (batch_refusal m batch ≡ Some fault.Gap) × (fails ≡ false)
@@ -70,8 +70,10 @@ IsRefusedWrite m ended batch Range fails = ((batch_refusal m batch ≡ Some faul
     ⊎ (IsValidBatch m batch × ((2 ^ 56 ≤ record_len batch) ⊎ (ended ≡ true))))
     × (fails ≡ false)
 IsRefusedWrite m ended batch TryAgain fails = IsValidBatch m batch × (fails ≡ false)
-IsRefusedWrite m ended batch (Io kind path) fails = IsValidBatch m batch × (path ≡ [])
-IsRefusedWrite m ended batch Memory fails = IsValidBatch m batch
+IsRefusedWrite m ended batch (Io kind path) fails =
+    IsValidBatch m batch × (path ≡ []) × (batch ≡ [] → fails ≡ true)
+IsRefusedWrite m ended batch Memory fails =
+    IsValidBatch m batch × (batch ≡ [] → fails ≡ true)
 IsRefusedWrite m ended batch Failed fails = ⊥
 IsRefusedWrite m ended batch Invalid fails = ⊥
 IsRefusedWrite m ended batch StaleNumber fails = ⊥
@@ -99,11 +101,13 @@ abbrev pub IsCallersAnswer : Bool → Contents → Bool → Batch → Answer →
 IsCallersAnswer true m ended written answer fails = IsRefusedAs Invalid answer fails
 IsCallersAnswer false m ended written answer fails = IsWriteAnswer m ended written answer fails
 
--- .. one with old numbers: nothing is written, and a sync that is asked for may be refused
+-- .. one with old numbers: nothing is written, and a sync that is asked for may be refused, which fails
+-- the engine
 abbrev pub IsOldAnswer : Bool → Answer → Bool → Type 0
 IsOldAnswer sync (Size (Ok size)) fails = (size ≡ 0) × (fails ≡ false)
-IsOldAnswer sync (Size (Err (Io kind path))) fails = (sync ≡ true) × (path ≡ [])
-IsOldAnswer sync (Size (Err Memory)) fails = sync ≡ true
+IsOldAnswer sync (Size (Err (Io kind path))) fails =
+    (sync ≡ true) × (path ≡ []) × (fails ≡ true)
+IsOldAnswer sync (Size (Err Memory)) fails = (sync ≡ true) × (fails ≡ true)
 IsOldAnswer sync answer fails = ⊥
 
 -- .. one with numbers, which are unfit, or old, or new, or some of them old and some new
