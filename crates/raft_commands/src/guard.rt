@@ -1,5 +1,6 @@
 //! What the opening before a change would lose: the change is refused, or what is lost is kept.
 
+use crate::changed::ChangedFiles;
 use crate::kept::{free_name, keep};
 use crate::opening::config;
 use anyhow::{Result, anyhow};
@@ -35,7 +36,7 @@ pub(crate) struct Taken {
 
 /// Finds what an opening of the request's folder loses, and keeps it in files beside; none where more
 /// is lost than an unsynced tail explains and no word allows that. Standard error tells why.
-pub(crate) fn guard<F: FileSystem>(
+pub(crate) fn guard<F: ChangedFiles>(
     rt: &HostRuntime,
     files: &mut F,
     request: &Request<'_>,
@@ -140,7 +141,7 @@ fn told_of(alloc: Global, passed: Passed) -> Result<String, AllocError> {
 }
 
 // Keeps what is cut off, and moves aside what is passed over, where that is asked for.
-fn take<F: FileSystem>(
+fn take<F: ChangedFiles>(
     rt: &HostRuntime,
     files: &mut F,
     losses: &Losses,
@@ -201,7 +202,7 @@ fn keep_cut<F: FileSystem>(
     }
 }
 
-fn move_aside<F: FileSystem>(
+fn move_aside<F: ChangedFiles>(
     rt: &HostRuntime,
     files: &mut F,
     losses: &Losses,
@@ -214,6 +215,7 @@ fn move_aside<F: FileSystem>(
         let kept = free_name(rt, request.folder, name.as_str())?;
         let len = fs::metadata(rt, format!(in alloc; "{}/{path}", request.folder)?.as_str())?.len();
         if let Err(fault) = files.rename(path.as_str(), kept.as_str()) {
+            files.tell_refusal(rt)?;
             let fault = fault.with_path(alloc, path.as_str());
             return Err(failure("what is passed over cannot be moved aside", &fault));
         }

@@ -2,6 +2,7 @@
 #![tactic(auto)]
 
 mod absent;
+mod changed;
 mod changes;
 mod dumps;
 mod entries;
@@ -19,7 +20,6 @@ mod repair;
 mod spares;
 mod stat;
 mod stored;
-mod trial;
 mod waiting;
 mod writing;
 

@@ -1,17 +1,17 @@
 //! Cuts off what an opening cuts, and keeps it in files beside.
 
+use crate::changed::ChangedFiles;
 use crate::guard::{Taken, give_back, guard};
 use crate::opening::{close, open};
 use anyhow::Result;
 use raft_command_line::Request;
 use raft_console::{Output, Status};
-use raft_env::FileSystem;
 use raft_inspect::Word;
 use std::thread::Threads;
 
 /// Opens the log in the mode of the options, and prints what that took out of its files and where it
 /// is kept. Where the log can't be opened nothing is cut, told or kept.
-pub(crate) fn repair<R: Threads + Sync, F: FileSystem + Drop>(
+pub(crate) fn repair<R: Threads + Sync, F: ChangedFiles + Drop>(
     rt: &HostRuntime,
     threads: &R,
     mut files: F,
@@ -24,7 +24,7 @@ pub(crate) fn repair<R: Threads + Sync, F: FileSystem + Drop>(
     match open(rt, threads, files, &request.options) {
         Ok(engine) => {
             add_taken(&taken, false, out)?;
-            close(engine)?;
+            close(rt, engine)?;
             Ok(Status::Done)
         }
         Err(error) => {

@@ -4,6 +4,7 @@
 
 mod checking;
 mod dumping;
+mod faults;
 mod folder;
 mod hindrances;
 mod reserved;
@@ -11,6 +12,7 @@ mod source;
 
 pub use checking::check;
 pub use dumping::dump;
+pub use faults::{tell_refusal, told};
 pub use folder::{Folder, ReservedFile};
 pub use hindrances::Hindrance;
 pub use reserved::is_reserved;
