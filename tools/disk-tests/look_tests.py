@@ -238,6 +238,8 @@ class Tests(Losses, Calls, Streams):
         self.run(folder, "load", 20, 40)
         for word in ("stat", "check", "get 1 5", "list"):
             self.leaves(folder, f"{word} --spill second", 0)
+        ran = self.run(folder, "fork", os.path.join(self.work, "one-of-two-copied"), "--spill", "second")
+        self.expect(f"a fork of it: {ran.stderr}", ran.returncode == 0)
 
     def holes(self):
         folder = os.path.join(self.work, "holes")
@@ -405,6 +407,9 @@ def main():
         tests.repairs_again()
         tests.refused_repairs()
         tests.passed()
+        tests.left_out()
+        tests.failed_changes()
+        tests.broken_off()
         tests.foreseen()
         tests.locked()
         tests.settings()

@@ -2,13 +2,12 @@
 
 use anyhow::Result;
 use raft_disk::DiskFileSystem;
-use raft_env::FileSystem;
 use raft_looks::{tell_refusal, told};
 use raft_memory::MemoryFileSystem;
 use std::io;
 
 /// Files whose system can be asked what it refused.
-pub(crate) trait ChangedFiles: FileSystem {
+pub(crate) trait ChangedFiles {
     /// Tells on standard error which call the system refused last, and why.
     fn tell_refusal(&self, rt: &HostRuntime) -> io::Result<()>;
 

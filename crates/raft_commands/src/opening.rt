@@ -15,7 +15,7 @@ use std::thread::Threads;
 /// Opens the log, whose files are read by as many workers as the settings in force have threads; in
 /// a dry run as one in memory. Where the disk has no space for the header of a last file, which holds
 /// nothing, the log is opened without that file.
-pub(crate) fn open<R: Threads + Sync, F: ChangedFiles + Drop>(
+pub(crate) fn open<R: Threads + Sync, F: FileSystem + ChangedFiles + Drop>(
     rt: &HostRuntime,
     threads: &R,
     files: F,
@@ -32,7 +32,7 @@ pub(crate) fn open<R: Threads + Sync, F: ChangedFiles + Drop>(
     }
 }
 
-fn open_without_empty<R: Threads + Sync, F: ChangedFiles + Drop>(
+fn open_without_empty<R: Threads + Sync, F: FileSystem + ChangedFiles + Drop>(
     rt: &HostRuntime,
     threads: &R,
     refused: Refused<F>,
@@ -56,7 +56,7 @@ fn open_without_empty<R: Threads + Sync, F: ChangedFiles + Drop>(
 }
 
 // What couldn't be opened; what the system refused is told.
-fn told_refusal<F: ChangedFiles + Drop>(
+fn told_refusal<F: FileSystem + ChangedFiles + Drop>(
     rt: &HostRuntime,
     refused: Refused<F>,
     options: &Options<'_>,
@@ -68,7 +68,7 @@ fn told_refusal<F: ChangedFiles + Drop>(
 
 // Deletes the last file of each queue that holds nothing, where another one stands before it, and tells
 // whether there was one. A rotation that finds no space leaves such a file.
-fn delete_empty<F: ChangedFiles>(
+fn delete_empty<F: FileSystem + ChangedFiles>(
     rt: &HostRuntime,
     files: &mut F,
     options: &Options<'_>,
@@ -126,7 +126,10 @@ pub(crate) fn open_image<R: Threads + Sync, F: FileSystem + Drop>(
 }
 
 /// Hands the files back.
-pub(crate) fn close<F: ChangedFiles + Drop>(rt: &HostRuntime, engine: Engine<F>) -> Result<F> {
+pub(crate) fn close<F: FileSystem + ChangedFiles + Drop>(
+    rt: &HostRuntime,
+    engine: Engine<F>,
+) -> Result<F> {
     match engine.close() {
         Ok(files) => Ok(files),
         Err(refused) => {

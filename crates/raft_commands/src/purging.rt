@@ -15,7 +15,7 @@ use std::thread::Threads;
 
 /// Purges the log, and prints a line for each group that is to be compacted, how many log files were
 /// dropped, and how many reserved files are kept to be used as next ones.
-pub(crate) fn purge<R: Threads + Sync, F: ChangedFiles + Drop>(
+pub(crate) fn purge<R: Threads + Sync, F: FileSystem + ChangedFiles + Drop>(
     rt: &HostRuntime,
     threads: &R,
     mut files: F,
@@ -82,7 +82,7 @@ fn find<F: FileSystem>(alloc: Global, files: &mut F, options: &Options<'_>) -> R
     }
 }
 
-fn purge_and_close<F: ChangedFiles + Drop>(
+fn purge_and_close<F: FileSystem + ChangedFiles + Drop>(
     rt: &HostRuntime,
     mut engine: Engine<F>,
     purge: Purge,

@@ -6,12 +6,13 @@ use crate::opening::{close, open};
 use anyhow::Result;
 use raft_command_line::Request;
 use raft_console::{Output, Status};
+use raft_env::FileSystem;
 use raft_inspect::Word;
 use std::thread::Threads;
 
 /// Opens the log in the mode of the options, and prints what that took out of its files and where it
 /// is kept. Where the log can't be opened nothing is cut, told or kept.
-pub(crate) fn repair<R: Threads + Sync, F: ChangedFiles + Drop>(
+pub(crate) fn repair<R: Threads + Sync, F: FileSystem + ChangedFiles + Drop>(
     rt: &HostRuntime,
     threads: &R,
     mut files: F,

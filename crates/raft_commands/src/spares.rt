@@ -26,7 +26,7 @@ struct Spares {
 
 /// Makes the reserved files that the opening wants, one after the other: tells before how many bytes
 /// that is, and meanwhile how far it is. Where no space is left the opening does without.
-pub(crate) fn make_ahead<F: ChangedFiles>(
+pub(crate) fn make_ahead<F: FileSystem + ChangedFiles>(
     rt: &HostRuntime,
     files: &mut F,
     options: &Options<'_>,

@@ -65,7 +65,7 @@ fn change_image<R: Threads + Sync>(
     }
 }
 
-fn change_files<R: Threads + Sync, F: ChangedFiles + Drop>(
+fn change_files<R: Threads + Sync, F: FileSystem + ChangedFiles + Drop>(
     rt: &HostRuntime,
     threads: &R,
     mut files: F,
@@ -78,7 +78,10 @@ fn change_files<R: Threads + Sync, F: ChangedFiles + Drop>(
     let Some(taken) = guard(rt, &mut files, request)? else {
         return Ok(Status::Refused);
     };
-    make_ahead(rt, &mut files, &request.options)?;
+    if let Err(error) = make_ahead(rt, &mut files, &request.options) {
+        give_back(rt, request, &taken)?;
+        return Err(error);
+    }
     let changed = match &request.verb {
         Verb::Purge(which) => purge(rt, threads, files, *which, &request.options, &mut out),
         _ => change_log(rt, threads, files, request, &mut out),
@@ -96,7 +99,7 @@ fn change_files<R: Threads + Sync, F: ChangedFiles + Drop>(
     }
 }
 
-fn change_log<R: Threads + Sync, F: ChangedFiles + Drop>(
+fn change_log<R: Threads + Sync, F: FileSystem + ChangedFiles + Drop>(
     rt: &HostRuntime,
     threads: &R,
     files: F,

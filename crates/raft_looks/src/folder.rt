@@ -2,6 +2,7 @@
 
 use crate::faults::told;
 use crate::hindrances::{Hindrance, add_hindrances};
+use crate::left_out::{LeftOut, ReadFiles};
 use crate::reserved::is_reserved;
 use crate::source::{FileSource, is_missing};
 use anyhow::{Result, bail};
@@ -103,6 +104,18 @@ impl Folder {
             add_hindrances(&self.rt, place.as_str(), &mut found)?;
         }
         Ok(found)
+    }
+
+    /// The folders right below that have files of the log and aren't read.
+    pub fn left_out(&self) -> Result<Vec<LeftOut>> {
+        ReadFiles {
+            rt: self.rt,
+            view: &self.view,
+            path: self.path.as_str(),
+            spill: self.spill.as_ref().map(|spill| spill.as_str()),
+            files: &self.files,
+        }
+        .left_out()
     }
 
     fn add_names(&mut self, folder: &str, names: Vec<String>) -> Result<()> {

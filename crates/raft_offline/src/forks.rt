@@ -4,14 +4,14 @@ use crate::copies::{Copy, planned};
 use crate::passed::tell_passed;
 use anyhow::{Result, anyhow};
 use raft_command_line::Request;
-use raft_commands::config;
+use raft_commands::{config, note_left_out};
 use raft_config::Config;
 use raft_console::{Output, Progress, Status, failure};
 use raft_disk::{DiskFileSystem, FolderView, OpenFault, image_of};
 use raft_env::{FileSystem, FsFault};
 use raft_fork::FORK_MARK;
 use raft_inspect::Word;
-use raft_looks::{tell_refusal, told};
+use raft_looks::{Folder, tell_refusal, told};
 use std::alloc::Global;
 use std::io::ErrorKind;
 
@@ -39,6 +39,8 @@ pub fn fork_folder(rt: HostRuntime, request: &Request<'_>, target: &str) -> Resu
     let settings = config(rt.alloc(), &request.options)?;
     let copies = plan(rt, &source, target, &settings)?;
     tell_passed(&rt, &source, &settings, &copies)?;
+    let left_out = Folder::open(rt, request.folder, &request.options)?.left_out()?;
+    note_left_out(&rt, &left_out, request)?;
     let mut files = match DiskFileSystem::open_with(rt, target, None) {
         Ok(files) => files,
         Err(fault) => return Err(told(&rt, &fault)),
@@ -83,15 +85,20 @@ fn add_names(
     files: &mut Vec<Named>,
 ) -> Result<()> {
     let alloc = rt.alloc();
-    let names = match view.names(folder) {
-        Ok(names) => names,
-        Err(fault) => return Err(told(rt, &fault)),
-    };
-    for name in &names {
+    for name in &names_in(rt, view, folder)? {
         let path = format!(in alloc; "{place}/{name}")?;
         files.push((path, Vec::new(alloc)))?;
     }
     Ok(())
+}
+
+/// The names of the files in a folder; none where it isn't there.
+pub(crate) fn names_in(rt: &HostRuntime, view: &FolderView, folder: &str) -> Result<Vec<String>> {
+    match view.names(folder) {
+        Ok(names) => Ok(names),
+        Err(OpenFault::Io(_, e)) if e.kind() == ErrorKind::NotFound => Ok(Vec::new(rt.alloc())),
+        Err(fault) => Err(told(rt, &fault)),
+    }
 }
 
 // .. of the target, where it is there.
