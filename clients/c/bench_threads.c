@@ -171,42 +171,50 @@ static struct result read_on(const struct store *store, void *log, double until)
     return result;
 }
 
-static struct result turn(const struct store *store, const char *folder, long threads) {
-    static struct writer writers[MOST];
+static struct writer writers[MOST];
+
+static void begin_writers(const struct store *store, void *log, long threads, atomic_bool *stops) {
+    for (long t = 0; t < threads; t++) {
+        float *took = writers[t].took ? writers[t].took : malloc(TIMES * sizeof *took);
+        uint64_t thread = (uint64_t)t + (set.reads != 0);
+        writers[t] = (struct writer){store, log, thread, 0, stops, took, false, 0};
+        if (!took || pthread_create(&writers[t].id, NULL, write_on, &writers[t])) exit(1);
+    }
+}
+
+/* What they did, once they have stopped. */
+static void end_writers(long threads, struct result *result) {
     static float all[MOST * 1024];
+    size_t times = 0;
+    for (long t = 0; t < threads; t++) {
+        pthread_join(writers[t].id, NULL);
+        if (writers[t].failed) printf("a put of %s failed\n", writers[t].store->name), exit(1);
+        result->puts += (double)writers[t].puts;
+        for (uint64_t i = 0; i < 1024 && i < writers[t].puts; i++)
+            all[times++] = writers[t].took[i];
+    }
+    if (!set.reads) take_times(result, all, times);
+}
+
+static struct result turn(const struct store *store, const char *folder, long threads) {
     char command[400];
     atomic_bool stops = false;
     void *log = store->open(folder);
     uint8_t key[KEY], value[VALUE] = {7};
+    struct result result = {0};
     if (!log) printf("%s doesn't open\n", store->name), exit(1);
-    long sync_us = set.sync_us;
     for (uint64_t i = 0; set.reads && i < KEYS; i++)
         key_of(i, key), store->put(log, 0, key, value);
     uint64_t before = syncs;
     double began = now();
-    for (long t = 0; t < threads; t++) {
-        float *took = writers[t].took ? writers[t].took : malloc(TIMES * sizeof *took);
-        writers[t] =
-            (struct writer){store, log, (uint64_t)t + (set.reads != 0), 0, &stops, took, false, 0};
-        if (!took || pthread_create(&writers[t].id, NULL, write_on, &writers[t])) exit(1);
-    }
-    struct result result = {0};
+    begin_writers(store, log, threads, &stops);
     if (set.reads) result = read_on(store, log, began + (double)set.seconds);
     else usleep((unsigned)set.seconds * 1000000);
     atomic_store(&stops, true);
-    size_t times = 0;
-    for (long t = 0; t < threads; t++) {
-        pthread_join(writers[t].id, NULL);
-        if (writers[t].failed) printf("a put of %s failed\n", store->name), exit(1);
-        result.puts += (double)writers[t].puts;
-        for (uint64_t i = 0; i < 1024 && i < writers[t].puts; i++)
-            all[times++] = writers[t].took[i];
-    }
+    end_writers(threads, &result);
     double seconds = now() - began;
     result.puts /= seconds;
     result.syncs = (double)(syncs - before) / seconds;
-    if (!set.reads) take_times(&result, all, times);
-    set.sync_us = sync_us;
     store->close(log);
     snprintf(command, sizeof command, "rm -rf '%s'", folder);
     if (system(command)) exit(1);

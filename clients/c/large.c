@@ -4,10 +4,10 @@
  * - turns COUNT FILE LIMIT: as many batches ten times, in turn with LIMIT in FILE, which bounds the
  *   memory, and with -1 there; a sync each 4 MB;
  * - expect random|order: how entries will be read;
- * - read COUNT: entries in no order, cold, beside bare preads;
+ * - read COUNT: entries in no order, cold, in turn with two bare preads of as many bytes;
  * - all SECONDS: the entries of one group after the other, for so long at most;
  * - purge KEEP: all but so many entries of each group go.
- * What is read is compared. SIZE: bytes of an entry, 1000 where it isn't set. */
+ * What is read is compared. SIZE: bytes of an entry, 1000 where it isn't set; SETTINGS: the log's. */
 #include "heap.h"
 #include "raftlog.h"
 
@@ -16,6 +16,7 @@
 #include <stdio.h>
 #include <stdlib.h>
 #include <string.h>
+#include <sys/resource.h>
 #include <time.h>
 #include <unistd.h>
 
@@ -206,38 +207,63 @@ static double read_bare(void) {
     return now() - from;
 }
 
+/* The reads that take turns: of the log, and bare ones twice, whose difference is chance. */
+enum { OURS, BARE, AGAIN, READS };
+
+/* What reads took, what came from the disk for them, and how often they waited. */
+struct reads {
+    double *took, all;
+    long disk, waits;
+};
+
+static void read_as(struct reads *reads, raftlog *log, raftlog_bytes *bytes, uint64_t i) {
+    struct rusage was, is;
+    getrusage(RUSAGE_THREAD, &was);
+    reads->all += reads->took[i] = log ? read_one(log, bytes) : read_bare();
+    getrusage(RUSAGE_THREAD, &is);
+    reads->disk += is.ru_inblock - was.ru_inblock;
+    reads->waits += is.ru_nvcsw - was.ru_nvcsw;
+}
+
 static int by_size(const void *one, const void *other) {
     double x = *(const double *)one, y = *(const double *)other;
     return x < y ? -1 : x > y;
 }
 
-static double middle_of(double *took, uint64_t count) {
-    qsort(took, count, sizeof *took, by_size);
-    return took[count / 2] * 1e6;
+/* The mean of all but the slowest hundredth is told too, since a few may take most of the time. */
+static void tell_reads(const char *what, struct reads *reads, uint64_t count) {
+    qsort(reads->took, count, sizeof *reads->took, by_size);
+    double most = 0, each = (double)count;
+    uint64_t kept = count - count / 100;
+    for (uint64_t i = 0; i < kept; i++) most += reads->took[i];
+    printf("%s: mean %.1f us, without the slowest hundredth %.1f, middle %.1f, ninth tenth %.1f; "
+           "%.1f KB and %.2f waits each\n",
+           what, reads->all / each * 1e6, most / (double)kept * 1e6,
+           reads->took[count / 2] * 1e6, reads->took[count * 9 / 10] * 1e6,
+           (double)reads->disk / 2 / each, (double)reads->waits / each);
+    free(reads->took);
 }
 
-/* Which of the two is first changes in turn. */
+/* Which of them is first changes in turn. */
 static void read_at_random(raftlog *log, uint64_t count) {
+    static const char *what[READS] = {"a cold entry", "a bare pread of a block", "and again"};
     raftlog_bytes bytes = {0};
-    double all = 0, all_bare = 0;
-    double *took = calloc(count, sizeof *took), *bare = calloc(count, sizeof *bare);
+    struct reads reads[READS] = {0};
+    for (int kind = 0; kind < READS; kind++)
+        reads[kind].took = calloc(count, sizeof *reads[kind].took);
     for (uint64_t i = 0; i < count; i++) {
         if (i % 32 == 0) make_cold();
-        if (i % 2) bare[i] = read_bare();
-        all += took[i] = read_one(log, &bytes);
-        if (i % 2 == 0) bare[i] = read_bare();
-        all_bare += bare[i];
+        for (uint64_t turn = 0; turn < READS; turn++) {
+            uint64_t kind = (i + turn) % READS;
+            read_as(&reads[kind], kind == OURS ? log : NULL, &bytes, i);
+        }
     }
-    double each = all * 1e6 / (double)count, each_bare = all_bare * 1e6 / (double)count;
-    printf("a cold entry: %.1f us; a bare pread of a block: %.1f us; %.2f times\n", each,
-           each_bare, each / each_bare);
-    double middle = middle_of(took, count), middle_bare = middle_of(bare, count);
-    printf("the middle ones: %.1f us; %.1f us; %.2f times\n", middle, middle_bare,
-           middle / middle_bare);
-    free(took);
-    free(bare);
+    printf("means: %.2f times a bare pread, which takes %.2f times the other\n",
+           2 * reads[OURS].all / (reads[BARE].all + reads[AGAIN].all),
+           reads[BARE].all / reads[AGAIN].all);
+    for (int kind = 0; kind < READS; kind++) tell_reads(what[kind], &reads[kind], count);
     raftlog_bytes_free(&bytes);
-    tell("read at random", (double)count);
+    tell("read at random", (double)count * READS);
 }
 
 /* Answers how many it read. */
@@ -307,7 +333,7 @@ int main(int argc, char **argv) {
     fill_some();
     if (each > 0 && pthread_create(&thread, NULL, take_back, &each)) return 1;
     begun = now();
-    int code = raftlog_open(argv[1], NULL, &log, text, sizeof text);
+    int code = raftlog_open(argv[1], getenv("SETTINGS"), &log, text, sizeof text);
     if (code) return printf("%s\n", text), 1;
     tell("opened", 1);
     for (int at = 2, took; at < argc; at += took)

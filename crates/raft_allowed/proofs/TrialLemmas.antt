@@ -29,7 +29,7 @@ use Rattle.raft_script.specs.Batches.{batch_of_acts, batches_of_parts}
 use Rattle.raft_script.specs.Called.{IsCalled}
 use Rattle.raft_script.specs.Durability.{IsCall, IsDurableAfter, IsPartlyDurable, progress_after_all}
 use Rattle.raft_script.specs.Headline.{Leads, Progress, last_state, progress_after, progress_from}
-use Rattle.raft_script.specs.Trial.{AreAnswered, AreDetectablyLeft, AreNotAsked, HaveNoLogPath, IsTrialOf, ran_in}
+use Rattle.raft_script.specs.Trial.{AreAnswered, AreDetectablyLeft, AreNotAsked, IsCrashOf, IsTrialOf, IsTrialTwiceOf, ran_in}
 use Rattle.raft_script.specs.declared.operation.Op.{Op}
 use Rattle.raft_script.specs.declared.operation.Op.TheVariants as operation
 use Rattle.raft_script.specs.declared.operation.Op.TheVariants.{Write, WriteGroup, WriteOnce, Sync, Get, CompactTo, First, Last, RewriteAppend, RewriteRewrite, PurgeStale, Purge}
@@ -54,12 +54,12 @@ module _ {F H R W : Type 0} {g : Ghosts F H R W} where
   called_folders (WriteGroup parts) (Sizes answer) old new (inl unbuilt) = ap folders_of unbuilt.0
   called_folders (WriteGroup parts) (Sizes answer) old new (inr called) = of_some (batches_of_parts parts.items) _ called (λ batches w. w.1.only.log.folders)
   called_folders Sync (Done answer) old new called = called.advance.only.log.folders
-  called_folders (Get group key) (Value answer) old new called = ap folders_of called
+  called_folders (Get group key) (Value answer) old new called = ap folders_of called.same
   called_folders (CompactTo group index) (Count answer) old new called = called.advance.only.log.folders
-  called_folders (operation.Entry group index) (reply.Entry answer) old new called = called.folders
-  called_folders (First group) (Index index) old new called = ap folders_of called
-  called_folders (Last group) (Index index) old new called = ap folders_of called
-  called_folders operation.Groups (reply.Groups answer) old new called = ap folders_of called
+  called_folders (operation.Entry group index) (reply.Entry answer) old new called = called.unchanged.folders
+  called_folders (First group) (Index index) old new called = ap folders_of called.same
+  called_folders (Last group) (Index index) old new called = ap folders_of called.same
+  called_folders operation.Groups (reply.Groups answer) old new called = ap folders_of called.same
   called_folders (RewriteAppend watermark step) (Dropped answer) old new called = called.log.others.folders
   called_folders RewriteRewrite (Dropped answer) old new called = called.log.others.folders
   called_folders PurgeStale (Dropped answer) old new called = called.log.others.folders
@@ -101,11 +101,11 @@ abbrev IsFoundAgain : Type 0
 IsFoundAgain = (folders : Folders) (n m : Directory) (d : CrashImage) → IsRestarted n d m → contents_at folders m ≡ contents_after_crash folders n d
 
 module _ {H R W : Type 0} (g : Ghosts MemoryFileSystem H R W) (same : (files : MemoryFileSystem) → g.directory files ≡ memory_directory files) (again : IsFoundAgain)
-    (config : Config) (ops : List Op) (stop : Option ℕ) (choices : List Choice) (t : Trial) (is : IsTrialOf g config ops stop choices t) where
+    (config : Config) (ops : List Op) (stop : Option ℕ) (choices : List Choice) (t : Trial) (left : MemoryFileSystem) (crash : IsCrashOf g config ops stop choices (ran_in t) left) where
   abbrev found : Contents
-  found = contents_at (folders_in config) (memory_directory is.again)
+  found = contents_at (folders_in config) (memory_directory left)
 
-  module _ (a : AreAnswered g config no_contents (known_in []) ops (ran_in t) is.crash.runs.first is.crash.last) where
+  module _ (a : AreAnswered g config no_contents (known_in []) ops (ran_in t) crash.runs.first crash.last) where
     begun_new : folders_of a.begun ≡ folders_in config
     begun_new = a.opens.opened.ok.folders_are
 
@@ -126,30 +126,52 @@ module _ {H R W : Type 0} (g : Ghosts MemoryFileSystem H R W) (same : (files : M
         subst (λ (m : Contents). IsDurableAfter t.failed_at m [] ops t.outcomes.items (durable_of a.ended) (unsynced_of a.ended)) durable_none
         (subst (λ (l : List Batch). IsDurableAfter t.failed_at (durable_of a.begun) l ops t.outcomes.items (durable_of a.ended) (unsynced_of a.ended)) unsynced_none a.runs.progress)
 
-    files_are : memory_directory is.crash.last ≡ directory_of a.ended
-    files_are = sym (same is.crash.last) ∙ a.files
+    files_are : memory_directory crash.last ≡ directory_of a.ended
+    files_are = sym (same crash.last) ∙ a.files
 
-    leaves : LeavesAllowed (folders_in config) (durable_of a.ended) (unsynced_of a.ended) (memory_directory is.crash.last)
+    leaves : LeavesAllowed (folders_in config) (durable_of a.ended) (unsynced_of a.ended) (memory_directory crash.last)
     leaves =
         subst (LeavesAllowed (folders_in config) (durable_of a.ended) (unsynced_of a.ended)) (sym files_are)
         (subst (λ (folders : Folders). LeavesAllowed folders (durable_of a.ended) (unsynced_of a.ended) (directory_of a.ended)) folders_same (engine_leaves a.ended))
 
-    may_be_left : AreDetectablyLeft (folders_in config) is.crash.last choices → MayBeLeft t.failed_at ops t.outcomes.items found
-    may_be_left detectable =
-        let files = memory_directory is.crash.last in
+    left_by_run : AreDetectablyLeft (folders_in config) crash.last choices → MayBeLeft t.failed_at ops t.outcomes.items found
+    left_by_run detectable =
+        let files = memory_directory crash.last in
         let d = left_by choices files in
         let p = progress_after_all no_contents (progress_from []) ops t.outcomes.items in
-        let back : found ≡ contents_after_crash (folders_in config) files d = again (folders_in config) files (memory_directory is.again) d is.crash.restarted in
+        let back : found ≡ contents_after_crash (folders_in config) files d = again (folders_in config) files (memory_directory left) d crash.restarted in
         let allowed : IsAllowedFrom 0 (durable_of a.ended) (unsynced_of a.ended) found =
-        subst (λ (m : Contents). IsAllowedFrom 0 (durable_of a.ended) (unsynced_of a.ended) m) (sym back) ((leaves d is.crash.leaves).found detectable) in
+        subst (λ (m : Contents). IsAllowedFrom 0 (durable_of a.ended) (unsynced_of a.ended) m) (sym back) ((leaves d crash.leaves).found detectable) in
         (progress.0, progress.1, allowed_of_all no_contents (durable_of a.ended) (unsynced_of a.ended) p progress.0 found progress.2 allowed)
 
-    shown_left : AreDetectablyLeft (folders_in config) is.crash.last choices → (opened : Result Image Fault) → IfOk opened (λ image. IsImageOf image.groups.items (shown found)) → IfOk opened (IsLeftAs t.failed_at ops t.outcomes.items)
-    shown_left detectable (Ok image) shows = (found, may_be_left detectable, shows)
-    shown_left detectable (Err e) shows = tt
+  module _ (opened : t.refused ≡ None) (detectable : AreDetectablyLeft (folders_in config) crash.last choices) where
+    may_be_left : MayBeLeft t.failed_at ops t.outcomes.items found
+    may_be_left = ⊎_elim
+        (λ (a : AreAnswered g config no_contents (known_in []) ops (ran_in t) crash.runs.first crash.last). left_by_run a detectable)
+        (λ (a : AreNotAsked g config no_contents (ran_in t) crash.runs.first crash.last). absurd (let clash = sym opened ∙ a.refused in cc))
+        (crash.runs.runs (crash.runs.free opened)).answered
 
-  pub trial_left : t.refused ≡ None → HaveNoLogPath (folders_in config) → AreDetectablyLeft (folders_in config) is.crash.last choices → IfOk t.opened (IsLeftAs t.failed_at ops t.outcomes.items)
-  trial_left opened free detectable = ⊎_elim
-      (λ (a : AreAnswered g config no_contents (known_in []) ops (ran_in t) is.crash.runs.first is.crash.last). shown_left a detectable t.opened is.opening.found)
-      (λ (a : AreNotAsked g config no_contents (ran_in t) is.crash.runs.first is.crash.last). absurd (let clash = sym opened ∙ a.refused in cc))
-      (is.crash.runs.runs free).answered
+    -- what an opening shows that finds the same contents
+    pub shown_left : (m : Contents) → m ≡ found → (shows : Result Image Fault) → IfOk shows (λ image. IsImageOf image.groups.items (shown m)) → IfOk shows (IsLeftAs t.failed_at ops t.outcomes.items)
+    shown_left m is (Ok image) shows = (m, subst (MayBeLeft t.failed_at ops t.outcomes.items) (sym is) may_be_left, shows)
+    shown_left m is (Err e) shows = tt
+
+module _ {H R W : Type 0} (g : Ghosts MemoryFileSystem H R W) (same : (files : MemoryFileSystem) → g.directory files ≡ memory_directory files) (again : IsFoundAgain)
+    (config : Config) (ops : List Op) (stop : Option ℕ) (choices : List Choice) where
+  pub trial_left : (t : Trial) (is : IsTrialOf g config ops stop choices t) → t.refused ≡ None → AreDetectablyLeft (folders_in config) is.crash.last choices → IfOk t.opened (IsLeftAs t.failed_at ops t.outcomes.items)
+  trial_left t is opened detectable = shown_left g same again config ops stop choices t is.again is.crash opened detectable (contents_at (folders_in config) (memory_directory is.again)) refl t.opened is.opening.found
+
+  module _ (stop_again : Option ℕ) (more : List Choice) (t : Trial) (is : IsTrialTwiceOf g config ops stop choices stop_again more t) (opened : t.refused ≡ None) (detectable : AreDetectablyLeft (folders_in config) is.crash.last choices) where
+    -- the opening in which the second crash came
+    pub second_left : IsSomeAnd t.second (λ o. IfOk o (IsLeftAs t.failed_at ops t.outcomes.items))
+    second_left =
+        let second = is.second in
+        let begins = ap (contents_at (folders_in config)) second.begins in
+        subst (λ (o : Option (Result Image Fault)). IsSomeAnd o (λ r. IfOk r (IsLeftAs t.failed_at ops t.outcomes.items))) (sym second.is)
+        (shown_left g same again config ops stop choices t is.first is.crash opened detectable (contents_at (folders_in config) (memory_directory second.begun)) begins second.image second.opening.found)
+
+    -- .. and the one after it
+    pub twice_left : AreDetectablyLeft (folders_in config) is.second.last more → IfOk t.opened (IsLeftAs t.failed_at ops t.outcomes.items)
+    twice_left detectable_again =
+        let back = is.second.same (is.crash.runs.free opened) detectable detectable_again in
+        shown_left g same again config ops stop choices t is.first is.crash opened detectable (contents_at (folders_in config) (memory_directory is.left)) back t.opened is.opening.found

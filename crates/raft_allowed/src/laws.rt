@@ -1,9 +1,9 @@
 //! What holds of trials and of what may be left.
-ghost use Rattle.std.specs.Prelude.{◌≡◌, ℕ, IfOk, List, None, Option};
+ghost use Rattle.std.specs.Prelude.{◌≡◌, ℕ, IfOk, IsSomeAnd, List, None, Option};
 ghost use Rattle.raft_config.specs.Folders.{folders_in};
 ghost use Rattle.raft_config.specs.declared.config.Config.{Config};
 ghost use Rattle.raft_memory.specs.declared.crash.Choice.{Choice};
-ghost use Rattle.raft_script.specs.Trial.{AreDetectablyLeft, HaveNoLogPath, IsTrialOf};
+ghost use Rattle.raft_script.specs.Trial.{AreDetectablyLeft, IsTrialOf, IsTrialTwiceOf};
 ghost use Rattle.raft_script.specs.declared.operation.Op.{Op};
 ghost use Rattle.raft_script.specs.declared.operation.Trial.{Trial};
 ghost use Rattle.raft_allowed.specs.Allowed.{IsLeftAs};
@@ -18,8 +18,25 @@ use raft_memory::MemoryFileSystem;
 pub fn a_trial_finds_what_may_be_left()
     ensures found { (config : Config) (ops : List Op) (stop : Option ℕ) (choices : List Choice)
         (t : Trial) (is : IsTrialOf ⟦<MemoryFileSystem as FileSystem>⟧ config ops stop choices t)
-        → t.refused ≡ None → HaveNoLogPath (folders_in config)
-        → AreDetectablyLeft (folders_in config) is.crash.last choices
+        → t.refused ≡ None → AreDetectablyLeft (folders_in config) is.crash.last choices
+        → IfOk t.opened (IsLeftAs t.failed_at ops t.outcomes.items) }
+{
+    crash_leaves_contents();
+}
+
+/// So is what the opening of `trial_twice` showed in which the second crash came (`second`), and,
+/// where the damage of that crash is detectable too, what the opening after it finds (`found`).
+pub fn a_second_crash_leaves_no_more()
+    ensures second { (config : Config) (ops : List Op) (stop : Option ℕ) (choices : List Choice)
+        (again : Option ℕ) (more : List Choice) (t : Trial) (is : IsTrialTwiceOf
+        ⟦<MemoryFileSystem as FileSystem>⟧ config ops stop choices again more t)
+        → t.refused ≡ None → AreDetectablyLeft (folders_in config) is.crash.last choices
+        → IsSomeAnd t.second (λ o. IfOk o (IsLeftAs t.failed_at ops t.outcomes.items)) }
+    ensures found { (config : Config) (ops : List Op) (stop : Option ℕ) (choices : List Choice)
+        (again : Option ℕ) (more : List Choice) (t : Trial) (is : IsTrialTwiceOf
+        ⟦<MemoryFileSystem as FileSystem>⟧ config ops stop choices again more t)
+        → t.refused ≡ None → AreDetectablyLeft (folders_in config) is.crash.last choices
+        → AreDetectablyLeft (folders_in config) is.second.last more
         → IfOk t.opened (IsLeftAs t.failed_at ops t.outcomes.items) }
 {
     crash_leaves_contents();

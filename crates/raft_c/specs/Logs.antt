@@ -11,7 +11,7 @@ use Rattle.raft_c_log.specs.Outcomes.{HasEnded, IsReply}
 use Rattle.raft_c_log.specs.declared.answer.Answer.{Answer}
 use Rattle.raft_c_log.specs.declared.calls.Change.{Change}
 use Rattle.raft_c_log.specs.declared.calls.Query.{Query}
-use Rattle.raft_c.specs.Found.{IsFoundMore}
+use Rattle.raft_c.specs.Found.{IsFoundBy}
 use Rattle.raft_c.specs.declared.loading.Found.{Found}
 use Rattle.raft_c.specs.declared.log.Log.{Log}
 use Rattle.raft_c.specs.declared.log.Standing.{Standing}
@@ -31,14 +31,16 @@ abbrev pub HasBegun : ℤ → Option Log → Type 0
 HasBegun code (Some log) = (code ≡ pos 0) × (log.standing ≡ Settled) × HasFoundNone log.state
 HasBegun code None = code ≡ pos 12
 
--- what was found at a path was added
-abbrev pub IsAdded : List ℕ → Found → State → State → Type 0
-IsAdded path found (Loading old) (Loading new) = IsFoundMore path found old new
-IsAdded path found _ _ = ⊥
+-- what was found at a path was added with this code, or wasn't; another log isn't changed
+abbrev pub IsAdded : List ℕ → Found → ℤ → State → State → Type 0
+IsAdded path found code (Loading old) (Loading new) = IsFoundBy path found code old new
+IsAdded path found code (Loading old) _ = ⊥
+IsAdded path found code old new = (code ≡ pos 1) × (new ≡ old)
 
+-- .. and nothing else changes
 abbrev pub HasAdded : List ℕ → Found → ℤ → Option Log → Option Log → Type 0
-HasAdded path found code (Some old) (Some new) =
-    code ≡ pos 0 → IsAdded path found old.state new.state
+HasAdded path found code (Some old) (Some new) = IsAdded path found code old.state new.state
+    × (new.standing ≡ old.standing) × (new.answer ≡ old.answer)
 HasAdded path found code _ _ = ⊥
 
 -- files were opened with settings of this text, which gave this code: the log is open, or the files

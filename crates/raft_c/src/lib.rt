@@ -41,7 +41,8 @@ pub extern "C" fn raft_c_free(alloc: Global, handle: &mut Handle)
     let _log = std::mem::replace(handle, Handle::none()).into_box(alloc);
 }
 
-/// Adds a file that was found at a path.
+/// Adds a file that was found at a path: 0; or 1 where the path is no text or the log isn't one that
+/// was begun, or 12 for want of memory, and what was found before stays.
 #[unsafe(no_mangle)]
 pub extern "C" fn raft_c_add_file(
     alloc: Global,
@@ -51,18 +52,18 @@ pub extern "C" fn raft_c_add_file(
 ) -> i32
     requires { IsSome handle.old.value }
     ensures some { IsSome handle.new.value }
-    ensures ok { HasAdded path.now (Found.File bytes.entry) result handle.old.value
+    ensures value { HasAdded path.now (Found.File bytes.entry) result handle.old.value
         handle.new.value }
 {
     add(alloc, handle, path, Found::File(bytes))
 }
 
-/// Adds a folder that was found at a path.
+/// Adds a folder that was found at a path, as `raft_c_add_file` a file.
 #[unsafe(no_mangle)]
 pub extern "C" fn raft_c_add_folder(alloc: Global, handle: &mut Handle, path: &[u8]) -> i32
     requires { IsSome handle.old.value }
     ensures some { IsSome handle.new.value }
-    ensures ok { HasAdded path.now Found.Folder result handle.old.value handle.new.value }
+    ensures value { HasAdded path.now Found.Folder result handle.old.value handle.new.value }
 {
     add(alloc, handle, path, Found::Folder)
 }
@@ -70,7 +71,7 @@ pub extern "C" fn raft_c_add_folder(alloc: Global, handle: &mut Handle, path: &[
 fn add(alloc: Global, handle: &mut Handle, path: &[u8], found: Found<'_>) -> i32
     requires { IsSome handle.old.value }
     ensures some { IsSome handle.new.value }
-    ensures ok { HasAdded path.now found.entry result handle.old.value handle.new.value }
+    ensures value { HasAdded path.now found.entry result handle.old.value handle.new.value }
 {
     let mut log = std::mem::replace(handle, Handle::none()).into_box(alloc);
     let code = log.add(path, found);

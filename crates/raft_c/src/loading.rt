@@ -1,7 +1,7 @@
 //! What is found before a log is opened.
-ghost use Rattle.std.specs.Prelude.{◌≡◌, ◌++◌, ◌∷◌, [], Ok, OnOk, map, pos};
+ghost use Rattle.std.specs.Prelude.{◌≡◌, ◌++◌, ◌∷◌, [], OnErr, OnOk, if◌then◌else◌, is_ok, map, pos};
 ghost use Rattle.std.specs.String.{string_bytes};
-ghost use Rattle.raft_c.specs.Found.{IsFoundMore, listed};
+ghost use Rattle.raft_c.specs.Found.{IsFoundBy, listed};
 
 use std::alloc::{AllocError, Global};
 
@@ -37,7 +37,7 @@ impl Loading {
 
     /// Adds what was found at a path, and tells a code.
     pub(crate) fn add(&mut self, alloc: Global, path: &[u8], found: Found<'_>) -> i32
-        ensures ok { result ≡ pos 0 → IsFoundMore path.now found.entry self.old self.new }
+        ensures value { IsFoundBy path.now found.entry result self.old self.new }
     {
         let Ok(path) = str::from_utf8(path) else {
             return INVALID;
@@ -51,16 +51,20 @@ impl Loading {
     fn add_file(&mut self, alloc: Global, path: &str, bytes: &[u8]) -> Result<(), AllocError>
         ensures ok { OnOk result (listed self.new.files.items
             ≡ listed self.old.files.items ++ (path.now, bytes.now) ∷ []) }
+        ensures err { OnErr result (self.new.files.items ≡ self.old.files.items) }
         ensures folders { self.new.folders ≡ self.old.folders }
     {
         let path = String::from_str(alloc, path)?;
-        self.files.push((path, bytes.to_vec(alloc)?))?;
+        let mut copy = Vec::with_capacity(alloc, bytes.len())?;
+        copy.extend_from_slice(bytes)?;
+        self.files.push((path, copy))?;
         Ok(())
     }
 
     fn add_folder(&mut self, alloc: Global, path: &str) -> Result<(), AllocError>
         ensures ok { OnOk result (map string_bytes self.new.folders.items
             ≡ map string_bytes self.old.folders.items ++ path.now ∷ []) }
+        ensures err { OnErr result (self.new.folders.items ≡ self.old.folders.items) }
         ensures files { self.new.files ≡ self.old.files }
     {
         self.folders.push(String::from_str(alloc, path)?)?;
@@ -69,7 +73,7 @@ impl Loading {
 }
 
 fn code_of(added: Result<(), AllocError>) -> i32
-    ensures ok { result ≡ pos 0 → added ≡ Ok tt }
+    ensures value { result ≡ (if is_ok added then pos 0 else pos 12) }
 {
     match added {
         Ok(()) => 0,

@@ -4,7 +4,7 @@ ghost use Rattle.std.specs.Prelude.{◌≡◌, ◌∷◌, [], Some, length, pos,
 ghost use Rattle.raft_env.specs.Refusal.{no_refusals};
 ghost use Rattle.raft_disk.specs.Mirror.{mirror_directory, mirror_moments, mirror_refusals};
 ghost use Rattle.raft_memory.specs.Settled.{settled_files};
-ghost use Rattle.raft_c.specs.Logs.{GivesOrders, HasBegun, IsAdded, IsChange, IsClose, IsOpening, IsOpeningOver, IsRead, IsSettled};
+ghost use Rattle.raft_c.specs.Logs.{GivesOrders, HasAdded, HasBegun, IsChange, IsClose, IsOpening, IsOpeningOver, IsRead, IsSettled};
 
 use crate::loading::{Found, Loading};
 use raft_c_log::{Answer, Change, OpenLog, Query};
@@ -65,11 +65,11 @@ impl Log {
 
     /// Adds what was found at a path, and tells a code.
     pub(crate) fn add(&mut self, path: &[u8], found: Found<'_>) -> i32
-        ensures ok { result ≡ pos 0 → IsAdded path.now found.entry self.old.state self.new.state }
+        ensures value { HasAdded path.now found.entry result (Some self.old) (Some self.new) }
     {
         match &mut self.state {
             State::Loading(loading) => loading.add(self.alloc, path, found),
-            _ => NOT_OPEN,
+            State::Open(_) | State::Closed(_) | State::Ended => NOT_OPEN,
         }
     }
 

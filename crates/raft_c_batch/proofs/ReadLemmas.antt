@@ -12,7 +12,7 @@ use Rattle.raft_records.specs.Item.{Entry, Content, Entries, Clean, Compact, Put
 use Rattle.raft_records.specs.Record.{take_bytes}
 use Rattle.raft_c_batch.specs.Batch.{IsGivenBatch, IsGivenContent, IsGivenEntry, IsGivenItem, all_items, batch_bytes, content_bytes, entries_bytes, index_in, item_bytes, items_bytes, kind_of, part_bytes, read_batch, take_compact, take_content, take_delete, take_each, take_entries, take_entry, take_item, take_items, take_part, take_put}
 
-map_some : {A B P : Type 0} (h : A → B) (o : Option A) (y : B) → option_map h o ≡ Some y → ((x : A) → o ≡ Some x → h x ≡ y → P) → P
+pub map_some : {A B P : Type 0} (h : A → B) (o : Option A) (y : B) → option_map h o ≡ Some y → ((x : A) → o ≡ Some x → h x ≡ y → P) → P
 map_some h None y made then_follows = absurd (none-some y made)
 map_some h (Some x) y made then_follows = then_follows x refl (same_Some (h x) y made)
 

@@ -1,14 +1,10 @@
 -- Batches as bytes. Each number takes eight bytes, the greatest first.
-use Rattle.std.specs.Prelude.{◌≡◌, ◌<◌, ◌^◌, ◌⊎◌, ℕ, zero, suc, ◌==◌, List, [], ◌∷◌, ◌++◌, length, Option, Some, None, option_map, option_and_then, if◌then◌else◌}
+use Rattle.std.specs.Prelude.{◌≡◌, ◌<◌, ◌^◌, ℕ, zero, suc, ◌==◌, List, [], ◌∷◌, ◌++◌, length, Option, Some, None, option_map, option_and_then, if◌then◌else◌}
 use Rattle.std.specs.List.{AllByRecursion}
-use Rattle.raft_base.specs.Fault.{fault_code}
-use Rattle.raft_base.specs.declared.errors.Fault.TheVariants as fault
 use Rattle.raft_codec.specs.Number.{u64_bytes, take_u64}
 use Rattle.raft_records.specs.Item.{Entry, Content, Entries, Clean, Compact, Put, Delete, Item, Batch}
 use Rattle.raft_records.specs.Record.{take_byte, take_bytes}
 use Rattle.raft_c_batch.specs.declared.entry.Entry.{Entry as StoredEntry}
-use Rattle.raft_c_batch.specs.declared.batch.BatchFault.{BatchFault}
-use Rattle.raft_c_batch.specs.declared.batch.BatchFault.TheVariants as batch_fault
 
 -- How a batch is written.
 
@@ -152,9 +148,3 @@ with_item_taken items taken = (items ++ taken.0 ∷ [], taken.1)
 -- the index and the bytes of an entry
 abbrev pub stored_of : StoredEntry → Entry
 stored_of e = (e.index, e.bytes.items)
-
--- bytes that are no batch, or what a batch refuses: a key, too many bytes, or for want of memory
-abbrev pub IsBatchRefusal : {A : Type 0} → Option A → BatchFault → Type 0
-IsBatchRefusal taken batch_fault.Malformed = taken ≡ None
-IsBatchRefusal taken (batch_fault.Refused e) =
-    (fault_code e ≡ 1) ⊎ (e ≡ fault.Range) ⊎ (e ≡ fault.Memory)

@@ -12,7 +12,8 @@
 ghost use Rattle.std.specs.Prelude.{◌≡◌, ◌++◌, [], ◌∷◌, Some, map, option_map, IfOk, IfErr, OnOk};
 ghost use Rattle.raft_base.specs.declared.errors.Fault.TheVariants.{Memory};
 ghost use Rattle.raft_c_batch.specs.declared.batch.BatchFault.TheVariants.{Refused};
-ghost use Rattle.raft_c_batch.specs.Batch.{IsBatchRefusal, read_batch, stored_of, take_compact, take_content, take_delete, take_each, take_entries, take_entry, take_item, take_part, take_put, with_item_taken, with_taken};
+ghost use Rattle.raft_c_batch.specs.Batch.{read_batch, stored_of, take_compact, take_content, take_delete, take_each, take_entries, take_entry, take_item, take_part, take_put, with_item_taken, with_taken};
+ghost use Rattle.raft_c_batch.specs.Refusals.{IsAddRefusal, IsBatchRefusal, IsContentRefusal, IsPartRefusal};
 
 use crate::entry::Entry;
 use raft_codec::number::take_u64;
@@ -34,7 +35,7 @@ const COMPACT: u8 = 5;
 pub enum BatchFault {
     /// They are no batch.
     Malformed,
-    /// A batch refuses an item.
+    /// A batch refuses an item, or there was no memory.
     Refused(Fault),
 }
 
@@ -63,7 +64,7 @@ fn take_part(bytes: &[u8]) -> Option<(&[u8], &[u8])>
 
 fn take_entry(alloc: Global, bytes: &[u8]) -> Result<(Entry, &[u8]), BatchFault>
     ensures ok { IfOk result (λ r. take_entry bytes.now ≡ Some (stored_of r.0, r.1.now)) }
-    ensures cause { IfErr result (IsBatchRefusal (take_entry bytes.now)) }
+    ensures cause { IfErr result (IsPartRefusal (take_entry bytes.now)) }
 {
     let (part, rest) = take_part(bytes).ok_or(BatchFault::Malformed)?;
     match Entry::of(alloc, part)? {
@@ -80,7 +81,8 @@ fn add_put<'a>(
 ) -> Result<&'a [u8], BatchFault>
     ensures ok { IfOk result (λ rest. option_map (with_taken batch.old.items group)
         (take_put bytes.now) ≡ Some (batch.new.items, rest.now)) }
-    ensures cause { IfErr result (IsBatchRefusal (take_put bytes.now)) }
+    ensures cause { IfErr result
+        (IsContentRefusal batch.old.items group (take_put bytes.now)) }
 {
     let (key, rest) = take_part(bytes).ok_or(BatchFault::Malformed)?;
     let (value, rest) = take_part(rest).ok_or(BatchFault::Malformed)?;
@@ -96,7 +98,8 @@ fn add_delete<'a>(
 ) -> Result<&'a [u8], BatchFault>
     ensures ok { IfOk result (λ rest. option_map (with_taken batch.old.items group)
         (take_delete bytes.now) ≡ Some (batch.new.items, rest.now)) }
-    ensures cause { IfErr result (IsBatchRefusal (take_delete bytes.now)) }
+    ensures cause { IfErr result
+        (IsContentRefusal batch.old.items group (take_delete bytes.now)) }
 {
     let (key, rest) = take_part(bytes).ok_or(BatchFault::Malformed)?;
     batch.delete(group, key.to_vec(alloc)?)?;
@@ -110,7 +113,8 @@ fn add_compact<'a>(
 ) -> Result<&'a [u8], BatchFault>
     ensures ok { IfOk result (λ rest. option_map (with_taken batch.old.items group)
         (take_compact bytes.now) ≡ Some (batch.new.items, rest.now)) }
-    ensures cause { IfErr result (IsBatchRefusal (take_compact bytes.now)) }
+    ensures cause { IfErr result
+        (IsContentRefusal batch.old.items group (take_compact bytes.now)) }
 {
     let (index, rest) = take_u64(bytes).ok_or(BatchFault::Malformed)?;
     batch.add_command(group, Command::Compact { index })?;
@@ -127,7 +131,7 @@ fn push_entry(entries: &mut Vec<Entry>, entry: Entry) -> Result<(), AllocError>
 fn take_each(alloc: Global, count: u64, bytes: &[u8]) -> Result<(Vec<Entry>, &[u8]), BatchFault>
     ensures ok { IfOk result (λ r. take_each count bytes.now
         ≡ Some (map stored_of r.0.items, r.1.now)) }
-    ensures cause { IfErr result (IsBatchRefusal (take_each count bytes.now)) }
+    ensures cause { IfErr result (IsPartRefusal (take_each count bytes.now)) }
 {
     let mut entries = Vec::new(alloc);
     let mut rest = bytes;
@@ -147,7 +151,8 @@ fn add_entries<'a>(
 ) -> Result<&'a [u8], BatchFault>
     ensures ok { IfOk result (λ rest. option_map (with_taken batch.old.items group)
         (take_entries bytes.now) ≡ Some (batch.new.items, rest.now)) }
-    ensures cause { IfErr result (IsBatchRefusal (take_entries bytes.now)) }
+    ensures cause { IfErr result
+        (IsContentRefusal batch.old.items group (take_entries bytes.now)) }
 {
     let (count, rest) = take_u64(bytes).ok_or(BatchFault::Malformed)?;
     if count == 0 {
@@ -167,7 +172,8 @@ fn add_content<'a>(
 ) -> Result<&'a [u8], BatchFault>
     ensures ok { IfOk result (λ rest. option_map (with_taken batch.old.items group)
         (take_content kind bytes.now) ≡ Some (batch.new.items, rest.now)) }
-    ensures cause { IfErr result (IsBatchRefusal (take_content kind bytes.now)) }
+    ensures cause { IfErr result
+        (IsContentRefusal batch.old.items group (take_content kind bytes.now)) }
 {
     match kind {
         PUT => add_put(alloc, batch, group, bytes),
@@ -189,7 +195,7 @@ fn add_item<'a>(
 ) -> Result<&'a [u8], BatchFault>
     ensures ok { IfOk result (λ rest. option_map (with_item_taken batch.old.items)
         (take_item bytes.now) ≡ Some (batch.new.items, rest.now)) }
-    ensures cause { IfErr result (IsBatchRefusal (take_item bytes.now)) }
+    ensures cause { IfErr result (IsAddRefusal batch.old.items (take_item bytes.now)) }
 {
     let (kind, rest) = bytes.split_first().ok_or(BatchFault::Malformed)?;
     let (group, rest) = take_u64(rest).ok_or(BatchFault::Malformed)?;
@@ -200,7 +206,7 @@ fn add_item<'a>(
 pub fn add_items(alloc: Global, batch: &mut LogBatch, bytes: &[u8]) -> Result<(), BatchFault>
     ensures ok { OnOk result (option_map (λ items. batch.old.items ++ items)
         (read_batch bytes.now) ≡ Some batch.new.items) }
-    ensures cause { IfErr result (IsBatchRefusal (read_batch bytes.now)) }
+    ensures cause { IfErr result (IsBatchRefusal batch.old.items bytes.now) }
 {
     let (count, mut rest) = take_u64(bytes).ok_or(BatchFault::Malformed)?;
     for _ in 0..count {

@@ -1,5 +1,5 @@
 //! Answers as bytes, part by part.
-ghost use Rattle.std.specs.Prelude.{◌≡◌, ◌++◌, OnOk, map};
+ghost use Rattle.std.specs.Prelude.{◌≡◌, ◌++◌, [], Ok, OnOk, map};
 ghost use Rattle.raft_c_batch.specs.Batch.{entries_bytes, part_bytes, stored_of};
 ghost use Rattle.raft_c_batch.specs.Parts.{numbers_bytes};
 
@@ -24,10 +24,11 @@ pub fn push_pair(bytes: &mut Vec<u8>, key: &[u8], value: &[u8]) -> Result<(), Al
     push_part(bytes, value)
 }
 
-/// The entries, each with its length before it.
+/// The entries, each with its length before it. It takes no memory for none.
 pub fn push_entries(bytes: &mut Vec<u8>, entries: &[Entry]) -> Result<(), AllocError>
     ensures ok { OnOk result (bytes.new.items
         ≡ bytes.old.items ++ entries_bytes (map stored_of entries.now)) }
+    ensures memory { entries.now ≡ [] → result ≡ Ok tt }
 {
     for entry in entries {
         push_part(bytes, entry.bytes())?;

@@ -1,6 +1,6 @@
 -- What an engine's answers say.
 use Rattle.std.proofs.Common.{◌≡◌, ◌⊎◌, ℕ, List, [], ◌∷◌, None, Option, Some, Ok, Err, inl, inr, refl, subst, sym}
-use Rattle.std.specs.Prelude.{IsErrAnd, IsSomeAnd, Result}
+use Rattle.std.specs.Prelude.{IsSomeAnd, Result}
 use Rattle.raft_base.specs.declared.errors.Fault.{Fault}
 use Rattle.raft_env.specs.declared.env.FileSystem.{Ghosts}
 use Rattle.raft_records.specs.Contents.{first_index_of, last_index_of}

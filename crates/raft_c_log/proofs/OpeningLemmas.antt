@@ -1,9 +1,8 @@
 -- How an opening with a text's settings goes, by how the engine opens.
-use Rattle.std.proofs.Common.{◌≡◌, ◌⊎◌, ℕ, List, Ok, Err, IfErr, ap, inl, inr, refl, subst}
+use Rattle.std.proofs.Common.{◌≡◌, ℕ, List, Ok, Err, IfErr, ap, inl, inr, refl, subst}
 use Rattle.std.specs.Prelude.{Result, ℤ, pos}
 use Rattle.raft_base.specs.Fault.{fault_code}
 use Rattle.raft_base.specs.declared.errors.Fault.{Fault}
-use Rattle.raft_config.specs.Folders.{folders_in}
 use Rattle.raft_config.specs.declared.config.Config.{Config}
 use Rattle.raft_env.specs.declared.env.FileSystem.{Ghosts}
 use Rattle.raft_settings.specs.Reading.{IsLoneReadRefusal}

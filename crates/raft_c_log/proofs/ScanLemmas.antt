@@ -1,10 +1,14 @@
 -- What a scan keeps of the pairs that are handed to it.
 use Rattle.std.proofs.Common.{◌≡◌, ◌⊎◌, ◌∙◌, ◌+◌, ◌-◌, ℕ, Bool, true, false, List, [], ◌∷◌, ◌++◌, length, take, Option, Some, None, refl, sym, ap, subst, append_assoc, arith, inl, inr}
-use Rattle.std.proofs.lemmas.List.{append-nil, length-append, take_all}
+use Rattle.std.specs.Cmp.Lexicographic.{nat_list_eq_equiv}
+use Rattle.std.specs.Map.{lookup}
+use Rattle.std.specs.Prelude.{if◌then◌else◌, reverse}
+use Rattle.std.specs.Str.{bytes_eq}
+use Rattle.std.proofs.lemmas.List.{append-nil, length-append, length-reverse, take_all}
 use Rattle.std.proofs.Math.Seq.{take-append_seam}
 use Rattle.raft_c_batch.specs.Batch.{part_bytes}
 use Rattle.raft_records.specs.Contents.{Contents}
-use Rattle.raft_log_engine.specs.Scan.{AreHandedOver, IsScanned}
+use Rattle.raft_log_engine.specs.Scan.{AreHandedOver, IsScan, IsScanned}
 use Rattle.raft_c_batch.specs.Parts.{pairs_bytes}
 use Rattle.raft_c_log.specs.Limit.{IsLeft, IsOneLess, limited}
 
@@ -62,3 +66,33 @@ left_more (Some most) left after xs p room less =
     let one : IsOneLess (Some (most - length xs)) after = subst (λ (l : Option ℕ). IsOneLess l after) room.1 less in
     let count : length (xs ++ p ∷ []) ≡ length xs + 1 = length-append xs (p ∷ []) in
     (omega (arith, one.0, room.0, count), one.1 ∙ ap Some (omega (arith, count)))
+
+-- a group without keys has no pairs
+none_at : (found : Bool) (value : Option (List ℕ)) → value ≡ None → (if found then value else None) ≡ None
+none_at true value none = none
+none_at false value none = refl
+
+none_forward : (m : Contents) (group : ℕ) (start end : Option (List ℕ)) (pairs : List Pair)
+    → ((key : List ℕ) → m.value group key ≡ None) → IsScan m group start end false pairs → pairs ≡ []
+none_forward m group start end [] none scan = refl
+none_forward m group start end (p ∷ ps) none scan =
+    let here : lookup (bytes_eq p.0) (p ∷ ps) ≡ Some p.1 = rw (nat_list_eq_equiv.refl p.0) refl in
+    let nothing : lookup (bytes_eq p.0) (p ∷ ps) ≡ None = scan.value p.0 ∙ none_at _ _ (none p.0) in
+    absurd (let clash : Some p.1 ≡ None = sym here ∙ nothing in cc)
+
+pub none_scanned : (m : Contents) (group : ℕ) (start end : Option (List ℕ)) (reversed : Bool) (pairs : List Pair)
+    → ((key : List ℕ) → m.value group key ≡ None) → IsScan m group start end reversed pairs → pairs ≡ []
+none_scanned m group start end false pairs none scan = none_forward m group start end pairs none scan
+none_scanned m group start end true pairs none scan =
+    of_length pairs (sym (length-reverse pairs) ∙ ap length (none_forward m group start end (reverse pairs) none scan))
+  where
+    of_length : (xs : List Pair) → length xs ≡ 0 → xs ≡ []
+    of_length [] is = refl
+    of_length (x ∷ xs) is = absurd (omega (arith, is))
+
+-- what was called with no pairs is as it was
+pub none_handed : {F : Type 0} {called : F → List ℕ → List ℕ → Bool → F → Type 0} {m : Contents} {group : ℕ} {start end : Option (List ℕ)} {reversed : Bool} {first last : F} (P : F → F → Type 0)
+    → IsScanned called m group start end reversed first last → ((key : List ℕ) → m.value group key ≡ None) → P first first → P first last
+none_handed {F} {called} {m} {group} {start} {end} {reversed} {first} {last} P ran none here =
+    let same : last ≡ first = subst (λ (ps : List Pair). AreHandedOver called first ps last) (none_scanned m group start end reversed ran.pairs none ran.scan) ran.handed in
+    subst (P first) (sym same) here

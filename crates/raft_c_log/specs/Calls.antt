@@ -10,7 +10,7 @@ use Rattle.raft_pipes.specs.PipeState.{last_seq}
 use Rattle.raft_records.specs.Contents.{Contents, first_index_of, last_index_of}
 use Rattle.raft_records.specs.Item.{Batch, Entry}
 use Rattle.raft_once.specs.Numbers.{shown}
-use Rattle.raft_c_batch.specs.Batch.{IsBatchRefusal, entries_bytes, read_batch}
+use Rattle.raft_c_batch.specs.Batch.{entries_bytes, read_batch}
 use Rattle.raft_c_batch.specs.Parts.{numbers_bytes, pairs_bytes}
 use Rattle.raft_log_engine.specs.Calls.{IsCallersWrite, IsCompaction, IsSync}
 use Rattle.raft_log_engine.specs.Engine.{contents_of, is_known_in, queue_of}
@@ -101,11 +101,11 @@ module _ {F H R W : Type 0} {g : Ghosts F H R W} where
   abbrev pub IsCalled : Change → Result (Unit {0}) Fault → Engine F H R W g → Engine F H R W g → Answer
       → Type 0
   IsCalled (Write bytes sync) outcome old new answer =
-      IsKeptOff (IsBytesRefusal (read_batch bytes.now)) outcome old new
+      IsKeptOff (IsBytesRefusal bytes.now) outcome old new
       ⊎ IsSomeAnd (read_batch bytes.now)
       (IsBatchCall (λ items rest. IsCallersWrite items rest sync old new) outcome)
   IsCalled (WriteOnce bytes groups numbers sync) outcome old new answer =
-      IsKeptOff (λ e. IsBytesRefusal (read_batch bytes.now) e ⊎ (e ≡ Memory)) outcome old new
+      IsKeptOff (IsBytesRefusal bytes.now) outcome old new
       ⊎ IsSomeAnd (read_batch bytes.now) (IsBatchCall
       (λ items rest. IsWriteOnce items rest (zip groups.now numbers.now) sync old new) outcome)
   IsCalled Sync outcome old new answer = IsSync old new outcome

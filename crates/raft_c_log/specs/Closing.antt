@@ -1,5 +1,5 @@
 -- What a close of an open log leaves.
-use Rattle.std.specs.Prelude.{◌≡◌, true, ℤ, pos}
+use Rattle.std.specs.Prelude.{◌≡◌, ◌↔◌, true, ℤ, pos}
 use Rattle.raft_base.specs.Fault.{fault_code}
 use Rattle.raft_base.specs.declared.errors.Fault.{Fault}
 use Rattle.raft_base.specs.declared.pipe_log.LogQueue.TheVariants.{Rewrite}
@@ -27,13 +27,14 @@ module _ {F H R W : Type 0} {g : Ghosts F H R W} where
         (g.refusals_of files)) fails
     pub keeps : RecoversContents (folders_of e) (durable_of e) (unsynced_of e) (g.directory files)
 
-  -- an engine was closed with this code, which leaves these files: they hold what it held, and at each
-  -- moment of it a crash left what it could leave before
+  -- an engine was closed with this code, which is 11 where it had failed, and leaves these files: they
+  -- hold what it held, and at each moment of it a crash left what it could leave before
   pub record IsClosedAs (code : ℤ) (e : Engine F H R W g) (files : F) : Type 0 where
     pub ok :
         code ≡ pos 0 → IsClosedIn (folders_of e) (contents_of e) (is_known_in e)
         (g.directory files)
     pub err : (code ≡ pos 0 → ⊥) → IsCloseRefused code e files
+    pub failed : (code ≡ pos 11) ↔ (has_failed e ≡ true)
     pub any_moment : MovesBy g.directory g.moments g.refusals_of (λ _. LeavesAllowed (folders_of e)
         (durable_of e) (unsynced_of e)) e.file_system files
     -- what is known of atomic groups is found again, and of records of failed calls

@@ -1,5 +1,6 @@
 -- What an opening with settings as text hands back.
 use Rattle.std.specs.Prelude.{◌≡◌, ◌⊎◌, ℕ, List, ℤ, pos, Result, Ok, Err}
+use Rattle.std.specs.Str.{IsUtf8}
 use Rattle.raft_base.specs.Fault.{fault_code}
 use Rattle.raft_base.specs.declared.errors.Fault.{Fault}
 use Rattle.raft_config.specs.Folders.{folders_in}
@@ -18,7 +19,7 @@ use Rattle.raft_settings.specs.Reading.{IsLoneReadRefusal, ReadsAlone}
 
 -- bytes are no text, or no settings are read of them
 abbrev pub IsTextRefusal : List ℕ → Fault → Type 0
-IsTextRefusal text e = (fault_code e ≡ 1) ⊎ IsLoneReadRefusal text e
+IsTextRefusal text e = ((fault_code e ≡ 1) × (IsUtf8 text → ⊥)) ⊎ IsLoneReadRefusal text e
 
 -- the folders of a text's settings keep at each moment what they kept before; or no settings are read,
 -- and nothing changes

@@ -1,10 +1,10 @@
 -- What calls on an open log come to, by their codes.
-use Rattle.std.specs.Prelude.{◌≡◌, true, false, Result, Ok, Err, ℤ, pos}
+use Rattle.std.specs.Prelude.{◌≡◌, ◌↔◌, true, false, Result, Ok, Err, ℤ, pos}
 use Rattle.raft_base.specs.Fault.{fault_code}
 use Rattle.raft_base.specs.declared.errors.Fault.{Fault}
 use Rattle.raft_env.specs.declared.env.FileSystem.{Ghosts}
 use Rattle.raft_log_engine.specs.Durability.{HasOnlyRead}
-use Rattle.raft_log_engine.specs.Engine.{contents_of}
+use Rattle.raft_log_engine.specs.Engine.{contents_of, has_failed}
 use Rattle.raft_log_engine.specs.declared.engine.Engine.{Engine}
 use Rattle.raft_c_log.specs.Calls.{HasAnswered, IsCalled}
 use Rattle.raft_c_log.specs.Refusals.{IsUnanswered}
@@ -25,12 +25,13 @@ module _ {F H R W : Type 0} {g : Ghosts F H R W} where
     pub code_is : code ≡ code_of outcome
     pub called : IsCalled change outcome old new answer
 
-  -- a query is answered with this code: 0 where what it asks for is there, 20 where it isn't. The log
-  -- stays
+  -- a query is answered with this code: 0 where what it asks for is there, 20 where it isn't, 11 by a
+  -- failed log alone. The log stays
   pub record IsReply (q : Query) (code : ℤ) (old new : Engine F H R W g) (answer : Answer)
       : Type 0 where
     pub found : code ≡ pos 0 → HasAnswered q old answer true
     pub absent : code ≡ pos 20 → HasAnswered q old answer false
     pub err : (code ≡ pos 0 → ⊥) → (code ≡ pos 20 → ⊥) → IsUnanswered q code old new
+    pub failed : (code ≡ pos 11) ↔ (has_failed old ≡ true)
     pub only : HasOnlyRead old new
     pub contents : contents_of new ≡ contents_of old

@@ -1,7 +1,7 @@
 //! An engine whose calls are asked for by values.
-ghost use Rattle.std.specs.Prelude.{◌≡◌, ◌⊎◌, [], drop, false, true, option_map, IfErr, IfOk, IsSomeAnd, MatchResult, OnOk, pos, zip};
+ghost use Rattle.std.specs.Prelude.{◌≡◌, ◌⊎◌, ◌↔◌, [], drop, Err, false, true, option_map, IfErr, IfOk, IsSomeAnd, MatchResult, OnOk, pos, zip};
 ghost use Rattle.std.proofs.Props.{props};
-ghost use Rattle.raft_base.specs.declared.errors.Fault.TheVariants.{Memory};
+ghost use Rattle.raft_base.specs.declared.errors.Fault.TheVariants.{Failed, Memory};
 ghost use Rattle.raft_c_batch.specs.Batch.{read_batch};
 
 use crate::answer::Answer;
@@ -131,7 +131,7 @@ impl<F: FileSystem> OpenLog<F> {
     // Writes the batch of these bytes.
     fn write(&mut self, bytes: &[u8], sync: bool) -> Result<(), Fault>
         ensures called { let taken = read_batch bytes.now in
-            IsKeptOff (IsBytesRefusal taken) result self.old.engine self.new.engine
+            IsKeptOff (IsBytesRefusal bytes.now) result self.old.engine self.new.engine
             ⊎ IsSomeAnd taken (IsBatchCall (λ items rest.
             IsCallersWrite items rest sync self.old.engine self.new.engine) result) }
     {
@@ -158,8 +158,7 @@ impl<F: FileSystem> OpenLog<F> {
         sync: bool,
     ) -> Result<(), Fault>
         ensures called { let taken = read_batch bytes.now in
-            IsKeptOff (λ e. IsBytesRefusal taken e ⊎ (e ≡ Memory)) result self.old.engine
-            self.new.engine
+            IsKeptOff (IsBytesRefusal bytes.now) result self.old.engine self.new.engine
             ⊎ IsSomeAnd taken (IsBatchCall (λ items rest. IsWriteOnce items rest
             (zip groups.now numbers.now) sync self.old.engine self.new.engine) result) }
     {
@@ -176,7 +175,7 @@ impl<F: FileSystem> OpenLog<F> {
         sync: bool,
     ) -> Result<(), Fault>
         ensures called { let taken = read_batch bytes.now in
-            IsKeptOff (IsBytesRefusal taken) result self.old.engine self.new.engine
+            IsKeptOff (IsBytesRefusal bytes.now) result self.old.engine self.new.engine
             ⊎ IsSomeAnd taken (IsBatchCall (λ items rest.
             IsWriteOnce items rest pairs.now sync self.old.engine self.new.engine) result) }
     {
@@ -289,6 +288,7 @@ impl<F: FileSystem> OpenLog<F> {
         ensures value { IfOk result (HasAnswered query.entry self.old.engine answer.new) }
         ensures unchanged { HasOnlyRead self.old.engine self.new.engine }
         ensures contents { contents_of self.new.engine ≡ contents_of self.old.engine }
+        ensures failed { (result ≡ Err Failed) ↔ (has_failed self.old.engine ≡ true) }
         ensures cause { IfErr result (IsRefusalFor (has_failed self.old.engine)
             (IsQueryFault query.entry self.old.engine self.new.engine)) }
     {
@@ -306,8 +306,9 @@ impl<F: FileSystem> OpenLog<F> {
     fn get(&self, group: u64, key: &[u8], answer: &mut Answer) -> Result<bool, Fault>
         ensures value { IfOk result (λ found. answered found answer.new.bytes.items
             ≡ (shown (contents_of self.now.engine)).value group key.now) }
+        ensures failed { (result ≡ Err Failed) ↔ (has_failed self.now.engine ≡ true) }
         ensures cause { IfErr result (IsRefusalFor (has_failed self.now.engine)
-            (λ e. e ≡ Memory)) }
+            (IsQueryFault (query.Get group key.entry) self.now.engine self.now.engine)) }
     {
         match self.engine.get(group, key)? {
             Some(value) => {
@@ -322,6 +323,7 @@ impl<F: FileSystem> OpenLog<F> {
         ensures value { IfOk result (λ found. answered found answer.new.bytes.items
             ≡ option_map (drop 8) (entry_of (contents_of self.old.engine) group index)) }
         ensures unchanged { HasOnlyRead self.old.engine self.new.engine }
+        ensures failed { (result ≡ Err Failed) ↔ (has_failed self.old.engine ≡ true) }
         ensures cause { IfErr result (IsRefusalFor (has_failed self.old.engine)
             (IsQueryFault (query.Entry group index) self.old.engine self.new.engine)) }
     {
@@ -340,6 +342,7 @@ impl<F: FileSystem> OpenLog<F> {
             answer.new.bytes.items) }
         ensures ok { IfOk result (λ found. found ≡ true) }
         ensures unchanged { HasOnlyRead self.old.engine self.new.engine }
+        ensures failed { (result ≡ Err Failed) ↔ (has_failed self.old.engine ≡ true) }
         ensures cause { IfErr result (IsRefusalFor (has_failed self.old.engine)
             (IsQueryFault (query.Fetch fetch) self.old.engine self.new.engine)) }
     {
@@ -360,8 +363,9 @@ impl<F: FileSystem> OpenLog<F> {
         ensures value { OnOk result (IsScanAnswer scan.entry (shown (contents_of self.now.engine))
             answer.new.bytes.items) }
         ensures ok { IfOk result (λ found. found ≡ true) }
+        ensures failed { (result ≡ Err Failed) ↔ (has_failed self.now.engine ≡ true) }
         ensures cause { IfErr result (IsRefusalFor (has_failed self.now.engine)
-            (λ e. e ≡ Memory)) }
+            (IsQueryFault (query.Scan scan.entry) self.now.engine self.now.engine)) }
     {
         answer.bytes = pairs_of(self.alloc, &self.engine, scan)?;
         Ok(true)
@@ -371,6 +375,7 @@ impl<F: FileSystem> OpenLog<F> {
     fn groups(&self, answer: &mut Answer) -> Result<bool, Fault>
         ensures value { OnOk result (IsGroupsAnswer self.now.engine answer.new.bytes.items) }
         ensures ok { IfOk result (λ found. found ≡ true) }
+        ensures failed { (result ≡ Err Failed) ↔ (has_failed self.now.engine ≡ true) }
         ensures cause { IfErr result (IsRefusalFor (has_failed self.now.engine)
             (λ e. e ≡ Memory)) }
     {
@@ -384,6 +389,7 @@ impl<F: FileSystem> OpenLog<F> {
     fn span(&self, group: u64, answer: &mut Answer) -> Result<bool, Fault>
         ensures value { IfOk result (IsSpanAnswer
             ((contents_of self.now.engine).entries group) answer.new.numbers) }
+        ensures failed { (result ≡ Err Failed) ↔ (has_failed self.now.engine ≡ true) }
         ensures cause { IfErr result (IsRefusalFor (has_failed self.now.engine) (λ e. ⊥)) }
     {
         if self.engine.failed() {

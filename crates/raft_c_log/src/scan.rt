@@ -1,12 +1,13 @@
 //! Scans of a log's keys and values.
-ghost use Rattle.std.specs.Prelude.{◌≡◌, ◌⊎◌, ◌++◌, [], IfErr, IfOk, Some, false, true};
+ghost use Rattle.std.specs.Prelude.{◌≡◌, ◌⊎◌, ◌↔◌, ◌++◌, [], Err, IfErr, IfOk, Some, false, true};
 ghost use Rattle.raft_c_batch.specs.Batch.{part_bytes};
 ghost use Rattle.raft_once.specs.Numbers.{shown};
-ghost use Rattle.raft_base.specs.declared.errors.Fault.TheVariants.{Memory};
+ghost use Rattle.raft_base.specs.declared.errors.Fault.TheVariants.{Failed};
 ghost use Rattle.raft_log_engine.specs.Engine.{contents_of, has_failed};
 ghost use Rattle.raft_c_log.specs.Limit.{IsOneLess, max_of};
 ghost use Rattle.raft_c_log.specs.Calls.{IsScanAnswer};
-ghost use Rattle.raft_c_log.specs.Refusals.{IsRefusalFor};
+ghost use Rattle.raft_c_log.specs.Refusals.{IsQueryFault, IsRefusalFor};
+ghost use Rattle.raft_c_log.specs.declared.calls.Query.TheVariants as query;
 
 use crate::calls::Scan;
 use raft_c_batch::push_pair;
@@ -63,7 +64,9 @@ pub(crate) fn pairs_of<F: FileSystem>(
 ) -> Result<Vec<u8>, Fault>
     ensures value { IfOk result (λ bytes.
         IsScanAnswer scan.entry (shown (contents_of engine.now)) bytes.items) }
-    ensures cause { IfErr result (IsRefusalFor (has_failed engine.now) (λ e. e ≡ Memory)) }
+    ensures failed { (result ≡ Err Failed) ↔ (has_failed engine.now ≡ true) }
+    ensures cause { IfErr result (IsRefusalFor (has_failed engine.now)
+        (IsQueryFault (query.Scan scan.entry) engine.now engine.now)) }
 {
     let mut pairs = Pairs::new(alloc, scan.limit);
     let scanned = engine.scan_raw_messages(

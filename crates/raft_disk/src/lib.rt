@@ -4,6 +4,7 @@
 mod disk;
 mod folder;
 mod image;
+pub mod laws;
 mod mirror;
 mod names;
 mod opening;

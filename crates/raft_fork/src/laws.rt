@@ -11,7 +11,7 @@ ghost use Rattle.raft_fork.specs.Fork.{AreThereOrEmpty, HasNoLogIn, IsForkOf, Is
 /// A fork has, with the target as its one folder, what its source had: no folder's place is taken (`clear`), no number
 /// stands in two (`single`), and of each queue the same batches can be read (`reads`). So both stand for the same contents
 /// (`contents`) and know the same groups (`known`), which is what an opening finds in them. Of the source's folders each is
-/// there, or else no log file stands in it.
+/// there, as `FileSystem::is_dir` tells before the fork, or else no log file stands in it.
 pub fn a_fork_reads_as_its_source()
     ensures clear { (source : Folders) (target : Path) (n m : Directory)
         → IsForkOf source target n m

@@ -1,5 +1,5 @@
 -- What an opening cuts off of log files.
-use Rattle.std.specs.Prelude.{◌≡◌, ℕ, ◌-◌, ◌==◌, List, [], ◌∷◌, length, Option, Some, None, if◌then◌else◌}
+use Rattle.std.specs.Prelude.{◌≡◌, ℕ, ◌-◌, ◌==◌, Bool, true, false, List, [], ◌∷◌, length, Option, Some, None, if◌then◌else◌}
 use Rattle.std.specs.List.{cons_option}
 use Rattle.std.specs.String.{string_bytes}
 use Rattle.raft_env.specs.Directory.{Path}
@@ -10,7 +10,10 @@ use Rattle.raft_dump.specs.declared.check.FileCheck.{FileCheck}
 use Rattle.raft_dump.specs.declared.files.LogFile.{LogFile}
 use Rattle.raft_dump.specs.declared.plan.Planned.{Planned}
 use Rattle.raft_dump.specs.declared.plan.Planned.TheVariants.{Cut, Fail, Keep}
+use Rattle.raft_inspect.specs.Behind.{HoldsRecord, IsNoneIn}
 use Rattle.raft_inspect.specs.declared.cuts.Cut.{Cut as TheCut}
+use Rattle.raft_inspect.specs.declared.cuts.Unexplained.{Unexplained}
+use Rattle.raft_inspect.specs.declared.cuts.Unexplained.TheVariants.{Earlier, Records, Unsearched}
 
 -- bytes of a file: its path, where they begin, and how many there are
 pub record CutPlace : Type 0 where
@@ -41,3 +44,10 @@ cuts_in mode [] (c ∷ checks) = []
 cuts_in mode (f ∷ files) (c ∷ checks) =
     cons_option (cut_as (planned_stop (tolerates_corruption mode (length checks == 0)) c.end c.stop) f c)
     (cuts_in mode files checks)
+
+-- why an unsynced tail doesn't explain these bytes: nothing hinders it where no whole record stands there
+abbrev pub IsToldWhy : TheCut → List ℕ → Option Unexplained → Type 0
+IsToldWhy c bytes (Some Earlier) = c.is_last ≡ false
+IsToldWhy c bytes (Some Records) = (c.is_last ≡ true) × HoldsRecord c.id.seq c.version bytes
+IsToldWhy c bytes (Some Unsearched) = c.is_last ≡ true
+IsToldWhy c bytes None = (c.is_last ≡ true) × IsNoneIn c.id.seq c.version bytes (length bytes)

@@ -1,9 +1,13 @@
 //! What an opening cuts off of log files.
-ghost use Rattle.std.specs.Prelude.{◌≡◌, ◌++◌, ◌⊎◌, [], None, Some, drop, map, if◌then◌else◌, IfErr, IfOk, OnOk};
+ghost use Rattle.std.specs.Prelude.{◌≡◌, ◌++◌, ◌⊎◌, [], None, Some, drop, map, take, if◌then◌else◌, IfErr, IfOk, OnOk};
 ghost use Rattle.std.specs.Option.{option_map};
+ghost use Rattle.std.specs.String.{string_bytes};
 ghost use Rattle.raft_base.specs.declared.errors.Fault.TheVariants.{Memory};
+ghost use Rattle.raft_env.specs.Moments.{OnlyReads};
+ghost use Rattle.raft_env.specs.Refusal.{FailsAt, NamesFile};
+ghost use Rattle.raft_files.specs.Writer.{bytes_at};
 ghost use Rattle.raft_dump.specs.Check.{planned_stop};
-ghost use Rattle.raft_inspect.specs.Cuts.{IsToldOf, cut_as, cuts_in, place_in, place_of};
+ghost use Rattle.raft_inspect.specs.Cuts.{IsToldOf, IsToldWhy, cut_as, cuts_in, place_in, place_of};
 
 use crate::behind::{Behind, search_behind};
 use crate::queue_files::QueueFiles;
@@ -85,11 +89,14 @@ impl Cut {
     }
 
     /// The bytes that are cut off. An `Io` names the path.
-    pub fn bytes<F: FileSystem>(
-        &self,
-        alloc: Global,
-        file_system: &mut F,
-    ) -> Result<Vec<u8>, Fault> {
+    pub fn bytes<F: FileSystem>(&self, alloc: Global, file_system: &mut F) -> Result<Vec<u8>, Fault>
+        ensures value { IfOk result (λ bytes. bytes.items ≡ take self.now.len (drop self.now.offset
+            (bytes_at (string_bytes self.now.path) (F.directory file_system.old)))) }
+        ensures unchanged { OnlyReads F.directory F.moments F.refusals_of
+            file_system.old file_system.new }
+        ensures cause { IfErr result (FailsAt (NamesFile (string_bytes self.now.path))
+            (F.refusals_of file_system.old) (F.refusals_of file_system.new)) }
+    {
         let path = self.path.as_str();
         let mut reader = build_file_reader(alloc, file_system, path)?;
         let handle = FileBlockHandle {
@@ -106,7 +113,10 @@ impl Cut {
     }
 
     /// Why more than an unsynced tail is lost with these bytes, which are those that are cut off.
-    pub fn unexplained(&self, alloc: Global, bytes: &[u8]) -> Result<Option<Unexplained>, Fault> {
+    pub fn unexplained(&self, alloc: Global, bytes: &[u8]) -> Result<Option<Unexplained>, Fault>
+        ensures value { IfOk result (IsToldWhy self.now bytes.now) }
+        ensures memory { IfErr result (λ e. e ≡ Memory) }
+    {
         if !self.is_last {
             return Ok(Some(Unexplained::Earlier));
         }

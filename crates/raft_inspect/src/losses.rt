@@ -1,10 +1,12 @@
 //! What an opening of both queues would lose.
-ghost use Rattle.std.specs.Prelude.{◌≡◌, ◌++◌, ◌⊎◌, ◌↔◌, ◌||◌, ◌<◌, [], drop, false, map, true, Contains, IfOk};
+ghost use Rattle.std.specs.Prelude.{◌≡◌, ◌++◌, ◌⊎◌, ◌↔◌, ◌||◌, ◌<◌, [], drop, false, map, true, Contains, IfErr, IfOk};
 ghost use Rattle.std.specs.List.{cons_option};
 ghost use Rattle.std.specs.String.{string_bytes};
+ghost use Rattle.raft_base.specs.declared.errors.Fault.TheVariants.{Memory};
 ghost use Rattle.raft_env.specs.Moments.{OnlyReads};
 ghost use Rattle.raft_dump.specs.Check.{plan_of};
 ghost use Rattle.raft_dump.specs.declared.plan.Planned.TheVariants.{Fail};
+ghost use Rattle.raft_inspect.specs.Checks.{IsReadFault};
 ghost use Rattle.raft_inspect.specs.Cuts.{cuts_in, place_of};
 ghost use Rattle.raft_inspect.specs.Kept.{IsPassedTold, holds_nothing};
 ghost use Rattle.raft_inspect.specs.Losses.{AreLossesIn, AreLossesOf};
@@ -34,7 +36,7 @@ pub struct Passed {
 /// What an opening loses of the log files of both queues.
 #[derive(Drop)]
 pub struct Losses {
-    /// Whether it fails, and so loses nothing.
+    /// Whether it fails for what these files hold, or for a number in two folders, and so loses nothing.
     pub fails: bool,
     pub cuts: Vec<Cut>,
     pub passed: Vec<Passed>,
@@ -53,6 +55,8 @@ impl Losses {
             (AreLossesOf config.now (F.directory file_system.old)) }
         ensures unchanged { OnlyReads F.directory F.moments F.refusals_of
             file_system.old file_system.new }
+        ensures cause { IfErr result (IsReadFault (F.refusals_of file_system.old)
+            (F.refusals_of file_system.new)) }
     {
         let folders = folders_there(alloc, config, file_system)?;
         Losses::find_in(alloc, config.recovery_mode, &folders, file_system)
@@ -69,6 +73,8 @@ impl Losses {
             (F.directory file_system.old)) }
         ensures unchanged { OnlyReads F.directory F.moments F.refusals_of
             file_system.old file_system.new }
+        ensures cause { IfErr result (IsReadFault (F.refusals_of file_system.old)
+            (F.refusals_of file_system.new)) }
     {
         let rewrite = find_kept(alloc, folders, LogQueue::Rewrite, file_system)?;
         let append = find_kept(alloc, folders, LogQueue::Append, file_system)?;
@@ -92,6 +98,7 @@ impl KeptFiles {
         ensures value { IfOk result (λ fails. fails ≡ true
             ↔ (Contains (plan_of mode self.now.found.checks.items) Fail
             ⊎ (self.now.are_single ≡ false))) }
+        ensures memory { IfErr result (λ e. e ≡ Memory) }
     {
         let plan = plan_opening(alloc, mode, &self.found.checks)?;
         Ok(plan.contains(&Planned::Fail) || !self.are_single)

@@ -5,7 +5,7 @@ ghost use Rattle.raft_base.specs.declared.errors.Fault.TheVariants.{Memory};
 ghost use Rattle.raft_env.specs.Moments.{OnlyReads};
 ghost use Rattle.raft_dump.specs.Check.{plan_of};
 ghost use Rattle.raft_dump.specs.declared.plan.Planned.TheVariants.{Fail};
-ghost use Rattle.raft_inspect.specs.Checks.{AreChecksOf};
+ghost use Rattle.raft_inspect.specs.Checks.{AreChecksOf, IsReadFault};
 
 use raft_config::RecoveryMode;
 use raft_dump::{FileCheck, LogFile, Planned, check_file, log_files, passed_over, plan_opening};
@@ -54,6 +54,8 @@ pub(crate) fn checks_of<F: FileSystem>(
         AreChecksOf (F.directory file_system.old) files.now checks.items) }
     ensures unchanged { OnlyReads F.directory F.moments F.refusals_of file_system.old
         file_system.new }
+    ensures cause { IfErr result (IsReadFault (F.refusals_of file_system.old)
+        (F.refusals_of file_system.new)) }
 {
     let mut checks = Vec::new(alloc);
     let mut left = files;

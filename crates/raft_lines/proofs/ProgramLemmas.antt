@@ -26,7 +26,7 @@ use Rattle.raft_memory.specs.declared.crash.Choice.{Choice}
 use Rattle.raft_memory.specs.Memory.{no_files}
 use Rattle.raft_pipes.specs.Queue.{NamesPlace}
 use Rattle.raft_log_engine.specs.Engine.{begun_of, directory_of, folders_of, found_groups_of, found_of, has_failed, refusals_of}
-use Rattle.raft_log_engine.specs.Opening.{BeginsAsClosed, IsNewIn}
+use Rattle.raft_log_engine.specs.Opening.{IsNewIn, Reopens}
 use Rattle.raft_log_engine.specs.declared.engine.Engine.{Engine}
 use Rattle.raft_log_engine.specs.declared.engine.Refused.{Refused}
 use Rattle.raft_records.specs.Contents.{Contents, after_batches}
@@ -126,12 +126,14 @@ module _ {F H R W : Type 0} {g : Ghosts F H R W} where
   )
 
   -- an opening of what was closed
-  pub reopened : (old : Engine F H R W g) (opening : Result (Engine F H R W g) (Refused F)) → IfOk opening (IsNewIn (folders_of old)) → IfOk opening (BeginsAsClosed old) → (IsErrAnd opening (λ r. r.fault ≡ fault.Failed) ↔ (has_failed old ≡ true)) → IfOk opening (IsReopened old)
-  reopened old (Ok e) new begins failed = elim (cases_Bool (has_failed old)) [
+  pub reopened : (old : Engine F H R W g) (opening : Result (Engine F H R W g) (Refused F)) → IfOk opening (IsNewIn (folders_of old)) → Reopens old opening → (IsErrAnd opening (λ r. r.fault ≡ fault.Failed) ↔ (has_failed old ≡ true)) → IfOk opening (IsReopened old)
+  reopened old (Ok e) new (inr refused) failed = absurd refused
+  reopened old (Ok e) new (inl begins) failed = elim (cases_Bool (has_failed old)) [
     | inl gone ↦ absurd (failed.1 gone)
     | inr stood ↦
-        let opened = new_with (folders_of old) begins.closed e new begins.begun in
-        record { stood = stood; new_is = new; contents = opened.contents ∙ begins.holds.contents; groups = λ group is. begins.holds.known group (sym (opened.groups group) ∙ is) }
+        let opened = new_with (folders_of old) (g.directory begins.closed) e new begins.opens.value in
+        let holds = begins.closes.holds in
+        record { stood = stood; new_is = new; contents = opened.contents ∙ holds.contents; groups = λ group is. holds.known group (sym (opened.groups group) ∙ is) }
   ]
   reopened old (Err r) new begins failed = tt
 

@@ -38,3 +38,4 @@ pub mod Crossing
 pub mod PurgeEventLemmas
 pub mod PurgeCallLemmas
 pub mod AscendLemmas
+pub mod BlocksLemmas

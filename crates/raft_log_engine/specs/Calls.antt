@@ -1,5 +1,5 @@
 -- What `Engine` says of its calls that write and sync, once for all forms of a call.
-use Rattle.std.specs.Prelude.{◌≡◌, ◌↔◌, ℕ, Bool, true, false, List, [], Result, Ok, Err, IfOk, IfErr, IsErrAnd, MatchResult, OnOk, OnErr, Vec, is_ok}
+use Rattle.std.specs.Prelude.{◌≡◌, ◌↔◌, ℕ, Bool, true, false, List, [], length, Result, Ok, Err, IfOk, IfErr, IsErrAnd, MatchResult, OnOk, OnErr, Vec, is_ok}
 use Rattle.std.specs.List.{AllByRecursion}
 use Rattle.std.specs.declared.alloc.Global.{Global}
 use Rattle.raft_base.specs.Fault.{fault_code}
@@ -30,8 +30,9 @@ module _ {F H R W : Type 0} {g : Ghosts F H R W} where
     pub err : IfErr result (λ e. has_failed new ≡ false → HasRefused items rest old new e)
     pub advance : Advances (accepted_by result (written_batch items)) (covered_by result sync)
         (pending_of (contents_of old) items) (state_of old) (state_of new)
-    pub stands : IfErr result (λ e. has_failed old ≡ false → StandsUnless sync old new e)
-    pub unsynced : IfErr result (HasNoneInFlight sync old new)
+    pub stands : IfErr result (λ e. has_failed old ≡ false → StandsUnless sync (length (written_batch items)) old
+        new e)
+    pub unsynced : IfErr result (HasNoneInFlight sync (length (written_batch items)) old new)
     pub durable : OnOk result (sync ≡ true → IsDurableToEnd new)
     pub invalid : IsUnwritable (contents_of old) items → ChangesNothing old new
     pub failed : (result ≡ Err fault.Failed) ↔ (has_failed old ≡ true)
@@ -43,6 +44,8 @@ module _ {F H R W : Type 0} {g : Ghosts F H R W} where
         → (sync ≡ false → (result ≡ Ok 0) × ChangesNoFile old new)
         × IfErr result (FailsCountedAt (NamesLog (folders_of old)) (refusals_of old)
         (refusals_of new))
+    -- of no items a refused sync fails it
+    pub halts : items ≡ [] → OnErr result (has_failed new ≡ true)
 
   -- .. by a caller, who changes no group's number
   pub record IsCallersWrite (items rest : Batch) (sync : Bool) (old new : Engine F H R W g)
@@ -69,7 +72,7 @@ module _ {F H R W : Type 0} {g : Ghosts F H R W} where
         (λ _. FailsWithChoice batches old new)
     pub any_moment : StaysWithin (LeavesChoice (folders_of old) (durable_of old) (unsynced_of old)
         (contents_of old) (plain_parts batches)) (state_of old) (state_of new)
-    pub stands : IfErr result (λ e. has_failed old ≡ false → StandsUnless sync old new e)
+    pub stands : IfErr result (λ e. has_failed old ≡ false → StandsUnless sync 0 old new e)
     pub durable : OnOk result (sync ≡ true → IsDurableToEnd new)
     pub invalid : sync ≡ false → AllByRecursion (IsUnwritable (contents_of old)) batches
         → ChangesNothing old new
@@ -100,15 +103,15 @@ module _ {F H R W : Type 0} {g : Ghosts F H R W} where
     pub advance : let batch = compact_batch group index ((contents_of old).entries group) in
         Advances (accepted_by result (written_batch batch)) false
         (pending_of (contents_of old) batch) (state_of old) (state_of new)
-    pub stands : IfErr result (λ e. has_failed old ≡ false → StandsUnless false old new e)
-    pub unsynced : IfErr result (HasNoneInFlight false old new)
+    pub stands : IfErr result (λ e. has_failed old ≡ false → StandsUnless false 0 old new e)
+    pub unsynced : IfErr result (HasNoneInFlight false 0 old new)
     pub failed : (result ≡ Err fault.Failed) ↔ (has_failed old ≡ true)
     pub unchanged : has_failed old ≡ true → StaysFailed old new
     pub cause : IfErr result (λ e. has_failed old ≡ false
         → IsAppendRefusal (folders_of old) (queue_of new) (has_failed new) (refusals_of old)
         (refusals_of new) e)
     pub memory : has_failed old ≡ false → (contents_of old).entries group ≡ []
-        → (result ≡ Ok 0) × ChangesNoFile old new
+        → (result ≡ Ok 0) × ChangesNothing old new
 
   -- a sync
   pub record IsSync (old new : Engine F H R W g) (result : Result (Unit {0}) Fault) : Type 0 where

@@ -44,7 +44,7 @@ module _ {F H R W : Type 0} {g : Ghosts F H R W} where
         → KeepsOthers (groups_by Rewritten decisions) (tables_of e.tables) (tables_of e'.tables)
     -- the queue has a file behind the watermark, and ends as before
     pub last : last_seq (queue_of e') ≡ last_seq (queue_of e)
-    -- where no queue is to be rewritten nothing but the counts of rounds may change
+    -- where no queue is to be rewritten pipes, tables, counters and what is known of groups stay
     pub idle :
         needs_of e ≡ no_needs
         → (e'.pipes ≡ e.pipes) × (e'.tables ≡ e.tables) × (e'.stats ≡ e.stats)

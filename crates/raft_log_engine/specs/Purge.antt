@@ -18,13 +18,14 @@ use Rattle.raft_tables.specs.declared.memtables.MemTables.{MemTables}
 use Rattle.raft_tables.specs.declared.rewritten.GroupsMet.{GroupsMet}
 use Rattle.raft_rewrite.specs.Apart.{KeepsOthers}
 use Rattle.raft_stale.specs.Dropping.{HasDroppedOld, HasDroppedSome}
-use Rattle.raft_purge.specs.Expired.{HasDroppedExpired, IsIdle}
-use Rattle.raft_purge_steps.specs.Faults.{IsByChange, IsPurgeRefusal}
+use Rattle.raft_purge.specs.Expired.{HasDroppedExpired, IsIdle, MovesDue}
+use Rattle.raft_purge_steps.specs.Faults.{HaveOwedNoRecord, IsByChange, IsPurgeRefusal}
 use Rattle.raft_rewrite.specs.OpenGroup.{EndsOpen, HasNoId, IsAtomicRefusal}
 use Rattle.raft_rewrite.specs.Emptied.{MovesOnly}
 use Rattle.raft_purge.specs.Groups.{HasEmptiedGroups}
 use Rattle.raft_purge.specs.Scope.{HasEmptied, HasRewritten, watermark_in}
 use Rattle.raft_stale.specs.Scope.{HasLostFront}
+use Rattle.raft_tables.specs.OwedMarks.{owed_of}
 use Rattle.raft_tables.specs.Tables.{Tables, tables_of}
 use Rattle.raft_purge_steps.specs.Steps.{IsLog, LogState, LogValue}
 use Rattle.raft_purge_steps.specs.Unfit.{IsUnfit}
@@ -107,12 +108,21 @@ abbrev pub IsIdlePurge : Purge → Type 0
 IsIdlePurge (DropExpired x) = IsIdle x
 IsIdlePurge _ = ⊥
 
--- what stands behind the watermark of a rewriting of the Append queue isn't moved
+-- what stands behind the watermark of a rewriting of the Append queue isn't moved, and by one of the
+-- Rewrite queue nothing that stands in the Append queue
 abbrev pub LeavesBehind : Purge → PipeState → Tables → Tables → Type 0
 LeavesBehind (RewriteAppend scope) append t t' =
     MovesOnly (Some (watermark_in scope (last_seq append))) t t'
 LeavesBehind (RewriteGroups x) append t t' = MovesOnly (Some x.watermark) t t'
+LeavesBehind RewriteRewrite append t t' = MovesOnly None t t'
+LeavesBehind (DropExpired x) append t t' = MovesDue x.renews x.watermark t t'
 LeavesBehind _ append t t' = Unit {0}
+
+-- only the Rewrite queue is rewritten: it counts anew what left it
+abbrev pub RewritesOnlyRewrite : Purge → Type 0
+RewritesOnlyRewrite RewriteRewrite = Unit {0}
+RewritesOnlyRewrite (DropExpired x) = (x.renews ≡ true) × (x.watermark ≡ None)
+RewritesOnlyRewrite _ = ⊥
 
 -- a rewriting of the Rewrite queue may leave an atomic group there that isn't ended, no other purge
 abbrev pub MayLeaveOpen : Purge → DualState → Directory → Type 0
@@ -141,19 +151,19 @@ abbrev pub IsFailureCause : Type 0 → DualState → Directory → Refusals → 
 IsFailureCause ends_open d n old new e = ends_open ⊎ IsByChange d n old new e
 
 -- why a purge of a log with these contents fails, in these folders: by a call on its files or for lack
--- of memory; where no number is left for a next log file of a queue, or no id for an atomic group, or
--- what is to be written again has no record, which fails no engine unless it leaves an atomic group
--- open; and for want of space, which fails one and is to be tried again
+-- of memory; where no number is left for a next log file of a queue, or what is to be written again has
+-- no record, or it can't be marked, which fails no engine unless it leaves an atomic group open; and for
+-- want of space, which fails one and is to be tried again
 abbrev pub IsPurgeFault : Contents → PipeState → PipeState → Type 0 → Type 0 → Folders → Bool
     → Refusals → Refusals → Fault → Type 0
-IsPurgeFault x append rewrite ends_open no_id folders fails old new fault.Range =
+IsPurgeFault x append rewrite ends_open unmarked folders fails old new fault.Range =
     ((fails ≡ false) ⊎ ends_open)
-    × (IsUnfit x fault.Range ⊎ (no_id ⊎ (HasLastNumber append ⊎ HasLastNumber rewrite)))
-IsPurgeFault x append rewrite ends_open no_id folders fails old new (fault.InvalidArgument text) =
+    × (IsUnfit x fault.Range ⊎ (unmarked ⊎ (HasLastNumber append ⊎ HasLastNumber rewrite)))
+IsPurgeFault x append rewrite ends_open unmarked folders fails old new (fault.InvalidArgument text) =
     ((fails ≡ false) ⊎ ends_open) × IsUnfit x (fault.InvalidArgument text)
-IsPurgeFault x append rewrite ends_open no_id folders fails old new fault.TryAgain =
+IsPurgeFault x append rewrite ends_open unmarked folders fails old new fault.TryAgain =
     RoseBy 1 old new × (fails ≡ true)
-IsPurgeFault x append rewrite ends_open no_id folders fails old new e =
+IsPurgeFault x append rewrite ends_open unmarked folders fails old new e =
     FailsAt (NamesLog folders) old new e
 
 -- some log is so
@@ -179,3 +189,7 @@ module _ {F H R W : Type 0} {g : Ghosts F H R W} where
 
   abbrev pub LacksId : Purge → Engine F H R W g → Type 0
   LacksId purge e = MayLackId purge e.groups
+
+  -- the marks that an engine owed have no record, as they stand by its tables after a call
+  abbrev pub OwesTooMuch : Engine F H R W g → Engine F H R W g → Type 0
+  OwesTooMuch old new = HaveOwedNoRecord (tables_of new.tables) (owed_of old.owed) fault.Range

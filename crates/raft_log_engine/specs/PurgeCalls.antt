@@ -1,5 +1,6 @@
 -- What the purges of an engine make of it, each of them once, with listeners and without.
-use Rattle.std.specs.Prelude.{◌≡◌, ◌↔◌, ℕ, true, false, [], Err, IfErr, IfOk, OnErr, OnOk, Option, Result, Some, Vec, is_ok}
+use Rattle.std.specs.Prelude.{◌≡◌, ◌↔◌, ◌⊎◌, ℕ, true, false, [], Err, IfErr, IfOk, None, OnErr, OnOk, Option, Result, Some, Vec, is_ok}
+use Rattle.std.specs.Option.{option_map}
 use Rattle.std.specs.List.Sorted.{IsStrictlySortedBy}
 use Rattle.std.specs.Ordering.{nat_cmp}
 use Rattle.std.specs.declared.alloc.Global.{Global}
@@ -9,6 +10,7 @@ use Rattle.raft_base.specs.declared.pipe_log.LogQueue.TheVariants.{Append}
 use Rattle.raft_base.specs.declared.pipe_log.LogQueue.{LogQueue}
 use Rattle.raft_env.specs.declared.env.FileSystem.{Ghosts}
 use Rattle.raft_listeners.specs.Heard.{HasHeard, Heard}
+use Rattle.raft_purge.specs.Expired.{MovesDue}
 use Rattle.raft_tables.specs.Counters.{deleted_count}
 use Rattle.raft_tables.specs.Tables.{tables_of}
 use Rattle.raft_crash_laws.specs.Crash.{LeavesAllowed}
@@ -19,7 +21,8 @@ use Rattle.raft_log_engine.specs.Durability.{Progresses, StaysFailed, durability
 use Rattle.raft_log_engine.specs.Engine.{contents_of, directory_of, durable_of, folders_of, has_failed, memory_of, queue_of, refusals_of, rewrite_queue_of, has_groups_together, spans_of, unsynced_of}
 use Rattle.raft_log_engine.specs.Events.{AreRecordsCut, HearsPurge}
 use Rattle.raft_log_engine.specs.Expired.{AsksBarrier, HasPurgedExpired}
-use Rattle.raft_log_engine.specs.Purge.{HasFreed, HasLastId, HasLostSome, HasOpenGroup, HasPurged, IsFailureCause, IsIdlePurge, IsPurgeFault, LacksId, LeavesBehind, LeavesOpen, LeavesOthers, queue_freed}
+use Rattle.raft_log_engine.specs.Need.{needs_of}
+use Rattle.raft_log_engine.specs.Purge.{HasFreed, HasLastId, HasLostSome, HasOpenGroup, HasPurged, IsFailureCause, IsIdlePurge, IsPurgeFault, LacksId, LeavesBehind, LeavesOpen, LeavesOthers, OwesTooMuch, RewritesOnlyRewrite, queue_freed}
 use Rattle.raft_log_engine.specs.declared.engine.Engine.{Engine}
 use Rattle.raft_log_engine.specs.declared.engine.purge_kind.Purge.{Purge}
 use Rattle.raft_log_engine.specs.declared.engine.purge_kind.Purge.TheVariants.{DropStale, RewriteAppend, RewriteRewrite}
@@ -42,8 +45,8 @@ module _ {F H R W : Type 0} {g : Ghosts F H R W} where
         (directory_of new) (refusals_of old) (refusals_of new))
     pub cause :
         has_failed old ≡ false → IfErr result (IsPurgeFault (contents_of old) (queue_of new)
-        (rewrite_queue_of new) ends_open no_id (folders_of old) (has_failed new)
-        (refusals_of old) (refusals_of new))
+        (rewrite_queue_of new) ends_open (no_id ⊎ OwesTooMuch old new) (folders_of old)
+        (has_failed new) (refusals_of old) (refusals_of new))
 
   -- which files it leaves, how many it answers, and what it moves; it counts no rounds. What is refused
   -- has lost those files at most
@@ -63,7 +66,7 @@ module _ {F H R W : Type 0} {g : Ghosts F H R W} where
         × (new.tables ≡ old.tables) × (new.stats ≡ old.stats) × (new.groups ≡ old.groups))
     pub rounds : new.rounds ≡ old.rounds
     -- a rewriting of the Rewrite queue counts anew, and a drop of stale files moves and counts nothing
-    pub counted : purge ≡ RewriteRewrite → OnOk result (deleted_count new.stats ≡ 0)
+    pub counted : RewritesOnlyRewrite purge → OnOk result (deleted_count new.stats ≡ 0)
     pub stale : purge ≡ DropStale → memory_of new ≡ memory_of old
 
   -- one of the `must_` purges
@@ -93,6 +96,13 @@ module _ {F H R W : Type 0} {g : Ghosts F H R W} where
     pub ascending : IfOk result (λ asked. IsStrictlySortedBy nat_cmp asked.items)
     pub rounds : OnErr result (new.rounds ≡ old.rounds)
     pub first : OnErr result (HasLostFront (Some barrier) new.tables (queue_of old) (queue_of new))
+    -- what stands in the Rewrite queue moves where that was due, then what stands up to the watermark of
+    -- the Append queue where that was; where only the Rewrite queue was, it counts anew what left it
+    pub moved : OnOk result (MovesDue (needs_of old).rewrite
+        (option_map (λ w. w.rewrite) (needs_of old).append) (tables_of old.tables)
+        (tables_of new.tables))
+    pub counted : OnOk result ((needs_of old).rewrite ≡ true → (needs_of old).append ≡ None
+        → deleted_count new.stats ≡ 0)
 
   -- a purge by watermarks
   pub record IsExpiry (barrier : ℕ) (old new : Engine F H R W g)

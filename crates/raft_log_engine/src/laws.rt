@@ -6,6 +6,7 @@ ghost use Rattle.raft_env.specs.Directory.{Directory, IsRestarted, CrashImage, L
 ghost use Rattle.raft_crash_laws.specs.Begins.{LogStandsFor};
 ghost use Rattle.raft_crash_laws.specs.Crash.{IsAllowedFrom, LeavesAllowed, RecoversContents, contents_after_crash, known_after_crash, left_of_queue};
 ghost use Rattle.raft_crash_laws.specs.Log.{do_groups_ascend};
+ghost use Rattle.raft_base.specs.declared.pipe_log.LogQueue.{LogQueue};
 ghost use Rattle.raft_base.specs.declared.pipe_log.LogQueue.TheVariants.{Rewrite};
 ghost use Rattle.raft_queues.specs.Dual.{HaveForm, form_by};
 ghost use Rattle.raft_files.specs.Records.{as_it_is};
@@ -18,8 +19,10 @@ ghost use Rattle.raft_env.specs.Consistent.{AreConsistent};
 ghost use Rattle.raft_memory.specs.Choice.{AreWhole, left_by};
 ghost use Rattle.raft_memory.specs.declared.crash.Choice.{Choice};
 ghost use Rattle.raft_pipes.specs.Folder.{AreClear, HasNoLog, readable_queue};
-ghost use Rattle.raft_config.specs.Folders.{Folders};
-ghost use Rattle.raft_crash_laws.specs.Queues.{AreDetectableIn, AreOpenableIn, AreSingleIn, AreSoundIn, HaveSimplePastIn};
+ghost use Rattle.raft_pipes.specs.Numbered.{AreSingle};
+ghost use Rattle.raft_records.specs.Places.{Blocks};
+ghost use Rattle.raft_config.specs.Folders.{Folders, all_of};
+ghost use Rattle.raft_crash_laws.specs.Queues.{AreDetectableIn, AreOpenableIn, AreSingleIn, AreSoundIn, HaveFoundBlocks, HaveSimplePastIn};
 ghost use Rattle.raft_config.specs.declared.config.RecoveryMode.{RecoveryMode};
 ghost use Rattle.raft_config.specs.declared.config.RecoveryMode.TheVariants.{AbsoluteConsistency};
 
@@ -112,4 +115,12 @@ pub fn groups_stand_together<F: FileSystem>(engine: &Engine<F>)
         has_failed engine.now ≡ false → has_groups_together engine.now ≡ true → (d : CrashImage)
         → Leaves n d → AreDetectableIn folders n d
         → do_groups_ascend (left_of_queue Rewrite folders n d) ≡ true }
+{}
+
+/// The bytes of log files, each the only one of its number, make blocks of which `HasFound.read`
+/// speaks: of such files is a log that an opening answers (`CanBeOpenedIn`).
+pub fn log_files_have_blocks()
+    ensures { (folders : Folders) (n : Directory)
+        → ((queue : LogQueue) → AreSingle (all_of folders) queue n)
+        → (blocks : Blocks) × HaveFoundBlocks folders n blocks }
 {}

@@ -9,8 +9,11 @@ use Rattle.raft_entry_blocks.specs.Recent.{KeptBlocks}
 use Rattle.raft_listeners.specs.declared.event_sink.EventSink.{Ghosts}
 use Rattle.raft_listeners.specs.declared.purge_events.PurgeEvents.{PurgeEvents}
 use Rattle.raft_queues.specs.Dual.{DualState, pipe_of}
+use Rattle.raft_tables.specs.Owed.{Owed}
+use Rattle.raft_tables.specs.Tables.{Tables}
 use Rattle.raft_tables.specs.declared.rewritten.GroupsMet.{GroupsMet}
 use Rattle.raft_crash_laws.specs.Index.{LogIndex}
+use Rattle.raft_purge_steps.specs.Faults.{HaveOwedNoRecord, IsPurgeRefusal}
 use Rattle.raft_purge_steps.specs.Keeping.{StillHolds}
 use Rattle.raft_purge_steps.specs.Steps.{IfStands, IsLog, LogValue, log_by}
 use Rattle.raft_purge_steps.specs.Unfit.{IsUnfitWhere}
@@ -23,6 +26,18 @@ abbrev pub IsGroupRefusal : GroupsMet → DualState → DualState → Directory 
     → (Fault → Type 0) → StepFault → Type 0
 IsGroupRefusal groups d d' n' old new IsUnfit =
     IsAtomicRefusal d d' n' old new (λ e. HasNoId groups e ⊎ IsUnfit e)
+
+-- why one fails that writes marks that are owed: also where these, with such tables, have no record
+abbrev pub IsMarkRefusal : Tables → Owed → DualState → DualState → Directory → Refusals → Refusals
+    → (Fault → Type 0) → StepFault → Type 0
+IsMarkRefusal t owed d d' n' old new IsUnfit =
+    IsPurgeRefusal d d' n' old new (λ e. HaveOwedNoRecord t owed e ⊎ IsUnfit e)
+
+-- .. and atomic groups too
+abbrev pub IsExpiredRefusal : Tables → Owed → GroupsMet → DualState → DualState → Directory → Refusals
+    → Refusals → (Fault → Type 0) → StepFault → Type 0
+IsExpiredRefusal t owed groups d d' n' old new IsUnfit =
+    IsGroupRefusal groups d d' n' old new (λ e. HaveOwedNoRecord t owed e ⊎ IsUnfit e)
 
 -- one of these stands in memory for the log
 abbrev pub IsLogBy : {X : Type 0} → (X → LogIndex) → DualState → Directory → LogValue → Type 0

@@ -4,11 +4,11 @@ use Rattle.std.specs.List.{list_any}
 use Rattle.raft_env.specs.declared.env.FileSystem.{Ghosts}
 use Rattle.raft_records.specs.Item.{Batch}
 use Rattle.raft_log_engine.specs.Calls.{IsCallersWrite, IsCompaction, IsGroupWrite, IsSync}
-use Rattle.raft_log_engine.specs.Durability.{HasOnlyRead}
 use Rattle.raft_log_engine.specs.Once.{IsWriteOnce}
 use Rattle.raft_log_engine.specs.PurgeCalls.{IsAppendRewrite, IsExpiry, IsRewriteRewrite, IsStalePurge}
 use Rattle.raft_log_engine.specs.declared.engine.Engine.{Engine}
 use Rattle.raft_script.specs.Batches.{batch_of_acts, batches_of_parts}
+use Rattle.raft_script.specs.ReadCalls.{IsEntryGet, IsFirstIndex, IsGet, IsLastIndex, IsListOfGroups}
 use Rattle.raft_script.specs.Run.{IsUnbuilt, IsUnbuiltGroup}
 use Rattle.raft_script.specs.declared.operation.Op.{Op}
 use Rattle.raft_script.specs.declared.operation.Op.TheVariants as operation
@@ -35,12 +35,13 @@ module _ {F H R W : Type 0} {g : Ghosts F H R W} where
       × IsGroupWrite batches rest (length batches) (length batches)
       (list_any (λ part. part.1) parts.items) e e' answer)
   IsCalled Sync (Done answer) e e' = IsSync e e' answer
-  IsCalled (Get group key) (Value answer) e e' = e' ≡ e
+  IsCalled (Get group key) (Value answer) e e' = IsGet group key.items e e' answer
   IsCalled (CompactTo group index) (Count answer) e e' = IsCompaction group index e e' answer
-  IsCalled (operation.Entry group index) (reply.Entry answer) e e' = HasOnlyRead e e'
-  IsCalled (First group) (Index index) e e' = e' ≡ e
-  IsCalled (Last group) (Index index) e e' = e' ≡ e
-  IsCalled operation.Groups (reply.Groups answer) e e' = e' ≡ e
+  IsCalled (operation.Entry group index) (reply.Entry answer) e e' =
+      IsEntryGet group index e e' answer
+  IsCalled (First group) (Index index) e e' = IsFirstIndex group e e' index
+  IsCalled (Last group) (Index index) e e' = IsLastIndex group e e' index
+  IsCalled operation.Groups (reply.Groups answer) e e' = IsListOfGroups e e' answer
   IsCalled (RewriteAppend watermark step) (Dropped answer) e e' =
       IsAppendRewrite watermark step e e' answer
   IsCalled RewriteRewrite (Dropped answer) e e' = IsRewriteRewrite e e' answer

@@ -7,5 +7,6 @@ pub mod Numbers
 pub mod Once
 pub mod Entry
 pub mod Trial
+pub mod ReadCalls
 pub mod Called
 pub mod Number

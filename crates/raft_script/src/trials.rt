@@ -27,20 +27,19 @@ use raft_records::Fault;
 use std::alloc::Global;
 
 /// Opens a log in memory, does the operations, crashes, and opens again. From the first opening on
-/// the calls that may change files are counted from 1, and from the one at `stop` on each fails;
-/// the opening after the crash has no stop, and at each moment of it the folders keep what they
-/// kept. Where the first opening fails no operation is done,
-/// and the trial says why: settings contradict one another, a storage call failed, or memory was
-/// wanting. The choices say what the crash leaves; bytes that storage doesn't allow are refused,
-/// and no others. Where the damage of what the crash leaves is detectable, a tolerant opening
-/// fails by storage or for lack of memory alone; any other opening only for these, for what is
-/// left of the log, or where settings contradict one another. That no folder has the path of a log
-/// file (`HaveNoLogPath`) is asked where the first opening failed, and nowhere else. The damage is
-/// detectable where no engine failed, nothing decodes that a last log file held when it was
-/// renamed, and the choices leave each file whole, as it is at the crash or as it was synced; and
-/// so it is, whatever failed and for torn files too, where the last log files were never renamed,
-/// no call brought a record but its own, and they are read as they were at a moment since their
-/// last sync.
+/// the calls that may change files are counted from 1, and the files are told to fail each from
+/// the one at `stop` on; the opening after the crash has no stop, and at each moment of it the
+/// folders keep what they kept. Where the first opening fails no operation is done, and the trial
+/// says why: settings contradict one another, a storage call failed, or memory was wanting. The
+/// choices say what the crash leaves; bytes that storage doesn't allow are refused. Where the
+/// damage of what the crash leaves is detectable, a tolerant opening fails by storage or for lack
+/// of memory alone; any other opening only for these, for what is left of the log, or where
+/// settings contradict one another. That no folder has the path of a log file (`HaveNoLogPath`) is
+/// asked where the first opening failed, and nowhere else. The damage is detectable where no
+/// engine failed, nothing decodes that a last log file held when it was renamed, and the choices
+/// leave each file whole, as it is at the crash or as it was synced; and so it is, whatever failed
+/// and for torn files too, where the last log files were never renamed, no call brought a record
+/// but its own, and they are read as they were at a moment since their last sync.
 pub fn trial(
     alloc: Global,
     config: Config,

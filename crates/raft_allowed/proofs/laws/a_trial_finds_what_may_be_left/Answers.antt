@@ -4,6 +4,5 @@ use Rattle.raft_allowed.proofs.laws.a_trial_finds_what_may_be_left.Goals as goal
 
 pub returns : goal.returns
 returns c = record {
-  found = λ config ops stop choices t is opened free detectable.
-      trial_left _ (λ files. refl) c.crash_leaves_contents.ensures.found config ops stop choices t is opened free detectable;
+  found = trial_left _ (λ files. refl) c.crash_leaves_contents.ensures.found;
 }

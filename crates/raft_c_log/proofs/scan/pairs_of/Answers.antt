@@ -3,14 +3,18 @@ use Rattle.raft_c_batch.specs.Batch.{part_bytes}
 use Rattle.raft_c_batch.specs.Parts.{pairs_bytes}
 use Rattle.raft_c_log.specs.Limit.{IsLeft, IsOneLess, limited, max_of}
 use Rattle.raft_c_log.specs.declared.scan.Pairs.{Pairs}
-use Rattle.raft_c_log.proofs.ScanLemmas.{Pair, kept_by, left_all, left_more, limited_all, limited_first, pairs_more}
+use Rattle.raft_log_engine.specs.Engine.{contents_of}
+use Rattle.raft_log_engine.specs.Image.{IsWithout}
+use Rattle.raft_log_engine.proofs.HiddenLemmas.{shown_without}
+use Rattle.raft_c_log.proofs.RefusalLemmas.{stands}
+use Rattle.raft_c_log.proofs.ScanLemmas.{Pair, kept_by, left_all, left_more, limited_all, limited_first, none_handed, pairs_more}
 use Rattle.raft_c_log.proofs.scan.pairs_of.Goals as goal
 
 kept_as : (limit : Option ℕ) (kept pairs : List Pair) (bytes : List ℕ) → bytes ≡ pairs_bytes kept → limited limit pairs ≡ kept → bytes ≡ pairs_bytes (limited limit pairs)
 kept_as limit kept pairs bytes is first = is ∙ ap pairs_bytes (sym first)
 
-pub returns-then-pairs : goal.returns-then-pairs
-returns-then-pairs g c =
+pub returns-then-pairs-clause-value : goal.returns-then-pairs-clause-value
+returns-then-pairs-clause-value g c =
     let ran = c.in_default.ensures.value in
     let limit = max_of c.args.scan.limit in
     let met = kept_by ran
@@ -33,21 +37,23 @@ returns-then-pairs g c =
     )) in
     ⊎_elim
     (λ good. record {
-      value = record {
-        pairs = ran.pairs;
-        scanned = ran.scan;
-        bytes = kept_as limit ran.pairs ran.pairs _ (let kept = good.0 in let all = good.1 in search rules) (limited_all limit _ ran.pairs good.2);
-      };
-      cause = tt;
+      pairs = ran.pairs;
+      scanned = ran.scan;
+      bytes = kept_as limit ran.pairs ran.pairs _ (let kept = good.0 in let all = good.1 in search rules) (limited_all limit _ ran.pairs good.2);
     })
     (λ bad. ⊎_elim
     (λ broken. let kept = bad.3.0 in let clash : true ≡ false = search rules in absurd cc)
     (λ stops. record {
-      value = record {
-        pairs = ran.pairs;
-        scanned = ran.scan;
-        bytes = kept_as limit bad.0 ran.pairs _ (let kept = bad.3.0 in let all = stops.0 in search rules) (ap (limited limit) bad.2 ∙ limited_first limit bad.0 bad.1 stops.1);
-      };
-      cause = tt;
+      pairs = ran.pairs;
+      scanned = ran.scan;
+      bytes = kept_as limit bad.0 ran.pairs _ (let kept = bad.3.0 in let all = stops.0 in search rules) (ap (limited limit) bad.2 ∙ limited_first limit bad.0 bad.1 stops.1);
     })
     bad.3.1) met
+
+pub returns-else-pairs-clause-cause : goal.returns-else-pairs-clause-cause
+returns-else-pairs-clause-cause g c =
+    let ran = c.in_default.ensures.value in
+    let some : IsWithout (contents_of c.args.engine.now) c.args.scan.group → ⊥ = λ without.
+    let handed = none_handed (λ from f. (f.0.ghost_name ≡ from.0.ghost_name) × (f.0.now.is_whole ≡ true)) ran (shown_without (contents_of c.args.engine.now) c.args.scan.group without).1 (refl, c.new-pairs.ensures.value.1) in
+    let kept = handed.0 in let whole = handed.1 in let clash : true ≡ false = search rules in absurd cc in
+    inr (stands c.in_default.ensures.failed, (some, refl))

@@ -1,4 +1,4 @@
-use Rattle.std.proofs.Common.{◌≡◌, ◌∙◌, ◌∷◌, [], true, List, Option, Some, ap, map, refl, rules, subst, sym}
+use Rattle.std.proofs.Common.{◌≡◌, ◌⊎◌, ◌∙◌, ◌∷◌, [], true, ℕ, List, Option, Some, ap, map, refl, rules, subst, sym}
 use Rattle.std.specs.Prelude.{unwrap_or}
 use Rattle.raft_records.specs.Contents.{Contents, first_index_of, last_index_of}
 use Rattle.raft_records.specs.Item.{Batch}
@@ -7,6 +7,7 @@ use Rattle.raft_log_engine.specs.Engine.{contents_of, directory_of, folders_of, 
 use Rattle.raft_script.proofs.CalledLemmas.{called_once, called_write, unbuilt_group, unbuilt_once, unbuilt_write}
 use Rattle.raft_script.specs.Batches.{Part, batch_of_acts, batches_of_parts, items_of_acts}
 use Rattle.raft_script.specs.Durability.{Does}
+use Rattle.raft_script.specs.ReadCalls.{IsGet}
 use Rattle.raft_script.specs.Run.{IsUnbuilt, IsUnbuiltGroup}
 use Rattle.raft_crash_laws.specs.Crash.{pending_of}
 use Rattle.raft_log_engine.specs.Cause.{plain_part}
@@ -25,7 +26,7 @@ use Rattle.raft_script.proofs.PassedLemmas.{passes_none, passes_read}
 use Rattle.raft_script.proofs.ProgressLemmas.{purge_stands}
 use Rattle.raft_script.proofs.RunLemmas.{compaction_answered, compaction_fails, entry_answered, entry_rose, groups_answered, purge_answered, purge_fails, purge_rose, renewal_fails, steady_by, sync_fails, write_answered}
 use Rattle.raft_script.proofs.RefusalLemmas.{compaction_rose, sync_rose, write_rose}
-use Rattle.raft_log_engine.specs.Purge.{HasLastId, HasOpenGroup}
+use Rattle.raft_log_engine.specs.Purge.{HasLastId, HasOpenGroup, OwesTooMuch}
 use Rattle.raft_records.specs.Batch.{BatchView}
 use Rattle.raft_script.proofs.GroupLemmas.{called_group, does_group, group_answered, group_fails, group_refuses, unbuilt_answered, unbuilt_fails}
 use Rattle.raft_script.proofs.runs.step.Given.{Over}
@@ -186,21 +187,21 @@ returns-in-RewriteAppend-clause-value g c =
     let e = c.args.engine.now in
     let n = c.must_rewrite_append_queue.new.self in
     let purged = c.must_rewrite_append_queue.ensures in
-    rw c.in-RewriteAppend.is (λ m known same same_known. purge_answered (contents_of e) (queue_of n) (rewrite_queue_of n) ⊥ ⊥ (has_failed e) (has_failed n) (folders_of e) (refusals_of e) (refusals_of n) c.must_rewrite_append_queue.result purged.failed purged.log.cause m same)
+    rw c.in-RewriteAppend.is (λ m known same same_known. purge_answered (contents_of e) (queue_of n) (rewrite_queue_of n) ⊥ (⊥ ⊎ OwesTooMuch e n) (has_failed e) (has_failed n) (folders_of e) (refusals_of e) (refusals_of n) c.must_rewrite_append_queue.result purged.failed purged.log.cause m same)
 
 pub returns-in-RewriteAppend-clause-failed : goal.returns-in-RewriteAppend-clause-failed
 returns-in-RewriteAppend-clause-failed g c =
     let e = c.args.engine.now in
     let n = c.must_rewrite_append_queue.new.self in
     let purged = c.must_rewrite_append_queue.ensures in
-    rw c.in-RewriteAppend.is (purge_fails (contents_of e) (queue_of n) (rewrite_queue_of n) ⊥ ⊥ (has_failed e) (has_failed n) (folders_of e) (refusals_of e) (refusals_of n) c.must_rewrite_append_queue.result purged.failed purged.log.cause (λ there. there) (purge_stands c.must_rewrite_append_queue.result (durability_of e) (durability_of n) purged.log.progress) (λ gone. (purged.unchanged gone).failed))
+    rw c.in-RewriteAppend.is (purge_fails (contents_of e) (queue_of n) (rewrite_queue_of n) ⊥ (⊥ ⊎ OwesTooMuch e n) (has_failed e) (has_failed n) (folders_of e) (refusals_of e) (refusals_of n) c.must_rewrite_append_queue.result purged.failed purged.log.cause (λ there. there) (purge_stands c.must_rewrite_append_queue.result (durability_of e) (durability_of n) purged.log.progress) (λ gone. (purged.unchanged gone).failed))
 
 pub returns-in-RewriteAppend-clause-cause : goal.returns-in-RewriteAppend-clause-cause
 returns-in-RewriteAppend-clause-cause g c =
     let e = c.args.engine.now in
     let n = c.must_rewrite_append_queue.new.self in
     let purged = c.must_rewrite_append_queue.ensures in
-    (purged.log.any_moment.no_fewer, purge_rose (contents_of e) (queue_of n) (rewrite_queue_of n) ⊥ ⊥ (has_failed e) (has_failed n) (folders_of e) (refusals_of e) (refusals_of n) c.must_rewrite_append_queue.result purged.failed purged.log.cause)
+    (purged.log.any_moment.no_fewer, purge_rose (contents_of e) (queue_of n) (rewrite_queue_of n) ⊥ (⊥ ⊎ OwesTooMuch e n) (has_failed e) (has_failed n) (folders_of e) (refusals_of e) (refusals_of n) c.must_rewrite_append_queue.result purged.failed purged.log.cause)
 
 pub returns-in-RewriteAppend-clause-progress : goal.returns-in-RewriteAppend-clause-progress
 returns-in-RewriteAppend-clause-progress g c =
@@ -214,21 +215,21 @@ returns-in-RewriteRewrite-clause-value g c =
     let e = c.args.engine.now in
     let n = c.must_rewrite_rewrite_queue.new.self in
     let purged = c.must_rewrite_rewrite_queue.ensures in
-    rw c.in-RewriteRewrite.is (λ m known same same_known. purge_answered (contents_of e) (queue_of n) (rewrite_queue_of n) (HasOpenGroup n) (HasLastId n) (has_failed e) (has_failed n) (folders_of e) (refusals_of e) (refusals_of n) c.must_rewrite_rewrite_queue.result purged.failed purged.log.cause m same)
+    rw c.in-RewriteRewrite.is (λ m known same same_known. purge_answered (contents_of e) (queue_of n) (rewrite_queue_of n) (HasOpenGroup n) (HasLastId n ⊎ OwesTooMuch e n) (has_failed e) (has_failed n) (folders_of e) (refusals_of e) (refusals_of n) c.must_rewrite_rewrite_queue.result purged.failed purged.log.cause m same)
 
 pub returns-in-RewriteRewrite-clause-failed : goal.returns-in-RewriteRewrite-clause-failed
 returns-in-RewriteRewrite-clause-failed g c =
     let e = c.args.engine.now in
     let n = c.must_rewrite_rewrite_queue.new.self in
     let purged = c.must_rewrite_rewrite_queue.ensures in
-    rw c.in-RewriteRewrite.is (renewal_fails (contents_of e) (queue_of n) (rewrite_queue_of n) (HasOpenGroup n) (HasLastId n) (has_failed e) (has_failed n) (folders_of e) (refusals_of e) (refusals_of n) c.must_rewrite_rewrite_queue.result purged.failed purged.log.cause (purge_stands c.must_rewrite_rewrite_queue.result (durability_of e) (durability_of n) purged.log.progress) (λ gone. (purged.unchanged gone).failed))
+    rw c.in-RewriteRewrite.is (renewal_fails (contents_of e) (queue_of n) (rewrite_queue_of n) (HasOpenGroup n) (HasLastId n ⊎ OwesTooMuch e n) (has_failed e) (has_failed n) (folders_of e) (refusals_of e) (refusals_of n) c.must_rewrite_rewrite_queue.result purged.failed purged.log.cause (purge_stands c.must_rewrite_rewrite_queue.result (durability_of e) (durability_of n) purged.log.progress) (λ gone. (purged.unchanged gone).failed))
 
 pub returns-in-RewriteRewrite-clause-cause : goal.returns-in-RewriteRewrite-clause-cause
 returns-in-RewriteRewrite-clause-cause g c =
     let e = c.args.engine.now in
     let n = c.must_rewrite_rewrite_queue.new.self in
     let purged = c.must_rewrite_rewrite_queue.ensures in
-    (purged.log.any_moment.no_fewer, purge_rose (contents_of e) (queue_of n) (rewrite_queue_of n) (HasOpenGroup n) (HasLastId n) (has_failed e) (has_failed n) (folders_of e) (refusals_of e) (refusals_of n) c.must_rewrite_rewrite_queue.result purged.failed purged.log.cause)
+    (purged.log.any_moment.no_fewer, purge_rose (contents_of e) (queue_of n) (rewrite_queue_of n) (HasOpenGroup n) (HasLastId n ⊎ OwesTooMuch e n) (has_failed e) (has_failed n) (folders_of e) (refusals_of e) (refusals_of n) c.must_rewrite_rewrite_queue.result purged.failed purged.log.cause)
 
 pub returns-in-RewriteRewrite-clause-progress : goal.returns-in-RewriteRewrite-clause-progress
 returns-in-RewriteRewrite-clause-progress g c =
@@ -242,21 +243,21 @@ returns-in-PurgeStale-clause-value g c =
     let e = c.args.engine.now in
     let n = c.must_purge_all_stale.new.self in
     let purged = c.must_purge_all_stale.ensures in
-    rw c.in-PurgeStale.is (λ m known same same_known. purge_answered (contents_of e) (queue_of n) (rewrite_queue_of n) ⊥ ⊥ (has_failed e) (has_failed n) (folders_of e) (refusals_of e) (refusals_of n) c.must_purge_all_stale.result purged.failed purged.log.cause m same)
+    rw c.in-PurgeStale.is (λ m known same same_known. purge_answered (contents_of e) (queue_of n) (rewrite_queue_of n) ⊥ (⊥ ⊎ OwesTooMuch e n) (has_failed e) (has_failed n) (folders_of e) (refusals_of e) (refusals_of n) c.must_purge_all_stale.result purged.failed purged.log.cause m same)
 
 pub returns-in-PurgeStale-clause-failed : goal.returns-in-PurgeStale-clause-failed
 returns-in-PurgeStale-clause-failed g c =
     let e = c.args.engine.now in
     let n = c.must_purge_all_stale.new.self in
     let purged = c.must_purge_all_stale.ensures in
-    rw c.in-PurgeStale.is (purge_fails (contents_of e) (queue_of n) (rewrite_queue_of n) ⊥ ⊥ (has_failed e) (has_failed n) (folders_of e) (refusals_of e) (refusals_of n) c.must_purge_all_stale.result purged.failed purged.log.cause (λ there. there) (purge_stands c.must_purge_all_stale.result (durability_of e) (durability_of n) purged.log.progress) (λ gone. (purged.unchanged gone).failed))
+    rw c.in-PurgeStale.is (purge_fails (contents_of e) (queue_of n) (rewrite_queue_of n) ⊥ (⊥ ⊎ OwesTooMuch e n) (has_failed e) (has_failed n) (folders_of e) (refusals_of e) (refusals_of n) c.must_purge_all_stale.result purged.failed purged.log.cause (λ there. there) (purge_stands c.must_purge_all_stale.result (durability_of e) (durability_of n) purged.log.progress) (λ gone. (purged.unchanged gone).failed))
 
 pub returns-in-PurgeStale-clause-cause : goal.returns-in-PurgeStale-clause-cause
 returns-in-PurgeStale-clause-cause g c =
     let e = c.args.engine.now in
     let n = c.must_purge_all_stale.new.self in
     let purged = c.must_purge_all_stale.ensures in
-    (purged.log.any_moment.no_fewer, purge_rose (contents_of e) (queue_of n) (rewrite_queue_of n) ⊥ ⊥ (has_failed e) (has_failed n) (folders_of e) (refusals_of e) (refusals_of n) c.must_purge_all_stale.result purged.failed purged.log.cause)
+    (purged.log.any_moment.no_fewer, purge_rose (contents_of e) (queue_of n) (rewrite_queue_of n) ⊥ (⊥ ⊎ OwesTooMuch e n) (has_failed e) (has_failed n) (folders_of e) (refusals_of e) (refusals_of n) c.must_purge_all_stale.result purged.failed purged.log.cause)
 
 pub returns-in-PurgeStale-clause-progress : goal.returns-in-PurgeStale-clause-progress
 returns-in-PurgeStale-clause-progress g c =
@@ -270,21 +271,21 @@ returns-in-Purge-clause-value g c =
     let e = c.args.engine.now in
     let n = c.purge_expired_files.new.self in
     let purged = c.purge_expired_files.ensures in
-    rw c.in-Purge.is (λ m known same same_known. purge_answered (contents_of e) (queue_of n) (rewrite_queue_of n) (HasOpenGroup n) (HasLastId n) (has_failed e) (has_failed n) (folders_of e) (refusals_of e) (refusals_of n) c.purge_expired_files.result purged.failed purged.log.cause m same)
+    rw c.in-Purge.is (λ m known same same_known. purge_answered (contents_of e) (queue_of n) (rewrite_queue_of n) (HasOpenGroup n) (HasLastId n ⊎ OwesTooMuch e n) (has_failed e) (has_failed n) (folders_of e) (refusals_of e) (refusals_of n) c.purge_expired_files.result purged.failed purged.log.cause m same)
 
 pub returns-in-Purge-clause-failed : goal.returns-in-Purge-clause-failed
 returns-in-Purge-clause-failed g c =
     let e = c.args.engine.now in
     let n = c.purge_expired_files.new.self in
     let purged = c.purge_expired_files.ensures in
-    rw c.in-Purge.is (renewal_fails (contents_of e) (queue_of n) (rewrite_queue_of n) (HasOpenGroup n) (HasLastId n) (has_failed e) (has_failed n) (folders_of e) (refusals_of e) (refusals_of n) c.purge_expired_files.result purged.failed purged.log.cause (purge_stands c.purge_expired_files.result (durability_of e) (durability_of n) purged.log.progress) (λ gone. (purged.unchanged gone).failed))
+    rw c.in-Purge.is (renewal_fails (contents_of e) (queue_of n) (rewrite_queue_of n) (HasOpenGroup n) (HasLastId n ⊎ OwesTooMuch e n) (has_failed e) (has_failed n) (folders_of e) (refusals_of e) (refusals_of n) c.purge_expired_files.result purged.failed purged.log.cause (purge_stands c.purge_expired_files.result (durability_of e) (durability_of n) purged.log.progress) (λ gone. (purged.unchanged gone).failed))
 
 pub returns-in-Purge-clause-cause : goal.returns-in-Purge-clause-cause
 returns-in-Purge-clause-cause g c =
     let e = c.args.engine.now in
     let n = c.purge_expired_files.new.self in
     let purged = c.purge_expired_files.ensures in
-    (purged.log.any_moment.no_fewer, purge_rose (contents_of e) (queue_of n) (rewrite_queue_of n) (HasOpenGroup n) (HasLastId n) (has_failed e) (has_failed n) (folders_of e) (refusals_of e) (refusals_of n) c.purge_expired_files.result purged.failed purged.log.cause)
+    (purged.log.any_moment.no_fewer, purge_rose (contents_of e) (queue_of n) (rewrite_queue_of n) (HasOpenGroup n) (HasLastId n ⊎ OwesTooMuch e n) (has_failed e) (has_failed n) (folders_of e) (refusals_of e) (refusals_of n) c.purge_expired_files.result purged.failed purged.log.cause)
 
 pub returns-in-Purge-clause-progress : goal.returns-in-Purge-clause-progress
 returns-in-Purge-clause-progress g c =
@@ -501,22 +502,31 @@ pub returns-in-Sync-clause-called : goal.returns-in-Sync-clause-called
 returns-in-Sync-clause-called g c = rw c.in-Sync.is c.sync.ensures
 
 pub returns-in-Get-clause-called : goal.returns-in-Get-clause-called
-returns-in-Get-clause-called g c = rw c.in-Get.is refl
+returns-in-Get-clause-called g c =
+    let read = c.get.ensures in
+    let key = c.deref-in-Get.ensures.value in
+    let bytes : c.deref-in-Get.result.now ≡ c.in-Get.key.items = key in
+    rw c.in-Get.is (subst (λ (k : List ℕ). IsGet c.in-Get.group k c.args.engine.now c.args.engine.now c.get.result) bytes
+    (record { same = refl; value = read.value; failed = read.failed; cause = read.cause; memory = read.memory }))
 
 pub returns-in-CompactTo-clause-called : goal.returns-in-CompactTo-clause-called
 returns-in-CompactTo-clause-called g c = rw c.in-CompactTo.is c.compact_to.ensures
 
 pub returns-in-Entry-clause-called : goal.returns-in-Entry-clause-called
-returns-in-Entry-clause-called g c = rw c.in-Entry.is c.get_entry.ensures.unchanged
+returns-in-Entry-clause-called g c =
+    let read = c.get_entry.ensures in
+    rw c.in-Entry.is (record { unchanged = read.unchanged; value = read.value; failed = read.failed; cause = read.cause; memory = read.memory })
 
 pub returns-in-First-clause-called : goal.returns-in-First-clause-called
-returns-in-First-clause-called g c = rw c.in-First.is refl
+returns-in-First-clause-called g c = rw c.in-First.is (record { same = refl; value = c.first_index.ensures.value })
 
 pub returns-in-Last-clause-called : goal.returns-in-Last-clause-called
-returns-in-Last-clause-called g c = rw c.in-Last.is refl
+returns-in-Last-clause-called g c = rw c.in-Last.is (record { same = refl; value = c.last_index.ensures.value })
 
 pub returns-in-Groups-clause-called : goal.returns-in-Groups-clause-called
-returns-in-Groups-clause-called g c = rw c.in-Groups.is refl
+returns-in-Groups-clause-called g c =
+    let read = c.raft_groups.ensures in
+    rw c.in-Groups.is (record { same = refl; value = read.value; failed = read.failed; cause = read.cause })
 
 pub returns-in-RewriteAppend-clause-called : goal.returns-in-RewriteAppend-clause-called
 returns-in-RewriteAppend-clause-called g c =

@@ -1,5 +1,4 @@
 use Rattle.std.proofs.Common.{◌≡◌, ◌∙◌, Err, Ok, sym, inl, inr}
-use Rattle.raft_c_batch.specs.Batch.{read_batch}
 use Rattle.raft_c_log.specs.Refusals.{IsBytesRefusal}
 use Rattle.raft_c_batch.specs.declared.batch.BatchFault.TheVariants.{Refused}
 use Rattle.raft_log_engine.specs.Once.{IsWriteOnce}
@@ -11,7 +10,7 @@ use Rattle.raft_c_log.proofs.open_log.OpenLog.write_numbered.Goals as goal
 pub returns-in-Ok-done : goal.returns-in-Ok-done
 returns-in-Ok-done g c = record {
   called = elim c.match-add_items.branch [
-    | in-Ok w ↦ wrote _ _ (IsBytesRefusal (read_batch c.args.bytes.now)) (λ e items rest result. IsWriteOnce items rest c.args.pairs.now c.args.sync c.args.self.now.engine e result) w.write_once-done.result (Ok tt) (λ i. (w.self-is i).1.1.0) (taken_items c.args.self.now.emptied w.in-Ok.ensures.ok) (comes_ok (sym w.done-is ∙ c.in-Ok-done.is)) w.write_once-done.ensures
+    | in-Ok w ↦ wrote _ _ (IsBytesRefusal c.args.bytes.now) (λ e items rest result. IsWriteOnce items rest c.args.pairs.now c.args.sync c.args.self.now.engine e result) w.write_once-done.result (Ok tt) (λ i. (w.self-is i).1.1.0) (taken_items c.args.self.now.emptied w.in-Ok.ensures.ok) (comes_ok (sym w.done-is ∙ c.in-Ok-done.is)) w.write_once-done.ensures
     | in-Err-Malformed w ↦ absurd (let clash = sym w.done-is ∙ c.in-Ok-done.is in cc)
     | in-Err-Refused w ↦ absurd (let clash = sym w.done-is ∙ c.in-Ok-done.is in cc)
   ];
@@ -20,10 +19,10 @@ returns-in-Ok-done g c = record {
 pub returns-in-Err : goal.returns-in-Err
 returns-in-Err g c = record {
   called = elim c.match-add_items.branch [
-    | in-Ok w ↦ wrote _ _ (IsBytesRefusal (read_batch c.args.bytes.now)) (λ e items rest result. IsWriteOnce items rest c.args.pairs.now c.args.sync c.args.self.now.engine e result) w.write_once-done.result (Err c.in-Err.fault) (λ i. (w.self-is i).1.1.0) (taken_items c.args.self.now.emptied w.in-Ok.ensures.ok) (comes_err (λ _. Unit {0}) (sym w.done-is ∙ c.in-Err.is)) w.write_once-done.ensures
-    | in-Err-Malformed w ↦ inl (inl (none_taken _ _ w.in-Err-Malformed.field-0-is w.in-Err-Malformed.ensures.cause, invalid_code (sym w.done-is ∙ c.in-Err.is)), λ i. (w.self-is i).1.1.0)
+    | in-Ok w ↦ wrote _ _ (IsBytesRefusal c.args.bytes.now) (λ e items rest result. IsWriteOnce items rest c.args.pairs.now c.args.sync c.args.self.now.engine e result) w.write_once-done.result (Err c.in-Err.fault) (λ i. (w.self-is i).1.1.0) (taken_items c.args.self.now.emptied w.in-Ok.ensures.ok) (comes_err (λ _. Unit {0}) (sym w.done-is ∙ c.in-Err.is)) w.write_once-done.ensures
+    | in-Err-Malformed w ↦ inl (inl (none_taken c.args.self.now.batch.items c.args.bytes.now _ w.in-Err-Malformed.field-0-is w.in-Err-Malformed.ensures.cause, invalid_code (sym w.done-is ∙ c.in-Err.is)), λ i. (w.self-is i).1.1.0)
     | in-Err-Refused w ↦
         let is : w.in-Err-Refused.field-0 ≡ Refused c.in-Err.fault = (let shown = w.in-Err-Refused.field-0-is in let fault = w.in-Err-Refused.fault-is in let done = w.done-is in let err = c.in-Err.is in cc) in
-        inl (inr (item_refused _ _ _ is w.in-Err-Refused.ensures.cause), λ i. (w.self-is i).1.1.0)
+        inl (inr (item_refused c.args.self.now.batch.items c.args.bytes.now _ _ c.args.self.now.emptied is w.in-Err-Refused.ensures.cause), λ i. (w.self-is i).1.1.0)
   ];
 }

@@ -1,4 +1,4 @@
-use Rattle.std.proofs.Common.{◌⊎◌, ◌∙◌, refl, subst, sym, List, ℕ}
+use Rattle.std.proofs.Common.{◌⊎◌, ◌∙◌, inl, inr, refl, subst, sym, List, ℕ}
 use Rattle.std.specs.List.Sorted.{IsStrictlySortedBy}
 use Rattle.std.specs.Ordering.{nat_cmp}
 use Rattle.raft_rewrite.specs.Apart.{KeepsOthers}
@@ -15,6 +15,8 @@ use Rattle.raft_base.specs.declared.pipe_log.LogQueue.TheVariants.{Append}
 use Rattle.raft_crash_laws.specs.Log.{KnownGroups, known_groups}
 use Rattle.raft_crash_laws.proofs.LogLemmas.{append_differs}
 use Rattle.raft_rewrite.specs.OpenGroup.{HasNoId}
+use Rattle.raft_base.specs.declared.errors.Fault.{Fault}
+use Rattle.raft_purge_steps.specs.Faults.{HaveOwedNoRecord}
 use Rattle.raft_purge_steps.specs.Steps.{IsLog, KeepsLog, LogValue, log_of}
 use Rattle.raft_purge_steps.specs.Unfit.{IsUnfitWhere}
 use Rattle.raft_tables.specs.Owed.{Owed}
@@ -84,7 +86,7 @@ pub returns-in-RewriteAppend-clause-tables : goal.returns-in-RewriteAppend-claus
 returns-in-RewriteAppend-clause-tables g c = rw c.in-RewriteAppend.is c.rewrite_append_queue.ensures.only
 
 pub returns-in-RewriteRewrite-clause-tables : goal.returns-in-RewriteRewrite-clause-tables
-returns-in-RewriteRewrite-clause-tables g c = rw c.in-RewriteRewrite.is (if_ok c.rewrite_rewrite_queue.result _ tt)
+returns-in-RewriteRewrite-clause-tables g c = rw c.in-RewriteRewrite.is c.rewrite_rewrite_queue.ensures.only
 
 pub returns-in-DropStale-clause-tables : goal.returns-in-DropStale-clause-tables
 returns-in-DropStale-clause-tables g c = rw c.in-DropStale.is (if_ok c.purge_all_stale.result _ tt)
@@ -100,7 +102,8 @@ returns-in-RewriteAppend-clause-cause g c =
     let n = g.F.FileSystem.directory c.args.file_system.now in
     let Q = IsLog (log_of d t owed met n) in
     let P : LogValue → Type 0 = λ v. (k : KnownGroups) × IsLog (log_of d t owed k n) v in
-    rw c.in-RewriteAppend.is (IfErr-weaker c.rewrite_append_queue.result _ _ (refusal_weaker d c.rewrite_append_queue.new.pipes (g.F.FileSystem.directory c.rewrite_append_queue.new.file_system) (g.F.FileSystem.refusals_of c.args.file_system.now) (g.F.FileSystem.refusals_of c.rewrite_append_queue.new.file_system) (IsUnfitWhere P) (IsUnfitWhere Q) (unfit_where P Q (λ v held. (met, held)))) c.rewrite_append_queue.ensures.purges.cause)
+    let M = HaveOwedNoRecord (tables_of c.rewrite_append_queue.new.tables) owed in
+    rw c.in-RewriteAppend.is (IfErr-weaker c.rewrite_append_queue.result _ _ (refusal_weaker d c.rewrite_append_queue.new.pipes (g.F.FileSystem.directory c.rewrite_append_queue.new.file_system) (g.F.FileSystem.refusals_of c.args.file_system.now) (g.F.FileSystem.refusals_of c.rewrite_append_queue.new.file_system) (λ e. M e ⊎ IsUnfitWhere P e) (λ e. M e ⊎ IsUnfitWhere Q e) (or_unfit M (IsUnfitWhere P) (IsUnfitWhere Q) (unfit_where P Q (λ v held. (met, held))))) c.rewrite_append_queue.ensures.purges.cause)
 
 pub returns-in-RewriteRewrite-clause-cause : goal.returns-in-RewriteRewrite-clause-cause
 returns-in-RewriteRewrite-clause-cause g c =
@@ -111,12 +114,19 @@ returns-in-RewriteRewrite-clause-cause g c =
     let n = g.F.FileSystem.directory c.args.file_system.now in
     let Q = IsLog (log_of d t owed met n) in
     let P : LogValue → Type 0 = λ v. (o : Owed) × IsLog (log_of d t o met n) v in
+    let U : Fault → Type 0 = λ e. HaveOwedNoRecord (tables_of c.rewrite_rewrite_queue.new.tables) owed e ⊎ IsUnfitWhere Q e in
     let groups = c.rewrite_rewrite_queue.new.groups in
     let n' = g.F.FileSystem.directory c.rewrite_rewrite_queue.new.file_system in
-    rw c.in-RewriteRewrite.is (IfErr-weaker c.rewrite_rewrite_queue.result _ _ (atomic_weaker d c.rewrite_rewrite_queue.new.pipes n' (g.F.FileSystem.refusals_of c.args.file_system.now) (g.F.FileSystem.refusals_of c.rewrite_rewrite_queue.new.file_system) (λ e. HasNoId groups e ⊎ IsUnfitWhere P e) (λ e. HasNoId groups e ⊎ IsUnfitWhere Q e) (or_unfit groups (IsUnfitWhere P) (IsUnfitWhere Q) (unfit_where P Q (λ v held. (owed, held))))) c.rewrite_rewrite_queue.ensures.purges.cause)
+    rw c.in-RewriteRewrite.is (IfErr-weaker c.rewrite_rewrite_queue.result _ _ (atomic_weaker d c.rewrite_rewrite_queue.new.pipes n' (g.F.FileSystem.refusals_of c.args.file_system.now) (g.F.FileSystem.refusals_of c.rewrite_rewrite_queue.new.file_system) (λ e. HasNoId groups e ⊎ IsUnfitWhere P e) (λ e. HasNoId groups e ⊎ U e) (or_unfit (HasNoId groups) (IsUnfitWhere P) U (λ e unfit. inr (unfit_where P Q (λ v held. (owed, held)) e unfit)))) c.rewrite_rewrite_queue.ensures.purges.cause)
 
 pub returns-in-DropStale-clause-cause : goal.returns-in-DropStale-clause-cause
-returns-in-DropStale-clause-cause g c = rw c.in-DropStale.is c.purge_all_stale.ensures.cause
+returns-in-DropStale-clause-cause g c =
+    let d = c.args.pipes.now in
+    let t = tables_of c.args.tables.now in
+    let owed = owed_of c.args.owed.now in
+    let Q = IsLog (log_of d t owed (known_groups c.args.groups.now) (g.F.FileSystem.directory c.args.file_system.now)) in
+    let M = HaveOwedNoRecord t owed in
+    rw c.in-DropStale.is (IfErr-weaker c.purge_all_stale.result _ _ (refusal_weaker d c.purge_all_stale.new.pipes (g.F.FileSystem.directory c.purge_all_stale.new.file_system) (g.F.FileSystem.refusals_of c.args.file_system.now) (g.F.FileSystem.refusals_of c.purge_all_stale.new.file_system) M (λ e. M e ⊎ IsUnfitWhere Q e) (λ e none. inl none)) c.purge_all_stale.ensures.cause)
 
 pub rewrite_append_queue-requires-clause-some : goal.rewrite_append_queue-requires-clause-some
 rewrite_append_queue-requires-clause-some g c = λ κs within. ∥∥₁_map c.requires.some (λ x. (known_groups c.args.groups.now, x.0, x.1))
@@ -136,9 +146,12 @@ returns-in-DropExpired-clause-cause g c =
     let n = g.F.FileSystem.directory c.args.file_system.now in
     let Q = IsLog (log_of d t owed met n) in
     let P : LogValue → Type 0 = λ v. (x : Unit {0}) × IsLog (log_of d t owed met n) v in
+    let M = HaveOwedNoRecord (tables_of c.purge.new.tables) owed in
+    let U : Fault → Type 0 = λ e. M e ⊎ IsUnfitWhere P e in
+    let U' : Fault → Type 0 = λ e. M e ⊎ IsUnfitWhere Q e in
     let groups = c.purge.new.met in
     let n' = g.F.FileSystem.directory c.purge.new.file_system in
-    rw c.in-DropExpired.is (IfErr-weaker c.purge.result _ _ (atomic_weaker d c.purge.new.pipes n' (g.F.FileSystem.refusals_of c.args.file_system.now) (g.F.FileSystem.refusals_of c.purge.new.file_system) (λ e. HasNoId groups e ⊎ IsUnfitWhere P e) (λ e. HasNoId groups e ⊎ IsUnfitWhere Q e) (or_unfit groups (IsUnfitWhere P) (IsUnfitWhere Q) (unfit_where P Q (λ v held. (tt, held))))) c.purge.ensures.purges.cause)
+    rw c.in-DropExpired.is (IfErr-weaker c.purge.result _ _ (atomic_weaker d c.purge.new.pipes n' (g.F.FileSystem.refusals_of c.args.file_system.now) (g.F.FileSystem.refusals_of c.purge.new.file_system) (λ e. HasNoId groups e ⊎ U e) (λ e. HasNoId groups e ⊎ U' e) (or_unfit (HasNoId groups) U U' (or_unfit M (IsUnfitWhere P) (IsUnfitWhere Q) (unfit_where P Q (λ v held. (tt, held)))))) c.purge.ensures.purges.cause)
 
 -- The cache, where it isn't lent.
 
@@ -198,16 +211,19 @@ returns-in-DropExpired-clause-cut g c = rw c.in-DropExpired.is (on_ok_weaker c.p
 -- What is counted, and what stays.
 
 pub returns-in-RewriteAppend-clause-counted : goal.returns-in-RewriteAppend-clause-counted
-returns-in-RewriteAppend-clause-counted g c = λ is. absurd (let clash = sym c.in-RewriteAppend.is ∙ is in cc)
+returns-in-RewriteAppend-clause-counted g c = rw c.in-RewriteAppend.is (λ never. absurd never)
 
 pub returns-in-RewriteRewrite-clause-counted : goal.returns-in-RewriteRewrite-clause-counted
-returns-in-RewriteRewrite-clause-counted g c = λ is. c.rewrite_rewrite_queue.ensures.stats
+returns-in-RewriteRewrite-clause-counted g c = rw c.in-RewriteRewrite.is (λ only. c.rewrite_rewrite_queue.ensures.stats)
 
 pub returns-in-DropStale-clause-counted : goal.returns-in-DropStale-clause-counted
-returns-in-DropStale-clause-counted g c = λ is. absurd (let clash = sym c.in-DropStale.is ∙ is in cc)
+returns-in-DropStale-clause-counted g c = rw c.in-DropStale.is (λ never. absurd never)
+
+pub returns-in-DropExpired-clause-tables : goal.returns-in-DropExpired-clause-tables
+returns-in-DropExpired-clause-tables g c = rw c.in-DropExpired.is c.purge.ensures.only
 
 pub returns-in-DropExpired-clause-counted : goal.returns-in-DropExpired-clause-counted
-returns-in-DropExpired-clause-counted g c = λ is. absurd (let clash = sym c.in-DropExpired.is ∙ is in cc)
+returns-in-DropExpired-clause-counted g c = rw c.in-DropExpired.is (λ only. on_ok_weaker c.purge.result (λ stats. stats only.0 only.1) c.purge.ensures.stats)
 
 pub returns-in-RewriteAppend-clause-stale : goal.returns-in-RewriteAppend-clause-stale
 returns-in-RewriteAppend-clause-stale g c = λ is. absurd (let clash = sym c.in-RewriteAppend.is ∙ is in cc)
@@ -261,7 +277,8 @@ returns-in-RewriteGroups-clause-cause g c =
     let n = g.F.FileSystem.directory c.args.file_system.now in
     let Q = IsLog (log_of d t owed met n) in
     let P : LogValue → Type 0 = λ v. (k : KnownGroups) × IsLog (log_of d t owed k n) v in
-    rw c.in-RewriteGroups.is (IfErr-weaker c.rewrite_append_groups.result _ _ (refusal_weaker d c.rewrite_append_groups.new.pipes (g.F.FileSystem.directory c.rewrite_append_groups.new.file_system) (g.F.FileSystem.refusals_of c.args.file_system.now) (g.F.FileSystem.refusals_of c.rewrite_append_groups.new.file_system) (IsUnfitWhere P) (IsUnfitWhere Q) (unfit_where P Q (λ v held. (met, held)))) c.rewrite_append_groups.ensures.purges.cause)
+    let M = HaveOwedNoRecord (tables_of c.rewrite_append_groups.new.tables) owed in
+    rw c.in-RewriteGroups.is (IfErr-weaker c.rewrite_append_groups.result _ _ (refusal_weaker d c.rewrite_append_groups.new.pipes (g.F.FileSystem.directory c.rewrite_append_groups.new.file_system) (g.F.FileSystem.refusals_of c.args.file_system.now) (g.F.FileSystem.refusals_of c.rewrite_append_groups.new.file_system) (λ e. M e ⊎ IsUnfitWhere P e) (λ e. M e ⊎ IsUnfitWhere Q e) (or_unfit M (IsUnfitWhere P) (IsUnfitWhere Q) (unfit_where P Q (λ v held. (met, held))))) c.rewrite_append_groups.ensures.purges.cause)
 
 pub returns-in-RewriteGroups-clause-idle : goal.returns-in-RewriteGroups-clause-idle
 returns-in-RewriteGroups-clause-idle g c = rw c.in-RewriteGroups.is (if_ok c.rewrite_append_groups.result _ (λ never. absurd never))
@@ -274,7 +291,7 @@ pub returns-in-RewriteGroups-clause-cut : goal.returns-in-RewriteGroups-clause-c
 returns-in-RewriteGroups-clause-cut g c = rw c.in-RewriteGroups.is (on_ok_weaker c.rewrite_append_groups.result (λ cut none. cut 0 (none_cut none)) c.rewrite_append_groups.ensures.purges.cut)
 
 pub returns-in-RewriteGroups-clause-counted : goal.returns-in-RewriteGroups-clause-counted
-returns-in-RewriteGroups-clause-counted g c = λ is. absurd (let clash = sym c.in-RewriteGroups.is ∙ is in cc)
+returns-in-RewriteGroups-clause-counted g c = rw c.in-RewriteGroups.is (λ never. absurd never)
 
 pub returns-in-RewriteGroups-clause-stale : goal.returns-in-RewriteGroups-clause-stale
 returns-in-RewriteGroups-clause-stale g c = λ is. absurd (let clash = sym c.in-RewriteGroups.is ∙ is in cc)
