@@ -408,6 +408,7 @@ def main():
         tests.refused_repairs()
         tests.passed()
         tests.left_out()
+        tests.gone_queue()
         tests.failed_changes()
         tests.broken_off()
         tests.foreseen()

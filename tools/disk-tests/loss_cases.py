@@ -159,6 +159,27 @@ class Losses:
             self.expect(f"{words} is refused: {ran.stderr}", told)
         self.expect(f"{folder}: nothing is done", state_of(folder) == before)
 
+    def gone_queue(self):
+        """Where files of the Append queue were dropped, and none of the Rewrite queue stands, it is gone."""
+        folder = self.make("gone-queue")
+        self.run(folder, "rewrite", "append")
+        for name in logs_in(folder):
+            if name.endswith(".rewrite"):
+                os.unlink(os.path.join(folder, name))
+        before = state_of(folder)
+        ran = self.run(folder, "check")
+        self.expect(f"check tells it: {ran.stdout}", ran.returncode == 6 and b"queue rewrite files 0" in ran.stdout)
+        for words in ("get 1 5", "list", "stat", "dump", "consistency"):
+            ran = self.run(folder, *words.split())
+            self.expect(f"{words} tells it: {ran.stderr}", b"queue rewrite has no file" in ran.stderr)
+        for words in ("put 1 a b", "purge", "repair"):
+            ran = self.run(folder, *words.split())
+            self.expect(f"{words} is refused: {ran.stderr}", ran.returncode == 7 and b"queue rewrite" in ran.stderr)
+        self.expect("nothing is done", state_of(folder) == before)
+        ran = self.run(folder, "put", 1, "a", "b", "--cut")
+        self.expect(f"a change that goes on: {ran.stderr}", ran.returncode == 0 and b"queue rewrite" in ran.stderr)
+        self.expect("then it is there", self.run(folder, "check").returncode == 0)
+
     def failed_changes(self):
         """A change that fails before its opening keeps no file of what still stands, and tells what it moved."""
         folder = self.make("half")

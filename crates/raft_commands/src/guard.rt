@@ -78,7 +78,7 @@ fn found<F: FileSystem>(
     Ok(losses)
 }
 
-// The folders that aren't read and have files of the log. The lock is held, so that this look tells of a writer.
+// What of the log isn't read. The lock is held, so that this look tells of a writer.
 fn left_out(rt: &HostRuntime, losses: &Losses, request: &Request<'_>) -> Result<Vec<LeftOut>> {
     if losses.fails {
         return Ok(Vec::new(rt.alloc()));
@@ -138,7 +138,7 @@ pub(crate) fn note_passed(
     Ok(())
 }
 
-/// Tells of folders that have files of the log and aren't read.
+/// Tells of files of the log that aren't read.
 pub fn note_left_out(rt: &HostRuntime, left_out: &[LeftOut], request: &Request<'_>) -> Result<()> {
     for each in left_out {
         let text = told_left_out(rt.alloc(), each)?;
@@ -148,11 +148,16 @@ pub fn note_left_out(rt: &HostRuntime, left_out: &[LeftOut], request: &Request<'
 }
 
 fn told_left_out(alloc: Global, left_out: &LeftOut) -> Result<String, AllocError> {
-    let (folder, files, bytes) = (left_out.folder.as_str(), left_out.files, left_out.bytes);
-    format!(in alloc;
-        "files left out: {files} in the folder {folder}, {bytes} bytes, which go on with the numbers \
-        of those that are read; `--spill {folder}` reads them too"
-    )
+    match left_out {
+        LeftOut::Folder(folder, files, bytes) => format!(in alloc;
+            "files left out: {files} in the folder {folder}, {bytes} bytes, which go on with the \
+            numbers of those that are read; `--spill {folder}` reads them too"
+        ),
+        LeftOut::Rewrite(first) => format!(in alloc;
+            "queue rewrite has no file, and each opening makes one: what was written there before \
+            queue append began with number {first} is gone, or in a folder that isn't read"
+        ),
+    }
 }
 
 // What is told of files that an opening passes over.

@@ -70,6 +70,9 @@ pub(crate) const LEFT_OUT: &[FileParts] = &[
     ("second/0000000000000002.raftlog", &[HEADER, PUT]),
 ];
 
+/// Files of the Append queue were dropped, and the Rewrite queue has none.
+pub(crate) const NO_REWRITE: &[FileParts] = &[("0000000000000002.raftlog", &[HEADER, PUT])];
+
 /// Torn bytes, and a file beside that keeps what was cut off at this place before.
 pub(crate) const CUT_BEFORE: &[FileParts] = &[
     (FIRST, &[HEADER, PUT, TORN]),

@@ -106,7 +106,7 @@ impl Folder {
         Ok(found)
     }
 
-    /// The folders right below that have files of the log and aren't read.
+    /// What of the log isn't read: folders right below with files of it, or the Rewrite queue, where it is gone.
     pub fn left_out(&self) -> Result<Vec<LeftOut>> {
         ReadFiles {
             rt: self.rt,

@@ -1,4 +1,4 @@
-//! Folders below a log's that have files of it and aren't read, as a second one that no word names.
+//! Files of a log that aren't read: in a folder below, as a second one that no word names, or gone.
 
 use crate::faults::told;
 use crate::source::is_missing;
@@ -13,23 +13,32 @@ use std::io::ErrorKind;
 
 const LOCK: &str = "LOCK";
 
-/// A folder with files that an opening would keep, if it read them too, and how many log files it has.
+/// What an opening leaves out.
 #[derive(Drop)]
-pub struct LeftOut {
-    /// Its path from the log's folder on.
-    pub folder: String,
-    pub files: u64,
-    pub bytes: u64,
+pub enum LeftOut {
+    /// A folder, by its path from the log's on, with files that the opening would keep, if it read them too; and how
+    /// many log files it has, and bytes.
+    Folder(String, u64, u64),
+    /// The Rewrite queue: each opening makes a first file of it, and none stands. The number of the Append queue's
+    /// first file, before which files were dropped.
+    Rewrite(u64),
 }
 
 impl LeftOut {
     /// Adds a line that tells it.
     pub(crate) fn add_line(&self, lines: &mut Lines) -> Result<(), AllocError> {
-        lines.named(&[
-            ("left-out", Word::Bytes(self.folder.as_bytes())),
-            ("files", Word::Number(self.files)),
-            ("bytes", Word::Number(self.bytes)),
-        ])
+        match self {
+            LeftOut::Folder(folder, files, bytes) => lines.named(&[
+                ("left-out", Word::Bytes(folder.as_bytes())),
+                ("files", Word::Number(*files)),
+                ("bytes", Word::Number(*bytes)),
+            ]),
+            LeftOut::Rewrite(first) => lines.named(&[
+                ("queue", Word::Text("rewrite")),
+                ("files", Word::Number(0)),
+                ("append-first", Word::Number(*first)),
+            ]),
+        }
     }
 }
 
@@ -45,7 +54,7 @@ pub(crate) struct ReadFiles<'a> {
 
 impl ReadFiles<'_> {
     /// The folders right below that are left out: their files go on with the numbers of those that are read, and no
-    /// number is in both. One with a lock of its own is another log.
+    /// number is in both. One with a lock of its own is another log. Without one, the Rewrite queue, where it is gone.
     pub fn left_out(&self) -> Result<Vec<LeftOut>> {
         let mut found = Vec::new(self.rt.alloc());
         let entries = match fs::read_dir(&self.rt, self.path) {
@@ -60,7 +69,24 @@ impl ReadFiles<'_> {
                 Err(e) => return Err(anyhow!("{e}").context(self.path)),
             }
         }
+        if let (true, Some(first)) = (found.is_empty(), self.first_without_rewrite()) {
+            found.push(LeftOut::Rewrite(first))?;
+        }
         Ok(found)
+    }
+
+    // The number of the Append queue's first file, where files before it were dropped and the Rewrite queue has none.
+    fn first_without_rewrite(&self) -> Option<u64> {
+        let mut first = None;
+        for file in self.files {
+            match file.id.queue {
+                LogQueue::Rewrite => return None,
+                LogQueue::Append => {
+                    first = Some(first.map_or(file.id.seq, |least| file.id.seq.min(least)));
+                }
+            }
+        }
+        first.filter(|first| *first > 1)
     }
 
     fn add_entry(&self, entry: &DirEntry, found: &mut Vec<LeftOut>) -> Result<()> {
@@ -97,12 +123,8 @@ impl ReadFiles<'_> {
         for file in &there {
             bytes = bytes.saturating_add(self.view.size(file.path.as_str()).unwrap_or(0));
         }
-        found.push(LeftOut {
-            folder: String::from_str(alloc, folder)?,
-            files: there.len() as u64,
-            bytes,
-        })?;
-        Ok(())
+        let folder = String::from_str(alloc, folder)?;
+        Ok(found.push(LeftOut::Folder(folder, there.len() as u64, bytes))?)
     }
 
     // Whether a number is in both.
