@@ -4,6 +4,7 @@
 
 mod answer;
 mod calls;
+pub mod laws;
 mod numbers;
 mod open_log;
 mod opening;

@@ -1,0 +1,22 @@
+//! What calls on an open log leave, whatever they are.
+ghost use Rattle.std.specs.Prelude.{◌≡◌, List, false, pos, true};
+ghost use Rattle.raft_log_engine.specs.Engine.{IsAllSynced, has_failed};
+ghost use Rattle.raft_c_log.specs.Joined.{AreAnswered, Asked, LeadsOn, is_covering};
+ghost use Rattle.raft_c_log.specs.Outcomes.{HasEnded};
+ghost use Rattle.raft_c_log.specs.declared.answer.Answer.{Answer};
+ghost use Rattle.raft_c_log.specs.declared.calls.Change.{Change};
+
+use crate::OpenLog;
+use raft_env::FileSystem;
+
+/// What a sync covers stays. A change that makes sure of all, and ends with the code 0, leaves a log
+/// that stands and of which all is synced (`covered`). And whatever calls come then and however each
+/// ends, what was durable stays so, and a crash at any moment of the next one leaves it, with a prefix
+/// of what was written since and of what that call has in flight (`stays`).
+pub fn what_a_sync_covers_stays<F: FileSystem>(log: &OpenLog<F>)
+    ensures covered { (change : Change) (answer : Answer) (new : _) → is_covering change ≡ true
+        → HasEnded change (pos 0) log.now.engine new answer
+        → (has_failed new ≡ false) × IsAllSynced new }
+    ensures stays { (asked : List Asked) (new : _) → AreAnswered asked log.now.engine new
+        → LeadsOn log.now.engine new }
+{}
