@@ -63,17 +63,18 @@ class Calls:
         self.expect(f"call {call}: it is as it was", same)
 
     def refused_calls(self):
-        """A call that the system refuses is told with its text and the folder."""
+        """A call that the system refuses is told with its text, the call and the file."""
         folder = os.path.join(self.work, "refused-calls")
         self.run(folder, "load", 6, 40)
         # A first file of the Rewrite queue is made: a change of a folder that takes no new file.
         os.unlink(os.path.join(folder, f"{1:016}.rewrite"))
+        path = os.path.join(folder, f"{1:016}.rewrite").encode()
         for kind, number, code, texts in [
             ("opens", 1, errno.EACCES, [b"lock cannot be opened", b"ermission", folder.encode()]),
-            ("opens", 2, errno.EACCES, [b"file there can't be made", b"ermission", folder.encode()]),
-            ("pwrites", 1, errno.EDQUOT, [b"no space is left", b"free a block"]),
-            ("pwrites", 1, errno.EIO, [b"file there can't be written", b"Input/output", folder.encode()]),
-            ("fdatasyncs", 1, errno.EROFS, [b"file there can't be written", b"ead-only", folder.encode()]),
+            ("open", 2, errno.EACCES, [path, b": it cannot be made: Permission denied"]),
+            ("pwrites", 1, errno.EDQUOT, [path, b"it cannot be written: ", b"uota", b"free a block"]),
+            ("pwrite", 1, errno.EIO, [path, b": it cannot be written: Input/output error"]),
+            ("fdatasync", 1, errno.EROFS, [path, b": it cannot be synced: Read-only file system"]),
         ]:
             env = self.calling(FAIL=f"{kind}:{number}:{code}")
             before = logs_in(folder)
@@ -82,4 +83,22 @@ class Calls:
             self.expect(f"{kind} {number}: {ran.stderr}", ran.returncode == 1 and told)
             for name in logs_in(folder) - before:
                 os.unlink(os.path.join(folder, name))
-            self.expect("no file of the trial is left", not [it for it in os.listdir(folder) if ".trial" in it])
+        target = os.path.join(self.work, "refused-fork")
+        ran = self.run(folder, "fork", target, env=self.calling(FAIL=f"pwrite:1:{errno.EIO}"))
+        path = os.path.join(target, f"{1:016}.raftlog").encode()
+        told = path + b": it cannot be written: Input/output error" in ran.stderr
+        self.expect(f"a fork's refused call: {ran.stderr}", ran.returncode == 1 and told)
+
+    def long_paths(self):
+        """What is told of a long path is told to its end."""
+        folder = os.path.join(self.work, *(["long" * 10] * 8))
+        os.makedirs(folder)
+        self.run(folder, "load", 6, 40)
+        second = os.path.join(folder, f"{2:016}.raftlog")
+        os.symlink(os.path.join(folder, f"{1:016}.raftlog"), second)
+        wanted = second.encode() + b": neither a folder nor a file of one name"
+        ran = self.run(folder, "put", 1, "a", "b")
+        self.expect(f"a long path: {ran.stderr}", ran.returncode == 1 and wanted in ran.stderr)
+        missing = os.path.join(folder, "missing").encode()
+        ran = self.run(missing, "list")
+        self.expect(f"a long path: {ran.stderr}", ran.returncode == 1 and missing + b": No such file" in ran.stderr)

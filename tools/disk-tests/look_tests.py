@@ -8,17 +8,22 @@ Prints a line for each case that is wrong, and how many there were. Ends with st
 import json
 import os
 import re
+import resource
 import shutil
 import subprocess
 import sys
 import tempfile
 
 from call_cases import Calls
-from folders import bytes_of, logs_in, numbers_in, reserved_in, state_of
+from folders import add, bytes_of, flip, logs_in, numbers_in, reserved_in, state_of
 from loss_cases import Losses
 from stream_cases import Streams
 
 KEYS = 2000
+GB = 1 << 30
+STAMP = os.path.join(os.path.dirname(os.path.dirname(os.path.abspath(__file__))), "stamp")
+# The header of a record of 8,192 bytes, of which the last sixteen are its footer.
+HEAD = bytes([0, 0, 0, 0, 0, 0x20, 0, 0, 0, 0, 0, 0, 0, 0, 0x1F, 0xF0])
 # A record of a key and a value of 40 bytes has fewer bytes.
 RECORD = 80
 LOOKS = [
@@ -172,12 +177,69 @@ class Tests(Losses, Calls, Streams):
             stale += numbers["stale"] > 0
         self.expect("stale bytes are told", stale > 0)
 
+    def dropped(self, thresholds):
+        """A look begins again where a writer drops a file under it."""
+        folder = os.path.join(self.work, "dropped-under")
+        words = [self.program, folder, "load", 1000000, 40, "--sync-each", 1, "--purge-each", 50, "--settings", thresholds]
+        loading = subprocess.Popen([*map(str, words)], stdout=subprocess.PIPE, stderr=subprocess.DEVNULL)
+        for _ in range(100):
+            loading.stdout.readline()
+        for words in ["list", "stat", "check", "dump"] * 5:
+            ran = self.run(folder, words, "--settings", thresholds)
+            is_told = words in ("check", "dump") or b"is open already" in ran.stderr
+            self.expect(f"{words} beside a writer: {ran.stderr}", ran.returncode != 1 and is_told)
+        loading.kill()
+        loading.wait()
+        loading.stdout.close()
+
+    def pipes(self):
+        """A pipe in the lock's place is refused at once."""
+        folder = os.path.join(self.work, "pipe")
+        self.run(folder, "load", 6, 40)
+        os.unlink(os.path.join(folder, "LOCK"))
+        os.mkfifo(os.path.join(folder, "LOCK"))
+        for words in ("list", "check", "put 1 a b", "repair"):
+            ran = self.run(folder, *words.split())
+            self.expect(f"{words}: a pipe as the lock: {ran.stderr}", ran.returncode in (1, 5) and b"LOCK" in ran.stderr)
+
+    def searches(self):
+        """A search for stale records ends, and says so."""
+        folder = os.path.join(self.work, "heads")
+        self.run(folder, "load", 6, 40)
+        add(os.path.join(folder, f"{1:016}.raftlog"), HEAD * (1 << 16))
+        begun = resource.getrusage(resource.RUSAGE_CHILDREN).ru_utime
+        ran = self.run(folder, "check")
+        self.expect(f"check says that a search ended: {ran.stdout}", ran.returncode == 4 and b"rest unsearched" in ran.stdout)
+        self.expect("stat and get read it", [self.run(folder, *it).returncode for it in (["stat"], ["get", 1, 1])] == [0, 0])
+        taken = resource.getrusage(resource.RUSAGE_CHILDREN).ru_utime - begun
+        self.expect(f"a search is short: {taken:.0f} s", taken < 40)
+        ran = self.run(folder, "put", 1, "a", "b")
+        self.expect(f"a change is refused: {ran.stderr}", ran.returncode == 7 and b"too much to be searched" in ran.stderr)
+
+    def unread(self):
+        """An opening that wants no reserved file reads none."""
+        folder = os.path.join(self.work, "unread")
+        self.run(folder, "load", 6, 40)
+        reserved = os.path.join(folder, f"{1:016}.raftlog.reserved")
+        with open(reserved, "wb") as file:
+            file.truncate(64 * GB)
+        add(os.path.join(folder, f"{1:016}.raftlog"), HEAD)
+        flip(os.path.join(folder, f"{1:016}.raftlog"), 100)
+        limit = lambda: resource.setrlimit(resource.RLIMIT_AS, (8 * GB, 8 * GB))
+        ran = self.run(folder, "put", 1, "a", "b", preexec_fn=limit)
+        refused = ran.returncode == 7 and os.path.getsize(reserved) == 64 * GB
+        self.expect(f"a refused change leaves them: {ran.returncode} {ran.stderr}", refused)
+        ran = self.run(folder, "put", 1, "a", "b", "--cut", preexec_fn=limit)
+        self.expect(f"they are deleted: {ran.stderr}", ran.returncode == 0 and not reserved_in(folder))
+
     def second_folder(self):
         """A second folder that isn't there holds no file, and is not made."""
         folder = os.path.join(self.work, "one-of-two")
         self.run(folder, "load", 20, 40)
         for word in ("stat", "check", "get 1 5", "list"):
             self.leaves(folder, f"{word} --spill second", 0)
+        ran = self.run(folder, "fork", os.path.join(self.work, "one-of-two-copied"), "--spill", "second")
+        self.expect(f"a fork of it: {ran.stderr}", ran.returncode == 0)
 
     def holes(self):
         folder = os.path.join(self.work, "holes")
@@ -236,6 +298,10 @@ class Tests(Losses, Calls, Streams):
             file.write('target-file-size = "4KB"\npurge-threshold = "8KB"\nprefill-for-recycle = true\n')
         ran = self.run(folder, "put", 1, "a", "b", "--settings", path)
         self.expect(f"a prefill is told: {ran.stderr}", ran.returncode == 0 and b"8192 bytes in all" in ran.stderr)
+        sizes = [os.path.getsize(os.path.join(folder, name)) for name in reserved_in(folder)]
+        self.expect(f"a prefill is done: {sizes}", sizes == [4096, 4096])
+        ran = self.run(folder, "put", 1, "a", "b", "--settings", path)
+        self.expect(f"it is done once: {ran.stderr}", ran.returncode == 0 and b"in all" not in ran.stderr)
 
     def dumps(self):
         folder = os.path.join(self.work, "dumps")
@@ -306,7 +372,11 @@ class Tests(Losses, Calls, Streams):
         live = sum(it["live"] for it in told["by-group"])
         self.expect("its live bytes", live == told["live"] == sum(it["live"] for it in told["by-file"]) > KEYS * 40)
         ran = subprocess.run([self.program, "--version"], capture_output=True, timeout=20)
-        self.expect("the version", ran.returncode == 0 and b"0.1.0" in ran.stdout)
+        self.expect("the version", ran.returncode == 0 and b"0.1.0" in ran.stdout and b"commit unknown" in ran.stdout)
+        stamped = os.path.join(self.work, "stamped")
+        subprocess.run([sys.executable, STAMP, self.program, stamped], check=True)
+        ran = subprocess.run([stamped, "--version"], capture_output=True, timeout=20)
+        self.expect("the commit", ran.returncode == 0 and re.search(rb"commit [0-9a-f]{34}([0-9a-f]{6}|-dirty)\n", ran.stdout))
         ran = subprocess.run([self.program, "--completion"], capture_output=True, timeout=20)
         script = ran.stdout + b"COMP_WORDS=(raftctl log ge); COMP_CWORD=2; _raftctl; echo ${COMPREPLY[@]}"
         found = subprocess.run(["bash"], input=script, capture_output=True, timeout=20)
@@ -326,6 +396,10 @@ def main():
             file.write('target-file-size = "1KB"\npurge-threshold = "8KB"\n')
         tests.purges(thresholds)
         tests.killed(thresholds)
+        tests.dropped(thresholds)
+        tests.pipes()
+        tests.searches()
+        tests.unread()
         tests.second_folder()
         tests.holes()
         tests.guarded()
@@ -333,6 +407,10 @@ def main():
         tests.repairs_again()
         tests.refused_repairs()
         tests.passed()
+        tests.left_out()
+        tests.gone_queue()
+        tests.failed_changes()
+        tests.broken_off()
         tests.foreseen()
         tests.locked()
         tests.settings()
@@ -342,6 +420,7 @@ def main():
         tests.documents()
         tests.killed_forks()
         tests.refused_calls()
+        tests.long_paths()
         tests.closed_streams()
     print(f"{tests.tried} cases, {tests.bad} wrong")
     return 1 if tests.bad else 0

@@ -1,5 +1,7 @@
 """What commands that change a log do where its opening loses something."""
+import errno
 import os
+import shutil
 
 from folders import add, bytes_of, flip, logs_in, state_of
 
@@ -121,6 +123,115 @@ class Losses:
             ran = self.run(folder, *words.split())
             self.expect(f"{folder}: {words} is refused", ran.returncode == 7 and b"can't be told" in ran.stderr)
         self.expect(f"{folder}: nothing is done", state_of(folder) == before)
+
+    def left_out(self):
+        """Files of the log in a folder that isn't read are a loss, which check, looks, forks and changes tell."""
+        folder = self.make("left-out")
+        second = os.path.join(folder, "second")
+        os.mkdir(second)
+        for name in (min(logs_in(folder)), max(logs_in(folder))):
+            size = os.path.getsize(os.path.join(folder, name))
+            os.rename(os.path.join(folder, name), os.path.join(second, name))
+            self.leaves_out(folder, f"left-out second files 1 bytes {size}\n")
+            self.expect(f"{name}: with it all is there", self.run(folder, "check", "--spill", "second").returncode == 0)
+            os.rename(os.path.join(second, name), os.path.join(folder, name))
+        with open(os.path.join(second, min(logs_in(folder))), "wb") as file:
+            file.write(b"a copy")
+        self.expect("a copy is none of the log's", self.run(folder, "check").returncode == 0)
+        other = os.path.join(folder, "other")
+        self.run(other, "load", 60, 40, "--target", "200B")
+        for name in logs_in(other) & logs_in(folder):
+            os.unlink(os.path.join(other, name))
+        ran = self.run(folder, "put", 1, "a", "b")
+        self.expect(f"another log below hinders nothing: {ran.stderr}", ran.returncode == 0 and not ran.stderr)
+
+    def leaves_out(self, folder, told):
+        before = state_of(folder)
+        ran = self.run(folder, "check")
+        self.expect(f"check tells it: {ran.stdout}", ran.returncode == 6 and told.encode() in ran.stdout)
+        copy = os.path.join(self.work, f"left-{len(os.listdir(self.work))}")
+        for words in ("get 1 5", "list", "stat", "dump", "groups", "consistency", "entries 7", f"fork {copy}"):
+            ran = self.run(folder, *words.split())
+            self.expect(f"{words} tells it: {ran.stderr}", b"`--spill second`" in ran.stderr)
+        for words in ("put 1 a b", "purge", "repair"):
+            ran = self.run(folder, *words.split())
+            told = ran.returncode == 7 and b"`--spill second`" in ran.stderr
+            self.expect(f"{words} is refused: {ran.stderr}", told)
+        self.expect(f"{folder}: nothing is done", state_of(folder) == before)
+
+    def gone_queue(self):
+        """Where files of the Append queue were dropped, and none of the Rewrite queue stands, it is gone."""
+        folder = self.make("gone-queue")
+        self.run(folder, "rewrite", "append")
+        for name in logs_in(folder):
+            if name.endswith(".rewrite"):
+                os.unlink(os.path.join(folder, name))
+        before = state_of(folder)
+        ran = self.run(folder, "check")
+        self.expect(f"check tells it: {ran.stdout}", ran.returncode == 6 and b"queue rewrite files 0" in ran.stdout)
+        for words in ("get 1 5", "list", "stat", "dump", "consistency"):
+            ran = self.run(folder, *words.split())
+            self.expect(f"{words} tells it: {ran.stderr}", b"queue rewrite has no file" in ran.stderr)
+        for words in ("put 1 a b", "purge", "repair"):
+            ran = self.run(folder, *words.split())
+            self.expect(f"{words} is refused: {ran.stderr}", ran.returncode == 7 and b"queue rewrite" in ran.stderr)
+        self.expect("nothing is done", state_of(folder) == before)
+        ran = self.run(folder, "put", 1, "a", "b", "--cut")
+        self.expect(f"a change that goes on: {ran.stderr}", ran.returncode == 0 and b"queue rewrite" in ran.stderr)
+        self.expect("then it is there", self.run(folder, "check").returncode == 0)
+
+    def failed_changes(self):
+        """A change that fails before its opening keeps no file of what still stands, and tells what it moved."""
+        folder = self.make("half")
+        os.unlink(os.path.join(folder, f"{3:016}.raftlog"))
+        last = os.path.join(folder, max(logs_in(folder)))
+        add(last, b"torn")
+        before = state_of(folder)
+        ran = self.run(folder, "repair", "--cut", env=self.calling(FAIL=f"open:2:{errno.EIO}"))
+        self.expect(f"what can't be kept stays: {ran.stderr}", ran.returncode == 1 and state_of(folder) == before)
+        ran = self.run(folder, "repair", "--cut", env=self.calling(FAIL=f"rename:2:{errno.EIO}"))
+        aside = f"{1:016}.raftlog.passed"
+        self.expect(f"what was moved is told: {ran.stderr}", ran.returncode == 1 and aside.encode() in ran.stderr)
+        self.expect("it stands there", os.path.exists(os.path.join(folder, aside)))
+        self.expect("no cut is kept", not [name for name in os.listdir(folder) if ".cut-" in name])
+        folder = os.path.join(self.work, "half-ahead")
+        self.run(folder, "load", 6, 40)
+        add(os.path.join(folder, f"{1:016}.raftlog"), b"torn")
+        settings = os.path.join(self.work, "ahead.toml")
+        with open(settings, "w", encoding="ascii") as file:
+            file.write('target-file-size = "4KB"\npurge-threshold = "8KB"\nprefill-for-recycle = true\n')
+        ran = self.run(folder, "put", 1, "a", "b", "--settings", settings, env=self.calling(FAIL=f"open:3:{errno.EIO}"))
+        kept = [name for name in os.listdir(folder) if ".cut-" in name]
+        self.expect(f"no cut is kept: {ran.returncode} {ran.stderr} {kept}", ran.returncode == 1 and not kept)
+        self.expect("none is made", bytes_of(os.path.join(folder, f"{1:016}.raftlog")).endswith(b"torn"))
+
+    def broken_off(self):
+        """A change that is killed at one of its calls, or is refused one, leaves all evidence, and tells where it stands."""
+        base = self.make("whole-evidence")
+        os.unlink(os.path.join(base, f"{3:016}.raftlog"))
+        last = os.path.join(base, max(logs_in(base)))
+        add(last, b"a torn tail")
+        evidence = [b"a torn tail"] + [bytes_of(os.path.join(base, f"{number:016}.raftlog")) for number in (1, 2)]
+        for kind in ("KILL", "open", "write", "fsync", "fdatasync", "rename", "ftruncate"):
+            for words in ("repair --cut", "put 1 a b --cut"):
+                for call in range(1, 100):
+                    folder = os.path.join(self.work, "evidence")
+                    shutil.copytree(base, folder)
+                    env = {"KILL": str(call)} if kind == "KILL" else {"FAIL": f"{kind}:{call}:{errno.EIO}"}
+                    ran = self.run(folder, *words.split(), env=self.calling(**env))
+                    self.has_evidence(f"{words}, {kind} {call}: {ran.stderr}", folder, evidence)
+                    kept = [name.encode() for name in os.listdir(folder) if ".cut-" in name or ".passed" in name]
+                    if kind != "KILL":
+                        told = all(name in ran.stderr + ran.stdout for name in kept)
+                        self.expect(f"{words}, {kind} {call} tells {kept}: {ran.stderr}", told)
+                    shutil.rmtree(folder)
+                    if ran.returncode == 0:
+                        break
+
+    def has_evidence(self, case, folder, evidence):
+        stands = [bytes_of(os.path.join(folder, name)) for name in os.listdir(folder)]
+        lost = [data[:20] for data in evidence if not any(data in each for each in stands)]
+        self.expect(f"{case}: {lost} is lost", not lost)
 
     def foreseen(self):
         """Links and pipes under a log's own names are refused by an opening, and told by check."""

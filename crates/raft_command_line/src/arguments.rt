@@ -11,8 +11,10 @@ use raft_base::ReadableSize;
 use raft_config::RecoveryMode;
 use std::alloc::{AllocError, Global};
 
-/// The project's, and that of the crate whose files it reads and writes.
-const VERSION: &str = "0.1.0 (the files of raft-engine 0.4.2)";
+/// The project's, that of the crate whose files it reads and writes, and room for a commit, which `tools/stamp` writes
+/// into a copy of the program.
+const VERSION: &str = "0.1.0 (the files of raft-engine 0.4.2), \
+    commit unknown                                 ";
 
 /// What a line's kind may be, as `dump` prints it.
 const KINDS: [&str; 5] = ["put", "delete", "entry", "clean", "compact"];
@@ -238,7 +240,7 @@ fn command<'a>(alloc: Global) -> Result<Command<'a>, AllocError> {
         "The folder of the log; a command that changes it makes it where it is missing",
     );
     Command::new(alloc, "raftctl")
-        .version(VERSION)
+        .version(VERSION.trim_end())
         .about("Does one command on a log in a folder")
         .after_help(STATUSES)
         .subcommand_required(true)

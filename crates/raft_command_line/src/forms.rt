@@ -40,7 +40,7 @@ Statuses:
      consistency: a group's entries have a hole
   4  check: an opening would cut something off; dump: a file can't be read on
   5  check: an opening would fail
-  6  check: an opening would pass files over, since a number is missing behind them
+  6  check: an opening would pass files over, or leave out those of a folder
   7  a change was refused, and nothing done: its opening would lose more than an unsynced tail
      explains; look with check, cut and keep with repair, or say --cut
 

@@ -1,7 +1,6 @@
 //! Items of log files, of a folder or of one file anywhere.
 
-use crate::guard::note_passed;
-use crate::looks::{note_use, passed_in};
+use crate::looks::{note_unread, note_use};
 use anyhow::Result;
 use raft_command_line::{Dump, Options, Request};
 use raft_console::{Output, Progress, Status};
@@ -33,7 +32,7 @@ pub(crate) fn print_items(
     let folder = Folder::open(rt, request.folder, &request.options)?;
     note_use(&rt, &folder, request)?;
     if asked.file.is_none() {
-        note_passed(&rt, &passed_in(rt.alloc(), &folder, progress)?, request)?;
+        note_unread(&rt, &folder, request, progress)?;
     }
     dump(rt.alloc(), &folder, asked.file, filter, progress, out)
 }

@@ -1,5 +1,6 @@
 //! What the opening before a change would lose: the change is refused, or what is lost is kept.
 
+use crate::changed::ChangedFiles;
 use crate::kept::{free_name, keep};
 use crate::opening::config;
 use anyhow::{Result, anyhow};
@@ -8,6 +9,7 @@ use raft_console::{failure, note};
 use raft_dump::log_files;
 use raft_env::FileSystem;
 use raft_inspect::{Cut, Losses, Passed, Unexplained, queue_name};
+use raft_looks::{Folder, LeftOut};
 use raft_records::Fault;
 use std::alloc::{AllocError, Global};
 use std::{fs, io};
@@ -35,7 +37,7 @@ pub(crate) struct Taken {
 
 /// Finds what an opening of the request's folder loses, and keeps it in files beside; none where more
 /// is lost than an unsynced tail explains and no word allows that. Standard error tells why.
-pub(crate) fn guard<F: FileSystem>(
+pub(crate) fn guard<F: FileSystem + ChangedFiles>(
     rt: &HostRuntime,
     files: &mut F,
     request: &Request<'_>,
@@ -45,12 +47,14 @@ pub(crate) fn guard<F: FileSystem>(
         Ok(losses) => losses,
         Err(fault) => return Err(failure("the files cannot be checked", &fault)),
     };
-    let causes = match causes(alloc, files, &losses, request) {
+    let left_out = left_out(rt, &losses, request)?;
+    let causes = match causes(alloc, files, &losses, &left_out, request) {
         Ok(causes) => causes,
         Err(fault) => return Err(failure("the files cannot be checked", &fault)),
     };
     if causes.is_empty() {
         note_passed(rt, &losses.passed, request)?;
+        note_left_out(rt, &left_out, request)?;
         return Ok(Some(take(rt, files, &losses, request)?));
     }
     let folder = request.folder;
@@ -74,11 +78,20 @@ fn found<F: FileSystem>(
     Ok(losses)
 }
 
+// What of the log isn't read. The lock is held, so that this look tells of a writer.
+fn left_out(rt: &HostRuntime, losses: &Losses, request: &Request<'_>) -> Result<Vec<LeftOut>> {
+    if losses.fails {
+        return Ok(Vec::new(rt.alloc()));
+    }
+    Folder::open(*rt, request.folder, &request.options)?.left_out()
+}
+
 // Why the change is refused.
 fn causes<F: FileSystem>(
     alloc: Global,
     files: &mut F,
     losses: &Losses,
+    left_out: &[LeftOut],
     request: &Request<'_>,
 ) -> Result<Vec<String>, Fault> {
     let mut causes = Vec::new(alloc);
@@ -95,6 +108,9 @@ fn causes<F: FileSystem>(
     }
     for passed in &losses.passed {
         causes.push(told_of(alloc, *passed)?)?;
+    }
+    for each in left_out {
+        causes.push(told_left_out(alloc, each)?)?;
     }
     Ok(causes)
 }
@@ -122,6 +138,28 @@ pub(crate) fn note_passed(
     Ok(())
 }
 
+/// Tells of files of the log that aren't read.
+pub fn note_left_out(rt: &HostRuntime, left_out: &[LeftOut], request: &Request<'_>) -> Result<()> {
+    for each in left_out {
+        let text = told_left_out(rt.alloc(), each)?;
+        note(rt, &request.options, text.as_str())?;
+    }
+    Ok(())
+}
+
+fn told_left_out(alloc: Global, left_out: &LeftOut) -> Result<String, AllocError> {
+    match left_out {
+        LeftOut::Folder(folder, files, bytes) => format!(in alloc;
+            "files left out: {files} in the folder {folder}, {bytes} bytes, which go on with the \
+            numbers of those that are read; `--spill {folder}` reads them too"
+        ),
+        LeftOut::Rewrite(first) => format!(in alloc;
+            "queue rewrite has no file, and each opening makes one: what was written there before \
+            queue append began with number {first} is gone, or in a folder that isn't read"
+        ),
+    }
+}
+
 // What is told of files that an opening passes over.
 fn told_of(alloc: Global, passed: Passed) -> Result<String, AllocError> {
     let Passed {
@@ -140,26 +178,37 @@ fn told_of(alloc: Global, passed: Passed) -> Result<String, AllocError> {
 }
 
 // Keeps what is cut off, and moves aside what is passed over, where that is asked for.
-fn take<F: FileSystem>(
+fn take<F: FileSystem + ChangedFiles>(
     rt: &HostRuntime,
     files: &mut F,
     losses: &Losses,
     request: &Request<'_>,
 ) -> Result<Vec<Taken>> {
     let mut taken = Vec::new(rt.alloc());
-    if let (Verb::Repair, false) = (&request.verb, losses.passed.is_empty()) {
-        move_aside(rt, files, losses, request, &mut taken)?;
-    }
-    for cut in &losses.cuts {
-        match take_cut(rt, files, cut, request) {
-            Ok(cut) => taken.push(cut)?,
-            Err(error) => {
-                give_back(rt, request, &taken)?;
-                return Err(error);
-            }
+    match take_each(rt, files, losses, request, &mut taken) {
+        Ok(()) => Ok(taken),
+        Err(error) => {
+            give_back(rt, request, &taken)?;
+            note_moved(rt, request, &taken)?;
+            Err(error)
         }
     }
-    Ok(taken)
+}
+
+fn take_each<F: FileSystem + ChangedFiles>(
+    rt: &HostRuntime,
+    files: &mut F,
+    losses: &Losses,
+    request: &Request<'_>,
+    taken: &mut Vec<Taken>,
+) -> Result<()> {
+    for cut in &losses.cuts {
+        taken.push(take_cut(rt, files, cut, request)?)?;
+    }
+    if let (Verb::Repair, false) = (&request.verb, losses.passed.is_empty()) {
+        move_aside(rt, files, losses, request, taken)?;
+    }
+    Ok(())
 }
 
 // What an earlier file left is kept by a repair alone.
@@ -201,7 +250,7 @@ fn keep_cut<F: FileSystem>(
     }
 }
 
-fn move_aside<F: FileSystem>(
+fn move_aside<F: FileSystem + ChangedFiles>(
     rt: &HostRuntime,
     files: &mut F,
     losses: &Losses,
@@ -214,8 +263,10 @@ fn move_aside<F: FileSystem>(
         let kept = free_name(rt, request.folder, name.as_str())?;
         let len = fs::metadata(rt, format!(in alloc; "{}/{path}", request.folder)?.as_str())?.len();
         if let Err(fault) = files.rename(path.as_str(), kept.as_str()) {
+            files.tell_refusal(rt)?;
             let fault = fault.with_path(alloc, path.as_str());
-            return Err(failure("what is passed over cannot be moved aside", &fault));
+            let text = format!(in alloc; "what is passed over cannot be moved aside to {kept}")?;
+            return Err(failure(text.as_str(), &fault));
         }
         taken.push(Taken {
             path,
@@ -287,11 +338,30 @@ fn give_back_one(
     let alloc = rt.alloc();
     let log = format!(in alloc; "{}/{}", request.folder, taken.path)?;
     let copy = format!(in alloc; "{}/{kept}", request.folder)?;
-    if has_copied(rt, log.as_str(), offset, copy.as_str())? {
-        return Ok(fs::remove_file(rt, copy.as_str())?);
+    let is_left = match has_copied(rt, log.as_str(), offset, copy.as_str()) {
+        Ok(true) => fs::remove_file(rt, copy.as_str()).is_err(),
+        Ok(false) | Err(_) => true,
+    };
+    if is_left {
+        let (path, len) = (taken.path.as_str(), taken.len);
+        let text = format!(in alloc; "{kept} keeps {len} bytes of {path} from {offset} on")?;
+        note(rt, &request.options, text.as_str())?;
     }
-    let text = note_of(alloc, taken)?;
-    Ok(note(rt, &request.options, text.as_str())?)
+    Ok(())
+}
+
+// Where a change failed: tells of files that were moved aside before.
+fn note_moved(rt: &HostRuntime, request: &Request<'_>, taken: &[Taken]) -> Result<()> {
+    if request.options.changing.dry_run {
+        return Ok(());
+    }
+    for each in taken {
+        if let (None, Some(kept)) = (each.offset, &each.kept) {
+            let text = format!(in rt.alloc(); "{} was moved aside to {kept}", each.path)?;
+            note(rt, &request.options, text.as_str())?;
+        }
+    }
+    Ok(())
 }
 
 // Whether a file has the bytes of its copy at a place.

@@ -2,6 +2,7 @@
 #![tactic(auto)]
 
 mod absent;
+mod changed;
 mod changes;
 mod dumps;
 mod entries;
@@ -19,10 +20,10 @@ mod repair;
 mod spares;
 mod stat;
 mod stored;
-mod trial;
 mod waiting;
 mod writing;
 
+pub use guard::note_left_out;
 pub use looks::look;
 pub use opening::config;
 pub use writing::change;

@@ -47,7 +47,7 @@ pub(crate) fn read_value_file(
     let text = file_or_input(rt, path)?;
     match read_values(rt.alloc(), &text, Spelling::of(&request.options)) {
         Ok(values) => Ok(values),
-        Err(error) => Err(anyhow!("{path}: {error}")),
+        Err(error) => Err(error.context(path)),
     }
 }
 
@@ -61,7 +61,7 @@ pub(crate) fn read_entry_file(
     let read = read_entry_lines(rt.alloc(), &text, Spelling::of(&request.options));
     match read.and_then(|lines| values_in(rt.alloc(), lines)) {
         Ok(entries) => Ok(entries),
-        Err(error) => Err(anyhow!("{path}: {error}")),
+        Err(error) => Err(error.context(path)),
     }
 }
 

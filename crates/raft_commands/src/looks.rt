@@ -2,7 +2,7 @@
 
 use crate::absent::told_absent;
 use crate::dumps::print_items;
-use crate::guard::note_passed;
+use crate::guard::{note_left_out, note_passed};
 use crate::holes::print_holes;
 use crate::opening::open_image;
 use crate::pictures::print_picture;
@@ -72,7 +72,7 @@ fn look_once<R: Threads + Sync>(
     if let Look::Check = look {
         return check(rt.alloc(), &folder, &request.options, progress, out);
     }
-    note_passed(&rt, &passed_in(rt.alloc(), &folder, progress)?, request)?;
+    note_unread(&rt, &folder, request, progress)?;
     if let Look::Consistency = look {
         return print_holes(&rt, &folder, request, progress, out);
     }
@@ -104,12 +104,19 @@ pub(crate) fn note_use(rt: &HostRuntime, folder: &Folder, request: &Request<'_>)
     Ok(note(rt, &request.options, text.as_str())?)
 }
 
-/// The files that an opening passes over.
-pub(crate) fn passed_in(
-    alloc: Global,
+/// Tells of files that an opening passes over, or whose folder isn't read.
+pub(crate) fn note_unread(
+    rt: &HostRuntime,
     folder: &Folder,
+    request: &Request<'_>,
     progress: &mut Progress,
-) -> Result<Vec<Passed>> {
+) -> Result<()> {
+    note_left_out(rt, &folder.left_out()?, request)?;
+    note_passed(rt, &passed_in(rt.alloc(), folder, progress)?, request)
+}
+
+// The files that an opening passes over.
+fn passed_in(alloc: Global, folder: &Folder, progress: &mut Progress) -> Result<Vec<Passed>> {
     let mut passed = Vec::new(alloc);
     for queue in [LogQueue::Rewrite, LogQueue::Append] {
         if let Some(found) = folder.passed(queue, progress)? {

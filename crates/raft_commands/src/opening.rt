@@ -1,5 +1,6 @@
 //! Opens the log of files, and says of one that can't be opened where it is broken.
 
+use crate::changed::ChangedFiles;
 use anyhow::{Result, anyhow};
 use raft_command_line::{Options, mode_name};
 use raft_config::{Config, RecoveryMode};
@@ -14,7 +15,7 @@ use std::thread::Threads;
 /// Opens the log, whose files are read by as many workers as the settings in force have threads; in
 /// a dry run as one in memory. Where the disk has no space for the header of a last file, which holds
 /// nothing, the log is opened without that file.
-pub(crate) fn open<R: Threads + Sync, F: FileSystem + Drop>(
+pub(crate) fn open<R: Threads + Sync, F: FileSystem + ChangedFiles + Drop>(
     rt: &HostRuntime,
     threads: &R,
     files: F,
@@ -24,13 +25,14 @@ pub(crate) fn open<R: Threads + Sync, F: FileSystem + Drop>(
     if options.changing.dry_run {
         return open_image(threads, alloc, files, options);
     }
+    files.delete_unread(rt)?;
     match Engine::open_with_file_system(threads, alloc, config(alloc, options)?, files) {
         Ok(engine) => Ok(engine),
         Err(refused) => open_without_empty(rt, threads, refused, options),
     }
 }
 
-fn open_without_empty<R: Threads + Sync, F: FileSystem + Drop>(
+fn open_without_empty<R: Threads + Sync, F: FileSystem + ChangedFiles + Drop>(
     rt: &HostRuntime,
     threads: &R,
     refused: Refused<F>,
@@ -43,21 +45,30 @@ fn open_without_empty<R: Threads + Sync, F: FileSystem + Drop>(
     } = refused;
     if let Fault::Io(IoKind::NoSpace, _) = &fault {
         if delete_empty(rt, &mut file_system, options)? {
-            return open_over(
-                threads,
-                alloc,
-                config(alloc, options)?,
-                file_system,
-                options,
-            );
+            let config = config(alloc, options)?;
+            return match Engine::open_with_file_system(threads, alloc, config, file_system) {
+                Ok(engine) => Ok(engine),
+                Err(refused) => Err(told_refusal(rt, refused, options)),
+            };
         }
     }
-    Err(refusal(alloc, Refused { fault, file_system }, options))
+    Err(told_refusal(rt, Refused { fault, file_system }, options))
+}
+
+// What couldn't be opened; what the system refused is told.
+fn told_refusal<F: FileSystem + ChangedFiles + Drop>(
+    rt: &HostRuntime,
+    refused: Refused<F>,
+    options: &Options<'_>,
+) -> anyhow::Error {
+    // What can't be told hides no error.
+    let _ = refused.file_system.tell_refusal(rt);
+    refusal(rt.alloc(), refused, options)
 }
 
 // Deletes the last file of each queue that holds nothing, where another one stands before it, and tells
 // whether there was one. A rotation that finds no space leaves such a file.
-fn delete_empty<F: FileSystem>(
+fn delete_empty<F: FileSystem + ChangedFiles>(
     rt: &HostRuntime,
     files: &mut F,
     options: &Options<'_>,
@@ -69,6 +80,7 @@ fn delete_empty<F: FileSystem>(
             continue;
         };
         if let Err(fault) = files.delete(path.as_str()) {
+            files.tell_refusal(rt)?;
             let fault = fault.with_path(alloc, path.as_str());
             return Err(failure("an empty file cannot be deleted", &fault));
         }
@@ -107,26 +119,23 @@ pub(crate) fn open_image<R: Threads + Sync, F: FileSystem + Drop>(
     let mut config = config(alloc, options)?;
     config.enable_log_recycle = false;
     config.prefill_for_recycle = false;
-    open_over(threads, alloc, config, image, options)
-}
-
-fn open_over<R: Threads + Sync, F: FileSystem + Drop>(
-    threads: &R,
-    alloc: Global,
-    config: Config,
-    files: F,
-    options: &Options<'_>,
-) -> Result<Engine<F>> {
-    match Engine::open_with_file_system(threads, alloc, config, files) {
+    match Engine::open_with_file_system(threads, alloc, config, image) {
         Ok(engine) => Ok(engine),
         Err(refused) => Err(refusal(alloc, refused, options)),
     }
 }
 
-pub(crate) fn close<F: FileSystem + Drop>(engine: Engine<F>) -> Result<()> {
+/// Hands the files back.
+pub(crate) fn close<F: FileSystem + ChangedFiles + Drop>(
+    rt: &HostRuntime,
+    engine: Engine<F>,
+) -> Result<F> {
     match engine.close() {
-        Ok(_) => Ok(()),
-        Err(refused) => Err(failure("the log cannot be closed", &refused.fault)),
+        Ok(files) => Ok(files),
+        Err(refused) => {
+            refused.file_system.tell_refusal(rt)?;
+            Err(failure("the log cannot be closed", &refused.fault))
+        }
     }
 }
 

@@ -1,6 +1,7 @@
 //! Purges a log, and tells what became of its files.
 
-use crate::opening::{config, open};
+use crate::changed::ChangedFiles;
+use crate::opening::{close, config, open};
 use crate::stored::{Stored, Total};
 use anyhow::Result;
 use raft_command_line::{Options, Purge};
@@ -14,7 +15,7 @@ use std::thread::Threads;
 
 /// Purges the log, and prints a line for each group that is to be compacted, how many log files were
 /// dropped, and how many reserved files are kept to be used as next ones.
-pub(crate) fn purge<R: Threads + Sync, F: FileSystem + Drop>(
+pub(crate) fn purge<R: Threads + Sync, F: FileSystem + ChangedFiles + Drop>(
     rt: &HostRuntime,
     threads: &R,
     mut files: F,
@@ -27,7 +28,7 @@ pub(crate) fn purge<R: Threads + Sync, F: FileSystem + Drop>(
     let before = find(alloc, &mut files, options)?;
     progress.begin("the log is being opened")?;
     let engine = open(rt, threads, files, options)?;
-    let mut left = purge_and_close(alloc, engine, purge, &mut progress, out)?;
+    let mut left = purge_and_close(rt, engine, purge, &mut progress, out)?;
     let after = find(alloc, &mut left, options)?;
     let gone = before.gone(&left);
     add_total("dropped", gone, out)?;
@@ -81,23 +82,23 @@ fn find<F: FileSystem>(alloc: Global, files: &mut F, options: &Options<'_>) -> R
     }
 }
 
-fn purge_and_close<F: FileSystem + Drop>(
-    alloc: Global,
+fn purge_and_close<F: FileSystem + ChangedFiles + Drop>(
+    rt: &HostRuntime,
     mut engine: Engine<F>,
     purge: Purge,
     progress: &mut Progress,
     out: &mut Output,
 ) -> Result<F> {
     progress.begin("the log is being purged")?;
-    match asked_by(alloc, &mut engine, purge) {
+    match asked_by(rt.alloc(), &mut engine, purge) {
         Ok(groups) => add_groups(&groups, out)?,
-        Err(fault) => return Err(failure("the log cannot be purged", &fault)),
+        Err(fault) => {
+            engine.give_up().tell_refusal(rt)?;
+            return Err(failure("the log cannot be purged", &fault));
+        }
     }
     progress.begin("the log is being closed")?;
-    match engine.close() {
-        Ok(files) => Ok(files),
-        Err(refused) => Err(failure("the log cannot be closed", &refused.fault)),
-    }
+    close(rt, engine)
 }
 
 // Purges, and answers the groups whose compaction is asked for.

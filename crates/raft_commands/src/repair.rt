@@ -1,5 +1,6 @@
 //! Cuts off what an opening cuts, and keeps it in files beside.
 
+use crate::changed::ChangedFiles;
 use crate::guard::{Taken, give_back, guard};
 use crate::opening::{close, open};
 use anyhow::Result;
@@ -11,7 +12,7 @@ use std::thread::Threads;
 
 /// Opens the log in the mode of the options, and prints what that took out of its files and where it
 /// is kept. Where the log can't be opened nothing is cut, told or kept.
-pub(crate) fn repair<R: Threads + Sync, F: FileSystem + Drop>(
+pub(crate) fn repair<R: Threads + Sync, F: FileSystem + ChangedFiles + Drop>(
     rt: &HostRuntime,
     threads: &R,
     mut files: F,
@@ -24,7 +25,7 @@ pub(crate) fn repair<R: Threads + Sync, F: FileSystem + Drop>(
     match open(rt, threads, files, &request.options) {
         Ok(engine) => {
             add_taken(&taken, false, out)?;
-            close(engine)?;
+            close(rt, engine)?;
             Ok(Status::Done)
         }
         Err(error) => {

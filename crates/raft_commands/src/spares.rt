@@ -1,51 +1,114 @@
-//! What an opening writes ahead.
+//! What is written ahead of an opening.
 
+use crate::changed::ChangedFiles;
 use crate::opening::config;
 use crate::stored::Stored;
 use anyhow::Result;
 use raft_command_line::Options;
-use raft_console::{failure, note};
+use raft_config::Config;
+use raft_console::{Progress, failure, note};
 use raft_env::FileSystem;
+use raft_opening::SpareLimits;
+use raft_opening::prefill::prefill;
+use raft_pipes::LogFolders;
 use raft_records::Fault;
 use std::alloc::Global;
 
-/// Tells how many bytes of reserved files the opening is about to write, where it makes any.
-pub(crate) fn note_prefill<F: FileSystem>(
+/// Reserved files that are wanted.
+#[derive(Drop)]
+struct Spares {
+    config: Config,
+    append_files: usize,
+    /// How many there are, and how many there are to be.
+    found: usize,
+    count: usize,
+}
+
+/// Makes the reserved files that the opening wants, one after the other: tells before how many bytes
+/// that is, and meanwhile how far it is. Where no space is left the opening does without.
+pub(crate) fn make_ahead<F: FileSystem + ChangedFiles>(
     rt: &HostRuntime,
     files: &mut F,
     options: &Options<'_>,
 ) -> Result<()> {
-    match wanted(rt.alloc(), files, options) {
-        Ok((0, _)) => Ok(()),
-        Ok((count, size)) => {
-            let bytes = count.saturating_mul(size);
-            let text = format!(in rt.alloc();
-                "prefill-for-recycle: {count} reserved files of {size} bytes are written ahead, \
-                {bytes} bytes in all"
-            )?;
-            Ok(note(rt, options, text.as_str())?)
+    let wanted = match wanted(rt.alloc(), files, options) {
+        Ok(Some(wanted)) => wanted,
+        Ok(None) => return Ok(()),
+        Err(fault) => return Err(failure("the log cannot be measured", &fault)),
+    };
+    let count = wanted.count.saturating_sub(wanted.found) as u64;
+    let size = wanted.config.target_file_size.0;
+    let bytes = count.saturating_mul(size);
+    let text = format!(in rt.alloc();
+        "prefill-for-recycle: {count} reserved files of {size} bytes are written ahead, \
+        {bytes} bytes in all"
+    )?;
+    note(rt, options, text.as_str())?;
+    let mut progress = Progress::new(*rt, options.quiet)?;
+    for place in wanted.found..wanted.count {
+        let done = place.saturating_sub(wanted.found) as u64;
+        progress.at("reserved files written ahead", done, count)?;
+        match make_next(rt.alloc(), files, &wanted, place) {
+            Ok(true) => {}
+            Ok(false) => return Ok(()),
+            Err(fault) => {
+                files.tell_refusal(rt)?;
+                return Err(failure("files cannot be made ahead", &fault));
+            }
         }
-        Err(fault) => Err(failure("the log cannot be measured", &fault)),
     }
+    Ok(())
 }
 
-// How many reserved files are wanting, and the bytes of each.
+// Makes one more where there are so many, and tells whether there was space for it.
+fn make_next<F: FileSystem>(
+    alloc: Global,
+    files: &mut F,
+    wanted: &Spares,
+    place: usize,
+) -> Result<bool, Fault> {
+    let config = &wanted.config;
+    let folders = LogFolders::new(config)?;
+    let found = folders.find_reserved(alloc, files)?;
+    let limits = SpareLimits {
+        recycle: config.recycle_capacity(),
+        prefill: place.saturating_add(1),
+    };
+    let size = config.target_file_size.0 as usize;
+    let made = prefill(
+        alloc,
+        &folders,
+        found,
+        wanted.append_files,
+        limits,
+        size,
+        files,
+    )?;
+    Ok(made.len() > place)
+}
+
+// None where none is wanting.
 fn wanted<F: FileSystem>(
     alloc: Global,
     files: &mut F,
     options: &Options<'_>,
-) -> Result<(u64, u64), Fault> {
+) -> Result<Option<Spares>, Fault> {
     let mut config = config(alloc, options)?;
     if options.changing.dry_run || !config.prefill_for_recycle || config.sanitize().is_err() {
-        return Ok((0, 0));
+        return Ok(None);
     }
     let stored = Stored::find(alloc, files, options)?;
-    let room = config
-        .recycle_capacity()
-        .saturating_sub(stored.append_files());
-    let wanted = config.prefill_capacity().min(room) as u64;
-    Ok((
-        wanted.saturating_sub(stored.reserved.files),
-        config.target_file_size.0,
-    ))
+    let append_files = stored.append_files();
+    let room = config.recycle_capacity().saturating_sub(append_files);
+    let count = config.prefill_capacity().min(room);
+    let found = usize::try_from(stored.reserved.files).unwrap_or(usize::MAX);
+    if found >= count {
+        return Ok(None);
+    }
+    Ok(Some(Spares {
+        config,
+        append_files,
+        found,
+        count,
+    }))
 }

@@ -1,8 +1,10 @@
 //! Opens a folder for a change, and waits for it where that is asked for.
 
-use anyhow::{Result, anyhow, bail};
+use crate::opening::config;
+use anyhow::{Result, anyhow};
 use raft_command_line::Request;
 use raft_disk::{DiskFileSystem, FolderView, OpenFault};
+use raft_looks::told;
 use std::thread;
 use std::time::Duration;
 
@@ -14,16 +16,25 @@ const TRIES: u64 = 10;
 pub(crate) fn open_folder(rt: HostRuntime, request: &Request<'_>) -> Result<DiskFileSystem> {
     let tries = request.options.changing.wait.saturating_mul(TRIES);
     for turn in 0..=tries {
-        match DiskFileSystem::open_with(rt, request.folder, request.options.spill) {
+        match open_once(rt, request) {
             Ok(files) => return Ok(files),
             Err(OpenFault::InUse(_)) if turn < tries => {
                 thread::sleep(&rt, Duration::from_millis(1000 / TRIES));
             }
             Err(OpenFault::InUse(_)) => return Err(in_use(rt, request.folder)),
-            Err(fault) => bail!("{fault}"),
+            Err(fault) => return Err(told(&rt, &fault)),
         }
     }
     Err(in_use(rt, request.folder))
+}
+
+// Reserved files are read where the settings want such files alone.
+fn open_once(rt: HostRuntime, request: &Request<'_>) -> Result<DiskFileSystem, OpenFault> {
+    let (folder, spill) = (request.folder, request.options.spill);
+    if config(rt.alloc(), &request.options)?.prefill_for_recycle {
+        return DiskFileSystem::open_with(rt, folder, spill);
+    }
+    DiskFileSystem::open_without_reserved(rt, folder, spill)
 }
 
 fn in_use(rt: HostRuntime, folder: &str) -> anyhow::Error {

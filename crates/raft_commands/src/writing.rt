@@ -1,5 +1,6 @@
 //! Commands that change a log.
 
+use crate::changed::ChangedFiles;
 use crate::changes::{Change, write};
 use crate::entries::{append, compact};
 use crate::guard::{give_back, guard, note_taken};
@@ -8,12 +9,11 @@ use crate::numbered::load;
 use crate::opening::{close, open};
 use crate::purging::purge;
 use crate::repair::repair;
-use crate::spares::note_prefill;
-use crate::trial::tell_refusal;
+use crate::spares::make_ahead;
 use crate::waiting::open_folder;
-use anyhow::{Error, Result, anyhow};
+use anyhow::{Result, anyhow};
 use raft_command_line::{Request, Verb};
-use raft_console::{Output, Progress, Status, bytes_of, failure, is_refusal};
+use raft_console::{Output, Progress, Status, bytes_of, failure};
 use raft_env::FileSystem;
 use raft_log_engine::Engine;
 use raft_looks::Folder;
@@ -33,20 +33,11 @@ pub fn change<R: Threads + Sync>(
     }
     let files = open_folder(rt, request)?;
     let changed = change_files(&rt, threads, files, request);
-    if let Err(error) = &changed {
+    if changed.is_err() {
         // What can't be told hides no error.
-        let _ = tell_causes(rt, request, error);
+        let _ = tell_hindrances(rt, request);
     }
     changed
-}
-
-// What the system says, where a change failed.
-fn tell_causes(rt: HostRuntime, request: &Request<'_>, error: &Error) -> Result<()> {
-    tell_hindrances(rt, request)?;
-    if is_refusal(rt.alloc(), error)? {
-        tell_refusal(&rt, request.folder)?;
-    }
-    Ok(())
 }
 
 // What the system refuses of the log's own files, where a change failed.
@@ -74,7 +65,7 @@ fn change_image<R: Threads + Sync>(
     }
 }
 
-fn change_files<R: Threads + Sync, F: FileSystem + Drop>(
+fn change_files<R: Threads + Sync, F: FileSystem + ChangedFiles + Drop>(
     rt: &HostRuntime,
     threads: &R,
     mut files: F,
@@ -87,7 +78,10 @@ fn change_files<R: Threads + Sync, F: FileSystem + Drop>(
     let Some(taken) = guard(rt, &mut files, request)? else {
         return Ok(Status::Refused);
     };
-    note_prefill(rt, &mut files, &request.options)?;
+    if let Err(error) = make_ahead(rt, &mut files, &request.options) {
+        give_back(rt, request, &taken)?;
+        return Err(error);
+    }
     let changed = match &request.verb {
         Verb::Purge(which) => purge(rt, threads, files, *which, &request.options, &mut out),
         _ => change_log(rt, threads, files, request, &mut out),
@@ -105,7 +99,7 @@ fn change_files<R: Threads + Sync, F: FileSystem + Drop>(
     }
 }
 
-fn change_log<R: Threads + Sync, F: FileSystem + Drop>(
+fn change_log<R: Threads + Sync, F: FileSystem + ChangedFiles + Drop>(
     rt: &HostRuntime,
     threads: &R,
     files: F,
@@ -113,9 +107,12 @@ fn change_log<R: Threads + Sync, F: FileSystem + Drop>(
     out: &mut Output,
 ) -> Result<Status> {
     let mut engine = open(rt, threads, files, &request.options)?;
-    carry_out(rt, &mut engine, request, out)?;
+    if let Err(error) = carry_out(rt, &mut engine, request, out) {
+        engine.give_up().tell_refusal(rt)?;
+        return Err(error);
+    }
     if request.sync {
-        close(engine)?;
+        close(rt, engine)?;
     }
     Ok(Status::Done)
 }

@@ -43,6 +43,6 @@ pub fn file_or_input(rt: &HostRuntime, path: &str) -> Result<Vec<u8>> {
 fn file(rt: &HostRuntime, path: &str) -> Result<Vec<u8>> {
     match fs::read(rt, path) {
         Ok(bytes) => Ok(bytes),
-        Err(e) => bail!("{path}: {e}"),
+        Err(e) => Err(anyhow!("{e}").context(path)),
     }
 }

@@ -16,17 +16,8 @@ pub use progress::Progress;
 use raft_base::{Fault, IoKind};
 use raft_command_line::Options;
 pub use status::Status;
-use std::alloc::{AllocError, Global};
 use std::io;
 pub use streams::take_closed_streams;
-
-/// What is told of a call whose fault has no text of the system's.
-const REFUSED: &str = "the system refused a call on it";
-
-/// Whether such a call is told of.
-pub fn is_refusal(alloc: Global, error: &anyhow::Error) -> Result<bool, AllocError> {
-    Ok(format!(in alloc; "{error:#}")?.contains(REFUSED))
-}
 
 /// What couldn't be done, why, and what helps. What couldn't be done and why have room for 120 bytes each.
 pub fn failure(what: &str, fault: &Fault) -> anyhow::Error {
@@ -42,7 +33,7 @@ fn cause_of(fault: &Fault) -> anyhow::Error {
             "no space is left, in two files: free a block or more; all that was answered stands"
         ),
         Fault::Io(IoKind::NotFound, path) => anyhow!("{path}: the system finds no such file"),
-        Fault::Io(IoKind::Other, path) => anyhow!("{path}: {REFUSED}"),
+        Fault::Io(IoKind::Other, path) => anyhow!("{path}: the system refused a call on it"),
         Fault::Lz4 => anyhow!("{fault}; entries that Lz4 compressed are read by raft-engine alone"),
         _ => anyhow!("{fault}"),
     }

@@ -9,7 +9,7 @@ pub enum Status {
     WouldCut,
     /// An opening would fail.
     WouldFail,
-    /// An opening would pass log files over, since a number is missing behind them.
+    /// An opening would pass log files over, since a number is missing behind them or their folder isn't read.
     WouldPass,
     /// A change was refused before anything was done, since its opening would lose more than an
     /// unsynced tail explains.

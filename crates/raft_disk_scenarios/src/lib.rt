@@ -11,4 +11,8 @@ mod openings;
 #[cfg(test)]
 mod reads;
 #[cfg(test)]
+mod refusals;
+#[cfg(test)]
+mod reserved;
+#[cfg(test)]
 mod views;

@@ -2,7 +2,8 @@
 //! lost is kept in files beside.
 
 use crate::files::{
-    CUT_BEFORE, FileParts, GAP, PUT, TORN, TORN_END, TORN_FRONT, TORN_MIDDLE, WHOLE, make,
+    CUT_BEFORE, FileParts, GAP, LEFT_OUT, NO_REWRITE, PUT, TORN, TORN_END, TORN_FRONT, TORN_MIDDLE,
+    WHOLE, make,
 };
 use crate::standing::standing;
 use crate::words::words_of;
@@ -35,7 +36,7 @@ const KEPT_AGAIN: &[FileParts] = &[
     ("0000000000000001.raftlog.cut-89.2", &[TORN]),
 ];
 
-static CASES: [Case; 16] = [
+static CASES: [Case; 20] = [
     Case(WHOLE, PUTS, Some(0), &[], false),
     Case(TORN_MIDDLE, PUTS, Some(7), &[], true),
     Case(TORN_MIDDLE, &["purge"], Some(7), &[], true),
@@ -69,6 +70,16 @@ static CASES: [Case; 16] = [
     Case(GAP, PUTS, Some(7), &[], true),
     Case(GAP, &["repair"], Some(7), &[], true),
     Case(GAP, PUTS_CUT, Some(0), &[], false),
+    Case(NO_REWRITE, PUTS, Some(7), &[], true),
+    Case(LEFT_OUT, PUTS, Some(7), &[], true),
+    Case(LEFT_OUT, PUTS_CUT, Some(0), &[], false),
+    Case(
+        LEFT_OUT,
+        &["put", "1", "b", "c", "--spill", "second"],
+        Some(0),
+        &[],
+        true,
+    ),
     Case(
         GAP,
         &["rewrite", "append", "--dry-run", "--cut"],

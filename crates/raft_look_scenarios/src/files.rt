@@ -64,13 +64,22 @@ pub(crate) const GAP: &[FileParts] = &[
     ("0000000000000003.raftlog", &[HEADER, PUT]),
 ];
 
+/// The last file stands in a folder below.
+pub(crate) const LEFT_OUT: &[FileParts] = &[
+    (FIRST, &[HEADER, PUT, ENTRY]),
+    ("second/0000000000000002.raftlog", &[HEADER, PUT]),
+];
+
+/// Files of the Append queue were dropped, and the Rewrite queue has none.
+pub(crate) const NO_REWRITE: &[FileParts] = &[("0000000000000002.raftlog", &[HEADER, PUT])];
+
 /// Torn bytes, and a file beside that keeps what was cut off at this place before.
 pub(crate) const CUT_BEFORE: &[FileParts] = &[
     (FIRST, &[HEADER, PUT, TORN]),
     ("0000000000000001.raftlog.cut-89", &[PUT]),
 ];
 
-/// Makes a folder for one test with these files.
+/// Makes a folder for one test with these files, of which one may stand in a folder below.
 pub(crate) fn make(
     rt: &HostRuntime,
     name: &str,
@@ -78,7 +87,10 @@ pub(crate) fn make(
 ) -> io::Result<String> {
     let folder = temp_folder(rt, name)?;
     for (file, parts) in files {
-        let place = format!(in rt.alloc(); "{}/{file}", folder.as_str())?;
+        if let Some((below, _)) = file.rsplit_once('/') {
+            fs::create_dir(rt, format!(in rt.alloc(); "{folder}/{below}")?.as_str())?;
+        }
+        let place = format!(in rt.alloc(); "{folder}/{file}")?;
         let mut bytes = Vec::new(rt.alloc());
         for part in *parts {
             bytes.extend_from_slice(part)?;

@@ -1,6 +1,6 @@
 //! Each look at a folder, with what it prints and its status, also at one that may not be written.
 
-use crate::files::{FileParts, GAP, TORN_END, TORN_FRONT, WHOLE, make};
+use crate::files::{FileParts, GAP, LEFT_OUT, TORN_END, TORN_FRONT, WHOLE, make};
 use crate::standing::{set_writable, standing};
 use anyhow::anyhow;
 use raft_command_line::{Changing, Options};
@@ -59,6 +59,13 @@ const CHECK_GAP: &str = "\
     mode tail opening opens files-cut 0 bytes-lost 0 zeros 0 stale 0 files-passed 1 bytes-passed 120\n\
     mode any opening opens files-cut 0 bytes-lost 0 zeros 0 stale 0 files-passed 1 bytes-passed 120\n";
 
+const CHECK_LEFT_OUT: &str = "\
+    file 0000000000000001.raftlog version 1 records 2 read 120 size 120 rest none absolute keep tail keep any keep\n\
+    left-out second files 1 bytes 89\n\
+    mode absolute opening opens files-cut 0 bytes-lost 0 zeros 0 stale 0 files-passed 0 bytes-passed 0\n\
+    mode tail opening opens files-cut 0 bytes-lost 0 zeros 0 stale 0 files-passed 0 bytes-passed 0\n\
+    mode any opening opens files-cut 0 bytes-lost 0 zeros 0 stale 0 files-passed 0 bytes-passed 0\n";
+
 const DUMP: &str = "\
     rewrite\t4\t61\t1\tput\ta\t1\tx\n\
     rewrite\t4\t89\t1\tput\ta\t1\tx\n\
@@ -97,7 +104,7 @@ const BEHIND_1: Filter = Filter {
     to: None,
 };
 
-static CASES: [Case; 12] = [
+static CASES: [Case; 13] = [
     Case {
         name: "check",
         files: WHOLE,
@@ -145,6 +152,12 @@ static CASES: [Case; 12] = [
         files: GAP,
         look: Look::Check,
         told: Some((6, CHECK_GAP)),
+    },
+    Case {
+        name: "check-left-out",
+        files: LEFT_OUT,
+        look: Look::Check,
+        told: Some((6, CHECK_LEFT_OUT)),
     },
     Case {
         name: "dump-group",

@@ -2,6 +2,7 @@
 
 use crate::folder::Folder;
 use crate::hindrances::Hindrance;
+use crate::left_out::LeftOut;
 use anyhow::Result;
 use raft_command_line::{Options, mode_name};
 use raft_config::RecoveryMode;
@@ -10,12 +11,13 @@ use raft_inspect::{Outlook, QueueFiles, Word, add_queue};
 use raft_records::{Fault, LogQueue};
 use std::alloc::Global;
 
-/// What can be read of the log files of both queues, and what else an opening would be refused for.
+/// What can be read of the log files of both queues, what else an opening would be refused for, and what isn't read.
 #[derive(Drop)]
 struct Found {
     append: QueueFiles,
     rewrite: QueueFiles,
     hindrances: Vec<Hindrance>,
+    left_out: Vec<LeftOut>,
 }
 
 /// Prints a line for each file, and says what an opening in each mode would do; none where a file is
@@ -37,6 +39,7 @@ pub fn check(
         append,
         rewrite,
         hindrances: folder.hindrances()?,
+        left_out: folder.left_out()?,
     };
     match add_check(alloc, folder, &found, options.mode, out) {
         Ok(status) => Ok(Some(status)),
@@ -57,6 +60,9 @@ fn add_check(
     for hindrance in &found.hindrances {
         hindrance.add_line(&mut out.lines)?;
     }
+    for left_out in &found.left_out {
+        left_out.add_line(&mut out.lines)?;
+    }
     let mut status = Status::Done;
     for each in [
         RecoveryMode::AbsoluteConsistency,
@@ -66,7 +72,7 @@ fn add_check(
         let outlook = outlook_of(alloc, found, each)?;
         add_outlook(each, outlook, out)?;
         if each == mode {
-            status = status_of(outlook);
+            status = status_of(outlook, !found.left_out.is_empty());
         }
     }
     Ok(status)
@@ -112,10 +118,10 @@ fn add_outlook(mode: RecoveryMode, outlook: Outlook, out: &mut Output) -> Result
 }
 
 // Room that was made ahead, and what an earlier file left, hold nothing that could be lost.
-fn status_of(outlook: Outlook) -> Status {
+fn status_of(outlook: Outlook, has_left_out: bool) -> Status {
     if outlook.fails {
         Status::WouldFail
-    } else if outlook.passed > 0 {
+    } else if outlook.passed > 0 || has_left_out {
         Status::WouldPass
     } else if outlook.files > 0 {
         Status::WouldCut

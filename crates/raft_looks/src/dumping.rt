@@ -113,6 +113,14 @@ fn dump_parts(
     Ok(None)
 }
 
+// Where a record of a part stands in the file.
+fn place_in_file(parts: &LogFileParts, place: RecordPlace) -> RecordPlace {
+    RecordPlace {
+        id: place.id,
+        offset: parts.place_of(place.offset),
+    }
+}
+
 // Prints the items of a part, and says where and why the reading stops before its end.
 fn dump_part(
     alloc: Global,
@@ -146,10 +154,7 @@ fn dump_part(
                 break;
             }
         };
-        let there = RecordPlace {
-            id: place.id,
-            offset: parts.place_of(place.offset),
-        };
+        let there = place_in_file(parts, place);
         if let Err(fault) = add_item(
             alloc,
             image,

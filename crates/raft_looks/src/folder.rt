@@ -1,6 +1,8 @@
 //! A folder that is looked at: its log files, one by one or all in memory.
 
+use crate::faults::told;
 use crate::hindrances::{Hindrance, add_hindrances};
+use crate::left_out::{LeftOut, ReadFiles};
 use crate::reserved::is_reserved;
 use crate::source::{FileSource, is_missing};
 use anyhow::{Result, bail};
@@ -52,7 +54,7 @@ impl Folder {
         let alloc = rt.alloc();
         let view = match FolderView::open(rt, path) {
             Ok(view) => view,
-            Err(fault) => bail!("{fault}"),
+            Err(fault) => return Err(told(&rt, &fault)),
         };
         let mut folder = Folder {
             rt,
@@ -75,7 +77,7 @@ impl Folder {
     fn add(&mut self, folder: &str) -> Result<()> {
         match self.view.names(folder) {
             Ok(names) => self.add_names(folder, names),
-            Err(fault) => bail!("{fault}"),
+            Err(fault) => Err(told(&self.rt, &fault)),
         }
     }
 
@@ -84,7 +86,7 @@ impl Folder {
         match self.view.names(folder) {
             Ok(names) => self.add_names(folder, names),
             Err(fault) if is_missing(&fault) => Ok(()),
-            Err(fault) => bail!("{fault}"),
+            Err(fault) => Err(told(&self.rt, &fault)),
         }
     }
 
@@ -102,6 +104,18 @@ impl Folder {
             add_hindrances(&self.rt, place.as_str(), &mut found)?;
         }
         Ok(found)
+    }
+
+    /// What of the log isn't read: folders right below with files of it, or the Rewrite queue, where it is gone.
+    pub fn left_out(&self) -> Result<Vec<LeftOut>> {
+        ReadFiles {
+            rt: self.rt,
+            view: &self.view,
+            path: self.path.as_str(),
+            spill: self.spill.as_ref().map(|spill| spill.as_str()),
+            files: &self.files,
+        }
+        .left_out()
     }
 
     fn add_names(&mut self, folder: &str, names: Vec<String>) -> Result<()> {
@@ -144,7 +158,7 @@ impl Folder {
         match self.view.size(path.as_str()) {
             Ok(len) => Ok(self.reserved.push(ReservedFile { path, len })?),
             Err(fault) if is_missing(&fault) => Ok(()),
-            Err(fault) => bail!("{fault}"),
+            Err(fault) => Err(told(&self.rt, &fault)),
         }
     }
 
@@ -158,7 +172,7 @@ impl Folder {
         match read {
             Ok(bytes) => Ok(Some(bytes)),
             Err(fault) if is_missing(&fault) => Ok(None),
-            Err(fault) => bail!("{fault}"),
+            Err(fault) => Err(told(&self.rt, &fault)),
         }
     }
 
@@ -169,7 +183,7 @@ impl Folder {
             let part = match self.view.read_part(path, bytes.len() as u64, PART_LEN) {
                 Ok(part) => part,
                 Err(fault) if is_missing(&fault) => return Ok(None),
-                Err(fault) => bail!("{fault}"),
+                Err(fault) => return Err(told(&self.rt, &fault)),
             };
             if part.is_empty() {
                 break;
@@ -190,7 +204,7 @@ impl Folder {
     fn files_in_memory(&self, files: Vec<(String, Vec<u8>)>) -> Result<MemoryFileSystem> {
         match image_of(self.alloc, files, self.folders()?) {
             Ok(image) => Ok(image),
-            Err(fault) => bail!("{fault}"),
+            Err(fault) => Err(told(&self.rt, &fault)),
         }
     }
 
@@ -228,7 +242,7 @@ impl Folder {
         }
         match image_of(self.alloc, files, Vec::new(self.alloc)) {
             Ok(image) => Ok(Some(image)),
-            Err(fault) => bail!("{fault}"),
+            Err(fault) => Err(told(&self.rt, &fault)),
         }
     }
 
@@ -316,7 +330,7 @@ impl Folder {
         file: &'a LogFile,
         progress: &'a mut Progress,
     ) -> Result<Option<FileSource<'a>>> {
-        FileSource::open(self.alloc, &self.view, file.path.as_str(), progress)
+        FileSource::open(self.rt, &self.view, file.path.as_str(), progress)
     }
 
     /// What an opening in a mode cuts off of the files of a queue; it reads those alone that it may cut.

@@ -1,6 +1,6 @@
 //! What an opening would be refused for, whatever its files hold: links, pipes and rights.
 
-use anyhow::{Result, bail};
+use anyhow::{Result, anyhow};
 use raft_disk::is_log_name;
 use raft_inspect::{Lines, Word};
 use std::alloc::AllocError;
@@ -37,14 +37,14 @@ pub(crate) fn add_hindrances(
     let entries = match fs::read_dir(rt, folder) {
         Ok(entries) => entries,
         Err(e) if e.kind() == ErrorKind::NotFound => return Ok(()),
-        Err(e) => bail!("{folder}: {e}"),
+        Err(e) => return Err(anyhow!("{e}").context(folder)),
     };
     for entry in entries {
         match entry {
             Ok(entry) => add_entry(rt, &entry, found)?,
             // No log file's.
             Err(e) if e.kind() == ErrorKind::InvalidFilename => {}
-            Err(e) => bail!("{folder}: {e}"),
+            Err(e) => return Err(anyhow!("{e}").context(folder)),
         }
     }
     Ok(())

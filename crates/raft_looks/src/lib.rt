@@ -4,14 +4,18 @@
 
 mod checking;
 mod dumping;
+mod faults;
 mod folder;
 mod hindrances;
+mod left_out;
 mod reserved;
 mod source;
 
 pub use checking::check;
 pub use dumping::dump;
+pub use faults::{tell_refusal, told};
 pub use folder::{Folder, ReservedFile};
 pub use hindrances::Hindrance;
+pub use left_out::LeftOut;
 pub use reserved::is_reserved;
 pub use source::FileSource;

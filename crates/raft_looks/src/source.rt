@@ -1,20 +1,20 @@
 //! A log file of the folder, whose bytes are read part by part.
 ghost use Rattle.std.specs.Prelude.{◌≡◌, ◌∷◌, IfErr, IfOk, OnErr};
 
-use anyhow::{Error, Result, anyhow, bail};
+use crate::faults::told;
+use anyhow::{Error, Result, anyhow};
 use raft_base::History;
 use raft_console::Progress;
 use raft_disk::{FolderView, OpenFault};
 use raft_env::{FsFault, IoKind};
 use raft_parts::{FilePart, PartSource};
 use raft_records::Fault;
-use std::alloc::Global;
 use std::io::ErrorKind;
 
 /// A file of a folder that is looked at, and what was told of it, for clauses alone.
 #[derive(Drop)]
 pub struct FileSource<'a> {
-    alloc: Global,
+    rt: HostRuntime,
     view: &'a FolderView,
     path: &'a str,
     size: u64,
@@ -28,7 +28,7 @@ impl<'a> FileSource<'a> {
     /// Of the file at a path from the folder on, which tells how far it is read; none where it is
     /// there no more.
     pub fn open(
-        alloc: Global,
+        rt: HostRuntime,
         view: &'a FolderView,
         path: &'a str,
         progress: &'a mut Progress,
@@ -36,10 +36,10 @@ impl<'a> FileSource<'a> {
         let size = match view.size(path) {
             Ok(size) => size,
             Err(fault) if is_missing(&fault) => return Ok(None),
-            Err(fault) => bail!("{fault}"),
+            Err(fault) => return Err(told(&rt, &fault)),
         };
         Ok(Some(FileSource {
-            alloc,
+            rt,
             view,
             path,
             size,
@@ -62,7 +62,7 @@ impl<'a> FileSource<'a> {
     /// Why a reading of parts failed: what the system said, if it refused a read.
     pub fn failure(&self, fault: &Fault) -> Error {
         match &self.refused {
-            Some(refused) => anyhow!("{refused}"),
+            Some(refused) => told(&self.rt, refused),
             None => anyhow!("{fault}"),
         }
     }
@@ -82,7 +82,7 @@ impl PartSource for FileSource<'_> {
             }
             Err(fault) => {
                 self.refused = Some(fault);
-                Err(FsFault::Io(IoKind::Other).with_path(self.alloc, self.path))
+                Err(FsFault::Io(IoKind::Other).with_path(self.rt.alloc(), self.path))
             }
         }
     }

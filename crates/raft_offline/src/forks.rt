@@ -2,15 +2,16 @@
 
 use crate::copies::{Copy, planned};
 use crate::passed::tell_passed;
-use anyhow::{Result, anyhow, bail};
+use anyhow::{Result, anyhow};
 use raft_command_line::Request;
-use raft_commands::config;
+use raft_commands::{config, note_left_out};
 use raft_config::Config;
 use raft_console::{Output, Progress, Status, failure};
 use raft_disk::{DiskFileSystem, FolderView, OpenFault, image_of};
 use raft_env::{FileSystem, FsFault};
 use raft_fork::FORK_MARK;
 use raft_inspect::Word;
+use raft_looks::{Folder, tell_refusal, told};
 use std::alloc::Global;
 use std::io::ErrorKind;
 
@@ -30,19 +31,25 @@ pub(crate) const BEFORE_NAME: &str = "target/";
 pub fn fork_folder(rt: HostRuntime, request: &Request<'_>, target: &str) -> Result<Status> {
     let source = match FolderView::open(rt, request.folder) {
         Ok(source) => source,
-        Err(fault) => bail!("{fault}"),
+        Err(fault) => return Err(told(&rt, &fault)),
     };
     if source.is_in_use() {
-        bail!("{}: it is open already", request.folder);
+        return Err(anyhow!("it is open already").context(request.folder));
     }
     let settings = config(rt.alloc(), &request.options)?;
     let copies = plan(rt, &source, target, &settings)?;
     tell_passed(&rt, &source, &settings, &copies)?;
-    let files = match DiskFileSystem::open_with(rt, target, None) {
+    let left_out = Folder::open(rt, request.folder, &request.options)?.left_out()?;
+    note_left_out(&rt, &left_out, request)?;
+    let mut files = match DiskFileSystem::open_with(rt, target, None) {
         Ok(files) => files,
-        Err(fault) => bail!("{fault}"),
+        Err(fault) => return Err(told(&rt, &fault)),
     };
-    copy_all(rt, &source, &copies, files, request)
+    let copied = copy_all(rt, &source, &copies, &mut files, request);
+    if copied.is_err() {
+        tell_refusal(&rt, &files)?;
+    }
+    copied
 }
 
 // Decides by the names of the files alone which are copied.
@@ -50,16 +57,16 @@ fn plan(rt: HostRuntime, source: &FolderView, target: &str, config: &Config) -> 
     let alloc = rt.alloc();
     let mut files = Vec::new(alloc);
     let mut folders = vec![in alloc; String::from_str(alloc, SOURCE)?]?;
-    add_names(alloc, source, "", SOURCE, &mut files)?;
+    add_names(&rt, source, "", SOURCE, &mut files)?;
     if let Some(spill) = &config.spill_dir {
         let place = format!(in alloc; "{SOURCE}/{spill}")?;
-        add_names(alloc, source, spill.as_str(), place.as_str(), &mut files)?;
+        add_names(&rt, source, spill.as_str(), place.as_str(), &mut files)?;
         folders.push(place)?;
     }
     add_target(rt, target, &mut files)?;
     let mut image = match image_of(alloc, files, folders) {
         Ok(image) => image,
-        Err(fault) => bail!("{fault}"),
+        Err(fault) => return Err(told(&rt, &fault)),
     };
     match planned(alloc, config, &mut image) {
         Ok(copies) => Ok(copies),
@@ -71,69 +78,75 @@ type Named = (String, Vec<u8>);
 
 // Adds the names of the files in a folder, each of a file without bytes.
 fn add_names(
-    alloc: Global,
+    rt: &HostRuntime,
     view: &FolderView,
     folder: &str,
     place: &str,
     files: &mut Vec<Named>,
 ) -> Result<()> {
-    let names = match view.names(folder) {
-        Ok(names) => names,
-        Err(fault) => bail!("{fault}"),
-    };
-    for name in &names {
+    let alloc = rt.alloc();
+    for name in &names_in(rt, view, folder)? {
         let path = format!(in alloc; "{place}/{name}")?;
         files.push((path, Vec::new(alloc)))?;
     }
     Ok(())
 }
 
-// .. of the target, where it is there.
-fn add_target(rt: HostRuntime, target: &str, files: &mut Vec<Named>) -> Result<()> {
-    match FolderView::open(rt, target) {
-        Ok(view) => add_names(rt.alloc(), &view, "", TARGET, files),
-        Err(OpenFault::Io(_, e)) if e.kind() == ErrorKind::NotFound => Ok(()),
-        Err(fault) => Err(anyhow!("{fault}")),
+/// The names of the files in a folder; none where it isn't there.
+pub(crate) fn names_in(rt: &HostRuntime, view: &FolderView, folder: &str) -> Result<Vec<String>> {
+    match view.names(folder) {
+        Ok(names) => Ok(names),
+        Err(OpenFault::Io(_, e)) if e.kind() == ErrorKind::NotFound => Ok(Vec::new(rt.alloc())),
+        Err(fault) => Err(told(rt, &fault)),
     }
 }
 
-fn copy_all<F: FileSystem + Drop>(
+// .. of the target, where it is there.
+fn add_target(rt: HostRuntime, target: &str, files: &mut Vec<Named>) -> Result<()> {
+    match FolderView::open(rt, target) {
+        Ok(view) => add_names(&rt, &view, "", TARGET, files),
+        Err(OpenFault::Io(_, e)) if e.kind() == ErrorKind::NotFound => Ok(()),
+        Err(fault) => Err(told(&rt, &fault)),
+    }
+}
+
+fn copy_all<F: FileSystem>(
     rt: HostRuntime,
     source: &FolderView,
     copies: &[Copy],
-    mut files: F,
+    files: &mut F,
     request: &Request<'_>,
 ) -> Result<Status> {
     let mut progress = Progress::new(rt, request.options.quiet)?;
     let mut out = Output::new(rt, &request.options);
-    told(rt.alloc(), FORK_MARK, put_file(&mut files, FORK_MARK, &[]))?;
+    done(rt.alloc(), FORK_MARK, put_file(files, FORK_MARK, &[]))?;
     for (place, copy) in copies.iter().enumerate() {
         progress.at("files copied", place as u64, copies.len() as u64)?;
-        copy_file(rt.alloc(), source, copy, &mut files)?;
+        copy_file(&rt, source, copy, files)?;
         out.line(&[("copied", Word::Text(copy.name.as_str()))])?;
     }
     let removed = files.delete(FORK_MARK);
-    told(rt.alloc(), FORK_MARK, removed)?;
+    done(rt.alloc(), FORK_MARK, removed)?;
     out.print()?;
     Ok(Status::Done)
 }
 
 fn copy_file<F: FileSystem>(
-    alloc: Global,
+    rt: &HostRuntime,
     source: &FolderView,
     copy: &Copy,
     files: &mut F,
 ) -> Result<()> {
     let bytes = match source.read(copy.from.as_str()) {
         Ok(bytes) => bytes,
-        Err(fault) => bail!("{fault}"),
+        Err(fault) => return Err(told(rt, &fault)),
     };
     let name = copy.name.as_str();
-    told(alloc, name, put_file(files, name, &bytes))
+    done(rt.alloc(), name, put_file(files, name, &bytes))
 }
 
-fn told(alloc: Global, path: &str, done: Result<(), FsFault>) -> Result<()> {
-    match done {
+fn done(alloc: Global, path: &str, called: Result<(), FsFault>) -> Result<()> {
+    match called {
         Ok(()) => Ok(()),
         Err(fault) => {
             let fault = fault.with_path(alloc, path);

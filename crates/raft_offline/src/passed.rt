@@ -1,10 +1,10 @@
 //! What a fork leaves out: log files that an opening passes over.
 
 use crate::copies::Copy;
+use crate::forks::names_in;
 use anyhow::{Result, bail};
 use raft_config::Config;
 use raft_disk::{FolderView, is_log_name};
-use std::alloc::Global;
 
 /// The log files of a source that aren't copied.
 #[derive(Drop)]
@@ -22,9 +22,9 @@ pub(crate) fn tell_passed(
     copies: &[Copy],
 ) -> Result<()> {
     let mut passed = Passed { files: 0, bytes: 0 };
-    add_folder(rt.alloc(), source, "", copies, &mut passed)?;
+    add_folder(rt, source, "", copies, &mut passed)?;
     if let Some(spill) = &config.spill_dir {
-        add_folder(rt.alloc(), source, spill.as_str(), copies, &mut passed)?;
+        add_folder(rt, source, spill.as_str(), copies, &mut passed)?;
     }
     if passed.files > 0 {
         eprintln!(rt;
@@ -36,20 +36,16 @@ pub(crate) fn tell_passed(
 }
 
 fn add_folder(
-    alloc: Global,
+    rt: &HostRuntime,
     source: &FolderView,
     folder: &str,
     copies: &[Copy],
     passed: &mut Passed,
 ) -> Result<()> {
-    let names = match source.names(folder) {
-        Ok(names) => names,
-        Err(fault) => bail!("{fault}"),
-    };
-    for name in &names {
+    for name in &names_in(rt, source, folder)? {
         let path = match folder {
             "" => name.clone()?,
-            _ => format!(in alloc; "{folder}/{name}")?,
+            _ => format!(in rt.alloc(); "{folder}/{name}")?,
         };
         if is_log_name(name.as_str()) && !name.ends_with(".reserved") && !is_copied(&path, copies) {
             add_file(source, path.as_str(), passed)?;

@@ -57,7 +57,7 @@ pub fn settings_of(rt: &HostRuntime, request: &Request<'_>) -> Result<Config> {
             match fs::metadata(rt, path.as_str()) {
                 Ok(_) => settings_in(rt, path.as_str(), request)?,
                 Err(e) if is_missing(e.kind()) => Config::fresh(rt.alloc()),
-                Err(e) => bail!("{path}: {e}"),
+                Err(e) => return Err(anyhow!("{e}").context(path)),
             }
         }
     };
@@ -90,11 +90,11 @@ fn text_in(rt: &HostRuntime, path: &str) -> Result<String> {
     match fs::metadata(rt, path) {
         Ok(metadata) if metadata.is_file() => {}
         Ok(_) => bail!("{path}: no file, and settings are read of files alone"),
-        Err(e) => bail!("{path}: {e}"),
+        Err(e) => return Err(anyhow!("{e}").context(path)),
     }
     match fs::read_to_string(rt, path) {
         Ok(text) => Ok(text),
-        Err(e) => bail!("{path}: {e}"),
+        Err(e) => Err(anyhow!("{e}").context(path)),
     }
 }
 

@@ -4,7 +4,7 @@ use crate::steps::{GROUP, KEY, Step, items_of};
 use raft_builder::MergingMachine;
 use raft_opening::ReplayMachine;
 use raft_records::{Fault, FileId, LogQueue};
-use raft_replay::{InOrder, Read, RecoveryMachine, read_of};
+use raft_replay::{InOrder, Read, RecoveryMachine, SideBySide, read_of};
 use std::alloc::Global;
 use std::test::Fail;
 
@@ -99,8 +99,12 @@ fn replay(
     Ok(())
 }
 
-/// What is read where the chunks are given to a machine each, or to one.
-fn read(alloc: Global, case: &Case, apart: bool) -> Result<Read, Fault> {
+/// The machines of both queues, where the chunks are given to a machine each, or to one.
+fn machines(
+    alloc: Global,
+    case: &Case,
+    apart: bool,
+) -> Result<(RecoveryMachine, RecoveryMachine), Fault> {
     let mut rewritten = RecoveryMachine::new(alloc);
     replay(alloc, &mut rewritten, LogQueue::Rewrite, case.rewritten)?;
     let mut appended = RecoveryMachine::new(alloc);
@@ -112,24 +116,37 @@ fn read(alloc: Global, case: &Case, apart: bool) -> Result<Read, Fault> {
     } else {
         replay(alloc, &mut appended, LogQueue::Append, case.newer)?;
     }
-    read_of(&InOrder, appended, rewritten)
+    Ok((appended, rewritten))
 }
 
-fn is_as_said(alloc: Global, case: &Case, apart: bool) -> Result<bool, Fault> {
-    let read = read(alloc, case, apart)?;
+fn is_as_said(case: &Case, read: &Read) -> bool {
     let tables = &read.tables;
     let indexes = match (tables.first_index(GROUP), tables.last_index(GROUP)) {
         (Some(first), Some(last)) => Some((first, last)),
         _ => None,
     };
-    Ok(indexes == case.indexes && tables.get(GROUP, KEY).is_some() == case.has_key)
+    indexes == case.indexes && tables.get(GROUP, KEY).is_some() == case.has_key
 }
 
 #[test]
 fn chunks_are_read_as_one(rt: HostRuntime) -> Result<(), Fail> {
     for case in &CASES {
         for apart in [false, true] {
-            assert!(rt; is_as_said(rt.alloc(), case, apart)?, "{}", case.name);
+            let (appended, rewritten) = machines(rt.alloc(), case, apart)?;
+            let read = read_of(&InOrder, appended, rewritten)?;
+            assert!(rt; is_as_said(case, &read), "{}", case.name);
+        }
+    }
+    Ok(())
+}
+
+#[test]
+fn threads_join_chunks_as_one_does(rt: HostRuntime) -> Result<(), Fail> {
+    for case in &CASES {
+        for threads in [0, 1, 4] {
+            let (appended, rewritten) = machines(rt.alloc(), case, true)?;
+            let read = read_of(&SideBySide { rt: &rt, threads }, appended, rewritten)?;
+            assert!(rt; is_as_said(case, &read), "{}, {threads} threads", case.name);
         }
     }
     Ok(())

@@ -7,6 +7,8 @@ mod checks;
 #[cfg(test)]
 mod chunks;
 #[cfg(test)]
+mod groups;
+#[cfg(test)]
 mod machines;
 #[cfg(test)]
 mod meeting;

@@ -1,6 +1,6 @@
 //! Blocks that are copied and summed: the ceilings of each workload, and one of their own.
 
-use crate::measure::{Against, Host, Measure, Report, Stopwatch};
+use crate::measure::{Against, Figure, Host, Outcome, Report, Stopwatch};
 use anyhow::Result;
 use raft_codec::checksum::crc32;
 use std::alloc::{AllocError, Global};
@@ -16,18 +16,12 @@ enum Pass {
     Append,
 }
 
-impl Pass {
-    const ALL: [Pass; 4] = [Pass::Copy, Pass::Sum, Pass::InPlace, Pass::Append];
-
-    fn name(self) -> &'static str {
-        match self {
-            Pass::Copy => "  ceiling, copy",
-            Pass::Sum => "  ceiling, crc",
-            Pass::InPlace => "  ceiling, in one place",
-            Pass::Append => "  ceiling, appended",
-        }
-    }
-}
+const PASSES: [(&str, Pass); 4] = [
+    ("  ceiling, copy", Pass::Copy),
+    ("  ceiling, crc", Pass::Sum),
+    ("  ceiling, in one place", Pass::InPlace),
+    ("  ceiling, appended", Pass::Append),
+];
 
 #[derive(Drop)]
 struct Blocks {
@@ -64,21 +58,16 @@ pub(crate) fn add_ceilings<R: Host>(
     size: usize,
 ) -> Result<u32> {
     let mut blocks = Blocks {
-        block: filled(rt.alloc(), size, 1)?,
+        block: filled(rt.alloc(), size)?,
         copies: Vec::new(rt.alloc()),
         sum: 0,
     };
-    for pass in Pass::ALL {
+    let bytes = count.saturating_mul(size as u64);
+    let outcome = Outcome::new(count, bytes, against, Figure::Nothing);
+    for (name, pass) in PASSES {
         let watch = Stopwatch::start(rt)?;
         blocks.pass(pass, count)?;
-        let ceiling = Measure {
-            name: pass.name(),
-            count,
-            bytes: count.saturating_mul(size as u64),
-            against,
-            taken: watch.stop(rt)?,
-            longest: None,
-        };
+        let ceiling = watch.stop(rt, name, outcome)?;
         match against {
             Against::Records => report.records.push(ceiling)?,
             Against::Values => report.values.push(ceiling)?,
@@ -103,10 +92,10 @@ pub(crate) fn mark(block: &mut [u8], number: u64) {
     }
 }
 
-/// Bytes that look like nothing in particular, the same for the same seed.
-pub(crate) fn filled(alloc: Global, len: usize, seed: u64) -> Result<Vec<u8>, AllocError> {
+/// Bytes that look like nothing in particular, the same each time.
+pub(crate) fn filled(alloc: Global, len: usize) -> Result<Vec<u8>, AllocError> {
     let mut bytes = Vec::with_capacity(alloc, len)?;
-    let mut state = seed;
+    let mut state = 1;
     for _ in 0..len {
         state = next_state(state);
         bytes.push((state >> 56) as u8)?;

@@ -1,60 +1,40 @@
 //! Workloads of the file system alone.
 
 use crate::blocks::filled;
-use crate::measure::{Against, Host, Measure, Report, Stopwatch};
+use crate::measure::{Against, Figure, Host, Outcome, Report, Stopwatch};
 use crate::workload::Load;
 use anyhow::{Error, Result, anyhow};
 use raft_env::{FileSystem, FsFault};
 
-/// Appends to one file, each synced or none. Each tenth of them has a line of its own.
+/// Appends to one file, each synced or none. Each tenth of them is a part of its own.
 pub(crate) fn append<R: Host, F: FileSystem + Drop>(
     rt: &R,
     report: &mut Report,
     mut files: F,
     load: Load,
 ) -> Result<()> {
-    let block = filled(rt.alloc(), load.size, 1)?;
-    let len = append_to_file(rt, report, &mut files, &block, load)?;
-    println!(rt; "{}: {len} bytes", load.name)?;
-    Ok(())
-}
-
-// Answers the file's length.
-fn append_to_file<R: Host, F: FileSystem>(
-    rt: &R,
-    report: &mut Report,
-    files: &mut F,
-    block: &[u8],
-    load: Load,
-) -> Result<usize> {
-    let handle = files.create("file").map_err(refused)?;
-    let mut writer = files.new_writer(&handle).map_err(refused)?;
-    append_tenths(rt, report, files, &mut writer, block, load)?;
-    files.file_size(&handle).map_err(refused)
+    let block = filled(rt.alloc(), load.size)?;
+    append_tenths(rt, report, &mut files, &block, load)
 }
 
 fn append_tenths<R: Host, F: FileSystem>(
     rt: &R,
     report: &mut Report,
     files: &mut F,
-    writer: &mut F::Writer,
     block: &[u8],
     load: Load,
 ) -> Result<()> {
+    let handle = files.create("file").map_err(refused)?;
+    let mut writer = files.new_writer(&handle).map_err(refused)?;
     let tenth = load.count / 10;
     let bytes = tenth.saturating_mul(load.size as u64);
-    let mut end = 0;
     for _ in 0..10u8 {
+        let end = files.file_size(&handle).map_err(refused)?;
+        let figure = Figure::Count(end as u64, "bytes before");
         let watch = Stopwatch::start(rt)?;
-        end = append_tenth(files, writer, end, block, load).map_err(refused)?;
-        report.parts.push(Measure {
-            name: load.name,
-            count: tenth,
-            bytes,
-            against: Against::Values,
-            taken: watch.stop(rt)?,
-            longest: None,
-        })?;
+        append_tenth(files, &mut writer, end, block, load).map_err(refused)?;
+        let outcome = Outcome::new(tenth, bytes, Against::Values, figure);
+        report.add(rt, watch, load.name, outcome)?;
     }
     Ok(())
 }
@@ -65,7 +45,7 @@ fn append_tenth<F: FileSystem>(
     end: usize,
     block: &[u8],
     load: Load,
-) -> Result<usize, FsFault> {
+) -> Result<(), FsFault> {
     let mut end = end;
     for _ in 0..load.count / 10 {
         files.write(writer, end, block)?;
@@ -74,7 +54,7 @@ fn append_tenth<F: FileSystem>(
         }
         end = end.saturating_add(block.len());
     }
-    Ok(end)
+    Ok(())
 }
 
 fn refused(_: FsFault) -> Error {

@@ -3,36 +3,32 @@
 //! they showed.
 #![tactic(auto)]
 
+mod batches;
 mod blocks;
 mod calls;
 mod disk;
-mod entries;
 mod files;
 mod log;
 mod measure;
-mod openings;
 mod parts;
-mod purges;
-mod shared;
-mod steady;
+mod reads;
 mod system;
 mod workload;
 
-use anyhow::{Result, bail};
-use measure::WorkersHost;
+use anyhow::Result;
 use std::env;
 use system::print_system;
-use workload::{Amount, SMALL, Workload};
+use workload::{Amount, SMALL, run_named};
 
 fn main(rt: HostRuntime) -> Result<()> {
     let words = words(&rt)?;
     print_system(&rt)?;
     match words.as_slice() {
-        [] => run_all(&rt),
+        [] => run_named(&rt, None, SMALL),
         [word, folder, rest @ ..] if word.as_str() == "disk" => {
             disk::run_in(rt, folder.as_str(), amount(rest)?)
         }
-        [name, rest @ ..] => run_named(&rt, name.as_str(), amount(rest)?),
+        [name, rest @ ..] => run_named(&rt, Some(name.as_str()), amount(rest)?),
     }
 }
 
@@ -55,18 +51,4 @@ fn amount(words: &[String]) -> Result<Amount> {
         amount.size = size.as_str().parse()?;
     }
     Ok(amount)
-}
-
-fn run_named<R: WorkersHost>(rt: &R, name: &str, amount: Amount) -> Result<()> {
-    match Workload::named(name) {
-        Some(workload) => workload.run(rt, amount),
-        None => bail!("usage: raftbench [WORKLOAD [COUNT [SIZE]] | disk FOLDER [COUNT [SIZE]]]"),
-    }
-}
-
-fn run_all<R: WorkersHost>(rt: &R) -> Result<()> {
-    for workload in &Workload::ALL {
-        workload.run(rt, SMALL)?;
-    }
-    Ok(())
 }

@@ -1,27 +1,29 @@
-//! The parts of the workloads over an engine, each timed in the same way.
+//! The parts of the workloads over one open engine, each timed in one way.
 
-use crate::blocks::{filled, mark, next_state};
-use crate::entries::{
-    Place, entries_of, fetch_each, places_again, places_in_order, places_of, read_each,
+use crate::batches::{Written, batches_of, write_all, write_beside_purges};
+use crate::blocks::filled;
+use crate::calls;
+use crate::measure::{Against, Figure, Host, Outcome, Report, Stopwatch};
+use crate::reads::{
+    Key, Place, fetch_each, get_each, keys_of, places_in_order, places_of, read_each,
 };
-use crate::log::{Key, get_each, key_of, keys_of};
-use crate::measure::{Against, Host, Measure, Report, Stopwatch, micros_since};
-use crate::purges::{Purge, compact_each, kept_of};
-use crate::workload::{GROUPS, Load};
+use crate::workload::{GROUPS, Kind, Load};
 use anyhow::Result;
-use raft_c_batch::Entry;
 use raft_env::FileSystem;
 use raft_log_engine::Engine;
-use raft_records::{Fault, LogBatch};
+use raft_records::Fault;
 use std::alloc::{AllocError, Global};
 use std::mem;
-use std::time::Instant;
 
+/// What a part does.
 #[derive(Clone, Copy)]
 pub(crate) enum Part {
-    Put,
+    /// Puts or entries.
+    Write,
+    WriteBesidePurges,
     Get,
-    Append,
+    /// .. with the checksum of the values.
+    GetSummed,
     /// Reads of entries in no order, in order, and of few blocks in turn.
     Entry,
     EntryInOrder,
@@ -32,98 +34,82 @@ pub(crate) enum Part {
     RewriteAppend,
     RewriteRewrite,
     PurgeStale,
-}
-
-impl Part {
-    fn name(self, load: Load) -> &'static str {
-        match self {
-            Part::Put | Part::Append => load.name,
-            Part::Get => "  get",
-            Part::Entry => "  entry",
-            Part::EntryInOrder => "  entry-in-order",
-            Part::EntryAgain => "  entry-again",
-            Part::Fetch => "  fetch",
-            Part::Compact => "  compact",
-            Part::RewriteAppend => "  rewrite-append",
-            Part::RewriteRewrite => "  rewrite-rewrite",
-            Part::PurgeStale => "  purge-stale",
-        }
-    }
-}
-
-/// What a batch holds: a group with a key and a value, or with entries.
-#[derive(Drop)]
-pub(crate) enum Written {
-    Put(u64, Vec<u8>, Vec<u8>),
-    Entries(u64, Vec<Entry>),
+    /// As a caller makes them.
+    CallPut,
+    CallGet,
+    /// Several a batch.
+    CallPutSeveral,
 }
 
 /// What a part writes or reads.
 #[derive(Drop)]
-enum Data {
-    Batches(Vec<Written>),
-    Keys(Vec<Key>),
-    Entries(Vec<Place>),
-    Fetches(Vec<Place>),
-    /// So many entries of each group stay.
-    Compactions(u64),
-    Purge(Purge),
+struct Data {
+    batches: Vec<Written>,
+    keys: Vec<Key>,
+    places: Vec<Place>,
+    value: Vec<u8>,
 }
 
-/// Does a part and reports what it took. Answers the bytes of records, the keys or entries found,
-/// or the checksum of the entries read.
-pub(crate) fn run_part<R: Host, F: FileSystem>(
+static PUTS: [(&str, Part); 3] = [
+    ("", Part::Write),
+    ("  get", Part::Get),
+    ("  get, summed", Part::GetSummed),
+];
+
+static ENTRIES: [(&str, Part); 5] = [
+    ("", Part::Write),
+    ("  entry", Part::Entry),
+    ("  entry-in-order", Part::EntryInOrder),
+    ("  entry-again", Part::EntryAgain),
+    ("  fetch", Part::Fetch),
+];
+
+static PURGES: [(&str, Part); 5] = [
+    ("", Part::Write),
+    ("  compact", Part::Compact),
+    ("  rewrite-append", Part::RewriteAppend),
+    ("  rewrite-rewrite", Part::RewriteRewrite),
+    ("  purge-stale", Part::PurgeStale),
+];
+
+static CALLS: [(&str, Part); 3] = [
+    ("", Part::CallPut),
+    ("  get", Part::CallGet),
+    ("  put, 100 a batch", Part::CallPutSeveral),
+];
+
+static WRITES: [(&str, Part); 1] = [("", Part::Write)];
+
+static STEADY: [(&str, Part); 1] = [("", Part::WriteBesidePurges)];
+
+// The first part goes by the workload's name.
+fn parts_of(kind: Kind) -> &'static [(&'static str, Part)] {
+    match kind {
+        Kind::Puts(_) | Kind::PutsInNoOrder => &PUTS,
+        Kind::Entries(_) => &ENTRIES,
+        Kind::Purges => &PURGES,
+        Kind::Calls => &CALLS,
+        Kind::Steady(_, _) => &STEADY,
+        Kind::Openings(_) => &WRITES,
+        Kind::Blocks | Kind::File | Kind::PutsShared => &[],
+    }
+}
+
+/// Does each part of a workload, and reports what it took.
+pub(crate) fn run_parts<R: Host, F: FileSystem>(
     rt: &R,
     report: &mut Report,
     engine: &mut Engine<F>,
-    part: Part,
     load: Load,
-) -> Result<u64> {
-    let mut data = data_of(rt.alloc(), engine, part, load)?;
-    run_timed(rt, report, engine, &mut data, part, load)
-}
-
-fn run_timed<R: Host, F: FileSystem>(
-    rt: &R,
-    report: &mut Report,
-    engine: &mut Engine<F>,
-    data: &mut Data,
-    part: Part,
-    load: Load,
-) -> Result<u64> {
-    let watch = Stopwatch::start(rt)?;
-    let (figure, longest) = perform(rt, engine, data, load.sync_each)?;
-    let taken = watch.stop(rt)?;
-    let (count, bytes, against) = match part {
-        Part::Put | Part::Append => (load.count, figure, Against::Records),
-        Part::Get | Part::Entry | Part::EntryInOrder | Part::EntryAgain => {
-            (load.count, load.bytes(), Against::Values)
-        }
-        Part::Fetch => (
-            figure,
-            figure.saturating_mul(load.size as u64),
-            Against::Values,
-        ),
-        Part::Compact => (figure, 0, Against::Records),
-        // What stays of the entries is written again.
-        Part::RewriteAppend | Part::RewriteRewrite | Part::PurgeStale => {
-            let count = kept_of(load).saturating_mul(GROUPS);
-            (
-                count,
-                count.saturating_mul(load.size as u64),
-                Against::Records,
-            )
-        }
-    };
-    report.parts.push(Measure {
-        name: part.name(load),
-        count,
-        bytes,
-        against,
-        taken,
-        longest,
-    })?;
-    Ok(figure)
+) -> Result<()> {
+    for (name, part) in parts_of(load.kind) {
+        let mut data = data_of(rt.alloc(), engine, *part, load)?;
+        let watch = Stopwatch::start(rt)?;
+        let outcome = perform(rt, engine, *part, &mut data, load)?;
+        let name = if name.is_empty() { load.name } else { *name };
+        report.add(rt, watch, name, outcome)?;
+    }
+    Ok(())
 }
 
 // Made before the clock starts.
@@ -133,119 +119,76 @@ fn data_of<F: FileSystem>(
     part: Part,
     load: Load,
 ) -> Result<Data, AllocError> {
+    let mut data = Data {
+        batches: Vec::new(alloc),
+        keys: Vec::new(alloc),
+        places: Vec::new(alloc),
+        value: Vec::new(alloc),
+    };
     match part {
-        Part::Put | Part::Append => Ok(Data::Batches(batches_of(alloc, part, load)?)),
-        Part::Get => Ok(Data::Keys(keys_of(alloc, load)?)),
-        Part::Entry => Ok(Data::Entries(places_of(alloc, engine, load.count)?)),
-        Part::EntryInOrder => Ok(Data::Entries(places_in_order(alloc, engine)?)),
-        Part::EntryAgain => Ok(Data::Entries(places_again(alloc, load)?)),
-        Part::Fetch => Ok(Data::Fetches(places_of(alloc, engine, load.count)?)),
-        Part::Compact => Ok(Data::Compactions(kept_of(load))),
-        Part::RewriteAppend => Ok(Data::Purge(Purge::RewriteAppend)),
-        Part::RewriteRewrite => Ok(Data::Purge(Purge::RewriteRewrite)),
-        Part::PurgeStale => Ok(Data::Purge(Purge::Stale)),
+        Part::Write | Part::WriteBesidePurges => data.batches = batches_of(alloc, load)?,
+        Part::Get | Part::GetSummed => data.keys = keys_of(alloc, load)?,
+        Part::Entry | Part::Fetch => data.places = places_of(alloc, engine, load, false)?,
+        Part::EntryInOrder => data.places = places_in_order(alloc, engine)?,
+        Part::EntryAgain => data.places = places_of(alloc, engine, load, true)?,
+        Part::CallPut | Part::CallPutSeveral => data.value = filled(alloc, load.size)?,
+        _ => {}
     }
-}
-
-/// Each group in turn gets the next key or entries.
-pub(crate) fn batches_of(
-    alloc: Global,
-    part: Part,
-    load: Load,
-) -> Result<Vec<Written>, AllocError> {
-    let mut value = filled(alloc, load.size, 1)?;
-    let mut batches = Vec::new(alloc);
-    let mut key = 0;
-    for number in 0..load.count / load.batch_len.max(1) {
-        mark(&mut value, number);
-        batches.push(match part {
-            Part::Put => put_of(alloc, key, &value)?,
-            _ => append_of(alloc, number, load.batch_len, &value)?,
-        })?;
-        key = next_key(key, load);
-    }
-    Ok(batches)
-}
-
-// The next number; or the next of a generator whose period is the power of two above all keys, past
-// what is no key.
-fn next_key(key: u64, load: Load) -> u64 {
-    if load.is_in_order {
-        return key.saturating_add(1) % load.keys.max(1);
-    }
-    let unused_bits = load.keys.saturating_sub(1).leading_zeros();
-    let mask = u64::MAX.checked_shr(unused_bits).unwrap_or(0);
-    let mut next = key;
-    for _ in 0..load.keys {
-        next = next_state(next) & mask;
-        if next < load.keys {
-            break;
-        }
-    }
-    next
-}
-
-fn put_of(alloc: Global, key: u64, value: &[u8]) -> Result<Written, AllocError> {
-    Ok(Written::Put(key % GROUPS, key_of(alloc, key)?, value.to_vec(alloc)?))
-}
-
-fn append_of(alloc: Global, number: u64, len: u64, value: &[u8]) -> Result<Written, AllocError> {
-    let first = (number / GROUPS).saturating_mul(len).saturating_add(1);
-    Ok(Written::Entries(number % GROUPS, entries_of(alloc, first, len, value)?))
+    Ok(data)
 }
 
 fn perform<R: Host, F: FileSystem>(
     rt: &R,
     engine: &mut Engine<F>,
+    part: Part,
     data: &mut Data,
-    sync_each: u64,
-) -> Result<(u64, Option<u64>)> {
-    match data {
-        Data::Batches(batches) => {
-            let batches = mem::replace(batches, Vec::new(rt.alloc()));
-            write_all(rt, engine, batches, sync_each)
+    load: Load,
+) -> Result<Outcome> {
+    match part {
+        Part::Write => {
+            let batches = mem::replace(&mut data.batches, Vec::new(rt.alloc()));
+            write_all(rt, engine, batches, load)
         }
-        Data::Keys(keys) => Ok((get_each(engine, keys, false)?.0, None)),
-        Data::Entries(places) => Ok((read_each(engine, places)?, None)),
-        Data::Fetches(places) => Ok((fetch_each(rt.alloc(), engine, places)?, None)),
-        Data::Compactions(kept) => Ok((compact_each(engine, *kept)?, None)),
-        Data::Purge(purge) => Ok((purge.run(engine)?, None)),
+        Part::WriteBesidePurges => {
+            let batches = mem::replace(&mut data.batches, Vec::new(rt.alloc()));
+            write_beside_purges(rt, engine, batches, load)
+        }
+        Part::Get => get_each(engine, &data.keys, false, load),
+        Part::GetSummed => get_each(engine, &data.keys, true, load),
+        Part::Entry | Part::EntryInOrder | Part::EntryAgain => {
+            read_each(engine, &data.places, load)
+        }
+        Part::Fetch => fetch_each(rt.alloc(), engine, &data.places, load),
+        Part::Compact => compact_each(engine, load),
+        Part::RewriteAppend => purged(engine.must_rewrite_append_queue(None, None), load),
+        Part::RewriteRewrite => purged(engine.must_rewrite_rewrite_queue(), load),
+        Part::PurgeStale => purged(engine.must_purge_all_stale(), load),
+        Part::CallPut => calls::put_each(rt.alloc(), engine, 1, &data.value, load),
+        Part::CallGet => calls::get_each(rt.alloc(), engine, load),
+        Part::CallPutSeveral => calls::put_each(rt.alloc(), engine, 100, &data.value, load),
     }
 }
 
-pub(crate) fn add(batch: &mut LogBatch, written: Written) -> Result<(), Fault> {
-    match written {
-        Written::Put(group, key, value) => batch.put(group, key, value),
-        Written::Entries(group, entries) => batch.add_entries::<Entry>(group, &entries),
-    }
+// A thousand entries of each group stay, or the last quarter of fewer.
+fn kept_of(load: Load) -> u64 {
+    (load.count / GROUPS / 4).min(1000)
 }
 
-/// Each in a batch of its own, and after so many a sync, or never for 0. Answers the bytes of
-/// their records, and what the longest of each thousand took.
-pub(crate) fn write_all<R: Host, F: FileSystem>(
-    rt: &R,
-    engine: &mut Engine<F>,
-    batches: Vec<Written>,
-    sync_each: u64,
-) -> Result<(u64, Option<u64>)> {
-    let mut batch = LogBatch::new(rt.alloc());
-    let mut bytes = 0u64;
-    let mut unsynced = 0u64;
-    let mut longest = None;
-    let mut start = Instant::now(rt)?;
-    for (number, written) in batches.into_iter().enumerate() {
-        add(&mut batch, written)?;
-        unsynced = unsynced.saturating_add(1);
-        let sync = unsynced == sync_each;
-        if sync {
-            unsynced = 0;
-        }
-        bytes = bytes.saturating_add(engine.write(&mut batch, sync)? as u64);
-        if number % 1000 == 999 {
-            let micros = micros_since(rt, start)?;
-            longest = Some(micros.max(longest.unwrap_or(0)));
-            start = Instant::now(rt)?;
-        }
+// How many entries go.
+fn compact_each<F: FileSystem>(engine: &mut Engine<F>, load: Load) -> Result<Outcome> {
+    let mut dropped = 0u64;
+    for group in 0..GROUPS {
+        let last = engine.last_index(group).unwrap_or(0);
+        let first = last.saturating_sub(kept_of(load)).saturating_add(1);
+        dropped = dropped.saturating_add(engine.compact_to(group, first)?);
     }
-    Ok((bytes, longest))
+    Ok(Outcome::new(dropped, 0, Against::Records, Figure::Nothing))
+}
+
+// What stays of the entries is written again, and so many files go.
+fn purged(dropped: Result<usize, Fault>, load: Load) -> Result<Outcome> {
+    let count = kept_of(load).saturating_mul(GROUPS);
+    let bytes = count.saturating_mul(load.size as u64);
+    let figure = Figure::Count(dropped? as u64, "files dropped");
+    Ok(Outcome::new(count, bytes, Against::Records, figure))
 }

@@ -1,16 +1,11 @@
 //! The workloads by their names.
 
 use crate::blocks::add_ceilings;
-use crate::calls::put_get_put;
-use crate::entries::append_entry_fetch;
 use crate::files::append;
-use crate::log::put_get_reopen;
+use crate::log::{close_and_open, open, put_get_shared};
 use crate::measure::{Against, Report, WorkersHost};
-use crate::openings::put_and_open;
-use crate::purges::append_compact_purge;
-use crate::shared::put_get_shared;
-use crate::steady::{Purging, put_beside_purges};
-use anyhow::Result;
+use crate::parts::run_parts;
+use anyhow::{Result, bail};
 use raft_env::FileSystem;
 use raft_memory::MemoryFileSystem;
 
@@ -27,9 +22,20 @@ pub(crate) const SMALL: Amount = Amount {
     size: 100,
 };
 
+/// Whether puts are purged beside, and what becomes of the dropped files.
+#[derive(Clone, Copy)]
+pub(crate) enum Purging {
+    Never,
+    Deletes,
+    /// They are used again.
+    Reuses,
+    /// .. and most of a purge is done in short calls.
+    ShortCalls,
+}
+
 /// What a workload does, over what.
 #[derive(Clone, Copy)]
-enum Kind {
+pub(crate) enum Kind {
     Blocks,
     File,
     /// Under so many keys at the most.
@@ -52,16 +58,16 @@ enum Kind {
 
 /// Its name, what it does, after how many operations it syncs (0: never), and the size at which a
 /// log file is full.
-pub(crate) struct Workload(&'static str, Kind, u64, u64);
+struct Workload(&'static str, Kind, u64, u64);
 
-/// How many values are written, under how many keys, in order or not, of how many bytes, how many a
-/// batch, after how many to sync (0: never), and the size at which a log file is full.
+/// How many values are written, under how many keys, of how many bytes, how many a batch, after how
+/// many to sync (0: never), and the size at which a log file is full.
 #[derive(Clone, Copy)]
 pub(crate) struct Load {
     pub name: &'static str,
+    pub kind: Kind,
     pub count: u64,
     pub keys: u64,
-    pub is_in_order: bool,
     pub size: usize,
     pub batch_len: u64,
     pub sync_each: u64,
@@ -71,6 +77,10 @@ pub(crate) struct Load {
 impl Load {
     pub(crate) fn bytes(self) -> u64 {
         self.count.saturating_mul(self.size as u64)
+    }
+
+    pub(crate) fn has_entries(self) -> bool {
+        self.batch_len > 1 || matches!(self.kind, Kind::Entries(_) | Kind::Purges)
     }
 }
 
@@ -82,70 +92,108 @@ const BLOCK_SIZE: usize = 65536;
 /// No log comes to this size, so that it stays one file.
 pub(crate) const ONE_FILE: u64 = 1 << 40;
 
-impl Workload {
-    pub(crate) const ALL: [Workload; 21] = [
-        Workload("crc", Kind::Blocks, 0, ONE_FILE),
-        Workload("put", Kind::Puts(u64::MAX), 0, ONE_FILE),
-        Workload("put-sync", Kind::Puts(u64::MAX), 1, ONE_FILE),
-        Workload("put-random", Kind::PutsInNoOrder, 0, ONE_FILE),
-        Workload("put-shared", Kind::PutsShared, 0, ONE_FILE),
-        Workload("overwrite", Kind::Puts(1000), 0, ONE_FILE),
-        Workload("calls", Kind::Calls, 0, ONE_FILE),
-        Workload("append", Kind::Entries(0), 0, ONE_FILE),
-        Workload("append-sync", Kind::Entries(0), 1, ONE_FILE),
-        Workload("append-batch", Kind::Entries(1 << 20), 0, ONE_FILE),
-        Workload("append-files", Kind::Entries(0), 0, 2 << 20),
-        Workload("purge", Kind::Purges, 0, 16 << 20),
-        Workload(
-            "put-keep",
-            Kind::Steady(100_000, Purging::Never),
-            0,
-            8 << 20,
-        ),
-        Workload(
-            "put-purge",
-            Kind::Steady(100_000, Purging::Reuses),
-            0,
-            8 << 20,
-        ),
-        Workload(
-            "put-purge-new",
-            Kind::Steady(100_000, Purging::Deletes),
-            0,
-            8 << 20,
-        ),
-        Workload("rotate", Kind::Steady(1000, Purging::Reuses), 0, 16 << 10),
-        Workload(
-            "rotate-new",
-            Kind::Steady(1000, Purging::Deletes),
-            0,
-            16 << 10,
-        ),
-        Workload("open-files", Kind::Openings(0), 0, 4 << 20),
-        Workload("open-batches", Kind::Openings(1 << 20), 0, 4 << 20),
-        Workload("fs-append", Kind::File, 0, ONE_FILE),
-        Workload("fs-sync", Kind::File, 1, ONE_FILE),
-    ];
+static PUTS: [Workload; 7] = [
+    Workload("crc", Kind::Blocks, 0, ONE_FILE),
+    Workload("put", Kind::Puts(u64::MAX), 0, ONE_FILE),
+    Workload("put-sync", Kind::Puts(u64::MAX), 1, ONE_FILE),
+    Workload("put-random", Kind::PutsInNoOrder, 0, ONE_FILE),
+    Workload("put-shared", Kind::PutsShared, 0, ONE_FILE),
+    Workload("overwrite", Kind::Puts(1000), 0, ONE_FILE),
+    Workload("calls", Kind::Calls, 0, ONE_FILE),
+];
 
-    pub(crate) fn named(name: &str) -> Option<&'static Workload> {
-        Workload::ALL.iter().find(|workload| workload.0 == name)
+static ENTRIES: [Workload; 5] = [
+    Workload("append", Kind::Entries(0), 0, ONE_FILE),
+    Workload("append-sync", Kind::Entries(0), 1, ONE_FILE),
+    Workload("append-batch", Kind::Entries(1 << 20), 0, ONE_FILE),
+    Workload("append-files", Kind::Entries(0), 0, 2 << 20),
+    Workload("purge", Kind::Purges, 0, 16 << 20),
+];
+
+static STEADY: [Workload; 6] = [
+    Workload(
+        "put-keep",
+        Kind::Steady(100_000, Purging::Never),
+        0,
+        8 << 20,
+    ),
+    Workload(
+        "put-purge",
+        Kind::Steady(100_000, Purging::Reuses),
+        0,
+        8 << 20,
+    ),
+    Workload(
+        "put-purge-new",
+        Kind::Steady(100_000, Purging::Deletes),
+        0,
+        8 << 20,
+    ),
+    Workload(
+        "put-purge-short",
+        Kind::Steady(100_000, Purging::ShortCalls),
+        0,
+        8 << 20,
+    ),
+    Workload("rotate", Kind::Steady(1000, Purging::Reuses), 0, 16 << 10),
+    Workload(
+        "rotate-new",
+        Kind::Steady(1000, Purging::Deletes),
+        0,
+        16 << 10,
+    ),
+];
+
+static OTHERS: [Workload; 4] = [
+    Workload("open-files", Kind::Openings(0), 0, 4 << 20),
+    Workload("open-batches", Kind::Openings(1 << 20), 0, 4 << 20),
+    Workload("fs-append", Kind::File, 0, ONE_FILE),
+    Workload("fs-sync", Kind::File, 1, ONE_FILE),
+];
+
+// A function is checked with all of each table that it names, and that grows with the square of the
+// table.
+fn workloads() -> [&'static [Workload]; 4] {
+    [&PUTS, &ENTRIES, &STEADY, &OTHERS]
+}
+
+/// Runs the workload of this name, or all.
+pub(crate) fn run_named<R: WorkersHost>(rt: &R, name: Option<&str>, amount: Amount) -> Result<()> {
+    let mut is_found = false;
+    for table in &workloads() {
+        for workload in *table {
+            if name.is_none_or(|name| name == workload.0) {
+                is_found = true;
+                workload.run(rt, amount)?;
+            }
+        }
+    }
+    if !is_found {
+        bail!("usage: raftbench [WORKLOAD [COUNT [SIZE]] | disk FOLDER [COUNT [SIZE]]]");
+    }
+    Ok(())
+}
+
+impl Workload {
+    fn run<R: WorkersHost>(&self, rt: &R, amount: Amount) -> Result<()> {
+        run_over(rt, MemoryFileSystem::new(rt.alloc()), self.load(amount))
     }
 
-    pub(crate) fn run<R: WorkersHost>(&self, rt: &R, amount: Amount) -> Result<()> {
+    fn load(&self, amount: Amount) -> Load {
         let Workload(name, kind, sync_each, file_size) = self;
         let Amount { count, size } = amount;
         let size = match kind {
             Kind::Blocks => BLOCK_SIZE,
             _ => size,
         };
-        let load = Load {
+        Load {
             name: *name,
+            kind: *kind,
             count,
             keys: match kind {
                 Kind::Puts(keys) | Kind::Steady(keys, _) => count.min(*keys),
                 _ => count,
             },
-            is_in_order: !matches!(kind, Kind::PutsInNoOrder),
             size,
             batch_len: match kind {
                 Kind::Entries(bytes) | Kind::Openings(bytes) => (*bytes / (size as u64).max(1))
@@ -155,41 +203,43 @@ impl Workload {
             },
             sync_each: *sync_each,
             file_size: *file_size,
-        };
-        run_over(rt, *kind, MemoryFileSystem::new(rt.alloc()), load)
+        }
     }
 }
 
 // Below the parts of a workload stand the ceilings of as many records as it made, and of as many
 // values.
-fn run_over<R: WorkersHost, F: FileSystem + Drop>(
-    rt: &R,
-    kind: Kind,
-    files: F,
-    load: Load,
-) -> Result<()> {
+fn run_over<R: WorkersHost, F: FileSystem + Drop>(rt: &R, files: F, load: Load) -> Result<()> {
     let mut report = Report::new(rt);
-    let len = match kind {
-        Kind::Blocks => None,
-        Kind::File => {
-            append(rt, &mut report, files, load)?;
-            None
-        }
-        Kind::Puts(_) | Kind::PutsInNoOrder => Some(put_get_reopen(rt, &mut report, files, load)?),
-        Kind::PutsShared => Some(put_get_shared(rt, &mut report, files, load)?),
-        Kind::Entries(_) => Some(append_entry_fetch(rt, &mut report, files, load)?),
-        Kind::Purges => Some(append_compact_purge(rt, &mut report, files, load)?),
-        Kind::Calls => Some(put_get_put(rt, &mut report, files, load)?),
-        Kind::Steady(_, purging) => Some(put_beside_purges(rt, &mut report, files, load, purging)?),
-        Kind::Openings(_) => Some(put_and_open(rt, &mut report, files, load)?),
-    };
-    report.note_memory(rt);
-    if let Some(len) = len {
+    run_kind(rt, &mut report, files, load)?;
+    if let Some(bytes) = report.written() {
+        let len = (bytes / load.count.max(1)) as usize;
         add_ceilings(rt, &mut report, Against::Records, load.count, len)?;
     }
     let sum = add_ceilings(rt, &mut report, Against::Values, load.count, load.size)?;
-    if let Kind::Blocks = kind {
+    if let Kind::Blocks = load.kind {
         println!(rt; "{}: {} bytes, checksum {sum:08x}", load.name, load.bytes())?;
     }
     report.print(rt)
+}
+
+fn run_kind<R: WorkersHost, F: FileSystem + Drop>(
+    rt: &R,
+    report: &mut Report,
+    files: F,
+    load: Load,
+) -> Result<()> {
+    match load.kind {
+        Kind::Blocks => return Ok(()),
+        Kind::File => return append(rt, report, files, load),
+        _ => {}
+    }
+    let mut engine = open(rt.alloc(), files, load)?;
+    run_parts(rt, report, &mut engine, load)?;
+    match load.kind {
+        Kind::PutsShared => put_get_shared(rt, report, engine, load),
+        Kind::Puts(_) | Kind::PutsInNoOrder => close_and_open(rt, report, engine, load, 1),
+        Kind::Openings(_) => close_and_open(rt, report, engine, load, 4),
+        _ => Ok(()),
+    }
 }

@@ -1,0 +1,29 @@
+//! What the system said, in full: an error of the commands has room for 120 bytes.
+
+use anyhow::{Error, anyhow};
+use raft_disk::{DiskFileSystem, OpenFault};
+use std::io;
+
+/// How many bytes an error's text may have.
+const ROOM: usize = 120;
+
+/// Why a folder can't be opened, or a file in it read. A text for which an error has no room is told on standard error
+/// before.
+pub fn told(rt: &HostRuntime, fault: &OpenFault) -> Error {
+    match format!(in rt.alloc(); "{fault}") {
+        Ok(text) if text.len() > ROOM => {
+            // What can't be told hides no error.
+            let _ = eprintln!(rt; "raftctl: {text}");
+            anyhow!("the folder cannot be read")
+        }
+        _ => anyhow!("{fault}"),
+    }
+}
+
+/// Tells on standard error what the system refused last of a change.
+pub fn tell_refusal(rt: &HostRuntime, files: &DiskFileSystem) -> io::Result<()> {
+    match files.refusal() {
+        Some(refusal) => eprintln!(rt; "raftctl: {refusal}"),
+        None => Ok(()),
+    }
+}

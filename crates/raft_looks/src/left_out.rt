@@ -1,0 +1,174 @@
+//! Files of a log that aren't read: in a folder below, as a second one that no word names, or gone.
+
+use crate::faults::told;
+use crate::source::is_missing;
+use anyhow::{Result, anyhow, bail};
+use raft_disk::{FolderView, OpenFault};
+use raft_dump::{LogFile, log_files};
+use raft_inspect::{Lines, QueueFiles, Word};
+use raft_records::LogQueue;
+use std::alloc::AllocError;
+use std::fs::{self, DirEntry};
+use std::io::ErrorKind;
+
+const LOCK: &str = "LOCK";
+
+/// What an opening leaves out.
+#[derive(Drop)]
+pub enum LeftOut {
+    /// A folder, by its path from the log's on, with files that the opening would keep, if it read them too; and how
+    /// many log files it has, and bytes.
+    Folder(String, u64, u64),
+    /// The Rewrite queue: each opening makes a first file of it, and none stands. The number of the Append queue's
+    /// first file, before which files were dropped.
+    Rewrite(u64),
+}
+
+impl LeftOut {
+    /// Adds a line that tells it.
+    pub(crate) fn add_line(&self, lines: &mut Lines) -> Result<(), AllocError> {
+        match self {
+            LeftOut::Folder(folder, files, bytes) => lines.named(&[
+                ("left-out", Word::Bytes(folder.as_bytes())),
+                ("files", Word::Number(*files)),
+                ("bytes", Word::Number(*bytes)),
+            ]),
+            LeftOut::Rewrite(first) => lines.named(&[
+                ("queue", Word::Text("rewrite")),
+                ("files", Word::Number(0)),
+                ("append-first", Word::Number(*first)),
+            ]),
+        }
+    }
+}
+
+/// A log's folder, and its files that are read.
+#[derive(Drop)]
+pub(crate) struct ReadFiles<'a> {
+    pub rt: HostRuntime,
+    pub view: &'a FolderView,
+    pub path: &'a str,
+    pub spill: Option<&'a str>,
+    pub files: &'a [LogFile],
+}
+
+impl ReadFiles<'_> {
+    /// The folders right below that are left out: their files go on with the numbers of those that are read, and no
+    /// number is in both. One with a lock of its own is another log. Without one, the Rewrite queue, where it is gone.
+    pub fn left_out(&self) -> Result<Vec<LeftOut>> {
+        let mut found = Vec::new(self.rt.alloc());
+        let entries = match fs::read_dir(&self.rt, self.path) {
+            Ok(entries) => entries,
+            Err(e) => return Err(anyhow!("{e}").context(self.path)),
+        };
+        for entry in entries {
+            match entry {
+                Ok(entry) => self.add_entry(&entry, &mut found)?,
+                // No word can name it.
+                Err(e) if e.kind() == ErrorKind::InvalidFilename => {}
+                Err(e) => return Err(anyhow!("{e}").context(self.path)),
+            }
+        }
+        if let (true, Some(first)) = (found.is_empty(), self.first_without_rewrite()) {
+            found.push(LeftOut::Rewrite(first))?;
+        }
+        Ok(found)
+    }
+
+    // The number of the Append queue's first file, where files before it were dropped and the Rewrite queue has none.
+    fn first_without_rewrite(&self) -> Option<u64> {
+        let mut first = None;
+        for file in self.files {
+            match file.id.queue {
+                LogQueue::Rewrite => return None,
+                LogQueue::Append => {
+                    first = Some(first.map_or(file.id.seq, |least| file.id.seq.min(least)));
+                }
+            }
+        }
+        first.filter(|first| *first > 1)
+    }
+
+    fn add_entry(&self, entry: &DirEntry, found: &mut Vec<LeftOut>) -> Result<()> {
+        let name = entry.file_name();
+        let is_folder = match entry.metadata() {
+            Ok(metadata) => metadata.is_dir(),
+            // A writer deleted it.
+            Err(_) => false,
+        };
+        if !is_folder || self.spill == Some(name) {
+            return Ok(());
+        }
+        let lock = format!(in self.rt.alloc(); "{}/{name}/{LOCK}", self.path)?;
+        if fs::symlink_metadata(&self.rt, lock.as_str()).is_ok() {
+            return Ok(());
+        }
+        match self.view.names(name) {
+            Ok(names) => self.add_folder(name, &names, found),
+            Err(fault) if is_missing(&fault) || is_closed(&fault) => Ok(()),
+            Err(fault) => Err(told(&self.rt, &fault)),
+        }
+    }
+
+    fn add_folder(&self, folder: &str, names: &[String], found: &mut Vec<LeftOut>) -> Result<()> {
+        let alloc = self.rt.alloc();
+        let there = match log_files(alloc, folder, names) {
+            Ok(there) => there,
+            Err(fault) => bail!("{fault}"),
+        };
+        if self.has_one_of(&there) || !self.is_gone_on(&there)? {
+            return Ok(());
+        }
+        let mut bytes = 0u64;
+        for file in &there {
+            bytes = bytes.saturating_add(self.view.size(file.path.as_str()).unwrap_or(0));
+        }
+        let folder = String::from_str(alloc, folder)?;
+        Ok(found.push(LeftOut::Folder(folder, there.len() as u64, bytes))?)
+    }
+
+    // Whether a number is in both.
+    fn has_one_of(&self, there: &[LogFile]) -> bool {
+        there.iter().any(|other| is_among(self.files, other))
+    }
+
+    // Whether an opening that read these files too would keep one of them.
+    fn is_gone_on(&self, there: &[LogFile]) -> Result<bool, AllocError> {
+        for queue in [LogQueue::Append, LogQueue::Rewrite] {
+            let mut all = Vec::new(self.rt.alloc());
+            add_of(queue, self.files, &mut all)?;
+            add_of(queue, there, &mut all)?;
+            QueueFiles::sort(&mut all)?;
+            let passed = QueueFiles::passed_by_number(&all);
+            let kept = all.get(passed..).unwrap_or(&[]);
+            if kept.iter().any(|file| is_among(there, file)) {
+                return Ok(true);
+            }
+        }
+        Ok(false)
+    }
+}
+
+fn is_among(files: &[LogFile], file: &LogFile) -> bool {
+    let id = file.id;
+    files
+        .iter()
+        .any(|each| each.id.queue == id.queue && each.id.seq == id.seq)
+}
+
+fn add_of(queue: LogQueue, files: &[LogFile], all: &mut Vec<LogFile>) -> Result<(), AllocError> {
+    for file in files {
+        if file.id.queue == queue {
+            let path = file.path.clone()?;
+            all.push(LogFile { id: file.id, path })?;
+        }
+    }
+    Ok(())
+}
+
+fn is_closed(fault: &OpenFault) -> bool {
+    match fault {
+        OpenFault::Io(_, e) => e.kind() == ErrorKind::PermissionDenied,
+        _ => false,
+    }
+}

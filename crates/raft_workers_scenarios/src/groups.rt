@@ -1,0 +1,82 @@
+//! Chunks of many groups, joined by so many threads.
+
+use crate::steps::{KEY, entry};
+use raft_builder::MergingMachine;
+use raft_opening::ReplayMachine;
+use raft_records::{Fault, FileId, KeyValue, LogItem, LogItemContent, LogQueue};
+use raft_replay::{Read, RecoveryMachine, SideBySide, read_of};
+use std::alloc::{AllocError, Global};
+use std::test::Fail;
+use std::thread::Threads;
+
+/// The groups of each chunk, from the first to the last. Each has entries with the indexes 1 to 3
+/// of the first chunk, 3 and 4 of the second, and a key with the chunk's number as its value.
+const CHUNKS: [(u64, u64); 3] = [(1, 40), (3, 50), (5, 60)];
+
+const THREADS: [usize; 4] = [1, 2, 3, 8];
+
+fn items(alloc: Global, group: u64, chunk: u8) -> Result<Vec<LogItem>, AllocError> {
+    let mut entries = Vec::new(alloc);
+    let indexes = if chunk == 0 { 1..4 } else { 3..5 };
+    for index in indexes {
+        entries.push(entry(index))?;
+    }
+    let mut items = Vec::new(alloc);
+    items.push(LogItem {
+        raft_group_id: group,
+        content: LogItemContent::EntryIndexes(entries),
+    })?;
+    items.push(LogItem {
+        raft_group_id: group,
+        content: LogItemContent::Kv(KeyValue::Put {
+            key: KEY.to_vec(alloc)?,
+            value: vec![in alloc; chunk; 1]?,
+        }),
+    })?;
+    Ok(items)
+}
+
+fn read<R: Threads + Sync>(rt: &R, alloc: Global, threads: usize) -> Result<Read, Fault> {
+    let mut all = RecoveryMachine::new(alloc);
+    for (chunk, (first, last)) in (0u8..3).zip(CHUNKS.iter()) {
+        let mut machine = RecoveryMachine::new(alloc);
+        for group in *first..last.saturating_add(1) {
+            let file = FileId::new(LogQueue::Append, u64::from(chunk).saturating_add(1));
+            machine.replay(&mut items(alloc, group, chunk)?, file)?;
+        }
+        all.merge(machine, LogQueue::Append)?;
+    }
+    read_of(
+        &SideBySide { rt, threads },
+        all,
+        RecoveryMachine::new(alloc),
+    )
+}
+
+/// Whether the group has what the last of its chunks put, over what it lets stand of the others.
+fn is_as_said(read: &Read, group: u64) -> bool {
+    let tables = &read.tables;
+    let (value, last) = match group {
+        0..3 => ([0], 3),
+        3..5 => ([1], 4),
+        _ => ([2], 4),
+    };
+    let first = if group <= 40 { 1 } else { 3 };
+    tables.get(group, KEY) == Some(value.as_slice())
+        && tables.first_index(group) == Some(first)
+        && tables.last_index(group) == Some(last)
+}
+
+fn are_as_said(read: &Read) -> Result<bool, AllocError> {
+    let groups = read.tables.groups()?;
+    Ok(groups.len() == 60 && groups.iter().all(|group| is_as_said(read, *group)))
+}
+
+#[test]
+fn each_number_of_threads_joins_all_groups(rt: HostRuntime) -> Result<(), Fail> {
+    for threads in THREADS {
+        let read = read(&rt, rt.alloc(), threads)?;
+        assert!(rt; are_as_said(&read)?, "{threads} threads");
+    }
+    Ok(())
+}

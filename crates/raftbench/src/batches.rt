@@ -1,0 +1,181 @@
+//! Batches of puts or of entries: made before a clock starts, and written while it runs.
+
+use crate::blocks::{filled, mark, next_state};
+use crate::measure::{Against, Figure, Host, Outcome, micros_since};
+use crate::workload::{GROUPS, Kind, Load, Purging};
+use anyhow::Result;
+use raft_c_batch::Entry;
+use raft_env::FileSystem;
+use raft_log_engine::Engine;
+use raft_records::{Fault, LogBatch};
+use std::alloc::{AllocError, Global};
+use std::time::Instant;
+
+/// The budget of a short call of a purge.
+const SHORT_CALL: u64 = 1 << 18;
+
+/// What a batch holds: a group with a key and a value, or with entries.
+#[derive(Drop)]
+pub(crate) enum Written {
+    Put(u64, Vec<u8>, Vec<u8>),
+    Entries(u64, Vec<Entry>),
+}
+
+impl Written {
+    pub(crate) fn add_to(self, batch: &mut LogBatch) -> Result<(), Fault> {
+        match self {
+            Written::Put(group, key, value) => batch.put(group, key, value),
+            Written::Entries(group, entries) => batch.add_entries::<Entry>(group, &entries),
+        }
+    }
+}
+
+/// Each group in turn gets the next key or entries.
+pub(crate) fn batches_of(alloc: Global, load: Load) -> Result<Vec<Written>, AllocError> {
+    let mut value = filled(alloc, load.size)?;
+    let mut batches = Vec::new(alloc);
+    let mut key = 0;
+    for number in 0..load.count / load.batch_len.max(1) {
+        mark(&mut value, number);
+        batches.push(if load.has_entries() {
+            append_of(alloc, number, load.batch_len, &value)?
+        } else {
+            put_of(alloc, key, &value)?
+        })?;
+        key = next_key(key, load);
+    }
+    Ok(batches)
+}
+
+// The next number; or the next of a generator whose period is the power of two above all keys, past
+// what is no key.
+fn next_key(key: u64, load: Load) -> u64 {
+    if !matches!(load.kind, Kind::PutsInNoOrder) {
+        return key.saturating_add(1) % load.keys.max(1);
+    }
+    let unused_bits = load.keys.saturating_sub(1).leading_zeros();
+    let mask = u64::MAX.checked_shr(unused_bits).unwrap_or(0);
+    let mut next = key;
+    for _ in 0..load.keys {
+        next = next_state(next) & mask;
+        if next < load.keys {
+            break;
+        }
+    }
+    next
+}
+
+fn put_of(alloc: Global, key: u64, value: &[u8]) -> Result<Written, AllocError> {
+    Ok(Written::Put(key % GROUPS, key_of(alloc, key)?, value.to_vec(alloc)?))
+}
+
+pub(crate) fn key_of(alloc: Global, number: u64) -> Result<Vec<u8>, AllocError> {
+    format!(in alloc; "{number:016}").map(String::into_bytes)
+}
+
+// So many entries of a group, each with these bytes behind its index.
+fn append_of(alloc: Global, number: u64, len: u64, value: &[u8]) -> Result<Written, AllocError> {
+    let first = (number / GROUPS).saturating_mul(len).saturating_add(1);
+    let mut entries = Vec::new(alloc);
+    for place in 0..len {
+        let index = first.saturating_add(place);
+        entries.push(Entry::new(alloc, index, value.get(8..).unwrap_or(&[]))?)?;
+    }
+    Ok(Written::Entries(number % GROUPS, entries))
+}
+
+/// Each in a batch of its own, and after so many a sync, or never for 0.
+pub(crate) fn write_all<R: Host, F: FileSystem>(
+    rt: &R,
+    engine: &mut Engine<F>,
+    batches: Vec<Written>,
+    load: Load,
+) -> Result<Outcome> {
+    let mut batch = LogBatch::new(rt.alloc());
+    let mut bytes = 0u64;
+    let mut longest = 0;
+    let mut start = Instant::now(rt)?;
+    for (place, written) in batches.into_iter().enumerate() {
+        let number = (place as u64).saturating_add(1);
+        let sync = load.sync_each > 0 && number % load.sync_each.max(1) == 0;
+        written.add_to(&mut batch)?;
+        bytes = bytes.saturating_add(engine.write(&mut batch, sync)? as u64);
+        if number % 1000 == 0 {
+            let micros = micros_since(rt, start)?;
+            longest = micros.max(longest);
+            start = Instant::now(rt)?;
+        }
+    }
+    Ok(Outcome {
+        longest: Some(("thousand", longest)),
+        ..Outcome::new(load.count, bytes, Against::Records, Figure::Nothing)
+    })
+}
+
+/// Each in a batch of its own, and a purge by watermarks, if any, after as many bytes as a log file
+/// holds: how often it was purged, and the most bytes that the log files of both queues had, each
+/// as if it were full.
+pub(crate) fn write_beside_purges<R: Host, F: FileSystem>(
+    rt: &R,
+    engine: &mut Engine<F>,
+    batches: Vec<Written>,
+    load: Load,
+) -> Result<Outcome> {
+    let purge_each = match load.kind {
+        Kind::Steady(_, Purging::Never) => u64::MAX,
+        _ => load.file_size,
+    };
+    let mut batch = LogBatch::new(rt.alloc());
+    let mut bytes = 0u64;
+    let mut since = 0u64;
+    let mut purges = 0u64;
+    let mut longest = 0;
+    let mut most_used = 0;
+    for written in batches {
+        written.add_to(&mut batch)?;
+        let len = engine.write(&mut batch, false)? as u64;
+        bytes = bytes.saturating_add(len);
+        since = since.saturating_add(len);
+        if since >= purge_each {
+            most_used = engine.get_used_size().max(most_used);
+            longest = purge(rt, engine, load)?.max(longest);
+            purges = purges.saturating_add(1);
+            since = 0;
+        }
+    }
+    most_used = engine.get_used_size().max(most_used);
+    let used = Figure::Count(most_used as u64, "bytes of files at most");
+    Ok(Outcome {
+        figures: [Figure::Count(purges, "purges"), used],
+        longest: Some(("purge call", longest)),
+        ..Outcome::new(load.count, bytes, Against::Records, Figure::Nothing)
+    })
+}
+
+// A purge by watermarks, and before it, where that is asked for, the short calls that do most of
+// its work: what it took, or the longest of these.
+fn purge<R: Host, F: FileSystem>(rt: &R, engine: &mut Engine<F>, load: Load) -> Result<u64> {
+    if let Kind::Steady(_, Purging::ShortCalls) = load.kind {
+        let longest = rewrite_in_short_calls(rt, engine)?;
+        engine.purge_expired_files(u64::MAX)?;
+        return Ok(longest);
+    }
+    let start = Instant::now(rt)?;
+    engine.purge_expired_files(u64::MAX)?;
+    micros_since(rt, start)
+}
+
+fn rewrite_in_short_calls<R: Host, F: FileSystem>(rt: &R, engine: &mut Engine<F>) -> Result<u64> {
+    let (_, last) = engine.file_spans().append;
+    let mut next = Some(0);
+    let mut longest = 0;
+    for _ in 0..GROUPS {
+        let Some(from) = next else {
+            break;
+        };
+        let start = Instant::now(rt)?;
+        next = engine.must_rewrite_append_groups(last, from, SHORT_CALL)?;
+        longest = micros_since(rt, start)?.max(longest);
+    }
+    Ok(longest)
+}
