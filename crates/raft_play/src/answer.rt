@@ -3,7 +3,7 @@
 use crate::words::Spelled;
 use raft_env::FsFault;
 use raft_records::Fault;
-use raft_test_rows::{EMPTY, Outcome, State};
+use raft_test_rows::{EMPTY, Outcome, State, fault_of};
 use std::alloc::{AllocError, AllocFailed};
 use std::fmt;
 
@@ -134,6 +134,10 @@ struct Answered<'a>(&'a Outcome);
 
 impl fmt::Display for Answered<'_> {
     fn fmt<W: fmt::Write>(&self, f: &mut fmt::Formatter<W>) -> fmt::Result {
+        if let Some(fault) = fault_of(self.0) {
+            let code = fault.code();
+            return write!(f, "refused {code}");
+        }
         match self.0 {
             Outcome::Size(Ok(size)) => write!(f, "{size}"),
             Outcome::Sizes(Ok(sizes)) => {
@@ -164,18 +168,8 @@ impl fmt::Display for Answered<'_> {
                 let groups = Groups(groups);
                 write!(f, "ask{groups}")
             }
-            Outcome::Size(Err(fault))
-            | Outcome::Sizes(Err(fault))
-            | Outcome::Done(Err(fault))
-            | Outcome::Value(Err(fault))
-            | Outcome::Count(Err(fault))
-            | Outcome::Entry(Err(fault))
-            | Outcome::Groups(Err(fault))
-            | Outcome::Dropped(Err(fault))
-            | Outcome::ToCompact(Err(fault)) => {
-                let code = fault.code();
-                write!(f, "refused {code}")
-            }
+            // refused, as was said before
+            _ => Ok(()),
         }
     }
 }
